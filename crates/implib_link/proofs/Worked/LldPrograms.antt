@@ -9,9 +9,9 @@ use Rattle.implib.specs.Formats.File.{is_defined_external}
 use Rattle.implib.specs.Formats.Object.{ASymbol, Auxiliary, Entry}
 use Rattle.implib.specs.Import.{Name, Ordinal, imp_symbol}
 use Rattle.implib.specs.Link.Image.{AreApart, Range, byte_at, range_end}
-use Rattle.implib.specs.Link.Load.{BytesAt}
+use Rattle.implib.specs.Link.Load.{BytesAt, NumberAt}
 use Rattle.implib.specs.Link.Placement.{Placed}
-use Rattle.implib.specs.Link.Resolution.{is_undefined_external, symbol_address}
+use Rattle.implib.specs.Link.Resolution.{definitions_of, is_undefined_external, symbol_address}
 use Rattle.implib.proofs.Link.Definitions.{same_text}
 use Rattle.implib.proofs.Link.LinkedMembers.{among_contains}
 use Rattle.implib.proofs.Link.Loading.{dll_once, number_once}
@@ -19,20 +19,21 @@ use Rattle.implib.proofs.Link.Ranges.{Among, apart_as_they_rise}
 use Rattle.implib_link.specs.Directory.{DirectoryAt}
 use Rattle.implib_link.specs.Flavors.LldImports.{IsLldProgram, imp_symbols_of, imports_of_lld, short_for}
 use Rattle.implib_link.specs.Flavors.LldTables.{ArePiecesAt, IsAskable, built, built_bytes}
-use Rattle.implib_link.specs.Flavors.LldThunks.{placed_thunk, thunk_section}
+use Rattle.implib_link.specs.Flavors.LldThunks.{BranchArrivesByThunk, ThunkArrives, placed_thunk, thunk_section}
 use Rattle.implib_link.specs.Gnu.Calls.{arm64_branch26, i386_rel32}
 use Rattle.implib_link.specs.Gnu.Fields.{AreLinkedBeside, LinkedCode, TakesSymbols, range_of_code}
 use Rattle.implib_link.specs.Gnu.Moves.{AreInMemory, AreMoved}
-use Rattle.implib_link.specs.Gnu.Operands.{HasBranch, Names}
+use Rattle.implib_link.specs.Gnu.Operands.{HasBranch, branch_leads, Names}
 use Rattle.implib_link.specs.Gnu.Rebased.{IsRebased, table_places}
 use Rattle.implib_link.specs.Stub.{jump_reads}
 use Rattle.implib_link.specs.Tables.{AreSteady, AreTables, IsInTable, RiseFrom, Table}
 use Rattle.implib_link.specs.Worked.Calls.{given_on}
-use Rattle.implib_link.specs.Worked.LldPrograms.{RefusedTables, RefusedThunks, WorkedLldProgram, WorkedLldPrograms, code_of_object, code_of_thunk, eight_bytes, four_bytes, gee_on, linked_code, linked_thunk, lld_codes, lld_image_on, lld_linked_on, lld_memory, lld_moved_memory, lld_places, lld_targets, mid_on, object_section, or_thunk, own_tables, placed_object, short_files, shorts_on, tables_on, taken_address, thunk_address, zeta_on}
+use Rattle.implib_link.specs.Worked.LldPrograms.{RefusedCalls, RefusedLoads, RefusedTables, RefusedThunks, WorkedLldProgram, WorkedLldPrograms, call_memory, code_of_object, code_of_thunk, eight_bytes, four_bytes, gee_on, linked_code, linked_thunk, lld_codes, lld_image_on, lld_linked_on, lld_memory, lld_moved_memory, lld_places, lld_targets, mid_on, object_section, or_thunk, own_tables, placed_object, short_files, shorts_on, tables_on, taken_address, thunk_address, zeta_on}
 use Rattle.implib_link.specs.Worked.Programs.{symbol_of_class, symbol_on}
 use Rattle.implib_link.proofs.Flavors.LldPrograms.{lld_calls, lld_ends_in_memory, lld_leads, lld_loads_in_memory}
 use Rattle.implib_link.proofs.Flavors.LldTables.{built_pieces}
 use Rattle.implib_link.proofs.Gnu.Memory.{byte_first, within_bounds}
+use Rattle.implib_link.proofs.Gnu.Stubs.{same_address}
 use Rattle.implib_link.proofs.Search.Lists.{among_at, contains_among}
 use Rattle.implib_link.proofs.TablesOfPrograms.{lld_tables}
 use Rattle.implib_link.proofs.Worked.Calls.{each_of, wide}
@@ -647,4 +648,66 @@ refused_thunks = record {
       other_byte memory 0x2068 0 1 (0 ∷ 0 ∷ 0x10 ∷ 0 ∷ 0 ∷ 0 ∷ 0 ∷ []) refl (omega arith) (subst (λ a. BytesAt memory a (eight_bytes 0)) (sym entry) x.located);
   of_zeta = λ thunk. differ 3 4 (ap name_size thunk.from) (omega arith);
   linked = λ r. let is : 0x104A ≡ 0x1042 = (r.fields (record { offset = 2; symbol = 1; kind = amd64_rel32 }) refl (omega arith)).rel32 0 (omega arith) refl in differ 0x1042 0x104A (sym is) (omega arith);
+}
+
+no_sixth : (memory : List Range) (a : ℕ) (bytes : List ℕ) → byte_at memory (a + 1 + 1 + 1 + 1 + 1) ≡ None → length bytes ≡ 6 → BytesAt memory a bytes → ⊥
+unfolding BytesAt
+no_sixth memory a [] none six located = omega arith
+no_sixth memory a (b ∷ []) none six located = omega arith
+no_sixth memory a (b ∷ c ∷ []) none six located = omega arith
+no_sixth memory a (b ∷ c ∷ d ∷ []) none six located = omega arith
+no_sixth memory a (b ∷ c ∷ d ∷ e ∷ []) none six located = omega arith
+no_sixth memory a (b ∷ c ∷ d ∷ e ∷ f ∷ []) none six located = omega arith
+no_sixth memory a (b ∷ c ∷ d ∷ e ∷ f ∷ g ∷ rest) none six located = (let is : None ≡ Some g = sym none ∙ located.1.1.1.1.1.0 in cc)
+
+pub refused_loads : RefusedLoads
+unfolding lld_opened
+refused_loads = record {
+  nothing = λ x.
+      let holds = x.entries (zeta_on AMD64) (2, omega arith, refl) in
+      let entry : holds.address ≡ 0x2070 = same_address (codes "__imp_zeta") holds.address 0x2070 (definitions_of (codes "__imp_zeta") (lld_linked_on AMD64)) holds.once refl in
+      other_byte (lld_image_on AMD64) 0x2070 0x40 0x90 (0 ∷ 0 ∷ 0x10 ∷ 0 ∷ 0 ∷ 0 ∷ 0 ∷ []) refl (omega arith) (subst (λ a. BytesAt (lld_image_on AMD64) a (eight_bytes 0x40)) entry holds.located);
+  before = λ x. let low : 0x2068 ≤ 0x2060 = x.within.0.0 in omega arith;
+  behind = λ x. let high : 0x2098 ≤ 0x2090 = x.within.0.1 in omega arith;
+  whole = λ x.
+      no_sixth (record { start = 0x1020; bytes = 0xFF ∷ 0x25 ∷ 0x42 ∷ 0x10 ∷ 0 ∷ [] } ∷ record { start = 0x2068; bytes = eight_bytes 0 } ∷ []) 0x1020 x.code refl x.whole x.there;
+  number = λ thunk. differ 1 2 (sym thunk.number) (omega arith);
+}
+
+-- where a call by a field leads
+leads_to : (n : ℕ) (field code : List ℕ) (place : ℕ) (x : BranchArrivesByThunk AMD64 0x1_4000_0000 (call_memory 0x100E field code) 0x100E 0 (eight_bytes 0)) →
+    NumberAt (call_memory 0x100E field code) 4 0x100E n → branch_leads AMD64 0x1_4000_100E 0 n ≡ Some (0x1_4000_0000 + place) → place ≡ x.thunk
+leads_to n field code place x there is =
+    let same : x.leads.number ≡ n = number_once (call_memory 0x100E field code) 4 0x100E x.leads.number n x.leads.there there in
+    entry_is place x.thunk (sym is ∙ ap (branch_leads AMD64 0x1_4000_100E 0) (sym same) ∙ x.leads.leads)
+
+pub refused_calls : RefusedCalls
+unfolding lld_opened
+refused_calls = record {
+  arrives =
+      let memory : List Range = call_memory 0x100E (0x0E ∷ 0 ∷ 0 ∷ 0 ∷ []) (linked_thunk AMD64) in
+      record {
+        thunk = 0x1020;
+        leads = record { number = 0x0E; there = number memory 4 0x100E 0x0E (0x0E ∷ 0 ∷ 0 ∷ 0 ∷ []) refl refl refl; leads = refl };
+        jumps = record { code = linked_thunk AMD64; there = are_located memory (linked_thunk AMD64) 0x1020 refl; whole = refl; entry = 0x2068; reads = refl; located = are_located memory (eight_bytes 0) 0x2068 refl };
+      };
+  there = λ x.
+      let memory : List Range = call_memory 0x100F (0x0E ∷ 0 ∷ 0 ∷ 0 ∷ []) (linked_thunk AMD64) in
+      let count : length x.leads.there.bytes ≡ 4 = x.leads.there.count in
+      let first = byte_first memory x.leads.there.bytes 0x100E x.leads.there.located (omega arith) in
+      let is : None ≡ Some first.0 = first.1 in
+      cc;
+  leads = λ x.
+      let memory : List Range = call_memory 0x100E (0x0F ∷ 0 ∷ 0 ∷ 0 ∷ []) (linked_thunk AMD64) in
+      let place : 0x1021 ≡ x.thunk = leads_to 0x0F (0x0F ∷ 0 ∷ 0 ∷ 0 ∷ []) (linked_thunk AMD64) 0x1021 x (number memory 4 0x100E 0x0F (0x0F ∷ 0 ∷ 0 ∷ 0 ∷ []) refl refl refl) refl in
+      no_sixth memory 0x1021 x.jumps.code refl x.jumps.whole (subst (λ a. BytesAt memory a x.jumps.code) (sym place) x.jumps.there);
+  jumps = λ x.
+      let code : List ℕ = 0xFF ∷ 0x15 ∷ 0x42 ∷ 0x10 ∷ 0 ∷ 0 ∷ [] in
+      let memory : List Range = call_memory 0x100E (0x0E ∷ 0 ∷ 0 ∷ 0 ∷ []) (0xFF ∷ 0x15 ∷ 0x42 ∷ 0x10 ∷ 0 ∷ 0 ∷ []) in
+      let place : 0x1020 ≡ x.thunk =
+      leads_to 0x0E (0x0E ∷ 0 ∷ 0 ∷ 0 ∷ []) (0xFF ∷ 0x15 ∷ 0x42 ∷ 0x10 ∷ 0 ∷ 0 ∷ []) 0x1020 x (number memory 4 0x100E 0x0E (0x0E ∷ 0 ∷ 0 ∷ 0 ∷ []) refl refl refl) refl in
+      let jumps : ThunkArrives AMD64 0x1_4000_0000 memory 0x1020 (eight_bytes 0) = subst (λ a. ThunkArrives AMD64 0x1_4000_0000 memory a (eight_bytes 0)) (sym place) x.jumps in
+      let is : jumps.code ≡ 0xFF ∷ 0x15 ∷ 0x42 ∷ 0x10 ∷ 0 ∷ 0 ∷ [] = thunk_code_is memory code jumps.code (are_located memory (0xFF ∷ 0x15 ∷ 0x42 ∷ 0x10 ∷ 0 ∷ 0 ∷ []) 0x1020 refl) jumps.there jumps.whole refl in
+      let none : None ≡ Some (0x1_4000_0000 + jumps.entry) = ap (jump_reads AMD64 0x1_4000_1020) (sym is) ∙ jumps.reads in
+      cc;
 }

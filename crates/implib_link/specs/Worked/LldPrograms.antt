@@ -387,3 +387,36 @@ pub record RefusedThunks : Type 0 where
   pub of_zeta : IsThunk AMD64 (code_of_thunk AMD64) (zeta_on AMD64) → ⊥
   pub linked : IsRelocated AMD64 0x1_4000_0000 (lld_targets AMD64 (code_of_thunk AMD64)) 0x1020 (thunk_section AMD64)
       (0xFF ∷ 0x25 ∷ 0x4A ∷ 0x10 ∷ 0 ∷ 0 ∷ []) → ⊥
+
+-- AMD64's program with what a loader wrote
+abbrev pub LoadedWith : List Range → Type 0
+LoadedWith written =
+    IsLldLoaded AMD64 0x2068 (shorts_on AMD64) (lld_image_on AMD64) (lld_linked_on AMD64) (given_on AMD64) written
+
+-- Nothing is written; something is written before the address tables, or after them. A thunk without its last byte; and
+-- code of another section of the thunk's object.
+pub record RefusedLoads : Type 0 where
+  pub nothing : LoadedWith [] → ⊥
+  pub before : LoadedWith (record { start = 0x2060; bytes = eight_bytes 0 } ∷ []) → ⊥
+  pub behind : LoadedWith (record { start = 0x2090; bytes = eight_bytes 0 } ∷ []) → ⊥
+  pub whole : ThunkOfMid 0x1020 (0xFF ∷ 0x25 ∷ 0x42 ∷ 0x10 ∷ 0 ∷ []) (eight_bytes 0) → ⊥
+  pub number : IsThunk AMD64 (record (code_of_thunk AMD64) { number = 2 }) (mid_on AMD64) → ⊥
+
+-- The call of `mid` on AMD64, by its field, the thunk's code at 0x1020, and what is at its entry.
+abbrev pub call_memory : ℕ → List ℕ → List ℕ → List Range
+call_memory address field code =
+    record { start = address; bytes = field }
+    ∷ record { start = 0x1020; bytes = code }
+    ∷ record { start = 0x2068; bytes = eight_bytes 0 }
+    ∷ []
+
+abbrev pub CallOfMid : ℕ → List ℕ → List ℕ → Type 0
+CallOfMid address field code =
+    BranchArrivesByThunk AMD64 0x1_4000_0000 (call_memory address field code) 0x100E 0 (eight_bytes 0)
+
+-- The field a byte further on; a call that leads into the thunk; and code there that calls.
+pub record RefusedCalls : Type 0 where
+  pub arrives : CallOfMid 0x100E (0x0E ∷ 0 ∷ 0 ∷ 0 ∷ []) (linked_thunk AMD64)
+  pub there : CallOfMid 0x100F (0x0E ∷ 0 ∷ 0 ∷ 0 ∷ []) (linked_thunk AMD64) → ⊥
+  pub leads : CallOfMid 0x100E (0x0F ∷ 0 ∷ 0 ∷ 0 ∷ []) (linked_thunk AMD64) → ⊥
+  pub jumps : CallOfMid 0x100E (0x0E ∷ 0 ∷ 0 ∷ 0 ∷ []) (0xFF ∷ 0x15 ∷ 0x42 ∷ 0x10 ∷ 0 ∷ 0 ∷ []) → ⊥

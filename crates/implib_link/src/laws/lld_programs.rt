@@ -16,6 +16,7 @@ ghost use Rattle.implib_link.specs.Gnu.Moves.{AreInMemory};
 ghost use Rattle.implib_link.specs.Gnu.Operands.{AllLead, AreKept, HasBranch};
 ghost use Rattle.implib_link.specs.Gnu.Reading.{ReadsAndWrites};
 ghost use Rattle.implib_link.specs.Tables.{AreSteady, CanReadFrom};
+ghost use Rattle.implib_link.specs.Worked.LldPrograms.{RefusedCalls, RefusedLoads};
 ghost use Rattle.implib_link.specs.Worked.LldPrograms.{RefusedTables, RefusedThunks};
 ghost use Rattle.implib_link.specs.Worked.LldPrograms.{WorkedLldPrograms};
 ghost use Rattle.std.specs.List.{Contains};
@@ -142,8 +143,11 @@ pub fn worked_lld_programs()
     ensures worked { WorkedLldPrograms }
 {}
 
-/// Near misses of import tables and of thunks, each with one thing wrong.
+/// Near misses of import tables, of thunks and calls, and of what a loader leaves, each with one
+/// thing wrong.
 pub fn refused_lld_programs()
     ensures tables { RefusedTables }
     ensures thunks { RefusedThunks }
+    ensures calls { RefusedCalls }
+    ensures loads { RefusedLoads }
 {}
