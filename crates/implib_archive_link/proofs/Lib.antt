@@ -3,4 +3,7 @@ pub mod InBytes
 pub mod WorkedLibraries
 pub mod WorkedSearches
 pub mod Way
+pub mod LldEnds
+pub mod LldWay
 pub mod WorkedWay
+pub mod WorkedLldWay

@@ -11,10 +11,12 @@ ghost use Rattle.implib.specs.declared.flavor.Flavor.TheVariants.{Gnu, Msvc};
 ghost use Rattle.implib.specs.declared.machine.MachineType.{MachineType};
 ghost use Rattle.implib_archive.specs.declared.kind.Kind.{Kind};
 ghost use Rattle.implib_archive_link.specs.InBytes.{LinkerMember, asks_for, asks_on, asks_with};
+ghost use Rattle.implib_archive_link.specs.LldWay.{AreCalledAlike, LldArrives, asks_of_lld};
 ghost use Rattle.implib_archive_link.specs.Results.{AreFoundInBytes, AreSearched, HaveArchive};
 ghost use Rattle.implib_archive_link.specs.Results.{IsEnding, TakesJust};
 ghost use Rattle.implib_archive_link.specs.Way.{CallsArrive};
 ghost use Rattle.implib_archive_link.specs.Worked.{WorkedLibraries, WorkedSearches};
+ghost use Rattle.implib_archive_link.specs.WorkedLldWay.{WorkedLldWay};
 ghost use Rattle.implib_archive_link.specs.WorkedWay.{WorkedWay};
 ghost use Rattle.implib_link.specs.Flavors.Expansion.{descriptor_symbol_by_name};
 ghost use Rattle.implib_link.specs.Gnu.Program.{ClaimsNone};
@@ -23,6 +25,7 @@ ghost use Rattle.implib_link.specs.Search.Archives.{TakesOfLibraries, archive_of
 ghost use Rattle.implib_link.specs.Search.Closed.{AreLinkedFor, LinksClosed, listed_in, wanted_in};
 ghost use Rattle.implib_link.specs.Search.Given.{AreGiven};
 ghost use Rattle.implib_link.specs.Search.Msvc.{NamesNoHeader, msvc_if_any, shorts_wanted};
+ghost use Rattle.implib_link.specs.Search.MsvcArchives.{IsMsvcArchive};
 ghost use Rattle.implib_link.specs.Search.Search.{HaveSame, NamesNoHeadOrTail, exports_wanted};
 ghost use Rattle.implib_link.specs.Search.Search.{linked_if_any, names_undefined};
 ghost use Rattle.std.specs.List.{AllByRecursion, IsDistinct, flat_map};
@@ -140,6 +143,28 @@ pub fn bytes_lead_to_calls()
         CallsArrive machine libraries own taken arranged bases objects) }
 {}
 
+/// The whole way for lld: in the bytes of an archive of libraries for Microsoft's linker lld takes
+/// the short import of each export that given objects leave unresolved. Of a program of those that
+/// are live, in memory at any base, a loader that reads it there loads exactly these imports; every
+/// field of code against the `__imp_` symbol of such an export leads to its own entry, where is what
+/// the DLL gives for what it asks for; and a branch to its bare name arrives there by its thunk.
+///
+/// The listed symbols are distinct, but for those that one library's or one export's members share.
+/// No alias is among the exports that are spoken of. The search comes to an end, of any members.
+pub fn bytes_lead_to_lld_calls()
+    ensures arrives { (kind : Kind) (linker : LinkerMember) (machine : MachineType)
+        (libraries : List Library) (own : List Object) →
+        HaveArchive kind linker (archive_of libraries) →
+        IsMsvcArchive machine libraries →
+        AreCalledAlike libraries →
+        TakesJust kind linker (archive_of libraries) (asks_of_lld machine own)
+        (LldArrives machine libraries own) }
+    ensures ends { (kind : Kind) (linker : LinkerMember) (machine : MachineType)
+        (members : List MemberView) (own : List Object) →
+        HaveArchive kind linker members →
+        IsEnding kind linker members (asks_of_lld machine own) }
+{}
+
 /// Searches by hand in the bytes of archives of two members, of a definition's members, and of
 /// libraries.
 pub fn worked_searches()
@@ -151,4 +176,10 @@ pub fn worked_searches()
 /// call in a program's code that arrives at what foo.dll gives for it.
 pub fn worked_way()
     ensures { WorkedWay }
+{}
+
+/// The way for lld by hand, of a program that lld wrote: from the bytes of the archive of foo.dll's
+/// short imports to two calls that arrive at what foo.dll gives for `bar`.
+pub fn worked_lld_way()
+    ensures { WorkedLldWay }
 {}

@@ -24,3 +24,5 @@ pub mod MovedPointers
 pub mod LldTables
 pub mod LldGroups
 pub mod LldImports
+pub mod LldPrograms
+pub mod LldThunks

@@ -1,4 +1,7 @@
 pub mod Gnu
 pub mod Flavors
 pub mod Search
+pub mod Tables
+pub mod TablesOfPrograms
+pub mod TablesInMemory
 pub mod Worked

@@ -37,6 +37,7 @@ pub mod RefusedFields
 pub mod FlavorFields
 pub mod Rules
 pub mod Lld
+pub mod LldPrograms
 pub mod MsvcExists
 pub mod NamedApart
 pub mod Aliases

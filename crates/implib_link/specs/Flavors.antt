@@ -6,3 +6,5 @@ pub mod Texts
 pub mod Loaded
 pub mod LldTables
 pub mod LldImports
+pub mod LldLoaded
+pub mod LldThunks

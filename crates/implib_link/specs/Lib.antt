@@ -4,4 +4,5 @@ pub mod Stub
 pub mod Gnu
 pub mod Flavors
 pub mod Search
+pub mod Tables
 pub mod Worked

@@ -35,6 +35,7 @@ pub mod Operands
 pub mod RefusedFields
 pub mod Rules
 pub mod Lld
+pub mod LldPrograms
 pub mod MsvcExists
 pub mod NamedApart
 pub mod Aliases

@@ -118,7 +118,7 @@ unfolding AskFits
 ask_fits true ordinal text small free = small
 ask_fits false ordinal text small free = (small, free)
 
-export_fits : (machine : MachineType) (e : ExportView) → Sound e → FitsIn Msvc machine e
+pub export_fits : (machine : MachineType) (e : ExportView) → Sound e → FitsIn Msvc machine e
 unfolding FitsIn
 export_fits machine e good =
     ask_fits e.no_name e.ordinal _ (ltb-true e.ordinal 0x1_0000 good.ordinal)

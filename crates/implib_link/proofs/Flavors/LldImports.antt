@@ -28,12 +28,12 @@ use Rattle.implib_link.proofs.Gnu.Program.{gets_address}
 use Rattle.implib_link.proofs.Search.Counts.{distinct_from, few_from}
 use Rattle.implib_link.proofs.Search.Lists.{contains_among}
 
-all_at : {X : Type 0} (P : X → Type 0) (xs : List X) (i : ℕ) (x : X) → AllByRecursion P xs → slice_get xs i ≡ Some x → P x
+pub all_at : {X : Type 0} (P : X → Type 0) (xs : List X) (i : ℕ) (x : X) → AllByRecursion P xs → slice_get xs i ≡ Some x → P x
 all_at P [] i x all is = cc
 all_at P (y ∷ xs) zero x all is = (let same : y ≡ x = cc in subst P same all.0)
 all_at P (y ∷ xs) (suc i) x all is = all_at P xs i x all.1 is
 
-get_map : {X Y : Type 0} (f : X → Y) (xs : List X) (i : ℕ) (x : X) → slice_get xs i ≡ Some x → slice_get (map f xs) i ≡ Some (f x)
+pub get_map : {X Y : Type 0} (f : X → Y) (xs : List X) (i : ℕ) (x : X) → slice_get xs i ≡ Some x → slice_get (map f xs) i ≡ Some (f x)
 get_map f [] i x is = cc
 get_map f (y ∷ xs) zero x is = (let same : y ≡ x = cc in ap (λ z. Some (f z)) same)
 get_map f (y ∷ xs) (suc i) x is = get_map f xs i x is
@@ -85,7 +85,7 @@ next_row a i = omega arith
 nothing_before : (a w : ℕ) → a ≡ a + w * 0
 nothing_before a w = (let none : w * 0 ≡ 0 = mul-zero w in omega arith)
 
-nth_stands : (image : List Range) (width : ℕ) (imports : List Imported) (descriptor table i : ℕ) (p : Imported) → StandAt image width descriptor table imports → slice_get imports i ≡ Some p →
+pub nth_stands : (image : List Range) (width : ℕ) (imports : List Imported) (descriptor table i : ℕ) (p : Imported) → StandAt image width descriptor table imports → slice_get imports i ≡ Some p →
     LoadsFrom image width (descriptor + 20 * i) (table + width * thunks_until i imports) p.dll p.asks
 unfolding StandAt
 nth_stands image width [] descriptor table i p all is = cc
@@ -106,7 +106,7 @@ group_definitions : ℕ → ℕ → List ShortImport → List SymbolDefinition
 group_definitions width address [] = []
 group_definitions width address (r ∷ group) = record { name = imp_symbol r.symbol; address = Some address } ∷ group_definitions width (address + width) group
 
-all_definitions : ℕ → ℕ → List (List ShortImport) → List SymbolDefinition
+pub all_definitions : ℕ → ℕ → List (List ShortImport) → List SymbolDefinition
 all_definitions width address [] = []
 all_definitions width address (group ∷ groups) =
     group_definitions width address group ++ all_definitions width (address + width * (length (map ask_of_short_import group) + 1)) groups
@@ -161,7 +161,7 @@ group_defines width address (s ∷ group) (suc j) r is =
     inr (subst (λ n. Among (record { name = imp_symbol r.symbol; address = Some n }) (group_definitions width (address + width) group)) (next_entry address width j)
     (group_defines width (address + width) group j r is))
 
-all_define : (width address : ℕ) (groups : List (List ShortImport)) (i j : ℕ) (group : List ShortImport) (r : ShortImport) → slice_get groups i ≡ Some group → slice_get group j ≡ Some r →
+pub all_define : (width address : ℕ) (groups : List (List ShortImport)) (i j : ℕ) (group : List ShortImport) (r : ShortImport) → slice_get groups i ≡ Some group → slice_get group j ≡ Some r →
     Among (record { name = imp_symbol r.symbol; address = Some (address + width * thunks_until i (map imported_by groups) + width * j) }) (all_definitions width address groups)
 unfolding all_definitions
 all_define width address [] i j group r at is = cc
@@ -189,17 +189,17 @@ module _ (machine : MachineType) (descriptors addresses : ℕ) (taken : List Sho
   abbrev width : ℕ
   width = thunk_width machine
 
-  abbrev own : List SymbolDefinition
+  abbrev pub own : List SymbolDefinition
   own = all_definitions (thunk_width machine) addresses (grouped taken)
 
-  stand : StandAt image (thunk_width machine) descriptors addresses (imports_of_lld taken)
+  pub stand : StandAt image (thunk_width machine) descriptors addresses (imports_of_lld taken)
   stand = pieces_stand machine image program.starts program.ends descriptors program.lookups addresses program.hints program.names (imports_of_lld taken)
       (groups_written (grouped taken) (grouped_all IsWritable taken program.writable)) program.pieces
 
   held : AllByRecursion (AllByRecursion (Contains taken)) (grouped taken)
   held = grouped_all (Contains taken) taken (all_held taken taken (λ r m. among_contains r taken m))
 
-  only : AllByRecursion (λ group. AllByRecursion (λ r. Contains taken r × (r.dll ≡ dll_of_group group)) group) (grouped taken)
+  pub only : AllByRecursion (λ group. AllByRecursion (λ r. Contains taken r × (r.dll ≡ dll_of_group group)) group) (grouped taken)
   only = all_of_one taken program.agree (grouped taken) held (grouped_one taken)
 
   own_distinct : IsDistinct bytes_eq (map (λ (d : SymbolDefinition). d.name) own)
@@ -214,7 +214,7 @@ module _ (machine : MachineType) (descriptors addresses : ℕ) (taken : List Sho
       ∙ groups_define (thunk_width machine) addresses 0 (grouped taken)
       ∙ ap (λ n. all_definitions (thunk_width machine) n (grouped taken)) (plus_none addresses))
 
-  defined_once : (r : ShortImport) → Among r taken → (d : SymbolDefinition) → d.name ≡ imp_symbol r.symbol → Among d own → definitions_of (imp_symbol r.symbol) linked ≡ d ∷ []
+  pub defined_once : (r : ShortImport) → Among r taken → (d : SymbolDefinition) → d.name ≡ imp_symbol r.symbol → Among d own → definitions_of (imp_symbol r.symbol) linked ≡ d ∷ []
   defined_once r m d named among =
       let name : List ℕ = imp_symbol r.symbol in
       let listed : Among name (imp_symbols_of taken) = among_map (λ (x : ShortImport). imp_symbol x.symbol) r taken m in

@@ -416,7 +416,7 @@ module _ (machine : MachineType) where
     pub short_is : (e : ExportView) → Among e (exports_of l) → expanded_in machine (short_of machine l e).bytes ≡ Some (asking machine (names_for Msvc l.definition) e)
     short_is e there = short_taken l.definition machine l.members [] made e there
 
-    pair_there : (e : ExportView) (weak target : List ℕ) → is_short_alias e ≡ true → IsPair e weak target → Among (weak_spec machine (linked_dll l.definition) weak target) (weak_specs machine (linked_dll l.definition) e)
+    pub pair_there : (e : ExportView) (weak target : List ℕ) → is_short_alias e ≡ true → IsPair e weak target → Among (weak_spec machine (linked_dll l.definition) weak target) (weak_specs machine (linked_dll l.definition) e)
     unfolding weak_specs Among
     pair_there e weak target alias (inl is) = rw alias (inl (pair_same e weak target (short_import_symbol e) e.alias_target is.0 is.1))
       where

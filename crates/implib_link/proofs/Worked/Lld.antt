@@ -19,7 +19,7 @@ use Rattle.implib_link.proofs.Search.Lists.{contains_among}
 use Rattle.implib_link.proofs.Worked.Programs.{distinct_by}
 
 -- what the computing has to open
-unfoldable lld_opened : Unit {0}
+unfoldable pub lld_opened : Unit {0}
 unfolding short_import_in comes_first entries_of_groups group_entries grouped put_in put_into short_for all_hints all_names built_bytes descriptor_built directory_built hint_built hints_built tables_built thunk_built thunks_built next_multiple u16_bytes u32_bytes u16_at u32_at
 lld_opened = tt
 
@@ -47,7 +47,7 @@ unfolding IsAskable
 importable = (record { name = refl; asks = (omega arith, ((omega arith, refl), tt)) }, (record { name = refl; asks = ((omega arith, refl), tt) }, tt))
 
 -- two that are called alike in small letters are called alike
-alike : (ks : List ShortImport) → AllByRecursion (λ r. AllByRecursion (λ s. (in_small r.dll ≡ in_small s.dll) → r.dll ≡ s.dll) ks) ks →
+pub alike : (ks : List ShortImport) → AllByRecursion (λ r. AllByRecursion (λ s. (in_small r.dll ≡ in_small s.dll) → r.dll ≡ s.dll) ks) ks →
     (r s : ShortImport) → Contains ks r → Contains ks s → in_small r.dll ≡ in_small s.dll → r.dll ≡ s.dll
 alike ks all r s first second same =
     all_among (λ s. (in_small r.dll ≡ in_small s.dll) → r.dll ≡ s.dll) s ks (contains_among s ks second)

@@ -51,7 +51,7 @@ symbol_rules = record {
       (record { held = (0, omega arith, refl); external = refl; here = refl }) refl;
 }
 
-same_bytes : (memory : List Range) (xs ys : List ℕ) (a : ℕ) → BytesAt memory a xs → BytesAt memory a ys → length xs ≡ length ys → xs ≡ ys
+pub same_bytes : (memory : List Range) (xs ys : List ℕ) (a : ℕ) → BytesAt memory a xs → BytesAt memory a ys → length xs ≡ length ys → xs ≡ ys
 unfolding BytesAt
 same_bytes memory [] [] a first second long = refl
 same_bytes memory [] (y ∷ ys) a first second long = absurd (omega arith)

@@ -1,0 +1,156 @@
+-- lld's thunks in memory jump through their entries.
+use Rattle.std.proofs.Common.{◌≡◌, ℕ, ◌+◌, ◌*◌, List, [], ◌∷◌, ◌++◌, length, take, drop, Some, refl, ap, sym, ◌∙◌, subst, arith}
+use Rattle.std.specs.Prelude.{false}
+use Rattle.std.specs.List.{Contains, list_any}
+use Rattle.std.proofs.lemmas.List.{length-append}
+use Rattle.implib.specs.declared.machine.MachineType.{MachineType}
+use Rattle.implib.specs.declared.machine.MachineType.TheVariants.{I386, ARMNT, AMD64, ARM64}
+use Rattle.implib.specs.Formats.Constants.{amd64_rel32, arm64_pagebase_rel21, arm64_pageoffset_12l, class_external, i386_dir32}
+use Rattle.implib.specs.Formats.Object.{ASymbol, ObjectSection, ObjectSymbol, section_numbered}
+use Rattle.implib.specs.Formats.ShortImport.{ShortImport}
+use Rattle.implib.specs.Import.{imp_symbol}
+use Rattle.implib.specs.Link.Image.{Range}
+use Rattle.implib.specs.Link.Load.{BytesAt, number_in}
+use Rattle.implib.specs.Link.Placement.{Placed}
+use Rattle.implib.proofs.Link.LinkedMembers.{among_contains}
+use Rattle.implib.proofs.Link.Ranges.{among_first}
+use Rattle.implib_link.specs.Flavors.LldThunks.{IsThunk, ThunkArrives, placed_thunk, thunk_code, thunk_relocations, thunk_section}
+use Rattle.implib_link.specs.Gnu.Fields.{DefinesIn, LinkedCode, MeetsAlone, field_at, meets}
+use Rattle.implib_link.specs.Gnu.Operands.{AllLead, AreKept, InstructionArrives, IsOperand, Names, PairArrives}
+use Rattle.implib_link.specs.Stub.{adrp_immediate, bits_of, jump_reads, ldr_immediate, page, plus_signed, with_adrp, with_bits}
+use Rattle.implib_link.specs.Tables.{CanReadFrom}
+use Rattle.implib_link.proofs.Gnu.MovedCode.{four_of, joined}
+
+i386_jump : (address : ℕ) (field : List ℕ) → length field ≡ 4 → jump_reads I386 address (0xFF ∷ 0x25 ∷ (field ++ [])) ≡ Some (number_in field)
+i386_jump address field four = (let f = four_of field four in subst (λ xs. jump_reads I386 address (0xFF ∷ 0x25 ∷ (xs ++ [])) ≡ Some (number_in xs)) (sym f.is) refl)
+
+amd64_jump : (address : ℕ) (field : List ℕ) → length field ≡ 4 → jump_reads AMD64 address (0xFF ∷ 0x25 ∷ (field ++ [])) ≡ Some (plus_signed 32 1 (number_in field) (address + 6))
+amd64_jump address field four =
+    let f = four_of field four in
+    subst (λ xs. jump_reads AMD64 address (0xFF ∷ 0x25 ∷ (xs ++ [])) ≡ Some (plus_signed 32 1 (number_in xs) (address + 6))) (sym f.is) refl
+
+arm64_jump : (address : ℕ) (adrp load : List ℕ) → length adrp ≡ 4 → length load ≡ 4 → with_adrp 0 (number_in adrp) ≡ 0x9000_0010 → with_bits 10 12 0 (number_in load) ≡ 0xF940_0210 →
+    jump_reads ARM64 address (adrp ++ (load ++ 0 ∷ 2 ∷ 0x1F ∷ 0xD6 ∷ []))
+    ≡ Some (plus_signed 21 4096 (adrp_immediate (number_in adrp)) (page address * 4096) + ldr_immediate (number_in load))
+arm64_jump address adrp load four also is_adrp is_load =
+    let f = four_of adrp four in
+    let g = four_of load also in
+    rw (f.is, g.is) (rw (ap (λ xs. with_adrp 0 (number_in xs)) (sym f.is) ∙ is_adrp, ap (λ xs. with_bits 10 12 0 (number_in xs)) (sym g.is) ∙ is_load) refl)
+
+-- a thunk's section
+pub thunk_is : (machine : MachineType) (d : LinkedCode) (r : ShortImport) → IsThunk machine d r → section_numbered d.from.object.sections d.number ≡ Some d.code → d.code ≡ thunk_section machine
+thunk_is machine d r thunk here =
+    let found : section_numbered (placed_thunk machine r).object.sections 1 ≡ Some d.code =
+    subst (λ n. section_numbered (placed_thunk machine r).object.sections n ≡ Some d.code) thunk.number (subst (λ (p : Placed). section_numbered p.object.sections d.number ≡ Some d.code) thunk.from here) in
+    let same : Some (thunk_section machine) ≡ Some d.code = found in
+    cc
+
+thunk_names : (machine : MachineType) (d : LinkedCode) (r : ShortImport) → IsThunk machine d r → Names d.from 1 (imp_symbol r.symbol)
+thunk_names machine d r thunk =
+    subst (λ (p : Placed). Names p 1 (imp_symbol r.symbol)) (sym thunk.from)
+    (record { symbol = record { name = imp_symbol r.symbol; value = 0; section = 0; kind = 0; class = class_external }; target = refl; undefined = refl; named = refl })
+
+-- the bare name, which it defines
+abbrev pub bare_symbol : ShortImport → ObjectSymbol
+bare_symbol r = record { name = r.symbol; value = 0; section = 1; kind = 0; class = class_external }
+
+pub thunk_defines : (machine : MachineType) (d : LinkedCode) (r : ShortImport) → IsThunk machine d r → DefinesIn d (bare_symbol r)
+thunk_defines machine d r thunk = record {
+  held = subst (λ (p : Placed). Contains p.object.entries (ASymbol (bare_symbol r))) (sym thunk.from)
+      (among_contains (ASymbol (bare_symbol r)) (placed_thunk machine r).object.entries (among_first (ASymbol (bare_symbol r)) _));
+  external = refl;
+  here = sym thunk.number;
+}
+
+module _ (image_base : ℕ) (linked : List Placed) (codes : List LinkedCode) (memory : List Range) (r : ShortImport) (bytes : List ℕ) (d : LinkedCode) (held : Contains codes d) where
+  x86_thunk : (machine : MachineType) → length (thunk_code machine) ≡ 6 → (x : InstructionArrives machine image_base linked memory (d.position + 0) (0xFF ∷ 0x25 ∷ []) [] (imp_symbol r.symbol) bytes) →
+      jump_reads machine (image_base + d.position) (0xFF ∷ 0x25 ∷ (x.field ++ [])) ≡ Some (image_base + x.entry) → ThunkArrives machine image_base memory d.position bytes
+  x86_thunk machine size x reads =
+      let four : length x.field ≡ 4 = x.four in
+      let plain : d.position + 0 ≡ d.position = omega arith in
+      let long : length (0xFF ∷ 0x25 ∷ (x.field ++ [])) ≡ 6 = omega (arith, length-append x.field []) in
+      record {
+        code = 0xFF ∷ 0x25 ∷ (x.field ++ []);
+        there = subst (λ a. BytesAt memory a (0xFF ∷ 0x25 ∷ (x.field ++ []))) plain x.there;
+        whole = long ∙ sym size;
+        entry = x.entry;
+        reads = reads;
+        located = x.located;
+      }
+
+  x86_arrives : (machine : MachineType) (type : ℕ) → length (thunk_code machine) ≡ 6 → IsThunk machine d r → d.code ≡ thunk_section machine →
+      MeetsAlone machine (thunk_relocations machine 1) 0 6 (record { offset = 2; symbol = 1; kind = type }) → take 6 (thunk_code machine) ≡ 0xFF ∷ 0x25 ∷ 0 ∷ 0 ∷ 0 ∷ 0 ∷ [] →
+      IsOperand machine type 0 (number_in (0 ∷ 0 ∷ 0 ∷ 0 ∷ [])) → AllLead machine image_base linked codes memory (imp_symbol r.symbol) bytes →
+      InstructionArrives machine image_base linked memory (d.position + 0) (0xFF ∷ 0x25 ∷ []) [] (imp_symbol r.symbol) bytes
+  x86_arrives machine type size thunk own alone code counts lead =
+      lead.instructions d 0 (0xFF ∷ 0x25 ∷ []) [] held (record {
+        type = type;
+        symbol = 1;
+        alone = subst (λ (s : ObjectSection). MeetsAlone machine s.relocations 0 6 (record { offset = 2; symbol = 1; kind = type })) (sym own) alone;
+        names = thunk_names machine d r thunk;
+        field = 0 ∷ 0 ∷ 0 ∷ 0 ∷ [];
+        four = refl;
+        code = subst (λ (s : ObjectSection). take 6 (drop 0 s.bytes) ≡ 0xFF ∷ 0x25 ∷ 0 ∷ 0 ∷ 0 ∷ 0 ∷ []) (sym own) code;
+        counts = counts;
+      })
+
+  pub thunk_arrives : (machine : MachineType) (addresses : ℕ) → CanReadFrom machine image_base addresses → IsThunk machine d r → d.code ≡ thunk_section machine →
+      AllLead machine image_base linked codes memory (imp_symbol r.symbol) bytes → AreKept machine codes memory → ThunkArrives machine image_base memory d.position bytes
+  thunk_arrives I386 addresses can thunk own lead kept =
+      let x = x86_arrives I386 i386_dir32 refl thunk own refl refl (refl, refl) lead in
+      x86_thunk I386 refl x (i386_jump (image_base + d.position) x.field x.four ∙ x.leads)
+  thunk_arrives ARMNT addresses can thunk own lead kept = absurd can
+  thunk_arrives AMD64 addresses can thunk own lead kept =
+      let x = x86_arrives AMD64 amd64_rel32 refl thunk own refl refl (0, (omega arith, (refl, refl))) lead in
+      let place : image_base + d.position + 6 ≡ image_base + (d.position + 0 + 2) + 4 + 0 = omega arith in
+      x86_thunk AMD64 refl x (amd64_jump (image_base + d.position) x.field x.four ∙ ap (λ a. Some (plus_signed 32 1 (number_in x.field) a)) place ∙ x.leads)
+  thunk_arrives ARM64 addresses can thunk own lead kept =
+      let code : d.code.bytes ≡ thunk_code ARM64 = ap (λ (s : ObjectSection). s.bytes) own in
+      let relocations : d.code.relocations ≡ thunk_relocations ARM64 1 = ap (λ (s : ObjectSection). s.relocations) own in
+      let size : length d.code.bytes ≡ 12 = ap length code in
+      let page_code : field_at d.code.bytes 0 4 ≡ 0x9000_0010 = ap (λ xs. field_at xs 0 4) code in
+      let load_code : field_at d.code.bytes 4 4 ≡ 0xF940_0210 = ap (λ xs. field_at xs 4 4) code in
+      let names = thunk_names ARM64 d r thunk in
+      let x : PairArrives image_base linked memory (d.position + 0) (d.position + 4) (field_at d.code.bytes 0 4) (field_at d.code.bytes 4 4) (imp_symbol r.symbol) bytes =
+      lead.pairs d d 0 4 refl held held (record {
+        field = record {
+          symbol = 1;
+          alone = subst (λ rs. MeetsAlone ARM64 rs 0 4 (record { offset = 0; symbol = 1; kind = arm64_pagebase_rel21 })) (sym relocations) refl;
+          inside = omega arith;
+          names = names;
+        };
+        empty = ap adrp_immediate page_code;
+      }) (record {
+        field = record {
+          symbol = 1;
+          alone = subst (λ rs. MeetsAlone ARM64 rs 4 4 (record { offset = 4; symbol = 1; kind = arm64_pageoffset_12l })) (sym relocations) refl;
+          inside = omega arith;
+          names = names;
+        };
+        eight = ap (bits_of 30 2) load_code;
+        empty = ap ldr_immediate load_code;
+      }) in
+      let branch : BytesAt memory (d.position + 8) (0 ∷ 2 ∷ 0x1F ∷ 0xD6 ∷ []) =
+      subst (BytesAt memory (d.position + 8)) (ap (λ xs. take 4 (drop 8 xs)) code)
+      (kept d 8 4 held (subst (λ rs. list_any (meets ARM64 8 4) rs ≡ false) (sym relocations) refl)) in
+      let adrp : List ℕ = x.adrp_there.bytes in
+      let load : List ℕ = x.load_there.bytes in
+      let first : length adrp ≡ 4 = x.adrp_there.count in
+      let second : length load ≡ 4 = x.load_there.count in
+      let plain : d.position + 0 ≡ d.position = omega arith in
+      let load_place : d.position + 4 ≡ d.position + length adrp = omega arith in
+      let branch_place : d.position + 8 ≡ d.position + length adrp + length load = omega arith in
+      record {
+        code = adrp ++ (load ++ 0 ∷ 2 ∷ 0x1F ∷ 0xD6 ∷ []);
+        there = joined memory adrp (load ++ 0 ∷ 2 ∷ 0x1F ∷ 0xD6 ∷ []) d.position (subst (λ a. BytesAt memory a adrp) plain x.adrp_there.located)
+            (joined memory load (0 ∷ 2 ∷ 0x1F ∷ 0xD6 ∷ []) (d.position + length adrp) (subst (λ a. BytesAt memory a load) load_place x.load_there.located)
+            (subst (λ a. BytesAt memory a (0 ∷ 2 ∷ 0x1F ∷ 0xD6 ∷ [])) branch_place branch));
+        whole = omega (arith, length-append adrp (load ++ 0 ∷ 2 ∷ 0x1F ∷ 0xD6 ∷ []), length-append load (0 ∷ 2 ∷ 0x1F ∷ 0xD6 ∷ []));
+        entry = x.entry;
+        reads = arm64_jump (image_base + d.position) adrp load first second
+            (ap (with_adrp 0) x.adrp_there.value ∙ x.is_adrp ∙ ap (with_adrp 0) page_code) (ap (with_bits 10 12 0) x.load_there.value ∙ x.is_load ∙ ap (with_bits 10 12 0) load_code)
+            ∙ ap Some (ap (λ n. plus_signed 21 4096 (adrp_immediate n) (page (image_base + d.position) * 4096) + ldr_immediate (number_in load)) x.adrp_there.value
+            ∙ ap (λ n. plus_signed 21 4096 (adrp_immediate x.adrp) (page (image_base + d.position) * 4096) + ldr_immediate n) x.load_there.value
+            ∙ ap (λ a. plus_signed 21 4096 (adrp_immediate x.adrp) (page (image_base + a) * 4096) + ldr_immediate x.load) (sym plain) ∙ x.leads);
+        located = x.located;
+      }

@@ -1,0 +1,145 @@
+-- What a loader writes into import tables that follow one another is at their entries, and nowhere else.
+use Rattle.std.proofs.Common.{◌≡◌, ℕ, zero, suc, ◌+◌, ◌*◌, ◌≤◌, List, [], ◌∷◌, ◌++◌, length, map, Some, refl, ap, sym, ◌∙◌, subst, arith}
+use Rattle.std.specs.Prelude.{option_map, slice_get}
+use Rattle.std.specs.List.{AllByRecursion}
+use Rattle.std.proofs.lemmas.List.{append_assoc, length-map}
+use Rattle.std.proofs.lemmas.Option.{slice_get-map}
+use Rattle.implib.specs.declared.machine.MachineType.{MachineType}
+use Rattle.implib.specs.Import.{Ask}
+use Rattle.implib.specs.Link.Image.{Range, range_end}
+use Rattle.implib.specs.Link.Load.{BytesAt, NumberAt}
+use Rattle.implib.specs.Members.ImportTables.{thunk_width}
+use Rattle.implib.proofs.Link.Linked.{all_append}
+use Rattle.implib.proofs.Link.LinkedMembers.{among_contains}
+use Rattle.implib.proofs.Link.Loading.{number_once}
+use Rattle.implib.proofs.Link.Ranges.{among_first, among_later}
+use Rattle.implib_link.specs.Gnu.Loaded.{Writes, entries_written}
+use Rattle.implib_link.specs.Gnu.Reading.{ReadsAndWrites}
+use Rattle.implib_link.specs.Tables.{AreTables, AreTablesLoaded, IsInTable, RiseFrom, Table, TableEntry, Tables, imported_by_table}
+use Rattle.implib_link.proofs.Gnu.Loaded.{behind_entries, entries_within, entry_located, kept_outside}
+use Rattle.implib_link.proofs.Gnu.Reading.{directory_can_be_read, directory_read}
+use Rattle.implib_link.proofs.Search.Lists.{contains_among}
+
+-- what is asked by a table
+abbrev pub asks_of : Table → List Ask
+asks_of x = map (λ (e : TableEntry). e.ask) x.entries
+
+asks_counted : (x : Table) → length (asks_of x) ≡ length x.entries
+asks_counted x = length-map x.entries (λ (e : TableEntry). e.ask)
+
+-- each descriptor from one on has the address of its table
+abbrev HasFields : List Range → ℕ → List Table → Type 0
+HasFields image descriptor tables = (i : ℕ) (x : Table) → slice_get tables i ≡ Some x → NumberAt image 4 (descriptor + 20 * i + 16) x.address
+
+first_field : (image : List Range) (descriptor : ℕ) (x : Table) (tables : List Table) → HasFields image descriptor (x ∷ tables) → NumberAt image 4 (descriptor + 16) x.address
+first_field image descriptor x tables fields = let place : descriptor + 20 * 0 + 16 ≡ descriptor + 16 = omega arith in subst (λ a. NumberAt image 4 a x.address) place (fields 0 x refl)
+
+later_fields : (image : List Range) (descriptor : ℕ) (x : Table) (tables : List Table) → HasFields image descriptor (x ∷ tables) → HasFields image (descriptor + 20) tables
+later_fields image descriptor x tables fields i y is =
+    let place : descriptor + 20 * suc i + 16 ≡ descriptor + 20 + 20 * i + 16 = omega arith in
+    subst (λ a. NumberAt image 4 a y.address) place (fields (suc i) y is)
+
+-- a table is above all that was before it
+risen : (width low i : ℕ) (tables : List Table) (x : Table) → RiseFrom width low tables → slice_get tables i ≡ Some x → low ≤ x.address
+unfolding RiseFrom
+risen width low i [] x rise is = cc
+risen width low zero (y ∷ tables) x rise is = (let same : y ≡ x = cc in subst (λ (z : Table). low ≤ z.address) same rise.0)
+risen width low (suc i) (y ∷ tables) x rise is =
+    let above : low ≤ y.address = rise.0 in
+    let later : y.address + width * length y.entries ≤ x.address = risen width (y.address + width * length y.entries) i tables x rise.1 is in
+    omega arith
+
+in_later : (width : ℕ) (y : Table) (tables : List Table) (rs : List Range) → AllByRecursion (IsInTable width tables) rs → AllByRecursion (IsInTable width (y ∷ tables)) rs
+in_later width y tables [] all = tt
+in_later width y tables (r ∷ rs) all = (
+  record {
+    table = all.0.table;
+    held = among_contains all.0.table (y ∷ tables) (among_later all.0.table y tables (contains_among all.0.table tables all.0.held));
+    from = all.0.from;
+    to = all.0.to;
+  },
+  in_later width y tables rs all.1,
+)
+
+in_first : (width : ℕ) (x : Table) (tables : List Table) (rs : List Range) → AllByRecursion (λ r. (x.address ≤ r.start) × (range_end r ≤ x.address + width * length x.entries)) rs →
+    AllByRecursion (IsInTable width (x ∷ tables)) rs
+in_first width x tables [] all = tt
+in_first width x tables (r ∷ rs) all = (
+  record { table = x; held = among_contains x (x ∷ tables) (among_first x tables); from = all.0.0; to = all.0.1 },
+  in_first width x tables rs all.1,
+)
+
+module _ (machine : MachineType) (gives : List ℕ → Ask → List ℕ) where
+  -- what is written into tables
+  unfoldable tables_filled : List Table → List Range
+  tables_filled [] = []
+  tables_filled (x ∷ tables) = entries_written (thunk_width machine) x.address (gives x.dll) (asks_of x) ++ tables_filled tables
+
+  writes_fill : (image : List Range) (tables : List Table) (descriptor : ℕ) (written : List Range) → HasFields image descriptor tables →
+      Writes image (thunk_width machine) gives descriptor (map imported_by_table tables) written → written ≡ tables_filled tables
+  unfolding Writes tables_filled
+  writes_fill image [] descriptor written fields writes = writes
+  writes_fill image (x ∷ tables) descriptor written fields (table, (field, (behind, (is, later)))) =
+      let same : table ≡ x.address = number_once image 4 (descriptor + 16) table x.address field (first_field image descriptor x tables fields) in
+      is
+      ∙ ap (λ n. entries_written (thunk_width machine) n (gives x.dll) (asks_of x) ++ behind) same
+      ∙ ap (λ rest. entries_written (thunk_width machine) x.address (gives x.dll) (asks_of x) ++ rest)
+      (writes_fill image tables (descriptor + 20) behind (later_fields image descriptor x tables fields) later)
+
+  module _ (wide : (dll : List ℕ) (ask : Ask) → length (gives dll ask) ≡ thunk_width machine) where
+    filled_at : (tables : List Table) (low : ℕ) (ranges : List Range) (i j : ℕ) (x : Table) (e : TableEntry) → RiseFrom (thunk_width machine) low tables → slice_get tables i ≡ Some x → slice_get x.entries j ≡ Some e →
+        BytesAt (tables_filled tables ++ ranges) (x.address + thunk_width machine * j) (gives x.dll e.ask)
+    unfolding tables_filled RiseFrom
+    filled_at [] low ranges i j x e rise is asked = cc
+    filled_at (y ∷ tables) low ranges zero j x e rise is asked =
+        let same : y ≡ x = cc in
+        subst (λ (z : Table). BytesAt (tables_filled (y ∷ tables) ++ ranges) (z.address + thunk_width machine * j) (gives z.dll e.ask)) same
+        (subst (λ rs. BytesAt rs (y.address + thunk_width machine * j) (gives y.dll e.ask))
+        (sym (append_assoc (entries_written (thunk_width machine) y.address (gives y.dll) (asks_of y)) (tables_filled tables) ranges))
+        (entry_located (thunk_width machine) (gives y.dll) (wide y.dll) (asks_of y) y.address (tables_filled tables ++ ranges) j e.ask
+        (slice_get-map (λ (d : TableEntry). d.ask) y.entries j ∙ ap (option_map (λ (d : TableEntry). d.ask)) (subst (λ (z : Table). slice_get z.entries j ≡ Some e) (sym same) asked))))
+    filled_at (y ∷ tables) low ranges (suc i) j x e rise is asked =
+        let above : y.address + thunk_width machine * length y.entries ≤ x.address = risen (thunk_width machine) (y.address + thunk_width machine * length y.entries) i tables x rise.1 is in
+        let count : y.address + thunk_width machine * length (asks_of y) ≡ y.address + thunk_width machine * length y.entries = ap (λ n. y.address + thunk_width machine * n) (asks_counted y) in
+        subst (λ rs. BytesAt rs (x.address + thunk_width machine * j) (gives x.dll e.ask))
+        (sym (append_assoc (entries_written (thunk_width machine) y.address (gives y.dll) (asks_of y)) (tables_filled tables) ranges))
+        (behind_entries (thunk_width machine) (gives y.dll) (wide y.dll) (asks_of y) y.address (tables_filled tables ++ ranges) (x.address + thunk_width machine * j) (gives x.dll e.ask) (omega arith)
+        (filled_at tables (y.address + thunk_width machine * length y.entries) ranges i j x e rise.1 is asked))
+
+    filled_within : (tables : List Table) → AllByRecursion (IsInTable (thunk_width machine) tables) (tables_filled tables)
+    unfolding tables_filled
+    filled_within [] = tt
+    filled_within (x ∷ tables) =
+        let count : x.address + thunk_width machine * length (asks_of x) ≡ x.address + thunk_width machine * length x.entries = ap (λ n. x.address + thunk_width machine * n) (asks_counted x) in
+        all_append (IsInTable (thunk_width machine) (x ∷ tables)) (entries_written (thunk_width machine) x.address (gives x.dll) (asks_of x)) (tables_filled tables)
+        (in_first (thunk_width machine) x tables (entries_written (thunk_width machine) x.address (gives x.dll) (asks_of x))
+        (entries_within (thunk_width machine) (gives x.dll) (wide x.dll) (asks_of x) x.address x.address (x.address + thunk_width machine * length x.entries) (omega arith) (omega arith)))
+        (in_later (thunk_width machine) x tables (tables_filled tables) (filled_within tables))
+
+    pub tables_load : (t : Tables) (written : List Range) → AreTables machine t → Writes t.image (thunk_width machine) gives t.directory (map imported_by_table t.tables) written →
+        AreTablesLoaded machine t gives written
+    tables_load t written tables writes =
+        let is : written ≡ tables_filled t.tables = writes_fill t.image t.tables t.directory written tables.addresses writes in
+        record {
+          entries = λ i j x e name at asked symbol. record {
+            address = x.address + thunk_width machine * j;
+            once = tables.symbols i j x e name at asked symbol;
+            located = subst (λ rs. BytesAt (rs ++ t.image) (x.address + thunk_width machine * j) (gives x.dll e.ask)) (sym is)
+                (filled_at t.tables 0 t.image i j x e tables.rise at asked);
+          };
+          within = subst (AllByRecursion (IsInTable (thunk_width machine) t.tables)) (sym is) (filled_within t.tables);
+          kept = λ address none. kept_outside written t.image address none;
+        }
+
+pub tables_read : (machine : MachineType) (t : Tables) (gives : List ℕ → Ask → List ℕ) (n : ℕ) (written : List Range) → AreTables machine t →
+    ((dll : List ℕ) (ask : Ask) → length (gives dll ask) ≡ thunk_width machine) → ReadsAndWrites t.image (thunk_width machine) gives n t.directory written →
+    (n ≡ length t.tables) × AreTablesLoaded machine t gives written
+tables_read machine t gives n written tables wide reads =
+    let read = directory_read t.image (thunk_width machine) gives n t.directory (map imported_by_table t.tables) written tables.directory reads in
+    (read.0 ∙ length-map t.tables imported_by_table, tables_load machine gives wide t written tables read.1)
+
+pub tables_end : (machine : MachineType) (t : Tables) (gives : List ℕ → Ask → List ℕ) → AreTables machine t →
+    (written : List Range) × ReadsAndWrites t.image (thunk_width machine) gives (length t.tables) t.directory written
+tables_end machine t gives tables =
+    subst (λ n. (written : List Range) × ReadsAndWrites t.image (thunk_width machine) gives n t.directory written) (length-map t.tables imported_by_table)
+    (directory_can_be_read t.image (thunk_width machine) gives t.directory (map imported_by_table t.tables) tables.directory)

@@ -1,0 +1,101 @@
+-- Fields against the symbols of import tables lead to their entries, in memory at any base, whoever made the tables.
+use Rattle.std.proofs.Common.{◌≡◌, ℕ, ◌+◌, ◌*◌, ◌%◌, ◌^◌, ◌<◌, List, [], ◌∷◌, ◌++◌, length, map, Some, sym, ◌∙◌, subst, arith}
+use Rattle.std.specs.Prelude.{slice_get}
+use Rattle.std.specs.List.{AllByRecursion, Contains}
+use Rattle.std.proofs.lemmas.List.{length-map}
+use Rattle.implib.specs.declared.machine.MachineType.{MachineType}
+use Rattle.implib.specs.declared.machine.MachineType.TheVariants.{I386, ARMNT, AMD64, ARM64}
+use Rattle.implib.specs.Formats.Object.{ObjectSymbol}
+use Rattle.implib.specs.Import.{Ask}
+use Rattle.implib.specs.Link.Image.{Range}
+use Rattle.implib.specs.Link.Load.{BytesAt}
+use Rattle.implib.specs.Link.Resolution.{definitions_of}
+use Rattle.implib.specs.Members.ImportTables.{thunk_width}
+use Rattle.implib_link.specs.Gnu.Calls.{CanBranch}
+use Rattle.implib_link.specs.Gnu.Fields.{DefinesIn, LinkedCode}
+use Rattle.implib_link.specs.Gnu.Loaded.{Writes}
+use Rattle.implib_link.specs.Gnu.Moves.{AreInMemory}
+use Rattle.implib_link.specs.Gnu.Operands.{AllLead, AreKept, BranchArrives, HasBranch}
+use Rattle.implib_link.specs.Gnu.Reading.{ReadsAndWrites}
+use Rattle.implib_link.specs.Tables.{AreSteady, AreTables, AreTablesLoaded, CanReadFrom, Table, TableEntry, Tables, imported_by_table}
+use Rattle.implib_link.proofs.Gnu.CallReads.{CanReach}
+use Rattle.implib_link.proofs.Gnu.FieldsInMemory.{Rests, part_there, rests}
+use Rattle.implib_link.proofs.Gnu.Keeps.{bytes_kept, keeps_written, memory_can_be_read, memory_read}
+use Rattle.implib_link.proofs.Gnu.Memory.{Covers, byte_first, loaded_below, written_covers}
+use Rattle.implib_link.proofs.Gnu.Operands.{all_lead, branch_arrives}
+use Rattle.implib_link.proofs.Gnu.Stubs.{same_address, wide_thunk}
+use Rattle.implib_link.proofs.Search.Lists.{contains_among}
+use Rattle.implib_link.proofs.Tables.{tables_load}
+
+eights : (a n : ℕ) → a % 8 ≡ 0 → (a + 8 * n) % 8 ≡ 0
+eights a n even = omega arith
+
+-- a machine that can read a table from its address on can read each entry
+pub entry_reached : (machine : MachineType) (image_base address j : ℕ) → CanReadFrom machine image_base address → CanReach machine image_base (address + thunk_width machine * j)
+entry_reached I386 image_base address j can = can
+entry_reached ARMNT image_base address j can = can
+entry_reached AMD64 image_base address j can = can
+entry_reached ARM64 image_base address j can = (can.0, eights address j can.1)
+
+-- What is known of one entry of loaded tables.
+pub record EntryIn (machine : MachineType) (t : Tables) (written memory : List Range) (name given : List ℕ) (entry : ℕ) : Type 0 where
+  pub once : definitions_of name t.linked ≡ record { name = name; address = Some entry } ∷ []
+  pub small : entry < 2 ^ 31
+  pub located : BytesAt (written ++ memory) entry given
+
+module _ (machine : MachineType) (image_base : ℕ) (t : Tables) (codes : List LinkedCode) (targets : LinkedCode → ℕ → ℕ) (memory : List Range) (gives : List ℕ → Ask → List ℕ)
+    (tables : AreTables machine t) (steady : AreSteady machine t.linked) (at : AreInMemory machine image_base t.image t.linked codes targets memory) where
+  pub resting : Rests machine image_base t.image t.linked codes targets memory
+  resting = rests machine image_base t.image t.linked codes targets memory at steady
+
+  tables_in_memory_read : (n : ℕ) (written : List Range) → ReadsAndWrites memory (thunk_width machine) gives n t.directory written →
+      (n ≡ length (map imported_by_table t.tables)) × Writes t.image (thunk_width machine) gives t.directory (map imported_by_table t.tables) written
+  tables_in_memory_read n written reads =
+      memory_read t.image memory resting.image_kept (thunk_width machine) gives n t.directory (map imported_by_table t.tables) written tables.directory reads
+
+  pub tables_load_in_memory : (n : ℕ) (written : List Range) → ((dll : List ℕ) (ask : Ask) → length (gives dll ask) ≡ thunk_width machine) →
+      ReadsAndWrites memory (thunk_width machine) gives n t.directory written → (n ≡ length t.tables) × AreTablesLoaded machine t gives written
+  tables_load_in_memory n written wide reads =
+      let read = tables_in_memory_read n written reads in
+      (read.0 ∙ length-map t.tables imported_by_table, tables_load machine gives wide t written tables read.1)
+
+  pub tables_end_in_memory : (written : List Range) × ReadsAndWrites memory (thunk_width machine) gives (length t.tables) t.directory written
+  tables_end_in_memory =
+      subst (λ n. (written : List Range) × ReadsAndWrites memory (thunk_width machine) gives n t.directory written) (length-map t.tables imported_by_table)
+      (memory_can_be_read t.image memory resting.image_kept (thunk_width machine) gives t.directory (map imported_by_table t.tables) tables.directory)
+
+  module _ (n : ℕ) (written : List Range) (wide : (dll : List ℕ) (ask : Ask) → length (gives dll ask) ≡ thunk_width machine)
+      (reads : ReadsAndWrites memory (thunk_width machine) gives n t.directory written) where
+    pub covering : AllByRecursion (Covers t.image) written
+    covering = written_covers t.image (thunk_width machine) gives wide (map imported_by_table t.tables) t.directory written tables.directory (tables_in_memory_read n written reads).1
+
+    pub entry_in : (i j : ℕ) (x : Table) (e : TableEntry) (name : List ℕ) → slice_get t.tables i ≡ Some x → slice_get x.entries j ≡ Some e → e.symbol ≡ Some name →
+        EntryIn machine t written memory name (gives x.dll e.ask) (x.address + thunk_width machine * j)
+    entry_in i j x e name is asked symbol =
+        let entry : ℕ = x.address + thunk_width machine * j in
+        let once : definitions_of name t.linked ≡ record { name = name; address = Some entry } ∷ [] = tables.symbols i j x e name is asked symbol in
+        let holds = (tables_load_in_memory n written wide reads).1.entries i j x e name is asked symbol in
+        let same : holds.address ≡ entry = same_address name holds.address entry (definitions_of name t.linked) holds.once once in
+        let located : BytesAt (written ++ t.image) entry (gives x.dll e.ask) = subst (λ a. BytesAt (written ++ t.image) a (gives x.dll e.ask)) same holds.located in
+        let first = byte_first (written ++ t.image) (gives x.dll e.ask) entry located (subst (λ k. 0 < k) (sym (wide x.dll e.ask)) (wide_thunk machine)) in
+        record {
+          once = once;
+          small = loaded_below t.image written entry first.0 tables.starts tables.ends covering first.1;
+          located = bytes_kept (written ++ t.image) (written ++ memory) (keeps_written t.image memory resting.image_kept written) (gives x.dll e.ask) entry located;
+        }
+
+    pub tables_lead_in_memory : (i j : ℕ) (x : Table) (e : TableEntry) (name : List ℕ) → slice_get t.tables i ≡ Some x → slice_get x.entries j ≡ Some e → e.symbol ≡ Some name →
+        CanReadFrom machine image_base x.address → AllLead machine image_base t.linked codes (written ++ memory) name (gives x.dll e.ask)
+    tables_lead_in_memory i j x e name is asked symbol can =
+        let own = entry_in i j x e name is asked symbol in
+        all_lead machine image_base t.image t.linked codes targets memory resting written covering name (gives x.dll e.ask) (x.address + thunk_width machine * j) own.once own.small
+        (entry_reached machine image_base x.address j can) own.located
+
+    pub tables_branch_in_memory : (c d : LinkedCode) (offset after : ℕ) (name : List ℕ) (s : ObjectSymbol) → Contains codes c → HasBranch machine c offset after name → Contains codes d → DefinesIn d s → s.name ≡ name →
+        d.position + s.value < 2 ^ 31 → CanBranch machine (c.position + offset) (d.position + s.value) →
+        BranchArrives machine image_base (written ++ memory) (c.position + offset) after (d.position + s.value)
+    tables_branch_in_memory = branch_arrives machine image_base t.image t.linked codes targets memory resting written covering
+
+    pub tables_keep_in_memory : AreKept machine codes (written ++ memory)
+    tables_keep_in_memory c offset count held none =
+        part_there machine image_base t.image t.linked codes targets memory resting written covering c (contains_among c codes held) offset count none

@@ -1,0 +1,145 @@
+//! Laws of linked import tables, whichever linker made them.
+
+ghost use Rattle.implib.specs.Formats.Object.{Object, ObjectSymbol};
+ghost use Rattle.implib.specs.Formats.ShortImport.{ShortImport};
+ghost use Rattle.implib.specs.Import.{Ask};
+ghost use Rattle.implib.specs.Link.Image.{Range};
+ghost use Rattle.implib.specs.Link.LinkedMembers.{IsMade, LinkInput};
+ghost use Rattle.implib.specs.Link.Placement.{Bases, Placed, placed_from};
+ghost use Rattle.implib.specs.Members.ImportTables.{thunk_width};
+ghost use Rattle.implib.specs.declared.machine.MachineType.{MachineType};
+ghost use Rattle.implib_link.specs.Flavors.LldImports.{IsLldProgram, placed_by_lld};
+ghost use Rattle.implib_link.specs.Flavors.Program.{FlavorInput, IsFlavorProgram, IsMadeFor};
+ghost use Rattle.implib_link.specs.Gnu.Calls.{CanBranch};
+ghost use Rattle.implib_link.specs.Gnu.Fields.{DefinesIn, LinkedCode};
+ghost use Rattle.implib_link.specs.Gnu.Loaded.{Writes};
+ghost use Rattle.implib_link.specs.Gnu.Moves.{AreInMemory};
+ghost use Rattle.implib_link.specs.Gnu.Operands.{AllLead, AreKept, BranchArrives, HasBranch};
+ghost use Rattle.implib_link.specs.Gnu.Program.{IsProgram};
+ghost use Rattle.implib_link.specs.Gnu.Reading.{ReadsAndWrites};
+ghost use Rattle.implib_link.specs.Tables.{AreSteady, AreTables, AreTablesLoaded, CanReadFrom, Table};
+ghost use Rattle.implib_link.specs.Tables.{TableEntry, Tables, block_of_flavor, block_of_input};
+ghost use Rattle.implib_link.specs.Tables.{imported_by_table, tables_at, tables_of_lld};
+ghost use Rattle.std.specs.List.{AllByRecursion, Contains};
+ghost use Rattle.std.specs.Prelude.{◌≡◌, ◌+◌, ◌++◌, ◌∷◌, ◌<◌, ◌^◌, ℕ, List, Some, length, map};
+ghost use Rattle.std.specs.Prelude.{slice_get};
+
+/// Programs for GNU's linker, of both flavours, and of short imports that lld took have import
+/// tables, each DLL's of exactly what is imported from it. Those of the first two store no address
+/// whole; nor do lld's, but objects beside them may have tables of their own.
+pub fn programs_have_tables()
+    ensures gnu { (machine : MachineType) (bases : Bases) (inputs : List LinkInput)
+        (objects : List Object) →
+        AllByRecursion (IsMade machine) inputs →
+        IsProgram machine bases inputs objects →
+        AreTables machine (tables_at machine bases objects (map (block_of_input machine) inputs)) ×
+        AreSteady machine (placed_from bases objects) }
+    ensures flavors { (machine : MachineType) (bases : Bases) (inputs : List FlavorInput)
+        (objects : List Object) →
+        AllByRecursion (IsMadeFor machine) inputs →
+        IsFlavorProgram machine bases inputs objects →
+        AreTables machine (tables_at machine bases objects (map (block_of_flavor machine) inputs)) ×
+        AreSteady machine (placed_from bases objects) }
+    ensures lld { (machine : MachineType) (descriptors addresses : ℕ) (taken : List ShortImport)
+        (image : List Range) (linked : List Placed) →
+        IsLldProgram machine descriptors addresses taken image linked →
+        AreTables machine (tables_of_lld machine descriptors addresses taken image linked) }
+    ensures lld_steady { (machine : MachineType) (addresses : ℕ) (taken : List ShortImport)
+        (before behind : List Placed) →
+        AreSteady machine before →
+        AreSteady machine behind →
+        AreSteady machine (before ++ placed_by_lld machine addresses taken ∷ behind) }
+{}
+
+/// A loader that walks the directory of any import tables writes what each DLL gives into the
+/// entries, and nothing elsewhere. One that reads the image, and knows nothing else, stops after as
+/// many descriptors as there are tables and does so, and there is such a loader.
+pub fn any_tables_load()
+    ensures loads { (machine : MachineType) (t : Tables) (gives : List ℕ → Ask → List ℕ)
+        (written : List Range) →
+        AreTables machine t →
+        ((dll : List ℕ) (ask : Ask) → length (gives dll ask) ≡ thunk_width machine) →
+        Writes t.image (thunk_width machine) gives t.directory (map imported_by_table t.tables)
+        written →
+        AreTablesLoaded machine t gives written }
+    ensures reads { (machine : MachineType) (t : Tables) (gives : List ℕ → Ask → List ℕ) (n : ℕ)
+        (written : List Range) →
+        AreTables machine t →
+        ((dll : List ℕ) (ask : Ask) → length (gives dll ask) ≡ thunk_width machine) →
+        ReadsAndWrites t.image (thunk_width machine) gives n t.directory written →
+        (n ≡ length t.tables) × AreTablesLoaded machine t gives written }
+    ensures ends { (machine : MachineType) (t : Tables) (gives : List ℕ → Ask → List ℕ) →
+        AreTables machine t →
+        (written : List Range) × ReadsAndWrites t.image (thunk_width machine) gives
+        (length t.tables) t.directory written }
+{}
+
+/// Any import tables are in memory with code beside them, at the base that they were linked for or
+/// at another, which changes none of them. A loader that reads them there loads the same imports. Every field of code against
+/// the symbol of an entry leads, by the processor's rule, to the entry, where the loader wrote what
+/// the DLL gives, whatever instruction holds the field; a branch to a name leads to where code
+/// defines it; other bytes of code are as they were.
+pub fn fields_lead_to_any_tables()
+    ensures loads { (machine : MachineType) (image_base : ℕ) (t : Tables)
+        (codes : List LinkedCode) (targets : LinkedCode → ℕ → ℕ) (memory : List Range)
+        (gives : List ℕ → Ask → List ℕ) →
+        AreTables machine t →
+        AreSteady machine t.linked →
+        AreInMemory machine image_base t.image t.linked codes targets memory →
+        (n : ℕ) (written : List Range) →
+        ((dll : List ℕ) (ask : Ask) → length (gives dll ask) ≡ thunk_width machine) →
+        ReadsAndWrites memory (thunk_width machine) gives n t.directory written →
+        (n ≡ length t.tables) × AreTablesLoaded machine t gives written }
+    ensures ends { (machine : MachineType) (image_base : ℕ) (t : Tables)
+        (codes : List LinkedCode) (targets : LinkedCode → ℕ → ℕ) (memory : List Range)
+        (gives : List ℕ → Ask → List ℕ) →
+        AreTables machine t →
+        AreSteady machine t.linked →
+        AreInMemory machine image_base t.image t.linked codes targets memory →
+        (written : List Range) × ReadsAndWrites memory (thunk_width machine) gives
+        (length t.tables) t.directory written }
+    ensures leads { (machine : MachineType) (image_base : ℕ) (t : Tables)
+        (codes : List LinkedCode) (targets : LinkedCode → ℕ → ℕ) (memory : List Range)
+        (gives : List ℕ → Ask → List ℕ) →
+        AreTables machine t →
+        AreSteady machine t.linked →
+        AreInMemory machine image_base t.image t.linked codes targets memory →
+        (n : ℕ) (written : List Range) →
+        ((dll : List ℕ) (ask : Ask) → length (gives dll ask) ≡ thunk_width machine) →
+        ReadsAndWrites memory (thunk_width machine) gives n t.directory written →
+        (i j : ℕ) (x : Table) (e : TableEntry) (name : List ℕ) →
+        slice_get t.tables i ≡ Some x →
+        slice_get x.entries j ≡ Some e →
+        e.symbol ≡ Some name →
+        CanReadFrom machine image_base x.address →
+        AllLead machine image_base t.linked codes (written ++ memory) name (gives x.dll e.ask) }
+    ensures branches { (machine : MachineType) (image_base : ℕ) (t : Tables)
+        (codes : List LinkedCode) (targets : LinkedCode → ℕ → ℕ) (memory : List Range)
+        (gives : List ℕ → Ask → List ℕ) →
+        AreTables machine t →
+        AreSteady machine t.linked →
+        AreInMemory machine image_base t.image t.linked codes targets memory →
+        (n : ℕ) (written : List Range) →
+        ((dll : List ℕ) (ask : Ask) → length (gives dll ask) ≡ thunk_width machine) →
+        ReadsAndWrites memory (thunk_width machine) gives n t.directory written →
+        (c d : LinkedCode) (offset after : ℕ) (name : List ℕ) (s : ObjectSymbol) →
+        Contains codes c →
+        HasBranch machine c offset after name →
+        Contains codes d →
+        DefinesIn d s →
+        s.name ≡ name →
+        d.position + s.value < 2 ^ 31 →
+        CanBranch machine (c.position + offset) (d.position + s.value) →
+        BranchArrives machine image_base (written ++ memory) (c.position + offset) after
+        (d.position + s.value) }
+    ensures kept { (machine : MachineType) (image_base : ℕ) (t : Tables)
+        (codes : List LinkedCode) (targets : LinkedCode → ℕ → ℕ) (memory : List Range)
+        (gives : List ℕ → Ask → List ℕ) →
+        AreTables machine t →
+        AreSteady machine t.linked →
+        AreInMemory machine image_base t.image t.linked codes targets memory →
+        (n : ℕ) (written : List Range) →
+        ((dll : List ℕ) (ask : Ask) → length (gives dll ask) ≡ thunk_width machine) →
+        ReadsAndWrites memory (thunk_width machine) gives n t.directory written →
+        AreKept machine codes (written ++ memory) }
+{}
