@@ -42,3 +42,6 @@ pub mod NamedApart
 pub mod Aliases
 pub mod Readings
 pub mod Walks
+pub mod NearMisses
+pub mod NearTables
+pub mod NearSearches

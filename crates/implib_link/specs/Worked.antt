@@ -40,3 +40,5 @@ pub mod NamedApart
 pub mod Aliases
 pub mod Readings
 pub mod Walks
+pub mod NearTables
+pub mod NearSearches

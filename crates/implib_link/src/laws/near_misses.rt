@@ -1,0 +1,52 @@
+//! Near misses: what is no link, no loaded program and no search, each by one thing that is
+//! otherwise.
+
+ghost use Rattle.implib_link.specs.Worked.NearSearches.{NearAreNamedApart, NearIsAliasTaken};
+ghost use Rattle.implib_link.specs.Worked.NearSearches.{NearIsArchive, NearIsImported};
+ghost use Rattle.implib_link.specs.Worked.NearSearches.{NearIsImportedShort, NearIsMsvcArchive};
+ghost use Rattle.implib_link.specs.Worked.NearSearches.{NearIsUsed, NearNamesNoHeadOrTail};
+ghost use Rattle.implib_link.specs.Worked.NearSearches.{NearIsUsedShort, NearIsWeakData};
+ghost use Rattle.implib_link.specs.Worked.NearSearches.{NearIsWeakShort, NearIsWeakTaken};
+ghost use Rattle.implib_link.specs.Worked.NearSearches.{NearPullsIn, NearPullsInFor, NearPullsInto};
+ghost use Rattle.implib_link.specs.Worked.NearSearches.{NearPullsIntoFor};
+ghost use Rattle.implib_link.specs.Worked.NearTables.{NearAreAlike, NearAreLoaded, NearBeginsWith};
+ghost use Rattle.implib_link.specs.Worked.NearTables.{NearGetsAddress, NearHoldsAt, NearIsInEntry};
+ghost use Rattle.implib_link.specs.Worked.NearTables.{NearIsLoaded, NearLieWithin};
+
+/// What is not said of linked and loaded import tables: of their bounds, and of what a loader
+/// leaves.
+pub fn near_misses_of_tables()
+    ensures in_entry { NearIsInEntry }
+    ensures begins { NearBeginsWith }
+    ensures lie { NearLieWithin }
+    ensures loaded { NearIsLoaded }
+    ensures flavors_loaded { NearAreLoaded }
+    ensures holds { NearHoldsAt }
+    ensures alike { NearAreAlike }
+    ensures gets { NearGetsAddress }
+{}
+
+/// What is not said of archive searches: which members a name pulls in, and which weak externals
+/// and imports are used.
+pub fn near_misses_of_searches()
+    ensures pulls { NearPullsIn }
+    ensures pulls_for { NearPullsInFor }
+    ensures pulls_into { NearPullsInto }
+    ensures pulls_into_for { NearPullsIntoFor }
+    ensures weak_data { NearIsWeakData }
+    ensures weak_short { NearIsWeakShort }
+    ensures used { NearIsUsed }
+    ensures used_short { NearIsUsedShort }
+    ensures aliases { NearIsAliasTaken }
+    ensures weak { NearIsWeakTaken }
+    ensures imports { NearIsImported }
+    ensures shorts { NearIsImportedShort }
+{}
+
+/// What is no archive of libraries, and which names are not apart.
+pub fn near_misses_of_archives()
+    ensures archive { NearIsArchive }
+    ensures msvc_archive { NearIsMsvcArchive }
+    ensures names { NearNamesNoHeadOrTail }
+    ensures apart { NearAreNamedApart }
+{}
