@@ -45,3 +45,4 @@ pub mod Walks
 pub mod NearMisses
 pub mod NearTables
 pub mod NearSearches
+pub mod NearPrograms

@@ -42,3 +42,4 @@ pub mod Readings
 pub mod Walks
 pub mod NearTables
 pub mod NearSearches
+pub mod NearPrograms

@@ -19,7 +19,7 @@ use Rattle.implib_link.proofs.Search.Lists.{contains_among}
 use Rattle.implib_link.proofs.Worked.Programs.{distinct_by}
 
 -- what the computing has to open
-unfoldable lld_opened : Unit {0}
+unfoldable pub lld_opened : Unit {0}
 unfolding short_import_in comes_first entries_of_groups group_entries grouped put_in put_into short_for all_hints all_names built_bytes descriptor_built directory_built hint_built hints_built tables_built thunk_built thunks_built next_multiple u16_bytes u32_bytes u16_at u32_at
 lld_opened = tt
 

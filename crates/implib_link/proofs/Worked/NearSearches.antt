@@ -39,12 +39,12 @@ use Rattle.implib_link.specs.Worked.Archives.{library_of, two_libraries}
 use Rattle.implib_link.specs.Worked.Closed.{closed_bases, closed_objects, closed_taken, foo_alias}
 use Rattle.implib_link.specs.Worked.MsvcArchives.{null_named, short_named, shorts_of_both, two_msvc, weak_named}
 use Rattle.implib_link.specs.Worked.MsvcClosed.{msvc_bases, msvc_objects}
-use Rattle.implib_link.specs.Worked.NearSearches.{NearAreNamedApart, NearIsAliasTaken, NearIsArchive, NearIsImported, NearIsImportedShort, NearIsMsvcArchive, NearIsUsed, NearIsUsedShort, NearIsWeakData, NearIsWeakShort, NearIsWeakTaken, NearNamesNoHeadOrTail, NearPullsIn, NearPullsInFor, NearPullsInto, NearPullsIntoFor, again, asking, closed_inputs, later, listing, msvc_inputs, queue_member, zed_library}
+use Rattle.implib_link.specs.Worked.NearSearches.{NearAreNamedApart, NearIsAliasTaken, NearIsArchive, NearIsImported, NearIsImportedShort, NearIsMsvcArchive, NearIsUsed, NearIsUsedShort, NearIsWeakData, NearIsWeakShort, NearIsWeakTaken, NearNamesNoHeadOrTail, NearPullsIn, NearPullsInFor, NearPullsInto, NearPullsIntoFor, again, asking, closed_inputs, later, listing, msvc_inputs, queue_member, zed_library, zed_short}
 use Rattle.implib_link.proofs.Search.Lists.{among_any, among_at, any_among, apart_none, contains_among}
 use Rattle.implib_link.proofs.Worked.RefusedLinks.{differ}
 use Rattle.implib.specs.Members.ImportTables.{thunk_width}
 use Rattle.implib_link.specs.Gnu.Packed.{group_end, sections_end}
-use Rattle.implib_link.proofs.Worked.NearMisses.{in_one_alone, none_passes, some_passes}
+use Rattle.implib_link.proofs.Worked.NearMisses.{in_one_alone, none_passes, same_twice, some_passes}
 use Rattle.implib_link.proofs.Worked.Programs.{distinct_by, opened}
 
 -- what the computing has to open
@@ -276,16 +276,8 @@ near_is_imported_short = record {
 
 -- Archives.
 
-again_later : (first : List ℕ) (names : List (List ℕ)) → list_any (bytes_eq first) names ≡ true → IsDistinct bytes_eq (first ∷ names) → ⊥
-unfolding IsDistinct
-again_later first names is distinct = apart_none first names (any_among first names is) distinct.0
-
 none_made : {m : MemberView} {ms : List MemberView} → [] ≡ m ∷ ms → ⊥
 none_made is = cc
-
-all_later : (first : List ℕ) (names : List (List ℕ)) → IsDistinct bytes_eq (first ∷ names) → IsDistinct bytes_eq names
-unfolding IsDistinct
-all_later first names distinct = distinct.1
 
 zed_archive : IsArchive AMD64 (zed_library ∷ [])
 unfolding searched
@@ -299,14 +291,14 @@ unfolding searched
 near_is_archive = record {
   archive = zed_archive;
   made = λ x. none_made x.made.0.made;
-  distinct = λ x. again_later (codes "zed_dll_iname") _ refl x.distinct;
+  distinct = λ x. same_twice (flat_map (symbols_of_library AMD64) (zed_library ∷ zed_library ∷ [])) refl x.distinct;
 }
 
 pub near_is_msvc_archive : NearIsMsvcArchive
 unfolding searched
 near_is_msvc_archive = record {
   made = λ x. none_made x.made.0.made;
-  distinct = λ x. again_later (codes "__IMPORT_DESCRIPTOR_zed") _ refl (all_later (codes "__NULL_IMPORT_DESCRIPTOR") _ x.distinct);
+  distinct = λ x. same_twice (null_descriptor_symbol ∷ flat_map symbols_of_shorts (zed_short (codes "queue") ∷ zed_short (codes "stack") ∷ [])) refl x.distinct;
   found = λ x. let is : codes "__IMPORT_DESCRIPTOR_zed" ≡ codes "__IMPORT_DESCRIPTOR_zed.drv" = x.found.0 in differ 23 27 (ap length is) (omega arith);
 }
 

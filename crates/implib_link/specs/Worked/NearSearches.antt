@@ -134,14 +134,14 @@ pub record NearIsArchive : Type 0 where
   pub made : IsArchive AMD64 (record zed_library { members = [] } ∷ []) → ⊥
   pub distinct : IsArchive AMD64 (zed_library ∷ zed_library ∷ []) → ⊥
 
--- and a DLL whose descriptor linkers do not find
+-- zed.dll with a function, for Microsoft's linker
+abbrev pub zed_short : List ℕ → Library
+zed_short name = msvc_library (of_dll (codes "zed.dll") (plain_export name ∷ []))
+
+-- without its members, and twice; and a DLL whose descriptor linkers do not find
 pub record NearIsMsvcArchive : Type 0 where
-  pub made : IsMsvcArchive AMD64
-      (record (msvc_library (of_dll (codes "zed.dll") (plain_export (codes "queue") ∷ []))) { members = [] } ∷ []) → ⊥
-  pub distinct : IsMsvcArchive AMD64
-      (msvc_library (of_dll (codes "zed.dll") (plain_export (codes "queue") ∷ []))
-      ∷ msvc_library (of_dll (codes "zed.dll") (plain_export (codes "stack") ∷ []))
-      ∷ []) → ⊥
+  pub made : IsMsvcArchive AMD64 (record (zed_short (codes "queue")) { members = [] } ∷ []) → ⊥
+  pub distinct : IsMsvcArchive AMD64 (zed_short (codes "queue") ∷ zed_short (codes "stack") ∷ []) → ⊥
   pub found : IsMsvcArchive AMD64 (msvc_library (of_dll (codes "zed.drv") (plain_export (codes "queue") ∷ [])) ∷ []) → ⊥
 
 -- the descriptor's symbol, and the DLL name's

@@ -1,6 +1,10 @@
 //! Near misses: what is no link, no loaded program and no search, each by one thing that is
 //! otherwise.
 
+ghost use Rattle.implib_link.specs.Worked.NearPrograms.{NearAreFlavorObjects, NearAreWhole};
+ghost use Rattle.implib_link.specs.Worked.NearPrograms.{NearIsFlavorProgram, NearIsProgram};
+ghost use Rattle.implib_link.specs.Worked.NearPrograms.{NearIsImportable, NearIsLldProgram};
+ghost use Rattle.implib_link.specs.Worked.NearPrograms.{NearIsProgramBeside, NearLldLinks};
 ghost use Rattle.implib_link.specs.Worked.NearSearches.{NearAreNamedApart, NearIsAliasTaken};
 ghost use Rattle.implib_link.specs.Worked.NearSearches.{NearIsArchive, NearIsImported};
 ghost use Rattle.implib_link.specs.Worked.NearSearches.{NearIsImportedShort, NearIsMsvcArchive};
@@ -49,4 +53,16 @@ pub fn near_misses_of_archives()
     ensures msvc_archive { NearIsMsvcArchive }
     ensures names { NearNamesNoHeadOrTail }
     ensures apart { NearAreNamedApart }
+{}
+
+/// What is no program: for GNU's linker, of both flavours, beside other libraries, and of lld.
+pub fn near_misses_of_programs()
+    ensures program { NearIsProgram }
+    ensures objects { NearAreFlavorObjects }
+    ensures flavors { NearIsFlavorProgram }
+    ensures beside { NearIsProgramBeside }
+    ensures whole { NearAreWhole }
+    ensures importable { NearIsImportable }
+    ensures lld { NearIsLldProgram }
+    ensures lld_links { NearLldLinks }
 {}
