@@ -46,3 +46,4 @@ pub mod NearMisses
 pub mod NearTables
 pub mod NearSearches
 pub mod NearPrograms
+pub mod NearCode

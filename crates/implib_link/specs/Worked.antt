@@ -43,3 +43,4 @@ pub mod Walks
 pub mod NearTables
 pub mod NearSearches
 pub mod NearPrograms
+pub mod NearCode

@@ -51,7 +51,7 @@ symbol_rules = record {
       (record { held = (0, omega arith, refl); external = refl; here = refl }) refl;
 }
 
-same_bytes : (memory : List Range) (xs ys : List ℕ) (a : ℕ) → BytesAt memory a xs → BytesAt memory a ys → length xs ≡ length ys → xs ≡ ys
+pub same_bytes : (memory : List Range) (xs ys : List ℕ) (a : ℕ) → BytesAt memory a xs → BytesAt memory a ys → length xs ≡ length ys → xs ≡ ys
 unfolding BytesAt
 same_bytes memory [] [] a first second long = refl
 same_bytes memory [] (y ∷ ys) a first second long = absurd (omega arith)
@@ -59,7 +59,7 @@ same_bytes memory (x ∷ xs) [] a first second long = absurd (omega arith)
 same_bytes memory (x ∷ xs) (y ∷ ys) a first second long =
     rw (value x y (sym first.0 ∙ second.0), same_bytes memory xs ys (a + 1) first.1 second.1 (omega arith)) refl
 
-entry_is : (base entry place : ℕ) → Some (base + place) ≡ Some (base + entry) → entry ≡ place
+pub entry_is : (base entry place : ℕ) → Some (base + place) ≡ Some (base + entry) → entry ≡ place
 entry_is base entry place is = let same : base + place ≡ base + entry = value (base + place) (base + entry) is in omega arith
 
 elsewhere : (memory : List Range) (entry : ℕ) → entry ≡ 0x80 → BytesAt memory 0x80 other_address → BytesAt memory entry open_address → ⊥

@@ -1,6 +1,10 @@
 //! Near misses: what is no link, no loaded program and no search, each by one thing that is
 //! otherwise.
 
+ghost use Rattle.implib_link.specs.Worked.NearCode.{NearCallArrives, NearDefines};
+ghost use Rattle.implib_link.specs.Worked.NearCode.{NearDirectCallArrives, NearHasDirectCall};
+ghost use Rattle.implib_link.specs.Worked.NearCode.{NearHasInstructions, NearHasLoad, NearHasPage};
+ghost use Rattle.implib_link.specs.Worked.NearCode.{NearLoadArrives, NearStubArrives};
 ghost use Rattle.implib_link.specs.Worked.NearPrograms.{NearAreFlavorObjects, NearAreWhole};
 ghost use Rattle.implib_link.specs.Worked.NearPrograms.{NearIsFlavorProgram, NearIsProgram};
 ghost use Rattle.implib_link.specs.Worked.NearPrograms.{NearIsImportable, NearIsLldProgram};
@@ -65,4 +69,17 @@ pub fn near_misses_of_programs()
     ensures importable { NearIsImportable }
     ensures lld { NearIsLldProgram }
     ensures lld_links { NearLldLinks }
+{}
+
+/// What is no such instruction in code, and what does not arrive.
+pub fn near_misses_of_code()
+    ensures instructions { NearHasInstructions }
+    ensures direct_calls { NearHasDirectCall }
+    ensures loads { NearHasLoad }
+    ensures pages { NearHasPage }
+    ensures defines { NearDefines }
+    ensures call_arrives { NearCallArrives }
+    ensures stub_arrives { NearStubArrives }
+    ensures load_arrives { NearLoadArrives }
+    ensures direct_call_arrives { NearDirectCallArrives }
 {}
