@@ -47,3 +47,4 @@ pub mod NearTables
 pub mod NearSearches
 pub mod NearPrograms
 pub mod NearCode
+pub mod Instances

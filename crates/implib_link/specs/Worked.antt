@@ -44,3 +44,4 @@ pub mod NearTables
 pub mod NearSearches
 pub mod NearPrograms
 pub mod NearCode
+pub mod Instances

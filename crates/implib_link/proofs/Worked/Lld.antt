@@ -47,7 +47,7 @@ unfolding IsAskable
 importable = (record { name = refl; asks = (omega arith, ((omega arith, refl), tt)) }, (record { name = refl; asks = ((omega arith, refl), tt) }, tt))
 
 -- two that are called alike in small letters are called alike
-alike : (ks : List ShortImport) → AllByRecursion (λ r. AllByRecursion (λ s. (in_small r.dll ≡ in_small s.dll) → r.dll ≡ s.dll) ks) ks →
+pub alike : (ks : List ShortImport) → AllByRecursion (λ r. AllByRecursion (λ s. (in_small r.dll ≡ in_small s.dll) → r.dll ≡ s.dll) ks) ks →
     (r s : ShortImport) → Contains ks r → Contains ks s → in_small r.dll ≡ in_small s.dll → r.dll ≡ s.dll
 alike ks all r s first second same =
     all_among (λ s. (in_small r.dll ≡ in_small s.dll) → r.dll ≡ s.dll) s ks (contains_among s ks second)

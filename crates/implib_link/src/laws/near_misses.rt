@@ -1,6 +1,9 @@
 //! Near misses: what is no link, no loaded program and no search, each by one thing that is
 //! otherwise.
 
+ghost use Rattle.implib_link.specs.Worked.Instances.{CodeInstances, MachineInstances};
+ghost use Rattle.implib_link.specs.Worked.Instances.{ProgramInstances, SectionInstances};
+ghost use Rattle.implib_link.specs.Worked.Instances.{TypeInstances};
 ghost use Rattle.implib_link.specs.Worked.NearCode.{NearCallArrives, NearDefines};
 ghost use Rattle.implib_link.specs.Worked.NearCode.{NearDirectCallArrives, NearHasDirectCall};
 ghost use Rattle.implib_link.specs.Worked.NearCode.{NearHasInstructions, NearHasLoad, NearHasPage};
@@ -82,4 +85,14 @@ pub fn near_misses_of_code()
     ensures stub_arrives { NearStubArrives }
     ensures load_arrives { NearLoadArrives }
     ensures direct_call_arrives { NearDirectCallArrives }
+{}
+
+/// Premises that are met a second time: by sections, types, programs, machines and code that differ
+/// from the first instances in one thing.
+pub fn second_instances()
+    ensures sections { SectionInstances }
+    ensures types { TypeInstances }
+    ensures programs { ProgramInstances }
+    ensures machines { MachineInstances }
+    ensures codes { CodeInstances }
 {}
