@@ -4,3 +4,4 @@ pub mod WorkedLibraries
 pub mod WorkedSearches
 pub mod Way
 pub mod WorkedWay
+pub mod NearMisses

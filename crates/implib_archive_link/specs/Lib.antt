@@ -3,3 +3,4 @@ pub mod Results
 pub mod Worked
 pub mod Way
 pub mod WorkedWay
+pub mod NearMisses

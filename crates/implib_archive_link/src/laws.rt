@@ -11,6 +11,8 @@ ghost use Rattle.implib.specs.declared.flavor.Flavor.TheVariants.{Gnu, Msvc};
 ghost use Rattle.implib.specs.declared.machine.MachineType.{MachineType};
 ghost use Rattle.implib_archive.specs.declared.kind.Kind.{Kind};
 ghost use Rattle.implib_archive_link.specs.InBytes.{LinkerMember, asks_for, asks_on, asks_with};
+ghost use Rattle.implib_archive_link.specs.NearMisses.{NearHaveArchive, NearIsHeaderOf};
+ghost use Rattle.implib_archive_link.specs.NearMisses.{NearPullsInAt, WorkedIndexes, WorkedReads};
 ghost use Rattle.implib_archive_link.specs.Results.{AreFoundInBytes, AreSearched, HaveArchive};
 ghost use Rattle.implib_archive_link.specs.Results.{IsEnding, TakesJust};
 ghost use Rattle.implib_archive_link.specs.Way.{CallsArrive};
@@ -151,4 +153,14 @@ pub fn worked_searches()
 /// call in a program's code that arrives at what foo.dll gives for it.
 pub fn worked_way()
     ensures { WorkedWay }
+{}
+
+/// Near misses of searches in bytes, two indexes that differ, and what a reader finds after the
+/// headers that a search takes.
+pub fn near_misses_in_bytes()
+    ensures pulls { NearPullsInAt }
+    ensures headers { NearIsHeaderOf }
+    ensures archives { NearHaveArchive }
+    ensures indexes { WorkedIndexes }
+    ensures reads { WorkedReads }
 {}

@@ -48,3 +48,4 @@ pub mod NearSearches
 pub mod NearPrograms
 pub mod NearCode
 pub mod Instances
+pub mod MoreCalls

@@ -45,3 +45,4 @@ pub mod NearSearches
 pub mod NearPrograms
 pub mod NearCode
 pub mod Instances
+pub mod MoreCalls

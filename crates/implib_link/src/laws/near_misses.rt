@@ -4,6 +4,7 @@
 ghost use Rattle.implib_link.specs.Worked.Instances.{CodeInstances, MachineInstances};
 ghost use Rattle.implib_link.specs.Worked.Instances.{ProgramInstances, SectionInstances};
 ghost use Rattle.implib_link.specs.Worked.Instances.{TypeInstances};
+ghost use Rattle.implib_link.specs.Worked.MoreCalls.{WorkedFlavorPointers, WorkedI386Direct};
 ghost use Rattle.implib_link.specs.Worked.NearCode.{NearCallArrives, NearDefines};
 ghost use Rattle.implib_link.specs.Worked.NearCode.{NearDirectCallArrives, NearHasDirectCall};
 ghost use Rattle.implib_link.specs.Worked.NearCode.{NearHasInstructions, NearHasLoad, NearHasPage};
@@ -95,4 +96,11 @@ pub fn second_instances()
     ensures programs { ProgramInstances }
     ensures machines { MachineInstances }
     ensures codes { CodeInstances }
+{}
+
+/// Direct calls on I386, as they were linked and at another base, and pointers of both flavours on
+/// I386 and ARM64, by hand.
+pub fn more_worked_calls()
+    ensures direct { WorkedI386Direct }
+    ensures pointers { WorkedFlavorPointers }
 {}

@@ -1,0 +1,52 @@
+-- Near misses of searches in bytes, by computing and by the laws.
+use Rattle.std.proofs.Common.{◌≡◌, ℕ, zero, suc, [], ◌∷◌, List, Some, None, ap, codes, refl, sym, ◌∙◌, subst, arith}
+use Rattle.std.specs.Prelude.{bytes_eq, map, option_and_then, slice_get, unwrap_or}
+use Rattle.std.specs.Option.{option_map}
+use Rattle.implib.specs.Members.MemberSpec.{MemberView}
+use Rattle.implib_archive.specs.Archive.{archive_of}
+use Rattle.implib_archive.specs.ReadBack.{read_view}
+use Rattle.implib_archive.specs.Reader.{member_at}
+use Rattle.implib_archive.specs.Refusal.{member_refusal, members_refusal, name_refusal, refusal_of}
+use Rattle.implib_archive.specs.declared.error.Fault.TheVariants.{EmptyName}
+use Rattle.implib_archive.specs.Worked.{worked_gnu, worked_members}
+use Rattle.implib_archive.specs.declared.kind.Kind.TheVariants.{Gnu}
+use Rattle.implib_archive_link.specs.InBytes.{First, asks_for, contents_at, header_by, objects_of}
+use Rattle.implib_archive_link.specs.NearMisses.{NearHaveArchive, NearIsHeaderOf, NearPullsInAt, WorkedIndexes, WorkedReads}
+use Rattle.implib_link.specs.Search.Search.{Takes}
+use Rattle.implib_link.specs.Worked.Search.{members_of, three, wanted}
+use Rattle.implib_link.proofs.Worked.NearMisses.{none_passes}
+use Rattle.implib_link.proofs.Worked.RefusedLinks.{differ}
+use Rattle.implib_archive_link.proofs.Corollaries.{are_searched}
+use Rattle.implib_archive_link.proofs.WorkedSearches.{opened_bytes, three_gnu}
+
+pub worked_indexes : WorkedIndexes
+unfolding opened_bytes
+worked_indexes = record { first = refl; second = refl }
+
+pub near_pulls_in_at : NearPullsInAt
+unfolding opened_bytes
+near_pulls_in_at = record {
+  asked = λ x. none_passes (bytes_eq (codes "f")) (codes "f") [] refl x.asked.0 refl;
+  found = λ x. let at : Some 182 ≡ Some 246 = x.found in differ 182 246 (ap (λ o. unwrap_or o 0) at) (omega arith);
+  new = λ x. x.new (0, omega arith, refl);
+}
+
+-- the header at a place and the member at it
+second_first : (number : ℕ) → slice_get (182 ∷ 246 ∷ []) number ≡ Some 246 → slice_get (1 ∷ 2 ∷ []) number ≡ Some 1 → ⊥
+second_first zero header member = differ 182 246 (ap (λ o. unwrap_or o 0) header) (omega arith)
+second_first (suc zero) header member = differ 1 2 (sym (ap (λ o. unwrap_or o 0) member)) (omega arith)
+second_first (suc (suc n)) header member = cc
+
+pub near_is_header_of : NearIsHeaderOf
+near_is_header_of = record { header_is_and_member_is = λ x. second_first x.number x.header_is x.member_is }
+
+pub worked_reads : WorkedReads
+unfolding opened_bytes
+worked_reads = record {
+  taken = λ taken takes. let x = (are_searched Gnu First (members_of three) three_gnu).wanted wanted taken takes in (x.found, (x.holds, x.read));
+  led = refl;
+}
+
+pub near_have_archive : NearHaveArchive
+unfolding refusal_of member_refusal members_refusal name_refusal
+near_have_archive = record { accepted = λ x. let is : Some EmptyName ≡ None = x.accepted in cc; has = λ x. x.has }
