@@ -1,6 +1,6 @@
 -- Near misses of searches in bytes, by computing and by the laws.
 use Rattle.std.proofs.Common.{◌≡◌, ℕ, zero, suc, [], ◌∷◌, List, Some, None, ap, codes, refl, sym, ◌∙◌, subst, arith}
-use Rattle.std.specs.Prelude.{bytes_eq, map, option_and_then, slice_get, unwrap_or}
+use Rattle.std.specs.Prelude.{Option, bytes_eq, length, map, option_and_then, slice_get, unwrap_or}
 use Rattle.std.specs.Option.{option_map}
 use Rattle.implib.specs.Members.MemberSpec.{MemberView}
 use Rattle.implib_archive.specs.Archive.{archive_of}
@@ -31,14 +31,20 @@ near_pulls_in_at = record {
   new = λ x. x.new (0, omega arith, refl);
 }
 
+-- how long a member's name is
+abbrev name_length : Option MemberView → ℕ
+name_length None = 0
+name_length (Some m) = length m.name
+
 -- the header at a place and the member at it
-second_first : (number : ℕ) → slice_get (182 ∷ 246 ∷ []) number ≡ Some 246 → slice_get (1 ∷ 2 ∷ []) number ≡ Some 1 → ⊥
-second_first zero header member = differ 182 246 (ap (λ o. unwrap_or o 0) header) (omega arith)
-second_first (suc zero) header member = differ 1 2 (sym (ap (λ o. unwrap_or o 0) member)) (omega arith)
-second_first (suc (suc n)) header member = cc
+second_first : (headers : List ℕ) (number : ℕ) → headers ≡ 182 ∷ 246 ∷ [] → slice_get headers number ≡ Some 246 →
+    slice_get worked_members number ≡ Some (record { name = codes "a.o"; bytes = 1 ∷ 2 ∷ 3 ∷ []; symbols = codes "f" ∷ codes "__imp_f" ∷ [] }) → ⊥
+second_first headers zero is header member = let at : Some 182 ≡ Some 246 = sym (ap (λ hs. slice_get hs 0) is) ∙ header in differ 182 246 (ap (λ o. unwrap_or o 0) at) (omega arith)
+second_first headers (suc zero) is header member = differ 3 18 (sym (ap name_length member)) (omega arith)
+second_first headers (suc (suc n)) is header member = cc
 
 pub near_is_header_of : NearIsHeaderOf
-near_is_header_of = record { header_is_and_member_is = λ x. second_first x.number x.header_is x.member_is }
+near_is_header_of = record { header_is_and_member_is = λ x. second_first (182 ∷ 246 ∷ []) x.number refl x.header_is x.member_is }
 
 pub worked_reads : WorkedReads
 unfolding opened_bytes

@@ -31,7 +31,8 @@ pub record NearPullsInAt : Type 0 where
 
 -- the second header and the first member
 pub record NearIsHeaderOf : Type 0 where
-  pub header_is_and_member_is : IsHeaderOf (182 ∷ 246 ∷ []) (1 ∷ 2 ∷ []) 246 1 → ⊥
+  pub header_is_and_member_is : IsHeaderOf (182 ∷ 246 ∷ []) worked_members 246
+      (record { name = codes "a.o"; bytes = 1 ∷ 2 ∷ 3 ∷ []; symbols = codes "f" ∷ codes "__imp_f" ∷ [] }) → ⊥
 
 -- What is taken is read: in the archive of three exports' members, after the headers that a search takes, a reader finds
 -- the members that it takes of the list; and a name leads to what a reader finds as the first member that it is listed
