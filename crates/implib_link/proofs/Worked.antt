@@ -49,3 +49,4 @@ pub mod NearPrograms
 pub mod NearCode
 pub mod Instances
 pub mod MoreCalls
+pub mod NearLinks

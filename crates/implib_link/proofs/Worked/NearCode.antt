@@ -135,7 +135,7 @@ near_has_page = record {
       differ 102 103 (sym (last_letter 6 (codes "__imp_g") imp_f (other_name (left (codes "__imp_g")) x.symbol x.index imp_f is x.target x.named))) (omega arith);
 }
 
-abbrev entry_named : List ℕ → Entry → Bool
+abbrev pub entry_named : List ℕ → Entry → Bool
 entry_named name (Auxiliary bytes) = false
 entry_named name (ASymbol s) = bytes_eq s.name name
 

@@ -55,7 +55,7 @@ claims name names o among claimed none =
 not_twos : (n : ℕ) → n % 4 ≡ 0 → n % 4 ≡ 2 → ⊥
 not_twos n is two = omega arith
 
-no_name : (name : ℕ) → 0 < name → name ≡ 0 → ⊥
+pub no_name : (name : ℕ) → 0 < name → name ≡ 0 → ⊥
 no_name name some none = omega arith
 
 not_fours : (n : ℕ) → n ≡ 2 → n % 4 ≡ 0 → ⊥
@@ -88,7 +88,7 @@ near_are_flavor_objects = record {
   found = λ x. let is : codes "__IMPORT_DESCRIPTOR_foo" ≡ codes "__IMPORT_DESCRIPTOR_foo.drv" = x.found.0 in differ 23 27 (ap length is) (omega arith);
 }
 
-no_eights : (n : ℕ) → n % 8 ≡ 0 → n % 8 ≡ 4 → ⊥
+pub no_eights : (n : ℕ) → n % 8 ≡ 0 → n % 8 ≡ 4 → ⊥
 no_eights n is four = omega arith
 
 descriptors_end : group_end Descriptors 8 (flavor_objects AMD64 0) ≡ 48
@@ -181,7 +181,7 @@ directory_long : (lookups names addresses : ℕ) → 0 < length (directory_built
 unfolding lld_opened
 directory_long lookups names addresses = omega arith
 
-nothing_there : (bytes : List ℕ) (a : ℕ) → 0 < length bytes → BytesAt [] a bytes → ⊥
+pub nothing_there : (bytes : List ℕ) (a : ℕ) → 0 < length bytes → BytesAt [] a bytes → ⊥
 nothing_there bytes a long located = let first = byte_first [] bytes a located long in let is : None ≡ Some first.0 = first.1 in cc
 
 two_cases : codes "Beta.dll" ≡ codes "beta.dll" → ⊥

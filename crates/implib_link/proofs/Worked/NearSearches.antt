@@ -52,7 +52,7 @@ unfoldable pub searched : Unit {0}
 unfolding opened refusal renamed_refusal alias_specs encoded_size weak_object expanded_in short_import_in import_object descriptor_symbol_by_name with_section_symbols descriptor null_descriptor null_thunk descriptor_symbol null_descriptor_symbol null_thunk_symbol base_name descriptor_spec null_descriptor_spec null_thunk_spec header_specs weak_specs has_tables archive_of is_weak is_weak_in left_in claimed_in names_undefined names_claimed undefined_in references_of claims_of symbols_of_library symbols_of_shorts
 searched = tt
 
-none_in : {X : Type 0} (x : X) → Contains [] x → ⊥
+pub none_in : {X : Type 0} (x : X) → Contains [] x → ⊥
 none_in x held = none_passes (λ y. true) x [] refl held refl
 
 -- another member is listed first
@@ -192,7 +192,7 @@ not_address letter rest name less is =
     differ 95 letter (sym letters) less
 
 -- a name that is defined twice
-twice : (name : List ℕ) (linked : List Placed) → length (definitions_of name linked) ≡ 2 → IsDefinedOnce linked name → ⊥
+pub twice : (name : List ℕ) (linked : List Placed) → length (definitions_of name linked) ≡ 2 → IsDefinedOnce linked name → ⊥
 twice name linked two once =
     let one : length (definitions_of name linked) ≡ 1 = ap length once.1 in
     omega arith

@@ -117,7 +117,7 @@ near_lie_within = record {
 
 -- Loading.
 
-queue_at : definitions_of (codes "__imp_queue") linked ≡ record { name = codes "__imp_queue"; address = Some 160 } ∷ []
+pub queue_at : definitions_of (codes "__imp_queue") linked ≡ record { name = codes "__imp_queue"; address = Some 160 } ∷ []
 unfolding opened alias_specs encoded_size weak_object has_tables
 queue_at = refl
 
