@@ -1,13 +1,11 @@
 -- Premises that are met a second time, by computing.
-use Rattle.std.proofs.Common.{◌≡◌, ℕ, ◌+◌, ◌^◌, ◌≤◌, ◌⊎◌, true, false, List, [], ◌∷◌, ◌++◌, codes, length, map, Some, None, refl, ap, sym, ◌∙◌, subst, inl, inr, arith}
-use Rattle.std.specs.Prelude.{Bool, ◌-◌, ◌%◌, bytes_eq}
-use Rattle.std.specs.List.{AllByRecursion, Contains, flat_map, list_all, list_any}
-use Rattle.std.proofs.lemmas.Bool.{true≢false}
+use Rattle.std.proofs.Common.{◌≡◌, ℕ, ◌+◌, ◌^◌, ◌≤◌, List, [], ◌∷◌, ◌++◌, codes, map, refl, sym, subst, inr, arith}
+use Rattle.std.specs.Prelude.{◌-◌, ◌%◌}
+use Rattle.std.specs.List.{AllByRecursion, flat_map}
 use Rattle.implib.specs.declared.machine.MachineType.TheVariants.{I386, AMD64}
 use Rattle.implib.specs.Formats.Constants.{class_external}
 use Rattle.implib.specs.Import.{imp_symbol}
 use Rattle.implib.specs.Link.Image.{AllApart, AreApart, Range, image_of}
-use Rattle.implib.specs.Link.Load.{BytesAt}
 use Rattle.implib.specs.Link.Placement.{placed_from}
 use Rattle.implib.specs.Members.ImportTables.{zeros}
 use Rattle.implib.specs.Members.MsvcObjects.{null_descriptor_symbol}
@@ -17,9 +15,9 @@ use Rattle.implib_link.specs.Flavors.LldImports.{imp_symbols_of, imports_of_lld}
 use Rattle.implib_link.specs.Flavors.LldTables.{IsAskable, built}
 use Rattle.implib_link.specs.Flavors.Program.{all_members, members_linked, symbols_listed}
 use Rattle.implib_link.specs.Gnu.Calls.{AreBeside, Defines, code_range, code_ranges}
-use Rattle.implib_link.specs.Gnu.Choices.{AreSections, CanBeRebased, plain_range}
+use Rattle.implib_link.specs.Gnu.Choices.{plain_range}
 use Rattle.implib_link.specs.Gnu.OtherLibraries.{AllTaken, DescriptorsAt, inputs_of_runs}
-use Rattle.implib_link.specs.Gnu.Program.{claimed_names, linked_symbols}
+use Rattle.implib_link.specs.Gnu.Program.{linked_symbols}
 use Rattle.implib_link.specs.Search.Archives.{symbols_of_library}
 use Rattle.implib_link.specs.Search.Given.{symbols_kept}
 use Rattle.implib_link.specs.Search.MsvcArchives.{symbols_of_shorts}
@@ -30,8 +28,7 @@ use Rattle.implib_link.specs.Worked.Flavors.{foo_input as foo_flavor, zed_input 
 use Rattle.implib_link.specs.Worked.Instances.{CodeInstances, MachineInstances, ProgramInstances, SectionInstances, TypeInstances, defines_twice, ending, i386_asking, i386_library, i386_msvc, i386_own, i386_shorts, spread_8}
 use Rattle.implib_link.specs.Worked.Jumps.{far_8}
 use Rattle.implib_link.specs.Worked.NearPrograms.{members_of_both, run_with, table_object}
-use Rattle.implib_link.specs.Worked.Operands.{overlapping_at, passing_codes}
-use Rattle.implib_link.specs.Worked.Programs.{symbol_of_class, symbol_on, touching_4, touching_8}
+use Rattle.implib_link.specs.Worked.Programs.{symbol_of_class, symbol_on, touching_4}
 use Rattle.implib_link.specs.Worked.Rebased.{moving_codes}
 use Rattle.implib_link.proofs.Flavors.LldTables.{built_pieces}
 use Rattle.implib_link.proofs.Worked.Calls.{one_code_resolves}

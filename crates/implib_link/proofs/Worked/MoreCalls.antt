@@ -1,9 +1,9 @@
 -- Direct calls on I386 and pointers of both flavours on I386 and ARM64, by computing and by the laws.
-use Rattle.std.proofs.Common.{◌≡◌, ℕ, ◌^◌, true, false, List, [], ◌∷◌, ◌++◌, codes, map, refl, arith}
+use Rattle.std.proofs.Common.{ℕ, ◌^◌, List, [], ◌∷◌, ◌++◌, codes, map, refl, arith}
 use Rattle.std.specs.Prelude.{drop, take}
 use Rattle.implib.specs.declared.machine.MachineType.TheVariants.{I386, ARM64}
 use Rattle.implib.specs.Formats.Constants.{class_external}
-use Rattle.implib.specs.Link.Image.{Range, image_of}
+use Rattle.implib.specs.Link.Image.{image_of}
 use Rattle.implib.specs.Members.MsvcObjects.{null_descriptor_symbol}
 use Rattle.implib.proofs.Link.Ranges.{apart_as_they_rise, ends_below}
 use Rattle.implib_link.specs.Flavors.Program.{IsFlavorProgram, all_members, symbols_listed}
@@ -104,7 +104,7 @@ worked_i386_direct =
         (
           chosen.1,
           λ written writes.
-          direct_calls_reach I386 0x40_0000 touching_4 (both_inputs I386) near_objects near_codes chosen.0 (given_on I386) written 0 1 (foo_input I386) (open_export I386) near_at (stub_of I386 near_placed 3) 4
+              direct_calls_reach I386 0x40_0000 touching_4 (both_inputs I386) near_objects near_codes chosen.0 (given_on I386) written 0 1 (foo_input I386) (open_export I386) near_at (stub_of I386 near_placed 3) 4
               (symbol_of_class (codes "_open") 1 class_external) worked_programs.i386.made near_program (omega arith) chosen.1 (wide I386) writes refl refl refl (1, omega arith, refl) near_defines refl
               (0, omega arith, refl) near_has tt,
         ),
@@ -116,7 +116,7 @@ worked_i386_direct =
           (
             there.1,
             λ n written reads.
-            direct_calls_at_base I386 0x40_0000 0x1000_0000 touching_4 (both_inputs I386) near_objects near_codes chosen.0 there.0 (given_on I386) n written 0 1 (foo_input I386) (open_export I386) near_at
+                direct_calls_at_base I386 0x40_0000 0x1000_0000 touching_4 (both_inputs I386) near_objects near_codes chosen.0 there.0 (given_on I386) n written 0 1 (foo_input I386) (open_export I386) near_at
                 (stub_of I386 near_placed 3) 4 (symbol_of_class (codes "_open") 1 class_external) worked_programs.i386.made near_program there.1 (wide I386) reads refl refl refl (1, omega arith, refl) near_defines
                 refl (0, omega arith, refl) near_has tt,
           ),

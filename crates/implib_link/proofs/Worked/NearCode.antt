@@ -1,21 +1,20 @@
 -- Near misses of instructions in code and of what arrives, by computing.
-use Rattle.std.proofs.Common.{◌≡◌, ℕ, ◌+◌, ◌<◌, ◌≤◌, ◌⊎◌, true, false, List, [], ◌∷◌, ◌++◌, codes, length, map, Some, None, refl, ap, sym, ◌∙◌, subst, inl, inr, arith}
-use Rattle.std.specs.Prelude.{Bool, bytes_eq, drop, slice_get, slice_index}
+use Rattle.std.proofs.Common.{◌≡◌, ℕ, ◌+◌, ◌<◌, ◌≤◌, ◌⊎◌, false, List, [], ◌∷◌, ◌++◌, codes, length, Some, None, refl, ap, sym, ◌∙◌, subst, inl, inr, arith}
+use Rattle.std.specs.Prelude.{Bool, bytes_eq, slice_get, slice_index}
 use Rattle.std.specs.List.{AllByRecursion}
 use Rattle.std.proofs.lemmas.Bool.{true≢false}
 use Rattle.implib.specs.declared.coff.object.Relocation.{Relocation}
-use Rattle.implib.specs.declared.machine.MachineType.{MachineType}
-use Rattle.implib.specs.declared.machine.MachineType.TheVariants.{AMD64, ARM64}
+use Rattle.implib.specs.declared.machine.MachineType.TheVariants.{AMD64}
 use Rattle.implib.specs.Formats.Bytes.{u32_bytes}
 use Rattle.implib.specs.Formats.Constants.{amd64_rel32, arm64_pagebase_rel21, class_external}
 use Rattle.implib.specs.Formats.Object.{ASymbol, Auxiliary, Entry, ObjectSymbol}
 use Rattle.implib.specs.Link.Image.{Range, byte_at}
 use Rattle.implib.specs.Link.Load.{BytesAt}
 use Rattle.implib.specs.Link.Resolution.{is_undefined_external}
-use Rattle.implib_link.specs.Gnu.Calls.{IsAside, call_reads, direct_leads, moved_by}
+use Rattle.implib_link.specs.Gnu.Calls.{IsAside, call_reads, direct_leads}
 use Rattle.implib_link.specs.Gnu.Pointers.{load_reads}
 use Rattle.implib_link.specs.Stub.{jump_reads}
-use Rattle.implib_link.specs.Worked.NearCode.{NearCallArrives, NearDefines, NearDirectCallArrives, NearHasDirectCall, NearHasInstructions, NearHasLoad, NearHasPage, NearLoadArrives, NearStubArrives, call_code, code_of, direct_code, imp_f, jump_code, left, load_code, page_code}
+use Rattle.implib_link.specs.Worked.NearCode.{NearCallArrives, NearDefines, NearDirectCallArrives, NearHasDirectCall, NearHasInstructions, NearHasLoad, NearHasPage, NearLoadArrives, NearStubArrives, call_code, imp_f, jump_code, left, page_code}
 use Rattle.implib_link.specs.Worked.Operands.{field}
 use Rattle.implib_link.specs.Worked.Programs.{symbol_of_class}
 use Rattle.implib_link.specs.Worked.RefusedFields.{open_address, two_ranges}
@@ -234,7 +233,7 @@ near_direct_call_arrives = record {
   whole = λ x.
       let long : length x.instruction ≡ 5 = x.whole in
       missing (record { start = 0x1026; bytes = 0xE8 ∷ [] } ∷ two_ranges 0x102B (0xFF ∷ 0x25 ∷ 0x4F ∷ 0xF0 ∷ 0xFF ∷ 0xFF ∷ 0x90 ∷ 0x90 ∷ []) open_address) x.instruction 0x1026 0x1027 x.here
-          (omega arith) (omega arith) refl;
+      (omega arith) (omega arith) refl;
   leads = λ x.
       let instruction : List ℕ = 0xE8 ∷ 0x19 ∷ 0 ∷ 0 ∷ 0 ∷ [] in
       let memory : List Range = record { start = 0x1026; bytes = 0xE8 ∷ 0x19 ∷ 0 ∷ 0 ∷ 0 ∷ [] } ∷ two_ranges 0x1040 (0xFF ∷ 0x25 ∷ 0x3A ∷ 0xF0 ∷ 0xFF ∷ 0xFF ∷ 0x90 ∷ 0x90 ∷ []) open_address in

@@ -1,33 +1,27 @@
 -- Near misses of searches, of code beside the tables and of moved programs, by computing.
-use Rattle.std.proofs.Common.{◌≡◌, ℕ, ◌+◌, ◌*◌, ◌<◌, ◌≤◌, ◌^◌, true, false, List, [], ◌∷◌, ◌++◌, codes, length, Some, None, refl, ap, sym, ◌∙◌, subst, arith}
-use Rattle.std.specs.Prelude.{Bool, ◌%◌, bytes_eq, slice_get, slice_index}
-use Rattle.std.specs.List.{Contains, list_any}
+use Rattle.std.proofs.Common.{◌≡◌, ℕ, ◌+◌, ◌<◌, ◌≤◌, ◌^◌, List, [], ◌∷◌, ◌++◌, codes, length, Some, None, refl, ap, sym, ◌∙◌, subst, arith}
 use Rattle.std.proofs.lemmas.Bool.{true≢false}
 use Rattle.implib.specs.declared.machine.MachineType.TheVariants.{I386, AMD64}
 use Rattle.implib.specs.Formats.Bytes.{u32_bytes}
 use Rattle.implib.specs.Formats.Constants.{class_external, i386_dir32}
 use Rattle.implib.specs.Formats.Object.{ASymbol, ObjectSymbol}
 use Rattle.implib.specs.Import.{imp_symbol}
-use Rattle.implib.specs.Link.Image.{Range}
 use Rattle.implib.specs.Link.Load.{BytesAt}
-use Rattle.implib.specs.Link.Placement.{Placed, placed_from}
+use Rattle.implib.specs.Link.Placement.{Placed}
 use Rattle.implib.specs.Link.Resolution.{definitions_of, is_undefined_external}
 use Rattle.implib.proofs.Link.Loading.{number_once}
 use Rattle.implib_link.specs.Flavors.LldTables.{directory_built}
-use Rattle.implib_link.specs.Gnu.Rebased.{Place}
-use Rattle.implib_link.specs.Search.Closed.{unresolved}
 use Rattle.implib_link.specs.Search.MsvcClosed.{AreTakenIntoFor}
 use Rattle.implib_link.specs.Search.Closed.{AreTakenInto}
 use Rattle.implib_link.specs.Search.Search.{IsTakenInTurn}
-use Rattle.implib_link.specs.Worked.Calls.{calling_at, calling_placed}
+use Rattle.implib_link.specs.Worked.Calls.{calling_at}
 use Rattle.implib_link.specs.Worked.Lld.{two_dlls}
 use Rattle.implib_link.specs.Worked.Loads.{written_8}
-use Rattle.implib_link.specs.Worked.NearCode.{call_code, imp_f}
-use Rattle.implib_link.specs.Worked.NearLinks.{NearAreBeside, NearAreGiven, NearAreGivenForMsvc, NearAreLinkedBeside, NearAreMoved, NearArePiecesAt, NearAreSections, NearCallReaches, NearCanBeRebased, NearDefinesIn, NearFindsBy, NearHasBranch, NearHasField, NearHasOperand, NearIsAtBase, NearIsClosedForMsvc, NearJumpsThrough, NearNames, NearResolves, NearTakes, NearTakesInto, NearTakesIntoFor, NearTakesSymbols, leading_out}
+use Rattle.implib_link.specs.Worked.NearLinks.{NearAreBeside, NearAreGiven, NearAreGivenForMsvc, NearAreLinkedBeside, NearAreMoved, NearArePiecesAt, NearAreSections, NearCallReaches, NearCanBeRebased, NearDefinesIn, NearFindsBy, NearHasBranch, NearHasField, NearHasOperand, NearIsAtBase, NearIsClosedForMsvc, NearJumpsThrough, NearNames, NearResolves, NearTakes, NearTakesInto, NearTakesIntoFor, NearTakesSymbols}
 use Rattle.implib_link.specs.Worked.NearSearches.{again, listing}
-use Rattle.implib_link.specs.Worked.Operands.{field, imp_open, passing_at, passing_linked}
+use Rattle.implib_link.specs.Worked.Operands.{field, imp_open, passing_at}
 use Rattle.implib_link.specs.Worked.Programs.{program_image, program_placed, symbol_of_class, symbol_on, touching_8}
-use Rattle.implib_link.specs.Worked.Rules.{early_caller, late_open}
+use Rattle.implib_link.specs.Worked.Rules.{early_caller}
 use Rattle.implib_link.specs.Worked.Walks.{without_addresses, without_name}
 use Rattle.implib_link.proofs.Gnu.Stubs.{same_address}
 use Rattle.implib_link.proofs.Worked.Lld.{lld_opened}

@@ -1,5 +1,5 @@
 -- What near misses need: tests that no element of a list passes.
-use Rattle.std.proofs.Common.{◌≡◌, ℕ, true, false, List, [], ◌∷◌, Some, refl, sym, ◌∙◌, ap, inl, inr}
+use Rattle.std.proofs.Common.{◌≡◌, ℕ, true, false, List, [], ◌∷◌, refl, sym, ◌∙◌, ap, inl, inr}
 use Rattle.std.specs.Prelude.{Bool, bytes_eq, not}
 use Rattle.std.specs.List.{AllByRecursion, Contains, IsDistinct, list_all, list_any}
 use Rattle.std.proofs.lemmas.Bool.{cases_Bool, or_parts, true≢false}

@@ -1,45 +1,36 @@
 -- Near misses of programs, by computing.
-use Rattle.std.proofs.Common.{◌≡◌, ℕ, zero, suc, ◌+◌, ◌*◌, true, false, List, [], ◌∷◌, ◌++◌, codes, length, map, Some, None, refl, ap, sym, ◌∙◌, subst, inl, inr, arith}
-use Rattle.std.specs.Prelude.{◌⊎◌, ◌≤◌, Bool, ◌%◌, ◌<◌, ◌^◌, bytes_eq, drop, slice_get, slice_index}
-use Rattle.std.specs.List.{AllByRecursion, Contains, IsDistinct, filter, list_any}
+use Rattle.std.proofs.Common.{◌≡◌, ℕ, ◌+◌, ◌*◌, true, false, List, [], ◌∷◌, ◌++◌, codes, length, Some, None, refl, ap, sym, ◌∙◌, subst, inl, inr, arith}
+use Rattle.std.specs.Prelude.{◌⊎◌, ◌≤◌, Bool, ◌%◌, ◌<◌, ◌^◌, bytes_eq, slice_index}
+use Rattle.std.specs.List.{Contains, list_any}
 use Rattle.std.proofs.lemmas.Bool.{true≢false}
 use Rattle.std.proofs.lemmas.List.{length-append}
 use Rattle.implib.specs.declared.flavor.Flavor.{Flavor}
 use Rattle.implib.specs.declared.flavor.Flavor.TheVariants.{Gnu, Msvc}
 use Rattle.implib.specs.declared.machine.MachineType.TheVariants.{AMD64}
-use Rattle.implib.specs.Formats.Layout.{encoded_size}
 use Rattle.implib.specs.Formats.Object.{Object}
-use Rattle.implib.specs.Formats.ShortImport.{short_import_in}
 use Rattle.implib.specs.Link.Image.{Range, byte_at, image_of}
 use Rattle.implib.specs.Link.Load.{BytesAt, NumberAt}
 use Rattle.implib.specs.Link.Placement.{Descriptors, Placed, placed_from}
 use Rattle.implib.specs.Link.Resolution.{definitions_of}
-use Rattle.implib.specs.Members.GnuMembers.{alias_specs}
 use Rattle.implib.specs.Members.ImportTables.{zeros}
-use Rattle.implib.specs.Members.Members.{refusal, renamed_refusal}
-use Rattle.implib.specs.Members.MsvcMembers.{descriptor_spec, header_specs, null_descriptor_spec, null_thunk_spec, weak_specs}
-use Rattle.implib.specs.Members.MsvcObjects.{base_name, descriptor, descriptor_symbol, null_descriptor as null_object, null_descriptor_symbol, null_thunk, null_thunk_symbol}
-use Rattle.implib.specs.Members.WeakExternal.{weak_object}
+use Rattle.implib.specs.Members.MsvcObjects.{null_descriptor_symbol}
 use Rattle.implib.proofs.Link.Loading.{number_once}
 use Rattle.implib.proofs.Link.Ranges.{all_among}
-use Rattle.implib_link.specs.Flavors.Expansion.{descriptor_symbol_by_name, expanded_in, import_object}
 use Rattle.implib_link.specs.Directory.{DirectoryAt}
 use Rattle.implib_link.specs.Flavors.LldImports.{IsImportedBy, imp_symbols_of, imports_of_lld}
 use Rattle.implib_link.specs.Flavors.LldTables.{IsAskable, addresses_at, directory_built}
 use Rattle.implib_link.specs.Flavors.Program.{FlavorInput, all_members, symbols_listed}
-use Rattle.implib_link.specs.Flavors.SectionSymbols.{with_section_symbols}
 use Rattle.implib_link.specs.Gnu.OtherLibraries.{AllTaken, DescriptorsAt}
 use Rattle.implib_link.specs.Gnu.Packed.{group_end, sections_end}
-use Rattle.implib_link.specs.Gnu.Program.{ClaimsNone, claimed_names, has_tables, linked_symbols, null_descriptor}
+use Rattle.implib_link.specs.Gnu.Program.{ClaimsNone, claimed_names, linked_symbols, null_descriptor}
 use Rattle.implib_link.specs.Worked.Flavors.{both_inputs as flavor_inputs, flavor_objects, zed_input as zed_flavor}
-use Rattle.implib_link.specs.Worked.NearPrograms.{NearAreFlavorObjects, NearAreWhole, NearIsFlavorProgram, NearIsImportable, NearIsLldProgram, NearIsProgram, NearIsProgramBeside, NearLldLinks, bar_import, defines_mid, half_thunk, lld_defines, lld_range, members_of_both, mid_alone, own_queue, run_with, short_of, table_object, two_ways, wide_ordinal}
+use Rattle.implib_link.specs.Worked.NearPrograms.{NearAreFlavorObjects, NearAreWhole, NearIsFlavorProgram, NearIsImportable, NearIsLldProgram, NearIsProgram, NearIsProgramBeside, NearLldLinks, defines_mid, lld_defines, lld_range, members_of_both, mid_alone, own_queue, short_of, table_object}
 use Rattle.implib_link.specs.Worked.Programs.{both_inputs, touching_8, zed_input}
 use Rattle.implib_link.proofs.Gnu.Memory.{byte_first}
 use Rattle.implib_link.proofs.Search.Lists.{any_among}
 use Rattle.implib_link.proofs.Worked.Lld.{lld_opened}
 use Rattle.implib_link.proofs.Worked.NearMisses.{none_passes, same_twice}
 use Rattle.implib_link.proofs.Worked.NearSearches.{searched}
-use Rattle.implib_link.proofs.Worked.Programs.{opened}
 use Rattle.implib_link.proofs.Worked.RefusedLinks.{differ, zero_4}
 
 -- the number of symbols of the first object

@@ -1,6 +1,6 @@
 -- Near misses of archive searches and of closed programs, by computing.
-use Rattle.std.proofs.Common.{◌≡◌, ℕ, zero, suc, ◌+◌, ◌*◌, true, false, List, [], ◌∷◌, ◌++◌, codes, Some, None, refl, ap, sym, ◌∙◌, subst, inl, inr, arith}
-use Rattle.std.specs.Prelude.{◌<◌, Bool, Option, length, slice_index, ◌&&◌, ◌⊎◌, bytes_eq, slice_get}
+use Rattle.std.proofs.Common.{◌≡◌, ℕ, ◌+◌, ◌*◌, true, false, List, [], ◌∷◌, codes, Some, refl, ap, sym, ◌∙◌, subst, inl, inr, arith}
+use Rattle.std.specs.Prelude.{◌<◌, Bool, length, slice_index, ◌&&◌, ◌⊎◌, bytes_eq, slice_get}
 use Rattle.std.specs.List.{Contains, IsDistinct, flat_map, list_any}
 use Rattle.std.proofs.lemmas.Bool.{true≢false}
 use Rattle.implib.specs.declared.machine.MachineType.TheVariants.{AMD64}
@@ -11,7 +11,7 @@ use Rattle.implib.specs.Import.{imp_symbol}
 use Rattle.implib.specs.Link.Linked.{IsDefinedOnce}
 use Rattle.implib.specs.Link.LinkedMembers.{LinkInput, chosen_exports, objects_in}
 use Rattle.implib.specs.Link.Placement.{Placed, placed_from}
-use Rattle.implib.specs.Link.Resolution.{SymbolDefinition, definitions_of}
+use Rattle.implib.specs.Link.Resolution.{definitions_of}
 use Rattle.implib.specs.Members.GnuMembers.{alias_specs}
 use Rattle.implib.specs.Members.Gnu.{archive_symbols}
 use Rattle.implib.specs.Members.MemberSpec.{MemberView}
@@ -20,7 +20,6 @@ use Rattle.implib.specs.Members.Msvc.{short_import_symbol, short_import_symbols}
 use Rattle.implib.specs.Members.MsvcMembers.{descriptor_spec, header_specs, null_descriptor_spec, null_thunk_spec, weak_specs}
 use Rattle.implib.specs.Members.MsvcObjects.{base_name, descriptor, descriptor_symbol, null_descriptor, null_descriptor_symbol, null_thunk, null_thunk_symbol}
 use Rattle.implib.specs.Members.WeakExternal.{weak_object}
-use Rattle.implib.specs.Worked.Members.{of_dll}
 use Rattle.implib.specs.Worked.Statements.{plain_export}
 use Rattle.implib.proofs.Link.LinkedMembers.{among_contains}
 use Rattle.implib.proofs.Link.Ranges.{Among, among_first}
@@ -29,18 +28,16 @@ use Rattle.implib_link.specs.Flavors.Program.{FlavorInput, exports_chosen, objec
 use Rattle.implib_link.specs.Flavors.SectionSymbols.{with_section_symbols}
 use Rattle.implib_link.specs.Gnu.Program.{has_tables, thunks_before}
 use Rattle.implib_link.specs.Search.Archives.{IsArchive, IsWeakData, Library, archive_of, exports_of, is_weak, symbols_of_library, weak_among}
-use Rattle.implib_link.specs.Search.Closed.{IsAliasTaken, IsImported, IsUsed, claims_of, references_of, unresolved}
+use Rattle.implib_link.specs.Search.Closed.{claims_of, references_of, unresolved}
 use Rattle.implib_link.specs.Search.Msvc.{claimed_in, left_in}
-use Rattle.implib_link.specs.Search.MsvcArchives.{IsMsvcArchive, IsWeakShort, is_short_alias, is_weak_in, symbols_of_shorts, weak_in}
-use Rattle.implib_link.specs.Search.MsvcClosed.{IsImportedShort, IsUsedShort, IsWeakTaken}
-use Rattle.implib_link.specs.Search.NamedApart.{names_in, stem}
-use Rattle.implib_link.specs.Search.Search.{first_listed, names_claimed, names_undefined, undefined_in}
-use Rattle.implib_link.specs.Worked.Archives.{library_of, two_libraries}
+use Rattle.implib_link.specs.Search.MsvcArchives.{IsWeakShort, is_short_alias, is_weak_in, symbols_of_shorts, weak_in}
+use Rattle.implib_link.specs.Search.Search.{names_claimed, names_undefined, undefined_in}
+use Rattle.implib_link.specs.Worked.Archives.{two_libraries}
 use Rattle.implib_link.specs.Worked.Closed.{closed_bases, closed_objects, closed_taken, foo_alias}
 use Rattle.implib_link.specs.Worked.MsvcArchives.{null_named, short_named, shorts_of_both, two_msvc, weak_named}
 use Rattle.implib_link.specs.Worked.MsvcClosed.{msvc_bases, msvc_objects}
 use Rattle.implib_link.specs.Worked.NearSearches.{NearAreNamedApart, NearIsAliasTaken, NearIsArchive, NearIsImported, NearIsImportedShort, NearIsMsvcArchive, NearIsUsed, NearIsUsedShort, NearIsWeakData, NearIsWeakShort, NearIsWeakTaken, NearNamesNoHeadOrTail, NearPullsIn, NearPullsInFor, NearPullsInto, NearPullsIntoFor, again, asking, closed_inputs, later, listing, msvc_inputs, queue_member, zed_library, zed_short}
-use Rattle.implib_link.proofs.Search.Lists.{among_any, among_at, any_among, apart_none, contains_among}
+use Rattle.implib_link.proofs.Search.Lists.{among_any, among_at, contains_among}
 use Rattle.implib_link.proofs.Worked.RefusedLinks.{differ}
 use Rattle.implib.specs.Members.ImportTables.{thunk_width}
 use Rattle.implib_link.specs.Gnu.Packed.{group_end, sections_end}

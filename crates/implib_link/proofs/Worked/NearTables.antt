@@ -1,12 +1,10 @@
 -- Near misses of linked and loaded import tables, by computing.
-use Rattle.std.proofs.Common.{◌≡◌, ℕ, ◌+◌, ◌*◌, ◌<◌, ◌≤◌, true, false, List, [], ◌∷◌, ◌++◌, codes, length, Some, None, refl, ap, sym, ◌∙◌, subst, arith}
+use Rattle.std.proofs.Common.{◌≡◌, ℕ, ◌+◌, ◌*◌, ◌<◌, ◌≤◌, true, false, List, [], ◌∷◌, ◌++◌, codes, Some, None, refl, sym, ◌∙◌, subst, arith}
 use Rattle.std.specs.Prelude.{Bool, Option, ◌&&◌, ◌==◌, bytes_eq, slice_get}
-use Rattle.std.specs.List.{AllByRecursion, Contains, list_any}
-use Rattle.std.proofs.lemmas.Bool.{true≢false}
+use Rattle.std.specs.List.{Contains, list_any}
 use Rattle.implib.specs.declared.machine.MachineType.TheVariants.{AMD64}
-use Rattle.implib.specs.Definition.{ExportView}
 use Rattle.implib.specs.Formats.Layout.{encoded_size}
-use Rattle.implib.specs.Formats.Object.{ASymbol, Auxiliary, Entry, ObjectSymbol}
+use Rattle.implib.specs.Formats.Object.{ASymbol, Auxiliary, Entry}
 use Rattle.implib.specs.Formats.ShortImport.{short_import_in}
 use Rattle.implib.specs.Members.GnuMembers.{alias_specs}
 use Rattle.implib.specs.Members.ImportTables.{zeros}
@@ -17,7 +15,7 @@ use Rattle.implib.specs.Members.WeakExternal.{weak_object}
 use Rattle.implib.specs.Link.Image.{Range, byte_at}
 use Rattle.implib.specs.Link.Load.{BytesAt}
 use Rattle.implib.specs.Link.Placement.{Placed, Unplaced}
-use Rattle.implib.specs.Link.Resolution.{SymbolDefinition, definitions_of, symbol_address}
+use Rattle.implib.specs.Link.Resolution.{definitions_of, symbol_address}
 use Rattle.implib.specs.Worked.Statements.{plain_export}
 use Rattle.implib_link.specs.Flavors.Expansion.{descriptor_symbol_by_name, expanded_in, import_object}
 use Rattle.implib_link.specs.Flavors.SectionSymbols.{with_section_symbols}
@@ -34,7 +32,6 @@ use Rattle.implib_link.specs.Worked.Programs.{both_inputs, caller, program_image
 use Rattle.implib_link.specs.Worked.Calls.{placed_or_empty}
 use Rattle.implib_link.proofs.Gnu.Bounds.{count_below}
 use Rattle.implib_link.proofs.Gnu.Stubs.{same_address}
-use Rattle.implib_link.proofs.Search.Lists.{contains_among}
 use Rattle.implib_link.proofs.Worked.Flavors.{opened as opened_flavors}
 use Rattle.implib_link.proofs.Worked.NearMisses.{none_passes}
 use Rattle.implib_link.proofs.Worked.Programs.{opened}

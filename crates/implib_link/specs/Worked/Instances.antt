@@ -4,9 +4,8 @@ use Rattle.std.specs.Prelude.{◌≡◌, ℕ, Some, true, false, List, [], ◌�
 use Rattle.implib.specs.declared.flavor.Flavor.TheVariants.{Msvc}
 use Rattle.implib.specs.declared.machine.MachineType.TheVariants.{I386, AMD64, ARM64}
 use Rattle.implib.specs.Definition.{DefinitionView}
-use Rattle.implib.specs.Formats.Bytes.{u32_bytes}
 use Rattle.implib.specs.Formats.Constants.{class_external}
-use Rattle.implib.specs.Formats.Object.{ASymbol, Object}
+use Rattle.implib.specs.Formats.Object.{Object}
 use Rattle.implib.specs.Formats.ShortImport.{ShortImport}
 use Rattle.implib.specs.Link.Placement.{Addresses, Bases, Descriptors, Unplaced}
 use Rattle.implib.specs.Members.Gnu.{section}
@@ -24,19 +23,18 @@ use Rattle.implib_link.specs.Gnu.Calls.{AreBeside, PlacedCode, word_in_code}
 use Rattle.implib_link.specs.Gnu.Choices.{AreSections, CanBeRebased, DefineOnce}
 use Rattle.implib_link.specs.Gnu.Fields.{Amd64Holds, Arm64Holds, I386Holds, placed_code}
 use Rattle.implib_link.specs.Gnu.OtherLibraries.{IsProgramBeside, keeps_fours}
-use Rattle.implib_link.specs.Gnu.Program.{null_descriptor}
 use Rattle.implib_link.specs.Search.Archives.{IsArchive, Library}
 use Rattle.implib_link.specs.Search.Given.{AreGiven}
 use Rattle.implib_link.specs.Search.MsvcArchives.{IsMsvcArchive}
 use Rattle.implib_link.specs.Search.MsvcGiven.{AreGivenForMsvc}
 use Rattle.implib_link.specs.Search.NamedApart.{AreNamedApart}
-use Rattle.implib_link.specs.Worked.Calls.{calling, calling_at, calling_code, calling_objects, table_targets}
+use Rattle.implib_link.specs.Worked.Calls.{calling_at, calling_code, calling_objects, table_targets}
 use Rattle.implib_link.specs.Worked.Flavors.{foo_input as foo_flavor, zed_input as zed_flavor}
 use Rattle.implib_link.specs.Worked.Jumps.{far_8}
 use Rattle.implib_link.specs.Worked.MsvcArchives.{null_named}
 use Rattle.implib_link.specs.Worked.NearPrograms.{members_of_both, run_with, short_of, table_object}
-use Rattle.implib_link.specs.Worked.Operands.{overlapping_at, passing_at, passing_code, passing_codes, stub_of_open}
-use Rattle.implib_link.specs.Worked.Programs.{both_inputs, code_object, input_objects, symbol_of_class, touching_4, touching_8, zed_input}
+use Rattle.implib_link.specs.Worked.Operands.{overlapping_at, passing_codes}
+use Rattle.implib_link.specs.Worked.Programs.{code_object, symbol_of_class, touching_4, touching_8, zed_input}
 use Rattle.implib_link.specs.Worked.Rebased.{moving_codes}
 use Rattle.implib_link.specs.Flavors.Program.{members_linked}
 

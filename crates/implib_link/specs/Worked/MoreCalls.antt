@@ -1,5 +1,5 @@
 -- Direct calls on I386, as they were linked and at another base, and pointers of both flavours on I386 and ARM64.
-use Rattle.std.specs.Prelude.{◌≡◌, ℕ, ◌+◌, List, [], ◌∷◌, ◌++◌, codes, map, slice_get}
+use Rattle.std.specs.Prelude.{◌≡◌, ℕ, ◌+◌, List, [], ◌∷◌, ◌++◌, codes, map}
 use Rattle.implib.specs.declared.machine.MachineType.{MachineType}
 use Rattle.implib.specs.declared.machine.MachineType.TheVariants.{I386, ARM64}
 use Rattle.implib.specs.Formats.Constants.{align_16bytes, class_external, cnt_code, mem_execute_read}

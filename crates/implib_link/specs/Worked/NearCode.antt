@@ -1,15 +1,13 @@
 -- Near misses of instructions in code and of what arrives. A record `NearX` has those of `X`, each by the name of the
 -- field that refuses it.
-use Rattle.std.specs.Prelude.{ℕ, ◌+◌, List, [], ◌∷◌, ◌++◌, codes, drop, map, take}
+use Rattle.std.specs.Prelude.{ℕ, List, [], ◌∷◌, codes}
 use Rattle.implib.specs.declared.coff.object.Relocation.{Relocation}
-use Rattle.implib.specs.declared.machine.MachineType.{MachineType}
-use Rattle.implib.specs.declared.machine.MachineType.TheVariants.{I386, AMD64, ARM64}
+use Rattle.implib.specs.declared.machine.MachineType.TheVariants.{AMD64}
 use Rattle.implib.specs.Formats.Constants.{amd64_rel32, arm64_pagebase_rel21, class_external}
 use Rattle.implib.specs.Formats.Object.{ASymbol, ObjectSymbol}
-use Rattle.implib.specs.Link.Image.{Range}
 use Rattle.implib.specs.Link.Placement.{Unplaced}
 use Rattle.implib_link.specs.Gnu.Calls.{CallArrives, Defines, DirectCallArrives, HasCall, HasDirectCall, PlacedCode}
-use Rattle.implib_link.specs.Gnu.Pages.{HasPage, PageArrives}
+use Rattle.implib_link.specs.Gnu.Pages.{HasPage}
 use Rattle.implib_link.specs.Gnu.Pointers.{HasLoad, LoadArrives}
 use Rattle.implib_link.specs.Gnu.Rebased.{StubArrives}
 use Rattle.implib_link.specs.Worked.Calls.{calling, calling_code}

@@ -1,15 +1,14 @@
 -- Near misses of searches that are not over, of objects that may not be given, of code that is not beside the tables, and
 -- of programs that are not moved. A record `NearX` has those of `X`, each by the name of the field that refuses it.
-use Rattle.std.specs.Prelude.{ℕ, ◌+◌, ◌^◌, List, [], ◌∷◌, ◌++◌, codes}
+use Rattle.std.specs.Prelude.{ℕ, List, [], ◌∷◌, ◌++◌, codes}
 use Rattle.implib.specs.declared.machine.MachineType.TheVariants.{I386, AMD64}
 use Rattle.implib.specs.Formats.Constants.{class_external, i386_dir32}
-use Rattle.implib.specs.Formats.Object.{ASymbol, Object}
+use Rattle.implib.specs.Formats.Object.{Object}
 use Rattle.implib.specs.Link.Image.{Range}
-use Rattle.implib.specs.Link.Placement.{Placed, Unplaced, placed_from}
 use Rattle.implib_link.specs.Directory.{FindsBy, Imported}
 use Rattle.implib_link.specs.Flavors.LldTables.{ArePiecesAt}
 use Rattle.implib_link.specs.Gnu.Calls.{AreBeside, PlacedCode, Resolves}
-use Rattle.implib_link.specs.Gnu.Choices.{AreSections, CanBeRebased, DefineOnce}
+use Rattle.implib_link.specs.Gnu.Choices.{AreSections, CanBeRebased}
 use Rattle.implib_link.specs.Gnu.Fields.{AreLinkedBeside, DefinesIn, LinkedCode, TakesSymbols, placed_code}
 use Rattle.implib_link.specs.Gnu.Moves.{AreMoved}
 use Rattle.implib_link.specs.Gnu.Operands.{HasBranch, HasField, HasOperand, Names}
@@ -30,7 +29,6 @@ use Rattle.implib_link.specs.Worked.NearCode.{call_code, code_of, imp_f, left}
 use Rattle.implib_link.specs.Worked.NearSearches.{again, listing, zed_library, zed_short}
 use Rattle.implib_link.specs.Worked.Operands.{field, imp_open, passing_at, passing_code, passing_codes, passing_image, passing_placed, passing_targets}
 use Rattle.implib_link.specs.Worked.Programs.{code_object, program_image, program_placed, symbol_of_class, touching_4, touching_8}
-use Rattle.implib_link.specs.Worked.RefusedFields.{with_byte}
 use Rattle.implib_link.specs.Worked.RefusedLinks.{five_and_six, foo}
 use Rattle.implib_link.specs.Worked.Rules.{early_caller, late_open}
 use Rattle.implib_link.specs.Worked.Walks.{without_addresses, without_name}

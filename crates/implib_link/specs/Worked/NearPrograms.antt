@@ -1,15 +1,15 @@
 -- Near misses of programs: for GNU's linker, of both flavours, beside other libraries, and of lld. A record `NearX` has
 -- those of `X`, each by the name of the field that refuses it.
-use Rattle.std.specs.Prelude.{ℕ, ◌+◌, ◌^◌, List, [], ◌∷◌, ◌++◌, codes, map}
+use Rattle.std.specs.Prelude.{ℕ, ◌^◌, List, [], ◌∷◌, ◌++◌, codes, map}
 use Rattle.implib.specs.declared.flavor.Flavor.TheVariants.{Msvc}
 use Rattle.implib.specs.declared.machine.MachineType.TheVariants.{AMD64}
 use Rattle.implib.specs.Definition.{DefinitionView}
 use Rattle.implib.specs.Formats.Constants.{class_external}
 use Rattle.implib.specs.Formats.Object.{ASymbol, Object}
 use Rattle.implib.specs.Formats.ShortImport.{ShortImport}
-use Rattle.implib.specs.Import.{Ask, Name, Ordinal}
+use Rattle.implib.specs.Import.{Name, Ordinal}
 use Rattle.implib.specs.Link.Image.{Range}
-use Rattle.implib.specs.Link.Placement.{Bases, Placed}
+use Rattle.implib.specs.Link.Placement.{Placed}
 use Rattle.implib.specs.Members.Gnu.{section}
 use Rattle.implib.specs.Members.ImportTables.{table_flags, zeros}
 use Rattle.implib.specs.Members.MemberSpec.{member_of}
@@ -20,11 +20,10 @@ use Rattle.implib.specs.Worked.Statements.{plain_export}
 use Rattle.implib_link.specs.Directory.{Imported}
 use Rattle.implib_link.specs.Flavors.LldImports.{IsLldProgram, LldLinks, imports_of_lld, placed_by_lld}
 use Rattle.implib_link.specs.Flavors.LldTables.{IsImportable, addresses_at, built}
-use Rattle.implib_link.specs.Flavors.Program.{AreFlavorObjects, FlavorInput, IsFlavorProgram, objects_taken}
+use Rattle.implib_link.specs.Flavors.Program.{AreFlavorObjects, FlavorInput, IsFlavorProgram}
 use Rattle.implib_link.specs.Gnu.OtherLibraries.{AreWhole, IsProgramBeside, Run}
 use Rattle.implib_link.specs.Gnu.Program.{IsProgram, null_descriptor}
 use Rattle.implib_link.specs.Worked.Flavors.{both_inputs as flavor_inputs, flavor_bases_8, flavor_objects, zed_input as zed_flavor}
-use Rattle.implib_link.specs.Worked.MsvcArchives.{null_named}
 use Rattle.implib_link.specs.Worked.Programs.{both_inputs, code_object, foo_input, input_objects, program_objects, symbol_of_class, touching_8, zed_input}
 
 -- an object of the program that defines `queue`, which zed.dll exports

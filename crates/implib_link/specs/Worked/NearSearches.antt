@@ -1,14 +1,13 @@
 -- Near misses of archive searches and of closed programs. A record `NearX` has those of `X`, each by the name of the
 -- field that refuses it.
-use Rattle.std.specs.Prelude.{ℕ, ◌+◌, true, List, [], ◌∷◌, ◌++◌, codes}
+use Rattle.std.specs.Prelude.{ℕ, true, List, [], ◌∷◌, codes}
 use Rattle.implib.specs.declared.machine.MachineType.TheVariants.{AMD64}
-use Rattle.implib.specs.Definition.{ExportView, empty_export}
+use Rattle.implib.specs.Definition.{empty_export}
 use Rattle.implib.specs.Formats.Constants.{class_external}
 use Rattle.implib.specs.Formats.Object.{Object}
-use Rattle.implib.specs.LibraryName.{own_names}
 use Rattle.implib.specs.Link.LinkedMembers.{LinkInput}
-use Rattle.implib.specs.Link.Placement.{Bases, Placed, Unplaced, placed_from}
-use Rattle.implib.specs.Members.GnuMembers.{export_spec, tail_spec}
+use Rattle.implib.specs.Link.Placement.{Placed, Unplaced, placed_from}
+use Rattle.implib.specs.Members.GnuMembers.{export_spec}
 use Rattle.implib.specs.Members.MemberSpec.{MemberView, member_of}
 use Rattle.implib.specs.Worked.Members.{of_dll}
 use Rattle.implib.specs.Worked.Statements.{plain_export}

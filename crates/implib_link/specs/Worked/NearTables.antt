@@ -1,12 +1,11 @@
 -- Near misses of what is said of linked and loaded import tables. A record `NearX` has those of the record `X`, each by
 -- the name of the field that refuses it, or of several, with `_and_` between, of which each alone refuses it.
-use Rattle.std.specs.Prelude.{ℕ, ◌-◌, List, [], ◌∷◌, ◌++◌, codes}
-use Rattle.implib.specs.declared.machine.MachineType.TheVariants.{AMD64, ARM64}
+use Rattle.std.specs.Prelude.{List, [], ◌∷◌, ◌++◌, codes}
+use Rattle.implib.specs.declared.machine.MachineType.TheVariants.{AMD64}
 use Rattle.implib.specs.Link.Image.{Range}
-use Rattle.implib.specs.Link.Placement.{Placed}
 use Rattle.implib.specs.Members.ImportTables.{zeros}
 use Rattle.implib_link.specs.Flavors.Loaded.{AreLoaded}
-use Rattle.implib_link.specs.Gnu.Bounds.{BeginsWith, HaveEvenHints, IsInEntry}
+use Rattle.implib_link.specs.Gnu.Bounds.{BeginsWith, IsInEntry}
 use Rattle.implib_link.specs.Gnu.Loaded.{HoldsAt, IsLoaded}
 use Rattle.implib_link.specs.Gnu.Program.{GetsAddress}
 use Rattle.implib_link.specs.Gnu.Writing.{AreAlike}
