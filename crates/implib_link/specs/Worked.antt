@@ -47,3 +47,4 @@ pub mod NearCode
 pub mod Instances
 pub mod MoreCalls
 pub mod NearLinks
+pub mod NearResults

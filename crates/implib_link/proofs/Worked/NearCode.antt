@@ -148,14 +148,14 @@ near_defines = record {
 -- What arrives.
 
 -- a byte is missing
-missing : (memory : List Range) (bytes : List ℕ) (a b : ℕ) → BytesAt memory a bytes → a ≤ b → b < a + length bytes → byte_at memory b ≡ None → ⊥
+pub missing : (memory : List Range) (bytes : List ℕ) (a b : ℕ) → BytesAt memory a bytes → a ≤ b → b < a + length bytes → byte_at memory b ≡ None → ⊥
 missing memory bytes a b located from to none =
     let byte = byte_within memory bytes a b located from to in
     let is : None ≡ Some byte.0 = sym none ∙ byte.1 in
     cc
 
 -- at the byte after the entry is another one
-beside_entry : (memory : List Range) (entry : ℕ) → entry ≡ 0x81 → byte_at memory 0x81 ≡ Some 0 → BytesAt memory entry open_address → ⊥
+pub beside_entry : (memory : List Range) (entry : ℕ) → entry ≡ 0x81 → byte_at memory 0x81 ≡ Some 0 → BytesAt memory entry open_address → ⊥
 unfolding BytesAt
 beside_entry memory entry is there located =
     let at : BytesAt memory 0x81 open_address = subst (λ e. BytesAt memory e open_address) is located in

@@ -25,6 +25,16 @@ ghost use Rattle.implib_link.specs.Worked.NearPrograms.{NearAreFlavorObjects, Ne
 ghost use Rattle.implib_link.specs.Worked.NearPrograms.{NearIsFlavorProgram, NearIsProgram};
 ghost use Rattle.implib_link.specs.Worked.NearPrograms.{NearIsImportable, NearIsLldProgram};
 ghost use Rattle.implib_link.specs.Worked.NearPrograms.{NearIsProgramBeside, NearLldLinks};
+ghost use Rattle.implib_link.specs.Worked.NearResults.{NearAreChosenFor, NearAreClosedForMsvc};
+ghost use Rattle.implib_link.specs.Worked.NearResults.{NearAreLinkedFor, NearAreLinkedForMsvc};
+ghost use Rattle.implib_link.specs.Worked.NearResults.{NearDefineOnce, NearFillsBy};
+ghost use Rattle.implib_link.specs.Worked.NearResults.{NearFlavorsLink, NearHasOffsetField};
+ghost use Rattle.implib_link.specs.Worked.NearResults.{NearHasPageField, NearHasPointer};
+ghost use Rattle.implib_link.specs.Worked.NearResults.{NearImportsBy, NearInputImports};
+ghost use Rattle.implib_link.specs.Worked.NearResults.{NearInstructionArrives, NearIsClosed};
+ghost use Rattle.implib_link.specs.Worked.NearResults.{NearLinksAmong, NearLinksBeside};
+ghost use Rattle.implib_link.specs.Worked.NearResults.{NearLinksClosed, NearLinksClosedForMsvc};
+ghost use Rattle.implib_link.specs.Worked.NearResults.{NearPageArrives};
 ghost use Rattle.implib_link.specs.Worked.NearSearches.{NearAreNamedApart, NearIsAliasTaken};
 ghost use Rattle.implib_link.specs.Worked.NearSearches.{NearIsArchive, NearIsImported};
 ghost use Rattle.implib_link.specs.Worked.NearSearches.{NearIsImportedShort, NearIsMsvcArchive};
@@ -142,4 +152,27 @@ pub fn near_misses_of_links()
     ensures takes_into { NearTakesInto }
     ensures takes_into_for { NearTakesIntoFor }
     ensures takes_symbols { NearTakesSymbols }
+{}
+
+/// What no link and no loader gives, and what is not linked for given objects.
+pub fn near_misses_of_results()
+    ensures are_chosen_for { NearAreChosenFor }
+    ensures are_closed_for_msvc { NearAreClosedForMsvc }
+    ensures are_linked_for { NearAreLinkedFor }
+    ensures are_linked_for_msvc { NearAreLinkedForMsvc }
+    ensures define_once { NearDefineOnce }
+    ensures fills_by { NearFillsBy }
+    ensures flavors_link { NearFlavorsLink }
+    ensures has_offset_field { NearHasOffsetField }
+    ensures has_page_field { NearHasPageField }
+    ensures has_pointer { NearHasPointer }
+    ensures imports_by { NearImportsBy }
+    ensures input_imports { NearInputImports }
+    ensures instruction_arrives { NearInstructionArrives }
+    ensures is_closed { NearIsClosed }
+    ensures links_among { NearLinksAmong }
+    ensures links_beside { NearLinksBeside }
+    ensures links_closed { NearLinksClosed }
+    ensures links_closed_for_msvc { NearLinksClosedForMsvc }
+    ensures page_arrives { NearPageArrives }
 {}
