@@ -1,5 +1,5 @@
 -- Pointers are read from entries.
-use Rattle.std.proofs.Common.{◌≡◌, ℕ, ◌+◌, ◌-◌, ◌*◌, ◌/◌, ◌%◌, ◌^◌, ◌<◌, ◌≤◌, List, [], ◌∷◌, ◌++◌, length, map, Option, None, Some, refl, ap, sym, ◌∙◌, subst, inl, inr, arith}
+use Rattle.std.proofs.Common.{◌≡◌, ℕ, ◌+◌, ◌-◌, ◌*◌, ◌%◌, ◌^◌, ◌<◌, ◌≤◌, List, [], ◌∷◌, ◌++◌, length, map, Option, None, Some, refl, ap, sym, ◌∙◌, subst, inl, inr, arith}
 use Rattle.std.specs.Prelude.{◌&&◌, ◌==◌, if◌then◌else◌, nat_lt, slice_get}
 use Rattle.std.specs.List.{AllByRecursion, Contains}
 use Rattle.std.proofs.lemmas.Bool.{cases_Bool, ltb-false, ltb-true}
@@ -13,7 +13,7 @@ use Rattle.implib.specs.Formats.Object.{Object}
 use Rattle.implib.specs.Import.{Ask, expected_ask, imp_symbol}
 use Rattle.implib.specs.Link.Image.{IsAdmissible, Range, image_of}
 use Rattle.implib.specs.Link.LinkedMembers.{IsMade, LinkInput, chosen_exports}
-use Rattle.implib.specs.Link.Load.{BytesAt, number_in}
+use Rattle.implib.specs.Link.Load.{BytesAt}
 use Rattle.implib.specs.Link.Placement.{Bases, placed_from}
 use Rattle.implib.specs.Link.Resolution.{definitions_of}
 use Rattle.implib.specs.Members.ImportTables.{thunk_width}
@@ -28,7 +28,7 @@ use Rattle.implib_link.specs.Stub.{CanJump, adrp_immediate, ldr_immediate, page,
 use Rattle.implib_link.proofs.Gnu.CallBytes.{length_within}
 use Rattle.implib_link.proofs.Gnu.CallReads.{CanReach, can_reach}
 use Rattle.implib_link.proofs.Gnu.Calls.{instructions_target, instructions_there, window}
-use Rattle.implib_link.proofs.Gnu.Jumps.{halves, i386_field, near_pages, number-u32, page_and_offset, pages_add, plain_sums, sum_of_eights, whole_eights}
+use Rattle.implib_link.proofs.Gnu.Jumps.{i386_field, number-u32, page_and_offset, plain_sums, sum_of_eights}
 use Rattle.implib_link.proofs.Gnu.Memory.{Covers, byte_first, loaded_below, located_in_memory, written_covers}
 use Rattle.implib_link.proofs.Gnu.Pages.{AdrpIs, LdrIs, adrp_by, adrp_code, ldr_by, ldr_code}
 use Rattle.implib_link.proofs.Gnu.Program.{program_links}

@@ -1,17 +1,14 @@
 -- Near misses of what links and loaders give, and of what is linked for given objects, by computing.
-use Rattle.std.proofs.Common.{◌≡◌, ℕ, ◌+◌, ◌*◌, ◌<◌, ◌≤◌, true, false, List, [], ◌∷◌, ◌++◌, codes, length, Some, None, refl, ap, sym, ◌∙◌, subst, arith}
-use Rattle.std.specs.Prelude.{bytes_eq, slice_get}
-use Rattle.std.specs.List.{Contains}
+use Rattle.std.proofs.Common.{◌≡◌, ℕ, ◌+◌, ◌*◌, ◌<◌, List, [], ◌∷◌, ◌++◌, codes, length, Some, None, refl, ap, sym, ◌∙◌, subst, arith}
 use Rattle.std.proofs.lemmas.Bool.{true≢false}
 use Rattle.std.proofs.lemmas.List.{length-append}
-use Rattle.implib.specs.declared.machine.MachineType.TheVariants.{AMD64, ARM64}
+use Rattle.implib.specs.declared.machine.MachineType.TheVariants.{AMD64}
 use Rattle.implib.specs.Formats.Bytes.{u32_bytes}
 use Rattle.implib.specs.Formats.Constants.{class_external}
-use Rattle.implib.specs.Formats.Object.{ASymbol, Object}
+use Rattle.implib.specs.Formats.Object.{Object}
 use Rattle.implib.specs.Import.{imp_symbol}
 use Rattle.implib.specs.Link.Image.{Range, byte_at}
 use Rattle.implib.specs.Link.Load.{BytesAt, NumberAt, number_in}
-use Rattle.implib.specs.Link.Placement.{Placed}
 use Rattle.implib.specs.Link.Resolution.{SymbolDefinition, definitions_of}
 use Rattle.implib.proofs.Link.LinkedMembers.{among_contains}
 use Rattle.implib.proofs.Link.Loading.{number_once}
@@ -19,10 +16,8 @@ use Rattle.implib_link.specs.Search.Archives.{archive_of}
 use Rattle.implib_link.specs.Worked.Archives.{two_libraries}
 use Rattle.implib_link.specs.Worked.MsvcArchives.{two_msvc}
 use Rattle.implib_link.proofs.Search.Lists.{any_among}
-use Rattle.implib_link.specs.Flavors.Program.{symbols_listed}
 use Rattle.implib_link.specs.Gnu.Calls.{Defines}
 use Rattle.implib_link.specs.Gnu.Operands.{operand_leads}
-use Rattle.implib_link.specs.Gnu.Pages.{offset_word, page_word}
 use Rattle.implib_link.specs.Search.Closed.{listed_in}
 use Rattle.implib_link.specs.Stub.{adrp_immediate, ldr_immediate, page, plus_signed, with_adrp, with_bits, word_at}
 use Rattle.implib_link.specs.Worked.Calls.{calling_at}
@@ -35,10 +30,9 @@ use Rattle.implib_link.specs.Worked.Programs.{program_image, symbol_of_class, sy
 use Rattle.implib_link.specs.Worked.RefusedFields.{linked_on_amd64, open_address, two_ranges}
 use Rattle.implib_link.specs.Worked.Walks.{without_addresses, without_name}
 use Rattle.implib_link.proofs.Gnu.Stubs.{same_address}
-use Rattle.implib_link.proofs.Worked.NearCode.{beside_entry, missing}
+use Rattle.implib_link.proofs.Worked.NearCode.{missing}
 use Rattle.implib_link.proofs.Worked.NearPrograms.{no_name}
 use Rattle.implib_link.proofs.Worked.NearSearches.{none_in, searched}
-use Rattle.implib_link.proofs.Worked.RefusedFields.{value}
 use Rattle.implib_link.proofs.Worked.RefusedLinks.{are_located, differ, number, zero_4}
 use Rattle.implib_link.proofs.Worked.Rules.{entry_is, same_bytes}
 

@@ -1,6 +1,6 @@
 -- Near misses of what links and loaders give, and of what is linked for given objects. A record `NearX` has those of `X`,
 -- each by the name of the field that refuses it.
-use Rattle.std.specs.Prelude.{ℕ, ◌+◌, List, [], ◌∷◌, ◌++◌, codes}
+use Rattle.std.specs.Prelude.{ℕ, List, [], ◌∷◌, codes}
 use Rattle.implib.specs.declared.flavor.Flavor.TheVariants.{Gnu}
 use Rattle.implib.specs.declared.machine.MachineType.TheVariants.{AMD64, ARM64}
 use Rattle.implib.specs.Formats.Constants.{class_external}
@@ -30,7 +30,7 @@ use Rattle.implib_link.specs.Worked.NearCode.{code_of}
 use Rattle.implib_link.specs.Worked.NearLinks.{found_there}
 use Rattle.implib_link.specs.Worked.NearPrograms.{run_with, table_object}
 use Rattle.implib_link.specs.Worked.NearSearches.{asking, zed_library, zed_short}
-use Rattle.implib_link.specs.Worked.Operands.{field, imp_open, passing_at, passing_code}
+use Rattle.implib_link.specs.Worked.Operands.{imp_open, passing_at, passing_code}
 use Rattle.implib_link.specs.Worked.Programs.{both_inputs, code_object, foo_input, program_image, program_placed, symbol_of_class, touching_8}
 use Rattle.implib_link.specs.Worked.RefusedFields.{linked_on_amd64, open_address, two_ranges, with_byte}
 use Rattle.implib_link.specs.Worked.Walks.{without_addresses, without_name}
