@@ -1,18 +1,13 @@
 -- Near misses of searches in bytes, by computing and by the laws.
-use Rattle.std.proofs.Common.{◌≡◌, ℕ, zero, suc, [], ◌∷◌, List, Some, None, ap, codes, refl, sym, ◌∙◌, subst, arith}
-use Rattle.std.specs.Prelude.{Option, bytes_eq, length, map, option_and_then, slice_get, unwrap_or}
-use Rattle.std.specs.Option.{option_map}
+use Rattle.std.proofs.Common.{◌≡◌, ℕ, zero, suc, [], ◌∷◌, List, Some, None, ap, codes, refl, sym, ◌∙◌, arith}
+use Rattle.std.specs.Prelude.{Option, bytes_eq, length, slice_get, unwrap_or}
 use Rattle.implib.specs.Members.MemberSpec.{MemberView}
-use Rattle.implib_archive.specs.Archive.{archive_of}
-use Rattle.implib_archive.specs.ReadBack.{read_view}
-use Rattle.implib_archive.specs.Reader.{member_at}
 use Rattle.implib_archive.specs.Refusal.{member_refusal, members_refusal, name_refusal, refusal_of}
 use Rattle.implib_archive.specs.declared.error.Fault.TheVariants.{EmptyName}
-use Rattle.implib_archive.specs.Worked.{worked_gnu, worked_members}
+use Rattle.implib_archive.specs.Worked.{worked_members}
 use Rattle.implib_archive.specs.declared.kind.Kind.TheVariants.{Gnu}
-use Rattle.implib_archive_link.specs.InBytes.{First, asks_for, contents_at, header_by, objects_of}
+use Rattle.implib_archive_link.specs.InBytes.{First}
 use Rattle.implib_archive_link.specs.NearMisses.{NearHaveArchive, NearIsHeaderOf, NearPullsInAt, WorkedIndexes, WorkedReads}
-use Rattle.implib_link.specs.Search.Search.{Takes}
 use Rattle.implib_link.specs.Worked.Search.{members_of, three, wanted}
 use Rattle.implib_link.proofs.Worked.NearMisses.{none_passes}
 use Rattle.implib_link.proofs.Worked.RefusedLinks.{differ}

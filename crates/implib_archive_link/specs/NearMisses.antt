@@ -1,15 +1,14 @@
 -- Near misses of searches in bytes, and what a search says of the bytes. A record `NearX` has those of the record `X`, each
 -- by the name of the field that refuses it.
-use Rattle.std.specs.Prelude.{◌≡◌, ℕ, ◌+◌, List, [], ◌∷◌, ◌++◌, codes, drop, map, option_and_then, take, Some, None}
-use Rattle.std.specs.Option.{option_map}
+use Rattle.std.specs.Prelude.{◌≡◌, ℕ, List, [], ◌∷◌, ◌++◌, codes, drop, map, option_and_then, take, Some}
 use Rattle.implib.specs.Members.MemberSpec.{MemberView}
 use Rattle.implib_archive.specs.Archive.{archive_of}
 use Rattle.implib_archive.specs.ReadBack.{read_view}
 use Rattle.implib_archive.specs.Reader.{member_at}
 use Rattle.implib_archive.specs.Worked.{read, worked_coff, worked_gnu, worked_members}
-use Rattle.implib_archive.specs.declared.kind.Kind.TheVariants.{Coff, Gnu}
+use Rattle.implib_archive.specs.declared.kind.Kind.TheVariants.{Gnu}
 use Rattle.implib_archive_link.specs.InBytes.{First, PullsInAt, Second, TakesAt, asks_for, header_by}
-use Rattle.implib_archive_link.specs.Results.{HaveArchive, IsHeaderOf, LeadsToFirst}
+use Rattle.implib_archive_link.specs.Results.{HaveArchive, IsHeaderOf}
 use Rattle.implib_link.specs.Search.Search.{Takes}
 use Rattle.implib_link.specs.Worked.Search.{members_of, three, wanted}
 
