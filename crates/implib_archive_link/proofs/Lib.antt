@@ -7,3 +7,4 @@ pub mod LldEnds
 pub mod LldWay
 pub mod WorkedWay
 pub mod WorkedLldWay
+pub mod NearMisses

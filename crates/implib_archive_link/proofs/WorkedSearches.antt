@@ -134,7 +134,7 @@ is_unasked : TakesAt Gnu First worked_gnu (asks_for (codes "f" ∷ [])) (246 ∷
 unfolding AreTakenAt
 is_unasked takes = led_first takes.in_turn.0.0 takes.in_turn.0.1
 
-three_gnu : HaveArchive Gnu First (members_of three)
+pub three_gnu : HaveArchive Gnu First (members_of three)
 unfolding opened alias_specs encoded_size entries_from entries_of first_linker_size first_place front_size is_long archive_long_names name_end names_bytes names_size offset_of places_from second_linker_size strings_of with_first archive_with_name has_short_places has_too_many member_refusal members_refusal name_refusal places_refusal refusal_of symbol_refusal symbols_refusal
 three_gnu = record { accepted = refl; has = tt }
 

@@ -5,3 +5,4 @@ pub mod Way
 pub mod LldWay
 pub mod WorkedWay
 pub mod WorkedLldWay
+pub mod NearMisses

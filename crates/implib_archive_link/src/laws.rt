@@ -12,6 +12,8 @@ ghost use Rattle.implib.specs.declared.machine.MachineType.{MachineType};
 ghost use Rattle.implib_archive.specs.declared.kind.Kind.{Kind};
 ghost use Rattle.implib_archive_link.specs.InBytes.{LinkerMember, asks_for, asks_on, asks_with};
 ghost use Rattle.implib_archive_link.specs.LldWay.{AreCalledAlike, LldArrives, asks_of_lld};
+ghost use Rattle.implib_archive_link.specs.NearMisses.{NearHaveArchive, NearIsHeaderOf};
+ghost use Rattle.implib_archive_link.specs.NearMisses.{NearPullsInAt, WorkedIndexes, WorkedReads};
 ghost use Rattle.implib_archive_link.specs.Results.{AreFoundInBytes, AreSearched, HaveArchive};
 ghost use Rattle.implib_archive_link.specs.Results.{IsEnding, TakesJust};
 ghost use Rattle.implib_archive_link.specs.Way.{CallsArrive};
@@ -182,4 +184,14 @@ pub fn worked_way()
 /// short imports to two calls that arrive at what foo.dll gives for `bar`.
 pub fn worked_lld_way()
     ensures { WorkedLldWay }
+{}
+
+/// Near misses of searches in bytes, two indexes that differ, and what a reader finds after the
+/// headers that a search takes.
+pub fn near_misses_in_bytes()
+    ensures pulls { NearPullsInAt }
+    ensures headers { NearIsHeaderOf }
+    ensures archives { NearHaveArchive }
+    ensures indexes { WorkedIndexes }
+    ensures reads { WorkedReads }
 {}

@@ -41,3 +41,11 @@ pub mod NamedApart
 pub mod Aliases
 pub mod Readings
 pub mod Walks
+pub mod NearTables
+pub mod NearSearches
+pub mod NearPrograms
+pub mod NearCode
+pub mod Instances
+pub mod MoreCalls
+pub mod NearLinks
+pub mod NearResults

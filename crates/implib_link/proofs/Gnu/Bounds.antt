@@ -41,7 +41,7 @@ index_below (y ∷ xs) zero x is = omega arith
 index_below (y ∷ xs) (suc j) x is = let later = index_below xs j x is in omega arith
 
 -- the thunks of a DLL are among those of all
-count_below : (inputs : List LinkInput) (i : ℕ) (p : LinkInput) → slice_get inputs i ≡ Some p →
+pub count_below : (inputs : List LinkInput) (i : ℕ) (p : LinkInput) → slice_get inputs i ≡ Some p →
     thunks_before i inputs + (length (chosen_exports p.definition p.chosen) + 1) ≤ thunks_before (length inputs) inputs
 count_below [] i p is = cc
 count_below (q ∷ inputs) zero p is =

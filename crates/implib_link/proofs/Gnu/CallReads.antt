@@ -1,16 +1,15 @@
 -- What relocated calls through pointers read.
-use Rattle.std.proofs.Common.{◌≡◌, ℕ, ◌+◌, ◌-◌, ◌*◌, ◌/◌, ◌%◌, ◌^◌, ◌<◌, ◌≤◌, List, [], ◌∷◌, ◌++◌, length, Some, refl, ap, ◌∙◌, arith}
+use Rattle.std.proofs.Common.{◌≡◌, ℕ, ◌+◌, ◌-◌, ◌*◌, ◌%◌, ◌^◌, ◌<◌, ◌≤◌, List, [], ◌∷◌, ◌++◌, length, Some, refl, ap, ◌∙◌, arith}
 use Rattle.std.specs.List.{AllByRecursion}
 use Rattle.implib.specs.declared.coff.object.Relocation.{Relocation}
 use Rattle.implib.specs.declared.machine.MachineType.{MachineType}
 use Rattle.implib.specs.declared.machine.MachineType.TheVariants.{I386, ARMNT, AMD64, ARM64}
 use Rattle.implib.specs.Formats.Bytes.{u32_bytes}
-use Rattle.implib.specs.Link.Load.{number_in}
 use Rattle.implib.specs.Link.Placement.{Bases}
 use Rattle.implib.specs.Members.ImportTables.{thunk_width}
 use Rattle.implib_link.specs.Gnu.Calls.{call_bytes, call_reads, call_relocations, code_relocated_by}
-use Rattle.implib_link.specs.Stub.{CanJump, page, plus_signed, with_adrp, with_ldr}
-use Rattle.implib_link.proofs.Gnu.Jumps.{adrp_is, adrp_small, adrp_word, amd64_field, arm64_leads, arm64_reads, i386_field, ldr_is, ldr_small, ldr_word, number-u32, plain_sums, sum_of_eights}
+use Rattle.implib_link.specs.Stub.{CanJump, page, plus_signed, with_adrp, with_ldr, word_at}
+use Rattle.implib_link.proofs.Gnu.Jumps.{amd64_field, arm64_leads, arm64_reads, i386_field, number-u32, plain_sums}
 
 -- what a machine asks so that a call can read an entry
 abbrev pub CanReach : MachineType → ℕ → ℕ → Type 0
@@ -42,14 +41,9 @@ amd64_calls image_base position entry index targets near small target =
     rw target (ap (λ n. Some (plus_signed 32 1 n (image_base + position + 6))) (number-u32 ((0 + entry + (2 ^ 32 - (position + 2 + 4) % 2 ^ 32)) % 2 ^ 32))
     ∙ ap Some (amd64_field image_base position entry near small))
 
-words_read : (address first second : ℕ) → first < 2 ^ 32 → second < 2 ^ 32 →
-    call_reads ARM64 address (u32_bytes first ++ (u32_bytes second ++ 0 ∷ 2 ∷ 0x3F ∷ 0xD6 ∷ [])) ≡ arm64_reads address first second
+words_read : (address adrp ldr : ℕ) → call_reads ARM64 address (u32_bytes adrp ++ (u32_bytes ldr ++ 0 ∷ 2 ∷ 0x3F ∷ 0xD6 ∷ [])) ≡ arm64_reads address (word_at (u32_bytes adrp) 0) (word_at (u32_bytes ldr) 0)
 unfolding u32_bytes
-words_read address first second low high =
-    let first_is : first % 2 ^ 32 ≡ first = omega arith in
-    let second_is : second % 2 ^ 32 ≡ second = omega arith in
-    ap (λ w. arm64_reads address w (number_in (u32_bytes second))) (number-u32 first ∙ first_is)
-    ∙ ap (λ w. arm64_reads address first w) (number-u32 second ∙ second_is)
+words_read address adrp ldr = refl
 
 arm64_code : (image_base position entry index : ℕ) (targets : ℕ → ℕ) → targets index ≡ entry →
     code_relocated_by ARM64 image_base targets position (call_relocations ARM64 index) (call_bytes ARM64)
@@ -65,18 +59,9 @@ arm64_code image_base position entry index targets target =
 arm64_calls : (image_base position entry index : ℕ) (targets : ℕ → ℕ) → position + 16 ≤ 2 ^ 31 → entry < 2 ^ 31 → image_base % 8 ≡ 0 → entry % 8 ≡ 0 → targets index ≡ entry →
     call_reads ARM64 (image_base + position) (code_relocated_by ARM64 image_base targets position (call_relocations ARM64 index) (call_bytes ARM64)) ≡ Some (image_base + entry)
 arm64_calls image_base position entry index targets near small even entries target =
-    let n : ℕ = page (image_base + entry) + (2 ^ 21 - page (image_base + position) % 2 ^ 21) in
-    let offset_small : (image_base + entry) % 4096 < 4096 = omega arith in
-    let eighth_small : (image_base + entry) % 4096 / 8 < 4096 = omega arith in
-    let high_small : n / 4 % 2 ^ 19 < 2 ^ 19 = omega arith in
-    let low_small : n % 4 < 4 = omega arith in
-    ap (call_reads ARM64 (image_base + position)) (
-    arm64_code image_base position entry index targets target
-    ∙ ap (λ w. u32_bytes w ++ (u32_bytes (with_ldr ((image_base + entry) % 4096) 0xF940_0210) ++ 0 ∷ 2 ∷ 0x3F ∷ 0xD6 ∷ [])) (adrp_is n (n / 4 % 2 ^ 19) (n % 4) refl refl)
-    ∙ ap (λ w. u32_bytes (adrp_word (n / 4 % 2 ^ 19) (n % 4)) ++ (u32_bytes w ++ 0 ∷ 2 ∷ 0x3F ∷ 0xD6 ∷ [])) (ldr_is ((image_base + entry) % 4096) offset_small))
-    ∙ words_read (image_base + position) (adrp_word (n / 4 % 2 ^ 19) (n % 4)) (ldr_word ((image_base + entry) % 4096 / 8))
-    (adrp_small (n / 4 % 2 ^ 19) (n % 4) high_small low_small) (ldr_small ((image_base + entry) % 4096 / 8) eighth_small)
-    ∙ arm64_leads image_base position entry near small (sum_of_eights image_base entry even entries) n refl
+    ap (call_reads ARM64 (image_base + position)) (arm64_code image_base position entry index targets target)
+    ∙ words_read (image_base + position) (with_adrp (page (image_base + entry) + (2 ^ 21 - page (image_base + position) % 2 ^ 21)) 0x9000_0010) (with_ldr ((image_base + entry) % 4096) 0xF940_0210)
+    ∙ arm64_leads image_base position entry near small even entries
 
 -- by the machine's instructions
 pub call_by : (machine : MachineType) (image_base position entry index : ℕ) (targets : ℕ → ℕ) → CanReach machine image_base entry → position + 16 ≤ 2 ^ 31 → entry < 2 ^ 31 → targets index ≡ entry →

@@ -8,7 +8,7 @@ use Rattle.implib.specs.Members.Gnu.{stub_bytes, stub_relocations}
 use Rattle.implib.specs.Link.Load.{number_in}
 use Rattle.implib.specs.Link.Placement.{Placed}
 use Rattle.implib.specs.Link.Resolution.{target_address}
-use Rattle.implib_link.specs.Stub.{adrp_immediate, bits_of, code_relocated, jump_reads, ldr_immediate, page, plus_signed, with_adrp, with_bits, with_ldr}
+use Rattle.implib_link.specs.Stub.{adrp_immediate, bits_of, code_relocated, jump_reads, ldr_immediate, page, plus_signed, with_adrp, with_bits, with_ldr, word_at}
 
 pub number-u32 : (n : ℕ) → number_in (u32_bytes n) ≡ n % 2 ^ 32
 unfolding u32_bytes
@@ -49,7 +49,7 @@ amd64_jumps image_base position entry linked p near small target =
 abbrev pub adrp_word : ℕ → ℕ → ℕ
 adrp_word high low = 0x9000_0010 + high * 32 + low * 0x2000_0000
 
-abbrev pub ldr_word : ℕ → ℕ
+abbrev ldr_word : ℕ → ℕ
 ldr_word n = 0xF940_0210 + n * 1024
 
 pub adrp_is : (n high low : ℕ) → n / 4 % 2 ^ 19 ≡ high → n % 4 ≡ low → with_adrp n 0x9000_0010 ≡ adrp_word high low
@@ -61,7 +61,7 @@ adrp_cleared high low first second = omega arith
 adrp_read : (high low : ℕ) → high < 2 ^ 19 → low < 4 → adrp_immediate (adrp_word high low) ≡ high * 4 + low
 adrp_read high low first second = omega arith
 
-pub ldr_is : (n : ℕ) → n < 4096 → with_ldr n 0xF940_0210 ≡ ldr_word (n / 8)
+ldr_is : (n : ℕ) → n < 4096 → with_ldr n 0xF940_0210 ≡ ldr_word (n / 8)
 ldr_is n small = omega arith
 
 ldr_cleared : (n : ℕ) → n < 4096 → with_bits 10 12 0 (ldr_word n) ≡ 0xF940_0210
@@ -83,14 +83,9 @@ arm64_reads address first second =
     Some (plus_signed 21 4096 (adrp_immediate first) (page address * 4096) + ldr_immediate second)
     else None
 
-words_read : (address first second : ℕ) → first < 2 ^ 32 → second < 2 ^ 32 →
-    jump_reads ARM64 address (u32_bytes first ++ (u32_bytes second ++ 0 ∷ 2 ∷ 0x1F ∷ 0xD6 ∷ [])) ≡ arm64_reads address first second
+words_read : (address adrp ldr : ℕ) → jump_reads ARM64 address (u32_bytes adrp ++ (u32_bytes ldr ++ 0 ∷ 2 ∷ 0x1F ∷ 0xD6 ∷ [])) ≡ arm64_reads address (word_at (u32_bytes adrp) 0) (word_at (u32_bytes ldr) 0)
 unfolding u32_bytes
-words_read address first second low high =
-    let first_is : first % 2 ^ 32 ≡ first = omega arith in
-    let second_is : second % 2 ^ 32 ≡ second = omega arith in
-    ap (λ w. arm64_reads address w (number_in (u32_bytes second))) (number-u32 first ∙ first_is)
-    ∙ ap (λ w. arm64_reads address first w) (number-u32 second ∙ second_is)
+words_read address adrp ldr = refl
 
 -- the immediates lead to the entry
 pub pages_add : (here there : ℕ) → here < there + 2 ^ 20 → there < here + 2 ^ 20 →
@@ -109,10 +104,10 @@ pub near_pages : (image_base position entry : ℕ) → position + 16 ≤ 2 ^ 31 
     (page (image_base + position) < page (image_base + entry) + 2 ^ 20) × (page (image_base + entry) < page (image_base + position) + 2 ^ 20)
 near_pages image_base position entry near small = (omega arith, omega arith)
 
-pub adrp_small : (high low : ℕ) → high < 2 ^ 19 → low < 4 → adrp_word high low < 2 ^ 32
+adrp_small : (high low : ℕ) → high < 2 ^ 19 → low < 4 → adrp_word high low < 2 ^ 32
 adrp_small high low first second = omega arith
 
-pub ldr_small : (n : ℕ) → n < 4096 → ldr_word n < 2 ^ 32
+ldr_small : (n : ℕ) → n < 4096 → ldr_word n < 2 ^ 32
 ldr_small n small = omega arith
 
 pub whole_eights : (n : ℕ) → n % 8 ≡ 0 → n % 4096 / 8 * 8 ≡ n % 4096
@@ -143,10 +138,10 @@ arm64_code image_base position entry linked p target =
     ++ (u32_bytes (with_ldr ((image_base + entry) % 4096) 0xF940_0210) ++ 0 ∷ 2 ∷ 0x1F ∷ 0xD6 ∷ []) in
     rw (target, sums.0, sums.1) (refl {a = code})
 
-pub arm64_leads : (image_base position entry : ℕ) → position + 16 ≤ 2 ^ 31 → entry < 2 ^ 31 → (image_base + entry) % 8 ≡ 0 → (n : ℕ) →
+immediates_lead : (image_base position entry : ℕ) → position + 16 ≤ 2 ^ 31 → entry < 2 ^ 31 → (image_base + entry) % 8 ≡ 0 → (n : ℕ) →
     n ≡ page (image_base + entry) + (2 ^ 21 - page (image_base + position) % 2 ^ 21) →
     arm64_reads (image_base + position) (adrp_word (n / 4 % 2 ^ 19) (n % 4)) (ldr_word ((image_base + entry) % 4096 / 8)) ≡ Some (image_base + entry)
-arm64_leads image_base position entry near small even n is =
+immediates_lead image_base position entry near small even n is =
     let target : ℕ = image_base + entry in
     let high_small : n / 4 % 2 ^ 19 < 2 ^ 19 = omega arith in
     let low_small : n % 4 < 4 = omega arith in
@@ -165,19 +160,34 @@ arm64_leads image_base position entry near small even n is =
     ∙ ap (λ m. Some (page target * 4096 + m)) offset
     ∙ ap Some (page_and_offset target)
 
-pub arm64_jumps : (image_base position entry : ℕ) (linked : List Placed) (p : Placed) → position + 16 ≤ 2 ^ 31 → entry < 2 ^ 31 → image_base % 8 ≡ 0 → entry % 8 ≡ 0 →
-    target_address linked p 2 ≡ entry →
-    jump_reads ARM64 (image_base + position) (code_relocated ARM64 image_base linked p position (stub_relocations ARM64 2) (stub_bytes ARM64)) ≡ Some (image_base + entry)
-arm64_jumps image_base position entry linked p near small even entries target =
+-- a word of four bytes
+word_of : (word : ℕ) → word < 2 ^ 32 → word_at (u32_bytes word) 0 ≡ word
+unfolding u32_bytes
+word_of word small = let same : word % 2 ^ 32 ≡ word = omega arith in number-u32 word ∙ same
+
+-- what the two words of the relocated code read
+pub arm64_leads : (image_base position entry : ℕ) → position + 16 ≤ 2 ^ 31 → entry < 2 ^ 31 → image_base % 8 ≡ 0 → entry % 8 ≡ 0 →
+    arm64_reads (image_base + position) (word_at (u32_bytes (with_adrp (page (image_base + entry) + (2 ^ 21 - page (image_base + position) % 2 ^ 21)) 0x9000_0010)) 0)
+    (word_at (u32_bytes (with_ldr ((image_base + entry) % 4096) 0xF940_0210)) 0)
+    ≡ Some (image_base + entry)
+arm64_leads image_base position entry near small even entries =
     let n : ℕ = page (image_base + entry) + (2 ^ 21 - page (image_base + position) % 2 ^ 21) in
     let offset_small : (image_base + entry) % 4096 < 4096 = omega arith in
     let eighth_small : (image_base + entry) % 4096 / 8 < 4096 = omega arith in
     let high_small : n / 4 % 2 ^ 19 < 2 ^ 19 = omega arith in
     let low_small : n % 4 < 4 = omega arith in
-    ap (jump_reads ARM64 (image_base + position)) (
-    arm64_code image_base position entry linked p target
-    ∙ ap (λ w. u32_bytes w ++ (u32_bytes (with_ldr ((image_base + entry) % 4096) 0xF940_0210) ++ 0 ∷ 2 ∷ 0x1F ∷ 0xD6 ∷ [])) (adrp_is n (n / 4 % 2 ^ 19) (n % 4) refl refl)
-    ∙ ap (λ w. u32_bytes (adrp_word (n / 4 % 2 ^ 19) (n % 4)) ++ (u32_bytes w ++ 0 ∷ 2 ∷ 0x1F ∷ 0xD6 ∷ [])) (ldr_is ((image_base + entry) % 4096) offset_small))
-    ∙ words_read (image_base + position) (adrp_word (n / 4 % 2 ^ 19) (n % 4)) (ldr_word ((image_base + entry) % 4096 / 8))
-    (adrp_small (n / 4 % 2 ^ 19) (n % 4) high_small low_small) (ldr_small ((image_base + entry) % 4096 / 8) eighth_small)
-    ∙ arm64_leads image_base position entry near small (sum_of_eights image_base entry even entries) n refl
+    let adrp : word_at (u32_bytes (with_adrp n 0x9000_0010)) 0 ≡ adrp_word (n / 4 % 2 ^ 19) (n % 4) =
+    ap (λ w. word_at (u32_bytes w) 0) (adrp_is n (n / 4 % 2 ^ 19) (n % 4) refl refl) ∙ word_of (adrp_word (n / 4 % 2 ^ 19) (n % 4)) (adrp_small (n / 4 % 2 ^ 19) (n % 4) high_small low_small) in
+    let ldr : word_at (u32_bytes (with_ldr ((image_base + entry) % 4096) 0xF940_0210)) 0 ≡ ldr_word ((image_base + entry) % 4096 / 8) =
+    ap (λ w. word_at (u32_bytes w) 0) (ldr_is ((image_base + entry) % 4096) offset_small) ∙ word_of (ldr_word ((image_base + entry) % 4096 / 8)) (ldr_small ((image_base + entry) % 4096 / 8) eighth_small) in
+    ap (λ w. arm64_reads (image_base + position) w (word_at (u32_bytes (with_ldr ((image_base + entry) % 4096) 0xF940_0210)) 0)) adrp
+    ∙ ap (arm64_reads (image_base + position) (adrp_word (n / 4 % 2 ^ 19) (n % 4))) ldr
+    ∙ immediates_lead image_base position entry near small (sum_of_eights image_base entry even entries) n refl
+
+pub arm64_jumps : (image_base position entry : ℕ) (linked : List Placed) (p : Placed) → position + 16 ≤ 2 ^ 31 → entry < 2 ^ 31 → image_base % 8 ≡ 0 → entry % 8 ≡ 0 →
+    target_address linked p 2 ≡ entry →
+    jump_reads ARM64 (image_base + position) (code_relocated ARM64 image_base linked p position (stub_relocations ARM64 2) (stub_bytes ARM64)) ≡ Some (image_base + entry)
+arm64_jumps image_base position entry linked p near small even entries target =
+    ap (jump_reads ARM64 (image_base + position)) (arm64_code image_base position entry linked p target)
+    ∙ words_read (image_base + position) (with_adrp (page (image_base + entry) + (2 ^ 21 - page (image_base + position) % 2 ^ 21)) 0x9000_0010) (with_ldr ((image_base + entry) % 4096) 0xF940_0210)
+    ∙ arm64_leads image_base position entry near small even entries

@@ -24,7 +24,7 @@ within_bounds a r within =
     let parts = and_parts (nat_le r.start a) (nat_lt a (range_end r)) within in
     (leb-true r.start a parts.0, ltb-true a (range_end r) parts.1)
 
-byte_within : (image : List Range) (bytes : List ℕ) (a x : ℕ) → BytesAt image a bytes → a ≤ x → x < a + length bytes → (byte : ℕ) × (byte_at image x ≡ Some byte)
+pub byte_within : (image : List Range) (bytes : List ℕ) (a x : ℕ) → BytesAt image a bytes → a ≤ x → x < a + length bytes → (byte : ℕ) × (byte_at image x ≡ Some byte)
 unfolding BytesAt
 byte_within image [] a x located from below = absurd (omega arith)
 byte_within image (b ∷ bytes) a x located from below =

@@ -37,9 +37,8 @@ use Rattle.implib_link.proofs.Gnu.Loaded.{program_loads}
 use Rattle.implib_link.proofs.Gnu.Memory.{Covers, byte_first, loaded_below, written_covers}
 use Rattle.implib_link.proofs.Gnu.Moved.{Window, code_kept, code_unwritten, field_moved, image_kept, window_clear}
 use Rattle.implib_link.proofs.Gnu.MovedCode.{Lies, apart_same, beside_field, call_window, can_jump, field_value, four_of, high_same, joined, low_same, offset_same, window_kept}
-use Rattle.implib_link.proofs.Gnu.Pages.{adrp_by, adrp_code, ldr_by, ldr_code, near_in, one_within}
-use Rattle.implib_link.proofs.Gnu.Pages.{adrp_is as paged_is}
-use Rattle.implib_link.proofs.Gnu.Pointers.{adrp_is, arm64_code, load_by, load_within}
+use Rattle.implib_link.proofs.Gnu.Pages.{adrp_by, adrp_code, adrp_is, ldr_by, ldr_code, near_in, one_within}
+use Rattle.implib_link.proofs.Gnu.Pointers.{arm64_code, load_by, load_within}
 use Rattle.implib_link.proofs.Gnu.Program.{program_links}
 use Rattle.implib_link.proofs.Gnu.Rebased.{entry_defined, entry_holds, writes_of}
 use Rattle.implib_link.proofs.Gnu.Steady.{program_tables_none}
@@ -89,16 +88,20 @@ i386_mov from to bases objects codes targets memory at none c m offset number in
 
 -- ARM64's words.
 
-adrp_same : (n m : ℕ) → n % 2 ^ 21 ≡ m % 2 ^ 21 → with_adrp n 0x9000_0008 ≡ with_adrp m 0x9000_0008
-adrp_same n m same =
-    adrp_is n (m / 4 % 2 ^ 19) (m % 4) (high_same n m same) (low_same n m same) ∙ sym (adrp_is m (m / 4 % 2 ^ 19) (m % 4) refl refl)
+-- an `adrp` of a register, by the low 21 bits
+adrp_same : (paged n m : ℕ) → paged < 32 → n % 2 ^ 21 ≡ m % 2 ^ 21 → with_adrp n (0x9000_0000 + paged) ≡ with_adrp m (0x9000_0000 + paged)
+adrp_same paged n m small same =
+    adrp_is paged n small
+    ∙ ap (λ h. 0x9000_0000 + paged + h * 32 + n % 4 * 0x2000_0000) (high_same n m same)
+    ∙ ap (λ l. 0x9000_0000 + paged + m / 4 % 2 ^ 19 * 32 + l * 0x2000_0000) (low_same n m same)
+    ∙ sym (adrp_is paged m small)
 
 arm64_same : (from to position target index : ℕ) (targets : ℕ → ℕ) → from % 4096 ≡ to % 4096 → targets index ≡ target →
     code_relocated_by ARM64 from targets position (load_relocations ARM64 index) (load_bytes ARM64) ≡ code_relocated_by ARM64 to targets position (load_relocations ARM64 index) (load_bytes ARM64)
 arm64_same from to position target index targets pages is =
     arm64_code from position target index targets is
     ∙ ap (λ w. u32_bytes w ++ (u32_bytes (with_ldr ((from + target) % 4096) 0xF940_0108) ++ []))
-    (adrp_same (page (from + target) + (2 ^ 21 - page (from + position) % 2 ^ 21)) (page (to + target) + (2 ^ 21 - page (to + position) % 2 ^ 21)) (apart_same from to position target pages))
+    (adrp_same 8 (page (from + target) + (2 ^ 21 - page (from + position) % 2 ^ 21)) (page (to + target) + (2 ^ 21 - page (to + position) % 2 ^ 21)) (omega arith) (apart_same from to position target pages))
     ∙ ap (λ n. u32_bytes (with_adrp (page (to + target) + (2 ^ 21 - page (to + position) % 2 ^ 21)) 0x9000_0008) ++ (u32_bytes (with_ldr n 0xF940_0108) ++ [])) (offset_same from to target pages)
     ∙ sym (arm64_code to position target index targets is)
 
@@ -167,10 +170,7 @@ page_same from to position target index paged targets small pages is =
     let k : ℕ = page (to + target) + (2 ^ 21 - page (to + position) % 2 ^ 21) in
     let same : n % 2 ^ 21 ≡ k % 2 ^ 21 = apart_same from to position target pages in
     adrp_code from position target index paged targets small is
-    ∙ ap u32_bytes (paged_is paged n small
-    ∙ ap (λ h. 0x9000_0000 + paged + h * 32 + n % 4 * 0x2000_0000) (high_same n k same)
-    ∙ ap (λ l. 0x9000_0000 + paged + k / 4 % 2 ^ 19 * 32 + l * 0x2000_0000) (low_same n k same)
-    ∙ sym (paged_is paged k small))
+    ∙ ap u32_bytes (adrp_same paged n k small same)
     ∙ sym (adrp_code to position target index paged targets small is)
 
 ldr_same : (from to position target index k : ℕ) (targets : ℕ → ℕ) → k < 1024 → from % 4096 ≡ to % 4096 → targets index ≡ target →

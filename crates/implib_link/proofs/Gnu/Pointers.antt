@@ -1,5 +1,5 @@
 -- Pointers are read from entries.
-use Rattle.std.proofs.Common.{◌≡◌, ℕ, ◌+◌, ◌-◌, ◌*◌, ◌/◌, ◌%◌, ◌^◌, ◌<◌, ◌≤◌, List, [], ◌∷◌, ◌++◌, length, map, Option, None, Some, refl, ap, sym, ◌∙◌, subst, inl, inr, arith}
+use Rattle.std.proofs.Common.{◌≡◌, ℕ, ◌+◌, ◌-◌, ◌*◌, ◌%◌, ◌^◌, ◌<◌, ◌≤◌, List, [], ◌∷◌, ◌++◌, length, map, Option, None, Some, refl, ap, sym, ◌∙◌, subst, inl, inr, arith}
 use Rattle.std.specs.Prelude.{◌&&◌, ◌==◌, if◌then◌else◌, nat_lt, slice_get}
 use Rattle.std.specs.List.{AllByRecursion, Contains}
 use Rattle.std.proofs.lemmas.Bool.{cases_Bool, ltb-false, ltb-true}
@@ -13,7 +13,7 @@ use Rattle.implib.specs.Formats.Object.{Object}
 use Rattle.implib.specs.Import.{Ask, expected_ask, imp_symbol}
 use Rattle.implib.specs.Link.Image.{IsAdmissible, Range, image_of}
 use Rattle.implib.specs.Link.LinkedMembers.{IsMade, LinkInput, chosen_exports}
-use Rattle.implib.specs.Link.Load.{BytesAt, number_in}
+use Rattle.implib.specs.Link.Load.{BytesAt}
 use Rattle.implib.specs.Link.Placement.{Bases, placed_from}
 use Rattle.implib.specs.Link.Resolution.{definitions_of}
 use Rattle.implib.specs.Members.ImportTables.{thunk_width}
@@ -24,12 +24,13 @@ use Rattle.implib_link.specs.Gnu.Calls.{AreBeside, PlacedCode, code_ranges, code
 use Rattle.implib_link.specs.Gnu.Loaded.{Writes}
 use Rattle.implib_link.specs.Gnu.Pointers.{HasLoad, LoadArrives, load_bytes, load_reads, load_relocations}
 use Rattle.implib_link.specs.Gnu.Program.{IsProgram, thunks_before}
-use Rattle.implib_link.specs.Stub.{CanJump, adrp_immediate, bits_of, ldr_immediate, page, plus_signed, with_adrp, with_bits, with_ldr}
+use Rattle.implib_link.specs.Stub.{CanJump, adrp_immediate, ldr_immediate, page, plus_signed, with_adrp, with_bits, with_ldr, word_at}
 use Rattle.implib_link.proofs.Gnu.CallBytes.{length_within}
 use Rattle.implib_link.proofs.Gnu.CallReads.{CanReach, can_reach}
 use Rattle.implib_link.proofs.Gnu.Calls.{instructions_target, instructions_there, window}
-use Rattle.implib_link.proofs.Gnu.Jumps.{halves, i386_field, near_pages, number-u32, page_and_offset, pages_add, plain_sums, sum_of_eights, whole_eights}
+use Rattle.implib_link.proofs.Gnu.Jumps.{i386_field, number-u32, page_and_offset, plain_sums, sum_of_eights}
 use Rattle.implib_link.proofs.Gnu.Memory.{Covers, byte_first, loaded_below, located_in_memory, written_covers}
+use Rattle.implib_link.proofs.Gnu.Pages.{AdrpIs, LdrIs, adrp_by, adrp_code, ldr_by, ldr_code}
 use Rattle.implib_link.proofs.Gnu.Program.{program_links}
 use Rattle.implib_link.proofs.Gnu.Stubs.{entry_defined, entry_loaded, wide_thunk}
 use Rattle.implib_link.proofs.Search.Lists.{contains_among}
@@ -43,43 +44,7 @@ load_field image_base position entry near small =
       | inr is ↦ let high = ltb-false field (2 ^ 31) is in rw is (omega arith)
     ]
 
--- ARM64's two instructions with these immediates
-
-abbrev adrp_word : ℕ → ℕ → ℕ
-adrp_word high low = 0x9000_0008 + high * 32 + low * 0x2000_0000
-
-abbrev ldr_word : ℕ → ℕ
-ldr_word n = 0xF940_0108 + n * 1024
-
-pub adrp_is : (n high low : ℕ) → n / 4 % 2 ^ 19 ≡ high → n % 4 ≡ low → with_adrp n 0x9000_0008 ≡ adrp_word high low
-adrp_is n high low first second = omega arith
-
-adrp_cleared : (high low : ℕ) → high < 2 ^ 19 → low < 4 → with_adrp 0 (adrp_word high low) ≡ 0x9000_0008
-adrp_cleared high low first second = omega arith
-
-adrp_read : (high low : ℕ) → high < 2 ^ 19 → low < 4 → adrp_immediate (adrp_word high low) ≡ high * 4 + low
-adrp_read high low first second = omega arith
-
-adrp_small : (high low : ℕ) → high < 2 ^ 19 → low < 4 → adrp_word high low < 2 ^ 32
-adrp_small high low first second = omega arith
-
-ldr_is : (n : ℕ) → n < 4096 → with_ldr n 0xF940_0108 ≡ ldr_word (n / 8)
-ldr_is n small = omega arith
-
-ldr_cleared : (n : ℕ) → n < 4096 → with_bits 10 12 0 (ldr_word n) ≡ 0xF940_0108
-ldr_cleared n small = omega arith
-
-ldr_scale : (n : ℕ) → n < 4096 → bits_of 30 2 (ldr_word n) ≡ 3
-ldr_scale n small = omega arith
-
-ldr_field : (n : ℕ) → n < 4096 → bits_of 10 12 (ldr_word n) ≡ n
-ldr_field n small = omega arith
-
-ldr_small : (n : ℕ) → n < 4096 → ldr_word n < 2 ^ 32
-ldr_small n small = omega arith
-
-ldr_read : (n : ℕ) → n < 4096 → ldr_immediate (ldr_word n) ≡ n * 8
-ldr_read n small = ap (λ k. bits_of 10 12 (ldr_word n) * 2 ^ k) (ldr_scale n small) ∙ ap (λ k. k * 8) (ldr_field n small)
+-- ARM64's two instructions, which are an `adrp` and an `ldr` of the register 8
 
 abbrev words_lead : ℕ → ℕ → ℕ → Option ℕ
 words_lead address first second =
@@ -87,13 +52,9 @@ words_lead address first second =
     Some (plus_signed 21 4096 (adrp_immediate first) (page address * 4096) + ldr_immediate second)
     else None
 
-words_read : (address first second : ℕ) → first < 2 ^ 32 → second < 2 ^ 32 → load_reads ARM64 address (u32_bytes first ++ (u32_bytes second ++ [])) ≡ words_lead address first second
+words_read : (address adrp ldr : ℕ) → load_reads ARM64 address (u32_bytes adrp ++ (u32_bytes ldr ++ [])) ≡ words_lead address (word_at (u32_bytes adrp) 0) (word_at (u32_bytes ldr) 0)
 unfolding u32_bytes
-words_read address first second low high =
-    let first_is : first % 2 ^ 32 ≡ first = omega arith in
-    let second_is : second % 2 ^ 32 ≡ second = omega arith in
-    ap (λ w. words_lead address w (number_in (u32_bytes second))) (number-u32 first ∙ first_is)
-    ∙ ap (λ w. words_lead address first w) (number-u32 second ∙ second_is)
+words_read address adrp ldr = refl
 
 tests_pass : (first second value : ℕ) → first ≡ 0x9000_0008 → second ≡ 0xF940_0108 → (if (first == 0x9000_0008) && (second == 0xF940_0108) then Some value else None) ≡ Some value
 tests_pass first second value first_is second_is = rw (first_is, second_is) refl
@@ -107,26 +68,6 @@ arm64_code image_base position entry index targets target =
     let code : List ℕ = u32_bytes (with_adrp (page (image_base + entry) + (2 ^ 21 - page (image_base + position) % 2 ^ 21)) 0x9000_0008) ++ (u32_bytes (with_ldr ((image_base + entry) % 4096) 0xF940_0108) ++ []) in
     rw (target, sums.0, sums.1) (refl {a = code})
 
-arm64_leads : (image_base position entry : ℕ) → position + 16 ≤ 2 ^ 31 → entry < 2 ^ 31 → (image_base + entry) % 8 ≡ 0 → (n : ℕ) → n ≡ page (image_base + entry) + (2 ^ 21 - page (image_base + position) % 2 ^ 21) →
-    words_lead (image_base + position) (adrp_word (n / 4 % 2 ^ 19) (n % 4)) (ldr_word ((image_base + entry) % 4096 / 8)) ≡ Some (image_base + entry)
-arm64_leads image_base position entry near small even n is =
-    let target : ℕ = image_base + entry in
-    let high_small : n / 4 % 2 ^ 19 < 2 ^ 19 = omega arith in
-    let low_small : n % 4 < 4 = omega arith in
-    let offset_small : target % 4096 / 8 < 4096 = omega arith in
-    let pages = near_pages image_base position entry near small in
-    let immediate : adrp_immediate (adrp_word (n / 4 % 2 ^ 19) (n % 4)) ≡ (page target + (2 ^ 21 - page (image_base + position) % 2 ^ 21)) % 2 ^ 21 =
-    adrp_read (n / 4 % 2 ^ 19) (n % 4) high_small low_small ∙ halves n ∙ ap (λ m. m % 2 ^ 21) is in
-    let paged : plus_signed 21 4096 (adrp_immediate (adrp_word (n / 4 % 2 ^ 19) (n % 4))) (page (image_base + position) * 4096) ≡ page target * 4096 =
-    ap (λ m. plus_signed 21 4096 m (page (image_base + position) * 4096)) immediate ∙ pages_add (page (image_base + position)) (page target) pages.0 pages.1 in
-    let offset : ldr_immediate (ldr_word (target % 4096 / 8)) ≡ target % 4096 = ldr_read (target % 4096 / 8) offset_small ∙ whole_eights target even in
-    tests_pass (with_adrp 0 (adrp_word (n / 4 % 2 ^ 19) (n % 4))) (with_bits 10 12 0 (ldr_word (target % 4096 / 8)))
-    (plus_signed 21 4096 (adrp_immediate (adrp_word (n / 4 % 2 ^ 19) (n % 4))) (page (image_base + position) * 4096) + ldr_immediate (ldr_word (target % 4096 / 8)))
-    (adrp_cleared (n / 4 % 2 ^ 19) (n % 4) high_small low_small) (ldr_cleared (target % 4096 / 8) offset_small)
-    ∙ ap (λ m. Some (m + ldr_immediate (ldr_word (target % 4096 / 8)))) paged
-    ∙ ap (λ m. Some (page target * 4096 + m)) offset
-    ∙ ap Some (page_and_offset target)
-
 -- by the machine's instructions
 pub load_by : (machine : MachineType) (image_base position entry index : ℕ) (targets : ℕ → ℕ) → CanReach machine image_base entry → position + 16 ≤ 2 ^ 31 → entry < 2 ^ 31 → targets index ≡ entry →
     load_reads machine (image_base + position) (code_relocated_by machine image_base targets position (load_relocations machine index) (load_bytes machine)) ≡ Some (image_base + entry)
@@ -138,17 +79,20 @@ load_by AMD64 image_base position entry index targets can near small target =
     rw target (ap (λ n. Some (plus_signed 32 1 n (image_base + position + 7))) (number-u32 ((0 + entry + (2 ^ 32 - (position + 3 + 4) % 2 ^ 32)) % 2 ^ 32)) ∙ ap Some (load_field image_base position entry near small))
 load_by ARM64 image_base position entry index targets can near small target =
     let n : ℕ = page (image_base + entry) + (2 ^ 21 - page (image_base + position) % 2 ^ 21) in
-    let offset_small : (image_base + entry) % 4096 < 4096 = omega arith in
-    let eighth_small : (image_base + entry) % 4096 / 8 < 4096 = omega arith in
-    let high_small : n / 4 % 2 ^ 19 < 2 ^ 19 = omega arith in
-    let low_small : n % 4 < 4 = omega arith in
-    ap (load_reads ARM64 (image_base + position)) (
-    arm64_code image_base position entry index targets target
-    ∙ ap (λ w. u32_bytes w ++ (u32_bytes (with_ldr ((image_base + entry) % 4096) 0xF940_0108) ++ [])) (adrp_is n (n / 4 % 2 ^ 19) (n % 4) refl refl)
-    ∙ ap (λ w. u32_bytes (adrp_word (n / 4 % 2 ^ 19) (n % 4)) ++ (u32_bytes w ++ [])) (ldr_is ((image_base + entry) % 4096) offset_small))
-    ∙ words_read (image_base + position) (adrp_word (n / 4 % 2 ^ 19) (n % 4)) (ldr_word ((image_base + entry) % 4096 / 8))
-    (adrp_small (n / 4 % 2 ^ 19) (n % 4) high_small low_small) (ldr_small ((image_base + entry) % 4096 / 8) eighth_small)
-    ∙ arm64_leads image_base position entry near small (sum_of_eights image_base entry can.0 can.1) n refl
+    let first : List ℕ = u32_bytes (with_adrp n 0x9000_0008) in
+    let second : List ℕ = u32_bytes (with_ldr ((image_base + entry) % 4096) 0xF940_0108) in
+    let even : (image_base + entry) % 8 ≡ 0 = sum_of_eights image_base entry can.0 can.1 in
+    let adrp : AdrpIs image_base position entry 8 first =
+    subst (AdrpIs image_base position entry 8) (adrp_code image_base position entry index 8 targets (omega arith) target) (adrp_by image_base position entry index 8 targets (omega arith) near small target) in
+    let ldr : LdrIs image_base entry 264 second =
+    subst (LdrIs image_base entry 264) (ldr_code image_base position entry index 264 targets (omega arith) target) (ldr_by image_base position entry index 264 targets (omega arith) even target) in
+    ap (load_reads ARM64 (image_base + position)) (arm64_code image_base position entry index targets target)
+    ∙ words_read (image_base + position) (with_adrp n 0x9000_0008) (with_ldr ((image_base + entry) % 4096) 0xF940_0108)
+    ∙ tests_pass (with_adrp 0 (word_at first 0)) (with_bits 10 12 0 (word_at second 0))
+    (plus_signed 21 4096 (adrp_immediate (word_at first 0)) (page (image_base + position) * 4096) + ldr_immediate (word_at second 0)) adrp.cleared ldr.cleared
+    ∙ ap (λ m. Some (m + ldr_immediate (word_at second 0))) adrp.leads
+    ∙ ap (λ m. Some (page (image_base + entry) * 4096 + m)) ldr.reads
+    ∙ ap Some (page_and_offset (image_base + entry))
 
 pub load_within : (machine : MachineType) (index : ℕ) → AllByRecursion (λ (r : Relocation). r.offset + 4 ≤ length (load_bytes machine)) (load_relocations machine index)
 load_within I386 index = (omega arith, tt)

@@ -56,7 +56,7 @@ unfolding Among
 not_none address x [] m none = absurd m
 not_none address x (y ∷ xs) m none = false≢true none
 
-once_by : (linked : List Placed) (codes : List PlacedCode) → list_all (λ (c : PlacedCode). list_all (own_once codes c) c.from.object.entries) codes ≡ true →
+pub once_by : (linked : List Placed) (codes : List PlacedCode) → list_all (λ (c : PlacedCode). list_all (own_once codes c) c.from.object.entries) codes ≡ true →
     list_all (λ (c : PlacedCode). list_all (in_no_table linked codes c) c.from.object.entries) codes ≡ true → DefineOnce linked codes
 once_by linked codes one two = record {
   once = λ c d s t c_held d_held c_defines d_defines named.

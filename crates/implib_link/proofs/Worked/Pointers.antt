@@ -125,7 +125,7 @@ i386_beside = record {
   resolved = resolves_by_tables (loading_placed I386 touching_4) (loading_at I386 ∷ []) refl;
 }
 
-i386_has : HasLoad I386 (loading_at I386) 4 (imp_symbol (symbol_on I386 (codes "stat")))
+pub i386_has : HasLoad I386 (loading_at I386) 4 (imp_symbol (symbol_on I386 (codes "stat")))
 i386_has = record {
   front = first_bytes I386;
   back = last_bytes I386;
@@ -184,7 +184,7 @@ arm64_beside = record {
   resolved = resolves_by_tables (loading_placed ARM64 touching_8) (loading_at ARM64 ∷ []) refl;
 }
 
-arm64_has : HasLoad ARM64 (loading_at ARM64) 4 (imp_symbol (symbol_on ARM64 (codes "stat")))
+pub arm64_has : HasLoad ARM64 (loading_at ARM64) 4 (imp_symbol (symbol_on ARM64 (codes "stat")))
 arm64_has = record {
   front = first_bytes ARM64;
   back = last_bytes ARM64;

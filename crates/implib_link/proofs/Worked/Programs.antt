@@ -25,7 +25,7 @@ unfolding digits u16_bytes u32_bytes export_object five_digits head_name head_ob
 opened = tt
 
 -- whether texts are distinct
-abbrev all_differ : List (List ℕ) → Bool
+abbrev pub all_differ : List (List ℕ) → Bool
 all_differ [] = true
 all_differ (name ∷ names) = list_all (λ other. not (bytes_eq name other)) names && all_differ names
 

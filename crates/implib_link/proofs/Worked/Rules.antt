@@ -59,7 +59,7 @@ same_bytes memory (x ∷ xs) [] a first second long = absurd (omega arith)
 same_bytes memory (x ∷ xs) (y ∷ ys) a first second long =
     rw (value x y (sym first.0 ∙ second.0), same_bytes memory xs ys (a + 1) first.1 second.1 (omega arith)) refl
 
-entry_is : (base entry place : ℕ) → Some (base + place) ≡ Some (base + entry) → entry ≡ place
+pub entry_is : (base entry place : ℕ) → Some (base + place) ≡ Some (base + entry) → entry ≡ place
 entry_is base entry place is = let same : base + place ≡ base + entry = value (base + place) (base + entry) is in omega arith
 
 elsewhere : (memory : List Range) (entry : ℕ) → entry ≡ 0x80 → BytesAt memory 0x80 other_address → BytesAt memory entry open_address → ⊥

@@ -1,0 +1,49 @@
+-- Near misses of searches in bytes, and what a search says of the bytes. A record `NearX` has those of the record `X`, each
+-- by the name of the field that refuses it.
+use Rattle.std.specs.Prelude.{◌≡◌, ℕ, List, [], ◌∷◌, ◌++◌, codes, drop, map, option_and_then, take, Some}
+use Rattle.implib.specs.Members.MemberSpec.{MemberView}
+use Rattle.implib_archive.specs.Archive.{archive_of}
+use Rattle.implib_archive.specs.ReadBack.{read_view}
+use Rattle.implib_archive.specs.Reader.{member_at}
+use Rattle.implib_archive.specs.Worked.{read, worked_coff, worked_gnu, worked_members}
+use Rattle.implib_archive.specs.declared.kind.Kind.TheVariants.{Gnu}
+use Rattle.implib_archive_link.specs.InBytes.{First, PullsInAt, Second, TakesAt, asks_for, header_by}
+use Rattle.implib_archive_link.specs.Results.{HaveArchive, IsHeaderOf}
+use Rattle.implib_link.specs.Search.Search.{Takes}
+use Rattle.implib_link.specs.Worked.Search.{members_of, three, wanted}
+
+-- the archive of the COFF kind whose second linker member leads `f` to the second member
+abbrev pub two_indexes : List ℕ
+two_indexes = take 174 worked_coff ++ 2 ∷ drop 175 worked_coff
+
+-- Each linker member is read by itself: in these bytes `f` leads to the first member by the one, and to the second by
+-- the other.
+pub record WorkedIndexes : Type 0 where
+  pub first : header_by First two_indexes (codes "f") ≡ Some 270
+  pub second : header_by Second two_indexes (codes "f") ≡ Some 334
+
+-- a name that nothing wants; the header of the second member that `f` is listed for; and the one that is taken
+pub record NearPullsInAt : Type 0 where
+  pub asked : PullsInAt Gnu First worked_gnu (asks_for []) [] (codes "f") 182 → ⊥
+  pub found : PullsInAt Gnu First worked_gnu (asks_for (codes "f" ∷ [])) [] (codes "f") 246 → ⊥
+  pub new : PullsInAt Gnu First worked_gnu (asks_for (codes "f" ∷ [])) (182 ∷ []) (codes "f") 182 → ⊥
+
+-- the second header and the first member
+pub record NearIsHeaderOf : Type 0 where
+  pub header_is_and_member_is : IsHeaderOf (182 ∷ 246 ∷ []) worked_members 246
+      (record { name = codes "a.o"; bytes = 1 ∷ 2 ∷ 3 ∷ []; symbols = codes "f" ∷ codes "__imp_f" ∷ [] }) → ⊥
+
+-- What is taken is read: in the archive of three exports' members, after the headers that a search takes, a reader finds
+-- the members that it takes of the list; and a name leads to what a reader finds as the first member that it is listed
+-- for, in the archive of two.
+pub record WorkedReads : Type 0 where
+  pub taken : (taken : List ℕ) → TakesAt Gnu First (archive_of Gnu (members_of three)) (asks_for wanted) taken →
+      (found : List MemberView) × (Takes (members_of three) wanted found
+      × (map (member_at Gnu (archive_of Gnu (members_of three))) taken ≡ map (λ m. Some (read_view m)) found))
+  pub led : option_and_then (member_at Gnu worked_gnu) (header_by First worked_gnu (codes "g"))
+      ≡ Some (read (codes "long_member_name.o") (4 ∷ 5 ∷ []))
+
+-- members of which one has no name, and GNU's kind, which has no second linker member
+pub record NearHaveArchive : Type 0 where
+  pub accepted : HaveArchive Gnu First (record { name = []; bytes = []; symbols = [] } ∷ []) → ⊥
+  pub has : HaveArchive Gnu Second worked_members → ⊥

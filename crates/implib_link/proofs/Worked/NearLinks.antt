@@ -1,0 +1,211 @@
+-- Near misses of searches, of code beside the tables and of moved programs, by computing.
+use Rattle.std.proofs.Common.{◌≡◌, ℕ, ◌+◌, ◌<◌, ◌≤◌, ◌^◌, List, [], ◌∷◌, ◌++◌, codes, length, Some, None, refl, ap, sym, ◌∙◌, subst, arith}
+use Rattle.std.proofs.lemmas.Bool.{true≢false}
+use Rattle.implib.specs.declared.machine.MachineType.TheVariants.{I386, AMD64}
+use Rattle.implib.specs.Formats.Bytes.{u32_bytes}
+use Rattle.implib.specs.Formats.Constants.{class_external, i386_dir32}
+use Rattle.implib.specs.Formats.Object.{ASymbol, ObjectSymbol}
+use Rattle.implib.specs.Import.{imp_symbol}
+use Rattle.implib.specs.Link.Load.{BytesAt}
+use Rattle.implib.specs.Link.Placement.{Placed}
+use Rattle.implib.specs.Link.Resolution.{definitions_of, is_undefined_external}
+use Rattle.implib.proofs.Link.Loading.{number_once}
+use Rattle.implib_link.specs.Flavors.LldTables.{directory_built}
+use Rattle.implib_link.specs.Search.MsvcClosed.{AreTakenIntoFor}
+use Rattle.implib_link.specs.Search.Closed.{AreTakenInto}
+use Rattle.implib_link.specs.Search.Search.{IsTakenInTurn}
+use Rattle.implib_link.specs.Worked.Calls.{calling_at}
+use Rattle.implib_link.specs.Worked.Lld.{two_dlls}
+use Rattle.implib_link.specs.Worked.Loads.{written_8}
+use Rattle.implib_link.specs.Worked.NearLinks.{NearAreBeside, NearAreGiven, NearAreGivenForMsvc, NearAreLinkedBeside, NearAreMoved, NearArePiecesAt, NearAreSections, NearCallReaches, NearCanBeRebased, NearDefinesIn, NearFindsBy, NearHasBranch, NearHasField, NearHasOperand, NearIsAtBase, NearIsClosedForMsvc, NearJumpsThrough, NearNames, NearResolves, NearTakes, NearTakesInto, NearTakesIntoFor, NearTakesSymbols}
+use Rattle.implib_link.specs.Worked.NearSearches.{again, listing}
+use Rattle.implib_link.specs.Worked.Operands.{field, imp_open, passing_at}
+use Rattle.implib_link.specs.Worked.Programs.{program_image, program_placed, symbol_of_class, symbol_on, touching_8}
+use Rattle.implib_link.specs.Worked.Rules.{early_caller}
+use Rattle.implib_link.specs.Worked.Walks.{without_addresses, without_name}
+use Rattle.implib_link.proofs.Gnu.Stubs.{same_address}
+use Rattle.implib_link.proofs.Worked.Lld.{lld_opened}
+use Rattle.implib_link.proofs.Worked.NearCode.{entry_named}
+use Rattle.implib_link.proofs.Worked.NearMisses.{none_passes}
+use Rattle.implib_link.proofs.Worked.NearPrograms.{no_eights, no_name, nothing_there}
+use Rattle.implib_link.proofs.Worked.NearSearches.{none_in, searched, twice}
+use Rattle.implib_link.proofs.Worked.NearTables.{queue_at}
+use Rattle.implib_link.proofs.Worked.RefusedFields.{value}
+use Rattle.implib_link.proofs.Worked.RefusedLinks.{differ, zero_4}
+use Rattle.implib_link.proofs.Worked.Rules.{symbol_rules}
+
+pub near_takes : NearTakes
+unfolding searched IsTakenInTurn
+near_takes = record {
+  in_turn = λ x. none_in x.in_turn.0.0 x.in_turn.0.1.named;
+  ended = λ x. x.ended (codes "queue") listing (record { named = (0, omega arith, refl); undefined = refl; listed = refl; new = λ held. none_in listing held });
+}
+
+pub near_takes_into : NearTakesInto
+unfolding searched AreTakenInto
+near_takes_into = record { in_turn = λ x. none_in x.in_turn.0.0 x.in_turn.0.1.named }
+
+pub near_takes_into_for : NearTakesIntoFor
+unfolding searched AreTakenIntoFor
+near_takes_into_for = record { in_turn = λ x. none_in x.in_turn.0.0 x.in_turn.0.1.named }
+
+pub near_are_given : NearAreGiven
+unfolding searched
+near_are_given = record { names = λ x. true≢false x.names.0.head }
+
+pub near_are_given_for_msvc : NearAreGivenForMsvc
+unfolding searched
+near_are_given_for_msvc = record { names = λ x. true≢false x.names.0.null_descriptor }
+
+pub near_is_closed_for_msvc : NearIsClosedForMsvc
+near_is_closed_for_msvc = record { lookups = λ x. no_eights 0x2044 x.lookups refl; addresses = λ x. no_eights 0x2044 x.addresses refl }
+
+-- Stubs.
+
+abbrev linked : List Placed
+linked = program_placed AMD64 touching_8
+
+queue_two : length (definitions_of (codes "queue") (again ∷ linked)) ≡ 2
+unfolding searched
+queue_two = refl
+
+pub near_jumps_through : NearJumpsThrough
+near_jumps_through = record { once = λ x. twice (codes "queue") (again ∷ linked) queue_two x.once }
+
+no_hello : definitions_of (codes "__imp_hello") linked ≡ []
+unfolding searched
+no_hello = refl
+
+queue_entry : (entry : ℕ) → definitions_of (codes "__imp_queue") linked ≡ record { name = codes "__imp_queue"; address = Some entry } ∷ [] → entry ≡ 160
+queue_entry entry once = same_address (codes "__imp_queue") entry 160 (definitions_of (codes "__imp_queue") linked) once queue_at
+
+queue_bytes : BytesAt (written_8 AMD64 ++ program_image AMD64 touching_8) 160 (0x72 ∷ 0x7A ∷ []) → ⊥
+unfolding searched BytesAt
+queue_bytes located = let is : Some 0x71 ≡ Some 0x72 = located.0 in differ 0x71 0x72 (value 0x71 0x72 is) (omega arith)
+
+pub near_call_reaches : NearCallReaches
+near_call_reaches = record {
+  once = λ x. let none : [] ≡ record { name = codes "__imp_hello"; address = Some x.entry } ∷ [] = sym no_hello ∙ x.once in cc;
+  located = λ x. queue_bytes (subst (λ a. BytesAt (written_8 AMD64 ++ program_image AMD64 touching_8) a (0x72 ∷ 0x7A ∷ [])) (queue_entry x.entry x.once) x.located);
+}
+
+-- Code beside the tables.
+
+no_section : (n : ℕ) → None ≡ Some n → ⊥
+no_section n is = cc
+
+too_high : (n : ℕ) → n ≡ 0x7FFF_FFE2 + 15 + 16 → n ≤ 2 ^ 31 → ⊥
+too_high n is below = omega arith
+
+far_too_high : (n : ℕ) → n ≡ 0x7FFF_FFF0 + 60 + 16 → n ≤ 2 ^ 31 → ⊥
+far_too_high n is below = omega arith
+
+too_far : (n : ℕ) → n ≡ 7 → n ≤ 6 → ⊥
+too_far n is below = omega arith
+
+pub near_are_beside : NearAreBeside
+near_are_beside = record {
+  held = λ x. none_in _ x.held.0;
+  sections = λ x. let none : None ≡ Some (calling_at AMD64 0x1000).code = x.sections.0 in cc;
+}
+
+pub near_are_sections : NearAreSections
+near_are_sections = record {
+  held = λ x. none_in _ x.held.0;
+  sections = λ x. let none : None ≡ Some (calling_at AMD64 0x1000).code = x.sections.0 in cc;
+  ends = λ x. too_high (0x7FFF_FFE2 + 15 + 16) refl x.ends.0;
+  fields = λ x. too_far 7 refl x.fields.0.0;
+}
+
+pub near_are_linked_beside : NearAreLinkedBeside
+near_are_linked_beside = record {
+  held = λ x. none_in _ x.held.0;
+  sections = λ x. let none : None ≡ Some (passing_at AMD64).code = x.sections.0 in cc;
+  ends = λ x. far_too_high (0x7FFF_FFF0 + 60 + 16) refl x.ends.0;
+  apart = λ x. x.apart.0.0 0x1000 refl refl;
+}
+
+pub near_resolves : NearResolves
+unfolding searched
+near_resolves = record {
+  code = λ x. differ 0x1010 0x1018 (symbol_rules.placed (λ c index. 0x1010) x) (omega arith);
+  tables = λ x. differ 0x80 0x88 (sym (x.tables (calling_at AMD64 0x1000) 1 0x80 (ASymbol (symbol_of_class (imp_symbol (symbol_on AMD64 (codes "open"))) 0 class_external)) (0, omega arith, refl) refl refl)) (omega arith);
+}
+
+pub near_takes_symbols : NearTakesSymbols
+unfolding searched
+near_takes_symbols = record {
+  code = λ x. differ 0x1010 0x1018 (symbol_rules.linked (λ c index. 0x1010) x) (omega arith);
+  tables = λ x. differ 0x80 0x88 (sym (x.tables (passing_at AMD64) 1 0x80 (ASymbol (symbol_of_class (imp_open AMD64) 0 class_external)) (0, omega arith, refl) refl refl)) (omega arith);
+}
+
+pub near_defines_in : NearDefinesIn
+near_defines_in = record {
+  held = λ x. none_passes (entry_named (codes "f")) (ASymbol (symbol_of_class (codes "f") 1 class_external)) early_caller.from.object.entries refl x.held refl;
+  external = λ x. true≢false (sym x.external);
+  here = λ x. differ 1 2 x.here (omega arith);
+}
+
+-- the object's only symbol
+only_symbol : (s t : ObjectSymbol) → Some (ASymbol s) ≡ Some (ASymbol t) → s ≡ t
+only_symbol s t is = cc
+
+pub near_names : NearNames
+near_names = record {
+  target = λ x. let none : None ≡ Some (ASymbol x.symbol) = x.target in cc;
+  undefined = λ x.
+      let same : record (symbol_of_class (codes "open") 1 class_external) { value = 8 } ≡ x.symbol = only_symbol _ x.symbol x.target in
+      true≢false (sym x.undefined ∙ ap is_undefined_external (sym same));
+  named = λ x.
+      let same : symbol_of_class (codes "open") 0 class_external ≡ x.symbol = only_symbol _ x.symbol x.target in
+      let is : codes "open" ≡ codes "opened" = ap (λ (s : ObjectSymbol). s.name) same ∙ x.named in
+      differ 4 6 (ap length is) (omega arith);
+}
+
+past_60 : (n : ℕ) → n ≡ 61 → n ≤ 60 → ⊥
+past_60 n is below = omega arith
+
+pub near_has_field : NearHasField
+near_has_field = record { inside = λ x. past_60 61 refl x.inside }
+
+pub near_has_operand : NearHasOperand
+near_has_operand = record { within = λ x. past_60 61 refl x.within }
+
+pub near_has_branch : NearHasBranch
+near_has_branch = record { within = λ x. past_60 61 refl x.within }
+
+directory_long : 0 < length (directory_built AMD64 0x2040 0x209E 0x2068 two_dlls)
+unfolding lld_opened
+directory_long = omega arith
+
+pub near_are_pieces_at : NearArePiecesAt
+near_are_pieces_at = record {
+  directory_and_lookup_tables_and_address_tables_and_hint_names_and_dll_names = λ x.
+      nothing_there (directory_built AMD64 0x2040 0x209E 0x2068 two_dlls) 0x2000 directory_long x.directory;
+}
+
+pub near_finds_by : NearFindsBy
+unfolding u32_bytes
+near_finds_by = record {
+  has_name = λ x. no_name x.name x.has_name (number_once without_name 4 0x100C x.name 0 x.name_field (zero_4 without_name 0x100C refl));
+  has_addresses = λ x. no_name x.addresses x.has_addresses (number_once without_addresses 4 0x1010 x.addresses 0 x.addresses_field (zero_4 without_addresses 0x1010 refl));
+}
+
+-- Moves.
+
+past_code : (n : ℕ) → n ≡ 0x1000 + 38 + 4 → n ≤ 0x1000 + 41 → ⊥
+past_code n is below = omega arith
+
+pub near_can_be_rebased : NearCanBeRebased
+near_can_be_rebased = record { within = λ x. past_code (0x1000 + 38 + 4) refl x.within.0.0 }
+
+pub near_is_at_base : NearIsAtBase
+near_is_at_base = record { within = λ objects targets memory x. past_code (0x1000 + 38 + 4) refl x.within.0.0 }
+
+pub near_are_moved : NearAreMoved
+unfolding searched
+near_are_moved = record {
+  within = λ targets memory x. past_code (0x1000 + 38 + 4) refl x.within.0.0;
+  needed = λ memory x. none_in _ (x.needed (passing_at I386) (field 11 1 i386_dir32) 4 0x60 (ASymbol (symbol_of_class (imp_open I386) 0 class_external)) (0, omega arith, refl) (1, omega arith, refl) refl refl refl);
+  only = λ memory x. true≢false (sym (x.only 0x1000 0x48 refl refl));
+}
