@@ -3,6 +3,8 @@ use Rattle.std.proofs.Common.{refl}
 use Rattle.implib_check.specs.Worked.{WorkedComparisons, WorkedIdentities, WorkedStatuses, WorkedTasks}
 use Rattle.implib_rules.specs.Names.{part_after_last}
 use Rattle.implib_check.specs.WorkedChecks.{WorkedChecks, WorkedTargets}
+use Rattle.implib_check.specs.WorkedDefinitions.{WorkedDefines, WorkedDefinitions}
+use Rattle.std.specs.Fmt.{digits}
 
 pub worked_comparisons : WorkedComparisons
 worked_comparisons = record {
@@ -115,4 +117,45 @@ worked_targets = record {
   no_import = refl;
   told = refl;
   named = refl;
+}
+
+pub worked_definitions : WorkedDefinitions
+unfolding digits
+worked_definitions = record {
+  zoo_text = refl;
+  kinds = refl;
+  gnu = refl;
+  data_alias = refl;
+  both_aliases = refl;
+  keyword = refl;
+  at_number = refl;
+  fastcall = refl;
+  space = refl;
+  semicolon = refl;
+  equals = refl;
+  empty = refl;
+  capitals = refl;
+  mixed = refl;
+  stdcall = refl;
+  underscores = refl;
+  fastcall_word = refl;
+  vectorcall_word = refl;
+  kept = refl;
+  bare = refl;
+  written = refl;
+  amd64 = refl;
+}
+
+pub worked_defines : WorkedDefines
+unfolding part_after_last
+worked_defines = record {
+  plain = refl;
+  full = refl;
+  no_library = refl;
+  two_files = refl;
+  no_value = refl;
+  killed = refl;
+  named = refl;
+  last = refl;
+  told = refl;
 }

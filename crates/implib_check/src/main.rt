@@ -9,7 +9,9 @@
 
 pub mod call;
 pub mod compare;
+pub mod defining;
 pub mod definition;
+pub mod definition_text;
 mod differences;
 pub mod identity;
 pub mod keys;

@@ -1,17 +1,20 @@
 //! The program: its arguments, its files, what it writes, and its exit status.
 
 ghost use Rattle.std.specs.Prelude.{◌≡◌};
-ghost use Rattle.implib_check.specs.Status.{refusal_status};
+ghost use Rattle.implib_check.specs.Status.{refusal_status, undefined_status};
 
-use crate::call::Check;
+use crate::call::{Check, Define};
 use crate::compare::{compare, has_unread};
+use crate::defining::{Undefined, definition_of};
 use crate::definition::{CheckError, check_definition};
 use crate::differences::{BUFFER, Failure, Lines, flushed, tell_both};
 use crate::identity::dlls_of;
-use crate::status::{identity_status, list_status, refusal_status, verdict_status};
-use crate::target::options_for;
+use crate::status::{
+    identity_status, list_status, refusal_status, undefined_status, verdict_status,
+};
+use crate::target::{options_for, options_of};
 use crate::task::{Task, task_named};
-use crate::text::{Listed, Place, Shown, Source, doubt_of};
+use crate::text::{Listed, Place, Shown, Source, doubt_of, fault_of};
 use implib_read::{Library, MemberRead};
 use implib_rules::library::Refusal;
 use implib_rules::{ShownPlace, position_of};
@@ -29,6 +32,8 @@ const NAME: &str = "implib_check";
 const HELP: &str = "\
 usage: implib_check LIB DEF [-m MACHINE] [-k] [--no-leading-underscore]
                     [-D DLL] [--flavor FLAVOR]
+       implib_check --def LIB [-m MACHINE] [--no-leading-underscore]
+                    [--flavor FLAVOR]
        implib_check --list LIB
        implib_check --identify LIB
        implib_check --identify-strict LIB
@@ -44,6 +49,8 @@ one of the definition; the differences.
                      no underscore before symbols, on i386
   -D, --dllname      the DLL's name, before the definition's
   --flavor           msvc or gnu; without it the library's
+  --def              a definition that means the library's imports and aliases,
+                     or which member no definition says
   --list             a line for each import and alias: offset, DLL, symbol,
                      type, what is asked by, name, ordinal or hint
   --identify         the DLLs that the library imports from
@@ -53,8 +60,9 @@ one of the definition; the differences.
   -h, --help
   -V, --version
 
-Status: 0 done, the same; 1 different, a refused definition, or no DLL; 2 wrong
-call; 3 a file or memory failed; 4 a member that may matter was not understood.
+Status: 0 done, the same; 1 different, a refused definition, no DLL, or no
+definition; 2 wrong call; 3 a file or memory failed; 4 a member that may matter
+was not understood.
 ";
 
 // What the program prints for `--version`.
@@ -294,6 +302,96 @@ fn run_check<R: Files + AllocGlobal, O: Write, E: Write>(
     }
 }
 
+// What the differences of a library call the definition that is tried.
+const TRIED: &str = "the definition";
+
+// Says why a library has no definition, and gives the exit status.
+fn say_undefined<E: Write>(
+    faults: &mut E,
+    path: &str,
+    members: &[MemberRead],
+    why: &Undefined,
+) -> u8
+    ensures { result ≡ undefined_status why.now }
+{
+    let status = undefined_status(why);
+    match why {
+        Undefined::Unread => status,
+        Undefined::Different => complain(faults, path, "no definition says this", status),
+        Undefined::Failed(Failure::Writing) => {
+            complain(faults, NAME, "standard error failed", status)
+        }
+        Undefined::Failed(Failure::OutOfMemory) => {
+            complain(faults, NAME, "out of memory", status)
+        }
+        Undefined::Refused(refusal) => {
+            let mut lines = Lines { writer: faults };
+            let mut is_named = false;
+            for member in members {
+                if let Some(what) = fault_of(&member.class) {
+                    let _ = writeln!(lines, "{}: {what}", Place(Source::Library(path), member));
+                    is_named = true;
+                }
+            }
+            if !is_named {
+                let _ = writeln!(lines, "{path}: no definition says this: {refusal}");
+            }
+            status
+        }
+    }
+}
+
+// Says of which DLLs a library is that has more than one, and gives the exit status.
+fn say_dlls<E: Write>(faults: &mut E, path: &str, names: &IndexSet<&[u8]>) -> u8 {
+    let mut lines = Lines { writer: faults };
+    for name in names.iter() {
+        let _ = writeln!(
+            lines,
+            "{path}: imports from {}; a definition is of one DLL",
+            Shown(name)
+        );
+    }
+    1
+}
+
+// Writes the definition of a library, and gives the exit status.
+fn run_define<R: Files + AllocGlobal, O: Write, E: Write>(
+    rt: &R,
+    printer: &mut O,
+    faults: &mut E,
+    define: &Define,
+) -> u8 {
+    let path = define.library;
+    let bytes = match bytes_of(rt, faults, path) {
+        Ok(bytes) => bytes,
+        Err(status) => return status,
+    };
+    let library = match library_of(rt.alloc(), faults, path, &bytes) {
+        Ok(library) => library,
+        Err(status) => return status,
+    };
+    let members = library.members.as_slice();
+    let options = options_of(define, members);
+    doubt(faults, path, members, true);
+    let names = match dlls_of(rt.alloc(), members) {
+        Ok(names) => names,
+        Err(_) => return complain(faults, NAME, "out of memory", 3),
+    };
+    if names.is_empty() {
+        return complain(faults, path, "imports from no DLL", 1);
+    }
+    if names.len() > 1 {
+        return say_dlls(faults, path, &names);
+    }
+    match definition_of(rt.alloc(), faults, (path, TRIED), members, &options) {
+        Ok(text) => match printer.write_all(&text) {
+            Ok(()) => 0,
+            Err(error) => complain(faults, NAME, error, 3),
+        },
+        Err(why) => say_undefined(faults, path, members, &why),
+    }
+}
+
 // Does what the words after the program's name ask for, and gives the exit status.
 fn run<R: Files + AllocGlobal, O: Write, E: Write>(
     rt: &R,
@@ -308,12 +406,13 @@ fn run<R: Files + AllocGlobal, O: Write, E: Write>(
         Some(Task::Identify(path, is_strict)) => run_identify(rt, printer, faults, path, is_strict),
         Some(Task::Same(left, right)) => run_same(rt, printer, faults, (left, right)),
         Some(Task::Check(check)) => run_check(rt, printer, faults, &check),
+        Some(Task::Define(define)) => run_define(rt, printer, faults, &define),
         None => complain(faults, NAME, "wrong call; --help says how to call it", 2),
     }
 }
 
 /// Runs the program with the command line of the process, and gives the exit status: 0 where it is done or the
-/// libraries are the same, 1 where they differ, a definition is refused or there is no DLL, 2 where the call is wrong,
+/// libraries are the same, 1 where they differ, a definition is refused or there is no DLL or no definition, 2 where the call is wrong,
 /// 3 where a file or an allocation failed, and 4 where a member that may matter was not understood.
 pub fn perform<R: Files + Env + AllocGlobal, O: Write, E: Write>(
     rt: &R,
