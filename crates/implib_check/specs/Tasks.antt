@@ -13,6 +13,8 @@ pub data TaskView : Type 0 where
   Lists : List ℕ → TaskView
   -- the DLLs of a library; whether there is to be one alone
   Identifies : List ℕ → Bool → TaskView
+  -- whether a library works
+  WorksOf : List ℕ → TaskView
   -- whether two libraries mean the same
   Compares : List ℕ → List ℕ → TaskView
   -- whether a library means what a definition means
@@ -26,6 +28,7 @@ task_view task.Help = Help
 task_view task.Version = Version
 task_view (task.List path) = Lists path.now
 task_view (task.Identify path is_strict) = Identifies path.now is_strict
+task_view (task.Works path) = WorksOf path.now
 task_view (task.Same left right) = Compares left.now right.now
 task_view (task.Check check) = Checks (check_view check)
 task_view (task.Define define) = Defines (define_view define)
@@ -43,6 +46,7 @@ with_library option path =
     if bytes_eq option (codes "--list") then Some (Lists path)
     else if bytes_eq option (codes "--identify") then Some (Identifies path false)
     else if bytes_eq option (codes "--identify-strict") then Some (Identifies path true)
+    else if bytes_eq option (codes "--works") then Some (WorksOf path)
     else None
 
 -- the task of a word and two libraries

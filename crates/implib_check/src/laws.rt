@@ -5,6 +5,7 @@ ghost use Rattle.implib_check.specs.OwnLibraries.{MeantIsDefined, OwnLibrariesAr
 ghost use Rattle.implib_check.specs.Worked.{WorkedComparisons, WorkedIdentities, WorkedStatuses, WorkedTasks};
 ghost use Rattle.implib_check.specs.WorkedChecks.{WorkedChecks, WorkedTargets};
 ghost use Rattle.implib_check.specs.WorkedDefinitions.{WorkedDefines, WorkedDefinitions};
+ghost use Rattle.implib_check.specs.WorkedWorking.{WorkedWorking};
 
 use implib_read::laws::{own_gnu_libraries, own_members_found, same_objects, same_short_imports};
 
@@ -77,4 +78,9 @@ pub fn worked_definitions()
 /// What calls ask for a definition, and some that do not.
 pub fn worked_defines()
     ensures { WorkedDefines }
+{}
+
+/// Where indexes mislead, and which libraries work, worked by hand.
+pub fn worked_working()
+    ensures { WorkedWorking }
 {}

@@ -12,10 +12,15 @@ use crate::identity::dlls_of;
 use crate::status::{
     identity_status, list_status, refusal_status, undefined_status, verdict_status,
 };
-use crate::target::{options_for, options_of};
+use crate::target::{flavor_of, options_for, options_of};
 use crate::task::{Task, task_named};
 use crate::text::{Listed, Place, Shown, Source, doubt_of, fault_of};
-use implib_read::{Library, MemberRead};
+use crate::working::{
+    Piece, Working, first_misleads, has_one, has_whole_tables, linker_member, second_misleads,
+    working_status, works_of,
+};
+use implib::Flavor;
+use implib_read::{IndexEntry, Library, MemberRead};
 use implib_rules::library::Refusal;
 use implib_rules::{ShownPlace, position_of};
 use indexmap::IndexSet;
@@ -38,6 +43,7 @@ usage: implib_check LIB DEF [-m MACHINE] [-k] [--no-leading-underscore]
        implib_check --identify LIB
        implib_check --identify-strict LIB
        implib_check --same LIB LIB
+       implib_check --works LIB
 
 Reads import libraries of any maker. With a library and a module definition:
 whether the library has the imports and aliases that implib_dlltool would give
@@ -57,11 +63,13 @@ one of the definition; the differences.
   --identify-strict  the DLL; an error where there are several
   --same             whether two libraries have the same imports and aliases;
                      the differences
+  --works            whether the indexes lead to what they name, and the parts
+                     of the import tables are there once each
   -h, --help
   -V, --version
 
-Status: 0 done, the same; 1 different, a refused definition, no DLL, or no
-definition; 2 wrong call; 3 a file or memory failed; 4 a member that may matter
+Status: 0 done, the same; 1 different, a refused definition, no DLL, no
+definition, or broken; 2 wrong call; 3 a file or memory failed; 4 a member that may matter
 was not understood.
 ";
 
@@ -392,6 +400,146 @@ fn run_define<R: Files + AllocGlobal, O: Write, E: Write>(
     }
 }
 
+// Writes the entries of an index that mislead, and whether the index does.
+fn tell_index<O: Write>(
+    lines: &mut Lines<O>,
+    path: &str,
+    name: &str,
+    found: &Option<Vec<IndexEntry>>,
+) -> Result<bool, Failure> {
+    let Some(entries) = found else {
+        writeln!(lines, "{path}: {name} cannot be read")?;
+        return Ok(true);
+    };
+    for entry in entries {
+        let place = entry.place;
+        writeln!(
+            lines,
+            "{path}: {name} leads {} to 0x{place:x}, not to the first member that declares it",
+            Shown(entry.symbol)
+        )?;
+    }
+    Ok(!entries.is_empty())
+}
+
+// Writes what is wrong with the indexes of a library, and whether something is.
+fn tell_indexes<O: Write>(
+    alloc: Global,
+    printer: &mut O,
+    path: &str,
+    library: &Library,
+) -> Result<bool, Failure> {
+    let parts = library.archive.parts.as_slice();
+    let members = library.archive.members.as_slice();
+    let mut lines = Lines { writer: printer };
+    let Some(contents) = linker_member(0, parts) else {
+        writeln!(lines, "{path}: no index")?;
+        return Ok(true);
+    };
+    let found = first_misleads(alloc, members, contents)?;
+    let first = tell_index(&mut lines, path, "the index", &found)?;
+    let Some(contents) = linker_member(1, parts) else {
+        return Ok(first);
+    };
+    let found = second_misleads(alloc, members, contents)?;
+    let second = tell_index(&mut lines, path, "the second index", &found)?;
+    Ok(first || second)
+}
+
+// Writes that a part of import tables is not there once, if it is not.
+fn tell_piece<O: Write>(
+    lines: &mut Lines<O>,
+    path: &str,
+    members: &[MemberRead],
+    piece: Piece,
+    name: &str,
+) -> Result<(), Failure> {
+    if !has_one(piece, members) {
+        writeln!(lines, "{path}: no {name}, or two or more")?;
+    }
+    Ok(())
+}
+
+// Writes which parts of import tables are not there once.
+fn tell_tables<O: Write>(
+    printer: &mut O,
+    path: &str,
+    flavor: Flavor,
+    members: &[MemberRead],
+) -> Result<(), Failure> {
+    let mut lines = Lines { writer: printer };
+    match flavor {
+        Flavor::Msvc => {
+            tell_piece(
+                &mut lines,
+                path,
+                members,
+                Piece::OfDescriptor,
+                "import descriptor",
+            )?;
+            tell_piece(
+                &mut lines,
+                path,
+                members,
+                Piece::OfNullDescriptor,
+                "null descriptor",
+            )?;
+            tell_piece(&mut lines, path, members, Piece::OfNullThunk, "null thunk")
+        }
+        Flavor::Gnu => {
+            tell_piece(&mut lines, path, members, Piece::OfHead, "head")?;
+            tell_piece(&mut lines, path, members, Piece::OfTail, "tail")
+        }
+    }
+}
+
+// Writes why a library does not work, if it does not.
+fn tell_working<O: Write>(
+    alloc: Global,
+    printer: &mut O,
+    path: &str,
+    library: &Library,
+) -> Result<Working, Failure> {
+    let members = library.members.as_slice();
+    let flavor = flavor_of(members);
+    let misleads = tell_indexes(alloc, printer, path, library)?;
+    let dlls = dlls_of(alloc, members)?;
+    let whole = has_whole_tables(flavor, members);
+    if dlls.len() == 1 && !whole {
+        tell_tables(printer, path, flavor, members)?;
+    }
+    if dlls.len() > 1 {
+        let mut lines = Lines { writer: printer };
+        writeln!(
+            lines,
+            "{path}: imports from two or more DLLs, whose tables are not told apart"
+        )?;
+    }
+    Ok(works_of(misleads, has_unread(members), dlls.len(), whole))
+}
+
+// Says whether a library works, and gives the exit status.
+fn run_works<R: Files + AllocGlobal, O: Write, E: Write>(
+    rt: &R,
+    printer: &mut O,
+    faults: &mut E,
+    path: &str,
+) -> u8 {
+    let bytes = match bytes_of(rt, faults, path) {
+        Ok(bytes) => bytes,
+        Err(status) => return status,
+    };
+    let library = match library_of(rt.alloc(), faults, path, &bytes) {
+        Ok(library) => library,
+        Err(status) => return status,
+    };
+    doubt(faults, path, &library.members, false);
+    match tell_working(rt.alloc(), printer, path, &library) {
+        Ok(working) => working_status(working),
+        Err(failure) => status_of(faults, Err(failure), 3),
+    }
+}
+
 // Does what the words after the program's name ask for, and gives the exit status.
 fn run<R: Files + AllocGlobal, O: Write, E: Write>(
     rt: &R,
@@ -404,6 +552,7 @@ fn run<R: Files + AllocGlobal, O: Write, E: Write>(
         Some(Task::Version) => print(printer, faults, VERSION),
         Some(Task::List(path)) => run_list(rt, printer, faults, path),
         Some(Task::Identify(path, is_strict)) => run_identify(rt, printer, faults, path, is_strict),
+        Some(Task::Works(path)) => run_works(rt, printer, faults, path),
         Some(Task::Same(left, right)) => run_same(rt, printer, faults, (left, right)),
         Some(Task::Check(check)) => run_check(rt, printer, faults, &check),
         Some(Task::Define(define)) => run_define(rt, printer, faults, &define),

@@ -16,6 +16,8 @@ pub enum Task<'a> {
     List(&'a str),
     /// The DLLs of a library; whether there is to be one alone.
     Identify(&'a str, bool),
+    /// Whether a library works.
+    Works(&'a str),
     /// Whether two libraries mean the same.
     Same(&'a str, &'a str),
     /// Whether a library means what a definition means.
@@ -47,6 +49,8 @@ fn with_library<'a>(option: &str, path: &'a str) -> Option<Task<'a>>
         Some(Task::Identify(path, false))
     } else if option == "--identify-strict" {
         Some(Task::Identify(path, true))
+    } else if option == "--works" {
+        Some(Task::Works(path))
     } else {
         None
     }
