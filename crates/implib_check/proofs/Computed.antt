@@ -3,6 +3,12 @@ use Rattle.std.proofs.Common.{refl}
 use Rattle.implib_check.specs.Worked.{WorkedComparisons, WorkedIdentities, WorkedStatuses, WorkedTasks}
 use Rattle.implib_rules.specs.Names.{part_after_last}
 use Rattle.implib_check.specs.WorkedChecks.{WorkedChecks, WorkedTargets}
+use Rattle.implib_check.specs.WorkedWorking.{WorkedWorking}
+use Rattle.implib.specs.Formats.Object.{before_nul, bytes_at, u16_at, u32_at}
+use Rattle.implib_read.specs.Indexes.{entries_from, first_index_in, second_index_in}
+use Rattle.implib_read.specs.ShortImports.{short_import_found}
+use Rattle.implib_check.specs.WorkedDefinitions.{WorkedDefines, WorkedDefinitions}
+use Rattle.std.specs.Fmt.{digits}
 
 pub worked_comparisons : WorkedComparisons
 worked_comparisons = record {
@@ -115,4 +121,75 @@ worked_targets = record {
   no_import = refl;
   told = refl;
   named = refl;
+}
+
+pub worked_definitions : WorkedDefinitions
+unfolding digits
+worked_definitions = record {
+  zoo_text = refl;
+  kinds = refl;
+  gnu = refl;
+  data_alias = refl;
+  both_aliases = refl;
+  keyword = refl;
+  at_number = refl;
+  fastcall = refl;
+  space = refl;
+  semicolon = refl;
+  equals = refl;
+  empty = refl;
+  capitals = refl;
+  mixed = refl;
+  stdcall = refl;
+  underscores = refl;
+  fastcall_word = refl;
+  vectorcall_word = refl;
+  kept = refl;
+  bare = refl;
+  written = refl;
+  amd64 = refl;
+}
+
+pub worked_defines : WorkedDefines
+unfolding part_after_last
+worked_defines = record {
+  plain = refl;
+  full = refl;
+  no_library = refl;
+  two_files = refl;
+  no_value = refl;
+  killed = refl;
+  named = refl;
+  last = refl;
+  told = refl;
+}
+
+pub worked_working : WorkedWorking
+unfolding before_nul bytes_at entries_from first_index_in second_index_in short_import_found u16_at u32_at
+worked_working = record {
+  first = refl;
+  second = refl;
+  third = refl;
+  leads = refl;
+  elsewhere = refl;
+  undeclared = refl;
+  too_short = refl;
+  numbered = refl;
+  misnumbered = refl;
+  msvc = refl;
+  no_thunk = refl;
+  two_descriptors = refl;
+  gnu = refl;
+  two_heads = refl;
+  no_tail = refl;
+  works = refl;
+  broken = refl;
+  misleads = refl;
+  unread = refl;
+  empty = refl;
+  two_dlls = refl;
+  done = refl;
+  fails = refl;
+  undecided = refl;
+  task = refl;
 }

@@ -1,5 +1,6 @@
 pub mod Computed
 pub mod Counting
+pub mod Definitions
 pub mod KeyTexts
 pub mod Matching
 pub mod MeantLibraries

@@ -1,7 +1,7 @@
 -- What the words of a call say that compares a library with a definition (this project's choice; the options are
 -- those of dlltool).
-use Rattle.std.specs.Prelude.{ℕ, true, false, List, Option, Some, None, bytes_eq, codes, fold, if◌then◌else◌, is_none, length, nat_eq}
-use Rattle.std.specs.Option.{option_and_then, option_map}
+use Rattle.std.specs.Prelude.{ℕ, ◌||◌, Bool, true, false, List, Option, Some, None, bytes_eq, codes, fold, if◌then◌else◌, is_none, length, nat_eq}
+use Rattle.std.specs.Option.{is_some, option_and_then, option_map}
 use Rattle.implib.specs.declared.flavor.Flavor.{Flavor}
 use Rattle.implib.specs.declared.machine.MachineType.{MachineType}
 use Rattle.implib.specs.declared.machine.MachineType.TheVariants.{AMD64, ARM64, ARMNT, I386}
@@ -10,6 +10,7 @@ use Rattle.implib.specs.Conversions.{flavor_named}
 use Rattle.implib_rules.specs.Linked.{NamingView, naming_view}
 use Rattle.implib_rules.specs.Names.{last_part}
 use Rattle.implib_check.specs.declared.call.Check.{Check}
+use Rattle.implib_check.specs.declared.call.Define.{Define}
 use Rattle.implib_check.specs.declared.call.Reading.{Reading}
 use Rattle.implib_check.specs.declared.call.Setting.{Setting}
 use Rattle.implib_check.specs.declared.call.Setting.TheVariants as setting
@@ -36,6 +37,19 @@ check_view c = record {
   dll = option_map (λ text. text.now) c.dll;
   naming = naming_view c.naming;
 }
+
+-- a library whose definition is asked for
+pub record DefineView : Type 0 where
+  pub library : List ℕ
+  -- the machine and the flavour, if they are named
+  pub machine : Option MachineType
+  pub flavor : Option Flavor
+  -- whether symbols on I386 are words as they are
+  pub is_plain : Bool
+
+-- the view of what the program is asked
+abbrev pub define_view : Define → DefineView
+define_view d = record { library = d.library.now; machine = d.machine; flavor = d.flavor; is_plain = d.is_plain }
 
 -- what words say so far
 pub record ReadingView : Type 0 where
@@ -147,6 +161,29 @@ check_of _ _ _ r = None
 abbrev pub check_in : ReadingView → Option CheckView
 check_in r = check_of r.library r.definition r.waiting r
 
+-- what words say
+abbrev pub said_by_all : List (List ℕ) → Option ReadingView
+said_by_all words = fold said_by (Some unread_call) words
+
 -- the comparison that words ask for
 abbrev pub check_called : List (List ℕ) → Option CheckView
-check_called words = option_and_then check_in (fold said_by (Some unread_call) words)
+check_called words = option_and_then check_in (said_by_all words)
+
+-- the definition of a file, with options, none of which lacks its value
+abbrev pub define_of : Option (List ℕ) → Option (List ℕ) → Option Setting → ReadingView → Option DefineView
+define_of (Some library) None None r = Some (record {
+  library = library;
+  machine = r.machine;
+  flavor = r.flavor;
+  is_plain = r.naming.is_plain;
+})
+define_of _ _ _ r = None
+
+-- What all words say. A library has the name of its DLL and the names that it asks for itself, so no option says
+-- these.
+abbrev pub define_in : ReadingView → Option DefineView
+define_in r = if r.naming.kills_at || is_some r.dll then None else define_of r.library r.definition r.waiting r
+
+-- the definition that words ask for
+abbrev pub define_called : List (List ℕ) → Option DefineView
+define_called words = option_and_then define_in (said_by_all words)

@@ -6,7 +6,12 @@ pub mod Calls
 pub mod Targets
 pub mod Meant
 pub mod OwnLibraries
+pub mod DefinitionText
+pub mod Defining
+pub mod Working
 pub mod Tasks
 pub mod Status
 pub mod Worked
 pub mod WorkedChecks
+pub mod WorkedDefinitions
+pub mod WorkedWorking

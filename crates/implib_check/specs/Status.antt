@@ -2,6 +2,8 @@
 use Rattle.std.specs.Prelude.{ℕ, Bool, ◌==◌, ◌&&◌, ◌||◌, not, if◌then◌else◌}
 use Rattle.implib_check.specs.declared.compare.Verdict.{Verdict}
 use Rattle.implib_check.specs.declared.compare.Verdict.TheVariants.{Different, NotDecided, Same}
+use Rattle.implib_check.specs.declared.defining.Undefined.{Undefined}
+use Rattle.implib_check.specs.declared.defining.Undefined.TheVariants as undefined
 use Rattle.implib_rules.specs.declared.library.Refusal.{Refusal}
 use Rattle.implib_rules.specs.Library.{status_of}
 
@@ -24,3 +26,10 @@ identity_status unread count is_strict =
 -- of a definition that is refused: 1, and 3 for want of memory
 abbrev pub refusal_status : Refusal → ℕ
 refusal_status refusal = status_of refusal
+
+-- of a library without a definition: 4 where a member may import what is not read
+abbrev pub undefined_status : Undefined → ℕ
+undefined_status undefined.Unread = 4
+undefined_status (undefined.Refused refusal) = refusal_status refusal
+undefined_status undefined.Different = 1
+undefined_status (undefined.Failed failure) = 3

@@ -10,7 +10,7 @@ use Rattle.implib_read.specs.Classes.{Class, AnImport, AnAlias, Descriptor, Null
 use Rattle.implib_read.specs.declared.import.ImportKind.{ImportKind}
 use Rattle.implib_read.specs.declared.import.ImportKind.TheVariants.{Code, CodeOrConst, Const, Data}
 use Rattle.implib_rules.specs.Options.{LibraryOptionsView}
-use Rattle.implib_check.specs.Calls.{CheckView}
+use Rattle.implib_check.specs.Calls.{CheckView, DefineView}
 
 -- whether a kind tells code from a constant, as those of short imports alone do
 abbrev pub tells_code : ImportKind → Bool
@@ -63,4 +63,13 @@ options_for check members = record {
   flavor = unwrap_or check.flavor (flavor_of members);
   dll = check.dll;
   naming = check.naming;
+}
+
+-- What the definition of a library is read for: what a call names, and else the machine and the flavour of the library.
+abbrev pub options_of : DefineView → List MemberRead → LibraryOptionsView
+options_of define members = record {
+  machine = unwrap_or define.machine (machine_of members);
+  flavor = unwrap_or define.flavor (flavor_of members);
+  dll = None;
+  naming = record { is_plain = define.is_plain; kills_at = false };
 }

@@ -1,7 +1,7 @@
 -- What the words of a command line ask for (this project's choice; `--identify` after GNU dlltool's).
 use Rattle.std.specs.Prelude.{ℕ, Bool, true, false, ◌||◌, List, [], ◌∷◌, Option, Some, None, bytes_eq, codes, if◌then◌else◌}
 use Rattle.std.specs.Option.{option_map, option_or}
-use Rattle.implib_check.specs.Calls.{CheckView, check_called, check_view}
+use Rattle.implib_check.specs.Calls.{CheckView, DefineView, check_called, check_view, define_called, define_view}
 use Rattle.implib_check.specs.declared.task.Task.{Task}
 use Rattle.implib_check.specs.declared.task.Task.TheVariants as task
 
@@ -13,10 +13,14 @@ pub data TaskView : Type 0 where
   Lists : List ℕ → TaskView
   -- the DLLs of a library; whether there is to be one alone
   Identifies : List ℕ → Bool → TaskView
+  -- whether a library works
+  WorksOf : List ℕ → TaskView
   -- whether two libraries mean the same
   Compares : List ℕ → List ℕ → TaskView
   -- whether a library means what a definition means
   Checks : CheckView → TaskView
+  -- the definition of a library
+  Defines : DefineView → TaskView
 
 -- the view of a task of the program
 abbrev pub task_view : Task → TaskView
@@ -24,8 +28,10 @@ task_view task.Help = Help
 task_view task.Version = Version
 task_view (task.List path) = Lists path.now
 task_view (task.Identify path is_strict) = Identifies path.now is_strict
+task_view (task.Works path) = WorksOf path.now
 task_view (task.Same left right) = Compares left.now right.now
 task_view (task.Check check) = Checks (check_view check)
+task_view (task.Define define) = Defines (define_view define)
 
 -- the task of a word alone
 abbrev pub alone : List ℕ → Option TaskView
@@ -40,6 +46,7 @@ with_library option path =
     if bytes_eq option (codes "--list") then Some (Lists path)
     else if bytes_eq option (codes "--identify") then Some (Identifies path false)
     else if bytes_eq option (codes "--identify-strict") then Some (Identifies path true)
+    else if bytes_eq option (codes "--works") then Some (WorksOf path)
     else None
 
 -- the task of a word and two libraries
@@ -54,6 +61,13 @@ task_by_name (option ∷ path ∷ []) = with_library option path
 task_by_name (option ∷ left ∷ right ∷ []) = with_libraries option left right
 task_by_name (option ∷ left ∷ right ∷ more ∷ words) = None
 
+-- what words ask for that name files and options: behind `--def` a definition, else a comparison with one
+abbrev pub with_files : List (List ℕ) → Option TaskView
+with_files [] = option_map Checks (check_called [])
+with_files (first ∷ rest) =
+    if bytes_eq first (codes "--def") then option_map Defines (define_called rest)
+    else option_map Checks (check_called (first ∷ rest))
+
 -- what the words after the program's name ask for
 abbrev pub task_named : List (List ℕ) → Option TaskView
-task_named words = option_or (task_by_name words) (option_map Checks (check_called words))
+task_named words = option_or (task_by_name words) (with_files words)

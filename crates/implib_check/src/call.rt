@@ -3,8 +3,8 @@
 ghost use Rattle.std.specs.Prelude.{◌≡◌, map};
 ghost use Rattle.std.specs.Option.{option_and_then, option_map};
 ghost use Rattle.std.specs.String.{string_bytes};
-ghost use Rattle.implib_check.specs.Calls.{after_word, check_called, check_in, check_view, machine_called, reading_view};
-ghost use Rattle.implib_check.specs.Calls.{said_by, unread_call, with_file, with_option, with_value};
+ghost use Rattle.implib_check.specs.Calls.{after_word, check_called, check_in, check_view, define_called, define_in, define_view};
+ghost use Rattle.implib_check.specs.Calls.{machine_called, reading_view, said_by, said_by_all, unread_call, with_file, with_option, with_value};
 
 use implib::{Flavor, MachineType};
 use implib_rules::linked::Naming;
@@ -25,6 +25,19 @@ pub struct Check<'a> {
     pub dll: Option<&'a str>,
     /// How names are read on I386.
     pub naming: Naming,
+}
+
+/// A library whose definition is asked for, and what it is for.
+#[derive(Clone, Copy, Debug)]
+pub struct Define<'a> {
+    /// The file of the library.
+    pub library: &'a str,
+    /// The machine, if one is named.
+    pub machine: Option<MachineType>,
+    /// The flavour, if one is named.
+    pub flavor: Option<Flavor>,
+    /// Whether symbols on I386 are words as they are.
+    pub is_plain: bool,
 }
 
 // An option that takes a value.
@@ -209,16 +222,51 @@ fn check_in<'a>(reading: Reading<'a>) -> Option<Check<'a>>
     }
 }
 
-/// The comparison that words ask for: two files, options, and values of options.
-pub fn check_called(words: &[String]) -> Option<Check<'_>>
-    ensures { option_map check_view result ≡ check_called (map string_bytes words.now) }
+// What words say.
+fn said_by_all(words: &[String]) -> Option<Reading<'_>>
+    ensures { option_map reading_view result ≡ said_by_all (map string_bytes words.now) }
 {
     let mut reading = Some(unread_call());
     for word in words {
         reading = said_by(reading, word.as_str());
     }
-    match reading {
+    reading
+}
+
+/// The comparison that words ask for: two files, options, and values of options.
+pub fn check_called(words: &[String]) -> Option<Check<'_>>
+    ensures { option_map check_view result ≡ check_called (map string_bytes words.now) }
+{
+    match said_by_all(words) {
         Some(reading) => check_in(reading),
+        None => None,
+    }
+}
+
+// What all words say: there is one file, no option lacks its value, and none is of names that a library has itself.
+fn define_in<'a>(reading: Reading<'a>) -> Option<Define<'a>>
+    ensures { option_map define_view result ≡ define_in (reading_view reading.entry) }
+{
+    if reading.naming.kills_at || reading.dll.is_some() {
+        return None;
+    }
+    match (reading.library, reading.definition, reading.waiting) {
+        (Some(library), None, None) => Some(Define {
+            library,
+            machine: reading.machine,
+            flavor: reading.flavor,
+            is_plain: reading.naming.is_plain,
+        }),
+        _ => None,
+    }
+}
+
+/// The definition that words behind `--def` ask for: a file, options, and values of options.
+pub fn define_called(words: &[String]) -> Option<Define<'_>>
+    ensures { option_map define_view result ≡ define_called (map string_bytes words.now) }
+{
+    match said_by_all(words) {
+        Some(reading) => define_in(reading),
         None => None,
     }
 }

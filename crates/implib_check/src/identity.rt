@@ -9,8 +9,8 @@ use implib_read::{MemberClass, MemberRead};
 use indexmap::IndexSet;
 use std::alloc::{AllocError, Global};
 
-// The DLL of a member, if it is an import.
-fn dll_of<'a>(class: &MemberClass<'a>) -> Option<&'a [u8]>
+/// The DLL of a member, if it is an import.
+pub fn dll_of<'a>(class: &MemberClass<'a>) -> Option<&'a [u8]>
     ensures { option_map (λ dll. dll.now) result ≡ dll_of (class_view class.now) }
 {
     match class {

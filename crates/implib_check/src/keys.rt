@@ -224,8 +224,8 @@ fn has_untold(class: &MemberClass) -> bool
     }
 }
 
-// Whether each import of a library tells CONSTANT from code.
-fn tells_constants(members: &[MemberRead]) -> bool
+/// Whether each import of a library tells CONSTANT from code.
+pub fn tells_constants(members: &[MemberRead]) -> bool
     ensures { result ≡ tells_constants (map member_read_view members.now) }
 {
     for member in members {

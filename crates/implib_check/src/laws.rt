@@ -4,6 +4,8 @@ ghost use Rattle.implib_check.specs.Facts.{KeysTellFacts};
 ghost use Rattle.implib_check.specs.OwnLibraries.{MeantIsDefined, OwnLibrariesAreTheSame, SameSaysTheDefined};
 ghost use Rattle.implib_check.specs.Worked.{WorkedComparisons, WorkedIdentities, WorkedStatuses, WorkedTasks};
 ghost use Rattle.implib_check.specs.WorkedChecks.{WorkedChecks, WorkedTargets};
+ghost use Rattle.implib_check.specs.WorkedDefinitions.{WorkedDefines, WorkedDefinitions};
+ghost use Rattle.implib_check.specs.WorkedWorking.{WorkedWorking};
 
 use implib_read::laws::{own_gnu_libraries, own_members_found, same_objects, same_short_imports};
 
@@ -66,4 +68,19 @@ pub fn worked_checks()
 /// For which machine and flavour definitions are compared with libraries, worked by hand.
 pub fn worked_targets()
     ensures { WorkedTargets }
+{}
+
+/// What the definitions of libraries are, worked by hand.
+pub fn worked_definitions()
+    ensures { WorkedDefinitions }
+{}
+
+/// What calls ask for a definition, and some that do not.
+pub fn worked_defines()
+    ensures { WorkedDefines }
+{}
+
+/// Where indexes mislead, and which libraries work, worked by hand.
+pub fn worked_working()
+    ensures { WorkedWorking }
 {}

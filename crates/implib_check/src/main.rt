@@ -9,7 +9,9 @@
 
 pub mod call;
 pub mod compare;
+pub mod defining;
 pub mod definition;
+pub mod definition_text;
 mod differences;
 pub mod identity;
 pub mod keys;
@@ -21,6 +23,7 @@ pub mod status;
 pub mod target;
 pub mod task;
 mod text;
+pub mod working;
 
 use crate::program::perform;
 use std::process::ExitCode;

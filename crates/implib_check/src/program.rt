@@ -1,18 +1,26 @@
 //! The program: its arguments, its files, what it writes, and its exit status.
 
 ghost use Rattle.std.specs.Prelude.{◌≡◌};
-ghost use Rattle.implib_check.specs.Status.{refusal_status};
+ghost use Rattle.implib_check.specs.Status.{refusal_status, undefined_status};
 
-use crate::call::Check;
+use crate::call::{Check, Define};
 use crate::compare::{compare, has_unread};
+use crate::defining::{Undefined, definition_of};
 use crate::definition::{CheckError, check_definition};
 use crate::differences::{BUFFER, Failure, Lines, flushed, tell_both};
 use crate::identity::dlls_of;
-use crate::status::{identity_status, list_status, refusal_status, verdict_status};
-use crate::target::options_for;
+use crate::status::{
+    identity_status, list_status, refusal_status, undefined_status, verdict_status,
+};
+use crate::target::{flavor_of, options_for, options_of};
 use crate::task::{Task, task_named};
-use crate::text::{Listed, Place, Shown, Source, doubt_of};
-use implib_read::{Library, MemberRead};
+use crate::text::{Listed, Place, Shown, Source, doubt_of, fault_of};
+use crate::working::{
+    Piece, Working, first_misleads, has_one, has_whole_tables, linker_member, second_misleads,
+    working_status, works_of,
+};
+use implib::Flavor;
+use implib_read::{IndexEntry, Library, MemberRead};
 use implib_rules::library::Refusal;
 use implib_rules::{ShownPlace, position_of};
 use indexmap::IndexSet;
@@ -29,10 +37,13 @@ const NAME: &str = "implib_check";
 const HELP: &str = "\
 usage: implib_check LIB DEF [-m MACHINE] [-k] [--no-leading-underscore]
                     [-D DLL] [--flavor FLAVOR]
+       implib_check --def LIB [-m MACHINE] [--no-leading-underscore]
+                    [--flavor FLAVOR]
        implib_check --list LIB
        implib_check --identify LIB
        implib_check --identify-strict LIB
        implib_check --same LIB LIB
+       implib_check --works LIB
 
 Reads import libraries of any maker. With a library and a module definition:
 whether the library has the imports and aliases that implib_dlltool would give
@@ -44,17 +55,22 @@ one of the definition; the differences.
                      no underscore before symbols, on i386
   -D, --dllname      the DLL's name, before the definition's
   --flavor           msvc or gnu; without it the library's
+  --def              a definition that means the library's imports and aliases,
+                     or which member no definition says
   --list             a line for each import and alias: offset, DLL, symbol,
                      type, what is asked by, name, ordinal or hint
   --identify         the DLLs that the library imports from
   --identify-strict  the DLL; an error where there are several
   --same             whether two libraries have the same imports and aliases;
                      the differences
+  --works            whether the indexes lead to what they name, and the parts
+                     of the import tables are there once each
   -h, --help
   -V, --version
 
-Status: 0 done, the same; 1 different, a refused definition, or no DLL; 2 wrong
-call; 3 a file or memory failed; 4 a member that may matter was not understood.
+Status: 0 done, the same; 1 different, a refused definition, no DLL, no
+definition, or broken; 2 wrong call; 3 a file or memory failed; 4 a member that may matter
+was not understood.
 ";
 
 // What the program prints for `--version`.
@@ -294,6 +310,236 @@ fn run_check<R: Files + AllocGlobal, O: Write, E: Write>(
     }
 }
 
+// What the differences of a library call the definition that is tried.
+const TRIED: &str = "the definition";
+
+// Says why a library has no definition, and gives the exit status.
+fn say_undefined<E: Write>(
+    faults: &mut E,
+    path: &str,
+    members: &[MemberRead],
+    why: &Undefined,
+) -> u8
+    ensures { result ≡ undefined_status why.now }
+{
+    let status = undefined_status(why);
+    match why {
+        Undefined::Unread => status,
+        Undefined::Different => complain(faults, path, "no definition says this", status),
+        Undefined::Failed(Failure::Writing) => {
+            complain(faults, NAME, "standard error failed", status)
+        }
+        Undefined::Failed(Failure::OutOfMemory) => {
+            complain(faults, NAME, "out of memory", status)
+        }
+        Undefined::Refused(refusal) => {
+            let mut lines = Lines { writer: faults };
+            let mut is_named = false;
+            for member in members {
+                if let Some(what) = fault_of(&member.class) {
+                    let _ = writeln!(lines, "{}: {what}", Place(Source::Library(path), member));
+                    is_named = true;
+                }
+            }
+            if !is_named {
+                let _ = writeln!(lines, "{path}: no definition says this: {refusal}");
+            }
+            status
+        }
+    }
+}
+
+// Says of which DLLs a library is that has more than one, and gives the exit status.
+fn say_dlls<E: Write>(faults: &mut E, path: &str, names: &IndexSet<&[u8]>) -> u8 {
+    let mut lines = Lines { writer: faults };
+    for name in names.iter() {
+        let _ = writeln!(
+            lines,
+            "{path}: imports from {}; a definition is of one DLL",
+            Shown(name)
+        );
+    }
+    1
+}
+
+// Writes the definition of a library, and gives the exit status.
+fn run_define<R: Files + AllocGlobal, O: Write, E: Write>(
+    rt: &R,
+    printer: &mut O,
+    faults: &mut E,
+    define: &Define,
+) -> u8 {
+    let path = define.library;
+    let bytes = match bytes_of(rt, faults, path) {
+        Ok(bytes) => bytes,
+        Err(status) => return status,
+    };
+    let library = match library_of(rt.alloc(), faults, path, &bytes) {
+        Ok(library) => library,
+        Err(status) => return status,
+    };
+    let members = library.members.as_slice();
+    let options = options_of(define, members);
+    doubt(faults, path, members, true);
+    let names = match dlls_of(rt.alloc(), members) {
+        Ok(names) => names,
+        Err(_) => return complain(faults, NAME, "out of memory", 3),
+    };
+    if names.is_empty() {
+        return complain(faults, path, "imports from no DLL", 1);
+    }
+    if names.len() > 1 {
+        return say_dlls(faults, path, &names);
+    }
+    match definition_of(rt.alloc(), faults, (path, TRIED), members, &options) {
+        Ok(text) => match printer.write_all(&text) {
+            Ok(()) => 0,
+            Err(error) => complain(faults, NAME, error, 3),
+        },
+        Err(why) => say_undefined(faults, path, members, &why),
+    }
+}
+
+// Writes the entries of an index that mislead, and whether the index does.
+fn tell_index<O: Write>(
+    lines: &mut Lines<O>,
+    path: &str,
+    name: &str,
+    found: &Option<Vec<IndexEntry>>,
+) -> Result<bool, Failure> {
+    let Some(entries) = found else {
+        writeln!(lines, "{path}: {name} cannot be read")?;
+        return Ok(true);
+    };
+    for entry in entries {
+        let place = entry.place;
+        writeln!(
+            lines,
+            "{path}: {name} leads {} to 0x{place:x}, not to the first member that declares it",
+            Shown(entry.symbol)
+        )?;
+    }
+    Ok(!entries.is_empty())
+}
+
+// Writes what is wrong with the indexes of a library, and whether something is.
+fn tell_indexes<O: Write>(
+    alloc: Global,
+    printer: &mut O,
+    path: &str,
+    library: &Library,
+) -> Result<bool, Failure> {
+    let parts = library.archive.parts.as_slice();
+    let members = library.archive.members.as_slice();
+    let mut lines = Lines { writer: printer };
+    let Some(contents) = linker_member(0, parts) else {
+        writeln!(lines, "{path}: no index")?;
+        return Ok(true);
+    };
+    let found = first_misleads(alloc, members, contents)?;
+    let first = tell_index(&mut lines, path, "the index", &found)?;
+    let Some(contents) = linker_member(1, parts) else {
+        return Ok(first);
+    };
+    let found = second_misleads(alloc, members, contents)?;
+    let second = tell_index(&mut lines, path, "the second index", &found)?;
+    Ok(first || second)
+}
+
+// Writes that a part of import tables is not there once, if it is not.
+fn tell_piece<O: Write>(
+    lines: &mut Lines<O>,
+    path: &str,
+    members: &[MemberRead],
+    piece: Piece,
+    name: &str,
+) -> Result<(), Failure> {
+    if !has_one(piece, members) {
+        writeln!(lines, "{path}: no {name}, or two or more")?;
+    }
+    Ok(())
+}
+
+// Writes which parts of import tables are not there once.
+fn tell_tables<O: Write>(
+    printer: &mut O,
+    path: &str,
+    flavor: Flavor,
+    members: &[MemberRead],
+) -> Result<(), Failure> {
+    let mut lines = Lines { writer: printer };
+    match flavor {
+        Flavor::Msvc => {
+            tell_piece(
+                &mut lines,
+                path,
+                members,
+                Piece::OfDescriptor,
+                "import descriptor",
+            )?;
+            tell_piece(
+                &mut lines,
+                path,
+                members,
+                Piece::OfNullDescriptor,
+                "null descriptor",
+            )?;
+            tell_piece(&mut lines, path, members, Piece::OfNullThunk, "null thunk")
+        }
+        Flavor::Gnu => {
+            tell_piece(&mut lines, path, members, Piece::OfHead, "head")?;
+            tell_piece(&mut lines, path, members, Piece::OfTail, "tail")
+        }
+    }
+}
+
+// Writes why a library does not work, if it does not.
+fn tell_working<O: Write>(
+    alloc: Global,
+    printer: &mut O,
+    path: &str,
+    library: &Library,
+) -> Result<Working, Failure> {
+    let members = library.members.as_slice();
+    let flavor = flavor_of(members);
+    let misleads = tell_indexes(alloc, printer, path, library)?;
+    let dlls = dlls_of(alloc, members)?;
+    let whole = has_whole_tables(flavor, members);
+    if dlls.len() == 1 && !whole {
+        tell_tables(printer, path, flavor, members)?;
+    }
+    if dlls.len() > 1 {
+        let mut lines = Lines { writer: printer };
+        writeln!(
+            lines,
+            "{path}: imports from two or more DLLs, whose tables are not told apart"
+        )?;
+    }
+    Ok(works_of(misleads, has_unread(members), dlls.len(), whole))
+}
+
+// Says whether a library works, and gives the exit status.
+fn run_works<R: Files + AllocGlobal, O: Write, E: Write>(
+    rt: &R,
+    printer: &mut O,
+    faults: &mut E,
+    path: &str,
+) -> u8 {
+    let bytes = match bytes_of(rt, faults, path) {
+        Ok(bytes) => bytes,
+        Err(status) => return status,
+    };
+    let library = match library_of(rt.alloc(), faults, path, &bytes) {
+        Ok(library) => library,
+        Err(status) => return status,
+    };
+    doubt(faults, path, &library.members, false);
+    match tell_working(rt.alloc(), printer, path, &library) {
+        Ok(working) => working_status(working),
+        Err(failure) => status_of(faults, Err(failure), 3),
+    }
+}
+
 // Does what the words after the program's name ask for, and gives the exit status.
 fn run<R: Files + AllocGlobal, O: Write, E: Write>(
     rt: &R,
@@ -306,14 +552,16 @@ fn run<R: Files + AllocGlobal, O: Write, E: Write>(
         Some(Task::Version) => print(printer, faults, VERSION),
         Some(Task::List(path)) => run_list(rt, printer, faults, path),
         Some(Task::Identify(path, is_strict)) => run_identify(rt, printer, faults, path, is_strict),
+        Some(Task::Works(path)) => run_works(rt, printer, faults, path),
         Some(Task::Same(left, right)) => run_same(rt, printer, faults, (left, right)),
         Some(Task::Check(check)) => run_check(rt, printer, faults, &check),
+        Some(Task::Define(define)) => run_define(rt, printer, faults, &define),
         None => complain(faults, NAME, "wrong call; --help says how to call it", 2),
     }
 }
 
 /// Runs the program with the command line of the process, and gives the exit status: 0 where it is done or the
-/// libraries are the same, 1 where they differ, a definition is refused or there is no DLL, 2 where the call is wrong,
+/// libraries are the same, 1 where they differ, a definition is refused or there is no DLL or no definition, 2 where the call is wrong,
 /// 3 where a file or an allocation failed, and 4 where a member that may matter was not understood.
 pub fn perform<R: Files + Env + AllocGlobal, O: Write, E: Write>(
     rt: &R,

@@ -1,9 +1,10 @@
 //! Exit statuses.
 
 ghost use Rattle.std.specs.Prelude.{◌≡◌};
-ghost use Rattle.implib_check.specs.Status.{identity_status, list_status, refusal_status, verdict_status};
+ghost use Rattle.implib_check.specs.Status.{identity_status, list_status, refusal_status, undefined_status, verdict_status};
 
 use crate::compare::Verdict;
+use crate::defining::Undefined;
 use implib_rules::library::Refusal;
 
 /// The exit status of a comparison.
@@ -44,5 +45,17 @@ pub fn refusal_status(refusal: &Refusal) -> u8
     match refusal {
         Refusal::OutOfMemory => 3,
         _ => 1,
+    }
+}
+
+/// The exit status of a library without a definition.
+pub fn undefined_status(why: &Undefined) -> u8
+    ensures { result ≡ undefined_status why.now }
+{
+    match why {
+        Undefined::Unread => 4,
+        Undefined::Refused(refusal) => refusal_status(refusal),
+        Undefined::Different => 1,
+        Undefined::Failed(_) => 3,
     }
 }

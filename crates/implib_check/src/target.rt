@@ -1,14 +1,15 @@
 //! For which machine and linker a definition is compared with a library.
 
-ghost use Rattle.std.specs.Prelude.{◌≡◌, map};
-ghost use Rattle.implib_check.specs.Calls.{check_view};
-ghost use Rattle.implib_check.specs.Targets.{flavor_of, is_for_msvc, machine_of, machine_of_class, options_for, tells_code};
+ghost use Rattle.std.specs.Prelude.{◌≡◌, map, unwrap_or};
+ghost use Rattle.implib_check.specs.Calls.{check_view, define_view};
+ghost use Rattle.implib_check.specs.Targets.{flavor_of, is_for_msvc, machine_of, machine_of_class, options_for, options_of, tells_code};
 ghost use Rattle.implib_read.specs.ClassViews.{class_view, member_read_view};
 ghost use Rattle.implib_rules.specs.Options.{library_options_view};
 
-use crate::call::Check;
+use crate::call::{Check, Define};
 use implib::{Flavor, MachineType};
 use implib_read::{ImportKind, MemberClass, MemberRead};
+use implib_rules::linked::Naming;
 use implib_rules::options::LibraryOptions;
 
 // Whether a kind tells code from a constant.
@@ -66,22 +67,49 @@ pub fn machine_of(members: &[MemberRead]) -> MachineType
     MachineType::AMD64
 }
 
+// The machine that is named, or that of the library.
+fn machine_for(named: Option<MachineType>, members: &[MemberRead]) -> MachineType
+    ensures { result ≡ unwrap_or named (machine_of (map member_read_view members.now)) }
+{
+    match named {
+        Some(machine) => machine,
+        None => machine_of(members),
+    }
+}
+
+// The flavour that is named, or that of the library.
+fn flavor_for(named: Option<Flavor>, members: &[MemberRead]) -> Flavor
+    ensures { result ≡ unwrap_or named (flavor_of (map member_read_view members.now)) }
+{
+    match named {
+        Some(flavor) => flavor,
+        None => flavor_of(members),
+    }
+}
+
 /// What the definition's library is made for: what a call names, and else the machine and the flavour of the library.
 pub fn options_for<'a>(check: &Check<'a>, members: &[MemberRead]) -> LibraryOptions<'a>
     ensures { library_options_view result ≡ options_for (check_view check.now) (map member_read_view members.now) }
 {
-    let machine = match check.machine {
-        Some(machine) => machine,
-        None => machine_of(members),
-    };
-    let flavor = match check.flavor {
-        Some(flavor) => flavor,
-        None => flavor_of(members),
-    };
     LibraryOptions {
-        machine,
-        flavor,
+        machine: machine_for(check.machine, members),
+        flavor: flavor_for(check.flavor, members),
         dll: check.dll,
         naming: check.naming,
+    }
+}
+
+/// What the definition of a library is read for: what a call names, and else the machine and the flavour of the library.
+pub fn options_of<'a>(define: &Define<'a>, members: &[MemberRead]) -> LibraryOptions<'a>
+    ensures { library_options_view result ≡ options_of (define_view define.now) (map member_read_view members.now) }
+{
+    LibraryOptions {
+        machine: machine_for(define.machine, members),
+        flavor: flavor_for(define.flavor, members),
+        dll: None,
+        naming: Naming {
+            is_plain: define.is_plain,
+            kills_at: false,
+        },
     }
 }

@@ -3,9 +3,9 @@
 ghost use Rattle.std.specs.Prelude.{◌≡◌, map};
 ghost use Rattle.std.specs.Option.{option_map, option_or};
 ghost use Rattle.std.specs.String.{string_bytes};
-ghost use Rattle.implib_check.specs.Tasks.{alone, task_by_name, task_named, task_view, with_libraries, with_library};
+ghost use Rattle.implib_check.specs.Tasks.{alone, task_by_name, task_named, task_view, with_files, with_libraries, with_library};
 
-use crate::call::{Check, check_called};
+use crate::call::{Check, Define, check_called, define_called};
 
 /// What is asked for.
 #[derive(Clone, Copy, Debug)]
@@ -16,10 +16,14 @@ pub enum Task<'a> {
     List(&'a str),
     /// The DLLs of a library; whether there is to be one alone.
     Identify(&'a str, bool),
+    /// Whether a library works.
+    Works(&'a str),
     /// Whether two libraries mean the same.
     Same(&'a str, &'a str),
     /// Whether a library means what a definition means.
     Check(Check<'a>),
+    /// The definition of a library.
+    Define(Define<'a>),
 }
 
 // The task of a word alone.
@@ -45,6 +49,8 @@ fn with_library<'a>(option: &str, path: &'a str) -> Option<Task<'a>>
         Some(Task::Identify(path, false))
     } else if option == "--identify-strict" {
         Some(Task::Identify(path, true))
+    } else if option == "--works" {
+        Some(Task::Works(path))
     } else {
         None
     }
@@ -73,15 +79,30 @@ fn task_by_name(words: &[String]) -> Option<Task<'_>>
     }
 }
 
+// What words ask for that name files and options: behind `--def` a definition, else a comparison with one.
+fn with_files(words: &[String]) -> Option<Task<'_>>
+    ensures { option_map task_view result ≡ with_files (map string_bytes words.now) }
+{
+    if let [first, rest @ ..] = words {
+        if first.as_str() == "--def" {
+            return match define_called(rest) {
+                Some(define) => Some(Task::Define(define)),
+                None => None,
+            };
+        }
+    }
+    match check_called(words) {
+        Some(check) => Some(Task::Check(check)),
+        None => None,
+    }
+}
+
 /// What the words after the program's name ask for, if they ask for something.
 pub fn task_named(words: &[String]) -> Option<Task<'_>>
     ensures { option_map task_view result ≡ task_named (map string_bytes words.now) }
 {
     match task_by_name(words) {
         Some(task) => Some(task),
-        None => match check_called(words) {
-            Some(check) => Some(Task::Check(check)),
-            None => None,
-        },
+        None => with_files(words),
     }
 }

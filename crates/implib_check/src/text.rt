@@ -192,3 +192,36 @@ pub fn doubt_of(class: &MemberClass, others: bool) -> Option<&'static str> {
         None
     }
 }
+
+// What is wrong with a name for a definition, or nothing.
+fn fault_of_name(name: &[u8]) -> Option<&'static str> {
+    let Ok(text) = str::from_utf8(name) else {
+        return Some("a name that is no UTF-8");
+    };
+    if name.contains(&b'"') {
+        return Some("a name with a quote, which no definition says");
+    }
+    if text.is_empty() {
+        return Some("an empty name, which no definition says");
+    }
+    if text.trim().len() < text.len() {
+        return Some("a name with white space at an end, which no definition says");
+    }
+    None
+}
+
+/// What of a member no definition says, or nothing.
+pub fn fault_of(class: &MemberClass) -> Option<&'static str> {
+    let (first, second) = match class {
+        MemberClass::Import(import) => match import.ask {
+            AskFound::Name(name, _) => (symbol_of(import), name),
+            AskFound::Ordinal(_) => (symbol_of(import), import.dll),
+        },
+        MemberClass::Alias(alias) => (alias.weak, alias.target),
+        _ => return None,
+    };
+    match fault_of_name(first) {
+        Some(fault) => Some(fault),
+        None => fault_of_name(second),
+    }
+}

@@ -1,0 +1,91 @@
+-- Whether a library works: whether its indexes lead to what they name, and its chains of import tables are whole
+-- (this project's choice; docs/CHECK.md, "Whether a library works").
+use Rattle.std.specs.Prelude.{ℕ, ◌-◌, ◌==◌, Bool, true, false, ◌&&◌, List, [], ◌∷◌, Option, None, Some, if◌then◌else◌, map, unwrap_or}
+use Rattle.std.specs.Option.{option_map}
+use Rattle.implib.specs.declared.flavor.Flavor.{Flavor}
+use Rattle.implib.specs.declared.flavor.Flavor.TheVariants.{Gnu, Msvc}
+use Rattle.implib_read.specs.Archives.{Part, StoredMember}
+use Rattle.implib_read.specs.Classes.{Class, Descriptor, NullDescriptor, NullThunk, Head, Tail, MemberRead}
+use Rattle.implib_read.specs.Indexes.{IndexEntry, first_index_in, offset_numbered, second_index_in}
+use Rattle.implib_read.specs.Leads.{first_declarer, wrong_entries}
+use Rattle.implib_read.specs.MemberNames.{MemberName, LinkerMember, LongNamesMember, NameAt, Named, Special}
+use Rattle.implib_check.specs.declared.working.Piece.{Piece}
+use Rattle.implib_check.specs.declared.working.Piece.TheVariants as piece
+use Rattle.implib_check.specs.declared.working.Working.{Working}
+use Rattle.implib_check.specs.declared.working.Working.TheVariants.{Broken, NotDecided, Works}
+
+-- Indexes.
+
+-- whether a part is a linker member
+abbrev pub is_linker : MemberName → Bool
+is_linker LinkerMember = true
+is_linker LongNamesMember = false
+is_linker (NameAt offset) = false
+is_linker (Named text) = false
+is_linker (Special text) = false
+
+-- the data of the linker member that comes after a number of others, if there is one
+abbrev pub linker_member : ℕ → List Part → Option (List ℕ)
+linker_member skipped [] = None
+linker_member skipped (p ∷ parts) =
+    if is_linker p.name then (if skipped == 0 then Some p.contents else linker_member (skipped - 1) parts)
+    else linker_member skipped parts
+
+-- the entries of the first linker member that do not lead to the first member that declares their symbol
+abbrev pub first_misleads : List StoredMember → List ℕ → Option (List IndexEntry)
+first_misleads members contents = option_map (wrong_entries (first_declarer members)) (first_index_in contents)
+
+-- an entry of the second linker member with the offset that its number has, or 0, where no member is
+abbrev pub with_offset : List ℕ → IndexEntry → IndexEntry
+with_offset offsets e = record { symbol = e.symbol; place = unwrap_or (offset_numbered offsets e.place) 0 }
+
+-- the same of the second linker member
+abbrev pub second_misleads : List StoredMember → List ℕ → Option (List IndexEntry)
+second_misleads members contents =
+    option_map (λ i. wrong_entries (first_declarer members) (map (with_offset i.offsets) i.entries)) (second_index_in contents)
+
+-- Import tables.
+
+-- whether a member is this part of import tables
+abbrev pub is_piece : Piece → Class → Bool
+is_piece piece.OfDescriptor Descriptor = true
+is_piece piece.OfDescriptor _ = false
+is_piece piece.OfNullDescriptor NullDescriptor = true
+is_piece piece.OfNullDescriptor _ = false
+is_piece piece.OfNullThunk NullThunk = true
+is_piece piece.OfNullThunk _ = false
+is_piece piece.OfHead Head = true
+is_piece piece.OfHead _ = false
+is_piece piece.OfTail Tail = true
+is_piece piece.OfTail _ = false
+
+-- whether one member more is this part, or none where one has been
+abbrev pub has_one_from : Bool → Piece → List MemberRead → Bool
+has_one_from seen wanted [] = seen
+has_one_from seen wanted (m ∷ members) =
+    if is_piece wanted m.class then (if seen then false else has_one_from true wanted members)
+    else has_one_from seen wanted members
+
+-- whether just one member is this part
+abbrev pub has_one : Piece → List MemberRead → Bool
+has_one wanted members = has_one_from false wanted members
+
+-- Whether the import tables of a DLL are whole. An import for GNU's linker is read by its chain, from its own fields to
+-- the head's descriptor and the tail's name; so what is left to ask is that head and tail are there once. The members
+-- of Microsoft's import tables are found by their symbols.
+abbrev pub has_whole_tables : Flavor → List MemberRead → Bool
+has_whole_tables Msvc members = has_one piece.OfDescriptor members && (has_one piece.OfNullDescriptor members && has_one piece.OfNullThunk members)
+has_whole_tables Gnu members = has_one piece.OfHead members && has_one piece.OfTail members
+
+-- Whether a library works: given whether an index misleads, whether a member may import what is not read, of how many
+-- DLLs the imports are, and whether the tables of one are whole. Of two DLLs the tables are not told apart.
+abbrev pub works_of : Bool → Bool → ℕ → Bool → Working
+works_of misleads unread dlls whole =
+    if misleads then Broken else if unread then NotDecided else if dlls == 0 then Works
+    else if dlls == 1 then (if whole then Works else Broken) else NotDecided
+
+-- of whether a library works: 0 it does, 1 it does not, 4 not decided
+abbrev pub working_status : Working → ℕ
+working_status Works = 0
+working_status Broken = 1
+working_status NotDecided = 4

@@ -1,0 +1,214 @@
+//! Whether a library works.
+
+ghost use Rattle.std.specs.Prelude.{◌≡◌, ◌==◌, map, IfOk};
+ghost use Rattle.std.specs.Option.{option_map};
+ghost use Rattle.implib_check.specs.Working.{first_misleads, has_one, has_whole_tables, is_linker, is_piece, linker_member, second_misleads};
+ghost use Rattle.implib_check.specs.Working.{with_offset, working_status, works_of};
+ghost use Rattle.implib_read.specs.ArchiveViews.{member_view, part_view};
+ghost use Rattle.implib_read.specs.ClassViews.{class_view, member_read_view};
+ghost use Rattle.implib_read.specs.IndexViews.{index_entry_view, second_index_view};
+ghost use Rattle.implib_read.specs.NameViews.{name_view};
+
+use implib::Flavor;
+use implib_read::{
+    IndexEntry, MemberClass, MemberName, MemberRead, Part, SecondIndex, StoredMember, wrong_entries,
+};
+use std::alloc::{AllocError, Global};
+
+/// A part of import tables.
+#[derive(Clone, Copy)]
+pub enum Piece {
+    OfDescriptor,
+    OfNullDescriptor,
+    OfNullThunk,
+    OfHead,
+    OfTail,
+}
+
+/// Whether a library works.
+#[derive(Clone, Copy, Debug)]
+pub enum Working {
+    Works,
+    Broken,
+    /// A member may matter that is not read, or the imports are of two or more DLLs.
+    NotDecided,
+}
+
+// Whether a part is a linker member.
+fn is_linker(name: &MemberName) -> bool
+    ensures { result ≡ is_linker (name_view name.now) }
+{
+    match name {
+        MemberName::Linker => true,
+        _ => false,
+    }
+}
+
+/// The data of the linker member that comes after a number of others.
+pub fn linker_member<'a>(skipped: usize, parts: &[Part<'a>]) -> Option<&'a [u8]>
+    ensures { option_map (λ contents. contents.now) result ≡ linker_member skipped (map part_view parts.now) }
+{
+    let mut skipped = skipped;
+    for part in parts {
+        if is_linker(&part.name) {
+            if skipped == 0 {
+                return Some(part.contents);
+            }
+            skipped -= 1;
+        }
+    }
+    None
+}
+
+/// The entries of a first linker member that do not lead to the first member that declares their symbol, or `None`
+/// where its counts lead out of it.
+pub fn first_misleads<'a>(
+    alloc: Global,
+    members: &[StoredMember<'a>],
+    contents: &'a [u8],
+) -> Result<Option<Vec<IndexEntry<'a>>>, AllocError>
+    ensures { IfOk result (λ found. option_map (λ v. map index_entry_view v.items) found ≡ first_misleads (map member_view members.now) contents.now) }
+{
+    let entries = IndexEntry::read_first(alloc, contents)?;
+    match entries {
+        Some(entries) => Ok(Some(wrong_entries(alloc, members, &entries)?)),
+        None => Ok(None),
+    }
+}
+
+// An entry of a second linker member with the offset that its number has.
+fn with_offset<'a>(index: &SecondIndex<'a>, entry: &IndexEntry<'a>) -> IndexEntry<'a>
+    ensures { index_entry_view result ≡ with_offset (second_index_view index.now).offsets (index_entry_view entry.now) }
+{
+    let place = match index.offset(entry.place) {
+        Some(offset) => offset,
+        None => 0,
+    };
+    IndexEntry {
+        symbol: entry.symbol,
+        place,
+    }
+}
+
+// The entries of a second linker member with the offsets that their numbers have.
+fn with_offsets<'a>(
+    alloc: Global,
+    index: &SecondIndex<'a>,
+) -> Result<Vec<IndexEntry<'a>>, AllocError>
+    ensures { IfOk result (λ v. map index_entry_view v.items ≡ map (with_offset (second_index_view index.now).offsets) (second_index_view index.now).entries) }
+{
+    let mut entries = Vec::with_capacity(alloc, index.entries.len())?;
+    for entry in &index.entries {
+        entries.push(with_offset(index, entry))?;
+    }
+    Ok(entries)
+}
+
+/// The same of a second linker member.
+pub fn second_misleads<'a>(
+    alloc: Global,
+    members: &[StoredMember<'a>],
+    contents: &'a [u8],
+) -> Result<Option<Vec<IndexEntry<'a>>>, AllocError>
+    ensures { IfOk result (λ found. option_map (λ v. map index_entry_view v.items) found ≡ second_misleads (map member_view members.now) contents.now) }
+{
+    let index = SecondIndex::read(alloc, contents)?;
+    match index {
+        Some(index) => {
+            let entries = with_offsets(alloc, &index)?;
+            Ok(Some(wrong_entries(alloc, members, &entries)?))
+        }
+        None => Ok(None),
+    }
+}
+
+/// Whether a member is this part of import tables.
+pub fn is_piece(wanted: Piece, class: &MemberClass) -> bool
+    ensures { result ≡ is_piece wanted (class_view class.now) }
+{
+    match wanted {
+        Piece::OfDescriptor => match class {
+            MemberClass::Descriptor => true,
+            _ => false,
+        },
+        Piece::OfNullDescriptor => match class {
+            MemberClass::NullDescriptor => true,
+            _ => false,
+        },
+        Piece::OfNullThunk => match class {
+            MemberClass::NullThunk => true,
+            _ => false,
+        },
+        Piece::OfHead => match class {
+            MemberClass::Head => true,
+            _ => false,
+        },
+        Piece::OfTail => match class {
+            MemberClass::Tail => true,
+            _ => false,
+        },
+    }
+}
+
+/// Whether just one member is this part.
+pub fn has_one(wanted: Piece, members: &[MemberRead]) -> bool
+    ensures { result ≡ has_one wanted (map member_read_view members.now) }
+{
+    let mut seen = false;
+    for member in members {
+        if is_piece(wanted, &member.class) {
+            if seen {
+                return false;
+            }
+            seen = true;
+        }
+    }
+    seen
+}
+
+/// Whether the import tables of a DLL are whole.
+pub fn has_whole_tables(flavor: Flavor, members: &[MemberRead]) -> bool
+    ensures { result ≡ has_whole_tables flavor (map member_read_view members.now) }
+{
+    match flavor {
+        Flavor::Msvc => {
+            has_one(Piece::OfDescriptor, members)
+                && has_one(Piece::OfNullDescriptor, members)
+                && has_one(Piece::OfNullThunk, members)
+        }
+        Flavor::Gnu => has_one(Piece::OfHead, members) && has_one(Piece::OfTail, members),
+    }
+}
+
+/// Whether a library works, given whether an index misleads, whether a member may import what is not read, of how many
+/// DLLs the imports are, and whether the tables of one are whole.
+pub fn works_of(misleads: bool, unread: bool, dlls: usize, whole: bool) -> Working
+    ensures { result ≡ works_of misleads unread dlls whole }
+{
+    if misleads {
+        Working::Broken
+    } else if unread {
+        Working::NotDecided
+    } else if dlls == 0 {
+        Working::Works
+    } else if dlls == 1 {
+        if whole {
+            Working::Works
+        } else {
+            Working::Broken
+        }
+    } else {
+        Working::NotDecided
+    }
+}
+
+/// The exit status of whether a library works.
+pub fn working_status(working: Working) -> u8
+    ensures { result ≡ working_status working }
+{
+    match working {
+        Working::Works => 0,
+        Working::Broken => 1,
+        Working::NotDecided => 4,
+    }
+}
