@@ -152,7 +152,7 @@ struct implib_options {
  * asked for, and for Microsoft's linker an archive of more members than its kind can number is of GNU's kind.
  *
  * options      as above
- * text         the definition, in UTF-8, with a byte order mark or none, without a NUL at its end
+ * text         the definition, in UTF-8 but for comments, with a byte order mark or none, without a NUL at its end
  * length       gets the length of the library in bytes, where the status is IMPLIB_SUCCESS or
  *              IMPLIB_BUFFER_TOO_SMALL; else 0
  * place        gets an offset in the text, for implib_position: where it is not UTF-8, the token at which it is
@@ -235,7 +235,8 @@ static inline uint32_t implib_write(const struct implib_options *options, const 
  * The arguments and the buffer are as of implib_library_with, with the encoding in the library's place. It has
  * numbers and texts as that of implib_members:
  *
- *     number               how many warnings there are, and then of each, in the order of their offsets
+ *     number               how many warnings there are, and then of each, those of the form of the text (kinds 11
+ *                          and 12) before the others, and both in the order of their offsets
  *       number             its kind, an IMPLIB_WARNING_..
  *       number             its offset in the text, for implib_position
  *       number, number     its line and its column as the program writes them, in which a byte order mark does not
@@ -259,6 +260,8 @@ static inline uint32_t implib_warnings(const struct implib_options *options, con
 #define IMPLIB_WARNING_STDCALL 8u          /* the DLL is asked for a name of stdcall */
 #define IMPLIB_WARNING_NOT_EXPORTED 9u     /* what follows `==` is no export */
 #define IMPLIB_WARNING_SECOND_HEADING 10u  /* the name of the DLL is given twice */
+#define IMPLIB_WARNING_SKIPPED 11u         /* a statement is skipped: an import library has no use for it */
+#define IMPLIB_WARNING_ENDS_EARLY 12u      /* a NUL ends the text, and something follows it */
 
 /*
  * Puts the import library of a definition at the beginning of the buffer, and returns a status: the archive of

@@ -13,7 +13,8 @@ use Rattle.implib.proofs.Text.RefusedWithin.{refused_within}
 use Rattle.implib.proofs.Text.Trivia.{AllByRecursion-append}
 use Rattle.implib_rules.specs.declared.library.Refusal.{Refusal}
 use Rattle.implib_rules.specs.declared.library.Refusal.TheVariants as refusal
-use Rattle.implib_rules.specs.Library.{IsRefusalOfMembers, without_mark}
+use Rattle.implib_rules.proofs.PlainPlaces.{places_kept}
+use Rattle.implib_rules.specs.Library.{IsRefusalOfMembers, definition_text, without_mark}
 use Rattle.implib_rules.specs.Options.{LibraryOptionsView}
 use Rattle.implib_rules.specs.Places.{IsAtExport}
 use Rattle.implib_c.specs.GivenWith.{IsWithin}
@@ -81,9 +82,9 @@ export_within text (Some index) position at =
 -- a refusal of members is within its text
 pub refusal_within : (text : List ℕ) (options : LibraryOptionsView) (why : Refusal) → IsRefusalOfMembers text options why → IsWithin text why
 refusal_within text options refusal.NotUtf8 is = tt
-refusal_within text options (refusal.Syntax fault position) is = refused_within (without_mark text) (cause_of fault) position.offset is.refused.0
+refusal_within text options (refusal.Syntax fault position) is = refused_within (definition_text text) (cause_of fault) position.offset is.refused.0
 refusal_within text options refusal.NoName is = tt
-refusal_within text options (refusal.Members fault position) is = export_within (without_mark text) (export_index (cause_of fault)) position is.1
+refusal_within text options (refusal.Members fault position) is = export_within (definition_text text) (export_index (cause_of fault)) position is.1
 refusal_within text options (refusal.Archive fault) is = tt
 refusal_within text options refusal.OutOfMemory is = tt
 
@@ -92,5 +93,6 @@ mark_fits : (text : List ℕ) (offset : ℕ) (marked : Bool) → length text < 2
 mark_fits text offset true short within = let rest = length-drop 3 text in omega (arith, rest, short, within)
 mark_fits text offset false short within = omega (arith, short, within)
 
-pub offset_fits : (text : List ℕ) (offset : ℕ) → length text < 2 ^ 64 → offset ≤ length (without_mark text) → mark_length text + offset < 2 ^ 64
-offset_fits text offset = mark_fits text offset (starts_with nat_eq text (0xEF ∷ 0xBB ∷ 0xBF ∷ []))
+pub offset_fits : (text : List ℕ) (offset : ℕ) → length text < 2 ^ 64 → offset ≤ length (definition_text text) → mark_length text + offset < 2 ^ 64
+offset_fits text offset short within =
+    mark_fits text offset (starts_with nat_eq text (0xEF ∷ 0xBB ∷ 0xBF ∷ [])) short (omega (arith, (places_kept (without_mark text)).as_long, within))

@@ -16,7 +16,7 @@ use Rattle.implib_archive.specs.declared.error.Fault.TheVariants as archive
 use Rattle.implib_archive.specs.Archive.{archive_of}
 use Rattle.implib_rules.specs.declared.library.Refusal.{Refusal}
 use Rattle.implib_rules.specs.declared.library.Refusal.TheVariants as refusal
-use Rattle.implib_rules.specs.Library.{DefinitionFor, IsLibrary, MembersFor, definition_for, kind_of, without_mark}
+use Rattle.implib_rules.specs.Library.{DefinitionFor, IsLibrary, MembersFor, definition_for, kind_of, definition_text}
 use Rattle.implib_rules.specs.Names.{is_program, own_name}
 use Rattle.implib_rules.specs.Options.{LibraryOptionsView}
 use Rattle.implib_rules.specs.Order.{library_specs}
@@ -37,7 +37,7 @@ one_members : (text : List ℕ) (options : LibraryOptionsView) (members others :
 one_members text options members others first second =
     first.is
     ∙ ap (λ d. map member_of (library_specs (renamed d) options.machine options.flavor))
-    (one_for (without_mark text) options first.definition second.definition first.utf8 first.of_text second.of_text)
+    (one_for (definition_text text) options first.definition second.definition first.utf8 first.of_text second.of_text)
     ∙ sym second.is
 
 pub one_library : (text : List ℕ) (options : LibraryOptionsView) → OneLibrary text options

@@ -2,7 +2,7 @@
 use Rattle.std.specs.Prelude.{◌≡◌, ℕ, ◌<◌, ◌≤◌, List, length, Err}
 use Rattle.implib_rules.specs.declared.library.Refusal.{Refusal}
 use Rattle.implib_rules.specs.declared.library.Refusal.TheVariants as refusal
-use Rattle.implib_rules.specs.Library.{IsLibrary, IsRefusalOfBytes, without_mark}
+use Rattle.implib_rules.specs.Library.{IsLibrary, IsRefusalOfBytes, definition_text}
 use Rattle.implib_rules.specs.Options.{LibraryOptionsView}
 use Rattle.implib_c.specs.declared.outcome.Failure.{Failure}
 use Rattle.implib_c.specs.declared.status.Status.{Status}
@@ -38,8 +38,8 @@ pub record PutsLibrary (text : List ℕ) (options : LibraryOptionsView) (old new
 -- the offset of a refusal is one of the text without its byte order mark, or of its end
 abbrev pub IsWithin : List ℕ → Refusal → Type 0
 IsWithin text refusal.NotUtf8 = Unit {0}
-IsWithin text (refusal.Syntax fault position) = position.offset ≤ length (without_mark text)
+IsWithin text (refusal.Syntax fault position) = position.offset ≤ length (definition_text text)
 IsWithin text refusal.NoName = Unit {0}
-IsWithin text (refusal.Members fault position) = position.offset ≤ length (without_mark text)
+IsWithin text (refusal.Members fault position) = position.offset ≤ length (definition_text text)
 IsWithin text (refusal.Archive fault) = Unit {0}
 IsWithin text refusal.OutOfMemory = Unit {0}

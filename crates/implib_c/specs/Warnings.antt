@@ -30,6 +30,8 @@ kind_number (rules.IsOrdinalLike word) = 7
 kind_number (rules.IsStdcall word) = 8
 kind_number (rules.IsNotExported word) = 9
 kind_number rules.IsSecondHeading = 10
+kind_number rules.IsSkipped = 11
+kind_number rules.EndsEarly = 12
 
 -- a warning of a text whose byte order mark has this length
 abbrev pub warned_of : ℕ → WarningView → Warned

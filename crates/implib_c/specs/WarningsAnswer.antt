@@ -16,9 +16,10 @@ use Rattle.implib_c.specs.Warnings.{AreSaid, Said, encoded_warnings, warnings_in
 use Rattle.implib_rules.specs.declared.library.Refusal.{Refusal}
 use Rattle.implib_rules.specs.declared.library.Refusal.TheVariants as refusal
 use Rattle.implib_rules.specs.declared.places.Place.{Place}
-use Rattle.implib_rules.specs.Library.{IsRefusalOfMembers, MembersFor, without_mark}
+use Rattle.implib_rules.specs.Library.{IsRefusalOfMembers, MembersFor, definition_text}
 use Rattle.implib_rules.specs.Options.{LibraryOptionsView}
 use Rattle.implib_rules.specs.Places.{ArePlacesOf}
+use Rattle.implib_rules.specs.TextWarnings.{text_warnings}
 use Rattle.implib_rules.specs.Warnings.{warnings_of}
 
 -- the library has this many members
@@ -44,16 +45,16 @@ abbrev pub CountsMembers : List ℕ → LibraryOptionsView → Flavor → ℕ �
 CountsMembers text options Gnu count = count ≡ 0
 CountsMembers text options Msvc count = HasMembers text options count ⊎ HasNoMembers text options count
 
--- these are the warnings of the text, with its words as they are written
+-- these are the warnings of the text, with its words as they are written: those of its form, and then the others
 pub record HasWarnings (text : List ℕ) (options : LibraryOptionsView) (said : List Said) : Type 0 where
-  pub utf8 : IsUtf8 (without_mark text)
+  pub utf8 : IsUtf8 (definition_text text)
   pub definition : DefinitionView
-  pub parses : Parses (without_mark text) AMD64 definition
+  pub parses : Parses (definition_text text) AMD64 definition
   pub places : List Place
-  pub are_places : ArePlacesOf (without_mark text) places
+  pub are_places : ArePlacesOf (definition_text text) places
   pub count : ℕ
   pub counts : CountsMembers text options options.flavor count
-  pub are : AreSaid (mark_length text) (warnings_of options definition.exports places count) said
+  pub are : AreSaid (mark_length text) (text_warnings text ++ warnings_of options definition.exports places count) said
 
 -- the text is no definition, or memory was refused
 abbrev pub HasNoWarnings : List ℕ → LibraryOptionsView → Refusal → Type 0

@@ -16,9 +16,11 @@ use crate::encoding::put_bytes;
 use crate::library_with::{failure_in, mark_length, options_with};
 use crate::outcome::Failure;
 use implib::Flavor;
-use implib_rules::library::{Refusal, members_for, text_in};
+use implib_rules::library::{Refusal, members_for};
 use implib_rules::options::LibraryOptions;
 use implib_rules::places::{export_lines, read_with_places};
+use implib_rules::text::DefinitionText;
+use implib_rules::text_warnings::text_warnings;
 use implib_rules::warnings::{Notice, NoticeMessage, Warning, warnings_of};
 use std::alloc::{AllocError, Global};
 
@@ -37,6 +39,8 @@ fn kind_number(notice: &Notice<'_>) -> u64
         Notice::Stdcall(_) => 8,
         Notice::NotExported(_) => 9,
         Notice::SecondHeading => 10,
+        Notice::Skipped => 11,
+        Notice::EndsEarly => 12,
     }
 }
 
@@ -137,7 +141,8 @@ fn read_warnings(
         bytes.items) }
     ensures refused { IfErr result (HasNoWarnings text.now (library_options_view options.now)) }
 {
-    let Some(words) = text_in(text) else {
+    let read = DefinitionText::new(alloc, text)?;
+    let Some(words) = read.text() else {
         return Err(Refusal::NotUtf8);
     };
     let (def, places) = match read_with_places(alloc, words) {
@@ -146,7 +151,9 @@ fn read_warnings(
     };
     let count = member_count(alloc, text, options)?;
     let exports = def.exports.as_slice();
-    let warnings = warnings_of(alloc, exports, places.as_slice(), options, count)?;
+    let mut warnings = text_warnings(alloc, text)?;
+    let mut others = warnings_of(alloc, exports, places.as_slice(), options, count)?;
+    warnings.append(&mut others)?;
     let lines = export_lines(alloc, places.as_slice())?;
     let bytes = encoding_of(
         alloc,

@@ -12,7 +12,7 @@ use Rattle.implib_archive.specs.Archive.{archive_of}
 use Rattle.implib_read.specs.Archives.{Archive, archive_in}
 use Rattle.implib_read.specs.Classes.{library_in, members_read}
 use Rattle.implib_read.specs.OwnLibraries.{OwnMembersFound, member_bytes_in}
-use Rattle.implib_rules.specs.Library.{DefinitionFor, IsLibrary, MembersFor, definition_for, kind_for, kind_of, without_mark}
+use Rattle.implib_rules.specs.Library.{DefinitionFor, IsLibrary, MembersFor, definition_for, kind_for, kind_of, definition_text}
 use Rattle.implib_rules.specs.Names.{is_program, own_name}
 use Rattle.implib_rules.specs.Options.{LibraryOptionsView}
 use Rattle.implib_rules.specs.Order.{library_specs}
@@ -49,7 +49,7 @@ one_members : (bytes : List ℕ) (options : LibraryOptionsView) (members others 
 one_members bytes options members others first second =
     first.is
     ∙ ap (λ d. map member_of (library_specs (renamed d) options.machine options.flavor))
-    (one_for (without_mark bytes) options first.definition second.definition first.utf8 first.of_text second.of_text)
+    (one_for (definition_text bytes) options first.definition second.definition first.utf8 first.of_text second.of_text)
     ∙ sym second.is
 
 pub one_library : (bytes : List ℕ) (options : LibraryOptionsView) (file other : List ℕ) → IsLibrary bytes options file → IsLibrary bytes options other → file ≡ other

@@ -11,7 +11,7 @@ use Rattle.implib.specs.Members.ReadBack.{alias_among, import_among}
 use Rattle.implib.specs.Renaming.{renamed}
 use Rattle.implib_read.specs.Classes.{MemberRead, library_in}
 use Rattle.implib_read.specs.OwnLibraries.{meaning_of_class}
-use Rattle.implib_rules.specs.Library.{DefinitionFor, IsLibrary, without_mark}
+use Rattle.implib_rules.specs.Library.{DefinitionFor, IsLibrary, definition_text}
 use Rattle.implib_rules.specs.Options.{LibraryOptionsView}
 use Rattle.implib_rules.specs.Order.{own_aliases, own_imports}
 use Rattle.implib_check.specs.declared.compare.Verdict.{Verdict}
@@ -49,7 +49,7 @@ pub record SaysWhatIsDefined (d : DefinitionView) (machine : MachineType) (flavo
 -- the definition of bytes for these options says what is read
 pub record IsDefinedBy (definition : List ℕ) (options : LibraryOptionsView) (meant : List MemberRead) : Type 0 where
   pub d : DefinitionView
-  pub of_text : DefinitionFor (without_mark definition) options d
+  pub of_text : DefinitionFor (definition_text definition) options d
   pub says : SaysWhatIsDefined (renamed d) options.machine options.flavor meant
 
 -- What is read of the library of a definition is what the definition says.

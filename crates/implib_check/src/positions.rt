@@ -1,9 +1,10 @@
 //! Where the exports of a definition are in its text.
 
 use implib::def::Position;
-use implib_rules::library::{definition_for, text_in};
+use implib_rules::library::definition_for;
 use implib_rules::options::LibraryOptions;
 use implib_rules::places::{Site, read_with_places};
+use implib_rules::text::DefinitionText;
 use std::alloc::{AllocError, Global};
 use std::collections::HashMap;
 
@@ -21,7 +22,8 @@ impl Positions {
         options: &LibraryOptions,
     ) -> Result<Positions, AllocError> {
         let mut by_symbol = HashMap::new(alloc);
-        let Some(text) = text_in(definition) else {
+        let read = DefinitionText::new(alloc, definition)?;
+        let Some(text) = read.text() else {
             return Ok(Positions { by_symbol });
         };
         let Ok(def) = definition_for(alloc, text, options) else {

@@ -1,5 +1,5 @@
 -- What a run of the program does (this project's own).
-use Rattle.std.specs.Prelude.{◌≡◌, ◌⊎◌, ℕ, Bool, true, false, List, [], ◌∷◌, Option, None, Some, Result, Ok, Err, IfSome, codes, drop, length, map, if◌then◌else◌}
+use Rattle.std.specs.Prelude.{◌≡◌, ◌⊎◌, ℕ, Bool, true, false, List, [], ◌∷◌, ◌++◌, Option, None, Some, Result, Ok, Err, IfSome, codes, drop, length, map, if◌then◌else◌}
 use Rattle.std.specs.Io.KnownBytes.{Appends}
 use Rattle.std.specs.Str.{IsUtf8, bytes_eq}
 use Rattle.std.specs.declared.io.ErrorKind.{ErrorKind}
@@ -21,9 +21,10 @@ use Rattle.implib_rules.specs.declared.library.LibraryError.TheVariants.{Refused
 use Rattle.implib_rules.specs.declared.library.Refusal.{Refusal}
 use Rattle.implib_rules.specs.declared.library.Refusal.TheVariants.{OutOfMemory}
 use Rattle.implib_rules.specs.declared.places.Place.{Place}
-use Rattle.implib_rules.specs.Library.{IsRefusalOfMembers, MembersFor, status_of, without_mark}
+use Rattle.implib_rules.specs.Library.{IsRefusalOfMembers, MembersFor, status_of, definition_text}
 use Rattle.implib_rules.specs.Options.{LibraryOptionsView}
 use Rattle.implib_rules.specs.Places.{ArePlacesOf, export_lines}
+use Rattle.implib_rules.specs.TextWarnings.{text_warnings}
 use Rattle.implib_rules.specs.Warnings.{WarningView}
 
 -- what is known of all that a run uses but standard output: the bytes that standard input has left, the disk, and
@@ -73,15 +74,15 @@ pub record SaysWarnings (bytes : List ℕ) (definition : DefinitionView) (places
   pub count : ℕ
   pub counts : CountsMembers bytes request.library request.library.flavor count
   pub says : Says before after
-      (warning_lines request.definition (export_lines places) (warnings_for request definition.exports places count))
+      (warning_lines request.definition (export_lines places) (text_warnings bytes ++ warnings_for request definition.exports places count))
 
 -- the bytes are a definition, and its warnings were said
 pub record WarnsOf (bytes : List ℕ) (request : RequestView) (before after : Option (List Line)) : Type 0 where
-  pub utf8 : IsUtf8 (without_mark bytes)
+  pub utf8 : IsUtf8 (definition_text bytes)
   pub definition : DefinitionView
-  pub parses : Parses (without_mark bytes) AMD64 definition
+  pub parses : Parses (definition_text bytes) AMD64 definition
   pub places : List Place
-  pub are_places : ArePlacesOf (without_mark bytes) places
+  pub are_places : ArePlacesOf (definition_text bytes) places
   pub warns : SaysWarnings bytes definition places request before after
 
 -- the text is no definition
@@ -92,7 +93,7 @@ pub record HasSyntaxError (text : List ℕ) : Type 0 where
 
 -- the bytes are no definition, and nothing was said
 pub record IsNoDefinition (bytes : List ℕ) (before after : Option (List Line)) : Type 0 where
-  pub refused : (¬ (IsUtf8 (without_mark bytes))) ⊎ HasSyntaxError (without_mark bytes)
+  pub refused : (¬ (IsUtf8 (definition_text bytes))) ⊎ HasSyntaxError (definition_text bytes)
   pub silent : after ≡ before
 
 -- the warnings of bytes were said, if they are asked for

@@ -26,9 +26,11 @@ use crate::request::{CallError, Request, Task, caller_of, task_of};
 use crate::verbose::warnings_for;
 use implib::def::ModuleDef;
 use implib::{Flavor, ParseError};
-use implib_rules::library::{LibraryError, Refusal, members_for, text_in};
+use implib_rules::library::{LibraryError, Refusal, members_for};
 use implib_rules::options::LibraryOptions;
 use implib_rules::places::{Place, export_lines, read_with_places};
+use implib_rules::text::DefinitionText;
+use implib_rules::text_warnings::text_warnings;
 use implib_rules::warnings::Warning;
 use std::alloc::{AllocError, Global};
 use std::env::Args;
@@ -166,7 +168,9 @@ fn warn_of<T: Reporter>(
 {
     let count = member_count(alloc, bytes, &request.library)?;
     let exports = def.exports.as_slice();
-    let warnings = warnings_for(alloc, exports, places, request, count)?;
+    let mut warnings = text_warnings(alloc, bytes)?;
+    let mut others = warnings_for(alloc, exports, places, request, count)?;
+    warnings.append(&mut others)?;
     let lines = export_lines(alloc, places)?;
     say_warnings(
         reporter,
@@ -191,7 +195,8 @@ fn warn<T: Reporter>(
     if !request.is_verbose {
         return Ok(());
     }
-    let Some(text) = text_in(bytes) else {
+    let read = DefinitionText::new(alloc, bytes)?;
+    let Some(text) = read.text() else {
         return Ok(());
     };
     match read_with_places(alloc, text) {

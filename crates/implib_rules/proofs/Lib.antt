@@ -10,6 +10,7 @@ pub mod Accepted
 pub mod BothFlavors
 pub mod OrderedReadings
 pub mod PlainNames
+pub mod PlainPlaces
 pub mod Made
 pub mod OfExports
 pub mod Positions

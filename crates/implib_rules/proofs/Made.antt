@@ -22,7 +22,7 @@ use Rattle.implib.specs.Members.ReadBack.{ReadBack}
 use Rattle.implib.specs.Renaming.{renamed}
 use Rattle.implib.proofs.Members.Renaming.{renamed_twice}
 use Rattle.implib_rules.specs.Exports.{DefinitionOfExports, MembersOfExports, of_exports}
-use Rattle.implib_rules.specs.Library.{DefinitionFor, MembersFor, RefusesMembers, without_mark}
+use Rattle.implib_rules.specs.Library.{DefinitionFor, MembersFor, RefusesMembers, definition_text}
 use Rattle.implib_rules.specs.Order.{AreInOrder, LibraryReads, library_specs, msvc_specs}
 use Rattle.implib_rules.specs.Options.{LibraryOptionsView}
 use Rattle.implib_rules.proofs.OrderedReadings.{reads_in_order}
@@ -106,7 +106,7 @@ read_in d machine Gnu all members made reads plain is = tt
 
 -- the members of the library, in order, are those for the options
 pub members_made : (bytes text : List ℕ) (options : LibraryOptionsView) (d : DefinitionView) (members : List MemberView)
-    → (text ≡ without_mark bytes) × IsUtf8 (without_mark bytes) → DefinitionFor text options d
+    → (text ≡ definition_text bytes) × IsUtf8 (definition_text bytes) → DefinitionFor text options d
     → AreInOrder (renamed d) options.machine options.flavor members → MembersFor bytes options members
 members_made bytes text options d members found meant ordered = record {
   utf8 = found.1;
@@ -121,7 +121,7 @@ members_made bytes text options d members found meant ordered = record {
 
 -- a refusal of its members is one for the options
 pub members_refused : (bytes text : List ℕ) (options : LibraryOptionsView) (d : DefinitionView) (cause : Cause)
-    → (text ≡ without_mark bytes) × IsUtf8 (without_mark bytes) → DefinitionFor text options d
+    → (text ≡ definition_text bytes) × IsUtf8 (definition_text bytes) → DefinitionFor text options d
     → refusal (renamed d) options.machine options.flavor ≡ Some cause → RefusesMembers bytes options cause
 members_refused bytes text options d cause found meant refused = record {
   utf8 = found.1;
@@ -144,3 +144,7 @@ members_of_exports exports options d members meant ordered = record {
       read_in d options.machine options.flavor ordered.all members ordered.made ordered.reads
       (subst (λ (x : DefinitionView). AllByRecursion IsPlain (public_exports (renamed x))) (sym meant.is) (plain_for options (of_exports exports) [] false plain)) ordered.is;
 }
+
+-- the text that is read of bytes is their definition's
+pub found_in : (bytes text read : List ℕ) → read ≡ definition_text bytes → (text ≡ read) × IsUtf8 read → (text ≡ definition_text bytes) × IsUtf8 (definition_text bytes)
+found_in bytes text read is found = (found.0 ∙ is, subst IsUtf8 is found.1)

@@ -11,7 +11,7 @@ use Rattle.implib.specs.Text.Parses.{Parses}
 use Rattle.implib.proofs.Text.OneReading.{one_definition}
 use Rattle.implib_archive.specs.Archive.{archive_of}
 use Rattle.implib_rules.specs.Exports.{MembersOfExports, of_exports}
-use Rattle.implib_rules.specs.Library.{MembersFor, definition_for, kind_of, without_mark}
+use Rattle.implib_rules.specs.Library.{MembersFor, definition_for, kind_of, definition_text}
 use Rattle.implib_rules.specs.LibraryLaws.{LibrariesAreOfExports}
 use Rattle.implib_rules.specs.LibraryName.{gnu_library_name, with_library_name}
 use Rattle.implib_rules.specs.Linked.{NamingView, linked}
@@ -38,14 +38,14 @@ unfolding part_after_last
 given_name_is (Some name) own program named = refl
 given_name_is None own program named = cc
 
-same_members : (text : List ℕ) (options : LibraryOptionsView) (parsed : DefinitionView) (members others : List MemberView) → Parses (without_mark text) AMD64 parsed
+same_members : (text : List ℕ) (options : LibraryOptionsView) (parsed : DefinitionView) (members others : List MemberView) → Parses (definition_text text) AMD64 parsed
     → MembersFor text options members → MembersOfExports parsed.exports options others → members ≡ others
 same_members text options parsed members others parses first second =
     let meant = first.of_text in
     let own = own_name meant.heard in
     let program = is_program meant.heard in
     let specs = specs_named options.machine options.naming options.flavor in
-    let once = one_definition (without_mark text) first.utf8 AMD64 meant.parsed parsed meant.parses parses in
+    let once = one_definition (definition_text text) first.utf8 AMD64 meant.parsed parsed meant.parses parses in
     first.is
     ∙ ap (λ (d : DefinitionView). map member_of (library_specs (renamed d) options.machine options.flavor)) (meant.is ∙ ap (λ (d : DefinitionView). definition_for options d own program) once)
     ∙ ap (λ name. map member_of (specs parsed name)) (given_name_is options.dll own program second.of_exports.named)

@@ -5,11 +5,13 @@ pub mod Firsts
 pub mod Repeats
 pub mod LibraryName
 pub mod Order
+pub mod Plain
 pub mod Library
 pub mod Exports
 pub mod Places
 pub mod Heard
 pub mod Warnings
+pub mod TextWarnings
 pub mod Views
 pub mod WorkedNames
 pub mod WorkedWarnings
@@ -17,3 +19,6 @@ pub mod LibraryLaws
 pub mod BothFlavors
 pub mod WorkedLibraryNames
 pub mod WorkedExports
+pub mod WorkedPlain
+pub mod WorkedTextWarnings
+pub mod PlainLaws

@@ -36,6 +36,7 @@ use Rattle.implib_rules.specs.Linked.{linked}
 use Rattle.implib_rules.specs.Names.{dll_name, is_program, lacks_name, own_name}
 use Rattle.implib_rules.specs.Order.{LibraryReads, library_specs}
 use Rattle.implib_rules.specs.Places.{IsAtFault}
+use Rattle.implib_rules.specs.Plain.{plain_text}
 use Rattle.implib_rules.specs.Repeats.{without_repeats}
 use Rattle.implib_rules.specs.Options.{LibraryOptionsView}
 
@@ -51,6 +52,10 @@ archive_refusal (archive.OutOfMemory refused) = OutOfMemory
 -- bytes without the byte order mark of UTF-8 in front of them (the Unicode Standard, "Byte Order Mark")
 abbrev pub without_mark : List ℕ → List ℕ
 without_mark bytes = if starts_with nat_eq bytes (0xEF ∷ 0xBB ∷ 0xBF ∷ []) then drop 3 bytes else bytes
+
+-- The text of a definition: its bytes without a byte order mark, in the grammar of `implib` (Plain).
+abbrev pub definition_text : List ℕ → List ℕ
+definition_text bytes = plain_text (without_mark bytes)
 
 -- the definition under the name of its DLL, without repeats, each export as it is linked, and with the name of its
 -- library
@@ -90,9 +95,9 @@ IsRefusalOfText text options OutOfMemory = Unit {0}
 -- The members of the library that is asked for: those of the definition of the bytes, in the order of
 -- llvm-dlltool, and without the short imports of aliases. They are read back as it says.
 pub record MembersFor (bytes : List ℕ) (options : LibraryOptionsView) (members : List MemberView) : Type 0 where
-  pub utf8 : IsUtf8 (without_mark bytes)
+  pub utf8 : IsUtf8 (definition_text bytes)
   pub definition : DefinitionView
-  pub of_text : DefinitionFor (without_mark bytes) options definition
+  pub of_text : DefinitionFor (definition_text bytes) options definition
   -- all members of the definition, which is not refused
   pub all : List MemberView
   pub made : AreMembersOf (renamed definition) options.machine options.flavor all
@@ -103,23 +108,23 @@ pub record MembersFor (bytes : List ℕ) (options : LibraryOptionsView) (members
 
 -- the bytes have a definition for this, whose members are refused
 pub record RefusesMembers (bytes : List ℕ) (options : LibraryOptionsView) (cause : Cause) : Type 0 where
-  pub utf8 : IsUtf8 (without_mark bytes)
+  pub utf8 : IsUtf8 (definition_text bytes)
   pub definition : DefinitionView
-  pub of_text : DefinitionFor (without_mark bytes) options definition
+  pub of_text : DefinitionFor (definition_text bytes) options definition
   pub refused : refusal (renamed definition) options.machine options.flavor ≡ Some cause
 
 -- the text of the bytes has no definition, for this
 pub record RefusesText (bytes : List ℕ) (options : LibraryOptionsView) (why : Refusal) : Type 0 where
-  pub utf8 : IsUtf8 (without_mark bytes)
-  pub refused : IsRefusalOfText (without_mark bytes) options why
+  pub utf8 : IsUtf8 (definition_text bytes)
+  pub refused : IsRefusalOfText (definition_text bytes) options why
 
 -- why bytes have no members
 abbrev pub IsRefusalOfMembers : List ℕ → LibraryOptionsView → Refusal → Type 0
-IsRefusalOfMembers bytes options NotUtf8 = ¬ (IsUtf8 (without_mark bytes))
+IsRefusalOfMembers bytes options NotUtf8 = ¬ (IsUtf8 (definition_text bytes))
 IsRefusalOfMembers bytes options (Syntax fault position) = RefusesText bytes options (Syntax fault position)
 IsRefusalOfMembers bytes options NoName = RefusesText bytes options NoName
 IsRefusalOfMembers bytes options (Members fault position) =
-    RefusesMembers bytes options (cause_of fault) × IsAtFault (without_mark bytes) (cause_of fault) position
+    RefusesMembers bytes options (cause_of fault) × IsAtFault (definition_text bytes) (cause_of fault) position
 IsRefusalOfMembers bytes options (Archive fault) = ⊥
 IsRefusalOfMembers bytes options OutOfMemory = Unit {0}
 

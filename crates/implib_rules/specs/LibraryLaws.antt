@@ -10,7 +10,7 @@ use Rattle.implib.specs.Link.LinkedMembers.{IsPrefixOf, member_prefix}
 use Rattle.implib.specs.Members.MsvcObjects.{descriptor_symbol}
 use Rattle.implib.specs.Text.Parses.{Parses}
 use Rattle.implib_rules.specs.Exports.{IsLibraryOfExports}
-use Rattle.implib_rules.specs.Library.{DefinitionFor, IsLibrary, without_mark}
+use Rattle.implib_rules.specs.Library.{DefinitionFor, IsLibrary, definition_text}
 use Rattle.implib_rules.specs.LibraryName.{gnu_library_name, with_library_name, without_ending}
 use Rattle.implib_rules.specs.Options.{LibraryOptionsView}
 
@@ -38,5 +38,5 @@ GnuLibrariesAreApart =
 -- are the same bytes. Exports have one only where the name of the DLL is given.
 abbrev pub LibrariesAreOfExports : Type 0
 LibrariesAreOfExports =
-    (text : List ℕ) (options : LibraryOptionsView) (parsed : DefinitionView) (file other : List ℕ) → Parses (without_mark text) AMD64 parsed →
+    (text : List ℕ) (options : LibraryOptionsView) (parsed : DefinitionView) (file other : List ℕ) → Parses (definition_text text) AMD64 parsed →
     IsLibrary text options file → IsLibraryOfExports parsed.exports options other → file ≡ other

@@ -88,6 +88,10 @@ pub data NoticeView : Type 0 where
   IsNotExported : List ℕ → NoticeView
   -- a second `LIBRARY` or `NAME`
   IsSecondHeading : NoticeView
+  -- a statement that is of no account for an import library
+  IsSkipped : NoticeView
+  -- a NUL ends the text, and something follows it
+  EndsEarly : NoticeView
 
 -- the view of a notice of the program
 abbrev pub notice_view : Notice → NoticeView
@@ -101,6 +105,8 @@ notice_view (notice.OrdinalLike word) = IsOrdinalLike word.now
 notice_view (notice.Stdcall word) = IsStdcall word.now
 notice_view (notice.NotExported word) = IsNotExported word.now
 notice_view notice.SecondHeading = IsSecondHeading
+notice_view notice.Skipped = IsSkipped
+notice_view notice.EndsEarly = EndsEarly
 
 -- a warning: what it says, and where it is
 pub record WarningView : Type 0 where

@@ -16,6 +16,9 @@ ghost use Rattle.implib_rules.specs.WorkedExports.{ExportsWorked};
 ghost use Rattle.implib_rules.specs.WorkedLibraryNames.{LibrariesWorked};
 ghost use Rattle.implib_rules.specs.WorkedNames.{AliasesLinked, DllsNamed};
 ghost use Rattle.implib_rules.specs.WorkedNames.{ExportsLinked, MembersInOrder};
+ghost use Rattle.implib_rules.specs.PlainLaws.{PlacesAreKept};
+ghost use Rattle.implib_rules.specs.WorkedPlain.{PlainTextsWorked};
+ghost use Rattle.implib_rules.specs.WorkedTextWarnings.{TextWarningsWorked};
 ghost use Rattle.implib_rules.specs.WorkedWarnings.{PlacesWorked, WarningsWorked, WordsJudged};
 ghost use Rattle.std.specs.Prelude.{◌≡◌, ℕ, None, false};
 
@@ -127,4 +130,19 @@ pub fn warnings_in_order()
 /// The tokens that are taken for names of exports are the words of the definition's exports.
 pub fn exports_at_words()
     ensures { AreAtWords }
+{}
+
+/// The text of a definition has each line and each column where the bytes have them.
+pub fn places_are_kept()
+    ensures { PlacesAreKept }
+{}
+
+/// Definitions as other tools write them are read as was worked by hand.
+pub fn plain_texts_worked()
+    ensures { PlainTextsWorked }
+{}
+
+/// The forms of definitions have the warnings that were worked by hand.
+pub fn text_warnings_worked()
+    ensures { TextWarningsWorked }
 {}

@@ -19,8 +19,11 @@ mod message;
 pub mod name;
 pub mod options;
 pub mod places;
+pub mod plain;
 pub mod repeats;
 mod shown;
+pub mod text;
+pub mod text_warnings;
 pub mod warnings;
 
 pub use message::{FaultMessage, position_of};

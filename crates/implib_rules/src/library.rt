@@ -11,12 +11,11 @@ ghost use Rattle.implib_rules.specs.Library.{BreaksOff, DefinitionFor, IsRefusal
 ghost use Rattle.implib_rules.specs.Library.{IsRefusalOfBytes, IsRefusalOfMembers};
 ghost use Rattle.implib_rules.specs.Library.{IfBrokenOff, IfRefused, IsRefusalOfText};
 ghost use Rattle.implib_rules.specs.Library.{MembersFor, WritesLibrary};
-ghost use Rattle.implib_rules.specs.Library.{definition_for, kind_for, kind_of, without_mark};
+ghost use Rattle.implib_rules.specs.Library.{definition_for, kind_for, kind_of};
 ghost use Rattle.implib_rules.specs.Names.{lacks_name};
 ghost use Rattle.implib_rules.specs.Order.{AreInOrder};
 ghost use Rattle.implib_rules.specs.Options.{library_options_view};
 ghost use Rattle.std.specs.Prelude.{◌≡◌, IfErr, IfOk, MatchOption, None, OnOk, Some, false, length, map, true};
-ghost use Rattle.std.specs.Str.{IsUtf8};
 
 use crate::aliases::link_with_targets;
 use crate::library_name::library_name_for;
@@ -24,6 +23,7 @@ use crate::name::{FirstHeading, dll_name, lacks_name};
 use crate::options::LibraryOptions;
 use crate::places::position_of_fault;
 use crate::repeats::leave_out_repeats;
+use crate::text::DefinitionText;
 use implib::def::{ModuleDef, Position};
 use implib::gnu::GnuImportLibrary;
 use implib::msvc::{MemberLists, MsvcImportLibrary};
@@ -129,24 +129,6 @@ impl From<io::Error> for LibraryError {
     fn from(cause: io::Error) -> LibraryError {
         LibraryError::Writing(WriteError::Writer(cause))
     }
-}
-
-// The bytes without a leading byte order mark of UTF-8.
-fn without_mark(bytes: &[u8]) -> &[u8]
-    ensures { result.now ≡ without_mark bytes.now }
-{
-    if bytes.starts_with(&[0xEF, 0xBB, 0xBF]) {
-        return &bytes[3..];
-    }
-    bytes
-}
-
-/// The text of a definition: its bytes without a byte order mark, if they are UTF-8.
-pub fn text_in(bytes: &[u8]) -> Option<&str>
-    ensures { MatchOption result (¬ (IsUtf8 (without_mark bytes.now)))
-        (λ text. (text.now ≡ without_mark bytes.now) × IsUtf8 (without_mark bytes.now)) }
-{
-    str::from_utf8(without_mark(bytes)).ok()
 }
 
 /// A definition by the rules of `dlltool`, under the name of the DLL that is given, or else its own:
@@ -271,7 +253,8 @@ pub fn members_for(
         (map member_view members.items)) }
     ensures refused { IfErr result (IsRefusalOfMembers bytes.now (library_options_view options.now)) }
 {
-    let Some(text) = text_in(bytes) else {
+    let read = DefinitionText::new(alloc, bytes)?;
+    let Some(text) = read.text() else {
         return Err(Refusal::NotUtf8);
     };
     let def = definition_for(alloc, text, options)?;

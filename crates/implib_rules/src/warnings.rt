@@ -52,6 +52,10 @@ pub enum Notice<'a> {
     NotExported(&'a str),
     /// A second `LIBRARY` or `NAME`.
     SecondHeading,
+    /// A statement that is of no account for an import library.
+    Skipped,
+    /// A NUL ends the text, and something follows it.
+    EndsEarly,
 }
 
 /// A warning.
@@ -64,7 +68,7 @@ pub struct Warning<'a> {
 }
 
 // The position of warnings about a whole text.
-const WHOLE: Position = Position {
+pub(crate) const WHOLE: Position = Position {
     offset: 0,
     line: 1,
     column: 1,
@@ -213,7 +217,7 @@ fn other_kind_notice<'a>(flavor: Flavor, count: usize) -> Option<Notice<'a>>
 }
 
 // Appends a warning, if there is one.
-fn push_notice<'a>(
+pub(crate) fn push_notice<'a>(
     warnings: &mut Vec<Warning<'a>>,
     notice: Option<Notice<'a>>,
     position: Position,
@@ -471,6 +475,12 @@ impl<'a> fmt::Display for NoticeMessage<'a> {
             ),
             Notice::SecondHeading => {
                 f.write_str("the name of the DLL is given twice; the first counts")
+            }
+            Notice::Skipped => f.write_str(
+                "this statement is skipped: it is of no account for an import library",
+            ),
+            Notice::EndsEarly => {
+                f.write_str("the definition ends here, at a null byte; what follows is not read")
             }
         }
     }

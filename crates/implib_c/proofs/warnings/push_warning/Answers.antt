@@ -18,6 +18,8 @@ kind_fits (rules_of.IsOrdinalLike word) = omega arith
 kind_fits (rules_of.IsStdcall word) = omega arith
 kind_fits (rules_of.IsNotExported word) = omega arith
 kind_fits rules_of.IsSecondHeading = omega arith
+kind_fits rules_of.IsSkipped = omega arith
+kind_fits rules_of.EndsEarly = omega arith
 
 pub returns : goal.returns
 unfolding encoded_said

@@ -1,0 +1,21 @@
+use Rattle.std.proofs.Common.{refl}
+use Rattle.implib_rules.specs.Plain.{begins_sections, begins_statement, first_step, is_system, name_step}
+use Rattle.implib_rules.specs.TextWarnings.{text_warnings_from}
+use Rattle.implib_rules.specs.WorkedTextWarnings.{TextWarningsWorked}
+use Rattle.implib_rules.proofs.laws.text_warnings_worked.Goals as goal
+
+worked : TextWarningsWorked
+unfolding begins_sections begins_statement first_step is_system name_step text_warnings_from
+worked = record {
+  none = refl;
+  description = refl;
+  several = refl;
+  sections = refl;
+  ended = refl;
+  ended_last = refl;
+  in_a_comment = refl;
+  marked = refl;
+}
+
+pub returns : goal.returns
+returns c = worked

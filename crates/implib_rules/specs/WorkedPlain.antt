@@ -1,0 +1,40 @@
+-- Texts of definitions, worked by hand.
+use Rattle.std.specs.Prelude.{◌≡◌, [], ◌∷◌, ◌++◌, codes}
+use Rattle.implib_rules.specs.Plain.{plain_text}
+
+-- definitions as other tools write them, and what is read
+pub record PlainTextsWorked : Type 0 where
+  pub foreign_comment : plain_text (codes "a ;" ++ (0xFC ∷ 0xE4 ∷ []) ++ codes "\n" ++ (0xFC ∷ [])) ≡ codes "a ;??\n" ++ (0xFC ∷ [])
+  pub quoted_semicolon : plain_text ((34 ∷ []) ++ codes ";" ++ (0xC3 ∷ 0xBC ∷ 34 ∷ []) ++ codes " ;" ++ (0xFC ∷ [])) ≡ (34 ∷ []) ++ codes ";" ++ (0xC3 ∷ 0xBC ∷ 34 ∷ []) ++ codes " ;?"
+  pub semicolon_in_word : plain_text (codes "a;" ++ (0xFC ∷ [])) ≡ codes "a;?"
+  pub wide_space_and_comment : plain_text ((0xC2 ∷ 0xA0 ∷ []) ++ codes ";" ++ (0xFC ∷ [])) ≡ (0xC2 ∷ 0xA0 ∷ []) ++ codes ";?"
+  pub wide_space_and_quote : plain_text ((0xE2 ∷ 0x80 ∷ 0x83 ∷ 34 ∷ []) ++ codes ";" ++ (0xFC ∷ 34 ∷ [])) ≡ (0xE2 ∷ 0x80 ∷ 0x83 ∷ 34 ∷ []) ++ codes ";" ++ (0xFC ∷ 34 ∷ [])
+  pub description : plain_text (codes "DESCRIPTION 'a b'\nEXPORTS a") ≡ codes "                 \nEXPORTS a"
+  pub description_in_exports : plain_text (codes "EXPORTS\na\n" ++ (9 ∷ []) ++ codes "DESCRIPTION " ++ (34 ∷ []) ++ codes "b" ++ (34 ∷ 13 ∷ []) ++ codes "\nc") ≡ codes "EXPORTS\na\n" ++ (9 ∷ []) ++ codes "                \nc"
+  pub description_as_a_name : plain_text (codes "EXPORTS\nDESCRIPTION\nb") ≡ codes "EXPORTS\nDESCRIPTION\nb"
+  pub description_not_first : plain_text (codes "EXPORTS a DESCRIPTION " ++ (34 ∷ []) ++ codes "b" ++ (34 ∷ [])) ≡ codes "EXPORTS a DESCRIPTION " ++ (34 ∷ []) ++ codes "b" ++ (34 ∷ [])
+  pub longer_than_description : plain_text (codes "EXPORTS\nDESCRIPTIONS " ++ (34 ∷ []) ++ codes "b" ++ (34 ∷ [])) ≡ codes "EXPORTS\nDESCRIPTIONS " ++ (34 ∷ []) ++ codes "b" ++ (34 ∷ [])
+  pub stub : plain_text (codes "STUB:a.exe\nSTUB 'b.exe'") ≡ codes "          \n            "
+  pub stub_as_a_name : plain_text (codes "EXPORTS\nSTUB\nb") ≡ codes "EXPORTS\nSTUB\nb"
+  pub program_type : plain_text (codes "EXETYPE WINDOWS 3.1\nEXETYPE OS2") ≡ codes "                   \n           "
+  pub program_type_as_a_name : plain_text (codes "EXPORTS\nEXETYPE\nWINDOWS") ≡ codes "EXPORTS\nEXETYPE\nWINDOWS"
+  pub sections : plain_text (codes "SECTIONS\n.text READ, WRITE\n;x\n.data,SHARED\nEXPORTS a READ") ≡ codes "        \n                 \n;x\n            \nEXPORTS a READ"
+  pub sections_in_one_line : plain_text (codes "SECTIONS .a READ\na READ\nb") ≡ codes "                \n      \nb"
+  pub sections_as_a_name : plain_text (codes "EXPORTS\nSECTIONS\nb DATA\nc READ") ≡ codes "EXPORTS\nSECTIONS\nb DATA\nc READ"
+  pub exported_as : plain_text (codes "a EXPORTAS b\n" ++ (34 ∷ []) ++ codes "c" ++ (34 ∷ []) ++ codes " DATA EXPORTAS " ++ (34 ∷ []) ++ codes "d" ++ (34 ∷ [])) ≡ codes "a ==       b\n" ++ (34 ∷ []) ++ codes "c" ++ (34 ∷ []) ++ codes " DATA ==       " ++ (34 ∷ []) ++ codes "d" ++ (34 ∷ [])
+  pub exported_in_a_line : plain_text (codes "a\nEXPORTAS\nb") ≡ codes "a\nEXPORTAS\nb"
+  pub exported_as_first : plain_text (codes "EXPORTS EXPORTAS b") ≡ codes "EXPORTS EXPORTAS b"
+  pub exported_after_a_sign : plain_text (codes "a == EXPORTAS b") ≡ codes "a == EXPORTAS b"
+  pub exported_as_nothing : plain_text (codes "a EXPORTAS ;b\nc EXPORTAS") ≡ codes "a EXPORTAS ;b\nc EXPORTAS"
+  pub library_of_that_name : plain_text (codes "LIBRARY EXPORTAS BASE=1") ≡ codes "LIBRARY EXPORTAS BASE=1"
+  pub apostrophes : plain_text (codes "LIBRARY 'a b.dll'") ≡ codes "LIBRARY " ++ (34 ∷ []) ++ codes "a b.dll" ++ (34 ∷ [])
+  pub apostrophes_twice : plain_text (codes "'a''b'") ≡ (34 ∷ []) ++ codes "a" ++ (34 ∷ 34 ∷ []) ++ codes "b" ++ (34 ∷ [])
+  pub apostrophe_in_a_word : plain_text (codes "don't 'x") ≡ codes "don't 'x"
+  pub quote_in_apostrophes : plain_text (codes "'a" ++ (34 ∷ []) ++ codes "b'") ≡ codes "'a" ++ (34 ∷ []) ++ codes "b'"
+  pub ordinals : plain_text (codes "a @0x10 DATA\nb @ 0xFF") ≡ codes "a @0016 DATA\nb @ 0255"
+  pub sizes : plain_text (codes "STACKSIZE 0x100000,0x1000\nHEAPSIZE 1,0x0") ≡ codes "STACKSIZE 01048576,004096\nHEAPSIZE 1,000"
+  pub base : plain_text (codes "LIBRARY a BASE=0xabcdef12") ≡ codes "LIBRARY a BASE=2882400018"
+  pub longer_in_decimal : plain_text (codes "NAME a BASE=0x7FF700000000") ≡ codes "NAME a BASE=0x7FF700000000"
+  pub no_numbers : plain_text (codes "EXPORTS\n0x10\n@0x10\na @0xG\nb @0x\nc = 0x10\nd == @0x10\nNAME 0x10") ≡ codes "EXPORTS\n0x10\n@0x10\na @0xG\nb @0x\nc = 0x10\nd == @0x10\nNAME 0x10"
+  pub ended : plain_text (codes "a " ++ (0 ∷ 0xFF ∷ []) ++ codes "'b'") ≡ codes "a " ++ (0 ∷ []) ++ codes "?'b'"
+  pub in_order : plain_text (codes "LIBRARY a\nHEAPSIZE 1,2 ; c\nEXPORTS\n  b @1 NONAME DATA\n c=d == e PRIVATE\n") ≡ codes "LIBRARY a\nHEAPSIZE 1,2 ; c\nEXPORTS\n  b @1 NONAME DATA\n c=d == e PRIVATE\n"

@@ -1,0 +1,19 @@
+-- Warnings of the form of a text, worked by hand.
+use Rattle.std.specs.Prelude.{◌≡◌, ℕ, List, [], ◌∷◌, ◌++◌, codes}
+use Rattle.implib_rules.specs.TextWarnings.{text_warnings}
+use Rattle.implib_rules.specs.Warnings.{EndsEarly, IsSkipped, NoticeView, WarningView}
+use Rattle.implib_rules.specs.WorkedWarnings.{at_line}
+
+-- a warning at an offset, a line and a column
+abbrev pub at : NoticeView → ℕ → ℕ → ℕ → WarningView
+at notice offset line column = record { notice = notice; position = at_line offset line column }
+
+pub record TextWarningsWorked : Type 0 where
+  pub none : text_warnings (codes "LIBRARY 'a' BASE=0x10 ;x\nEXPORTS\nDESCRIPTION\nb EXPORTAS c @0x10") ≡ []
+  pub description : text_warnings (codes "LIBRARY a\n DESCRIPTION 'b'\nEXPORTS c") ≡ at IsSkipped 11 2 2 ∷ []
+  pub several : text_warnings (codes "STUB:a\nEXETYPE OS2\nEXPORTS c") ≡ at IsSkipped 0 1 1 ∷ at IsSkipped 7 2 1 ∷ []
+  pub sections : text_warnings (codes "SECTIONS\n.a READ\n.b WRITE\nDESCRIPTION 'c'") ≡ at IsSkipped 0 1 1 ∷ at IsSkipped 26 4 1 ∷ []
+  pub ended : text_warnings (codes "a\n b " ++ 0 ∷ 0xFF ∷ 0 ∷ []) ≡ at EndsEarly 5 2 4 ∷ []
+  pub ended_last : text_warnings (codes "a " ++ 0 ∷ []) ≡ []
+  pub in_a_comment : text_warnings (codes ";" ++ 0 ∷ 10 ∷ []) ≡ []
+  pub marked : text_warnings (0xEF ∷ 0xBB ∷ 0xBF ∷ codes "STUB:a") ≡ at IsSkipped 0 1 1 ∷ []
