@@ -157,7 +157,9 @@ fn after_blanks(text: &[u8]) -> &[u8]
 fn blanks_and_commas_len(text: &[u8]) -> usize
     ensures { result ≡ length (take_while is_blank_or_comma text.now) }
 {
-    text.iter().take_while(|byte| is_blank_or_comma(**byte)).count()
+    text.iter()
+        .take_while(|byte| is_blank_or_comma(**byte))
+        .count()
 }
 
 // A text after the blanks and commas in front.
@@ -303,7 +305,9 @@ fn is_in_apostrophes(byte: u8) -> bool
 fn inside_len(text: &[u8]) -> usize
     ensures { result ≡ length (take_while is_in_apostrophes text.now) }
 {
-    text.iter().take_while(|byte| is_in_apostrophes(**byte)).count()
+    text.iter()
+        .take_while(|byte| is_in_apostrophes(**byte))
+        .count()
 }
 
 // Whether a name is closed that a `'` before the text opens.
@@ -669,13 +673,7 @@ fn between_step(before: Before, text: &[u8], byte: u8, rest: &[u8]) -> Step
 }
 
 // A byte of a word, or after it.
-fn step_in_word(
-    inside: Step,
-    before: Before,
-    text: &[u8],
-    byte: u8,
-    rest: &[u8],
-) -> Step
+fn step_in_word(inside: Step, before: Before, text: &[u8], byte: u8, rest: &[u8]) -> Step
     ensures { result ≡ step_in_word inside before byte text.now rest.now }
 {
     if is_delimiter(byte) {

@@ -35,12 +35,7 @@ fn ended_notice(rest: &[u8]) -> Option<Notice<'static>>
 }
 
 // What is said of a byte between lexemes, by the part that is read after it.
-fn notice_by(
-    part: Part,
-    before: Before,
-    after: Before,
-    rest: &[u8],
-) -> Option<Notice<'static>>
+fn notice_by(part: Part, before: Before, after: Before, rest: &[u8]) -> Option<Notice<'static>>
     ensures { option_map notice_view result ≡ notice_by part before after rest.now }
 {
     match part {
