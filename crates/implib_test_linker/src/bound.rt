@@ -2,6 +2,7 @@
 
 use super::directory::Import;
 use super::image::Image;
+use super::object::Flaw;
 use super::short_import::Ask;
 use std::alloc::Global;
 use std::test::Fail;
@@ -50,12 +51,30 @@ pub fn bound(
 ) -> Result<Image, Fail> {
     let mut bound = image.copy(alloc)?;
     for import in imports {
-        let mut address = import.descriptor.addresses;
-        for (_, ask) in import.thunks.iter() {
-            let bytes = given(import.descriptor.dll, *ask);
-            bound.write(address, bytes.get(..width).ok_or("an entry is too wide")?)?;
-            address = address.saturating_add(width);
-        }
+        bind(&mut bound, import, width)?;
     }
     Ok(bound)
+}
+
+/// Writes what a DLL gives into its address table.
+fn bind(image: &mut Image, import: &Import, width: usize) -> Result<(), Flaw> {
+    let mut address = import.descriptor.addresses;
+    for (_, ask) in import.thunks.iter() {
+        write_entry(image, address, given(import.descriptor.dll, *ask), width)?;
+        address = address.saturating_add(width);
+    }
+    Ok(())
+}
+
+/// Writes what a DLL gives into an entry of this many bytes.
+pub fn write_entry(
+    image: &mut Image,
+    address: usize,
+    given: [u8; 8],
+    width: usize,
+) -> Result<(), Flaw> {
+    match given.get(..width) {
+        Some(bytes) => image.write(address, bytes),
+        None => Err("an entry is too wide"),
+    }
 }

@@ -4,7 +4,7 @@
 ghost use Rattle.std.specs.Prelude.{◌<◌};
 
 use super::image::Image;
-use super::object::{Flaw, bytes_from, number_in, text_in, u16_at, u32_at, usize_at};
+use super::object::{Flaw, bytes_from, is_zero, number_in, text_in, u16_at, u32_at, usize_at};
 use super::short_import::Ask;
 use std::alloc::Global;
 use std::test::Fail;
@@ -72,7 +72,7 @@ impl Image {
     /// The descriptor in bytes, or none where it is the null descriptor. It is bound to nothing,
     /// has no forwarder, and its three addresses are not 0.
     pub fn descriptor(&self, bytes: &[u8]) -> Result<Option<Descriptor<'_>>, Flaw> {
-        if bytes.iter().all(|byte| *byte == 0) {
+        if is_zero(bytes) {
             return Ok(None);
         }
         if u32_at(bytes, 4)? != 0 {
@@ -102,16 +102,20 @@ impl Image {
         let addresses = self.bytes_from(descriptor.addresses)?;
         let size = thunk_size(is_32bit);
         for (lookup, address) in lookups.chunks_exact(size).zip(addresses.chunks_exact(size)) {
-            let first = self.ask(lookup)?;
-            let second = self.ask(address)?;
-            if first != second {
-                return Err("two tables differ");
-            }
-            if first.is_none() {
+            if !self.check_thunks(lookup, address)? {
                 return Ok(());
             }
         }
         Err("a table has no end")
+    }
+
+    /// Whether two thunks, which ask for the same, are not the null thunk.
+    fn check_thunks(&self, lookup: &[u8], address: &[u8]) -> Result<bool, Flaw> {
+        let first = self.ask(lookup)?;
+        if first != self.ask(address)? {
+            return Err("two tables differ");
+        }
+        Ok(first.is_some())
     }
 
     /// The thunks from an address on, up to the null thunk, with what they ask for.

@@ -131,24 +131,25 @@ impl Expansion {
                 flags: 0xC020_0040,
                 data: hint_name.as_slice(),
                 relocations: Vec::new(alloc),
+                address: None,
             })?;
         }
         Ok(sections)
     }
 
     /// The symbols, of which the hint's and the name's is number 3.
-    fn symbols(&self, alloc: Global) -> Result<Vec<Option<Symbol<'_>>>, Fail> {
+    fn symbols(&self, alloc: Global) -> Result<Vec<Symbol<'_>>, Fail> {
         let mut symbols = vec![in alloc;
-            Some(Symbol::new(self.descriptor.as_str(), 0, 2)),
-            Some(Symbol::new(".text", 1, 3)),
-            Some(Symbol::new(self.entry.as_str(), 2, 2)),
+            Symbol::new(self.descriptor.as_str(), 0, 2),
+            Symbol::new(".text", 1, 3),
+            Symbol::new(self.entry.as_str(), 2, 2),
         ]?;
         if self.hint_name.is_some() {
-            symbols.push(Some(Symbol::new(".idata$6", 4, 3)))?;
+            symbols.push(Symbol::new(".idata$6", 4, 3))?;
         }
         match self.import_type {
-            0 => symbols.push(Some(Symbol::new(self.symbol.as_str(), 1, 2)))?,
-            2 => symbols.push(Some(Symbol::new(self.symbol.as_str(), 2, 2)))?,
+            0 => symbols.push(Symbol::new(self.symbol.as_str(), 1, 2))?,
+            2 => symbols.push(Symbol::new(self.symbol.as_str(), 2, 2))?,
             _ => {}
         }
         Ok(symbols)
@@ -174,6 +175,7 @@ impl Expansion {
             flags: 0x6030_0020,
             data,
             relocations,
+            address: None,
         })
     }
 
@@ -197,6 +199,7 @@ impl Expansion {
             flags,
             data: self.thunk.as_slice(),
             relocations,
+            address: None,
         })
     }
 }

@@ -1,6 +1,8 @@
 //! What the members of a library are for, read from their bytes alone.
 
-use super::object::{Flaw, Object, Section, Symbol, bytes_from, object_in, text_in, u16_at};
+use super::object::{
+    Flaw, Object, Section, Symbol, bytes_from, is_zero, object_in, text_in, u16_at,
+};
 use super::short_import::{Ask, ShortImport, is_short_import, short_import_in};
 use std::alloc::Global;
 use std::test::Fail;
@@ -45,9 +47,7 @@ impl<'a> File<'a> {
     pub fn declares(&self, name: &str) -> bool {
         match self {
             File::ShortImport(import) => import.declares(name),
-            File::Object(object) => object.symbols.iter().flatten().any(|symbol| {
-                symbol.name == name && (symbol.is_defined() || symbol.is_weak())
-            }),
+            File::Object(object) => object.declares(name),
         }
     }
 
@@ -65,15 +65,22 @@ fn object_purpose<'a>(object: &Object<'a>, files: &[File<'a>]) -> Result<Purpose
     if let Some((weak, target)) = object.weak()? {
         return Ok(Purpose::Weak(weak.name, target.name));
     }
+    match head_of(object)? {
+        Some(head) => Ok(Purpose::Import(dll_of(head, files)?, ask_of(object)?)),
+        None => Ok(Purpose::Other),
+    }
+}
+
+/// The symbol to which the first field of a section `.idata$7` leads.
+fn head_of<'a>(object: &Object<'a>) -> Result<Option<Symbol<'a>>, Flaw> {
     for section in object.sections.iter() {
         if section.name == ".idata$7"
             && let Some(relocation) = section.relocations.first()
         {
-            let head = object.symbol(relocation.symbol)?;
-            return Ok(Purpose::Import(dll_of(head, files)?, ask_of(object)?));
+            return Ok(Some(object.symbol(relocation.symbol)?));
         }
     }
-    Ok(Purpose::Other)
+    Ok(None)
 }
 
 /// The section of an object that defines a symbol for others.
@@ -82,12 +89,10 @@ fn defining<'b, 'a>(
     files: &'b [File<'a>],
 ) -> Result<(&'b Object<'a>, &'b Section<'a>), Fail> {
     for file in files {
-        if let File::Object(object) = file {
-            for symbol in object.symbols.iter().flatten() {
-                if symbol.is_defined() && symbol.name == name {
-                    return Ok((object, object.section_of(*symbol)?));
-                }
-            }
+        if let File::Object(object) = file
+            && let Some(symbol) = object.defined(name)
+        {
+            return Ok((object, object.section_of(symbol)?));
         }
     }
     Err(Fail::new(format_args!("{name} is not defined")))
@@ -129,7 +134,7 @@ fn ask_of<'a>(object: &Object<'a>) -> Result<Ask<'a>, Flaw> {
 /// The ordinal in a thunk whose first bit is set.
 fn ordinal_in<'a>(thunk: &[u8]) -> Result<Ask<'a>, Flaw> {
     match thunk {
-        [first, second, middle @ .., 0x80] if middle.iter().all(|byte| *byte == 0) => {
+        [first, second, middle @ .., 0x80] if is_zero(middle) => {
             Ok(Ask::Ordinal(u16::from_le_bytes([*first, *second])))
         }
         _ => Err("a thunk has no ordinal"),

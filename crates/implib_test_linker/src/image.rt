@@ -9,7 +9,7 @@ use std::test::Fail;
 pub type Bases = [usize; 6];
 
 /// The names of the sections that are placed, a group for each: the import tables, and code.
-const GROUPS: [&str; 6] = [
+const GROUPS: &[&str] = &[
     ".idata$2", ".idata$4", ".idata$5", ".idata$6", ".idata$7", ".text",
 ];
 
@@ -46,13 +46,12 @@ impl Group {
 
     /// Appends a section's data at the next multiple of its alignment, and gives its address.
     fn place(&mut self, section: &Section) -> Result<usize, Fail> {
-        let address = self
-            .end()
-            .checked_next_multiple_of(section.alignment())
-            .ok_or("a section has no address")?;
-        let offset = address
-            .checked_sub(self.base)
-            .ok_or("a section is below its base")?;
+        let Some(address) = self.end().checked_next_multiple_of(section.alignment()) else {
+            return Err(Fail::new("a section has no address"));
+        };
+        let Some(offset) = address.checked_sub(self.base) else {
+            return Err(Fail::new("a section is below its base"));
+        };
         self.bytes.resize(offset, 0)?;
         self.bytes.extend_from_slice(section.data)?;
         Ok(address)
@@ -62,6 +61,30 @@ impl Group {
     fn overlaps(&self, other: &Group) -> bool {
         let is_apart = self.end() <= other.base || other.end() <= self.base;
         !is_apart && !self.bytes.is_empty() && !other.bytes.is_empty()
+    }
+
+    /// Which of other groups it overlaps first.
+    fn overlap(&self, others: &[Group]) -> Option<Misplaced> {
+        for other in others {
+            if self.overlaps(other) {
+                return Some(Misplaced::Overlap(self.name, other.name));
+            }
+        }
+        None
+    }
+
+    /// Whether other bytes at its base are the same, but for those of some of these fields.
+    fn is_same_but_in(&self, changed: &[u8], fields: &[usize], width: usize) -> bool {
+        for (index, byte) in self.bytes.iter().enumerate() {
+            let is_same = match changed.get(index) {
+                Some(now) => now == byte,
+                None => false,
+            };
+            if !is_same && !is_in(self.base.saturating_add(index), fields, width) {
+                return false;
+            }
+        }
+        true
     }
 
     /// Why its base does not serve.
@@ -80,12 +103,14 @@ impl Image {
     /// An image without bytes.
     pub fn new(alloc: Global, bases: Bases) -> Result<Self, AllocError> {
         let mut groups = Vec::new(alloc);
-        for (name, base) in GROUPS.iter().zip(bases.iter()) {
-            groups.push(Group {
-                name: *name,
-                base: *base,
-                bytes: Vec::new(alloc),
-            })?;
+        for (index, name) in GROUPS.iter().enumerate() {
+            if let Some(base) = bases.get(index) {
+                groups.push(Group {
+                    name: *name,
+                    base: *base,
+                    bytes: Vec::new(alloc),
+                })?;
+            }
         }
         Ok(Image { groups })
     }
@@ -133,11 +158,11 @@ impl Image {
                 return Some(misplaced);
             }
         }
-        for (index, first) in self.groups.iter().enumerate() {
-            for second in self.groups.iter().skip(index.saturating_add(1)) {
-                if first.overlaps(second) {
-                    return Some(Misplaced::Overlap(first.name, second.name));
-                }
+        for (index, group) in self.groups.iter().enumerate() {
+            if let Some(later) = self.groups.as_slice().get(index.saturating_add(1)..)
+                && let Some(misplaced) = group.overlap(later)
+            {
+                return Some(misplaced);
             }
         }
         None
@@ -169,25 +194,28 @@ impl Image {
 
     /// The bytes of a field at an address.
     pub fn bytes_at(&self, address: usize, size: usize) -> Result<&[u8], Flaw> {
-        let bytes = self.bytes_from(address)?;
-        bytes.get(..size).ok_or("a field leads out of the image")
+        match self.bytes_from(address)?.get(..size) {
+            Some(field) => Ok(field),
+            None => Err("a field leads out of the image"),
+        }
     }
 
     /// Adds to the number in a field of 4 or 8 bytes, modulo what the field holds.
     pub fn add(&mut self, address: usize, size: usize, number: u64) -> Result<(), Flaw> {
         let sum = number_in(self.bytes_at(address, size)?)?.wrapping_add(number);
-        let bytes = sum.to_le_bytes();
-        self.write(address, bytes.get(..size).ok_or("a field is too wide")?)
+        match sum.to_le_bytes().get(..size) {
+            Some(field) => self.write(address, field),
+            None => Err("a field is too wide"),
+        }
     }
 
     /// Whether another image has the same bytes, but for those of some of these fields.
     pub fn is_same_but_in(&self, other: &Image, fields: &[usize], width: usize) -> bool {
-        for (group, changed) in self.groups.iter().zip(other.groups.iter()) {
-            for (index, (byte, now)) in group.bytes.iter().zip(changed.bytes.iter()).enumerate() {
-                let address = group.base.saturating_add(index);
-                if byte != now && !is_in(address, fields, width) {
-                    return false;
-                }
+        for (index, group) in self.groups.iter().enumerate() {
+            if let Some(changed) = other.groups.get(index)
+                && !group.is_same_but_in(changed.bytes.as_slice(), fields, width)
+            {
+                return false;
             }
         }
         true
@@ -210,7 +238,10 @@ impl Image {
 
 /// Whether an address is in a field that begins at one of these.
 fn is_in(address: usize, fields: &[usize], width: usize) -> bool {
-    fields
-        .iter()
-        .any(|field| *field <= address && address - *field < width)
+    for field in fields {
+        if *field <= address && address - *field < width {
+            return true;
+        }
+    }
+    false
 }

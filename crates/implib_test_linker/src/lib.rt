@@ -35,12 +35,11 @@ use std::alloc::{AllocError, Global};
 use std::fmt;
 use std::test::Fail;
 
-/// An object of a file, with the address of each of its sections that is placed.
+/// An object of a file, whose sections are placed.
 #[derive(Drop)]
 struct Placed<'a> {
     name: &'a str,
     object: Object<'a>,
-    addresses: Vec<Option<usize>>,
 }
 
 /// Objects that are linked.
@@ -56,8 +55,8 @@ impl Placed<'_> {
     /// The address of a symbol of its own sections, if it has one.
     fn own_address(&self, symbol: &Symbol) -> Option<usize> {
         let index = usize::from(symbol.section).checked_sub(1)?;
-        let address = *self.addresses.get(index)?;
-        address?.checked_add(symbol.value)
+        let section = self.object.sections.get(index)?;
+        section.address?.checked_add(symbol.value)
     }
 }
 
@@ -142,12 +141,8 @@ fn place<'a>(
         }
         machine = object.machine;
         object.settle(alloc)?;
-        let addresses = place_sections(alloc, &mut image, object.sections.as_slice())?;
-        objects.push(Placed {
-            name,
-            object,
-            addresses,
-        })?;
+        place_sections(&mut image, object.sections.as_mut_slice())?;
+        objects.push(Placed { name, object })?;
     }
     Ok(Linked {
         machine,
@@ -157,17 +152,12 @@ fn place<'a>(
     })
 }
 
-/// Places sections after others, and gives the addresses of those that are placed.
-fn place_sections(
-    alloc: Global,
-    image: &mut Image,
-    sections: &[Section],
-) -> Result<Vec<Option<usize>>, Fail> {
-    let mut addresses = Vec::new(alloc);
+/// Places sections after others.
+fn place_sections(image: &mut Image, sections: &mut [Section]) -> Result<(), Fail> {
     for section in sections {
-        addresses.push(image.place(section)?)?;
+        section.address = image.place(section)?;
     }
-    Ok(addresses)
+    Ok(())
 }
 
 /// The same with the end of the import directory.
@@ -192,12 +182,8 @@ fn ended(linked: Linked) -> Result<Linked, Fail> {
 fn end_directory(image: &mut Image, objects: &mut Vec<Placed>) -> Result<(), Fail> {
     let mut is_ended = false;
     for placed in objects.iter_mut() {
-        let sections = placed.object.sections.iter();
-        for (section, address) in sections.zip(placed.addresses.iter_mut()) {
-            if section.name == ".idata$3" {
-                *address = image.end_directory(section.data)?;
-                is_ended = true;
-            }
+        if end_by(image, placed.object.sections.as_mut_slice())? {
+            is_ended = true;
         }
     }
     if !is_ended {
@@ -206,14 +192,38 @@ fn end_directory(image: &mut Image, objects: &mut Vec<Placed>) -> Result<(), Fai
     Ok(())
 }
 
+/// Ends the import directory by each section `.idata$3` of an object, and says whether it has one.
+fn end_by(image: &mut Image, sections: &mut [Section]) -> Result<bool, Fail> {
+    let mut is_ended = false;
+    for section in sections {
+        if section.name == ".idata$3" {
+            section.address = image.end_directory(section.data)?;
+            is_ended = true;
+        }
+    }
+    Ok(is_ended)
+}
+
 /// Relocates all sections of an object that are placed.
 fn relocate(objects: &[Placed], placed: &Placed, image: &mut Image) -> Result<(), Flaw> {
-    for (section, address) in placed.object.sections.iter().zip(placed.addresses.iter()) {
-        if let Some(address) = address {
-            for relocation in section.relocations.iter() {
-                relocate_field(objects, placed, section, relocation, *address, image)?;
-            }
+    for section in placed.object.sections.iter() {
+        if let Some(address) = section.address {
+            relocate_section(objects, placed, section, address, image)?;
         }
+    }
+    Ok(())
+}
+
+/// Relocates the section at an address.
+fn relocate_section(
+    objects: &[Placed],
+    placed: &Placed,
+    section: &Section,
+    address: usize,
+    image: &mut Image,
+) -> Result<(), Flaw> {
+    for relocation in section.relocations.iter() {
+        relocate_field(objects, placed, section, relocation, address, image)?;
     }
     Ok(())
 }
@@ -233,15 +243,26 @@ fn relocate_field(
     bytes_at(section.data, relocation.offset, whole.unwrap_or(4))?;
     let target = target_of(objects, placed, relocation)?;
     let field = address.saturating_add(relocation.offset);
-    if let Some(size) = whole {
-        return image.add(
+    match whole {
+        Some(size) => image.add(
             field,
             size,
             u64::from(IMAGE_BASE).wrapping_add(u64::from(target)),
-        );
+        ),
+        None => relocate_word(machine, relocation.kind, field, target, image),
     }
+}
+
+/// Relocates the word at an address for a target.
+fn relocate_word(
+    machine: u16,
+    kind: u16,
+    field: usize,
+    target: u32,
+    image: &mut Image,
+) -> Result<(), Flaw> {
     let word = u32_at(image.bytes_from(field)?, 0)?;
-    let word = relocated(machine, relocation.kind, word, address_of(field)?, target)?;
+    let word = relocated(machine, kind, word, address_of(field)?, target)?;
     image.write(field, &word.to_le_bytes())
 }
 
@@ -249,16 +270,25 @@ fn relocate_field(
 fn target_of(objects: &[Placed], placed: &Placed, relocation: &Relocation) -> Result<u32, Flaw> {
     let symbol = placed.object.symbol(relocation.symbol)?;
     let target = if symbol.is_undefined() {
-        defined_address(objects, symbol.name).ok().flatten()
+        match defined_address(objects, symbol.name) {
+            Ok(address) => address,
+            Err(_) => None,
+        }
     } else {
         placed.own_address(&symbol)
     };
-    address_of(target.ok_or("a symbol has no address")?)
+    match target {
+        Some(address) => address_of(address),
+        None => Err("a symbol has no address"),
+    }
 }
 
 /// An address in 32 bits.
 fn address_of(address: usize) -> Result<u32, Flaw> {
-    u32::try_from(address).map_err(|_| "an address has more than 32 bits")
+    match u32::try_from(address) {
+        Ok(address) => Ok(address),
+        Err(_) => Err("an address has more than 32 bits"),
+    }
 }
 
 /// The address, if there is one, of the one symbol of a name that objects define for one another;
@@ -287,18 +317,18 @@ fn weak_target<'a>(objects: &[Placed<'a>], name: &str) -> Option<&'a str> {
 
 /// The address, if there is one, of the one symbol of a name that objects define themselves.
 fn strong_address<'a>(objects: &[Placed], name: &'a str) -> Result<Option<usize>, Unlinked<'a>> {
-    let mut found = None;
+    let mut found = Err(Unlinked::Undefined(name));
     for placed in objects {
-        for symbol in placed.object.symbols.iter().flatten() {
-            if (symbol.is_defined() || symbol.is_absolute()) && symbol.name == name {
-                if found.is_some() {
+        for symbol in placed.object.symbols.iter() {
+            if symbol.is_named(name) {
+                if found.is_ok() {
                     return Err(Unlinked::Ambiguous(name));
                 }
-                found = Some(placed.own_address(symbol));
+                found = Ok(placed.own_address(symbol));
             }
         }
     }
-    found.ok_or(Unlinked::Undefined(name))
+    found
 }
 
 impl<'a> Linked<'a> {
@@ -320,7 +350,7 @@ impl<'a> Linked<'a> {
 
 /// Why a symbol of an object among others has no address.
 fn unresolved<'a>(objects: &[Placed<'a>], object: &Object<'a>) -> Option<Unlinked<'a>> {
-    for symbol in object.symbols.iter().flatten() {
+    for symbol in object.symbols.iter() {
         if symbol.is_external()
             && let Err(unlinked) = defined_address(objects, symbol.name)
         {
@@ -406,7 +436,8 @@ impl Linked<'_> {
     /// The address of a symbol that an object defines for the others.
     pub fn address_of(&self, name: &str) -> Result<usize, Fail> {
         match defined_address(&self.objects, name) {
-            Ok(address) => Ok(address.ok_or("a symbol has no address")?),
+            Ok(Some(address)) => Ok(address),
+            Ok(None) => Err(Fail::new("a symbol has no address")),
             Err(unlinked) => Err(Fail::new(unlinked)),
         }
     }
@@ -441,8 +472,7 @@ impl Linked<'_> {
         let mut addresses = Vec::new(alloc);
         for placed in self.objects.iter() {
             if placed.name == name {
-                let address = placed.addresses.first().copied().flatten();
-                addresses.push(address.ok_or("a file has no code")?)?;
+                addresses.push(placed.object.code_address()?)?;
             }
         }
         Ok(addresses)
@@ -469,13 +499,24 @@ impl Linked<'_> {
 
 /// Appends the base relocations of an object's sections.
 fn push_base_relocations(placed: &Placed, fields: &mut Vec<(usize, usize)>) -> Result<(), Fail> {
-    for (section, address) in placed.object.sections.iter().zip(placed.addresses.iter()) {
-        if let Some(address) = address {
-            for relocation in section.relocations.iter() {
-                if let Some(size) = whole_size(placed.object.machine, relocation.kind) {
-                    fields.push((address.saturating_add(relocation.offset), size))?;
-                }
-            }
+    for section in placed.object.sections.iter() {
+        if let Some(address) = section.address {
+            push_whole(placed.object.machine, section, address, fields)?;
+        }
+    }
+    Ok(())
+}
+
+/// Appends those of the section at an address.
+fn push_whole(
+    machine: u16,
+    section: &Section,
+    address: usize,
+    fields: &mut Vec<(usize, usize)>,
+) -> Result<(), Fail> {
+    for relocation in section.relocations.iter() {
+        if let Some(size) = whole_size(machine, relocation.kind) {
+            fields.push((address.saturating_add(relocation.offset), size))?;
         }
     }
     Ok(())
@@ -483,9 +524,11 @@ fn push_base_relocations(placed: &Placed, fields: &mut Vec<(usize, usize)>) -> R
 
 /// Appends an object's symbols of the address tables.
 fn push_entries<'a>(placed: &Placed<'a>, entries: &mut Vec<(&'a str, usize)>) -> Result<(), Fail> {
-    for symbol in placed.object.symbols.iter().flatten() {
+    for symbol in placed.object.symbols.iter() {
         if symbol.is_defined() && symbol.name.starts_with("__imp_") {
-            let address = placed.own_address(symbol).ok_or("no address")?;
+            let Some(address) = placed.own_address(symbol) else {
+                return Err(Fail::new("no address"));
+            };
             entries.push((symbol.name, address))?;
         }
     }

@@ -1,7 +1,7 @@
 //! A loader that knows nothing but the image in memory: it walks the import directory, reads at each
 //! step what the image has there by then, and writes into the address tables as it goes.
 
-use super::bound::given;
+use super::bound::{given, write_entry};
 use super::memory::Memory;
 use super::object::Flaw;
 use super::short_import::{Ask, push_ask};
@@ -41,15 +41,27 @@ impl Memory {
         let Some(descriptor) = self.image.descriptor(bytes)? else {
             return Ok(false);
         };
+        let (lookups, addresses) = (descriptor.lookups, descriptor.addresses);
         let Ok(dll) = String::from_str(alloc, descriptor.dll) else {
             return Err(NO_MEMORY);
         };
-        let mut lookup = descriptor.lookups;
-        let mut entry = descriptor.addresses;
+        self.load_tables(dll.as_str(), lookups, addresses, asked)?;
+        Ok(true)
+    }
+
+    /// Binds what the tables of a DLL ask for, up to their end.
+    fn load_tables(
+        &mut self,
+        dll: &str,
+        lookups: usize,
+        addresses: usize,
+        asked: &mut String,
+    ) -> Result<(), Flaw> {
+        let (mut lookup, mut entry) = (lookups, addresses);
         let size = self.address_size();
         for _ in 0..self.count(lookup, size)? {
-            if !self.bind(dll.as_str(), lookup, entry, asked)? {
-                return Ok(true);
+            if !self.bind(dll, lookup, entry, asked)? {
+                return Ok(());
             }
             lookup = lookup.saturating_add(size);
             entry = entry.saturating_add(size);
@@ -72,10 +84,9 @@ impl Memory {
         if show_asked(asked, dll, ask).is_err() {
             return Err(NO_MEMORY);
         }
-        let bytes = given(dll, ask);
-        let bytes = bytes.get(..self.address_size());
-        self.image
-            .write(entry, bytes.ok_or("an entry is too wide")?)?;
+        let given = given(dll, ask);
+        let size = self.address_size();
+        write_entry(&mut self.image, entry, given, size)?;
         Ok(true)
     }
 

@@ -22,15 +22,18 @@ impl Memory {
 
     /// The bytes from an address in memory on, if it is in the image.
     pub fn bytes_from(&self, address: u64) -> Result<&[u8], Flaw> {
-        let offset = address.checked_sub(self.base);
-        self.image
-            .bytes_from(offset.ok_or("an address is below the image")? as usize)
+        match address.checked_sub(self.base) {
+            Some(offset) => self.image.bytes_from(offset as usize),
+            None => Err("an address is below the image"),
+        }
     }
 
     /// The address that is stored at an address in memory.
     pub fn address_at(&self, address: u64) -> Result<u64, Flaw> {
-        let bytes = self.bytes_from(address)?.get(..self.address_size());
-        number_in(bytes.ok_or("an address leads out of the image")?)
+        match self.bytes_from(address)?.get(..self.address_size()) {
+            Some(bytes) => number_in(bytes),
+            None => Err("an address leads out of the image"),
+        }
     }
 
     /// The address in memory of one in the image.

@@ -15,8 +15,8 @@ pub type Flaw = &'static str;
 pub struct Object<'a> {
     pub machine: u16,
     pub sections: Vec<Section<'a>>,
-    /// By index. An auxiliary record has an index and is no symbol.
-    pub symbols: Vec<Option<Symbol<'a>>>,
+    /// By index. An auxiliary record has an index and the class [`RECORD`].
+    pub symbols: Vec<Symbol<'a>>,
     records: &'a [u8],
 }
 
@@ -27,6 +27,8 @@ pub struct Section<'a> {
     pub flags: u32,
     pub data: &'a [u8],
     pub relocations: Vec<Relocation>,
+    /// Where it is placed, if it is.
+    pub address: Option<usize>,
 }
 
 /// A field of a section that depends on a symbol's address.
@@ -37,18 +39,21 @@ pub struct Relocation {
     pub kind: u16,
 }
 
-/// A symbol.
+/// The class of an auxiliary record, which is no symbol: greater than any class in a byte.
+const RECORD: u16 = 0x100;
+
+/// A symbol, or an auxiliary record, about which each question is answered with no.
 #[derive(Clone, Copy)]
 pub struct Symbol<'a> {
     pub name: &'a str,
     pub value: usize,
     pub section: u16,
-    class: u8,
+    class: u16,
 }
 
 impl<'a> Symbol<'a> {
     /// A symbol of value 0.
-    pub fn new(name: &'a str, section: u16, class: u8) -> Self {
+    pub fn new(name: &'a str, section: u16, class: u16) -> Self {
         Symbol {
             name,
             value: 0,
@@ -79,6 +84,11 @@ impl Symbol<'_> {
         self.is_external() && self.section == 0xFFFF
     }
 
+    /// Whether its object gives it an address or a value for the others, by this name.
+    pub fn is_named(&self, name: &str) -> bool {
+        (self.is_defined() || self.is_absolute()) && self.name == name
+    }
+
     /// Whether another symbol may replace it.
     pub fn is_weak(&self) -> bool {
         self.class == 105
@@ -92,7 +102,7 @@ impl Symbol<'_> {
 
 impl<'a> Object<'a> {
     /// An object without auxiliary records.
-    pub fn new(machine: u16, sections: Vec<Section<'a>>, symbols: Vec<Option<Symbol<'a>>>) -> Self {
+    pub fn new(machine: u16, sections: Vec<Section<'a>>, symbols: Vec<Symbol<'a>>) -> Self {
         Object {
             machine,
             sections,
@@ -104,7 +114,7 @@ impl<'a> Object<'a> {
     /// Puts each undefined symbol of class section into the section of its name; where there is
     /// none, into one without bytes, aligned to 4.
     pub fn settle(&mut self, alloc: Global) -> Result<(), Fail> {
-        for symbol in self.symbols.iter_mut().flatten() {
+        for symbol in self.symbols.iter_mut() {
             if symbol.is_of_section() {
                 let number = section_number(alloc, &mut self.sections, symbol.name)?;
                 *symbol = Symbol::new(symbol.name, number, 3);
@@ -113,37 +123,84 @@ impl<'a> Object<'a> {
         Ok(())
     }
 
+    /// The symbol of a name that it defines for the others.
+    pub fn defined(&self, name: &str) -> Option<Symbol<'a>> {
+        for symbol in self.symbols.iter() {
+            if symbol.is_defined() && symbol.name == name {
+                return Some(*symbol);
+            }
+        }
+        None
+    }
+
+    /// Whether it declares a symbol: defines it for the others, or makes it weak.
+    pub fn declares(&self, name: &str) -> bool {
+        for symbol in self.symbols.iter() {
+            if (symbol.is_defined() || symbol.is_weak()) && symbol.name == name {
+                return true;
+            }
+        }
+        false
+    }
+
+    /// Whether it declares a symbol, or gives it an absolute value.
+    pub fn claims(&self, name: &str) -> bool {
+        for symbol in self.symbols.iter() {
+            if symbol.is_named(name) || symbol.is_weak() && symbol.name == name {
+                return true;
+            }
+        }
+        false
+    }
+
     /// The symbol of an index.
     pub fn symbol(&self, index: usize) -> Result<Symbol<'a>, Flaw> {
-        let symbol = self.symbols.get(index).copied().flatten();
-        symbol.ok_or("an index has no symbol")
+        match self.symbols.get(index) {
+            Some(symbol) if symbol.class != RECORD => Ok(*symbol),
+            _ => Err("an index has no symbol"),
+        }
+    }
+
+    /// The address of its first section.
+    pub fn code_address(&self) -> Result<usize, Flaw> {
+        if let Some(section) = self.sections.get(0)
+            && let Some(address) = section.address
+        {
+            return Ok(address);
+        }
+        Err("a file has no code")
     }
 
     /// The section that has a symbol.
     pub fn section_of(&self, symbol: Symbol) -> Result<&Section<'a>, Flaw> {
-        let index = usize::from(symbol.section).checked_sub(1);
-        let section = self.sections.get(index.ok_or("a symbol has no section")?);
-        section.ok_or("a symbol has a section that is not there")
+        let Some(index) = usize::from(symbol.section).checked_sub(1) else {
+            return Err("a symbol has no section");
+        };
+        match self.sections.get(index) {
+            Some(section) => Ok(section),
+            None => Err("a symbol has a section that is not there"),
+        }
     }
 
     /// The symbol that it makes weak, if there is one, and the symbol for which. An auxiliary
     /// record says that it is an alias.
     pub fn weak(&self) -> Result<Option<(Symbol<'a>, Symbol<'a>)>, Flaw> {
         for (index, symbol) in self.symbols.iter().enumerate() {
-            if let Some(symbol) = symbol
-                && symbol.is_weak()
-            {
-                let auxiliary = bytes_from(
-                    self.records,
-                    18usize.saturating_mul(index).saturating_add(18),
-                )?;
-                if u32_at(auxiliary, 4)? != 3 {
-                    return Err("a weak symbol is no alias");
-                }
-                return Ok(Some((*symbol, self.symbol(usize_at(auxiliary, 0)?)?)));
+            if symbol.is_weak() {
+                return Ok(Some((*symbol, self.weak_target(index)?)));
             }
         }
         Ok(None)
+    }
+
+    /// The symbol for which the symbol of an index is made weak, by the auxiliary record after it.
+    fn weak_target(&self, index: usize) -> Result<Symbol<'a>, Flaw> {
+        let offset = index.saturating_add(1).saturating_mul(18);
+        let auxiliary = bytes_from(self.records, offset)?;
+        if u32_at(auxiliary, 4)? != 3 {
+            return Err("a weak symbol is no alias");
+        }
+        self.symbol(usize_at(auxiliary, 0)?)
     }
 }
 
@@ -153,20 +210,30 @@ fn section_number<'a>(
     sections: &mut Vec<Section<'a>>,
     name: &'a str,
 ) -> Result<u16, Fail> {
-    let index = sections.iter().position(|section| section.name == name);
-    if index.is_none() {
+    let index = index_of(sections.as_slice(), name);
+    if index == sections.len() {
         sections.push(Section {
             name,
             flags: 0xC030_0040,
             data: &[],
             relocations: Vec::new(alloc),
+            address: None,
         })?;
     }
-    let before = index.unwrap_or(sections.len().saturating_sub(1));
-    match u16::try_from(before.saturating_add(1)) {
+    match u16::try_from(index.saturating_add(1)) {
         Ok(number) => Ok(number),
         Err(_) => Err(Fail::new("an object has too many sections")),
     }
+}
+
+/// The index of the first section of a name, or how many sections there are.
+fn index_of(sections: &[Section], name: &str) -> usize {
+    for (index, section) in sections.iter().enumerate() {
+        if section.name == name {
+            return index;
+        }
+    }
+    sections.len()
 }
 
 impl Section<'_> {
@@ -181,21 +248,26 @@ impl Section<'_> {
 
 /// The bytes from an offset on.
 pub fn bytes_from(bytes: &[u8], offset: usize) -> Result<&[u8], Flaw> {
-    bytes
-        .get(offset..)
-        .ok_or("an offset leads out of its bytes")
+    match bytes.get(offset..) {
+        Some(rest) => Ok(rest),
+        None => Err("an offset leads out of its bytes"),
+    }
 }
 
 /// This many bytes from an offset on.
 pub fn bytes_at(bytes: &[u8], offset: usize, count: usize) -> Result<&[u8], Flaw> {
-    let rest = bytes_from(bytes, offset)?;
-    rest.get(..count).ok_or("a count leads out of its bytes")
+    match bytes_from(bytes, offset)?.get(..count) {
+        Some(front) => Ok(front),
+        None => Err("a count leads out of its bytes"),
+    }
 }
 
 /// The array at an offset.
 fn array_at<const N: usize>(bytes: &[u8], offset: usize) -> Result<[u8; N], Flaw> {
-    let rest = bytes_from(bytes, offset)?;
-    Ok(*rest.first_chunk().ok_or("a field leads out of its bytes")?)
+    match bytes_from(bytes, offset)?.first_chunk() {
+        Some(array) => Ok(*array),
+        None => Err("a field leads out of its bytes"),
+    }
 }
 
 /// The number in two bytes.
@@ -220,6 +292,16 @@ pub fn usize_at(bytes: &[u8], offset: usize) -> Result<usize, Flaw>
     Ok(u32_at(bytes, offset)? as usize)
 }
 
+/// Whether all bytes are 0.
+pub fn is_zero(bytes: &[u8]) -> bool {
+    for byte in bytes {
+        if *byte != 0 {
+            return false;
+        }
+    }
+    true
+}
+
 /// The number in a field of 4 or 8 bytes.
 pub fn number_in(bytes: &[u8]) -> Result<u64, Flaw> {
     if bytes.len() == 4 {
@@ -231,36 +313,58 @@ pub fn number_in(bytes: &[u8]) -> Result<u64, Flaw> {
 
 /// The text that a NUL ends.
 pub fn text_in(bytes: &[u8]) -> Result<&str, Flaw> {
-    let end = bytes.iter().position(|byte| *byte == 0);
-    text_of(bytes_at(bytes, 0, end.ok_or("a text has no end")?)?)
+    let end = end_of(bytes);
+    if end == bytes.len() {
+        return Err("a text has no end");
+    }
+    text_of(bytes_at(bytes, 0, end)?)
+}
+
+/// The offset of the first NUL, or how many bytes there are.
+fn end_of(bytes: &[u8]) -> usize {
+    for (offset, byte) in bytes.iter().enumerate() {
+        if *byte == 0 {
+            return offset;
+        }
+    }
+    bytes.len()
 }
 
 /// The text that bytes are.
 pub fn text_of(bytes: &[u8]) -> Result<&str, Flaw> {
-    str::from_utf8(bytes).map_err(|_| "a text is not UTF-8")
+    match str::from_utf8(bytes) {
+        Ok(text) => Ok(text),
+        Err(_) => Err("a text is not UTF-8"),
+    }
 }
 
 /// The text in a field of eight bytes, which NULs fill.
 fn filled_text(record: &[u8]) -> Result<&str, Flaw> {
     let field = bytes_at(record, 0, 8)?;
-    let end = field.iter().position(|byte| *byte == 0).unwrap_or(8);
-    text_of(bytes_at(field, 0, end)?)
+    text_of(bytes_at(field, 0, end_of(field))?)
 }
 
 /// The object in a file's bytes.
 pub fn object_in(alloc: Global, bytes: &[u8]) -> Result<Object<'_>, Fail> {
-    let sections = sections_in(alloc, bytes)?;
-    let symbols_size = 18 * usize_at(bytes, 12)?;
-    let (records, strings) = bytes_from(bytes, usize_at(bytes, 8)?)?
-        .split_at_checked(symbols_size)
-        .ok_or("symbols lead out of their object")?;
-    let strings = bytes_at(strings, 0, usize_at(strings, 0)?)?;
+    let machine = u16_at(bytes, 0)?;
+    let (records, strings) = tables_in(bytes)?;
+    let symbols = symbols_in(alloc, records, strings)?;
     Ok(Object {
-        machine: u16_at(bytes, 0)?,
-        sections,
-        symbols: symbols_in(alloc, records, strings)?,
+        machine,
+        sections: sections_in(alloc, bytes)?,
+        symbols,
         records,
     })
+}
+
+/// The records of the symbol table, and the string table.
+fn tables_in(bytes: &[u8]) -> Result<(&[u8], &[u8]), Flaw> {
+    let size = 18 * usize_at(bytes, 12)?;
+    let Some((records, strings)) = bytes_from(bytes, usize_at(bytes, 8)?)?.split_at_checked(size)
+    else {
+        return Err("symbols lead out of their object");
+    };
+    Ok((records, bytes_at(strings, 0, usize_at(strings, 0)?)?))
 }
 
 /// The sections of an object, in the order of their headers.
@@ -287,6 +391,7 @@ fn section_of<'a>(alloc: Global, bytes: &'a [u8], header: &'a [u8]) -> Result<Se
         flags: u32_at(header, 36)?,
         data: bytes_at(bytes, data_offset, data_size)?,
         relocations: relocations_of(alloc, bytes, header)?,
+        address: None,
     })
 }
 
@@ -316,21 +421,16 @@ fn symbols_in<'a>(
     alloc: Global,
     records: &'a [u8],
     strings: &'a [u8],
-) -> Result<Vec<Option<Symbol<'a>>>, Fail> {
+) -> Result<Vec<Symbol<'a>>, Fail> {
     let mut symbols = Vec::new(alloc);
     let mut auxiliary = 0;
     for record in records.chunks_exact(18) {
         if auxiliary > 0 {
-            symbols.push(None)?;
+            symbols.push(Symbol::new("", 0, RECORD))?;
             auxiliary -= 1;
         } else {
-            let [class, count] = array_at::<2>(record, 16)?;
-            symbols.push(Some(Symbol {
-                name: name_of(record, strings)?,
-                value: usize_at(record, 8)?,
-                section: u16_at(record, 12)?,
-                class,
-            }))?;
+            let (symbol, count) = symbol_in(record, strings)?;
+            symbols.push(symbol)?;
             auxiliary = count;
         }
     }
@@ -338,6 +438,18 @@ fn symbols_in<'a>(
         return Err(Fail::new("auxiliary records lead out of the symbol table"));
     }
     Ok(symbols)
+}
+
+/// The symbol in a record, and how many auxiliary records follow it.
+fn symbol_in<'a>(record: &'a [u8], strings: &'a [u8]) -> Result<(Symbol<'a>, u8), Flaw> {
+    let [class, count] = array_at::<2>(record, 16)?;
+    let symbol = Symbol {
+        name: name_of(record, strings)?,
+        value: usize_at(record, 8)?,
+        section: u16_at(record, 12)?,
+        class: u16::from(class),
+    };
+    Ok((symbol, count))
 }
 
 /// The name of a symbol: after four zero bytes it is in the string table.

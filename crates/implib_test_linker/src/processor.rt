@@ -152,15 +152,21 @@ impl Processor<'_> {
 
     /// What was loaded into a register.
     fn register(&self, number: u32) -> Result<u64, Flaw> {
-        let register = self.registers.get(number as usize).copied().flatten();
-        register.ok_or("a register was not loaded")
+        match self.registers.get(number as usize) {
+            Some(Some(address)) => Ok(*address),
+            _ => Err("a register was not loaded"),
+        }
     }
 
     /// Loads a register.
     fn set_register(&mut self, number: u32, address: u64) -> Result<(), Flaw> {
-        let register = self.registers.get_mut(number as usize);
-        *register.ok_or("a register is unknown")? = Some(address);
-        Ok(())
+        match self.registers.get_mut(number as usize) {
+            Some(register) => {
+                *register = Some(address);
+                Ok(())
+            }
+            None => Err("a register is unknown"),
+        }
     }
 }
 

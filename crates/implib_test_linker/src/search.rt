@@ -36,18 +36,15 @@ impl<'a> Archive<'a> {
     pub fn taken(&self, alloc: Global, wanted: &[&str]) -> Result<Vec<usize>, Fail> {
         let mut taken = vec![in alloc; false; self.members.len()]?;
         for _ in self.members.iter() {
-            match self.next(taken.as_slice(), wanted) {
-                Some(index) => *taken.get_mut(index).ok_or("an index has no member")? = true,
-                None => break,
-            }
+            let Some(index) = self.next(taken.as_slice(), wanted) else {
+                break;
+            };
+            let Some(is_taken) = taken.as_mut_slice().get_mut(index) else {
+                return Err(Fail::new("an index has no member"));
+            };
+            *is_taken = true;
         }
-        let mut indexes = Vec::new(alloc);
-        for (index, is_taken) in taken.iter().enumerate() {
-            if *is_taken {
-                indexes.push(index)?;
-            }
-        }
-        Ok(indexes)
+        indexes_in(alloc, taken.as_slice())
     }
 
     /// The next member to take: that of the first name that is undefined and listed.
@@ -57,9 +54,12 @@ impl<'a> Archive<'a> {
                 return Some(index);
             }
         }
-        for (object, is_taken) in self.objects.iter().zip(taken.iter()) {
-            if *is_taken && let Some(index) = self.next_of(taken, object) {
-                return Some(index);
+        for (index, is_taken) in taken.iter().enumerate() {
+            if *is_taken
+                && let Some(object) = self.objects.get(index)
+                && let Some(next) = self.next_of(taken, object)
+            {
+                return Some(next);
             }
         }
         None
@@ -67,7 +67,7 @@ impl<'a> Archive<'a> {
 
     /// The next member to take for what an object leaves to others.
     fn next_of(&self, taken: &[bool], object: &Object) -> Option<usize> {
-        for symbol in object.symbols.iter().flatten() {
+        for symbol in object.symbols.iter() {
             if symbol.is_undefined()
                 && let Some(index) = self.member_for(taken, symbol.name)
             {
@@ -80,29 +80,52 @@ impl<'a> Archive<'a> {
     /// The member to take for a name: none where a member that is taken defines it, and none where
     /// the first that it is listed for is taken.
     fn member_for(&self, taken: &[bool], name: &str) -> Option<usize> {
-        for (object, is_taken) in self.objects.iter().zip(taken.iter()) {
-            if *is_taken && defines(object, name) {
-                return None;
+        if self.is_defined(taken, name) {
+            return None;
+        }
+        for (index, member) in self.members.iter().enumerate() {
+            if is_listed(*member, name) {
+                return if *taken.get(index)? {
+                    None
+                } else {
+                    Some(index)
+                };
             }
         }
-        let index = self
-            .members
-            .iter()
-            .position(|member| is_listed(*member, name))?;
-        if *taken.get(index)? {
-            None
-        } else {
-            Some(index)
+        None
+    }
+
+    /// Whether a member that is taken defines a name.
+    fn is_defined(&self, taken: &[bool], name: &str) -> bool {
+        for (index, is_taken) in taken.iter().enumerate() {
+            if *is_taken
+                && let Some(object) = self.objects.get(index)
+                && object.defined(name).is_some()
+            {
+                return true;
+            }
+        }
+        false
+    }
+}
+
+/// The indexes of what is taken.
+fn indexes_in(alloc: Global, taken: &[bool]) -> Result<Vec<usize>, Fail> {
+    let mut indexes = Vec::new(alloc);
+    for (index, is_taken) in taken.iter().enumerate() {
+        if *is_taken {
+            indexes.push(index)?;
         }
     }
+    Ok(indexes)
 }
 
 /// The names that objects leave undefined and none of them claims, each as often as they do.
 pub fn left_undefined<'a>(alloc: Global, objects: &[Object<'a>]) -> Result<Vec<&'a str>, Fail> {
     let mut names = Vec::new(alloc);
     for object in objects {
-        for symbol in object.symbols.iter().flatten() {
-            if symbol.is_undefined() && !objects.iter().any(|other| claims(other, symbol.name)) {
+        for symbol in object.symbols.iter() {
+            if symbol.is_undefined() && !is_claimed(objects, symbol.name) {
                 names.push(symbol.name)?;
             }
         }
@@ -111,23 +134,21 @@ pub fn left_undefined<'a>(alloc: Global, objects: &[Object<'a>]) -> Result<Vec<&
 }
 
 /// Whether an object defines a symbol for others, gives it a value or makes it weak.
-fn claims(object: &Object, name: &str) -> bool {
-    object.symbols.iter().flatten().any(|symbol| {
-        let is_claim = symbol.is_defined() || symbol.is_absolute() || symbol.is_weak();
-        is_claim && symbol.name == name
-    })
-}
-
-/// Whether an object defines a symbol for others.
-fn defines(object: &Object, name: &str) -> bool {
-    object
-        .symbols
-        .iter()
-        .flatten()
-        .any(|symbol| symbol.is_defined() && symbol.name == name)
+fn is_claimed(objects: &[Object], name: &str) -> bool {
+    for object in objects {
+        if object.claims(name) {
+            return true;
+        }
+    }
+    false
 }
 
 /// Whether an archive lists a symbol for a member.
 fn is_listed(member: &Member, name: &str) -> bool {
-    member.symbols.iter().any(|symbol| symbol.as_str() == name)
+    for symbol in member.symbols.iter() {
+        if symbol.as_str() == name {
+            return true;
+        }
+    }
+    false
 }

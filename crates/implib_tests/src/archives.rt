@@ -60,26 +60,41 @@ fn members(alloc: Global) -> Result<Vec<Member>, AllocError> {
     Ok(members)
 }
 
+// Holds the bytes of an archive, by itself and over a writer.
+fn expect_bytes(alloc: Global, members: &[Member], kind: Kind, bytes: &[u8]) -> Result<(), Fail> {
+    let archive = Archive::new(alloc, members, kind)?;
+    expect(archive.len() == bytes.len() as u64, "an archive's length")?;
+    expect(
+        archive.to_vec(alloc)?.as_slice() == bytes,
+        "an archive's bytes",
+    )?;
+    let mut writer = Vec::new(alloc);
+    expect(
+        archive.write_to(alloc, &mut writer).is_ok(),
+        "an archive is written",
+    )?;
+    expect(writer.as_slice() == bytes, "what is written")
+}
+
+// Holds something, in these words.
+fn expect(is_held: bool, what: &'static str) -> Result<(), Fail> {
+    if is_held {
+        Ok(())
+    } else {
+        Err(Fail::new(what))
+    }
+}
+
 #[test]
 fn archives_have_these_bytes(rt: HostRuntime) -> Result<(), Fail> {
     let two = members(rt.alloc())?;
-    let none = Vec::new(rt.alloc());
     let mut odd = Vec::new(rt.alloc());
     odd.push(member(rt.alloc(), "a.o", &[7], &["f", "gh"])?)?;
-    for (members, kind, bytes) in [
-        (odd.as_slice(), Kind::Coff, ODD_COFF),
-        (two.as_slice(), Kind::Coff, COFF),
-        (two.as_slice(), Kind::Gnu, GNU),
-        (none.as_slice(), Kind::Coff, EMPTY_COFF),
-        (none.as_slice(), Kind::Gnu, b"!<arch>\n".as_slice()),
-    ] {
-        let archive = Archive::new(rt.alloc(), members, kind)?;
-        assert_eq!(rt; archive.len(), bytes.len() as u64);
-        assert!(rt; archive.to_vec(rt.alloc())?.as_slice() == bytes);
-        let mut writer = Vec::new(rt.alloc());
-        assert!(rt; archive.write_to(rt.alloc(), &mut writer).is_ok());
-        assert!(rt; writer.as_slice() == bytes);
-    }
+    expect_bytes(rt.alloc(), odd.as_slice(), Kind::Coff, ODD_COFF)?;
+    expect_bytes(rt.alloc(), two.as_slice(), Kind::Coff, COFF)?;
+    expect_bytes(rt.alloc(), two.as_slice(), Kind::Gnu, GNU)?;
+    expect_bytes(rt.alloc(), &[], Kind::Coff, EMPTY_COFF)?;
+    expect_bytes(rt.alloc(), &[], Kind::Gnu, b"!<arch>\n")?;
     Ok(())
 }
 
@@ -121,86 +136,105 @@ impl io::Write for Small {
     }
 }
 
+// The rooms of writers, what they answer where there is none left, and the error that is due.
+const ROOMS: &[(usize, Option<io::ErrorKind>, io::ErrorKind)] = &[
+    (0, None, io::ErrorKind::WriteZero),
+    (
+        1,
+        Some(io::ErrorKind::BrokenPipe),
+        io::ErrorKind::BrokenPipe,
+    ),
+    (180, None, io::ErrorKind::WriteZero),
+    (
+        242,
+        Some(io::ErrorKind::PermissionDenied),
+        io::ErrorKind::PermissionDenied,
+    ),
+    (243, None, io::ErrorKind::WriteZero),
+    (
+        244,
+        Some(io::ErrorKind::BrokenPipe),
+        io::ErrorKind::BrokenPipe,
+    ),
+    (245, None, io::ErrorKind::WriteZero),
+    (
+        246,
+        Some(io::ErrorKind::BrokenPipe),
+        io::ErrorKind::BrokenPipe,
+    ),
+    (
+        307,
+        Some(io::ErrorKind::PermissionDenied),
+        io::ErrorKind::PermissionDenied,
+    ),
+    (
+        308,
+        Some(io::ErrorKind::BrokenPipe),
+        io::ErrorKind::BrokenPipe,
+    ),
+];
+
+// Holds what a writer with this room has, and the error. Of the whole archive there is none.
+fn expect_beginning(
+    alloc: Global,
+    archive: &Archive,
+    room: usize,
+    fault: Option<io::ErrorKind>,
+    kind: io::ErrorKind,
+) -> Result<(), Fail> {
+    let mut writer = Small {
+        bytes: Vec::new(alloc),
+        room,
+        fault,
+        is_flushed: false,
+    };
+    match archive.write_to(alloc, &mut writer) {
+        Ok(()) => expect(room == 308, "a writer without room")?,
+        Err(WriteError::Writer(cause)) => expect(room < 308 && cause.kind() == kind, "an error")?,
+        Err(WriteError::OutOfMemory(_)) => return Err(Fail::new("out of memory")),
+    }
+    let want = GNU.get(..room).unwrap_or(&[]);
+    expect(
+        !writer.is_flushed && writer.bytes.as_slice() == want,
+        "a beginning",
+    )
+}
+
 // A writer without room leaves a beginning, wherever it ends; the error is the writer's own.
 #[test]
 fn an_error_leaves_a_beginning(rt: HostRuntime) -> Result<(), Fail> {
     let members = members(rt.alloc())?;
     let archive = Archive::new(rt.alloc(), members.as_slice(), Kind::Gnu)?;
-    for (room, fault, kind) in [
-        (0, None, io::ErrorKind::WriteZero),
-        (
-            1,
-            Some(io::ErrorKind::BrokenPipe),
-            io::ErrorKind::BrokenPipe,
-        ),
-        (180, None, io::ErrorKind::WriteZero),
-        (
-            242,
-            Some(io::ErrorKind::PermissionDenied),
-            io::ErrorKind::PermissionDenied,
-        ),
-        (243, None, io::ErrorKind::WriteZero),
-        (
-            244,
-            Some(io::ErrorKind::BrokenPipe),
-            io::ErrorKind::BrokenPipe,
-        ),
-        (245, None, io::ErrorKind::WriteZero),
-        (
-            246,
-            Some(io::ErrorKind::BrokenPipe),
-            io::ErrorKind::BrokenPipe,
-        ),
-        (
-            307,
-            Some(io::ErrorKind::PermissionDenied),
-            io::ErrorKind::PermissionDenied,
-        ),
-        (
-            308,
-            Some(io::ErrorKind::BrokenPipe),
-            io::ErrorKind::BrokenPipe,
-        ),
-    ] {
-        let bytes = Vec::new(rt.alloc());
-        let mut writer = Small {
-            bytes,
-            room,
-            fault,
-            is_flushed: false,
-        };
-        let written = archive.write_to(rt.alloc(), &mut writer);
-        match &written {
-            Ok(()) => assert_eq!(rt; room, 308),
-            Err(WriteError::Writer(cause)) => {
-                assert!(rt; room < 308);
-                assert_eq!(rt; cause.kind(), kind);
-            }
-            Err(WriteError::OutOfMemory(_)) => return Err(Fail::new("out of memory")),
-        }
-        assert!(rt; writer.bytes.as_slice() == &GNU[..room]);
-        assert!(rt; !writer.is_flushed);
+    for (room, fault, kind) in ROOMS {
+        expect_beginning(rt.alloc(), &archive, *room, *fault, *kind)?;
     }
     Ok(())
 }
 
+// Holds what a fault shows, by itself and as an error.
+fn expect_text(alloc: Global, fault: Fault, text: &'static str) -> Result<(), Fail> {
+    let own = format!(in alloc; "{fault}")?;
+    let whole = format!(in alloc; "{}", Error::from(fault))?;
+    expect(own.as_str() == text && whole.as_str() == text, text)
+}
+
 #[test]
 fn faults_have_their_texts(rt: HostRuntime) -> Result<(), Fail> {
-    for (fault, text) in [
-        (Fault::EmptyName, "member name is empty"),
-        (Fault::NulInName, "member name contains null byte"),
-        (Fault::LineEndInName, "member name contains line end"),
-        (Fault::EmptySymbol, "symbol is empty"),
-        (Fault::NulInSymbol, "symbol contains null byte"),
-        (Fault::MemberTooLong, "member too long"),
-        (Fault::TooManyMembers, "too many members"),
-        (Fault::ArchiveTooLong, "archive too long"),
-    ] {
-        let own = format!(in rt.alloc(); "{fault}")?;
-        assert!(rt; own.as_str() == text);
-        let whole = Error::from(fault);
-        let shown = format!(in rt.alloc(); "{whole}")?;
-        assert!(rt; shown.as_str() == text);
-    }
+    expect_text(rt.alloc(), Fault::EmptyName, "member name is empty")?;
+    expect_text(
+        rt.alloc(),
+        Fault::NulInName,
+        "member name contains null byte",
+    )?;
+    expect_text(
+        rt.alloc(),
+        Fault::LineEndInName,
+        "member name contains line end",
+    )?;
+    expect_text(rt.alloc(), Fault::EmptySymbol, "symbol is empty")?;
+    expect_text(rt.alloc(), Fault::NulInSymbol, "symbol contains null byte")?;
+    expect_text(rt.alloc(), Fault::MemberTooLong, "member too long")?;
+    expect_text(rt.alloc(), Fault::TooManyMembers, "too many members")?;
+    expect_text(rt.alloc(), Fault::ArchiveTooLong, "archive too long")?;
     Ok(())
 }

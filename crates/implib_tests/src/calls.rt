@@ -34,14 +34,18 @@ const PYTHON: Text = (
     &[368, 462, 470, 470, 508, 514],
 );
 
+// The texts of all.
+const TEXTS: &[Text] = &[BAR, ALIASED, PYTHON];
+
 // Whether members have these lengths.
 fn have_lengths(members: &[Member], lengths: &[usize]) -> bool {
     if members.len() != lengths.len() {
         return false;
     }
-    for (member, length) in members.iter().zip(lengths.iter()) {
-        if member.bytes.len() != *length {
-            return false;
+    for (index, member) in members.iter().enumerate() {
+        match lengths.get(index) {
+            Some(length) if member.bytes.len() == *length => {}
+            _ => return false,
         }
     }
     true
@@ -167,12 +171,18 @@ fn are_same(left: &[Member], right: &[Member]) -> bool {
     if left.len() != right.len() {
         return false;
     }
-    for (left, right) in left.iter().zip(right.iter()) {
-        if left.name != right.name || left.bytes != right.bytes || left.symbols != right.symbols {
-            return false;
+    for (index, one) in left.iter().enumerate() {
+        match right.get(index) {
+            Some(other) if is_same(one, other) => {}
+            _ => return false,
         }
     }
     true
+}
+
+// Whether a member has the same name, file and listed symbols.
+fn is_same(one: &Member, other: &Member) -> bool {
+    one.name == other.name && one.bytes == other.bytes && one.symbols == other.symbols
 }
 
 // Makes a library, once more where memory is refused.
@@ -212,24 +222,20 @@ fn gives(
 
 #[test]
 fn members_for_microsoft_are_unchanged_by_refused_memory(rt: HostRuntime) -> Result<(), Fail> {
-    for (text, lengths, _) in [BAR, ALIASED, PYTHON] {
-        let library = made(rt.alloc(), text, Flavor::Msvc)?;
-        assert!(rt;
-            gives(rt.alloc(), &library, text, Flavor::Msvc, lengths)?,
-            "{text:?}"
-        );
+    for (text, lengths, _) in TEXTS {
+        let library = made(rt.alloc(), *text, Flavor::Msvc)?;
+        let same = gives(rt.alloc(), &library, *text, Flavor::Msvc, *lengths)?;
+        assert!(rt; same, "{text:?}");
     }
     Ok(())
 }
 
 #[test]
 fn members_for_gnu_are_unchanged_by_refused_memory(rt: HostRuntime) -> Result<(), Fail> {
-    for (text, _, lengths) in [BAR, ALIASED] {
-        let library = made(rt.alloc(), text, Flavor::Gnu)?;
-        assert!(rt;
-            gives(rt.alloc(), &library, text, Flavor::Gnu, lengths)?,
-            "{text:?}"
-        );
+    for (text, _, lengths) in &[BAR, ALIASED] {
+        let library = made(rt.alloc(), *text, Flavor::Gnu)?;
+        let same = gives(rt.alloc(), &library, *text, Flavor::Gnu, *lengths)?;
+        assert!(rt; same, "{text:?}");
     }
     Ok(())
 }
@@ -244,12 +250,10 @@ fn many_members_for_gnu_are_unchanged_by_refused_memory(rt: HostRuntime) -> Resu
 
 #[test]
 fn copies_are_unchanged_by_refused_memory(rt: HostRuntime) -> Result<(), Fail> {
-    for (text, lengths, _) in [BAR, ALIASED, PYTHON] {
-        let copy = copied(&made(rt.alloc(), text, Flavor::Msvc)?)?;
-        assert!(rt;
-            gives(rt.alloc(), &copy, text, Flavor::Msvc, lengths)?,
-            "{text:?}"
-        );
+    for (text, lengths, _) in TEXTS {
+        let copy = copied(&made(rt.alloc(), *text, Flavor::Msvc)?)?;
+        let same = gives(rt.alloc(), &copy, *text, Flavor::Msvc, *lengths)?;
+        assert!(rt; same, "{text:?}");
     }
     Ok(())
 }
@@ -282,7 +286,7 @@ fn export_copied(export: &ShortExport) -> Result<ShortExport, Error> {
 type Expected = (&'static str, Option<&'static str>, &'static str, bool);
 
 // The texts, each with its import name and its exports.
-const DEFINITIONS: [(Text, &str, &[Expected]); 3] = [
+const DEFINITIONS: &[(Text, &str, &[Expected])] = &[
     (BAR, "foo.dll", &[("bar", None, "", false)]),
     (ALIASED, "foo.dll", &[("bar", Some("foo"), "baz", false)]),
     (
@@ -320,15 +324,29 @@ fn has_expected(def: &ModuleDef, import_name: &str, rows: &[Expected]) -> bool {
     if def.import_name.as_str() != import_name || def.exports.len() != rows.len() {
         return false;
     }
-    for (export, row) in def.exports.iter().zip(rows.iter()) {
-        if !is_expected(export, row) {
-            return false;
+    for (index, row) in rows.iter().enumerate() {
+        match def.exports.get(index) {
+            Some(export) if is_expected(export, row) => {}
+            _ => return false,
         }
     }
     true
 }
 
-/// Holds what texts mean, and that copies are the same.
+// Whether copies of a definition's exports are the expected ones.
+fn are_copied(def: &ModuleDef, rows: &[Expected]) -> Result<bool, Error> {
+    for (index, row) in rows.iter().enumerate() {
+        let Some(export) = def.exports.get(index) else {
+            return Ok(false);
+        };
+        if !is_expected(&export_copied(export)?, row) {
+            return Ok(false);
+        }
+    }
+    Ok(true)
+}
+
+// Holds what texts mean, and that copies are the same.
 fn expect_definitions(
     rt: &impl Abort,
     alloc: Global,
@@ -337,73 +355,17 @@ fn expect_definitions(
     for row in rows {
         let ((text, _, _), import_name, rows) = *row;
         let def = parsed(alloc, text)?;
-        assert!(rt; has_expected(&def, import_name, rows), "{text:?}");
         let copy = definition_copied(&def)?;
-        assert!(rt; has_expected(&copy, import_name, rows), "{text:?}");
-        for (export, row) in def.exports.iter().zip(rows.iter()) {
-            assert!(rt; is_expected(&export_copied(export)?, row), "{text:?}");
-        }
-        assert!(rt; has_expected(&def, import_name, rows), "{text:?}");
+        let is_copied = are_copied(&def, rows)? && has_expected(&copy, import_name, rows);
+        assert!(rt;
+            is_copied && has_expected(&def, import_name, rows),
+            "{text:?}"
+        );
     }
     Ok(())
 }
 
 #[test]
 fn definitions_are_unchanged_by_refused_memory(rt: HostRuntime) -> Result<(), Fail> {
-    expect_definitions(&rt, rt.alloc(), &DEFINITIONS)
-}
-
-#[test]
-fn an_export_of_equal_names_is_copied(rt: HostRuntime) -> Result<(), Fail> {
-    let alloc = rt.alloc();
-    let export = ShortExport {
-        name: String::from_str(alloc, "foo")?,
-        ext_name: Some(String::from_str(alloc, "foo")?),
-        symbol_name: String::from_str(alloc, "foo")?,
-        asked_name: Some(String::from_str(alloc, "foo")?),
-        alias_target: String::from_str(alloc, "foo")?,
-        ..ShortExport::empty(alloc)
-    };
-    let copy = export.clone()?;
-    assert_eq!(rt; copy.name.as_str(), "foo");
-    assert_eq!(rt; copy.alias_target.as_str(), "foo");
-    let asked = copy.asked_name.as_ref().ok_or("the asked name is lost")?;
-    assert_eq!(rt; asked.as_str(), "foo");
-    Ok(())
-}
-
-#[test]
-fn a_private_export_is_copied(rt: HostRuntime) -> Result<(), Fail> {
-    let alloc = rt.alloc();
-    let export = ShortExport {
-        private: true,
-        ordinal: 65535,
-        ..ShortExport::named(alloc, "foo")?
-    };
-    let copy = export.clone()?;
-    assert!(rt; copy.private);
-    assert_eq!(rt; copy.ordinal, 65535);
-    assert_eq!(rt; copy.name.as_str(), "foo");
-    let flags = (copy.no_name, copy.is_data, copy.constant);
-    assert_eq!(rt; flags, (false, false, false));
-    Ok(())
-}
-
-#[test]
-fn a_named_export_has_its_name_alone(rt: HostRuntime) -> Result<(), Fail> {
-    let export = ShortExport::named(rt.alloc(), "foo@8")?;
-    assert_eq!(rt; export.name.as_str(), "foo@8");
-    assert!(rt; export.ext_name.is_none());
-    assert_eq!(rt; export.symbol_name.as_str(), "");
-    assert!(rt; export.asked_name.is_none());
-    assert_eq!(rt; export.alias_target.as_str(), "");
-    assert_eq!(rt; export.ordinal, 0);
-    let flags = (
-        export.no_name,
-        export.is_data,
-        export.private,
-        export.constant,
-    );
-    assert_eq!(rt; flags, (false, false, false, false));
-    Ok(())
+    expect_definitions(&rt, rt.alloc(), DEFINITIONS)
 }

@@ -4,7 +4,7 @@ use implib::{Error, Fault, Flavor, MachineType};
 use std::test::Fail;
 
 // The machines, their names, and their numbers in a file header.
-const MACHINES: [(MachineType, &str, u16); 4] = [
+const MACHINES: &[(MachineType, &str, u16)] = &[
     (MachineType::I386, "I386", 0x14C),
     (MachineType::ARMNT, "ARMNT", 0x1C4),
     (MachineType::AMD64, "AMD64", 0x8664),
@@ -15,7 +15,7 @@ const MACHINES: [(MachineType, &str, u16); 4] = [
 fn machines_show_their_names(rt: HostRuntime) -> Result<(), Fail> {
     for (machine, name, _) in MACHINES {
         let shown = format!(in rt.alloc(); "{machine}")?;
-        assert_eq!(rt; shown.as_str(), name);
+        assert_eq!(rt; shown.as_str(), *name);
     }
     Ok(())
 }
@@ -23,34 +23,40 @@ fn machines_show_their_names(rt: HostRuntime) -> Result<(), Fail> {
 #[test]
 fn machines_are_read_by_name_and_by_number(rt: HostRuntime) -> Result<(), Fail> {
     for (machine, name, number) in MACHINES {
-        assert_eq!(rt; name.parse::<MachineType>().ok(), Some(machine));
-        assert_eq!(rt; MachineType::try_from(number).ok(), Some(machine));
-        assert_eq!(rt; u16::from(machine), number);
+        assert!(rt;
+            name.parse::<MachineType>().ok() == Some(*machine),
+            "{name}"
+        );
+        assert!(rt;
+            MachineType::try_from(*number).ok() == Some(*machine),
+            "{name}"
+        );
+        assert!(rt; u16::from(*machine) == *number, "{name}");
     }
     Ok(())
 }
 
 #[test]
 fn other_names_and_numbers_are_refused(rt: HostRuntime) -> Result<(), Fail> {
-    for name in ["", "i386", "I386 ", "x64", "msvc", "GNU", "Msvc"] {
+    for name in &["", "i386", "I386 ", "x64", "msvc", "GNU", "Msvc"] {
         assert!(rt; name.parse::<MachineType>().is_err());
     }
-    for name in ["", "MSVC", "Gnu", "gnu ", "AMD64"] {
+    for name in &["", "MSVC", "Gnu", "gnu ", "AMD64"] {
         assert!(rt; name.parse::<Flavor>().is_err());
     }
-    for number in [0, 0x14D, 0x1C0, 0x8665, 0xA641, 0xFFFF] {
-        assert!(rt; MachineType::try_from(number).is_err());
+    for number in &[0, 0x14D, 0x1C0, 0x8665, 0xA641, 0xFFFF] {
+        assert!(rt; MachineType::try_from(*number).is_err());
     }
     Ok(())
 }
 
 #[test]
 fn flavours_show_their_names(rt: HostRuntime) -> Result<(), Fail> {
-    for (flavor, name) in [(Flavor::Msvc, "msvc"), (Flavor::Gnu, "gnu")] {
+    for (flavor, name) in &[(Flavor::Msvc, "msvc"), (Flavor::Gnu, "gnu")] {
         let shown = format!(in rt.alloc(); "{flavor}")?;
-        assert_eq!(rt; shown.as_str(), name);
+        assert_eq!(rt; shown.as_str(), *name);
         let read = name.parse::<Flavor>().map(Flavor::name).unwrap_or("");
-        assert_eq!(rt; read, name);
+        assert_eq!(rt; read, *name);
     }
     Ok(())
 }

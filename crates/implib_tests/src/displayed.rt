@@ -7,7 +7,7 @@ use std::process::Abort;
 use std::test::Fail;
 
 /// Token kinds, and the names that they show.
-const TOKEN_KINDS: [(TokenKind, &str); 17] = [
+const TOKEN_KINDS: &[(TokenKind, &str)] = &[
     (TokenKind::Unknown, "Unknown"),
     (TokenKind::Eof, "Eof"),
     (TokenKind::Identifier, "Identifier"),
@@ -39,7 +39,7 @@ fn expect_names(rt: &impl Abort, alloc: Global, rows: &[(TokenKind, &str)]) -> R
 
 #[test]
 fn token_kinds_show_their_names(rt: HostRuntime) -> Result<(), Fail> {
-    expect_names(&rt, rt.alloc(), &TOKEN_KINDS)
+    expect_names(&rt, rt.alloc(), TOKEN_KINDS)
 }
 
 /// Holds what a fault shows, by itself and as an error.
@@ -49,10 +49,12 @@ fn expect_shown(
     fault: Fault,
     want: &str,
 ) -> Result<(), AllocError> {
-    let shown = format!(in alloc; "{fault}")?;
-    assert_eq!(rt; shown.as_str(), want);
-    let shown = format!(in alloc; "{}", Error::Invalid(fault))?;
-    assert_eq!(rt; shown.as_str(), want);
+    let own = format!(in alloc; "{fault}")?;
+    let whole = format!(in alloc; "{}", Error::Invalid(fault))?;
+    assert!(rt;
+        own.as_str() == want && whole.as_str() == want,
+        "{own}, {whole}: {want}"
+    );
     Ok(())
 }
 

@@ -7,7 +7,7 @@ use std::process::Abort;
 use std::test::Fail;
 
 /// Texts with a syntax error: the offset of the token that is refused, and what the error shows.
-const REFUSALS: [(&str, usize, &str); 33] = [
+const REFUSALS: &[(&str, usize, &str)] = &[
     ("foo", 0, "1:1: unknown directive: foo"),
     ("\n  foo", 3, "2:3: unknown directive: foo"),
     ("NAME a\r\n\r\nfoo", 10, "3:1: unknown directive: foo"),
@@ -90,7 +90,7 @@ fn expect_refusals(
 
 #[test]
 fn refusals_have_the_positions_of_their_tokens(rt: HostRuntime) -> Result<(), Fail> {
-    expect_refusals(&rt, rt.alloc(), &REFUSALS)
+    expect_refusals(&rt, rt.alloc(), REFUSALS)
 }
 
 #[test]
@@ -121,7 +121,7 @@ fn expect_same_faults(
 
 #[test]
 fn parse_has_the_same_faults(rt: HostRuntime) -> Result<(), Fail> {
-    expect_same_faults(&rt, rt.alloc(), &REFUSALS)
+    expect_same_faults(&rt, rt.alloc(), REFUSALS)
 }
 
 #[test]
@@ -152,7 +152,7 @@ fn an_error_reads_as_a_compilers_message(rt: HostRuntime) -> Result<(), Fail> {
 }
 
 /// Offsets of one text, with their lines and columns.
-const POSITIONS: [(usize, usize, usize); 9] = [
+const POSITIONS: &[(usize, usize, usize)] = &[
     (0, 1, 1),
     (1, 1, 2),
     (2, 1, 3),
@@ -168,12 +168,11 @@ const POSITIONS: [(usize, usize, usize); 9] = [
 fn offsets_have_lines_and_columns(rt: HostRuntime) -> Result<(), Fail> {
     let text = "a\r\n\nb\u{fc}\r";
     for (offset, line, column) in POSITIONS {
-        let want = Position {
-            offset,
-            line,
-            column,
-        };
-        assert_eq!(&rt; Position::at(text, offset), want);
+        let got = Position::at(text, *offset);
+        assert_eq!(&rt;
+            (got.offset, got.line, got.column),
+            (*offset, *line, *column)
+        );
     }
     Ok(())
 }

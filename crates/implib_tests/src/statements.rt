@@ -9,7 +9,7 @@ use std::process::Abort;
 use std::test::Fail;
 
 /// Texts for AMD64, each with what it means or why it is refused, in the words of `outcome`.
-const OUTCOMES: [(&str, &str); 64] = [
+const OUTCOMES: &[(&str, &str)] = &[
     ("", ""),
     ("EXPORTS\nfoo @10 NONAME", "; foo @10 noname"),
     ("EXPORTS\nfoo @70000", "; foo; @70000"),
@@ -107,7 +107,7 @@ const OUTCOMES: [(&str, &str); 64] = [
 ];
 
 /// Texts for I386, likewise.
-const OUTCOMES_I386: [(&str, &str); 3] = [
+const OUTCOMES_I386: &[(&str, &str)] = &[
     (
         "LIBRARY foo.dll\nEXPORTS\nfoo\n@bar@8\n_x@8\n?y",
         "foo.dll; _foo; @bar@8; _x@8; ?y",
@@ -153,16 +153,16 @@ fn show_export(out: &mut String, export: &ShortExport) -> Result<(), AllocError>
     if export.ordinal != 0 {
         write!(out, " @{}", export.ordinal)?;
     }
-    let flags = [
-        (export.no_name, " noname"),
-        (export.is_data, " data"),
-        (export.private, " private"),
-        (export.constant, " constant"),
-    ];
-    for (is_set, word) in flags {
-        if is_set {
-            out.push_str(word)?;
-        }
+    show_flag(out, export.no_name, " noname")?;
+    show_flag(out, export.is_data, " data")?;
+    show_flag(out, export.private, " private")?;
+    show_flag(out, export.constant, " constant")
+}
+
+/// The word of a flag that is set.
+fn show_flag(out: &mut String, is_set: bool, word: &str) -> Result<(), AllocError> {
+    if is_set {
+        out.push_str(word)?;
     }
     Ok(())
 }
@@ -186,17 +186,17 @@ fn expect_outcomes(rt: &impl Abort, alloc: Global, rows: &[(&str, &str)]) -> Res
 
 #[test]
 fn texts_have_their_meanings_or_faults(rt: HostRuntime) -> Result<(), Fail> {
-    expect_outcomes(&rt, rt.alloc(), &OUTCOMES)
+    expect_outcomes(&rt, rt.alloc(), OUTCOMES)
 }
 
 #[test]
 fn texts_for_i386_have_names_with_an_underscore(rt: HostRuntime) -> Result<(), Fail> {
     let alloc = rt.alloc();
     for (text, expected) in OUTCOMES_I386 {
-        let answer = outcome(alloc, Parser::new(text, MachineType::I386).parse(alloc))?;
-        assert_eq!(rt; answer.as_str(), expected, "{text}");
-        let answer = outcome(alloc, ModuleDef::parse(alloc, text, MachineType::I386))?;
-        assert_eq!(rt; answer.as_str(), expected, "{text}");
+        let answer = outcome(alloc, Parser::new(*text, MachineType::I386).parse(alloc))?;
+        assert_eq!(rt; answer.as_str(), *expected);
+        let answer = outcome(alloc, ModuleDef::parse(alloc, *text, MachineType::I386))?;
+        assert_eq!(rt; answer.as_str(), *expected);
     }
     Ok(())
 }
@@ -210,31 +210,32 @@ fn with_long_name(alloc: Global, front: &str) -> Result<String, AllocError> {
     Ok(text)
 }
 
+/// Fronts of texts that a name follows, and what the texts mean, before the name and after it.
+const LONG: &[(&str, &str, &str)] = &[
+    ("LIBRARY ", "", ""),
+    ("EXPORTS ", "; ", ""),
+    ("EXPORTS f = ", "; ", " outside f"),
+    ("EXPORTS f == ", "; f for ", ""),
+];
+
 #[test]
 fn names_of_300_bytes_are_read(rt: HostRuntime) -> Result<(), Fail> {
     let alloc = rt.alloc();
-    for (front, shown) in [
-        ("LIBRARY ", ""),
-        ("EXPORTS ", "; "),
-        ("EXPORTS f = ", "; "),
-        ("EXPORTS f == ", "; f for "),
-    ] {
-        let text = with_long_name(alloc, front)?;
+    for (front, before, after) in LONG {
+        let text = with_long_name(alloc, *front)?;
         let answer = outcome(
             alloc,
             ModuleDef::parse(alloc, text.as_str(), MachineType::AMD64),
         )?;
-        let mut expected = with_long_name(alloc, shown)?;
-        if front == "EXPORTS f = " {
-            expected.push_str(" outside f")?;
-        }
+        let mut expected = with_long_name(alloc, *before)?;
+        expected.push_str(*after)?;
         assert_eq!(rt; answer.as_str(), expected.as_str());
     }
     Ok(())
 }
 
 /// What each front of a text means, by the front's length.
-const FRONTS: [&str; 36] = [
+const FRONTS: &[&str] = &[
     "",
     "unknown directive: E",
     "unknown directive: EX",
@@ -291,5 +292,5 @@ fn expect_fronts(
 #[test]
 fn each_front_has_its_meaning_or_fault(rt: HostRuntime) -> Result<(), Fail> {
     let text = "EXPORTS\nfoo = bar == baz @ 1 NONAME";
-    expect_fronts(&rt, rt.alloc(), text, &FRONTS)
+    expect_fronts(&rt, rt.alloc(), text, FRONTS)
 }

@@ -11,14 +11,16 @@ fn expect_tokens(rt: &impl Abort, text: &str, rows: &[Row]) {
     let mut lexer = Lexer::new(text);
     for row in rows {
         let (kind, value, at) = *row;
-        assert_eq!(rt;
-            lexer.next(),
-            Some(Token { kind, value, at }),
-            "in {text:?}"
+        let token = lexer.next();
+        assert!(rt;
+            token == Some(Token { kind, value, at }),
+            "in {text:?}: {token:?}"
         );
     }
-    assert_eq!(rt; lexer.next(), None, "in {text:?}");
-    assert_eq!(rt; lexer.next(), None, "in {text:?}");
+    assert!(rt;
+        lexer.next().is_none() && lexer.next().is_none(),
+        "in {text:?}"
+    );
 }
 
 // The same of several texts.
@@ -29,7 +31,7 @@ fn expect_all(rt: &impl Abort, texts: &[(&str, &[Row])]) {
 }
 
 // Texts of signs, and their tokens.
-const SIGNS: [(&str, &[Row]); 2] = [
+const SIGNS: &[(&str, &[Row])] = &[
     (
         "=,==\"CODE\"BASE;",
         &[
@@ -53,11 +55,11 @@ const SIGNS: [(&str, &[Row]); 2] = [
 
 #[test]
 fn each_sign_is_a_token(rt: HostRuntime) {
-    expect_all(&rt, &SIGNS);
+    expect_all(&rt, SIGNS);
 }
 
 // Texts that end early, and their tokens.
-const ENDS: [(&str, &[Row]); 4] = [
+const ENDS: &[(&str, &[Row])] = &[
     ("", &[(TokenKind::Eof, "", 0)]),
     ("\0", &[(TokenKind::Eof, "", 0)]),
     (" \0EXPORTS", &[(TokenKind::Eof, "", 1)]),
@@ -69,11 +71,11 @@ const ENDS: [(&str, &[Row]); 4] = [
 
 #[test]
 fn tokens_end_at_a_nul_outside_comments(rt: HostRuntime) {
-    expect_all(&rt, &ENDS);
+    expect_all(&rt, ENDS);
 }
 
 // Texts of words, and their tokens.
-const WORDS: [(&str, &[Row]); 4] = [
+const WORDS: &[(&str, &[Row])] = &[
     (
         "NAME foo.dll",
         &[
@@ -111,11 +113,11 @@ const WORDS: [(&str, &[Row]); 4] = [
 
 #[test]
 fn words_end_at_delimiters(rt: HostRuntime) {
-    expect_all(&rt, &WORDS);
+    expect_all(&rt, WORDS);
 }
 
 // Texts with quotes, and their tokens.
-const QUOTED: [(&str, &[Row]); 3] = [
+const QUOTED: &[(&str, &[Row])] = &[
     (
         "\" \"",
         &[(TokenKind::Identifier, "", 1), (TokenKind::Eof, "", 3)],
@@ -140,7 +142,7 @@ const QUOTED: [(&str, &[Row]); 3] = [
 
 #[test]
 fn quoted_names_are_trimmed(rt: HostRuntime) {
-    expect_all(&rt, &QUOTED);
+    expect_all(&rt, QUOTED);
 }
 
 #[test]

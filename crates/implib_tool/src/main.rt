@@ -13,7 +13,7 @@ mod output;
 pub mod program;
 pub mod run;
 #[cfg(test)]
-mod run_tests;
+mod trials;
 
 use crate::host::Host;
 use crate::program::perform;

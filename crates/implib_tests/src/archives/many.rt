@@ -1,6 +1,6 @@
 //! Archives of many members with long names.
 
-use super::member;
+use super::{expect, member};
 use implib::Member;
 use implib_archive::{Archive, Error, Fault, Kind};
 use std::alloc::{AllocError, Global};
@@ -9,7 +9,7 @@ use std::test::Fail;
 // Archives of many members that have names of 25 bytes and symbols of seven: their kind, the number of
 // members, the bytes of each, and the archive's size. For example, that of 5,000 members in the COFF kind
 // has 260,200 bytes before the members, and 4,060 for each.
-const RUNS: [(Kind, usize, usize, u64); 4] = [
+const RUNS: &[(Kind, usize, usize, u64)] = &[
     (Kind::Coff, 5_000, 4_000, 20_560_200),
     (Kind::Gnu, 5_000, 4_000, 20_495_132),
     (Kind::Coff, 65_534, 100, 13_893_408),
@@ -27,23 +27,38 @@ fn many_members(alloc: Global, count: usize, data: &[u8]) -> Result<Vec<Member>,
     Ok(members)
 }
 
-// The bytes are in memory of their size.
+// Holds the size and the end of the archive of members whose bytes are these. The bytes of the archive
+// are in memory of their size.
+fn expect_archive(
+    alloc: Global,
+    members: &[Member],
+    kind: Kind,
+    data: &[u8],
+    size: u64,
+) -> Result<(), Fail> {
+    let archive = Archive::new(alloc, members, kind)?;
+    let bytes = archive.to_vec(alloc)?;
+    expect(
+        archive.len() == size && bytes.len() as u64 == size,
+        "an archive's length",
+    )?;
+    expect(bytes.capacity() as u64 == size, "an archive's memory")?;
+    expect(bytes.as_slice().ends_with(data), "an archive's end")?;
+    let mut writer = Vec::new(alloc);
+    expect(
+        archive.write_to(alloc, &mut writer).is_ok(),
+        "an archive is written",
+    )?;
+    expect(writer.as_slice() == bytes.as_slice(), "what is written")
+}
+
 #[test]
 fn many_members_have_archives(rt: HostRuntime) -> Result<(), Fail> {
-    let alloc = rt.alloc();
     let bytes = [5; 4000];
     for (kind, count, length, size) in RUNS {
-        let data = bytes.get(..length).ok_or("the bytes are fewer")?;
-        let members = many_members(alloc, count, data)?;
-        let archive = Archive::new(alloc, members.as_slice(), kind)?;
-        assert_eq!(rt; archive.len(), size);
-        let bytes = archive.to_vec(alloc)?;
-        assert_eq!(rt; bytes.len() as u64, size);
-        assert_eq!(rt; bytes.capacity() as u64, size);
-        assert!(rt; bytes.as_slice().ends_with(data));
-        let mut writer = Vec::new(alloc);
-        assert!(rt; archive.write_to(alloc, &mut writer).is_ok());
-        assert!(rt; writer.as_slice() == bytes.as_slice());
+        let data = bytes.get(..*length).ok_or("the bytes are fewer")?;
+        let members = many_members(rt.alloc(), *count, data)?;
+        expect_archive(rt.alloc(), members.as_slice(), *kind, data, *size)?;
     }
     Ok(())
 }

@@ -1,10 +1,7 @@
-//! A run for GNU's linker on I386 over two documents, whole.
+//! A listing for GNU's linker on I386 of two documents, whole.
 
-use super::command;
-use crate::doubles::{MemorySink, MemorySource};
-use std::test::Fail;
-
-const INPUT: &str = "LIBRARY foo.dll\n\
+/// The documents.
+pub const INPUT: &str = "LIBRARY foo.dll\n\
     EXPORTS\n\
     bar\n\
     ---\n\
@@ -14,29 +11,8 @@ const INPUT: &str = "LIBRARY foo.dll\n\
     _x@8 @ 5 NONAME DATA\n\
     ";
 
-#[test]
-fn two_documents_are_listed_for_gnu(rt: HostRuntime) -> Result<(), Fail> {
-    let mut arguments = Vec::new(rt.alloc());
-    for argument in ["I386", "gnu"] {
-        arguments.push(String::from_str(rt.alloc(), argument)?)?;
-    }
-    let mut reader = MemorySource::new(INPUT.as_bytes(), 1_000_000, 1_000_000);
-    let mut writer = MemorySink::new(rt.alloc(), 1_000_000, 1_000_000)?;
-    let mut faults = MemorySink::new(rt.alloc(), 1_000_000, 1_000_000)?;
-    let status = command(
-        rt.alloc(),
-        arguments.as_slice(),
-        &mut reader,
-        &mut writer,
-        &mut faults,
-    );
-    assert_eq!(rt; status, 0);
-    assert_eq!(rt; str::from_utf8(writer.bytes())?, LISTED);
-    assert!(rt; faults.bytes().is_empty());
-    Ok(())
-}
-
-const LISTED: &str = "member foo_dll_a_t.o 349\n\
+/// Their listing.
+pub const LISTED: &str = "member foo_dll_a_t.o 349\n\
     symbol _foo_dll_iname\n\
     4c 01 06 00 00 00 00 00 14 01 00 00 03 00 00 00\n\
     00 00 00 00 2e 74 65 78 74 00 00 00 00 00 00 00\n\

@@ -2,8 +2,10 @@ ghost use Rattle.std.specs.Prelude.{◌≤◌, IfOk};
 
 use super::Host;
 use crate::command::command;
-use crate::device::{DeviceFault, Sink, Source};
+use crate::device::{Sink, Source};
+use std::alloc::Global;
 use std::io::{self, Read, Write};
+use std::process::Abort;
 use std::test::Fail;
 
 /// A reader that gives one byte a call.
@@ -72,103 +74,73 @@ const END: &str = "member foo.dll 32\nsymbol __imp_bar\nsymbol bar\n\
     00 00 ff ff 00 00 64 86 00 00 00 00 0c 00 00 00\n\
     00 00 04 00 62 61 72 00 66 6f 6f 2e 64 6c 6c 00\n";
 
+/// What a run does over a reader and a writer: its status, the writer, and the lines of faults.
+fn run_over<R: io::Read + Drop, W: io::Write>(
+    alloc: Global,
+    reader: R,
+    writer: W,
+) -> (u8, Host<W>, Host<Vec<u8>>) {
+    let mut reader = Host::new(reader);
+    let mut writer = Host::new(writer);
+    let mut faults = Host::new(Vec::new(alloc));
+    let status = command(alloc, &[], &mut reader, &mut writer, &mut faults);
+    (status, writer, faults)
+}
+
 #[test]
 fn readers_and_writers_in_memory_are_used_whole(rt: HostRuntime) -> Result<(), Fail> {
-    let arguments = Vec::new(rt.alloc());
-    let mut reader = Host::new(TEXT.as_bytes());
-    let mut writer = Host::new(Vec::new(rt.alloc()));
-    let mut faults = Host::new(Vec::new(rt.alloc()));
-    let status = command(
-        rt.alloc(),
-        arguments.as_slice(),
-        &mut reader,
-        &mut writer,
-        &mut faults,
-    );
-    assert_eq!(rt; status, 0);
-    assert!(rt; writer.inner.as_slice().ends_with(END.as_bytes()));
-    assert!(rt; faults.inner.is_empty());
-    let whole = writer.inner.len();
-    let mut reader = Host::new(SingleReader(TEXT.as_bytes()));
-    let mut writer = Host::new(SingleWriter(Vec::new(rt.alloc())));
-    let status = command(
-        rt.alloc(),
-        arguments.as_slice(),
-        &mut reader,
-        &mut writer,
-        &mut faults,
-    );
-    assert_eq!(rt; status, 0);
-    assert_eq!(rt; writer.inner.0.len(), whole);
-    assert!(rt; writer.inner.0.as_slice().ends_with(END.as_bytes()));
+    let (status, all, faults) = run_over(rt.alloc(), TEXT.as_bytes(), Vec::new(rt.alloc()));
+    assert!(rt; status == 0 && faults.inner.is_empty());
+    assert!(rt; all.inner.as_slice().ends_with(END.as_bytes()));
+    let single = SingleWriter(Vec::new(rt.alloc()));
+    let (status, bytes, faults) = run_over(rt.alloc(), SingleReader(TEXT.as_bytes()), single);
+    assert!(rt; status == 0 && faults.inner.is_empty());
+    assert!(rt; bytes.inner.0.as_slice() == all.inner.as_slice());
     Ok(())
+}
+
+/// Holds that a reader's first answer is passed on, and that `None` is a failure.
+fn expect_read(rt: &impl Abort, first: Option<usize>) {
+    let mut host = Host::new(First(first));
+    let mut buffer = [0; 4];
+    assert!(rt; !Source::has_failed(&host));
+    assert!(rt; host.read(&mut buffer).ok() == first);
+    assert!(rt; Source::has_failed(&host) == first.is_none());
+}
+
+/// Holds that a writer's first answer is passed on, and that `None` is a failure, and `Some(0)`.
+fn expect_write(rt: &impl Abort, first: Option<usize>, has_failed: bool) {
+    let mut host = Host::new(First(first));
+    assert!(rt; !Sink::has_failed(&host));
+    assert!(rt; host.write(b"abcd").ok() == first);
+    assert!(rt; Sink::has_failed(&host) == has_failed);
 }
 
 // A call that was interrupted is not tried again, though the next one would succeed.
 #[test]
 fn answers_are_passed_on(rt: HostRuntime) {
-    for (first, read, has_failed) in [
-        (None, Err(DeviceFault), true),
-        (Some(0), Ok(0), false),
-        (Some(1), Ok(1), false),
-        (Some(4), Ok(4), false),
-    ] {
-        let mut host = Host::new(First(first));
-        let mut buffer = [0; 4];
-        assert!(rt; !Source::has_failed(&host));
-        assert_eq!(rt; host.read(&mut buffer), read);
-        assert_eq!(rt; Source::has_failed(&host), has_failed);
-    }
-    for (first, written, has_failed) in [
-        (None, Err(DeviceFault), true),
-        (Some(0), Ok(0), true),
-        (Some(1), Ok(1), false),
-        (Some(4), Ok(4), false),
-    ] {
-        let mut host = Host::new(First(first));
-        assert!(rt; !Sink::has_failed(&host));
-        assert_eq!(rt; host.write(b"abcd"), written);
-        assert_eq!(rt; Sink::has_failed(&host), has_failed);
-    }
+    expect_read(&rt, None);
+    expect_read(&rt, Some(0));
+    expect_read(&rt, Some(1));
+    expect_read(&rt, Some(4));
+    expect_write(&rt, None, true);
+    expect_write(&rt, Some(0), true);
+    expect_write(&rt, Some(1), false);
+    expect_write(&rt, Some(4), false);
     let mut host = Host::new(First(Some(0)));
-    assert_eq!(rt; host.write(b""), Ok(0));
-    assert!(rt; !Sink::has_failed(&host));
+    assert!(rt; host.write(b"").ok() == Some(0) && !Sink::has_failed(&host));
+}
+
+/// Holds that a writer which answers its first call so is reported.
+fn expect_write_fault(rt: &impl Abort, alloc: Global, first: Option<usize>) {
+    let (status, _, faults) = run_over(alloc, TEXT.as_bytes(), First(first));
+    assert!(rt; status == 3 && faults.inner.as_slice() == b"implib: write failed\n".as_slice());
 }
 
 #[test]
-fn faults_of_the_system_are_reported(rt: HostRuntime) -> Result<(), Fail> {
-    let arguments = Vec::new(rt.alloc());
-    for first in [None, Some(0)] {
-        let mut reader = Host::new(TEXT.as_bytes());
-        let mut writer = Host::new(First(first));
-        let mut faults = Host::new(Vec::new(rt.alloc()));
-        let status = command(
-            rt.alloc(),
-            arguments.as_slice(),
-            &mut reader,
-            &mut writer,
-            &mut faults,
-        );
-        assert_eq!(rt; status, 3);
-        assert_eq!(rt;
-            faults.inner.as_slice(),
-            b"implib: write failed\n".as_slice()
-        );
-    }
-    let mut reader = Host::new(First(None));
-    let mut writer = Host::new(Vec::new(rt.alloc()));
-    let mut faults = Host::new(Vec::new(rt.alloc()));
-    let status = command(
-        rt.alloc(),
-        arguments.as_slice(),
-        &mut reader,
-        &mut writer,
-        &mut faults,
-    );
-    assert_eq!(rt; status, 3);
-    assert_eq!(rt;
-        faults.inner.as_slice(),
-        b"implib: read failed\n".as_slice()
-    );
-    Ok(())
+fn faults_of_the_system_are_reported(rt: HostRuntime) {
+    expect_write_fault(&rt, rt.alloc(), None);
+    expect_write_fault(&rt, rt.alloc(), Some(0));
+    let (status, _, faults) = run_over(rt.alloc(), First(None), Vec::new(rt.alloc()));
+    assert!(rt; status == 3 && faults.inner.as_slice() == b"implib: read failed\n".as_slice());
 }

@@ -2,12 +2,14 @@ use super::list_members;
 use crate::device::Sink;
 use crate::doubles::MemorySink;
 use crate::output::Buffer;
+use crate::trials::{ANY, Pace};
 use implib::Member;
 use std::alloc::{AllocError, Global};
 use std::fmt::Write;
+use std::process::Abort;
 use std::test::Fail;
 
-/// Writes the listing of members.
+/// Writes the listing of members to a writer.
 fn show(alloc: Global, members: &[Member], writer: &mut MemorySink) -> Result<(), AllocError> {
     let mut buffer = Buffer::reserve(alloc)?;
     list_members(&mut buffer, writer, members);
@@ -33,12 +35,12 @@ fn push_listing(text: &mut String, name: &str, count: usize) -> Result<(), Fail>
     write!(text, "member {name} {count}\n")?;
     for index in 0..count {
         let byte = index % 251;
-        let end = if index % 16 == 15 || index + 1 == count {
-            "\n"
+        write!(text, "{byte:02x}")?;
+        text.push(if index % 16 == 15 || index + 1 == count {
+            '\n'
         } else {
-            " "
-        };
-        write!(text, "{byte:02x}{end}")?;
+            ' '
+        })?;
     }
     Ok(())
 }
@@ -75,61 +77,93 @@ fn members_are_shown(rt: HostRuntime) -> Result<(), Fail> {
     Ok(())
 }
 
+/// Members of these names and lengths, and their listing.
+fn listed(alloc: Global, rows: &[(&str, usize)]) -> Result<(Vec<Member>, String), Fail> {
+    let mut members = Vec::new(alloc);
+    let mut want = String::new(alloc);
+    for (name, count) in rows {
+        members.push(member_of(alloc, *name, *count)?)?;
+        push_listing(&mut want, *name, *count)?;
+    }
+    Ok((members, want))
+}
+
+/// Holds that a writer which takes this many bytes a call has the whole listing.
+fn expect_whole(
+    rt: &impl Abort,
+    alloc: Global,
+    members: &[Member],
+    want: &str,
+    step: usize,
+) -> Result<(), AllocError> {
+    let mut shown = MemorySink::new(alloc, step, usize::MAX)?;
+    show(alloc, members, &mut shown)?;
+    assert!(rt;
+        !shown.has_failed() && shown.bytes() == want.as_bytes(),
+        "{step}"
+    );
+    Ok(())
+}
+
 // The buffer has 65,536 bytes. The listing of the first member ends a byte before its end, at its
 // end and a byte after it; that of the second is three buffers long, and the third's name is
 // longer than the buffer.
 #[test]
 fn long_listings_are_written_whole(rt: HostRuntime) -> Result<(), Fail> {
-    let mut long_name = String::new(rt.alloc());
-    for _ in 0..10_000 {
-        long_name.push_str("eight123")?;
-    }
-    for first_name in ["abcd", "abcde", "abcdef"] {
-        let mut members = Vec::new(rt.alloc());
-        let mut want = String::new(rt.alloc());
-        for (name, count) in [
-            (first_name, 21_839),
+    let long_name = "eight123".repeat(rt.alloc(), 10_000)?;
+    for first_name in &["abcd", "abcde", "abcdef"] {
+        let rows = [
+            (*first_name, 21_839),
             ("second", 65_537),
             (long_name.as_str(), 17),
-        ] {
-            members.push(member_of(rt.alloc(), name, count)?)?;
-            push_listing(&mut want, name, count)?;
-        }
-        for step in [1, 1000, 1_000_000] {
-            let mut shown = MemorySink::new(rt.alloc(), step, usize::MAX)?;
-            show(rt.alloc(), members.as_slice(), &mut shown)?;
-            assert!(rt; !shown.has_failed());
-            assert!(rt; shown.bytes() == want.as_bytes());
-        }
+        ];
+        let (members, want) = listed(rt.alloc(), &rows)?;
+        expect_whole(&rt, rt.alloc(), members.as_slice(), want.as_str(), 1)?;
+        expect_whole(&rt, rt.alloc(), members.as_slice(), want.as_str(), 1000)?;
+        expect_whole(&rt, rt.alloc(), members.as_slice(), want.as_str(), ANY)?;
     }
     Ok(())
 }
 
-// What was written is a beginning of the listing, and a writer that has failed is not asked again.
+/// Holds what a writer has that fails after so many calls: a beginning of the listing. It is not
+/// asked again.
+fn expect_beginning(
+    rt: &impl Abort,
+    alloc: Global,
+    members: &[Member],
+    want: &str,
+    pace: Pace,
+) -> Result<(), AllocError> {
+    let mut shown = MemorySink::new(alloc, pace.0, pace.1)?;
+    show(alloc, members, &mut shown)?;
+    assert!(rt;
+        shown.has_failed() && shown.late_calls() == 0,
+        "{}, {}",
+        pace.0,
+        pace.1
+    );
+    assert!(rt;
+        want.as_bytes().starts_with(shown.bytes()),
+        "{}, {}",
+        pace.0,
+        pace.1
+    );
+    assert!(rt; pace.0 > 0 || shown.bytes().is_empty());
+    Ok(())
+}
+
+/// The lengths of pieces, and how many of them are tried.
+const PACES: &[Pace] = &[(65_536, 5), (60_000, 9), (7, 60)];
+
 #[test]
 fn a_writer_fails_at_any_call(rt: HostRuntime) -> Result<(), Fail> {
-    let mut members = Vec::new(rt.alloc());
-    let mut want = String::new(rt.alloc());
-    for (name, count) in [("a", 30_000), ("b", 0), ("c", 70_000), ("d", 1)] {
-        members.push(member_of(rt.alloc(), name, count)?)?;
-        push_listing(&mut want, name, count)?;
-    }
-    for (step, calls) in [(65_536, 5), (60_000, 9), (7, 60)] {
-        for call in 0..calls {
-            let mut shown = MemorySink::new(rt.alloc(), step, call)?;
-            show(rt.alloc(), members.as_slice(), &mut shown)?;
-            assert!(rt; shown.has_failed(), "{step}, {call}");
-            assert_eq!(rt; shown.late_calls(), 0, "{step}, {call}");
-            assert!(rt;
-                want.as_bytes().starts_with(shown.bytes()),
-                "{step}, {call}"
-            );
+    let rows = [("a", 30_000), ("b", 0), ("c", 70_000), ("d", 1)];
+    let (members, want) = listed(rt.alloc(), &rows)?;
+    let (members, want) = (members.as_slice(), want.as_str());
+    for (step, calls) in PACES {
+        for call in 0..*calls {
+            expect_beginning(&rt, rt.alloc(), members, want, (*step, call))?;
         }
     }
-    let mut shown = MemorySink::new(rt.alloc(), 0, 1000)?;
-    show(rt.alloc(), members.as_slice(), &mut shown)?;
-    assert!(rt; shown.has_failed());
-    assert_eq!(rt; shown.late_calls(), 0);
-    assert!(rt; shown.bytes().is_empty());
-    Ok(())
+    Ok(expect_beginning(&rt, rt.alloc(), members, want, (0, 1000))?)
 }

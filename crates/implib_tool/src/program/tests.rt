@@ -1,102 +1,91 @@
 use super::perform;
 use crate::doubles::{MemorySink, MemorySource};
+use crate::trials::{ANY, words_in};
+use std::alloc::{AllocError, Global};
 use std::io::{self, ErrorKind};
-use std::process::ExitCode;
+use std::process::{Abort, ExitCode};
 use std::test::Fail;
 
-const ANY: usize = 1_000_000;
+const TEXT: &[u8] = b"LIBRARY foo.dll\nEXPORTS\nbar";
 
-const TEXT: &str = "LIBRARY foo.dll\nEXPORTS\nbar";
+const USAGE: &str = "usage: implib_tool MACHINE FLAVOUR\n";
+
+/// Holds what a process does: its exit status, the beginning of what it writes, and its line of a
+/// fault.
+fn expect(
+    rt: &impl Abort,
+    alloc: Global,
+    arguments: io::Result<Vec<String>>,
+    status: u8,
+    begin: &str,
+    line: &str,
+) -> Result<(), AllocError> {
+    let mut reader = MemorySource::new(TEXT, ANY, ANY);
+    let mut writer = MemorySink::new(alloc, ANY, ANY)?;
+    let mut faults = MemorySink::new(alloc, ANY, ANY)?;
+    let arguments = arguments.map(|list| list.into_iter());
+    let got = perform(alloc, arguments, &mut reader, &mut writer, &mut faults);
+    assert!(rt; got == ExitCode::from(status), "{status}");
+    assert!(rt; writer.bytes().starts_with(begin.as_bytes()), "{begin}");
+    assert!(rt; status == 0 || writer.bytes().is_empty(), "{status}");
+    assert!(rt; faults.bytes() == line.as_bytes(), "{line}");
+    Ok(())
+}
 
 // The first argument, which is the program's name, is passed over, whatever it is.
 #[test]
 fn arguments_but_the_first_are_taken(rt: HostRuntime) -> Result<(), Fail> {
-    for (arguments, status, begin) in [
-        ("", 0, "member foo.dll 358\n"),
-        ("implib_tool", 0, "member foo.dll 358\n"),
-        ("implib_tool AMD64 gnu", 0, "member foo_dll_a_t.o 356\n"),
-        ("AMD64 gnu", 2, ""),
-        ("AMD64 gnu gnu", 2, ""),
-    ] {
-        let mut list = Vec::new(rt.alloc());
-        for argument in arguments.split_whitespace() {
-            list.push(String::from_str(rt.alloc(), argument)?)?;
-        }
-        let mut reader = MemorySource::new(TEXT.as_bytes(), ANY, ANY);
-        let mut writer = MemorySink::new(rt.alloc(), ANY, ANY)?;
-        let mut faults = MemorySink::new(rt.alloc(), ANY, ANY)?;
-        let got = perform(
-            rt.alloc(),
-            Ok(list.into_iter()),
-            &mut reader,
-            &mut writer,
-            &mut faults,
-        );
-        assert!(rt; got == ExitCode::from(status), "{arguments}");
-        assert!(rt; writer.bytes().starts_with(begin.as_bytes()), "{arguments}");
-        assert_eq!(rt; faults.bytes().is_empty(), status == 0, "{arguments}");
+    for (arguments, status, begin, line) in ROWS {
+        let words = words_in(rt.alloc(), *arguments)?;
+        expect(&rt, rt.alloc(), Ok(words), *status, *begin, *line)?;
     }
     Ok(())
+}
+
+/// Arguments, the status, the beginning of what is written, and the line of a fault.
+const ROWS: &[(&str, u8, &str, &str)] = &[
+    ("", 0, "member foo.dll 358\n", ""),
+    ("implib_tool", 0, "member foo.dll 358\n", ""),
+    ("implib_tool AMD64 gnu", 0, "member foo_dll_a_t.o 356\n", ""),
+    ("AMD64 gnu", 2, "", USAGE),
+    ("AMD64 gnu gnu", 2, "", USAGE),
+];
+
+/// Arguments with a machine and a flavour that are none, or too many.
+const OTHERS: &[&[&str]] = &[
+    &["implib_tool", ""],
+    &["implib_tool", "", ""],
+    &["implib_tool", "AMD64", ""],
+    &["implib_tool", "", "msvc"],
+    &["implib_tool", "AMD64", "msvc", ""],
+    &["", "AMD64", "msvc", "AMD64", "msvc"],
+    &["AMD64"; 100],
+];
+
+/// Words on the heap, empty ones too.
+fn strings(alloc: Global, words: &[&str]) -> Result<Vec<String>, AllocError> {
+    let mut list = Vec::new(alloc);
+    for word in words {
+        list.push(String::from_str(alloc, *word)?)?;
+    }
+    Ok(list)
 }
 
 // Memory for the arguments is there, so the status of others is 2, however many they are.
 #[test]
 fn other_arguments_are_status_2(rt: HostRuntime) -> Result<(), Fail> {
-    let many = ["AMD64"; 100];
-    for arguments in [
-        ["implib_tool", ""].as_slice(),
-        ["implib_tool", "", ""].as_slice(),
-        ["implib_tool", "AMD64", ""].as_slice(),
-        ["implib_tool", "AMD64", "msvc", ""].as_slice(),
-        ["", "AMD64", "msvc", "AMD64", "msvc"].as_slice(),
-        many.as_slice(),
-    ] {
-        let mut list = Vec::new(rt.alloc());
-        for argument in arguments {
-            list.push(String::from_str(rt.alloc(), *argument)?)?;
-        }
-        let mut reader = MemorySource::new(TEXT.as_bytes(), ANY, 0);
-        let mut writer = MemorySink::new(rt.alloc(), ANY, 0)?;
-        let mut faults = MemorySink::new(rt.alloc(), ANY, ANY)?;
-        let got = perform(
-            rt.alloc(),
-            Ok(list.into_iter()),
-            &mut reader,
-            &mut writer,
-            &mut faults,
-        );
-        assert!(rt; got == ExitCode::from(2));
-        assert_eq!(rt;
-            faults.bytes(),
-            b"usage: implib_tool MACHINE FLAVOUR\n".as_slice()
-        );
+    for arguments in OTHERS {
+        let words = strings(rt.alloc(), *arguments)?;
+        expect(&rt, rt.alloc(), Ok(words), 2, "", USAGE)?;
     }
     Ok(())
 }
 
 #[test]
 fn missing_arguments_are_answered(rt: HostRuntime) -> Result<(), Fail> {
-    for (kind, status, line) in [
-        (ErrorKind::OutOfMemory, 3, "implib: out of memory\n"),
-        (
-            ErrorKind::InvalidData,
-            2,
-            "usage: implib_tool MACHINE FLAVOUR\n",
-        ),
-    ] {
-        let mut reader = MemorySource::new(TEXT.as_bytes(), ANY, ANY);
-        let mut writer = MemorySink::new(rt.alloc(), ANY, ANY)?;
-        let mut faults = MemorySink::new(rt.alloc(), ANY, ANY)?;
-        let got = perform(
-            rt.alloc(),
-            Err(io::Error::from(kind)),
-            &mut reader,
-            &mut writer,
-            &mut faults,
-        );
-        assert!(rt; got == ExitCode::from(status), "{line}");
-        assert!(rt; writer.bytes().is_empty(), "{line}");
-        assert_eq!(rt; faults.bytes(), line.as_bytes());
-    }
+    let unread = Err(io::Error::from(ErrorKind::OutOfMemory));
+    expect(&rt, rt.alloc(), unread, 3, "", "implib: out of memory\n")?;
+    let unread = Err(io::Error::from(ErrorKind::InvalidData));
+    expect(&rt, rt.alloc(), unread, 2, "", USAGE)?;
     Ok(())
 }
