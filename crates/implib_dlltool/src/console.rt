@@ -114,3 +114,6 @@ impl<E: Write> Reporter for Console<E> {
         self.say(&Message::Complaint(subject, &complaint));
     }
 }
+
+#[cfg(test)]
+mod tests;

@@ -218,3 +218,6 @@ impl<'a, R: Files + AllocGlobal> Disk for SystemDisk<'a, R> {
         }
     }
 }
+
+#[cfg(test)]
+mod tests;

@@ -148,3 +148,6 @@ impl<'a> fmt::Display for Complaint<'a> {
         }
     }
 }
+
+#[cfg(test)]
+mod tests;
