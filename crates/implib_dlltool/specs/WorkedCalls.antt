@@ -9,7 +9,8 @@ use Rattle.implib_dlltool.specs.declared.request.CalledAs.TheVariants.{Itself}
 use Rattle.implib_dlltool.specs.declared.request.Caller.{Caller}
 use Rattle.implib_dlltool.specs.Arguments.{Given, Switched}
 use Rattle.implib_dlltool.specs.Disk.{DiskView}
-use Rattle.implib_dlltool.specs.Program.{answer_status, definition_in, verdict}
+use Rattle.std.specs.declared.io.ErrorKind.TheVariants.{InvalidData, NotFound}
+use Rattle.implib_dlltool.specs.Program.{Devices, IsUncalled, IsUnread, answer_status, definition_in, verdict}
 use Rattle.implib_dlltool.specs.Reports.{Complains, OfWriting, Refuses}
 use Rattle.implib_dlltool.specs.Request.{Asks, AsksHelp, GoesToStandard, HasEmptyDll, IsUnknownFlavor, IsUnknownMachine, LacksDefinition, RequestView, task_of}
 use Rattle.implib_dlltool.specs.Worked.{mingw_options, rustc_options}
@@ -96,4 +97,9 @@ pub record AnswersTold : Type 0 where
   pub refusal_said : verdict (asked_for (Some (codes "b.lib"))) (Err (Refused NotUtf8)) ≡ Refuses (codes "a.def") NotUtf8 ∷ []
   pub failure_said : (cause : WriteError) → verdict (asked_for (Some (codes "b.lib"))) (Err (Writing cause))
       ≡ Complains (codes "b.lib") OfWriting ∷ []
+  pub no_text : (before after : Devices) (printed prints : Option (List ℕ)) (status : ℕ)
+      → IsUncalled InvalidData before after printed prints status → status ≡ 2
+  pub no_arguments : (before after : Devices) (printed prints : Option (List ℕ)) (status : ℕ)
+      → IsUncalled NotFound before after printed prints status → status ≡ 3
+  pub unread : (before after : Devices) (status : ℕ) → IsUnread (asked_for None) before after status → status ≡ 3
   pub failure_of_none_said : (cause : WriteError) → verdict (asked_for None) (Err (Writing cause)) ≡ Complains (codes "-") OfWriting ∷ []

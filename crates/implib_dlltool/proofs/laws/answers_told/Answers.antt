@@ -14,6 +14,9 @@ worked = record {
   nothing_said = refl;
   refusal_said = refl;
   failure_said = λ cause. refl;
+  no_text = λ before after printed prints status called. called.is_status;
+  no_arguments = λ before after printed prints status called. called.is_status;
+  unread = λ before after status read. read.is_status;
   failure_of_none_said = λ cause. refl;
 }
 
