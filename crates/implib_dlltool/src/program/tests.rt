@@ -375,8 +375,6 @@ fn warnings_are_told(rt: HostRuntime) -> Result<(), Fail> {
             "-:2:9: warning: `@1` is an export's name here: an ordinal is a number from 0 to 65535, \
              behind a name\n\
              -:3:4: warning: `@65536` is an export's name here: an ordinal is a number from 0 to \
-             65535, behind a name\n\
-             -:4:4: warning: `@0x10` is an export's name here: an ordinal is a number from 0 to \
              65535, behind a name\n",
         ),
         (
