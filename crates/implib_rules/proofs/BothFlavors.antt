@@ -12,7 +12,7 @@ use Rattle.implib.specs.declared.machine.MachineType.{MachineType}
 use Rattle.implib.specs.Definition.{ExportView}
 use Rattle.implib.specs.Import.{is_empty_text, name_asked}
 use Rattle.implib_rules.specs.BothFlavors.{AsksAlike, LeadsAlike}
-use Rattle.implib_rules.specs.Linked.{NamingView, adds_target, alias_symbol, asks_for, export_asked, has_target, is_among, is_apart, is_asked, is_declared, is_named_import, linked_export, linked_import, linked_to, makes, new_target, symbol_linked, symbol_of, target_import, target_symbol, targets_beside, with_symbol, with_target, word_asked, word_of}
+use Rattle.implib_rules.specs.Linked.{NamingView, adds_target, alias_symbol, asks_for, export_asked, has_target, is_among, is_apart, is_asked, is_taken, is_named_import, linked_export, linked_import, linked_to, makes, new_target, symbol_linked, symbol_of, target_import, target_symbol, targets_beside, with_symbol, with_target, word_asked, word_of}
 use Rattle.implib_rules.proofs.Asked.{asks_as_linked}
 use Rattle.implib_rules.proofs.Symbols.{one_word}
 use Rattle.implib_rules.proofs.Targets.{neither}
@@ -149,7 +149,7 @@ module _ (machine : MachineType) (naming : NamingView) (exports : List ExportVie
         ap (λ b. if b then target_symbol machine naming exports x.alias_target else None) (not_true (is_apart machine naming x) named.1) in
         let linked : linked_export machine naming Msvc exports x ≡ linked_import machine naming x = ap (λ s. linked_to machine naming s x) own in
         let symbol : alias_symbol machine naming Msvc exports e ≡ Some (symbol_linked machine naming x) =
-        by_target ∙ ap (λ o. option_or (option_map (symbol_linked machine naming) o) (if is_declared exports e.alias_target then None else Some (symbol_of machine naming e.alias_target))) is in
+        by_target ∙ ap (λ o. option_or (option_map (symbol_linked machine naming) o) (if is_taken naming exports e.alias_target then None else Some (symbol_of machine naming e.alias_target))) is in
         record {
           import = linked_import machine naming x;
           is_linked = Contains-append_left (map (linked_export machine naming Msvc exports) exports) _ (linked_import machine naming x)
@@ -160,16 +160,16 @@ module _ (machine : MachineType) (naming : NamingView) (exports : List ExportVie
         }
 
     -- none does, nor does an export declare it
-    alone : find (asks_for machine naming e.alias_target) exports ≡ None → is_declared exports e.alias_target ≡ false → Contains exports e → LeadsAlike machine naming exports e
+    alone : find (asks_for machine naming e.alias_target) exports ≡ None → is_taken naming exports e.alias_target ≡ false → Contains exports e → LeadsAlike machine naming exports e
     alone none undeclared within =
         let unasked : is_asked machine naming exports e.alias_target ≡ false = ap (λ o. is_some (option_map (symbol_linked machine naming) o)) none in
         let wanted : adds_target machine naming exports e ≡ true =
-        ap (λ b. b && (not (is_asked machine naming exports e.alias_target) && not (is_declared exports e.alias_target))) apart
-        ∙ ap (λ b. not b && not (is_declared exports e.alias_target)) unasked ∙ ap not undeclared in
+        ap (λ b. b && (not (is_asked machine naming exports e.alias_target) && not (is_taken naming exports e.alias_target))) apart
+        ∙ ap (λ b. not b && not (is_taken naming exports e.alias_target)) unasked ∙ ap not undeclared in
         let new = added machine naming exports [] exports e within wanted refl in
         let x = new.0 in
         let symbol : alias_symbol machine naming Msvc exports e ≡ Some (symbol_of machine naming e.alias_target) =
-        by_target ∙ ap (λ o. option_or (option_map (symbol_linked machine naming) o) (if is_declared exports e.alias_target then None else Some (symbol_of machine naming e.alias_target))) none
+        by_target ∙ ap (λ o. option_or (option_map (symbol_linked machine naming) o) (if is_taken naming exports e.alias_target then None else Some (symbol_of machine naming e.alias_target))) none
         ∙ ap (λ b. if b then None else Some (symbol_of machine naming e.alias_target)) undeclared in
         record {
           import = target_import machine naming x;
@@ -180,16 +180,16 @@ module _ (machine : MachineType) (naming : NamingView) (exports : List ExportVie
         }
 
     -- an export that asks for something else declares it
-    taken : find (asks_for machine naming e.alias_target) exports ≡ None → is_declared exports e.alias_target ≡ true → alias_symbol machine naming Msvc exports e ≡ None
+    taken : find (asks_for machine naming e.alias_target) exports ≡ None → is_taken naming exports e.alias_target ≡ true → alias_symbol machine naming Msvc exports e ≡ None
     taken none declared =
-        by_target ∙ ap (λ o. option_or (option_map (symbol_linked machine naming) o) (if is_declared exports e.alias_target then None else Some (symbol_of machine naming e.alias_target))) none
+        by_target ∙ ap (λ o. option_or (option_map (symbol_linked machine naming) o) (if is_taken naming exports e.alias_target then None else Some (symbol_of machine naming e.alias_target))) none
         ∙ ap (λ b. if b then None else Some (symbol_of machine naming e.alias_target)) declared
 
   by_find : (e : ExportView) → is_apart machine naming e ≡ true → Contains exports e → (o : Option ExportView) → find (asks_for machine naming e.alias_target) exports ≡ o
       → (linked_export machine naming Msvc exports e ≡ linked_export machine naming Gnu exports e) ⊎ LeadsAlike machine naming exports e
   by_find e apart within (Some x) is = inr (asked e apart x is)
   by_find e apart within None is =
-      elim (cases_Bool (is_declared exports e.alias_target)) [
+      elim (cases_Bool (is_taken naming exports e.alias_target)) [
         | inl declared ↦ inl (not_alias e (taken e apart is declared))
         | inr undeclared ↦ inr (alone e apart is undeclared within)
       ]

@@ -12,6 +12,7 @@ pub mod OrderedReadings
 pub mod PlainNames
 pub mod PlainPlaces
 pub mod Made
+pub mod ExportedAs
 pub mod OfExports
 pub mod Positions
 pub mod FirstExports

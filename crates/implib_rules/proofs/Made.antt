@@ -1,5 +1,5 @@
 -- From the definition of bytes to its members and its library.
-use Rattle.std.proofs.Common.{◌≡◌, ◌++◌, ◌∙◌, ℕ, Err, List, [], Ok, Result, Some, false, ap, append_assoc, map, refl, subst, sym}
+use Rattle.std.proofs.Common.{◌≡◌, ◌++◌, ◌∙◌, ℕ, Err, List, [], Ok, Result, Some, false, true, if◌then◌else◌, ap, append_assoc, map, refl, subst, sym}
 use Rattle.std.specs.Prelude.{IfOk}
 use Rattle.std.proofs.lemmas.List.{map-append}
 use Rattle.std.specs.List.{AllByRecursion}
@@ -16,13 +16,16 @@ use Rattle.implib.specs.declared.error.Error.{Error}
 use Rattle.implib.specs.Members.MemberLists.{AreListsOf, ListsView, all_alias_specs, all_import_specs}
 use Rattle.implib.specs.Members.MsvcMembers.{header_specs}
 use Rattle.implib.proofs.Members.MemberMeanings.{reads_as_msvc}
-use Rattle.implib.specs.Members.Members.{AreMembersOf, member_specs, refusal}
+use Rattle.implib.specs.Members.Members.{AreMembersOf, length_refusal, member_specs, refusal}
 use Rattle.implib.specs.Members.MemberSpec.{MemberView, member_of}
+use Rattle.implib.specs.Members.NameRules.{first_of_both}
 use Rattle.implib.specs.Members.ReadBack.{ReadBack}
 use Rattle.implib.specs.Renaming.{renamed}
 use Rattle.implib.proofs.Members.Renaming.{renamed_twice}
 use Rattle.implib_rules.specs.Exports.{DefinitionOfExports, MembersOfExports, of_exports}
 use Rattle.implib_rules.specs.Library.{DefinitionFor, MembersFor, RefusesMembers, definition_text}
+use Rattle.implib_rules.specs.ExportAs.{AreMadeFor, IsExportAsLibrary, all_export_as_specs, definition_made, export_as_library, export_as_refusal, kept_definition, refusal_made, specs_made}
+use Rattle.implib_rules.specs.Linked.{NamingView}
 use Rattle.implib_rules.specs.Order.{AreInOrder, LibraryReads, library_specs, msvc_specs}
 use Rattle.implib_rules.specs.Options.{LibraryOptionsView}
 use Rattle.implib_rules.proofs.OrderedReadings.{reads_in_order}
@@ -30,7 +33,7 @@ use Rattle.implib_rules.proofs.PlainNames.{IsPlain, plain_for, plain_of}
 
 module _ (d : DefinitionView) (machine : MachineType) where
   -- all members of a definition that has lists of members
-  all_made : (lists : ListsView) → AreListsOf d machine lists → AreMembersOf d machine Msvc (map member_of (member_specs (renamed d) machine Msvc))
+  pub all_made : (lists : ListsView) → AreListsOf d machine lists → AreMembersOf d machine Msvc (map member_of (member_specs (renamed d) machine Msvc))
   all_made lists are = record { accepted = are.accepted; made = refl; ordinals = are.ordinals }
 
   -- the lists one after another are the members in order
@@ -73,7 +76,7 @@ joined view header imports aliases both all first second =
     ∙ ap (λ t. map view header ++ t) (map-append view imports aliases))
 
 -- what a library of one flavour holds
-abbrev held_by : DefinitionView → MachineType → Flavor → LibraryView
+abbrev pub held_by : DefinitionView → MachineType → Flavor → LibraryView
 held_by d machine flavor = record { definition = renamed d; machine = machine; flavor = flavor }
 
 -- the lists of a library are those of its definition
@@ -104,25 +107,78 @@ read_in d machine Msvc all members made reads plain is =
     reads_in_order (renamed d) machine all members made reads.files (renamed_twice d) plain is
 read_in d machine Gnu all members made reads plain is = tt
 
--- the members of the library, in order, are those for the options
-pub members_made : (bytes text : List ℕ) (options : LibraryOptionsView) (d : DefinitionView) (members : List MemberView)
-    → (text ≡ definition_text bytes) × IsUtf8 (definition_text bytes) → DefinitionFor text options d
-    → AreInOrder (renamed d) options.machine options.flavor members → MembersFor bytes options members
-members_made bytes text options d members found meant ordered = record {
-  utf8 = found.1;
-  definition = d;
-  of_text = subst (λ (t : List ℕ). DefinitionFor t options d) found.0 meant;
+-- without third texts the definition that is made is the one that is meant
+pub made_is : (naming : NamingView) (flavor : Flavor) (d : DefinitionView) → naming.exports_as ≡ false → definition_made naming flavor d ≡ d
+made_is naming Msvc d off = ap (λ b. if b then kept_definition d else d) off
+made_is naming Gnu d off = refl
+
+-- and so are the members of its library
+pub specs_are : (naming : NamingView) (machine : MachineType) (flavor : Flavor) (d : DefinitionView) → naming.exports_as ≡ false
+    → specs_made naming machine flavor d ≡ library_specs d machine flavor
+specs_are naming machine Msvc d off = ap (λ b. if b then export_as_library machine d else library_specs d machine Msvc) off
+specs_are naming machine Gnu d off = refl
+
+read_for : (naming : NamingView) (d : DefinitionView) (machine : MachineType) (flavor : Flavor) (members : List MemberView)
+    → AreMadeFor naming (renamed d) machine flavor members → naming.exports_as ≡ false
+    → AllByRecursion IsPlain (public_exports (renamed d)) → LibraryReads (renamed d) machine flavor members
+read_for naming d machine flavor members made off plain =
+    let is = made_is naming flavor (renamed d) off in
+    read_in d machine flavor made.all members
+    (subst (λ (x : DefinitionView). AreMembersOf x machine flavor made.all) is made.made)
+    (subst (λ (x : DefinitionView). ReadBack x machine flavor made.all) is made.reads)
+    plain (made.is ∙ ap (map member_of) (specs_are naming machine flavor (renamed d) off))
+
+-- the members in order, without third texts
+pub made_in_order : (naming : NamingView) (d : DefinitionView) (machine : MachineType) (members : List MemberView)
+    → naming.exports_as ≡ false → AreInOrder d machine Msvc members → AreMadeFor naming d machine Msvc members
+made_in_order naming d machine members off ordered = record {
+  accepted = ap (λ b. if b then export_as_refusal d machine else refusal d machine Msvc) off ∙ ordered.made.accepted;
+  all = ordered.all;
+  made = subst (λ (x : DefinitionView). AreMembersOf x machine Msvc ordered.all) (sym (made_is naming Msvc d off)) ordered.made;
+  reads = subst (λ (x : DefinitionView). ReadBack x machine Msvc ordered.all) (sym (made_is naming Msvc d off)) ordered.reads;
+  is = ordered.is ∙ sym (ap (map member_of) (specs_are naming machine Msvc d off));
+}
+
+-- for GNU's linker
+pub made_for_gnu : (naming : NamingView) (d : DefinitionView) (machine : MachineType) (members : List MemberView)
+    → AreInOrder d machine Gnu members → AreMadeFor naming d machine Gnu members
+made_for_gnu naming d machine members ordered = record {
+  accepted = ordered.made.accepted;
   all = ordered.all;
   made = ordered.made;
   reads = ordered.reads;
   is = ordered.is;
-  library_reads = read_in d options.machine options.flavor ordered.all members ordered.made ordered.reads (plain_of text options d meant) ordered.is;
+}
+
+-- and with third texts
+pub made_with_texts : (naming : NamingView) (d : DefinitionView) (machine : MachineType) (members : List MemberView)
+    → naming.exports_as ≡ true → IsExportAsLibrary d machine members → AreMadeFor naming d machine Msvc members
+made_with_texts naming d machine members on made = record {
+  accepted =
+      ap (λ b. if b then export_as_refusal d machine else refusal d machine Msvc) on
+      ∙ ap (λ o. first_of_both o (length_refusal (all_export_as_specs machine d))) made.made.accepted ∙ made.fit;
+  all = made.all;
+  made = subst (λ (x : DefinitionView). AreMembersOf x machine Msvc made.all) (sym (ap (λ b. if b then kept_definition d else d) on)) made.made;
+  reads = subst (λ (x : DefinitionView). ReadBack x machine Msvc made.all) (sym (ap (λ b. if b then kept_definition d else d) on)) made.reads;
+  is = made.is ∙ sym (ap (λ b. map member_of (if b then export_as_library machine d else library_specs d machine Msvc)) on);
+}
+
+-- the members of the library, in order, are those for the options
+pub members_made : (bytes text : List ℕ) (options : LibraryOptionsView) (d : DefinitionView) (members : List MemberView)
+    → (text ≡ definition_text bytes) × IsUtf8 (definition_text bytes) → DefinitionFor text options d
+    → AreMadeFor options.naming (renamed d) options.machine options.flavor members → MembersFor bytes options members
+members_made bytes text options d members found meant made = record {
+  utf8 = found.1;
+  definition = d;
+  of_text = subst (λ (t : List ℕ). DefinitionFor t options d) found.0 meant;
+  made_for = made;
+  library_reads = λ off. read_for options.naming d options.machine options.flavor members made off (plain_of text options d meant);
 }
 
 -- a refusal of its members is one for the options
 pub members_refused : (bytes text : List ℕ) (options : LibraryOptionsView) (d : DefinitionView) (cause : Cause)
     → (text ≡ definition_text bytes) × IsUtf8 (definition_text bytes) → DefinitionFor text options d
-    → refusal (renamed d) options.machine options.flavor ≡ Some cause → RefusesMembers bytes options cause
+    → refusal_made options.naming options.machine options.flavor (renamed d) ≡ Some cause → RefusesMembers bytes options cause
 members_refused bytes text options d cause found meant refused = record {
   utf8 = found.1;
   definition = d;
@@ -132,19 +188,23 @@ members_refused bytes text options d cause found meant refused = record {
 
 -- the members of exports, in order
 pub members_of_exports : (exports : List ExportView) (options : LibraryOptionsView) (d : DefinitionView) (members : List MemberView)
-    → DefinitionOfExports exports options d → AreInOrder (renamed d) options.machine options.flavor members → MembersOfExports exports options members
-members_of_exports exports options d members meant ordered = record {
+    → DefinitionOfExports exports options d → AreMadeFor options.naming (renamed d) options.machine options.flavor members → MembersOfExports exports options members
+members_of_exports exports options d members meant made = record {
   definition = d;
   of_exports = meant;
-  all = ordered.all;
-  made = ordered.made;
-  reads = ordered.reads;
-  is = ordered.is;
-  library_reads = λ plain.
-      read_in d options.machine options.flavor ordered.all members ordered.made ordered.reads
-      (subst (λ (x : DefinitionView). AllByRecursion IsPlain (public_exports (renamed x))) (sym meant.is) (plain_for options (of_exports exports) [] false plain)) ordered.is;
+  made_for = made;
+  library_reads = λ plain off.
+      read_for options.naming d options.machine options.flavor members made off
+      (subst (λ (x : DefinitionView). AllByRecursion IsPlain (public_exports (renamed x))) (sym meant.is) (plain_for options (of_exports exports) [] false plain));
 }
 
 -- the text that is read of bytes is their definition's
 pub found_in : (bytes text read : List ℕ) → read ≡ definition_text bytes → (text ≡ read) × IsUtf8 read → (text ≡ definition_text bytes) × IsUtf8 (definition_text bytes)
 found_in bytes text read is found = (found.0 ∙ is, subst IsUtf8 is found.1)
+
+-- two lists that are joined, and members after them
+pub joined_before : {X : Type 0} (view : X → MemberView) (header imports both : List X) (later all : List MemberView) → both ≡ header ++ imports → all ≡ map view both ++ later
+    → all ≡ map view header ++ (map view imports ++ later)
+joined_before view header imports both later all first second =
+    second ∙ (ap (λ l. map view l ++ later) first
+    ∙ (ap (λ l. l ++ later) (map-append view header imports) ∙ append_assoc (map view header) (map view imports) later))

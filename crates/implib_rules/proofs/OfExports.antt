@@ -17,13 +17,13 @@ use Rattle.implib_rules.specs.LibraryName.{gnu_library_name, with_library_name}
 use Rattle.implib_rules.specs.Linked.{NamingView, linked}
 use Rattle.implib_rules.specs.Names.{dll_name, is_program, lacks_name, own_name, part_after_last}
 use Rattle.implib_rules.specs.Options.{LibraryOptionsView}
-use Rattle.implib_rules.specs.Order.{library_specs}
+use Rattle.implib_rules.specs.ExportAs.{specs_made}
 use Rattle.implib_rules.specs.Repeats.{without_repeats}
 
 -- the members of a definition by the rules, of a DLL of this name
 abbrev specs_named : MachineType → NamingView → Flavor → DefinitionView → List ℕ → List MemberSpec
 specs_named machine naming flavor d name =
-    library_specs (renamed (with_library_name flavor (linked machine naming flavor (without_repeats (record d { import_name = name }))))) machine flavor
+    specs_made naming machine flavor (renamed (with_library_name flavor (linked machine naming flavor (without_repeats (record d { import_name = name })))))
 
 -- they are of its exports
 of_their_exports : (machine : MachineType) (naming : NamingView) (flavor : Flavor) (d : DefinitionView) (name : List ℕ)
@@ -46,11 +46,11 @@ same_members text options parsed members others parses first second =
     let program = is_program meant.heard in
     let specs = specs_named options.machine options.naming options.flavor in
     let once = one_definition (definition_text text) first.utf8 AMD64 meant.parsed parsed meant.parses parses in
-    first.is
-    ∙ ap (λ (d : DefinitionView). map member_of (library_specs (renamed d) options.machine options.flavor)) (meant.is ∙ ap (λ (d : DefinitionView). definition_for options d own program) once)
+    first.made_for.is
+    ∙ ap (λ (d : DefinitionView). map member_of (specs_made options.naming options.machine options.flavor (renamed d))) (meant.is ∙ ap (λ (d : DefinitionView). definition_for options d own program) once)
     ∙ ap (λ name. map member_of (specs parsed name)) (given_name_is options.dll own program second.of_exports.named)
     ∙ ap (map member_of) (of_their_exports options.machine options.naming options.flavor parsed (dll_name options.dll [] false))
-    ∙ sym (second.is ∙ ap (λ (d : DefinitionView). map member_of (library_specs (renamed d) options.machine options.flavor)) second.of_exports.is)
+    ∙ sym (second.made_for.is ∙ ap (λ (d : DefinitionView). map member_of (specs_made options.naming options.machine options.flavor (renamed d))) second.of_exports.is)
 
 pub libraries_are_of_exports : LibrariesAreOfExports
 libraries_are_of_exports text options parsed file other parses first second =

@@ -12,7 +12,7 @@ use Rattle.implib.specs.declared.machine.MachineType.{MachineType}
 use Rattle.implib.specs.declared.def.definition.ShortExport.{ShortExport}
 use Rattle.implib.specs.Definition.{ExportView, export_view}
 use Rattle.implib_rules.specs.Firsts.{first_asking, first_where}
-use Rattle.implib_rules.specs.Linked.{NamingView, adds_target, alias_symbol, asks_for, has_target, is_among, is_apart, is_asked, is_declared, linked_export, linked_to, makes, new_target, symbol_asking, symbol_linked, symbol_of, target_import, target_symbol, targets_beside, with_symbol, with_target}
+use Rattle.implib_rules.specs.Linked.{NamingView, adds_target, alias_symbol, asks_for, has_target, is_among, is_apart, is_asked, is_taken, linked_export, linked_to, makes, new_target, symbol_asking, symbol_linked, symbol_of, target_import, target_symbol, targets_beside, with_symbol, with_target}
 use Rattle.implib_rules.specs.Views.{linked_by}
 
 -- neither of two tests passes
@@ -110,30 +110,30 @@ module _ (machine : MachineType) (naming : NamingView) where
   -- an alias whose word is asked for adds no target
   pub adds_unless_asked : (exports : List ExportView) (e : ExportView) → is_asked machine naming exports e.alias_target ≡ true → false ≡ adds_target machine naming exports e
   adds_unless_asked exports e asked =
-      sym (ap (λ b. is_apart machine naming e && (not b && not (is_declared exports e.alias_target))) asked ∙ and_false (is_apart machine naming e))
+      sym (ap (λ b. is_apart machine naming e && (not b && not (is_taken naming exports e.alias_target))) asked ∙ and_false (is_apart machine naming e))
 
-  -- nor one whose word is declared
-  pub adds_unless_declared : (exports : List ExportView) (e : ExportView) → is_declared exports e.alias_target ≡ true → false ≡ adds_target machine naming exports e
-  adds_unless_declared exports e declared =
+  -- nor one whose word has no import of its own
+  pub adds_unless_taken : (exports : List ExportView) (e : ExportView) → is_taken naming exports e.alias_target ≡ true → false ≡ adds_target machine naming exports e
+  adds_unless_taken exports e declared =
       sym (ap (λ b. is_apart machine naming e && (not (is_asked machine naming exports e.alias_target) && not b)) declared
       ∙ ap (λ b. is_apart machine naming e && b) (and_false (not (is_asked machine naming exports e.alias_target))) ∙ and_false (is_apart machine naming e))
 
   -- every other does
-  pub adds_else : (exports : List ExportView) (e : ExportView) → is_asked machine naming exports e.alias_target ≡ false → is_declared exports e.alias_target ≡ false → is_apart machine naming e ≡ adds_target machine naming exports e
+  pub adds_else : (exports : List ExportView) (e : ExportView) → is_asked machine naming exports e.alias_target ≡ false → is_taken naming exports e.alias_target ≡ false → is_apart machine naming e ≡ adds_target machine naming exports e
   adds_else exports e unasked undeclared =
-      sym (ap (λ b. is_apart machine naming e && (not b && not (is_declared exports e.alias_target))) unasked
+      sym (ap (λ b. is_apart machine naming e && (not b && not (is_taken naming exports e.alias_target))) unasked
       ∙ ap (λ b. is_apart machine naming e && not b) undeclared ∙ and_true (is_apart machine naming e))
 
-  -- a word that no import asks for, and an export declares
-  pub target_taken : (exports : List ExportView) (word : List ℕ) → symbol_asking machine naming exports word ≡ None → is_declared exports word ≡ true → None ≡ target_symbol machine naming exports word
+  -- a word that no import asks for, and that is taken
+  pub target_taken : (exports : List ExportView) (word : List ℕ) → symbol_asking machine naming exports word ≡ None → is_taken naming exports word ≡ true → None ≡ target_symbol machine naming exports word
   target_taken exports word none declared =
-      sym (ap (λ o. option_or o (if is_declared exports word then None else Some (symbol_of machine naming word))) none
+      sym (ap (λ o. option_or o (if is_taken naming exports word then None else Some (symbol_of machine naming word))) none
       ∙ ap (λ b. if b then None else Some (symbol_of machine naming word)) declared)
 
-  -- or that none declares
-  pub target_free : (exports : List ExportView) (word : List ℕ) → symbol_asking machine naming exports word ≡ None → is_declared exports word ≡ false → Some (symbol_of machine naming word) ≡ target_symbol machine naming exports word
+  -- or that is free
+  pub target_free : (exports : List ExportView) (word : List ℕ) → symbol_asking machine naming exports word ≡ None → is_taken naming exports word ≡ false → Some (symbol_of machine naming word) ≡ target_symbol machine naming exports word
   target_free exports word none free =
-      sym (ap (λ o. option_or o (if is_declared exports word then None else Some (symbol_of machine naming word))) none
+      sym (ap (λ o. option_or o (if is_taken naming exports word then None else Some (symbol_of machine naming word))) none
       ∙ ap (λ b. if b then None else Some (symbol_of machine naming word)) free)
 
   -- symbols for all exports that these are weak for, each by a test of its own
@@ -153,7 +153,7 @@ module _ (machine : MachineType) (naming : NamingView) where
 
   -- nor adds it a target
   adds_none : (all : List ExportView) (e : ExportView) → has_target e ≡ false → adds_target machine naming all e ≡ false
-  adds_none all e none = ap (λ b. (b && (not e.private && (not e.no_name && not (makes (symbol_linked machine naming e) e.alias_target)))) && (not (is_asked machine naming all e.alias_target) && not (is_declared all e.alias_target))) none
+  adds_none all e none = ap (λ b. (b && (not e.private && (not e.no_name && not (makes (symbol_linked machine naming e) e.alias_target)))) && (not (is_asked machine naming all e.alias_target) && not (is_taken naming all e.alias_target))) none
 
   -- without a word after `==` each export is an import
   pub linked_by-plain : (all exports : List ExportView) → list_any has_target exports ≡ false → linked_by machine naming [] exports ≡ map (linked_export machine naming Msvc all) exports

@@ -16,7 +16,8 @@ use Rattle.implib_rules.specs.declared.exports.ExportsRefusal.TheVariants.{NoNam
 use Rattle.implib_rules.specs.Library.{definition_for, kind_for}
 use Rattle.implib_rules.specs.Names.{lacks_name}
 use Rattle.implib_rules.specs.Options.{LibraryOptionsView}
-use Rattle.implib_rules.specs.Order.{LibraryReads, library_specs}
+use Rattle.implib_rules.specs.ExportAs.{AreMadeFor, refusal_made}
+use Rattle.implib_rules.specs.Order.{LibraryReads}
 
 -- the definition with these exports and nothing else: no name of the DLL, and all numbers 0
 abbrev pub of_exports : List ExportView → DefinitionView
@@ -37,19 +38,18 @@ LackSymbolNames exports = list_all (λ e. is_empty_text e.symbol_name) exports �
 pub record MembersOfExports (exports : List ExportView) (options : LibraryOptionsView) (members : List MemberView) : Type 0 where
   pub definition : DefinitionView
   pub of_exports : DefinitionOfExports exports options definition
-  -- all members of the definition, which is not refused
-  pub all : List MemberView
-  pub made : AreMembersOf (renamed definition) options.machine options.flavor all
-  pub reads : ReadBack (renamed definition) options.machine options.flavor all
-  -- those of the library
-  pub is : members ≡ map member_of (library_specs (renamed definition) options.machine options.flavor)
-  pub library_reads : LackSymbolNames exports → LibraryReads (renamed definition) options.machine options.flavor members
+  -- the definition is not refused, and these are its members in order
+  pub made_for : AreMadeFor options.naming (renamed definition) options.machine options.flavor members
+  -- where no export has a symbol name, and no short import a third text, they are read as it says
+  pub library_reads :
+      LackSymbolNames exports → options.naming.exports_as ≡ false
+      → LibraryReads (renamed definition) options.machine options.flavor members
 
 -- the exports have a definition for this, whose members are refused
 pub record RefusesExports (exports : List ExportView) (options : LibraryOptionsView) (cause : Cause) : Type 0 where
   pub definition : DefinitionView
   pub of_exports : DefinitionOfExports exports options definition
-  pub refused : refusal (renamed definition) options.machine options.flavor ≡ Some cause
+  pub refused : refusal_made options.naming options.machine options.flavor (renamed definition) ≡ Some cause
 
 -- why exports have no definition for these options
 abbrev pub IsRefusalOfDefinition : LibraryOptionsView → ExportsRefusal → Type 0

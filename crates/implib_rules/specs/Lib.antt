@@ -5,6 +5,7 @@ pub mod Firsts
 pub mod Repeats
 pub mod LibraryName
 pub mod Order
+pub mod ExportAs
 pub mod Plain
 pub mod Library
 pub mod Exports
@@ -13,6 +14,7 @@ pub mod Heard
 pub mod Warnings
 pub mod TextWarnings
 pub mod Views
+pub mod ExportAsViews
 pub mod WorkedNames
 pub mod WorkedWarnings
 pub mod LibraryLaws

@@ -34,7 +34,8 @@ use Rattle.implib_rules.specs.declared.library.Refusal.TheVariants.{NotUtf8, Syn
 use Rattle.implib_rules.specs.LibraryName.{with_library_name}
 use Rattle.implib_rules.specs.Linked.{linked}
 use Rattle.implib_rules.specs.Names.{dll_name, is_program, lacks_name, own_name}
-use Rattle.implib_rules.specs.Order.{LibraryReads, library_specs}
+use Rattle.implib_rules.specs.ExportAs.{AreMadeFor, refusal_made}
+use Rattle.implib_rules.specs.Order.{LibraryReads}
 use Rattle.implib_rules.specs.Places.{IsAtFault}
 use Rattle.implib_rules.specs.Plain.{plain_text}
 use Rattle.implib_rules.specs.Repeats.{without_repeats}
@@ -98,20 +99,17 @@ pub record MembersFor (bytes : List ℕ) (options : LibraryOptionsView) (members
   pub utf8 : IsUtf8 (definition_text bytes)
   pub definition : DefinitionView
   pub of_text : DefinitionFor (definition_text bytes) options definition
-  -- all members of the definition, which is not refused
-  pub all : List MemberView
-  pub made : AreMembersOf (renamed definition) options.machine options.flavor all
-  pub reads : ReadBack (renamed definition) options.machine options.flavor all
-  -- those of the library
-  pub is : members ≡ map member_of (library_specs (renamed definition) options.machine options.flavor)
-  pub library_reads : LibraryReads (renamed definition) options.machine options.flavor members
+  -- the definition is not refused, and these are its members in order
+  pub made_for : AreMadeFor options.naming (renamed definition) options.machine options.flavor members
+  -- where no short import has a third text, they are read as it says
+  pub library_reads : options.naming.exports_as ≡ false → LibraryReads (renamed definition) options.machine options.flavor members
 
 -- the bytes have a definition for this, whose members are refused
 pub record RefusesMembers (bytes : List ℕ) (options : LibraryOptionsView) (cause : Cause) : Type 0 where
   pub utf8 : IsUtf8 (definition_text bytes)
   pub definition : DefinitionView
   pub of_text : DefinitionFor (definition_text bytes) options definition
-  pub refused : refusal (renamed definition) options.machine options.flavor ≡ Some cause
+  pub refused : refusal_made options.naming options.machine options.flavor (renamed definition) ≡ Some cause
 
 -- the text of the bytes has no definition, for this
 pub record RefusesText (bytes : List ℕ) (options : LibraryOptionsView) (why : Refusal) : Type 0 where

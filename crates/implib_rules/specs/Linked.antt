@@ -14,16 +14,18 @@ use Rattle.implib.specs.Renaming.{name_to_link}
 use Rattle.std.specs.List.{after_first, before_first, find, list_any, position_or_len}
 use Rattle.implib_rules.specs.declared.linked.Naming.{Naming}
 
--- how names are read on I386
+-- how names are read on I386, and how Microsoft's linker is told what to ask for
 pub record NamingView : Type 0 where
   -- symbols are as written
   pub is_plain : Bool
   -- names are asked for without their `@` and the number after it
   pub kills_at : Bool
+  -- a name that no other name type makes of its symbol is the third text of a short import (ExportAs)
+  pub exports_as : Bool
 
 -- the view of the rules of the program
 abbrev pub naming_view : Naming → NamingView
-naming_view n = record { is_plain = n.is_plain; kills_at = n.kills_at }
+naming_view n = record { is_plain = n.is_plain; kills_at = n.kills_at; exports_as = n.exports_as }
 
 -- whether two `@` stand side by side in a word, before which one may stand
 abbrev pub two_at_signs : Bool → List ℕ → Bool
@@ -156,16 +158,23 @@ symbol_asking machine naming exports word =
 abbrev pub is_asked : MachineType → NamingView → List ExportView → List ℕ → Bool
 is_asked machine naming exports word = is_some (symbol_asking machine naming exports word)
 
+-- whether a word that no import asks for has no import of its own: a short import can have it as its third text, or an
+-- export declares it
+abbrev pub is_taken : NamingView → List ExportView → List ℕ → Bool
+is_taken naming exports word = naming.exports_as || is_declared exports word
+
 -- The symbol by which the DLL is asked for a word: that of the first import by name that asks for it; if there is
 -- none, the word's own, unless an export, which asks for something else, declares the word. For example, under `-k`
--- on I386 that of f is `_f@8` beside an export `f@8`, and `f@8` has none.
+-- on I386 that of f is `_f@8` beside an export `f@8`, and `f@8` has none. Where a short import can have the name as
+-- its third text, a word that no import asks for has none.
 abbrev pub target_symbol : MachineType → NamingView → List ExportView → List ℕ → Option (List ℕ)
 target_symbol machine naming exports word =
     option_or (symbol_asking machine naming exports word)
-    (if is_declared exports word then None else Some (symbol_of machine naming word))
+    (if is_taken naming exports word then None else Some (symbol_of machine naming word))
 
 -- The symbol that an export among others is weak for in a flavour, if it is an alias. One that is apart and whose
--- word after `==` has no symbol stays an import, which Microsoft's flavour refuses.
+-- word after `==` has no symbol stays an import, which Microsoft's flavour refuses, unless a short import can have the
+-- name as its third text.
 abbrev pub alias_symbol : MachineType → NamingView → Flavor → List ExportView → ExportView → Option (List ℕ)
 alias_symbol machine naming Gnu exports e = None
 alias_symbol machine naming Msvc exports e =
@@ -207,10 +216,11 @@ is_among symbols symbol = list_any (bytes_eq symbol) symbols
 abbrev pub with_symbol : List (List ℕ) → List ℕ → List (List ℕ)
 with_symbol symbols symbol = if is_among symbols symbol then symbols else symbols ++ symbol ∷ []
 
--- whether an alias wants an import of its word after `==`, since no export asks for it or declares it
+-- whether an alias wants an import of its word after `==`, since no export asks for it or declares it, and no short
+-- import can have it as its third text
 abbrev pub adds_target : MachineType → NamingView → List ExportView → ExportView → Bool
 adds_target machine naming exports e =
-    is_apart machine naming e && (not (is_asked machine naming exports e.alias_target) && not (is_declared exports e.alias_target))
+    is_apart machine naming e && (not (is_asked machine naming exports e.alias_target) && not (is_taken naming exports e.alias_target))
 
 -- the symbols of the targets that are added, with that of an alias's target
 abbrev pub with_target : MachineType → NamingView → List ExportView → List (List ℕ) → ExportView → List (List ℕ)

@@ -11,7 +11,7 @@ pub record LibraryOptionsView : Type 0 where
   pub flavor : Flavor
   -- the DLL's name, before the definition's own
   pub dll : Option (List ℕ)
-  -- how names are read on I386
+  -- how names are read on I386, and how Microsoft's linker is told what to ask for
   pub naming : NamingView
 
 -- the view of the options

@@ -16,19 +16,19 @@ use Rattle.implib_rules.specs.Order.{library_specs}
 
 -- the rules without an option
 abbrev pub usual : NamingView
-usual = record { is_plain = false; kills_at = false }
+usual = record { is_plain = false; kills_at = false; exports_as = false }
 
 -- the rules of `-k`
 abbrev pub killing : NamingView
-killing = record { is_plain = false; kills_at = true }
+killing = record { is_plain = false; kills_at = true; exports_as = false }
 
 -- the rules of `--no-leading-underscore`
 abbrev pub plain : NamingView
-plain = record { is_plain = true; kills_at = false }
+plain = record { is_plain = true; kills_at = false; exports_as = false }
 
 -- the rules of both
 abbrev pub plain_and_killing : NamingView
-plain_and_killing = record { is_plain = true; kills_at = true }
+plain_and_killing = record { is_plain = true; kills_at = true; exports_as = false }
 
 -- the export of a word, with another after `==` or with an empty one
 abbrev pub line : List ℕ → List ℕ → ExportView

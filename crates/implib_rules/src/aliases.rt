@@ -3,7 +3,7 @@
 ghost use Rattle.implib.specs.Definition.{ExportView, export_view};
 ghost use Rattle.implib.specs.declared.flavor.Flavor.TheVariants.{Msvc};
 ghost use Rattle.implib_rules.specs.Firsts.{AreFirstAsking, AreFirstDeclared};
-ghost use Rattle.implib_rules.specs.Linked.{adds_target, alias_symbol, has_target, is_among};
+ghost use Rattle.implib_rules.specs.Linked.{adds_target, alias_symbol, has_target, is_among, is_taken};
 ghost use Rattle.implib_rules.specs.Linked.{linked_exports, naming_view, new_target};
 ghost use Rattle.implib_rules.specs.Linked.{symbol_asking, target_import, target_symbol};
 ghost use Rattle.implib_rules.specs.Linked.{targets_added, with_symbol, with_target};
@@ -42,6 +42,14 @@ fn symbol_asking(
     }
 }
 
+// Whether a word that no import asks for has no import of its own.
+fn is_taken(naming: Naming, declared: &HashMap<&str, usize>, word: &str) -> bool
+    ensures { (exports : List ExportView) → AreFirstDeclared declared.now exports →
+        result ≡ is_taken (naming_view naming) exports word.now }
+{
+    naming.exports_as || declared.contains_key(word)
+}
+
 // The symbol by which the DLL is asked for a word, if there is one.
 fn target_symbol(
     alloc: Global,
@@ -60,7 +68,7 @@ fn target_symbol(
 {
     match symbol_asking(alloc, machine, naming, exports, asking, word)? {
         Some(symbol) => Ok(Some(symbol)),
-        None if declared.contains_key(word) => Ok(None),
+        None if is_taken(naming, declared, word) => Ok(None),
         None => Ok(Some(symbol_of(alloc, machine, naming, word)?)),
     }
 }
@@ -157,7 +165,7 @@ fn adds_target(
         ≡ adds_target machine (naming_view naming) exports (export_view export.now)) }
 {
     let word = export.alias_target.as_str();
-    if asking.contains_key(word) || declared.contains_key(word) {
+    if asking.contains_key(word) || is_taken(naming, declared, word) {
         return Ok(false);
     }
     is_apart(alloc, machine, naming, export)

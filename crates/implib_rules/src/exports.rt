@@ -78,7 +78,7 @@ pub fn members_of_exports(
         (library_options_view options.now)) }
 {
     let def = definition_of_exports(alloc, exports, options)?;
-    match members_in_order(def, options.machine, options.flavor) {
+    match members_in_order(def, options.machine, options.flavor, options.naming) {
         Ok(members) => Ok(members),
         Err(Error::Invalid(fault)) => Err(ExportsRefusal::Members(fault)),
         Err(Error::OutOfMemory(_)) => Err(ExportsRefusal::OutOfMemory),

@@ -9,6 +9,7 @@
 #![tactic(auto)]
 
 pub mod aliases;
+pub mod export_as;
 pub mod exports;
 pub mod firsts;
 pub mod laws;

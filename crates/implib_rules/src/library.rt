@@ -7,6 +7,9 @@ ghost use Rattle.implib.specs.Members.Members.{refusal};
 ghost use Rattle.implib.specs.Renaming.{renamed};
 ghost use Rattle.implib.specs.declared.flavor.Flavor.TheVariants.{Gnu, Msvc};
 ghost use Rattle.implib_archive.specs.Refusal.{refusal_of};
+ghost use Rattle.implib_rules.specs.ExportAs.{AreMadeFor, IsExportAsLibrary};
+ghost use Rattle.implib_rules.specs.ExportAs.{export_as_refusal, refusal_made};
+ghost use Rattle.implib_rules.specs.Linked.{naming_view};
 ghost use Rattle.implib_rules.specs.Library.{BreaksOff, DefinitionFor, IsRefusalOfArchive};
 ghost use Rattle.implib_rules.specs.Library.{IsRefusalOfBytes, IsRefusalOfMembers};
 ghost use Rattle.implib_rules.specs.Library.{IfBrokenOff, IfRefused, IsRefusalOfText};
@@ -18,7 +21,9 @@ ghost use Rattle.implib_rules.specs.Options.{library_options_view};
 ghost use Rattle.std.specs.Prelude.{◌≡◌, IfErr, IfOk, MatchOption, None, OnOk, Some, false, length, map, true};
 
 use crate::aliases::link_with_targets;
-use crate::library_name::library_name_for;
+use crate::export_as::{keep_exports, laters_of, place};
+use crate::library_name::{library_name_for, linked_dll};
+use crate::linked::Naming;
 use crate::name::{FirstHeading, dll_name, lacks_name};
 use crate::options::LibraryOptions;
 use crate::places::position_of_fault;
@@ -212,6 +217,35 @@ fn msvc_members_in_order(def: ModuleDef, machine: MachineType) -> Result<Vec<Mem
     Ok(members)
 }
 
+// The members for Microsoft's linker where an export may have a short import with a third text, which
+// stands where the weak externals of an alias would.
+fn msvc_members_exported_as(mut def: ModuleDef, machine: MachineType) -> Result<Vec<Member>, Error>
+    ensures ok { IfOk result (λ members. IsExportAsLibrary (renamed (definition_view def)) machine
+        (map member_view members.items)) }
+    ensures refused { IfInvalid result
+        (λ cause. export_as_refusal (renamed (definition_view def)) machine ≡ Some cause) }
+{
+    let alloc = *def.exports.allocator();
+    let linked = linked_dll(alloc, &def)?;
+    let laters = laters_of(
+        alloc,
+        machine,
+        linked.as_str(),
+        def.import_name.as_str(),
+        def.exports.as_slice(),
+    );
+    keep_exports(alloc, &mut def.exports)?;
+    let lists = MsvcImportLibrary::new(def, machine).member_lists()?;
+    let MemberLists {
+        header: mut members,
+        mut imports,
+        aliases,
+    } = lists;
+    members.append(&mut imports)?;
+    place(laters?, aliases, &mut members)?;
+    Ok(members)
+}
+
 // The members for GNU's linker.
 fn gnu_members(def: ModuleDef, machine: MachineType) -> Result<Vec<Member>, Error>
     ensures ok { IfOk result (λ members. AreInOrder (renamed (definition_view def)) machine Gnu
@@ -227,13 +261,15 @@ pub(crate) fn members_in_order(
     def: ModuleDef,
     machine: MachineType,
     flavor: Flavor,
+    naming: Naming,
 ) -> Result<Vec<Member>, Error>
-    ensures ok { IfOk result (λ members. AreInOrder (renamed (definition_view def)) machine flavor
-        (map member_view members.items)) }
-    ensures refused { IfInvalid result
-        (λ cause. refusal (renamed (definition_view def)) machine flavor ≡ Some cause) }
+    ensures ok { IfOk result (λ members. AreMadeFor (naming_view naming)
+        (renamed (definition_view def)) machine flavor (map member_view members.items)) }
+    ensures refused { IfInvalid result (λ cause. refusal_made (naming_view naming) machine flavor
+        (renamed (definition_view def)) ≡ Some cause) }
 {
     match flavor {
+        Flavor::Msvc if naming.exports_as => msvc_members_exported_as(def, machine),
         Flavor::Msvc => msvc_members_in_order(def, machine),
         Flavor::Gnu => gnu_members(def, machine),
     }
@@ -258,7 +294,7 @@ pub fn members_for(
         return Err(Refusal::NotUtf8);
     };
     let def = definition_for(alloc, text, options)?;
-    match members_in_order(def, options.machine, options.flavor) {
+    match members_in_order(def, options.machine, options.flavor, options.naming) {
         Ok(members) => Ok(members),
         Err(Error::Invalid(fault)) => {
             // The export is one of the text: the targets after them break no rule on names that

@@ -1,6 +1,7 @@
 //! The name of an import library for the linker.
 
 ghost use Rattle.implib.specs.Definition.{definition_view, export_view, given_name};
+ghost use Rattle.implib.specs.LibraryName.{linked_dll};
 ghost use Rattle.implib_rules.specs.LibraryName.{export_taken, exports_taken, flag_taken};
 ghost use Rattle.implib_rules.specs.LibraryName.{gnu_library_name, library_name_for};
 ghost use Rattle.implib_rules.specs.LibraryName.{msvc_library_name, numbers_taken, text_taken};
@@ -129,4 +130,24 @@ pub fn library_name_for(
         Flavor::Msvc => msvc_library_name(alloc, def),
         Flavor::Gnu => Ok(Some(gnu_library_name(alloc, def)?)),
     }
+}
+
+/// What the members for Microsoft's linker are named: the library's name with `.dll`, where there is
+/// one, or the DLL's.
+///
+/// # Errors
+///
+/// An allocation failed.
+pub(crate) fn linked_dll(alloc: Global, def: &ModuleDef) -> Result<String, AllocError>
+    ensures { IfOk result (λ name. string_bytes name ≡ linked_dll (definition_view def.now)) }
+{
+    let mut linked = String::new(alloc);
+    match &def.library_name {
+        Some(name) => {
+            linked.push_str(name.as_str())?;
+            linked.push_str(".dll")?;
+        }
+        None => linked.push_str(def.import_name.as_str())?,
+    }
+    Ok(linked)
 }

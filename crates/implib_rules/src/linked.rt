@@ -17,13 +17,16 @@ use implib::def::ShortExport;
 use std::alloc::{AllocError, Global};
 use std::slice::Iter;
 
-/// How names are read on I386.
+/// How names are read on I386, and how Microsoft's linker is told what to ask for.
 #[derive(Clone, Copy, Debug, PartialEq, Eq)]
 pub struct Naming {
     /// Symbols are as written (`--no-leading-underscore`), without an underscore in front.
     pub is_plain: bool,
     /// The DLL is asked for names without the `@` and the number after them (`-k`).
     pub kills_at: bool,
+    /// A name that no other name type makes of its symbol is the third text of a short import, of
+    /// name type 4 (`--export-as`), for linkers that know it.
+    pub exports_as: bool,
 }
 
 // Whether two `@` stand side by side, as in a vectorcall name.
@@ -165,7 +168,7 @@ fn before_at_sign(symbol: &[u8]) -> &[u8]
 }
 
 // Whether a name type makes a name of the symbol.
-fn makes(symbol: &[u8], name: &[u8]) -> bool
+pub(crate) fn makes(symbol: &[u8], name: &[u8]) -> bool
     ensures { result ≡ makes symbol.now name.now }
 {
     let plain = without_prefix(symbol);

@@ -12,6 +12,6 @@ pub struct LibraryOptions<'a> {
     pub flavor: Flavor,
     /// The DLL's name, before the definition's own.
     pub dll: Option<&'a str>,
-    /// How names are read on I386.
+    /// How names are read on I386, and how Microsoft's linker is told what to ask for.
     pub naming: Naming,
 }

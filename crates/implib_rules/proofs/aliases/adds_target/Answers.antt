@@ -3,10 +3,10 @@ use Rattle.std.specs.Prelude.{is_some}
 use Rattle.std.specs.HashMap.{get_by}
 use Rattle.std.specs.Str.{bytes_eq}
 use Rattle.implib.specs.Definition.{export_view}
-use Rattle.implib_rules.specs.Linked.{declares, is_asked, is_declared, naming_view}
-use Rattle.implib_rules.proofs.Targets.{adds_else, adds_unless_asked, adds_unless_declared, asked-first, some-first}
+use Rattle.implib_rules.specs.Linked.{is_asked, is_taken, naming_view}
+use Rattle.implib_rules.proofs.Targets.{adds_else, adds_unless_asked, adds_unless_taken, asked-first}
 use Rattle.implib_rules.proofs.aliases.adds_target.Goals as goal
-use Rattle.implib_rules.proofs.aliases.adds_target.Goals.{then-contains_key-via-then-contains_key, then-contains_key-via-else-contains_key+then-contains_key-2}
+use Rattle.implib_rules.proofs.aliases.adds_target.Goals.{then-contains_key-via-then-contains_key, then-contains_key-via-else-contains_key+then-is_taken}
 
 pub returns-then-contains_key : goal.returns-then-contains_key
 returns-then-contains_key c = λ exports asking declared.
@@ -19,10 +19,9 @@ returns-then-contains_key c = λ exports asking declared.
           adds_unless_asked machine naming exports e
           (sym (asked-first machine naming exports e.alias_target) ∙ ap is_some (sym (asking e.alias_target))
           ∙ ap (λ t. is_some (get_by (λ k. bytes_eq t k.now) c.args.asking.now)) (sym word) ∙ sym c.contains_key.ensures ∙ w.if-contains_key.true)
-      | then-contains_key-via-else-contains_key+then-contains_key-2 w ↦
-          adds_unless_declared machine naming exports e
-          (sym (some-first (λ x. declares x e.alias_target) exports) ∙ ap is_some (sym (declared e.alias_target))
-          ∙ ap (λ t. is_some (get_by (λ k. bytes_eq t k.now) c.args.declared.now)) (sym word) ∙ sym w.contains_key-else-contains_key.ensures ∙ w.if-contains_key-2.true)
+      | then-contains_key-via-else-contains_key+then-is_taken w ↦
+          adds_unless_taken machine naming exports e
+          (ap (is_taken naming exports) (sym word) ∙ sym (w.is_taken.ensures exports declared) ∙ w.if-is_taken.true)
     ]
 
 pub returns : goal.returns
@@ -34,7 +33,6 @@ returns c = λ exports asking declared.
     let unasked : is_asked machine naming exports e.alias_target ≡ false =
     sym (asked-first machine naming exports e.alias_target) ∙ ap is_some (sym (asking e.alias_target))
     ∙ ap (λ t. is_some (get_by (λ k. bytes_eq t k.now) c.args.asking.now)) (sym word) ∙ sym c.contains_key.ensures ∙ c.if-contains_key.false in
-    let undeclared : is_declared exports e.alias_target ≡ false =
-    sym (some-first (λ x. declares x e.alias_target) exports) ∙ ap is_some (sym (declared e.alias_target))
-    ∙ ap (λ t. is_some (get_by (λ k. bytes_eq t k.now) c.args.declared.now)) (sym word) ∙ sym c.contains_key-else-contains_key.ensures ∙ c.if-contains_key-2.false in
-    subst (λ b. IfOk c.is_apart.result (λ adds. adds ≡ b)) (adds_else machine naming exports e unasked undeclared) c.is_apart.ensures
+    let free : is_taken naming exports e.alias_target ≡ false =
+    ap (is_taken naming exports) (sym word) ∙ sym (c.is_taken.ensures exports declared) ∙ c.if-is_taken.false in
+    subst (λ b. IfOk c.is_apart.result (λ adds. adds ≡ b)) (adds_else machine naming exports e unasked free) c.is_apart.ensures

@@ -3,8 +3,8 @@ use Rattle.std.specs.Option.{option_map}
 use Rattle.std.specs.Prelude.{is_some}
 use Rattle.std.specs.String.{string_bytes}
 use Rattle.implib.specs.Definition.{export_view}
-use Rattle.implib_rules.specs.Linked.{declares, naming_view}
-use Rattle.implib_rules.proofs.Targets.{some-first, target_free, target_taken}
+use Rattle.implib_rules.specs.Linked.{naming_view}
+use Rattle.implib_rules.proofs.Targets.{target_free, target_taken}
 use Rattle.implib_rules.proofs.aliases.target_symbol.Goals as goal
 
 pub returns-in-None : goal.returns-in-None
@@ -13,7 +13,7 @@ returns-in-None c =
     let word = c.args.word.now in
     target_taken c.args.machine (naming_view c.args.naming) exports word
     (sym c.in_ok-symbol.ensures ∙ ap (option_map string_bytes) c.in-None.is)
-    (sym (some-first (λ x. declares x word) exports) ∙ ap is_some (sym (c.requires.declared word)) ∙ sym c.contains_key.ensures ∙ c.if-contains_key.true)
+    (sym (c.is_taken.ensures exports c.requires.declared) ∙ c.if-is_taken.true)
 
 pub returns-in_ok-symbol_of-in-None-2 : goal.returns-in_ok-symbol_of-in-None-2
 returns-in_ok-symbol_of-in-None-2 c =
@@ -22,4 +22,4 @@ returns-in_ok-symbol_of-in-None-2 c =
     ap Some c.in_ok-symbol_of-in-None-2.ensures
     ∙ target_free c.args.machine (naming_view c.args.naming) exports word
     (sym c.in_ok-symbol.ensures ∙ ap (option_map string_bytes) c.in-None-2.is)
-    (sym (some-first (λ x. declares x word) exports) ∙ ap is_some (sym (c.requires.declared word)) ∙ sym c.contains_key.ensures ∙ c.if-contains_key.false)
+    (sym (c.is_taken.ensures exports c.requires.declared) ∙ c.if-is_taken.false)
