@@ -128,6 +128,7 @@ enum implib_status {
 /* The flags of the options, and the options of the program that they stand for. */
 #define IMPLIB_KILL_AT 1u               /* -k: on I386 the DLL is asked for names without `@` and the rest */
 #define IMPLIB_NO_LEADING_UNDERSCORE 2u /* --no-leading-underscore: on I386 symbols are as they are written */
+#define IMPLIB_EXPORT_AS 4u             /* --export-as: a name that is not made of its symbol is beside it */
 
 /*
  * For which machine, linker and DLL a library is made.

@@ -111,6 +111,8 @@ worked_statuses = record {
     kill_at = refl;
     no_leading_underscore = refl;
     both_flags = refl;
+    export_as = refl;
+    all_flags = refl;
     unknown_flag = refl;
     version_is = refl;
   };

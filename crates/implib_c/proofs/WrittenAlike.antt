@@ -19,7 +19,7 @@ use Rattle.implib_rules.specs.declared.library.Refusal.TheVariants as refusal
 use Rattle.implib_rules.specs.Library.{DefinitionFor, IsLibrary, MembersFor, definition_for, kind_of, definition_text}
 use Rattle.implib_rules.specs.Names.{is_program, own_name}
 use Rattle.implib_rules.specs.Options.{LibraryOptionsView}
-use Rattle.implib_rules.specs.Order.{library_specs}
+use Rattle.implib_rules.specs.ExportAs.{specs_made}
 use Rattle.implib_c.specs.LibraryWith.{AreOptions, EndingWith, EndsWith, GivenOptions, Made, NoOptions, Refused, TooLong, OptionFault, DllNotUtf8, UnknownFlags, UnknownFlavor, UnknownMachine, buffer_with, length_with, option_status, refusal_status, status_with}
 use Rattle.implib_c.specs.Status.{archive_status, cause_status, status_number}
 use Rattle.implib_c.specs.WrittenAlike.{OneLibrary, PutsWhatIsWritten}
@@ -35,10 +35,10 @@ one_for text options definition other utf8 first second =
 -- and has one list of members
 one_members : (text : List ℕ) (options : LibraryOptionsView) (members others : List MemberView) → MembersFor text options members → MembersFor text options others → members ≡ others
 one_members text options members others first second =
-    first.is
-    ∙ ap (λ d. map member_of (library_specs (renamed d) options.machine options.flavor))
+    first.made_for.is
+    ∙ ap (λ d. map member_of (specs_made options.naming options.machine options.flavor (renamed d)))
     (one_for (definition_text text) options first.definition second.definition first.utf8 first.of_text second.of_text)
-    ∙ sym second.is
+    ∙ sym second.made_for.is
 
 pub one_library : (text : List ℕ) (options : LibraryOptionsView) → OneLibrary text options
 one_library text options file other first second =

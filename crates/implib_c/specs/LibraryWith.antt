@@ -27,13 +27,18 @@ pub record GivenOptions : Type 0 where
   pub has_dll : ℕ
   pub dll : List ℕ
 
--- how names are read with these flags: 1 is the option `-k`, and 2 `--no-leading-underscore`
+-- how names are read, and asked for, with these flags: 1 is the option `-k`, 2 `--no-leading-underscore`, and 4
+-- `--export-as`
 abbrev pub naming_numbered : ℕ → Option NamingView
 naming_numbered flags =
-    if flags == 0 then Some (record { is_plain = false; kills_at = false })
-    else if flags == 1 then Some (record { is_plain = false; kills_at = true })
-    else if flags == 2 then Some (record { is_plain = true; kills_at = false })
-    else if flags == 3 then Some (record { is_plain = true; kills_at = true })
+    if flags == 0 then Some (record { is_plain = false; kills_at = false; exports_as = false })
+    else if flags == 1 then Some (record { is_plain = false; kills_at = true; exports_as = false })
+    else if flags == 2 then Some (record { is_plain = true; kills_at = false; exports_as = false })
+    else if flags == 3 then Some (record { is_plain = true; kills_at = true; exports_as = false })
+    else if flags == 4 then Some (record { is_plain = false; kills_at = false; exports_as = true })
+    else if flags == 5 then Some (record { is_plain = false; kills_at = true; exports_as = true })
+    else if flags == 6 then Some (record { is_plain = true; kills_at = false; exports_as = true })
+    else if flags == 7 then Some (record { is_plain = true; kills_at = true; exports_as = true })
     else None
 
 -- the DLL's name, where one is given

@@ -141,11 +141,13 @@ pub record WorkedArguments : Type 0 where
   pub no_flavor : flavor_numbered 2 ≡ None
   pub msvc_kind : kind_for Msvc ≡ Coff
   pub gnu_kind : kind_for Gnu ≡ GnuKind
-  pub no_flags : naming_numbered 0 ≡ Some (record { is_plain = false; kills_at = false })
-  pub kill_at : naming_numbered 1 ≡ Some (record { is_plain = false; kills_at = true })
-  pub no_leading_underscore : naming_numbered 2 ≡ Some (record { is_plain = true; kills_at = false })
-  pub both_flags : naming_numbered 3 ≡ Some (record { is_plain = true; kills_at = true })
-  pub unknown_flag : naming_numbered 4 ≡ None
+  pub no_flags : naming_numbered 0 ≡ Some (record { is_plain = false; kills_at = false; exports_as = false })
+  pub kill_at : naming_numbered 1 ≡ Some (record { is_plain = false; kills_at = true; exports_as = false })
+  pub no_leading_underscore : naming_numbered 2 ≡ Some (record { is_plain = true; kills_at = false; exports_as = false })
+  pub both_flags : naming_numbered 3 ≡ Some (record { is_plain = true; kills_at = true; exports_as = false })
+  pub export_as : naming_numbered 4 ≡ Some (record { is_plain = false; kills_at = false; exports_as = true })
+  pub all_flags : naming_numbered 7 ≡ Some (record { is_plain = true; kills_at = true; exports_as = true })
+  pub unknown_flag : naming_numbered 8 ≡ None
   pub version_is : version ≡ 2
 
 -- all of them

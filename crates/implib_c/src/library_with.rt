@@ -18,18 +18,26 @@ use implib_rules::linked::Naming;
 use implib_rules::options::LibraryOptions;
 use std::alloc::Global;
 
-// How names are read with these flags.
+// How names are read, and asked for, with these flags.
 fn naming_with(flags: u32) -> Option<Naming>
     ensures { option_map naming_view result ≡ naming_numbered flags }
 {
-    let (is_plain, kills_at) = match flags {
-        0 => (false, false),
-        1 => (false, true),
-        2 => (true, false),
-        3 => (true, true),
+    let (is_plain, kills_at, exports_as) = match flags {
+        0 => (false, false, false),
+        1 => (false, true, false),
+        2 => (true, false, false),
+        3 => (true, true, false),
+        4 => (false, false, true),
+        5 => (false, true, true),
+        6 => (true, false, true),
+        7 => (true, true, true),
         _ => return None,
     };
-    Some(Naming { is_plain, kills_at })
+    Some(Naming {
+        is_plain,
+        kills_at,
+        exports_as,
+    })
 }
 
 /// The options that are given as numbers, and as the bytes of a name; without one where `has_dll`

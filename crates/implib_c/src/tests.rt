@@ -369,7 +369,8 @@ fn written(
 }
 
 // A text whose names the flags change.
-const DECORATED: &[u8] = b"LIBRARY zoo\nEXPORTS\nfeed@8\n@count@4\nnight == day\nday";
+const DECORATED: &[u8] =
+    b"LIBRARY zoo\nEXPORTS\nfeed@8\n@count@4\nnight == day\nday\ndusk == dawn";
 
 // Holds a call with options against the library that the program writes.
 fn expect_written(
@@ -412,16 +413,22 @@ fn a_call_with_options_puts_the_library_that_the_program_writes(
     let usual = Naming {
         is_plain: false,
         kills_at: false,
+        exports_as: false,
     };
     for (flavor, number, _) in FLAVORS {
         let flavor = (flavor, number);
         for machine in MACHINES {
-            for (flags, kills_at, is_plain) in [
-                (0, false, false),
-                (1, true, false),
-                (2, false, true),
+            for (flags, kills_at, is_plain, exports_as) in [
+                (0, false, false, false),
+                (1, true, false, false),
+                (2, false, true, false),
+                (5, true, false, true),
             ] {
-                let naming = Naming { is_plain, kills_at };
+                let naming = Naming {
+                    is_plain,
+                    kills_at,
+                    exports_as,
+                };
                 expect_written(&rt, alloc, DECORATED, machine, flavor, (flags, naming))?;
             }
         }
@@ -454,6 +461,7 @@ fn a_call_with_exports_puts_the_library_of_a_text_that_says_the_same(
     let naming = Naming {
         is_plain: false,
         kills_at: false,
+        exports_as: false,
     };
     let text = b"LIBRARY zoo\nEXPORTS\nfeed@8\nshut @5 NONAME DATA == feed@8";
     for (machine, number) in MACHINES {

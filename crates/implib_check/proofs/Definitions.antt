@@ -11,10 +11,10 @@ use Rattle.implib_check.specs.Meant.{IsVerdictOn}
 use Rattle.implib_check.specs.OwnLibraries.{MeantIsDefined}
 
 -- a text whose library has been read says what is defined, and nothing that leaves a comparison open
-defines : MeantIsDefined → (text : List ℕ) (options : LibraryOptionsView) (members : List MemberRead) (v : Verdict) (on : IsVerdictOn text options members v)
+defines : MeantIsDefined → (text : List ℕ) (options : LibraryOptionsView) → options.naming.exports_as ≡ false → (members : List MemberRead) (v : Verdict) (on : IsVerdictOn text options members v)
     → (has_unread on.meant ≡ false → SayTheSame members on.meant) → has_unread members ≡ false → Defines text options members
-defines law text options members v on same read =
-    let defined = law text options on.file on.meant on.is_library on.read in
+defines law text options off members v on same read =
+    let defined = law text options on.file on.meant off on.is_library on.read in
     record {
       meant = on.meant;
       defined = defined;
@@ -23,16 +23,16 @@ defines law text options members v on same read =
     }
 
 -- the library is that of the text
-pub defines_same : MeantIsDefined → (text : List ℕ) (options : LibraryOptionsView) (members : List MemberRead)
+pub defines_same : MeantIsDefined → (text : List ℕ) (options : LibraryOptionsView) → options.naming.exports_as ≡ false → (members : List MemberRead)
     → IsVerdictOn text options members Same → has_unread members ≡ false → Defines text options members
-defines_same law text options members on read = defines law text options members Same on (λ whole. on.means.facts) read
+defines_same law text options off members on read = defines law text options off members Same on (λ whole. on.means.facts) read
 
 -- or they say the same, beside other objects
 open_alone : (left right : List MemberRead) → Means NotDecided left right → has_unread left ≡ false → has_unread right ≡ false → SayTheSame left right
 open_alone left right (inl unread) read whole = absurd (true≢false (sym unread ∙ ap (λ b. b || has_unread right) read ∙ whole))
 open_alone left right (inr means) read whole = means.0
 
-pub defines_open : MeantIsDefined → (text : List ℕ) (options : LibraryOptionsView) (members : List MemberRead)
+pub defines_open : MeantIsDefined → (text : List ℕ) (options : LibraryOptionsView) → options.naming.exports_as ≡ false → (members : List MemberRead)
     → IsVerdictOn text options members NotDecided → has_unread members ≡ false → Defines text options members
-defines_open law text options members on read =
-    defines law text options members NotDecided on (open_alone members on.meant on.means read) read
+defines_open law text options off members on read =
+    defines law text options off members NotDecided on (open_alone members on.meant on.means read) read

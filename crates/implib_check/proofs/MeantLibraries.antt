@@ -15,7 +15,7 @@ use Rattle.implib_read.specs.OwnLibraries.{OwnMembersFound, member_bytes_in}
 use Rattle.implib_rules.specs.Library.{DefinitionFor, IsLibrary, MembersFor, definition_for, kind_for, kind_of, definition_text}
 use Rattle.implib_rules.specs.Names.{is_program, own_name}
 use Rattle.implib_rules.specs.Options.{LibraryOptionsView}
-use Rattle.implib_rules.specs.Order.{library_specs}
+use Rattle.implib_rules.specs.ExportAs.{specs_made}
 
 -- the members of the library of a definition are found
 found_in : OwnMembersFound → (definition : List ℕ) (options : LibraryOptionsView) (file : List ℕ) (is : IsLibrary definition options file)
@@ -47,10 +47,10 @@ one_for text options definition other utf8 first second =
 -- and has one list of members
 one_members : (bytes : List ℕ) (options : LibraryOptionsView) (members others : List MemberView) → MembersFor bytes options members → MembersFor bytes options others → members ≡ others
 one_members bytes options members others first second =
-    first.is
-    ∙ ap (λ d. map member_of (library_specs (renamed d) options.machine options.flavor))
+    first.made_for.is
+    ∙ ap (λ d. map member_of (specs_made options.naming options.machine options.flavor (renamed d)))
     (one_for (definition_text bytes) options first.definition second.definition first.utf8 first.of_text second.of_text)
-    ∙ sym second.is
+    ∙ sym second.made_for.is
 
 pub one_library : (bytes : List ℕ) (options : LibraryOptionsView) (file other : List ℕ) → IsLibrary bytes options file → IsLibrary bytes options other → file ≡ other
 one_library bytes options file other first second =

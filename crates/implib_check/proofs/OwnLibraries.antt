@@ -36,6 +36,7 @@ use Rattle.implib_read.specs.OwnLibraries.{IsGnuLibraryOf, OwnGnuLibraries, OwnM
 use Rattle.implib_read.specs.ShortImports.{SameShortImports}
 use Rattle.implib_read.proofs.OwnMembers.{drop_mapped, drop_plain, files_as, files_of_specs, found_of, header_classes, is_plain, meanings_as, read_meanings, specs_plain}
 use Rattle.implib_read.proofs.OwnMsvc.{archive_by, classes_read, map_twice}
+use Rattle.implib_rules.proofs.Made.{made_is, specs_are}
 use Rattle.implib_rules.specs.Order.{LibraryReads, ReadsInOrder, library_specs, msvc_specs, own_aliases, own_imports}
 use Rattle.implib_rules.proofs.OrderedReadings.{shown_in_order}
 use Rattle.implib_check.specs.Comparison.{has_other, has_unread, is_other, is_unread}
@@ -282,10 +283,16 @@ says own imports objects law kind d machine Gnu all members meant made back is r
     says_gnu law kind (renamed d) machine members meant (subst (GnuReadBack (renamed d) machine) same back) accepted there
 
 pub meant_is_defined : OwnMembersFound → SameShortImports → SameObjects → OwnGnuLibraries → MeantIsDefined
-meant_is_defined own imports objects law definition options file meant is there =
+meant_is_defined own imports objects law definition options file meant off is there =
     let made = is.members_for in
+    let made_for = made.made_for in
+    let d = renamed made.definition in
+    let is_made = made_is options.naming options.flavor d off in
     record {
       d = made.definition;
       of_text = made.of_text;
-      says = says own imports objects law _ made.definition options.machine options.flavor made.all is.members meant made.made made.reads made.is made.library_reads is.accepted (sym (ap library_in is.is) ∙ there);
+      says = says own imports objects law _ made.definition options.machine options.flavor made_for.all is.members meant
+          (subst (λ (x : DefinitionView). AreMembersOf x options.machine options.flavor made_for.all) is_made made_for.made)
+          (subst (λ (x : DefinitionView). ReadBack x options.machine options.flavor made_for.all) is_made made_for.reads)
+          (made_for.is ∙ ap (map member_of) (specs_are options.naming options.machine options.flavor d off)) (made.library_reads off) is.accepted (sym (ap library_in is.is) ∙ there);
     }

@@ -33,15 +33,15 @@ verdict_itself members read alone =
 
 -- the library of a definition is the same as the definition
 pub own_libraries_are_the_same : MeantIsDefined → OwnLibrariesAreTheSame
-own_libraries_are_the_same law definition options file members v is there on =
-    let says = (law definition options file members is there).says in
+own_libraries_are_the_same law definition options file members v off is there on =
+    let says = (law definition options file members off is there).says in
     let same : on.meant ≡ members = same_Some _ _ (sym on.read ∙ ap library_in (one_library definition options on.file file on.is_library is) ∙ there) in
     on.is ∙ ap (verdict members) same ∙ verdict_itself members says.read says.alone
 
 -- a library that is the same as a definition says what is defined
 pub same_says_the_defined : MeantIsDefined → SameSaysTheDefined
-same_says_the_defined law definition options members on = record {
+same_says_the_defined law definition options members off on = record {
   meant = on.meant;
-  defined = law definition options on.file on.meant on.is_library on.read;
+  defined = law definition options on.file on.meant off on.is_library on.read;
   same = on.means;
 }

@@ -52,15 +52,16 @@ pub record IsDefinedBy (definition : List ℕ) (options : LibraryOptionsView) (m
   pub of_text : DefinitionFor (definition_text definition) options d
   pub says : SaysWhatIsDefined (renamed d) options.machine options.flavor meant
 
--- What is read of the library of a definition is what the definition says.
+-- What is read of the library of a definition is what the definition says, where no short import has a third text.
 abbrev pub MeantIsDefined : Type 0
 MeantIsDefined = (definition : List ℕ) (options : LibraryOptionsView) (file : List ℕ) (meant : List MemberRead)
-    → IsLibrary definition options file → library_in file ≡ Some meant → IsDefinedBy definition options meant
+    → options.naming.exports_as ≡ false → IsLibrary definition options file → library_in file ≡ Some meant → IsDefinedBy definition options meant
 
--- The library that a definition has is told to be the same as the definition.
+-- The library that a definition has is told to be the same as the definition, where no short import has a third text.
 abbrev pub OwnLibrariesAreTheSame : Type 0
 OwnLibrariesAreTheSame = (definition : List ℕ) (options : LibraryOptionsView) (file : List ℕ) (members : List MemberRead) (v : Verdict)
-    → IsLibrary definition options file → library_in file ≡ Some members → IsVerdictOn definition options members v → v ≡ Same
+    → options.naming.exports_as ≡ false → IsLibrary definition options file → library_in file ≡ Some members → IsVerdictOn definition options members v
+    → v ≡ Same
 
 -- a library has the imports and aliases that a definition means: those of members that say what is defined, in any order
 pub record SaysTheDefined (definition : List ℕ) (options : LibraryOptionsView) (members : List MemberRead) : Type 0 where
@@ -68,7 +69,8 @@ pub record SaysTheDefined (definition : List ℕ) (options : LibraryOptionsView)
   pub defined : IsDefinedBy definition options meant
   pub same : AreTheSame members meant
 
--- A library is told to be the same as a definition only where it has the imports and aliases that the definition means.
+-- A library is told to be the same as a definition only where it has the imports and aliases that the definition means,
+-- and no short import of the definition's library has a third text.
 abbrev pub SameSaysTheDefined : Type 0
-SameSaysTheDefined = (definition : List ℕ) (options : LibraryOptionsView) (members : List MemberRead) → IsVerdictOn definition options members Same
-    → SaysTheDefined definition options members
+SameSaysTheDefined = (definition : List ℕ) (options : LibraryOptionsView) (members : List MemberRead) → options.naming.exports_as ≡ false
+    → IsVerdictOn definition options members Same → SaysTheDefined definition options members

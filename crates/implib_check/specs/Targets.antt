@@ -71,5 +71,5 @@ options_of define members = record {
   machine = unwrap_or define.machine (machine_of members);
   flavor = unwrap_or define.flavor (flavor_of members);
   dll = None;
-  naming = record { is_plain = define.is_plain; kills_at = false };
+  naming = record { is_plain = define.is_plain; kills_at = false; exports_as = false };
 }

@@ -21,7 +21,7 @@ plain_check = record {
   machine = None;
   flavor = None;
   dll = None;
-  naming = record { is_plain = false; kills_at = false };
+  naming = record { is_plain = false; kills_at = false; exports_as = false };
 }
 
 -- with each option
@@ -32,7 +32,7 @@ full_check = record {
   machine = Some I386;
   flavor = Some Gnu;
   dll = Some (codes "d/zoo.dll");
-  naming = record { is_plain = true; kills_at = true };
+  naming = record { is_plain = true; kills_at = true; exports_as = false };
 }
 
 -- What calls say, and some that say nothing.
@@ -88,11 +88,11 @@ pub record WorkedTargets : Type 0 where
     machine = ARM64;
     flavor = Msvc;
     dll = None;
-    naming = record { is_plain = false; kills_at = false };
+    naming = record { is_plain = false; kills_at = false; exports_as = false };
   }
   pub named : options_for full_check (import_on Code 0xAA64 ∷ []) ≡ record {
     machine = I386;
     flavor = Gnu;
     dll = Some (codes "d/zoo.dll");
-    naming = record { is_plain = true; kills_at = true };
+    naming = record { is_plain = true; kills_at = true; exports_as = false };
   }

@@ -74,6 +74,7 @@ fn unread_call<'a>() -> Reading<'a>
         naming: Naming {
             is_plain: false,
             kills_at: false,
+            exports_as: false,
         },
         waiting: None,
     }

@@ -1,6 +1,6 @@
 //! The definition of a library.
 
-ghost use Rattle.std.specs.Prelude.{◌≡◌, map, IfErr, IfOk};
+ghost use Rattle.std.specs.Prelude.{◌≡◌, false, map, IfErr, IfOk};
 ghost use Rattle.implib_check.specs.Defining.{Defines, IsUndefined};
 ghost use Rattle.implib_check.specs.DefinitionText.{definition_text};
 ghost use Rattle.implib_read.specs.ClassViews.{member_read_view};
@@ -45,6 +45,7 @@ pub fn definition_of<O: Write>(
     members: &[MemberRead],
     options: &LibraryOptions,
 ) -> Result<Vec<u8>, Undefined>
+    requires { options.now.naming.exports_as ≡ false }
     ensures text { IfOk result (λ text. text.items ≡ definition_text (library_options_view options.now) (map member_read_view members.now)) }
     ensures defines { IfOk result (λ text. Defines text.items (library_options_view options.now) (map member_read_view members.now)) }
     ensures undefined { IfErr result (IsUndefined (library_options_view options.now) (map member_read_view members.now)) }

@@ -110,6 +110,7 @@ pub fn options_of<'a>(define: &Define<'a>, members: &[MemberRead]) -> LibraryOpt
         naming: Naming {
             is_plain: define.is_plain,
             kills_at: false,
+            exports_as: false,
         },
     }
 }

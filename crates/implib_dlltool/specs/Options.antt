@@ -8,7 +8,7 @@ use Rattle.implib_dlltool.specs.declared.options.Meaning.TheVariants.{Takes, Swi
 use Rattle.implib_dlltool.specs.declared.options.Setting.{Setting}
 use Rattle.implib_dlltool.specs.declared.options.Switch.{Switch}
 use Rattle.implib_dlltool.specs.declared.options.Setting.TheVariants.{Definition, Output, Machine, Dll, Flavor, Assembler, AssemblerFlags, TemporaryPrefix}
-use Rattle.implib_dlltool.specs.declared.options.Switch.TheVariants.{KillAt, NoLeadingUnderscore, LeadingUnderscore, DeterministicLibraries, NonDeterministicLibraries, NoDelete, Verbose, Help, Version}
+use Rattle.implib_dlltool.specs.declared.options.Switch.TheVariants.{KillAt, NoLeadingUnderscore, LeadingUnderscore, ExportAs, DeterministicLibraries, NonDeterministicLibraries, NoDelete, Verbose, Help, Version}
 
 -- the long names, without `--`, of GNU dlltool's options that have no meaning here
 abbrev pub is_unsupported : List ℕ → Bool
@@ -49,6 +49,7 @@ option_named name =
     else if bytes_eq name (codes "kill-at") then Switches KillAt
     else if bytes_eq name (codes "no-leading-underscore") then Switches NoLeadingUnderscore
     else if bytes_eq name (codes "leading-underscore") then Switches LeadingUnderscore
+    else if bytes_eq name (codes "export-as") then Switches ExportAs
     else if bytes_eq name (codes "deterministic-libraries") then Switches DeterministicLibraries
     else if bytes_eq name (codes "non-deterministic-libraries") then Switches NonDeterministicLibraries
     else if bytes_eq name (codes "no-delete") then Switches NoDelete
@@ -124,6 +125,7 @@ switch_number Version = 5
 switch_number LeadingUnderscore = 6
 switch_number NonDeterministicLibraries = 7
 switch_number NoDelete = 8
+switch_number ExportAs = 9
 
 -- whether two options that take values are one
 abbrev pub is_same_setting : Setting → Setting → Bool

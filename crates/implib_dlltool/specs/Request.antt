@@ -9,7 +9,7 @@ use Rattle.implib.specs.declared.flavor.Flavor.TheVariants.{Msvc, Gnu}
 use Rattle.implib.specs.declared.machine.MachineType.{MachineType}
 use Rattle.implib.specs.declared.machine.MachineType.TheVariants.{I386, ARMNT, AMD64, ARM64}
 use Rattle.implib_dlltool.specs.declared.options.Setting.TheVariants.{Definition, Output, Machine, Dll, Flavor as FlavorSetting, Assembler, AssemblerFlags, TemporaryPrefix}
-use Rattle.implib_dlltool.specs.declared.options.Switch.TheVariants.{Help, KillAt, LeadingUnderscore, NoLeadingUnderscore, Verbose, Version}
+use Rattle.implib_dlltool.specs.declared.options.Switch.TheVariants.{Help, KillAt, LeadingUnderscore, NoLeadingUnderscore, Verbose, Version, ExportAs}
 use Rattle.implib_dlltool.specs.declared.request.CallError.{CallError}
 use Rattle.implib_dlltool.specs.declared.request.CallError.TheVariants as error
 use Rattle.implib_dlltool.specs.declared.request.CalledAs.{CalledAs}
@@ -285,6 +285,7 @@ naming_in machine options =
     else Ok (record {
       is_plain = is_last NoLeadingUnderscore LeadingUnderscore options;
       kills_at = is_switched KillAt options;
+      exports_as = is_switched ExportAs options;
     })
 
 -- the library that is asked for, of this definition

@@ -4,7 +4,7 @@ use Rattle.implib.specs.declared.flavor.Flavor.TheVariants.{Msvc, Gnu}
 use Rattle.implib.specs.declared.machine.MachineType.TheVariants.{I386, ARMNT, AMD64, ARM64}
 use Rattle.implib_dlltool.specs.declared.options.Setting.TheVariants.{Definition, Output, Machine, Dll, Flavor, Assembler, AssemblerFlags, TemporaryPrefix}
 use Rattle.implib_dlltool.specs.declared.options.Switch.{Switch}
-use Rattle.implib_dlltool.specs.declared.options.Switch.TheVariants.{KillAt, NoLeadingUnderscore, LeadingUnderscore, DeterministicLibraries, NonDeterministicLibraries, NoDelete, Verbose, Help, Version}
+use Rattle.implib_dlltool.specs.declared.options.Switch.TheVariants.{KillAt, NoLeadingUnderscore, LeadingUnderscore, DeterministicLibraries, NonDeterministicLibraries, NoDelete, Verbose, Help, Version, ExportAs}
 use Rattle.implib.specs.Conversions.{flavor_named}
 use Rattle.implib_dlltool.specs.Arguments.{OccurrenceView, Given, Switched, IsUnsupported, is_switched, last_given, read_words}
 use Rattle.implib_dlltool.specs.Request.{machine_named}
@@ -32,14 +32,14 @@ abbrev pub words_of_switches : List (List ℕ)
 words_of_switches =
     codes "-k" ∷ codes "--kill-at" ∷ codes "--no-leading-underscore" ∷ codes "--deterministic-libraries" ∷ codes "-v"
     ∷ codes "--verbose" ∷ codes "-h" ∷ codes "--help" ∷ codes "-V" ∷ codes "--version" ∷ codes "--leading-underscore"
-    ∷ codes "--non-deterministic-libraries" ∷ codes "-n" ∷ codes "--no-delete" ∷ []
+    ∷ codes "--non-deterministic-libraries" ∷ codes "-n" ∷ codes "--no-delete" ∷ codes "--export-as" ∷ []
 
 -- what they give
 abbrev pub switched : List OccurrenceView
 switched =
     Switched KillAt ∷ Switched KillAt ∷ Switched NoLeadingUnderscore ∷ Switched DeterministicLibraries ∷ Switched Verbose
     ∷ Switched Verbose ∷ Switched Help ∷ Switched Help ∷ Switched Version ∷ Switched Version ∷ Switched LeadingUnderscore
-    ∷ Switched NonDeterministicLibraries ∷ Switched NoDelete ∷ Switched NoDelete ∷ []
+    ∷ Switched NonDeterministicLibraries ∷ Switched NoDelete ∷ Switched NoDelete ∷ Switched ExportAs ∷ []
 
 -- the options of GNU dlltool without a meaning here
 abbrev pub unsupported : List (List ℕ)
@@ -56,7 +56,7 @@ unsupported =
 abbrev pub switches : List Switch
 switches =
     KillAt ∷ NoLeadingUnderscore ∷ DeterministicLibraries ∷ Verbose ∷ Help ∷ Version ∷ LeadingUnderscore
-    ∷ NonDeterministicLibraries ∷ NoDelete ∷ []
+    ∷ NonDeterministicLibraries ∷ NoDelete ∷ ExportAs ∷ []
 
 -- which of them is switched where this one alone stands
 abbrev pub told_of : Switch → List Bool
@@ -76,23 +76,25 @@ pub record OptionsNamed : Type 0 where
   pub flags : last_given AssemblerFlags given ≡ Some (codes "m")
   pub prefix : last_given TemporaryPrefix given ≡ Some (codes "o")
   pub kill_at : told_of KillAt
-      ≡ true ∷ false ∷ false ∷ false ∷ false ∷ false ∷ false ∷ false ∷ false ∷ []
+      ≡ true ∷ false ∷ false ∷ false ∷ false ∷ false ∷ false ∷ false ∷ false ∷ false ∷ []
   pub no_leading_underscore : told_of NoLeadingUnderscore
-      ≡ false ∷ true ∷ false ∷ false ∷ false ∷ false ∷ false ∷ false ∷ false ∷ []
+      ≡ false ∷ true ∷ false ∷ false ∷ false ∷ false ∷ false ∷ false ∷ false ∷ false ∷ []
   pub deterministic : told_of DeterministicLibraries
-      ≡ false ∷ false ∷ true ∷ false ∷ false ∷ false ∷ false ∷ false ∷ false ∷ []
+      ≡ false ∷ false ∷ true ∷ false ∷ false ∷ false ∷ false ∷ false ∷ false ∷ false ∷ []
   pub verbose : told_of Verbose
-      ≡ false ∷ false ∷ false ∷ true ∷ false ∷ false ∷ false ∷ false ∷ false ∷ []
+      ≡ false ∷ false ∷ false ∷ true ∷ false ∷ false ∷ false ∷ false ∷ false ∷ false ∷ []
   pub help : told_of Help
-      ≡ false ∷ false ∷ false ∷ false ∷ true ∷ false ∷ false ∷ false ∷ false ∷ []
+      ≡ false ∷ false ∷ false ∷ false ∷ true ∷ false ∷ false ∷ false ∷ false ∷ false ∷ []
   pub version : told_of Version
-      ≡ false ∷ false ∷ false ∷ false ∷ false ∷ true ∷ false ∷ false ∷ false ∷ []
+      ≡ false ∷ false ∷ false ∷ false ∷ false ∷ true ∷ false ∷ false ∷ false ∷ false ∷ []
   pub leading_underscore : told_of LeadingUnderscore
-      ≡ false ∷ false ∷ false ∷ false ∷ false ∷ false ∷ true ∷ false ∷ false ∷ []
+      ≡ false ∷ false ∷ false ∷ false ∷ false ∷ false ∷ true ∷ false ∷ false ∷ false ∷ []
   pub non_deterministic : told_of NonDeterministicLibraries
-      ≡ false ∷ false ∷ false ∷ false ∷ false ∷ false ∷ false ∷ true ∷ false ∷ []
+      ≡ false ∷ false ∷ false ∷ false ∷ false ∷ false ∷ false ∷ true ∷ false ∷ false ∷ []
   pub no_delete : told_of NoDelete
-      ≡ false ∷ false ∷ false ∷ false ∷ false ∷ false ∷ false ∷ false ∷ true ∷ []
+      ≡ false ∷ false ∷ false ∷ false ∷ false ∷ false ∷ false ∷ false ∷ true ∷ false ∷ []
+  pub export_as : told_of ExportAs
+      ≡ false ∷ false ∷ false ∷ false ∷ false ∷ false ∷ false ∷ false ∷ false ∷ true ∷ []
   pub i386 : map machine_named (codes "i386" ∷ codes "I386" ∷ codes "x86" ∷ []) ≡ Some I386 ∷ Some I386 ∷ Some I386 ∷ []
   pub amd64 : map machine_named (codes "i386:x86-64" ∷ codes "AMD64" ∷ codes "x64" ∷ codes "x86_64" ∷ [])
       ≡ Some AMD64 ∷ Some AMD64 ∷ Some AMD64 ∷ Some AMD64 ∷ []

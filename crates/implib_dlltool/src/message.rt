@@ -23,7 +23,7 @@ impl fmt::Display for Setting {
 }
 
 // The long names of options.
-const NAMES: [&str; 35] = [
+const NAMES: [&str; 36] = [
     "input-def",
     "def",
     "output-lib",
@@ -36,6 +36,7 @@ const NAMES: [&str; 35] = [
     "kill-at",
     "no-leading-underscore",
     "leading-underscore",
+    "export-as",
     "deterministic-libraries",
     "non-deterministic-libraries",
     "no-delete",

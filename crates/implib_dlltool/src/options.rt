@@ -38,6 +38,9 @@ pub enum Switch {
     NoLeadingUnderscore,
     /// `--leading-underscore`: on I386 it undoes the option before it, and is the default.
     LeadingUnderscore,
+    /// `--export-as`: a name that no other name type makes of its symbol is the third text of a short
+    /// import.
+    ExportAs,
     /// `--deterministic-libraries`: they are so in any case.
     DeterministicLibraries,
     /// `--non-deterministic-libraries`: without an effect.
@@ -92,6 +95,7 @@ impl Switch {
             Switch::LeadingUnderscore => 6,
             Switch::NonDeterministicLibraries => 7,
             Switch::NoDelete => 8,
+            Switch::ExportAs => 9,
         }
     }
 
@@ -147,6 +151,7 @@ pub fn option_named(name: &str) -> Meaning
         "kill-at" => Meaning::Switches(Switch::KillAt),
         "no-leading-underscore" => Meaning::Switches(Switch::NoLeadingUnderscore),
         "leading-underscore" => Meaning::Switches(Switch::LeadingUnderscore),
+        "export-as" => Meaning::Switches(Switch::ExportAs),
         "deterministic-libraries" => Meaning::Switches(Switch::DeterministicLibraries),
         "non-deterministic-libraries" => Meaning::Switches(Switch::NonDeterministicLibraries),
         "no-delete" => Meaning::Switches(Switch::NoDelete),

@@ -59,6 +59,8 @@ Makes the import library of a module definition.
       --no-leading-underscore
                            on I386 take symbols as they are written
       --leading-underscore on I386 undo it
+      --export-as          for Microsoft's linker, and for lld from 18 on, write a
+                           name that is not made of its symbol beside it
   -v, --verbose            write warnings of FILE on standard error
   -h, --help
   -V, --version

@@ -368,6 +368,7 @@ fn naming_in<'a>(options: &[Occurrence<'a>], machine: MachineType) -> Result<Nam
             Switch::LeadingUnderscore,
         ),
         kills_at: is_switched(options, Switch::KillAt),
+        exports_as: is_switched(options, Switch::ExportAs),
     })
 }
 

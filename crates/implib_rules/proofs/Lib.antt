@@ -13,6 +13,7 @@ pub mod PlainNames
 pub mod PlainPlaces
 pub mod Made
 pub mod ExportedAs
+pub mod ExportAsRead
 pub mod OfExports
 pub mod Positions
 pub mod FirstExports

@@ -16,6 +16,7 @@ pub mod TextWarnings
 pub mod Views
 pub mod ExportAsViews
 pub mod WorkedNames
+pub mod WorkedExportAs
 pub mod WorkedWarnings
 pub mod LibraryLaws
 pub mod BothFlavors

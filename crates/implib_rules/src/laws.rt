@@ -14,6 +14,7 @@ ghost use Rattle.implib_rules.specs.Repeats.{AreLeftOut, SymbolsAreOfWords};
 ghost use Rattle.implib_rules.specs.Warnings.{AreInOrder, RepeatsStandBefore};
 ghost use Rattle.implib_rules.specs.WorkedExports.{ExportsWorked};
 ghost use Rattle.implib_rules.specs.WorkedLibraryNames.{LibrariesWorked};
+ghost use Rattle.implib_rules.specs.WorkedExportAs.{ExportAsReads, ExportAsWorked};
 ghost use Rattle.implib_rules.specs.WorkedNames.{AliasesLinked, DllsNamed};
 ghost use Rattle.implib_rules.specs.WorkedNames.{ExportsLinked, MembersInOrder};
 ghost use Rattle.implib_rules.specs.PlainLaws.{PlacesAreKept};
@@ -145,4 +146,14 @@ pub fn plain_texts_worked()
 /// The forms of definitions have the warnings that were worked by hand.
 pub fn text_warnings_worked()
     ensures { TextWarningsWorked }
+{}
+
+/// Libraries with third texts have the symbols and bytes that were worked by hand.
+pub fn export_as_worked()
+    ensures { ExportAsWorked }
+{}
+
+/// A short import with a third text is read as the import of its export.
+pub fn export_as_reads()
+    ensures { ExportAsReads }
 {}

@@ -22,6 +22,8 @@ worked = record {
   usual_by_the_last = refl;
   plain_elsewhere = refl;
   usual_elsewhere = refl;
+  exports_as_anywhere = refl;
+  exports_as_and_kills = refl;
 }
 
 pub returns : goal.returns

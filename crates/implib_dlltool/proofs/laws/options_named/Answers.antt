@@ -26,6 +26,7 @@ options = record {
   leading_underscore = refl;
   non_deterministic = refl;
   no_delete = refl;
+  export_as = refl;
   i386 = refl;
   amd64 = refl;
   armnt = refl;
