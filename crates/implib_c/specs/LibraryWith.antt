@@ -8,6 +8,7 @@ use Rattle.std.specs.Str.{IsUtf8}
 use Rattle.std.specs.Str.Lossy.{utf8_valid_len}
 use Rattle.implib.specs.Conversions.{machine_numbered}
 use Rattle.implib.specs.Fault.{cause_of, export_index}
+use Rattle.implib_rules.specs.Additions.{no_additions}
 use Rattle.implib_rules.specs.declared.library.Refusal.{Refusal}
 use Rattle.implib_rules.specs.declared.library.Refusal.TheVariants as refusal
 use Rattle.implib_rules.specs.Library.{IsLibrary, IsRefusalOfBytes}
@@ -50,6 +51,7 @@ pub record AreOptions (given : GivenOptions) (options : LibraryOptionsView) : Ty
   pub machine_is : machine_numbered given.machine ≡ Some options.machine
   pub flavor_is : flavor_numbered given.flavor ≡ Some options.flavor
   pub naming_is : naming_numbered given.flags ≡ Some options.naming
+  pub additions_are : options.additions ≡ no_additions
   pub dll_is : options.dll ≡ dll_given given
   pub dll_utf8 : IfSome (dll_given given) IsUtf8
 

@@ -14,6 +14,7 @@ ghost use Rattle.std.specs.Str.Lossy.{utf8_valid_len};
 
 use crate::outcome::{Failure, flavor_with, machine_with, pack_into};
 use implib_rules::library::{Refusal, kind_for, members_for};
+use implib_rules::additions::Additions;
 use implib_rules::linked::Naming;
 use implib_rules::options::LibraryOptions;
 use std::alloc::Global;
@@ -74,6 +75,7 @@ pub fn options_with<'a>(
             flavor,
             dll: None,
             naming,
+            additions: Additions::none(),
         });
     }
     match str::from_utf8(dll) {
@@ -82,6 +84,7 @@ pub fn options_with<'a>(
             flavor,
             dll: Some(name),
             naming,
+            additions: Additions::none(),
         }),
         Err(_) => Err(Failure::DllNotUtf8),
     }

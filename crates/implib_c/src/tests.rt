@@ -10,6 +10,7 @@ use crate::exports::{
 use implib::{Flavor, ImportLibrary, MachineType};
 use implib_archive::{Archive, Kind};
 use implib_rules::library::write_library;
+use implib_rules::additions::Additions;
 use implib_rules::linked::Naming;
 use implib_rules::options::LibraryOptions;
 use std::alloc::{AllocError, Global};
@@ -360,6 +361,7 @@ fn written(
         flavor,
         dll: Some("other"),
         naming,
+        additions: Additions::none(),
     };
     let mut file = Vec::new(alloc);
     match write_library(alloc, text, &options, &mut file) {

@@ -111,8 +111,8 @@ with_value setting.Dll value r =
 -- after an option
 abbrev pub with_option : List ℕ → ReadingView → Option ReadingView
 with_option option r =
-    if bytes_eq option (codes "-k") then Some (record r { naming = record r.naming { kills_at = true; exports_as = false } })
-    else if bytes_eq option (codes "--kill-at") then Some (record r { naming = record r.naming { kills_at = true; exports_as = false } })
+    if bytes_eq option (codes "-k") then Some (record r { naming = record r.naming { kills_at = true } })
+    else if bytes_eq option (codes "--kill-at") then Some (record r { naming = record r.naming { kills_at = true } })
     else if bytes_eq option (codes "--no-leading-underscore") then Some (record r { naming = record r.naming { is_plain = true } })
     else if bytes_eq option (codes "-m") then Some (record r { waiting = Some setting.Machine })
     else if bytes_eq option (codes "--machine") then Some (record r { waiting = Some setting.Machine })

@@ -9,6 +9,7 @@ use Rattle.implib.specs.Conversions.{machine_numbered}
 use Rattle.implib_read.specs.Classes.{Class, AnImport, AnAlias, Descriptor, NullDescriptor, NullThunk, Head, Tail, DelayImport, Other, NotUnderstood, MemberRead}
 use Rattle.implib_read.specs.declared.import.ImportKind.{ImportKind}
 use Rattle.implib_read.specs.declared.import.ImportKind.TheVariants.{Code, CodeOrConst, Const, Data}
+use Rattle.implib_rules.specs.Additions.{no_additions}
 use Rattle.implib_rules.specs.Options.{LibraryOptionsView}
 use Rattle.implib_check.specs.Calls.{CheckView, DefineView}
 
@@ -63,6 +64,7 @@ options_for check members = record {
   flavor = unwrap_or check.flavor (flavor_of members);
   dll = check.dll;
   naming = check.naming;
+  additions = no_additions;
 }
 
 -- What the definition of a library is read for: what a call names, and else the machine and the flavour of the library.
@@ -72,4 +74,5 @@ options_of define members = record {
   flavor = unwrap_or define.flavor (flavor_of members);
   dll = None;
   naming = record { is_plain = define.is_plain; kills_at = false; exports_as = false };
+  additions = no_additions;
 }

@@ -7,6 +7,7 @@ use Rattle.implib_read.specs.Classes.{Descriptor, Head, NullDescriptor, NullThun
 use Rattle.implib_read.specs.declared.import.ImportKind.{ImportKind}
 use Rattle.implib_read.specs.declared.import.ImportKind.TheVariants.{Code, CodeOrConst, Const, Data}
 use Rattle.implib_rules.specs.declared.library.Refusal.TheVariants.{NoName, NotUtf8, OutOfMemory}
+use Rattle.implib_rules.specs.Additions.{no_additions}
 use Rattle.implib_check.specs.Calls.{CheckView, check_called, machine_called}
 use Rattle.implib_check.specs.Status.{refusal_status}
 use Rattle.implib_check.specs.Targets.{flavor_of, machine_of, options_for}
@@ -89,10 +90,12 @@ pub record WorkedTargets : Type 0 where
     flavor = Msvc;
     dll = None;
     naming = record { is_plain = false; kills_at = false; exports_as = false };
+    additions = no_additions;
   }
   pub named : options_for full_check (import_on Code 0xAA64 ∷ []) ≡ record {
     machine = I386;
     flavor = Gnu;
     dll = Some (codes "d/zoo.dll");
     naming = record { is_plain = true; kills_at = true; exports_as = false };
+    additions = no_additions;
   }

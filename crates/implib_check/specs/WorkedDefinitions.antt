@@ -8,6 +8,7 @@ use Rattle.implib.specs.Import.{Name, Ordinal}
 use Rattle.implib_read.specs.Classes.{Head, Tail}
 use Rattle.implib_read.specs.declared.import.ImportKind.TheVariants.{Code, CodeOrConst, Const, Data}
 use Rattle.implib_rules.specs.Linked.{NamingView}
+use Rattle.implib_rules.specs.Additions.{no_additions}
 use Rattle.implib_rules.specs.Options.{LibraryOptionsView}
 use Rattle.implib_check.specs.Calls.{DefineView, define_called}
 use Rattle.implib_check.specs.DefinitionText.{definition_text, is_plain_name, name_text, word_of_symbol}
@@ -22,6 +23,7 @@ on machine flavor = record {
   flavor = flavor;
   dll = None;
   naming = record { is_plain = false; kills_at = false; exports_as = false };
+  additions = no_additions;
 }
 
 -- how names are read, by default and under `--no-leading-underscore`

@@ -9,6 +9,7 @@ ghost use Rattle.implib_rules.specs.Options.{library_options_view};
 use crate::call::{Check, Define};
 use implib::{Flavor, MachineType};
 use implib_read::{ImportKind, MemberClass, MemberRead};
+use implib_rules::additions::Additions;
 use implib_rules::linked::Naming;
 use implib_rules::options::LibraryOptions;
 
@@ -96,6 +97,7 @@ pub fn options_for<'a>(check: &Check<'a>, members: &[MemberRead]) -> LibraryOpti
         flavor: flavor_for(check.flavor, members),
         dll: check.dll,
         naming: check.naming,
+        additions: Additions::none(),
     }
 }
 
@@ -112,5 +114,6 @@ pub fn options_of<'a>(define: &Define<'a>, members: &[MemberRead]) -> LibraryOpt
             kills_at: false,
             exports_as: false,
         },
+        additions: Additions::none(),
     }
 }

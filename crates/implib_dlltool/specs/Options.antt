@@ -7,8 +7,8 @@ use Rattle.implib_dlltool.specs.declared.options.Meaning.{Meaning}
 use Rattle.implib_dlltool.specs.declared.options.Meaning.TheVariants.{Takes, Switches, Unsupported, Unknown}
 use Rattle.implib_dlltool.specs.declared.options.Setting.{Setting}
 use Rattle.implib_dlltool.specs.declared.options.Switch.{Switch}
-use Rattle.implib_dlltool.specs.declared.options.Setting.TheVariants.{Definition, Output, Machine, Dll, Flavor, Assembler, AssemblerFlags, TemporaryPrefix}
-use Rattle.implib_dlltool.specs.declared.options.Switch.TheVariants.{KillAt, NoLeadingUnderscore, LeadingUnderscore, ExportAs, DeterministicLibraries, NonDeterministicLibraries, NoDelete, Verbose, Help, Version}
+use Rattle.implib_dlltool.specs.declared.options.Setting.TheVariants.{Definition, Output, Machine, Dll, Flavor, Assembler, AssemblerFlags, TemporaryPrefix, FurtherPrefix}
+use Rattle.implib_dlltool.specs.declared.options.Switch.TheVariants.{KillAt, NoLeadingUnderscore, LeadingUnderscore, ExportAs, AddUnderscore, AddStdcallUnderscore, AddStdcallAlias, DeterministicLibraries, NonDeterministicLibraries, NoDelete, Verbose, Help, Version}
 
 -- the long names, without `--`, of GNU dlltool's options that have no meaning here
 abbrev pub is_unsupported : List ℕ → Bool
@@ -22,10 +22,6 @@ is_unsupported name =
     else if bytes_eq name (codes "no-idata4") then true
     else if bytes_eq name (codes "no-idata5") then true
     else if bytes_eq name (codes "add-indirect") then true
-    else if bytes_eq name (codes "ext-prefix-alias") then true
-    else if bytes_eq name (codes "add-underscore") then true
-    else if bytes_eq name (codes "add-stdcall-underscore") then true
-    else if bytes_eq name (codes "add-stdcall-alias") then true
     else if bytes_eq name (codes "compat-implib") then true
     else if bytes_eq name (codes "export-all-symbols") then true
     else if bytes_eq name (codes "no-export-all-symbols") then true
@@ -46,10 +42,14 @@ option_named name =
     else if bytes_eq name (codes "as") then Takes Assembler
     else if bytes_eq name (codes "as-flags") then Takes AssemblerFlags
     else if bytes_eq name (codes "temp-prefix") then Takes TemporaryPrefix
+    else if bytes_eq name (codes "ext-prefix-alias") then Takes FurtherPrefix
     else if bytes_eq name (codes "kill-at") then Switches KillAt
     else if bytes_eq name (codes "no-leading-underscore") then Switches NoLeadingUnderscore
     else if bytes_eq name (codes "leading-underscore") then Switches LeadingUnderscore
     else if bytes_eq name (codes "export-as") then Switches ExportAs
+    else if bytes_eq name (codes "add-underscore") then Switches AddUnderscore
+    else if bytes_eq name (codes "add-stdcall-underscore") then Switches AddStdcallUnderscore
+    else if bytes_eq name (codes "add-stdcall-alias") then Switches AddStdcallAlias
     else if bytes_eq name (codes "deterministic-libraries") then Switches DeterministicLibraries
     else if bytes_eq name (codes "non-deterministic-libraries") then Switches NonDeterministicLibraries
     else if bytes_eq name (codes "no-delete") then Switches NoDelete
@@ -69,7 +69,10 @@ option_lettered letter =
     else if letter == byte "S" then Takes Assembler
     else if letter == byte "f" then Takes AssemblerFlags
     else if letter == byte "t" then Takes TemporaryPrefix
+    else if letter == byte "p" then Takes FurtherPrefix
     else if letter == byte "k" then Switches KillAt
+    else if letter == byte "U" then Switches AddUnderscore
+    else if letter == byte "A" then Switches AddStdcallAlias
     else if letter == byte "n" then Switches NoDelete
     else if letter == byte "v" then Switches Verbose
     else if letter == byte "h" then Switches Help
@@ -82,9 +85,6 @@ option_lettered letter =
     else if letter == byte "x" then Unsupported
     else if letter == byte "c" then Unsupported
     else if letter == byte "a" then Unsupported
-    else if letter == byte "p" then Unsupported
-    else if letter == byte "U" then Unsupported
-    else if letter == byte "A" then Unsupported
     else if letter == byte "C" then Unsupported
     else Unknown
 
@@ -113,6 +113,7 @@ setting_number Flavor = 4
 setting_number Assembler = 5
 setting_number AssemblerFlags = 6
 setting_number TemporaryPrefix = 7
+setting_number FurtherPrefix = 8
 
 -- the number of an option without a value
 abbrev pub switch_number : Switch → ℕ
@@ -126,6 +127,9 @@ switch_number LeadingUnderscore = 6
 switch_number NonDeterministicLibraries = 7
 switch_number NoDelete = 8
 switch_number ExportAs = 9
+switch_number AddUnderscore = 10
+switch_number AddStdcallUnderscore = 11
+switch_number AddStdcallAlias = 12
 
 -- whether two options that take values are one
 abbrev pub is_same_setting : Setting → Setting → Bool

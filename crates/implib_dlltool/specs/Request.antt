@@ -8,8 +8,8 @@ use Rattle.implib.specs.declared.flavor.Flavor.{Flavor}
 use Rattle.implib.specs.declared.flavor.Flavor.TheVariants.{Msvc, Gnu}
 use Rattle.implib.specs.declared.machine.MachineType.{MachineType}
 use Rattle.implib.specs.declared.machine.MachineType.TheVariants.{I386, ARMNT, AMD64, ARM64}
-use Rattle.implib_dlltool.specs.declared.options.Setting.TheVariants.{Definition, Output, Machine, Dll, Flavor as FlavorSetting, Assembler, AssemblerFlags, TemporaryPrefix}
-use Rattle.implib_dlltool.specs.declared.options.Switch.TheVariants.{Help, KillAt, LeadingUnderscore, NoLeadingUnderscore, Verbose, Version, ExportAs}
+use Rattle.implib_dlltool.specs.declared.options.Setting.TheVariants.{Definition, Output, Machine, Dll, Flavor as FlavorSetting, Assembler, AssemblerFlags, TemporaryPrefix, FurtherPrefix}
+use Rattle.implib_dlltool.specs.declared.options.Switch.TheVariants.{Help, KillAt, LeadingUnderscore, NoLeadingUnderscore, Verbose, Version, ExportAs, AddUnderscore, AddStdcallUnderscore}
 use Rattle.implib_dlltool.specs.declared.request.CallError.{CallError}
 use Rattle.implib_dlltool.specs.declared.request.CallError.TheVariants as error
 use Rattle.implib_dlltool.specs.declared.request.CalledAs.{CalledAs}
@@ -24,6 +24,7 @@ use Rattle.implib_dlltool.specs.declared.request.Task.TheVariants as task
 use Rattle.implib_dlltool.specs.Arguments.{OccurrenceView, is_last, is_switched, last_given}
 use Rattle.implib.specs.Conversions.{flavor_named}
 use Rattle.implib.specs.Machine.{has_leading_underscore}
+use Rattle.implib_rules.specs.Additions.{AdditionsView}
 use Rattle.implib_rules.specs.Linked.{NamingView}
 use Rattle.implib_rules.specs.Names.{last_part}
 use Rattle.implib_rules.specs.Options.{LibraryOptionsView, library_options_view}
@@ -288,6 +289,14 @@ naming_in machine options =
       exports_as = is_switched ExportAs options;
     })
 
+-- what options add to the exports
+abbrev pub additions_in : List OccurrenceView → AdditionsView
+additions_in options = record {
+  prefix = last_given FurtherPrefix options;
+  underscore = is_switched AddUnderscore options;
+  stdcall_underscore = is_switched AddStdcallUnderscore options;
+}
+
 -- the library that is asked for, of this definition
 abbrev pub request_of : Caller → List OccurrenceView → Option (List ℕ) → Asked RequestView
 request_of caller options None = Err LacksDefinition
@@ -300,7 +309,7 @@ request_of caller options (Some definition) =
     Ok (record {
       definition = definition;
       output = output;
-      library = record { machine = machine; flavor = flavor; dll = dll; naming = naming };
+      library = record { machine = machine; flavor = flavor; dll = dll; naming = naming; additions = additions_in options };
       is_verbose = is_switched Verbose options;
     }))))))
 

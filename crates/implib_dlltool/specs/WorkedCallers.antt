@@ -4,14 +4,15 @@ use Rattle.implib.specs.declared.flavor.Flavor.{Flavor}
 use Rattle.implib.specs.declared.flavor.Flavor.TheVariants.{Msvc, Gnu}
 use Rattle.implib.specs.declared.machine.MachineType.{MachineType}
 use Rattle.implib.specs.declared.machine.MachineType.TheVariants.{I386, ARMNT, AMD64, ARM64}
-use Rattle.implib_dlltool.specs.declared.options.Setting.TheVariants.{Assembler, AssemblerFlags, Definition, Dll, Flavor as FlavorSetting, Machine, Output, TemporaryPrefix}
-use Rattle.implib_dlltool.specs.declared.options.Switch.TheVariants.{Help, LeadingUnderscore, NoLeadingUnderscore, Version, ExportAs, KillAt}
+use Rattle.implib_dlltool.specs.declared.options.Setting.TheVariants.{Assembler, AssemblerFlags, Definition, Dll, Flavor as FlavorSetting, Machine, Output, TemporaryPrefix, FurtherPrefix}
+use Rattle.implib_dlltool.specs.declared.options.Switch.TheVariants.{Help, LeadingUnderscore, NoLeadingUnderscore, Version, ExportAs, KillAt, AddUnderscore, AddStdcallUnderscore, AddStdcallAlias}
 use Rattle.implib_dlltool.specs.declared.request.CalledAs.{CalledAs}
 use Rattle.implib_dlltool.specs.declared.request.CalledAs.TheVariants as called
 use Rattle.implib_dlltool.specs.Arguments.{Given, OccurrenceView, Switched}
-use Rattle.implib_dlltool.specs.Request.{Asked, AsksHelp, AsksVersion, GoesToStandard, HasEmptyDll, HasEmptyOutput, HasNoUnderscore, ReplacesDefinition, IsOtherArchitecture, IsUnknownFlavor, IsUnknownMachine, LacksDefinition, caller_of, default_flavor, flavor_in, machine_in, naming_in, task_of}
+use Rattle.implib_dlltool.specs.Request.{Asked, AsksHelp, AsksVersion, GoesToStandard, HasEmptyDll, HasEmptyOutput, HasNoUnderscore, ReplacesDefinition, IsOtherArchitecture, IsUnknownFlavor, IsUnknownMachine, LacksDefinition, caller_of, default_flavor, flavor_in, machine_in, naming_in, additions_in, task_of}
 use Rattle.implib_dlltool.specs.WorkedCalls.{itself}
 use Rattle.implib_rules.specs.WorkedNames.{plain, usual}
+use Rattle.implib_rules.specs.Additions.{no_additions}
 use Rattle.implib_rules.specs.WorkedExportAs.{exporting, killing_and_exporting}
 
 -- the machine of a program's name
@@ -98,5 +99,11 @@ pub record FaultsOrdered : Type 0 where
   pub usual_by_the_last : naming_in I386 (Switched NoLeadingUnderscore ∷ Switched LeadingUnderscore ∷ []) ≡ Ok usual
   pub plain_elsewhere : naming_in AMD64 (Switched LeadingUnderscore ∷ Switched NoLeadingUnderscore ∷ []) ≡ Ok plain
   pub usual_elsewhere : naming_in ARMNT [] ≡ Ok usual
+  pub prefix_added : additions_in (Given FurtherPrefix (codes "p") ∷ Given FurtherPrefix (codes "q") ∷ [])
+      ≡ record { prefix = Some (codes "q"); underscore = false; stdcall_underscore = false }
+  pub underscore_added : additions_in (Switched AddUnderscore ∷ []) ≡ record { prefix = None; underscore = true; stdcall_underscore = false }
+  pub stdcall_underscore_added : additions_in (Switched AddStdcallUnderscore ∷ [])
+      ≡ record { prefix = None; underscore = false; stdcall_underscore = true }
+  pub nothing_added : additions_in (Switched AddStdcallAlias ∷ []) ≡ no_additions
   pub exports_as_anywhere : naming_in AMD64 (Switched ExportAs ∷ []) ≡ Ok exporting
   pub exports_as_and_kills : naming_in I386 (Switched ExportAs ∷ Switched KillAt ∷ []) ≡ Ok killing_and_exporting

@@ -15,6 +15,7 @@ use Rattle.implib_dlltool.specs.Reports.{Complains, OfWriting, Refuses}
 use Rattle.implib_dlltool.specs.Request.{Asks, AsksHelp, GoesToStandard, HasEmptyDll, IsUnknownFlavor, IsUnknownMachine, LacksDefinition, RequestView, task_of}
 use Rattle.implib_dlltool.specs.Worked.{mingw_options, rustc_options}
 use Rattle.implib_archive.specs.declared.error.WriteError.{WriteError}
+use Rattle.implib_rules.specs.Additions.{no_additions}
 use Rattle.implib_rules.specs.declared.library.LibraryError.TheVariants.{Refused, Writing}
 use Rattle.implib_rules.specs.declared.library.Refusal.TheVariants.{NoName, NotUtf8, OutOfMemory}
 use Rattle.implib_rules.specs.declared.places.Place.{Place}
@@ -36,31 +37,31 @@ pub record CallsAnswered : Type 0 where
   pub rustc : task_of itself rustc_options ≡ Ok (Asks (record {
     definition = codes "F.def";
     output = Some (codes "F.lib");
-    library = record { machine = I386; flavor = Gnu; dll = Some (codes "zoo.dll"); naming = plain };
+    library = record { machine = I386; flavor = Gnu; dll = Some (codes "zoo.dll"); naming = plain; additions = no_additions };
     is_verbose = false;
   }))
   pub mingw : task_of for_i386 mingw_options ≡ Ok (Asks (record {
     definition = codes "X.def";
     output = Some (codes "X.a");
-    library = record { machine = AMD64; flavor = Gnu; dll = None; naming = killing };
+    library = record { machine = AMD64; flavor = Gnu; dll = None; naming = killing; additions = no_additions };
     is_verbose = false;
   }))
   pub by_ending : task_of itself (Given Definition (codes "-") ∷ Given Output (codes "a.lib") ∷ []) ≡ Ok (Asks (record {
     definition = codes "-";
     output = Some (codes "a.lib");
-    library = record { machine = AMD64; flavor = Msvc; dll = None; naming = usual };
+    library = record { machine = AMD64; flavor = Msvc; dll = None; naming = usual; additions = no_additions };
     is_verbose = false;
   }))
   pub arm64 : task_of itself (Given Definition (codes "a") ∷ Given Machine (codes "AArch64") ∷ []) ≡ Ok (Asks (record {
     definition = codes "a";
     output = None;
-    library = record { machine = ARM64; flavor = Msvc; dll = None; naming = usual };
+    library = record { machine = ARM64; flavor = Msvc; dll = None; naming = usual; additions = no_additions };
     is_verbose = false;
   }))
   pub verbose : task_of itself (Given Definition (codes "a") ∷ Switched Verbose ∷ []) ≡ Ok (Asks (record {
     definition = codes "a";
     output = None;
-    library = record { machine = AMD64; flavor = Gnu; dll = None; naming = usual };
+    library = record { machine = AMD64; flavor = Gnu; dll = None; naming = usual; additions = no_additions };
     is_verbose = true;
   }))
   pub help : task_of itself (Switched Help ∷ []) ≡ Ok AsksHelp
@@ -75,7 +76,7 @@ abbrev pub asked_for : Option (List ℕ) → RequestView
 asked_for output = record {
   definition = codes "a.def";
   output = output;
-  library = record { machine = AMD64; flavor = Gnu; dll = None; naming = usual };
+  library = record { machine = AMD64; flavor = Gnu; dll = None; naming = usual; additions = no_additions };
   is_verbose = false;
 }
 

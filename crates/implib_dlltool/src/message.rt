@@ -18,6 +18,7 @@ impl fmt::Display for Setting {
             Setting::Assembler => "-S",
             Setting::AssemblerFlags => "-f",
             Setting::TemporaryPrefix => "-t",
+            Setting::FurtherPrefix => "-p",
         })
     }
 }

@@ -27,6 +27,8 @@ pub enum Setting {
     AssemblerFlags,
     /// `-t`, `--temp-prefix`: a name for temporary files.
     TemporaryPrefix,
+    /// `-p`, `--ext-prefix-alias`: a further export of each has this in front of its symbol.
+    FurtherPrefix,
 }
 
 /// An option without a value.
@@ -41,6 +43,12 @@ pub enum Switch {
     /// `--export-as`: a name that no other name type makes of its symbol is the third text of a short
     /// import.
     ExportAs,
+    /// `-U`, `--add-underscore`: each name that the DLL is asked for gets an underscore.
+    AddUnderscore,
+    /// `--add-stdcall-underscore`: each with an `@` in it gets one.
+    AddStdcallUnderscore,
+    /// `-A`, `--add-stdcall-alias`: it is about exports that objects have, and without an effect.
+    AddStdcallAlias,
     /// `--deterministic-libraries`: they are so in any case.
     DeterministicLibraries,
     /// `--non-deterministic-libraries`: without an effect.
@@ -69,6 +77,7 @@ impl Setting {
             Setting::Assembler => 5,
             Setting::AssemblerFlags => 6,
             Setting::TemporaryPrefix => 7,
+            Setting::FurtherPrefix => 8,
         }
     }
 
@@ -96,6 +105,9 @@ impl Switch {
             Switch::NonDeterministicLibraries => 7,
             Switch::NoDelete => 8,
             Switch::ExportAs => 9,
+            Switch::AddUnderscore => 10,
+            Switch::AddStdcallUnderscore => 11,
+            Switch::AddStdcallAlias => 12,
         }
     }
 
@@ -127,8 +139,7 @@ fn is_unsupported(name: &str) -> bool
     match name {
         "output-exp" | "output-def" | "output-delaylib" | "base-file" | "identify" => true,
         "identify-strict" | "no-idata4" | "no-idata5" | "add-indirect" => true,
-        "ext-prefix-alias" | "add-underscore" | "add-stdcall-underscore" => true,
-        "add-stdcall-alias" | "compat-implib" => true,
+        "compat-implib" => true,
         "export-all-symbols" | "no-export-all-symbols" | "exclude-symbols" => true,
         "no-default-excludes" | "use-nul-prefixed-import-tables" => true,
         _ => false,
@@ -148,10 +159,14 @@ pub fn option_named(name: &str) -> Meaning
         "as" => Meaning::Takes(Setting::Assembler),
         "as-flags" => Meaning::Takes(Setting::AssemblerFlags),
         "temp-prefix" => Meaning::Takes(Setting::TemporaryPrefix),
+        "ext-prefix-alias" => Meaning::Takes(Setting::FurtherPrefix),
         "kill-at" => Meaning::Switches(Switch::KillAt),
         "no-leading-underscore" => Meaning::Switches(Switch::NoLeadingUnderscore),
         "leading-underscore" => Meaning::Switches(Switch::LeadingUnderscore),
         "export-as" => Meaning::Switches(Switch::ExportAs),
+        "add-underscore" => Meaning::Switches(Switch::AddUnderscore),
+        "add-stdcall-underscore" => Meaning::Switches(Switch::AddStdcallUnderscore),
+        "add-stdcall-alias" => Meaning::Switches(Switch::AddStdcallAlias),
         "deterministic-libraries" => Meaning::Switches(Switch::DeterministicLibraries),
         "non-deterministic-libraries" => Meaning::Switches(Switch::NonDeterministicLibraries),
         "no-delete" => Meaning::Switches(Switch::NoDelete),
@@ -175,13 +190,16 @@ pub fn option_lettered(letter: u8) -> Meaning
         b'S' => Meaning::Takes(Setting::Assembler),
         b'f' => Meaning::Takes(Setting::AssemblerFlags),
         b't' => Meaning::Takes(Setting::TemporaryPrefix),
+        b'p' => Meaning::Takes(Setting::FurtherPrefix),
         b'k' => Meaning::Switches(Switch::KillAt),
+        b'U' => Meaning::Switches(Switch::AddUnderscore),
+        b'A' => Meaning::Switches(Switch::AddStdcallAlias),
         b'n' => Meaning::Switches(Switch::NoDelete),
         b'v' => Meaning::Switches(Switch::Verbose),
         b'h' => Meaning::Switches(Switch::Help),
         b'V' => Meaning::Switches(Switch::Version),
         b'e' | b'z' | b'y' | b'b' | b'I' | b'x' | b'c' => Meaning::Unsupported,
-        b'a' | b'p' | b'U' | b'A' | b'C' => Meaning::Unsupported,
+        b'a' | b'C' => Meaning::Unsupported,
         _ => Meaning::Unknown,
     }
 }

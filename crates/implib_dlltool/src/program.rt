@@ -59,6 +59,10 @@ Makes the import library of a module definition.
       --no-leading-underscore
                            on I386 take symbols as they are written
       --leading-underscore on I386 undo it
+  -p, --ext-prefix-alias P a further import of each export, by P and its symbol
+  -U, --add-underscore     ask for each name with _ in front, but for fastcall's
+      --add-stdcall-underscore
+                           the same of names with @
       --export-as          for Microsoft's linker, and for lld from 18 on, write a
                            name that is not made of its symbol beside it
   -v, --verbose            write warnings of FILE on standard error
@@ -69,7 +73,8 @@ Options of one letter without a value may share a word, as in -kd FILE; after --
 there is no option.
 
 Taken and ignored: -S --as, -f --as-flags, -t --temp-prefix, each with a value;
--n --no-delete, --deterministic-libraries, --non-deterministic-libraries.
+-n --no-delete, -A --add-stdcall-alias, --deterministic-libraries,
+--non-deterministic-libraries.
 
 Status: 0 made; 1 FILE is refused; 2 wrong call; 3 a file or memory failed.
 ";

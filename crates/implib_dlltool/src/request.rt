@@ -1,7 +1,9 @@
 //! What the options of a command line ask for.
 
 ghost use Rattle.implib_dlltool.specs.Arguments.{occurrence_view};
+ghost use Rattle.implib_rules.specs.Additions.{additions_view};
 ghost use Rattle.implib_rules.specs.Linked.{naming_view};
+ghost use Rattle.implib_dlltool.specs.Request.{additions_in};
 ghost use Rattle.implib_dlltool.specs.Request.{IsCallRefusal, architecture_named, call_fault_view, called_as};
 ghost use Rattle.implib_dlltool.specs.Request.{caller_of};
 ghost use Rattle.implib_dlltool.specs.Request.{default_flavor, dll_in, flavor_by_ending};
@@ -17,6 +19,7 @@ ghost use Rattle.std.specs.Prelude.{◌≡◌, Err, IfErr, IfOk, Ok, map};
 use crate::arguments::{Occurrence, is_last, is_switched, last_given};
 use crate::options::{Setting, Switch, machine_called};
 use implib::{Flavor, MachineType};
+use implib_rules::additions::Additions;
 use implib_rules::linked::Naming;
 use implib_rules::name::last_part;
 use implib_rules::options::LibraryOptions;
@@ -372,6 +375,17 @@ fn naming_in<'a>(options: &[Occurrence<'a>], machine: MachineType) -> Result<Nam
     })
 }
 
+// What the options add to the exports.
+fn additions_in<'a>(options: &[Occurrence<'a>]) -> Additions<'a>
+    ensures { additions_view result ≡ additions_in (map occurrence_view options.now) }
+{
+    Additions {
+        prefix: last_given(options, Setting::FurtherPrefix),
+        underscore: is_switched(options, Switch::AddUnderscore),
+        stdcall_underscore: is_switched(options, Switch::AddStdcallUnderscore),
+    }
+}
+
 // The library that the options ask for.
 fn request_in<'a>(
     alloc: Global,
@@ -391,6 +405,7 @@ fn request_in<'a>(
     let flavor = flavor_in(options, caller.called_as, machine, output)?;
     let dll = dll_in(options)?;
     let naming = naming_in(options, machine)?;
+    let additions = additions_in(options);
     Ok(Request {
         definition,
         output,
@@ -399,6 +414,7 @@ fn request_in<'a>(
             flavor,
             dll,
             naming,
+            additions,
         },
         is_verbose: is_switched(options, Switch::Verbose),
     })

@@ -19,6 +19,7 @@ use Rattle.implib.specs.Link.LinkedMembers.{IsPrefixOf, member_prefix}
 use Rattle.implib.specs.Members.Gnu.{mangled_name, without_full_stop}
 use Rattle.implib.specs.Members.MsvcObjects.{descriptor_symbol}
 use Rattle.implib.proofs.LibraryNames.{base_of_named}
+use Rattle.implib_rules.specs.Additions.{extended}
 use Rattle.implib_rules.specs.Library.{DefinitionFor}
 use Rattle.implib_rules.specs.LibraryLaws.{IsFoundByGnu}
 use Rattle.implib_rules.specs.LibraryName.{exports_taken, gnu_library_name, if_filled, library_name_for, with_library_name, without_ending}
@@ -52,7 +53,7 @@ pub found_of_text : (text : List ℕ) (options : LibraryOptionsView) (d : Defini
     → is_empty_text (without_ending d.import_name) ≡ false → IsFoundByGnu d
 found_of_text text options d meant msvc filled =
     let plain = record meant.parsed { import_name = dll_name options.dll (own_name meant.heard) (is_program meant.heard) } in
-    let before = linked options.machine options.naming options.flavor (without_repeats plain) in
+    let before = linked options.machine options.naming options.flavor (without_repeats (extended options.machine options.naming options.additions plain)) in
     found_named d (without_ending d.import_name) (named_of options.flavor before d msvc meant.is filled) refl
 
 other : (b : Bool) (d : ℕ) → not b ≡ true → (if b then underscore else d) ≡ d

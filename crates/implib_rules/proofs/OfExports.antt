@@ -17,20 +17,22 @@ use Rattle.implib_rules.specs.LibraryName.{gnu_library_name, with_library_name}
 use Rattle.implib_rules.specs.Linked.{NamingView, linked}
 use Rattle.implib_rules.specs.Names.{dll_name, is_program, lacks_name, own_name, part_after_last}
 use Rattle.implib_rules.specs.Options.{LibraryOptionsView}
+use Rattle.implib_rules.specs.Additions.{AdditionsView, extended}
 use Rattle.implib_rules.specs.ExportAs.{specs_made}
 use Rattle.implib_rules.specs.Repeats.{without_repeats}
 
 -- the members of a definition by the rules, of a DLL of this name
-abbrev specs_named : MachineType → NamingView → Flavor → DefinitionView → List ℕ → List MemberSpec
-specs_named machine naming flavor d name =
-    specs_made naming machine flavor (renamed (with_library_name flavor (linked machine naming flavor (without_repeats (record d { import_name = name })))))
+abbrev specs_named : MachineType → NamingView → AdditionsView → Flavor → DefinitionView → List ℕ → List MemberSpec
+specs_named machine naming additions flavor d name =
+    specs_made naming machine flavor
+    (renamed (with_library_name flavor (linked machine naming flavor (without_repeats (extended machine naming additions (record d { import_name = name }))))))
 
 -- they are of its exports
-of_their_exports : (machine : MachineType) (naming : NamingView) (flavor : Flavor) (d : DefinitionView) (name : List ℕ)
-    → specs_named machine naming flavor d name ≡ specs_named machine naming flavor (of_exports d.exports) name
+of_their_exports : (machine : MachineType) (naming : NamingView) (additions : AdditionsView) (flavor : Flavor) (d : DefinitionView) (name : List ℕ)
+    → specs_named machine naming additions flavor d name ≡ specs_named machine naming additions flavor (of_exports d.exports) name
 unfolding gnu_library_name
-of_their_exports machine naming Msvc d name = refl
-of_their_exports machine naming Gnu d name = refl
+of_their_exports machine naming additions Msvc d name = refl
+of_their_exports machine naming additions Gnu d name = refl
 
 -- a name that is given is the DLL's, whatever the text's own
 given_name_is : (dll : Option (List ℕ)) (own : List ℕ) (program : Bool) → lacks_name dll [] ≡ false → dll_name dll own program ≡ dll_name dll [] false
@@ -44,12 +46,12 @@ same_members text options parsed members others parses first second =
     let meant = first.of_text in
     let own = own_name meant.heard in
     let program = is_program meant.heard in
-    let specs = specs_named options.machine options.naming options.flavor in
+    let specs = specs_named options.machine options.naming options.additions options.flavor in
     let once = one_definition (definition_text text) first.utf8 AMD64 meant.parsed parsed meant.parses parses in
     first.made_for.is
     ∙ ap (λ (d : DefinitionView). map member_of (specs_made options.naming options.machine options.flavor (renamed d))) (meant.is ∙ ap (λ (d : DefinitionView). definition_for options d own program) once)
     ∙ ap (λ name. map member_of (specs parsed name)) (given_name_is options.dll own program second.of_exports.named)
-    ∙ ap (map member_of) (of_their_exports options.machine options.naming options.flavor parsed (dll_name options.dll [] false))
+    ∙ ap (map member_of) (of_their_exports options.machine options.naming options.additions options.flavor parsed (dll_name options.dll [] false))
     ∙ sym (second.made_for.is ∙ ap (λ (d : DefinitionView). map member_of (specs_made options.naming options.machine options.flavor (renamed d))) second.of_exports.is)
 
 pub libraries_are_of_exports : LibrariesAreOfExports

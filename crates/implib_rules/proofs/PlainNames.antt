@@ -13,7 +13,9 @@ use Rattle.implib.specs.Renaming.{renamed, renamed_export}
 use Rattle.implib.proofs.Members.MemberReadings.{all_append}
 use Rattle.implib.proofs.Text.SymbolNames.{parsed_lacks}
 use Rattle.implib_rules.specs.Library.{DefinitionFor, definition_for}
-use Rattle.implib_rules.specs.Linked.{NamingView, adds_target, alias_symbol, is_among, linked_export, linked_to, new_target, symbol_of, target_import, targets_added, targets_beside, with_target}
+use Rattle.implib.specs.Ascii.{underscore}
+use Rattle.implib_rules.specs.Additions.{AdditionsView, all_prefixed, extended_exports, gets_one, prefixed, underscored}
+use Rattle.implib_rules.specs.Linked.{NamingView, adds_target, alias_symbol, has_target, is_among, linked_export, linked_to, new_target, symbol_of, target_import, targets_added, targets_beside, with_target, word_asked, word_of}
 use Rattle.implib_rules.specs.Names.{is_program, own_name}
 use Rattle.implib_rules.specs.Repeats.{left_out, left_out_by, repeats_behind, without_repeated}
 use Rattle.implib_rules.specs.Options.{LibraryOptionsView}
@@ -79,15 +81,51 @@ plain_left_out : (exports : List ExportView) → list_all (λ e. is_empty_text e
 unfolding without_repeated
 plain_left_out exports plain = plain_flagged (repeats_behind [] exports) exports plain
 
+module _ (machine : MachineType) (naming : NamingView) (a : AdditionsView) where
+  plain_one : (b : Bool) (target : List ℕ) (e : ExportView) → is_empty_text (if b then record e { alias_target = target } else e).symbol_name ≡ is_empty_text e.symbol_name
+  plain_one true target e = refl
+  plain_one false target e = refl
+
+  plain_underscored : (exports : List ExportView) → list_all (λ e. is_empty_text e.symbol_name) exports ≡ true
+      → list_all (λ e. is_empty_text e.symbol_name) (map (underscored machine naming a) exports) ≡ true
+  plain_underscored [] plain = refl
+  plain_underscored (e ∷ exports) plain =
+      let parts = and_parts (is_empty_text e.symbol_name) (list_all (λ (x : ExportView). is_empty_text x.symbol_name) exports) plain in
+      ap (λ b. b && list_all (λ (x : ExportView). is_empty_text x.symbol_name) (map (underscored machine naming a) exports))
+      (plain_one (not (has_target e) && gets_one a (word_of e)) (word_asked machine naming (underscore ∷ word_of e)) e ∙ parts.0)
+      ∙ plain_underscored exports parts.1
+
+  plain_further : (prefix : List ℕ) (exports : List ExportView) → list_all (λ e. is_empty_text e.symbol_name) (map (prefixed machine naming prefix) exports) ≡ true
+  plain_further prefix [] = refl
+  plain_further prefix (e ∷ exports) = plain_further prefix exports
+
+  plain_prefixed : (prefix : Option (List ℕ)) (exports : List ExportView) → list_all (λ e. is_empty_text e.symbol_name) (all_prefixed machine naming prefix exports) ≡ true
+  plain_prefixed None exports = refl
+  plain_prefixed (Some prefix) exports = plain_further prefix (filter (λ e. not e.private) exports)
+
+  plain_both : (first second : List ExportView) → list_all (λ e. is_empty_text e.symbol_name) first ≡ true → list_all (λ e. is_empty_text e.symbol_name) second ≡ true
+      → list_all (λ e. is_empty_text e.symbol_name) (first ++ second) ≡ true
+  plain_both [] second one two = two
+  plain_both (e ∷ first) second one two =
+      let parts = and_parts (is_empty_text e.symbol_name) (list_all (λ (x : ExportView). is_empty_text x.symbol_name) first) one in
+      ap (λ b. b && list_all (λ (x : ExportView). is_empty_text x.symbol_name) (first ++ second)) parts.0 ∙ plain_both first second parts.1 two
+
+  plain_extended : (exports : List ExportView) → list_all (λ e. is_empty_text e.symbol_name) exports ≡ true
+      → list_all (λ e. is_empty_text e.symbol_name) (extended_exports machine naming a exports) ≡ true
+  plain_extended exports plain =
+      plain_both (map (underscored machine naming a) exports) (all_prefixed machine naming a.prefix (map (underscored machine naming a) exports))
+      (plain_underscored exports plain) (plain_prefixed a.prefix (map (underscored machine naming a) exports))
+
 -- no export of a definition that is made by the rules has a symbol name, if none had one before
 pub plain_for : (options : LibraryOptionsView) (parsed : DefinitionView) (own : List ℕ) (program : Bool) → list_all (λ e. is_empty_text e.symbol_name) parsed.exports ≡ true
     → AllByRecursion IsPlain (public_exports (renamed (definition_for options parsed own program)))
 plain_for options parsed own program lacks =
-    let exports = without_repeated parsed.exports in
+    let more = extended_exports options.machine options.naming options.additions parsed.exports in
+    let exports = without_repeated more in
     let linked = map (linked_export options.machine options.naming options.flavor exports) exports in
     let targets = targets_added options.machine options.naming options.flavor exports in
     let plain : AllByRecursion IsPlain (linked ++ targets) =
-    all_append IsPlain linked targets (plain_linked options.machine options.naming exports options.flavor exports (plain_left_out parsed.exports lacks))
+    all_append IsPlain linked targets (plain_linked options.machine options.naming exports options.flavor exports (plain_left_out more (plain_extended options.machine options.naming options.additions parsed.exports lacks)))
     (plain_added options.machine options.naming exports options.flavor) in
     plain_public (linked ++ targets) plain
 

@@ -1,6 +1,7 @@
 pub mod Options
 pub mod Names
 pub mod Linked
+pub mod Additions
 pub mod Firsts
 pub mod Repeats
 pub mod LibraryName
@@ -17,6 +18,7 @@ pub mod Views
 pub mod ExportAsViews
 pub mod WorkedNames
 pub mod WorkedExportAs
+pub mod WorkedAdditions
 pub mod WorkedWarnings
 pub mod LibraryLaws
 pub mod BothFlavors

@@ -31,6 +31,7 @@ use Rattle.implib_rules.specs.declared.library.LibraryError.{LibraryError}
 use Rattle.implib_rules.specs.declared.library.LibraryError.TheVariants.{Refused, Writing}
 use Rattle.implib_rules.specs.declared.library.Refusal.{Refusal}
 use Rattle.implib_rules.specs.declared.library.Refusal.TheVariants.{NotUtf8, Syntax, NoName, Members, Archive, OutOfMemory}
+use Rattle.implib_rules.specs.Additions.{extended}
 use Rattle.implib_rules.specs.LibraryName.{with_library_name}
 use Rattle.implib_rules.specs.Linked.{linked}
 use Rattle.implib_rules.specs.Names.{dll_name, is_program, lacks_name, own_name}
@@ -58,14 +59,16 @@ without_mark bytes = if starts_with nat_eq bytes (0xEF ∷ 0xBB ∷ 0xBF ∷ [])
 abbrev pub definition_text : List ℕ → List ℕ
 definition_text bytes = plain_text (without_mark bytes)
 
--- the definition under the name of its DLL, without repeats, each export as it is linked, and with the name of its
+-- the definition under the name of its DLL, with what options add to its exports, without repeats, each export as it is linked, and with the name of its
 -- library
 abbrev pub definition_for : LibraryOptionsView → DefinitionView → List ℕ → Bool → DefinitionView
 definition_for options parsed own program = with_library_name options.flavor (linked options.machine options.naming options.flavor
-    (without_repeats (record parsed { import_name = dll_name options.dll own program })))
+    (without_repeats (extended options.machine options.naming options.additions
+    (record parsed { import_name = dll_name options.dll own program }))))
 
 -- The definition of a text for these options: what the text means with its words as they are written, which is what
--- it means on AMD64, under the name of the DLL, which is the one given or that of the first heading with one; of the exports of one word the first alone, each as it is linked on
+-- it means on AMD64, under the name of the DLL, which is the one given or that of the first heading with one; with what
+-- options add to its exports; of the exports of one word the first alone, each as it is linked on
 -- the machine; and with the name of its library for the linker.
 pub record DefinitionFor (text : List ℕ) (options : LibraryOptionsView) (definition : DefinitionView) : Type 0 where
   pub parsed : DefinitionView

@@ -3,6 +3,7 @@ use Rattle.std.specs.Prelude.{ℕ, List, Option, option_map}
 use Rattle.implib.specs.declared.flavor.Flavor.{Flavor}
 use Rattle.implib.specs.declared.machine.MachineType.{MachineType}
 use Rattle.implib_rules.specs.declared.options.LibraryOptions.{LibraryOptions}
+use Rattle.implib_rules.specs.Additions.{AdditionsView, additions_view}
 use Rattle.implib_rules.specs.Linked.{NamingView, naming_view}
 
 -- for which machine, linker and DLL a library is made, and how names are read
@@ -13,6 +14,8 @@ pub record LibraryOptionsView : Type 0 where
   pub dll : Option (List ℕ)
   -- how names are read on I386, and how Microsoft's linker is told what to ask for
   pub naming : NamingView
+  -- what is added to the exports
+  pub additions : AdditionsView
 
 -- the view of the options
 abbrev pub library_options_view : LibraryOptions → LibraryOptionsView
@@ -21,4 +24,5 @@ library_options_view o = record {
   flavor = o.flavor;
   dll = option_map (λ text. text.now) o.dll;
   naming = naming_view o.naming;
+  additions = additions_view o.additions;
 }

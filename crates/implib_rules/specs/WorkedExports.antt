@@ -4,6 +4,7 @@ use Rattle.implib.specs.declared.flavor.Flavor.TheVariants.{Msvc}
 use Rattle.implib.specs.declared.machine.MachineType.{MachineType}
 use Rattle.implib.specs.declared.machine.MachineType.TheVariants.{AMD64, I386}
 use Rattle.implib.specs.Definition.{DefinitionView, ExportView, empty_definition}
+use Rattle.implib_rules.specs.Additions.{no_additions}
 use Rattle.implib_rules.specs.declared.exports.ExportsRefusal.TheVariants.{NoName}
 use Rattle.implib_rules.specs.Exports.{DefinitionOfExports, IsRefusalOfExports}
 use Rattle.implib_rules.specs.Linked.{NamingView}
@@ -12,7 +13,7 @@ use Rattle.implib_rules.specs.WorkedNames.{killing, line, usual}
 
 -- the options for Microsoft's linker
 abbrev pub for_msvc : MachineType → NamingView → Option (List ℕ) → LibraryOptionsView
-for_msvc machine naming dll = record { machine = machine; flavor = Msvc; dll = dll; naming = naming }
+for_msvc machine naming dll = record { machine = machine; flavor = Msvc; dll = dll; naming = naming; additions = no_additions }
 
 -- a definition of this DLL, with this name of its library and these exports
 abbrev pub of_dll : List ℕ → Option (List ℕ) → List ExportView → DefinitionView

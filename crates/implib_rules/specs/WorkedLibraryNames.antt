@@ -8,6 +8,7 @@ use Rattle.implib.specs.declared.flavor.Flavor.TheVariants.{Msvc, Gnu}
 use Rattle.implib_archive.specs.declared.error.Fault.{Fault as ArchiveFault}
 use Rattle.implib_archive.specs.declared.kind.Kind.TheVariants.{Coff, Gnu as GnuKind}
 use Rattle.implib.specs.Definition.{DefinitionView, ExportView, empty_definition, empty_export}
+use Rattle.implib_rules.specs.Additions.{no_additions}
 use Rattle.implib_rules.specs.declared.library.Refusal.TheVariants.{NotUtf8, Syntax, NoName, Members, Archive, OutOfMemory}
 use Rattle.implib_rules.specs.Library.{definition_for, kind_for, status_of, without_mark}
 use Rattle.implib_rules.specs.LibraryName.{exports_taken, gnu_library_name, msvc_library_name}
@@ -85,7 +86,7 @@ pub record RepeatsWorked : Type 0 where
 
 -- a library for Microsoft's linker on AMD64, of the definition's own DLL
 abbrev pub for_msvc : LibraryOptionsView
-for_msvc = record { machine = AMD64; flavor = Msvc; dll = None; naming = usual }
+for_msvc = record { machine = AMD64; flavor = Msvc; dll = None; naming = usual; additions = no_additions }
 
 -- The definition of a program zoo with two exports of one word, of which the second asks for another: it is left out, and
 -- adds no target.

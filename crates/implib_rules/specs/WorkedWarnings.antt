@@ -8,6 +8,7 @@ use Rattle.implib.specs.declared.flavor.Flavor.TheVariants.{Gnu, Msvc}
 use Rattle.implib.specs.declared.machine.MachineType.TheVariants.{AMD64, I386}
 use Rattle.implib.specs.Definition.{ExportView, empty_export}
 use Rattle.implib.specs.Text.Heard.{Heard, IsHeard}
+use Rattle.implib_rules.specs.Additions.{no_additions}
 use Rattle.implib_rules.specs.declared.places.Place.{Place}
 use Rattle.implib_rules.specs.declared.places.Site.{Site}
 use Rattle.implib_rules.specs.declared.places.Site.TheVariants as site
@@ -162,10 +163,10 @@ twice_places =
 
 -- a library for Microsoft's linker on I386, with symbols as they are written, and one for GNU's, on AMD64
 abbrev pub asked_plain : LibraryOptionsView
-asked_plain = record { machine = I386; flavor = Msvc; dll = None; naming = record { is_plain = true; kills_at = false; exports_as = false } }
+asked_plain = record { machine = I386; flavor = Msvc; dll = None; naming = record { is_plain = true; kills_at = false; exports_as = false }; additions = no_additions }
 
 abbrev pub asked_gnu : LibraryOptionsView
-asked_gnu = record { machine = AMD64; flavor = Gnu; dll = None; naming = record { is_plain = false; kills_at = false; exports_as = false } }
+asked_gnu = record { machine = AMD64; flavor = Gnu; dll = None; naming = record { is_plain = false; kills_at = false; exports_as = false }; additions = no_additions }
 
 -- a library for Microsoft's linker on I386
 abbrev pub asked : Bool → Option (List ℕ) → LibraryOptionsView
@@ -174,6 +175,7 @@ asked kills_at dll = record {
   flavor = Msvc;
   dll = dll;
   naming = record { is_plain = false; kills_at = kills_at; exports_as = false };
+  additions = no_additions;
 }
 
 -- a warning at a line and a column

@@ -14,6 +14,7 @@ ghost use Rattle.implib_rules.specs.Repeats.{AreLeftOut, SymbolsAreOfWords};
 ghost use Rattle.implib_rules.specs.Warnings.{AreInOrder, RepeatsStandBefore};
 ghost use Rattle.implib_rules.specs.WorkedExports.{ExportsWorked};
 ghost use Rattle.implib_rules.specs.WorkedLibraryNames.{LibrariesWorked};
+ghost use Rattle.implib_rules.specs.WorkedAdditions.{AdditionsWorked};
 ghost use Rattle.implib_rules.specs.WorkedExportAs.{ExportAsReads, ExportAsWorked};
 ghost use Rattle.implib_rules.specs.WorkedNames.{AliasesLinked, DllsNamed};
 ghost use Rattle.implib_rules.specs.WorkedNames.{ExportsLinked, MembersInOrder};
@@ -146,6 +147,11 @@ pub fn plain_texts_worked()
 /// The forms of definitions have the warnings that were worked by hand.
 pub fn text_warnings_worked()
     ensures { TextWarningsWorked }
+{}
+
+/// What options add to exports is as was worked by hand.
+pub fn additions_worked()
+    ensures { AdditionsWorked }
 {}
 
 /// Libraries with third texts have the symbols and bytes that were worked by hand.

@@ -8,6 +8,7 @@
 //! stands is in [`places`]. Exports that are given without a text have their members by [`exports`].
 #![tactic(auto)]
 
+pub mod additions;
 pub mod aliases;
 pub mod export_as;
 pub mod exports;

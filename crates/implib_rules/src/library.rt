@@ -20,6 +20,7 @@ ghost use Rattle.implib_rules.specs.Order.{AreInOrder};
 ghost use Rattle.implib_rules.specs.Options.{library_options_view};
 ghost use Rattle.std.specs.Prelude.{◌≡◌, IfErr, IfOk, MatchOption, None, OnOk, Some, false, length, map, true};
 
+use crate::additions::extend_exports;
 use crate::aliases::link_with_targets;
 use crate::export_as::{keep_exports, laters_of, place};
 use crate::library_name::{library_name_for, linked_dll};
@@ -137,7 +138,7 @@ impl From<io::Error> for LibraryError {
 }
 
 /// A definition by the rules of `dlltool`, under the name of the DLL that is given, or else its own:
-/// of the exports of one word the first alone, each as it is linked on the machine, and with the name
+/// with what the options add to its exports, of the exports of one word the first alone, each as it is linked on the machine, and with the name
 /// of its library for the linker. There is none where neither name is one.
 ///
 /// # Errors
@@ -160,6 +161,13 @@ pub(crate) fn by_rules(
         return Ok(None);
     }
     def.import_name = dll_name(alloc, options.dll, own, is_program)?;
+    extend_exports(
+        alloc,
+        options.machine,
+        options.naming,
+        &options.additions,
+        &mut def.exports,
+    )?;
     leave_out_repeats(alloc, &mut def.exports)?;
     link_with_targets(
         alloc,

@@ -92,7 +92,7 @@ fn killed(word: &str) -> &str
 }
 
 // What the DLL is asked for, for a word.
-fn word_asked(machine: MachineType, naming: Naming, word: &str) -> &str
+pub(crate) fn word_asked(machine: MachineType, naming: Naming, word: &str) -> &str
     ensures { result.now ≡ word_asked machine (naming_view naming) word.now }
 {
     if machine.has_leading_underscore() && naming.kills_at {

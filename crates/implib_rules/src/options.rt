@@ -1,5 +1,6 @@
 //! For which linker a library is, and how.
 
+use crate::additions::Additions;
 use crate::linked::Naming;
 use implib::{Flavor, MachineType};
 
@@ -14,4 +15,6 @@ pub struct LibraryOptions<'a> {
     pub dll: Option<&'a str>,
     /// How names are read on I386, and how Microsoft's linker is told what to ask for.
     pub naming: Naming,
+    /// What is added to the exports.
+    pub additions: Additions<'a>,
 }

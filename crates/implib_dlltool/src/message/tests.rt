@@ -16,6 +16,7 @@ fn options_are_told_by_their_names(rt: HostRuntime) -> Result<(), Fail> {
         (Setting::Assembler, "-S"),
         (Setting::AssemblerFlags, "-f"),
         (Setting::TemporaryPrefix, "-t"),
+        (Setting::FurtherPrefix, "-p"),
     ] {
         let shown = format!(in rt.alloc(); "{setting}")?;
         assert_eq!(rt; shown.as_str(), name);

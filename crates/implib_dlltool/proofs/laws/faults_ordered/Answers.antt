@@ -22,6 +22,10 @@ worked = record {
   usual_by_the_last = refl;
   plain_elsewhere = refl;
   usual_elsewhere = refl;
+  prefix_added = refl;
+  underscore_added = refl;
+  stdcall_underscore_added = refl;
+  nothing_added = refl;
   exports_as_anywhere = refl;
   exports_as_and_kills = refl;
 }
