@@ -245,13 +245,13 @@ fn msvc_members_exported_as(mut def: ModuleDef, machine: MachineType) -> Result<
     keep_exports(alloc, &mut def.exports)?;
     let lists = MsvcImportLibrary::new(def, machine).member_lists()?;
     let MemberLists {
-        header: mut members,
+        header: mut all,
         mut imports,
         aliases,
     } = lists;
-    members.append(&mut imports)?;
-    place(laters?, aliases, &mut members)?;
-    Ok(members)
+    all.append(&mut imports)?;
+    place(laters?, aliases, &mut all)?;
+    Ok(all)
 }
 
 // The members for GNU's linker.

@@ -78,7 +78,7 @@ impl<'a> fmt::Display for FaultMessage<'a> {
             }
             Fault::NoNameType(_) => f.write_str(
                 "not supported for Microsoft's linker: the export asks the DLL for another name \
-                 than its symbol's; --flavor gnu can",
+                 than its symbol's; --export-as or --flavor gnu can",
             ),
             Fault::MemberTooLong => f.write_str("a member would have 4 GiB or more"),
         }

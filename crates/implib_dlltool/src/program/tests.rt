@@ -149,7 +149,7 @@ fn wrong_calls_are_told(rt: HostRuntime) -> Result<(), Fail> {
 fn other_names_are_refused_or_asked(rt: HostRuntime) -> Result<(), Fail> {
     let null = "-:4:2: a name of the export has a null byte\n";
     let other = "-:4:2: not supported for Microsoft's linker: the export asks the DLL for another \
-                 name than its symbol's; --flavor gnu can\n";
+                 name than its symbol's; --export-as or --flavor gnu can\n";
     let killed = "LIBRARY zoo\nEXPORTS\n a @5\n _b@4 @6\n";
     for (text, flavor, status, said) in [
         ("LIBRARY zoo\nEXPORTS\n a @5\n b == c\n", "msvc", 0, ""),
