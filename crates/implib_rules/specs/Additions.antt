@@ -1,13 +1,13 @@
 -- What options add to the exports of a definition: an underscore to the names that the DLL is asked for, and an export
 -- with a prefix beside each (the rules of GNU dlltool; docs/DLLTOOL.md).
 use Rattle.std.specs.Prelude.{ℕ, Bool, false, ◌&&◌, ◌||◌, not, List, [], ◌∷◌, ◌++◌, Option, None, Some, if◌then◌else◌, map}
-use Rattle.std.specs.List.{filter}
+use Rattle.std.specs.List.{filter, list_any}
 use Rattle.std.specs.Option.{option_map}
 use Rattle.implib.specs.declared.machine.MachineType.{MachineType}
 use Rattle.implib.specs.Ascii.{at_sign, begins_with, underscore}
 use Rattle.implib.specs.Definition.{DefinitionView, ExportView, empty_export}
 use Rattle.implib_rules.specs.declared.additions.Additions.{Additions}
-use Rattle.implib_rules.specs.Linked.{NamingView, export_asked, has_at_sign, has_target, symbol_linked, word_asked, word_of}
+use Rattle.implib_rules.specs.Linked.{NamingView, export_asked, has_target, is_at_sign, symbol_linked, word_asked, word_of}
 
 -- what is added
 pub record AdditionsView : Type 0 where
@@ -32,7 +32,7 @@ no_additions = record { prefix = None; underscore = false; stdcall_underscore = 
 
 -- whether the name asked for a word gets an underscore; one of fastcall gets none
 abbrev pub gets_one : AdditionsView → List ℕ → Bool
-gets_one a word = not (begins_with at_sign word) && (a.underscore || (a.stdcall_underscore && has_at_sign word))
+gets_one a word = not (begins_with at_sign word) && (a.underscore || (a.stdcall_underscore && list_any is_at_sign word))
 
 -- An export of a word that gets an underscore: as if it were written with the word that it asks for then. Under `-k`
 -- the name is cut after that. What follows `==` is asked for as it is written.

@@ -4,7 +4,8 @@ ghost use Rattle.implib.specs.Definition.{export_view};
 ghost use Rattle.implib_rules.specs.Additions.{additions_view, all_prefixed, extended_exports};
 ghost use Rattle.implib_rules.specs.Additions.{no_additions};
 ghost use Rattle.implib_rules.specs.Additions.{gets_one, prefixed, underscored};
-ghost use Rattle.implib_rules.specs.Linked.{has_at_sign, naming_view};
+ghost use Rattle.implib_rules.specs.Linked.{is_at_sign, naming_view};
+ghost use Rattle.std.specs.List.{list_any};
 ghost use Rattle.std.specs.Prelude.{◌≡◌, IfOk, OnOk, Some, map};
 
 use crate::linked::{Naming, asked_of, symbol_linked, word_asked, word_of};
@@ -38,9 +39,14 @@ impl<'a> Additions<'a> {
 
 // Whether a word has an `@`.
 fn has_at_sign(word: &[u8]) -> bool
-    ensures { result ≡ has_at_sign word.now }
+    ensures { result ≡ list_any is_at_sign word.now }
 {
-    word.iter().position(|byte| *byte == b'@').is_some()
+    for byte in word {
+        if *byte == b'@' {
+            return true;
+        }
+    }
+    false
 }
 
 // Whether the name asked for a word gets an underscore.
