@@ -13,6 +13,8 @@ pub mod Heard
 pub mod Warnings
 pub mod TextWarnings
 pub mod Views
+pub mod Utf8
+pub mod WorkedUtf8
 pub mod WorkedNames
 pub mod WorkedWarnings
 pub mod LibraryLaws
