@@ -14,7 +14,12 @@ pub mod Heard
 pub mod Warnings
 pub mod TextWarnings
 pub mod Views
+<<<<<<< HEAD
 pub mod ExportAsViews
+=======
+pub mod Utf8
+pub mod WorkedUtf8
+>>>>>>> utf8
 pub mod WorkedNames
 pub mod WorkedExportAs
 pub mod WorkedWarnings
