@@ -70,7 +70,7 @@ enum implib_status {
     IMPLIB_SUCCESS = 0,
     IMPLIB_BUFFER_TOO_SMALL = 1, /* *length is the length that is needed */
     IMPLIB_OUT_OF_MEMORY = 2,    /* an allocation failed; the call can be repeated */
-    IMPLIB_NOT_UTF8 = 3,         /* *place is the length of the longest beginning that is UTF-8 */
+    IMPLIB_NOT_UTF8 = 3,         /* *place is the offset of the first byte that is not UTF-8 */
     IMPLIB_UNKNOWN_MACHINE = 4,
     IMPLIB_UNKNOWN_FLAVOR = 5,
 
@@ -156,8 +156,8 @@ struct implib_options {
  * text         the definition, in UTF-8 but for comments, with a byte order mark or none, without a NUL at its end
  * length       gets the length of the library in bytes, where the status is IMPLIB_SUCCESS or
  *              IMPLIB_BUFFER_TOO_SMALL; else 0
- * place        gets an offset in the text, for implib_position: where it is not UTF-8, the token at which it is
- *              refused, or the name of the export that is at fault; else 0
+ * place        gets an offset in the text, for implib_position: of the first byte that is not UTF-8, comments
+ *              apart, of the token at which it is refused, or of the name of the export that is at fault; else 0
  *
  * The buffer is as of implib_library. Options are refused before the text, the machine first, then the flavour,
  * the flags and the name.
@@ -332,8 +332,8 @@ static inline uint32_t implib_definition(const uint8_t *text, size_t text_length
 
 /*
  * Gives the line and the column of an offset in a text, as *place is one, both from 1. A line ends behind its
- * line feed, and a column counts bytes. An offset behind the longest beginning of the text that is UTF-8 has
- * the position of its end.
+ * line feed, and a column counts bytes, whatever they are, but not those of a byte order mark. An offset behind
+ * the end of the text has the position of the end. So the place of a refused text is where implib_dlltool writes.
  */
 static inline void implib_position(const uint8_t *text, size_t text_length, size_t offset, size_t *line,
                                    size_t *column);

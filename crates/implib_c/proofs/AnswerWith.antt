@@ -86,7 +86,7 @@ module _ (text : List ℕ) (options : LibraryOptionsView) (old : List ℕ) where
 
   -- why bytes have no members is why they have no library
   of_bytes : (why : Refusal) → IsRefusalOfMembers text options why → IsRefusalOfBytes text options why
-  of_bytes refusal.NotUtf8 is = is
+  of_bytes (refusal.NotUtf8 position) is = is
   of_bytes (refusal.Syntax fault position) is = is
   of_bytes refusal.NoName is = is
   of_bytes (refusal.Members fault position) is = is

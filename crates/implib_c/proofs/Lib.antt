@@ -21,3 +21,4 @@ pub mod AnswerWith
 pub mod AnswerOf
 pub mod GivenExports
 pub mod WrittenAlike
+pub mod PlacesOfRefusals

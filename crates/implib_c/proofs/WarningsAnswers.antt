@@ -20,7 +20,7 @@ use Rattle.implib_rules.specs.Options.{LibraryOptionsView}
 
 -- a refusal of warnings is within its text
 pub within_text : (text : List ℕ) (options : LibraryOptionsView) (why : Refusal) → HasNoWarnings text options why → IsWithin text why
-within_text text options refusal.NotUtf8 is = tt
+within_text text options (refusal.NotUtf8 position) is = refusal_within text options (refusal.NotUtf8 position) is
 within_text text options (refusal.Syntax fault position) is = refusal_within text options (refusal.Syntax fault position) is
 within_text text options refusal.NoName is = absurd is
 within_text text options (refusal.Members fault position) is = absurd is

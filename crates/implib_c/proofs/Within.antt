@@ -81,7 +81,7 @@ export_within text (Some index) position at =
 
 -- a refusal of members is within its text
 pub refusal_within : (text : List ℕ) (options : LibraryOptionsView) (why : Refusal) → IsRefusalOfMembers text options why → IsWithin text why
-refusal_within text options refusal.NotUtf8 is = tt
+refusal_within text options (refusal.NotUtf8 position) is = let short = is.longest.short in omega (arith, short)
 refusal_within text options (refusal.Syntax fault position) is = refused_within (definition_text text) (cause_of fault) position.offset is.refused.0
 refusal_within text options refusal.NoName is = tt
 refusal_within text options (refusal.Members fault position) is = export_within (definition_text text) (export_index (cause_of fault)) position is.1

@@ -85,7 +85,7 @@ archive_fails archive.TooManyMembers e = omega (arith, e)
 archive_fails archive.ArchiveTooLong e = omega (arith, e)
 
 refusal_fails : (why : Refusal) → 0 ≡ status_number (refusal_status why) → ⊥
-refusal_fails refusal.NotUtf8 e = omega (arith, e)
+refusal_fails (refusal.NotUtf8 position) e = omega (arith, e)
 refusal_fails (refusal.Syntax fault position) e = cause_fails (cause_of fault) e
 refusal_fails refusal.NoName e = omega (arith, e)
 refusal_fails (refusal.Members fault position) e = cause_fails (cause_of fault) e

@@ -37,7 +37,7 @@ pub record PutsLibrary (text : List ℕ) (options : LibraryOptionsView) (old new
 
 -- the offset of a refusal is one of the text without its byte order mark, or of its end
 abbrev pub IsWithin : List ℕ → Refusal → Type 0
-IsWithin text refusal.NotUtf8 = Unit {0}
+IsWithin text (refusal.NotUtf8 position) = position.offset ≤ length (definition_text text)
 IsWithin text (refusal.Syntax fault position) = position.offset ≤ length (definition_text text)
 IsWithin text refusal.NoName = Unit {0}
 IsWithin text (refusal.Members fault position) = position.offset ≤ length (definition_text text)

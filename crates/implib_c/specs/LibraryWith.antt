@@ -5,7 +5,6 @@ use Rattle.std.specs.Prelude.{Option, None, Some, IfSome, nat_eq, if◌then◌el
 use Rattle.std.specs.List.{starts_with}
 use Rattle.std.specs.Option.{IsSome}
 use Rattle.std.specs.Str.{IsUtf8}
-use Rattle.std.specs.Str.Lossy.{utf8_valid_len}
 use Rattle.implib.specs.Conversions.{machine_numbered}
 use Rattle.implib.specs.Fault.{cause_of, export_index}
 use Rattle.implib_rules.specs.Additions.{no_additions}
@@ -107,7 +106,7 @@ option_status DllNotUtf8 = status.DllNotUtf8
 
 -- the status of a refused text
 abbrev pub refusal_status : Refusal → Status
-refusal_status refusal.NotUtf8 = status.NotUtf8
+refusal_status (refusal.NotUtf8 position) = status.NotUtf8
 refusal_status (refusal.Syntax fault position) = cause_status (cause_of fault)
 refusal_status refusal.NoName = status.NoDllName
 refusal_status (refusal.Members fault position) = cause_status (cause_of fault)
@@ -137,10 +136,10 @@ abbrev pub place_of_export : ℕ → Option ℕ → ℕ
 place_of_export offset None = 0
 place_of_export offset (Some index) = offset
 
--- What is at fault, as an offset in the text, whose byte order mark counts: in a text that is not UTF-8 the
--- end of what is; the token that is a syntax error; the name of an export, where the fault is one's; else 0.
+-- What is at fault, as an offset in the text, whose byte order mark counts: the first byte that is not UTF-8; the
+-- token that is a syntax error; the name of an export, where the fault is one's; else 0.
 abbrev pub place_of_refusal : List ℕ → Refusal → ℕ
-place_of_refusal text refusal.NotUtf8 = utf8_valid_len text
+place_of_refusal text (refusal.NotUtf8 position) = mark_length text + position.offset
 place_of_refusal text (refusal.Syntax fault position) = mark_length text + position.offset
 place_of_refusal text refusal.NoName = 0
 place_of_refusal text (refusal.Members fault position) =

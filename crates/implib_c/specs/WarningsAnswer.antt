@@ -58,7 +58,7 @@ pub record HasWarnings (text : List ℕ) (options : LibraryOptionsView) (said : 
 
 -- the text is no definition, or memory was refused
 abbrev pub HasNoWarnings : List ℕ → LibraryOptionsView → Refusal → Type 0
-HasNoWarnings text options refusal.NotUtf8 = IsRefusalOfMembers text options refusal.NotUtf8
+HasNoWarnings text options (refusal.NotUtf8 position) = IsRefusalOfMembers text options (refusal.NotUtf8 position)
 HasNoWarnings text options (refusal.Syntax fault position) = IsRefusalOfMembers text options (refusal.Syntax fault position)
 HasNoWarnings text options refusal.NoName = ⊥
 HasNoWarnings text options (refusal.Members fault position) = ⊥

@@ -5,6 +5,7 @@ use Rattle.std.specs.Prelude.{◌≡◌, ℕ, List, None, Some, codes, true, fal
 use Rattle.implib.specs.declared.flavor.Flavor.TheVariants.{Msvc, Gnu}
 use Rattle.implib.specs.declared.machine.MachineType.TheVariants.{I386, ARMNT, AMD64, ARM64}
 use Rattle.implib.specs.declared.def.lexer.TokenKind.{TokenKind}
+use Rattle.implib.specs.declared.def.position.Position.{Position}
 use Rattle.implib.specs.Conversions.{machine_numbered}
 use Rattle.implib.specs.Fault as cause
 use Rattle.implib.specs.Members.MemberSpec.{MemberView}
@@ -79,7 +80,7 @@ pub record WorkedNumbersWith : Type 0 where
   pub made : (file : List ℕ) → number_with (options.Made file) ≡ 0
   pub too_long : (file : List ℕ) → number_with (options.TooLong file) ≡ 1
   pub out_of_memory : number_with (options.Refused refusal.OutOfMemory) ≡ 2
-  pub not_utf8 : number_with (options.Refused refusal.NotUtf8) ≡ 3
+  pub not_utf8 : (position : Position) → number_with (options.Refused (refusal.NotUtf8 position)) ≡ 3
   pub unknown_machine : number_with (options.NoOptions options.UnknownMachine) ≡ 4
   pub unknown_flavor : number_with (options.NoOptions options.UnknownFlavor) ≡ 5
   pub line_end_in_member_name : number_with (options.Refused (refusal.Archive archive.LineEndInName)) ≡ 31

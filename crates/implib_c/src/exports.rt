@@ -100,10 +100,10 @@ pub extern "C" fn implib_library_nonnull(
 /// `-k`, and 2 for `--no-leading-underscore`.
 ///
 /// `length` gets the length of the library in bytes, where the status is 0 or 1 (the buffer is too
-/// small), and otherwise 0. `place` gets an offset in the text: the length of the longest beginning
-/// that is UTF-8, where the text is not; that of the token at which it is refused; that of the name
-/// of the export that is at fault; and otherwise 0. Where the status is not 0 the buffer is as it
-/// was, and where it is 0, what follows the library.
+/// small), and otherwise 0. `place` gets an offset in the text: that of the first byte that is not
+/// UTF-8; that of the token at which it is refused; that of the name of the export that is at
+/// fault; and otherwise 0. Where the status is not 0 the buffer is as it was, and where it is 0,
+/// what follows the library.
 #[unsafe(no_mangle)]
 pub extern "C" fn implib_library_with_nonnull(
     alloc: Global,
@@ -183,8 +183,8 @@ pub extern "C" fn implib_definition_nonnull(
 /// warning is; they are those that the program writes.
 ///
 /// `length` gets the length of the encoding in bytes, where the status is 0 or 1 (the buffer is too
-/// small), and otherwise 0. `place` gets an offset in the text: the length of the longest beginning
-/// that is UTF-8, where the text is not; that of the token at which it is refused; and otherwise 0.
+/// small), and otherwise 0. `place` gets an offset in the text: that of the first byte that is not
+/// UTF-8; that of the token at which it is refused; and otherwise 0.
 /// Where the status is not 0 the buffer is as it was, and where it is 0, what follows the encoding.
 #[unsafe(no_mangle)]
 pub extern "C" fn implib_warnings_nonnull(
@@ -210,8 +210,8 @@ pub extern "C" fn implib_warnings_nonnull(
 /// Puts the line and the column of an offset in a text into `line` and `column`, both from 1. A line
 /// ends after its line feed, and a column counts bytes.
 ///
-/// The end of the longest beginning of the text that is UTF-8 has a position, too. A greater offset
-/// has the position of this end.
+/// A byte order mark has no columns. The end of the text has a position, too, and a greater offset
+/// has this position. The text may be of any bytes.
 #[unsafe(no_mangle)]
 pub extern "C" fn implib_position_nonnull(
     text: &[u8],

@@ -5,6 +5,7 @@ ghost use Rattle.implib.specs.Members.MemberSpec.{MemberView};
 ghost use Rattle.implib_c.specs.Definition.{ReadsDefinitionBack, StatedDefinition};
 ghost use Rattle.implib_c.specs.Encoding.{ReadsBack};
 ghost use Rattle.implib_c.specs.LibraryOf.{GivenExport, exports_given};
+ghost use Rattle.implib_c.specs.Place.{PlacesAreOfRefusals};
 ghost use Rattle.implib_c.specs.Status.{NumbersReturn};
 ghost use Rattle.implib_c.specs.Warnings.{ReadsWarningsBack, Said};
 ghost use Rattle.implib_c.specs.WorkedDefinition.{WorkedDefinitions};
@@ -57,6 +58,11 @@ pub fn numbers_return()
 /// Offsets in texts that were worked by hand have these lines and columns.
 pub fn worked_places()
     ensures { WorkedPlaces }
+{}
+
+/// Line and column of the place that C has of a refused text are those of the refusal.
+pub fn places_are_of_refusals()
+    ensures { PlacesAreOfRefusals }
 {}
 
 /// Statuses, their texts, machines, flavours and the version have these numbers, each written out.

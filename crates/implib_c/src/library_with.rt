@@ -10,7 +10,6 @@ ghost use Rattle.implib_rules.specs.Linked.{naming_view};
 ghost use Rattle.implib_rules.specs.Options.{library_options_view};
 ghost use Rattle.std.specs.Option.{option_map};
 ghost use Rattle.std.specs.Prelude.{◌≡◌, ◌+◌, ◌<◌, ◌^◌, Err, IfErr, IfOk};
-ghost use Rattle.std.specs.Str.Lossy.{utf8_valid_len};
 
 use crate::outcome::{Failure, flavor_with, machine_with, pack_into};
 use implib_rules::library::{Refusal, kind_for, members_for};
@@ -101,16 +100,6 @@ pub fn mark_length(text: &[u8]) -> usize
     }
 }
 
-// The length of the longest beginning of a text that is UTF-8.
-fn valid_length(text: &[u8]) -> usize
-    ensures { result ≡ utf8_valid_len text.now }
-{
-    match str::from_utf8(text) {
-        Ok(text) => text.len(),
-        Err(error) => error.valid_up_to(),
-    }
-}
-
 /// What a refusal of a text becomes: its offset is in the text with its byte order mark.
 pub fn failure_in(text: &[u8], refusal: Refusal) -> Failure
     requires { IsWithin text.now refusal }
@@ -119,7 +108,7 @@ pub fn failure_in(text: &[u8], refusal: Refusal) -> Failure
     ensures place { place_given (Err result) ≡ place_of_refusal text.now refusal }
 {
     match refusal {
-        Refusal::NotUtf8 => Failure::NotUtf8(valid_length(text)),
+        Refusal::NotUtf8(position) => Failure::NotUtf8(mark_length(text) + position.offset),
         Refusal::Syntax(fault, position) => {
             Failure::SyntaxError(fault, mark_length(text) + position.offset)
         }

@@ -1,24 +1,18 @@
 //! Lines and columns of offsets in a text.
 
 ghost use Rattle.implib.specs.Text.Position.{position_at};
-ghost use Rattle.std.specs.Prelude.{◌≡◌, take};
-ghost use Rattle.std.specs.Str.Lossy.{utf8_valid_len};
+ghost use Rattle.implib_c.specs.LibraryWith.{mark_length};
+ghost use Rattle.implib_rules.specs.Library.{without_mark};
+ghost use Rattle.std.specs.Prelude.{◌≡◌, ◌-◌};
 
+use crate::library_with::mark_length;
 use implib::def::Position;
+use implib_rules::places::position_in;
+use implib_rules::text::without_mark;
 
-// The longest beginning that is UTF-8.
-fn valid_front(text: &[u8]) -> &str
-    ensures { result.now ≡ take (utf8_valid_len text.now) text.now }
-{
-    match text.utf8_chunks().next() {
-        Some(chunk) => chunk.valid(),
-        None => "",
-    }
-}
-
-/// The position of an offset in the longest beginning of the text that is UTF-8.
+/// The position of an offset in a text, without its byte order mark.
 pub fn position_of(text: &[u8], offset: usize) -> Position
-    ensures { result ≡ position_at (take (utf8_valid_len text.now) text.now) offset }
+    ensures { result ≡ position_at (without_mark text.now) (offset - mark_length text.now) }
 {
-    Position::at(valid_front(text), offset)
+    position_in(without_mark(text), offset.saturating_sub(mark_length(text)))
 }

@@ -529,13 +529,15 @@ fn a_line_feed_in_a_name_has_no_archive_of_the_gnu_kind(rt: HostRuntime) -> Resu
 }
 
 // Texts with an offset, and its line and column.
-const POSITIONS: [(&[u8], usize, usize, usize); 8] = [
+const POSITIONS: [(&[u8], usize, usize, usize); 10] = [
     (b"", 0, 1, 1),
     (b"", 9, 1, 1),
     (b"LIBRARY zoo.dll\nOTHER", 16, 2, 1),
     (b"LIBRARY zoo.dll\r\nEXPORTS\r\n\tfeed ==", 32, 3, 7),
     (b"LIBRARY zoo.dll\n\xFF", 16, 2, 1),
-    (b"LIBRARY zoo.dll\n\xFF\n\n", 19, 2, 1),
+    (b"LIBRARY zoo.dll\n\xFF\n\n", 19, 4, 1),
+    (b"; \xE9\nLIBRARY zoo.dll\n\xFF", 20, 3, 1),
+    (b"\xEF\xBB\xBFLIBRARY \xFF", 11, 1, 9),
     (b"\xC3\xA9\nb", 1, 1, 2),
     (b"\xC3\xA9\nb", 0xFFFF_FFFF_FFFF_FFFF, 2, 2),
 ];

@@ -142,8 +142,9 @@ fn read_warnings(
     ensures refused { IfErr result (HasNoWarnings text.now (library_options_view options.now)) }
 {
     let read = DefinitionText::new(alloc, text)?;
-    let Some(words) = read.text() else {
-        return Err(Refusal::NotUtf8);
+    let words = match read.text() {
+        Ok(words) => words,
+        Err(position) => return Err(Refusal::NotUtf8(position)),
     };
     let (def, places) = match read_with_places(alloc, words) {
         Ok(read) => read,

@@ -102,7 +102,7 @@ worked_checks = record {
   arm = refl;
   aarch64 = refl;
   refused = refl;
-  not_text = refl;
+  not_text = λ position. refl;
   no_memory = refl;
 }
 

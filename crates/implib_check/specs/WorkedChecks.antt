@@ -1,5 +1,6 @@
 -- Calls that compare a library with a definition, and what a definition's library is made for, worked by hand.
 use Rattle.std.specs.Prelude.{◌≡◌, ℕ, true, false, [], ◌∷◌, None, Some, codes}
+use Rattle.implib.specs.declared.def.position.Position.{Position}
 use Rattle.implib.specs.declared.flavor.Flavor.TheVariants.{Gnu, Msvc}
 use Rattle.implib.specs.declared.machine.MachineType.TheVariants.{AMD64, ARM64, ARMNT, I386}
 use Rattle.implib.specs.Import.{Ordinal}
@@ -65,7 +66,7 @@ pub record WorkedChecks : Type 0 where
   pub aarch64 : machine_called (codes "aarch64") ≡ Some ARM64
   -- a definition that is refused has no library, so none is the same; want of memory is another matter
   pub refused : refusal_status NoName ≡ 1
-  pub not_text : refusal_status NotUtf8 ≡ 1
+  pub not_text : (position : Position) → refusal_status (NotUtf8 position) ≡ 1
   pub no_memory : refusal_status OutOfMemory ≡ 3
 
 -- an import on a machine

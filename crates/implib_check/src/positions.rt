@@ -23,7 +23,7 @@ impl Positions {
     ) -> Result<Positions, AllocError> {
         let mut by_symbol = HashMap::new(alloc);
         let read = DefinitionText::new(alloc, definition)?;
-        let Some(text) = read.text() else {
+        let Ok(text) = read.text() else {
             return Ok(Positions { by_symbol });
         };
         let Ok(def) = definition_for(alloc, text, options) else {

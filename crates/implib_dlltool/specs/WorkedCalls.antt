@@ -1,5 +1,6 @@
 -- What command lines ask for, and what is read and answered for them, worked by hand.
 use Rattle.std.specs.Prelude.{◌≡◌, ℕ, List, [], ◌∷◌, Option, true, false, None, Some, Ok, Err, codes}
+use Rattle.implib.specs.declared.def.position.Position.{Position}
 use Rattle.implib.specs.declared.flavor.Flavor.TheVariants.{Msvc, Gnu}
 use Rattle.implib.specs.declared.machine.MachineType.TheVariants.{I386, AMD64, ARM64}
 use Rattle.implib_dlltool.specs.declared.options.Setting.TheVariants.{Definition, Output, Machine, Dll}
@@ -95,7 +96,8 @@ pub record AnswersTold : Type 0 where
   pub out_of_memory : answer_status (Err (Refused OutOfMemory)) ≡ 3
   pub unwritten : (cause : WriteError) → answer_status (Err (Writing cause)) ≡ 3
   pub nothing_said : verdict (asked_for (Some (codes "b.lib"))) (Ok tt) ≡ []
-  pub refusal_said : verdict (asked_for (Some (codes "b.lib"))) (Err (Refused NotUtf8)) ≡ Refuses (codes "a.def") NotUtf8 ∷ []
+  pub refusal_said : (position : Position) → verdict (asked_for (Some (codes "b.lib"))) (Err (Refused (NotUtf8 position)))
+      ≡ Refuses (codes "a.def") (NotUtf8 position) ∷ []
   pub failure_said : (cause : WriteError) → verdict (asked_for (Some (codes "b.lib"))) (Err (Writing cause))
       ≡ Complains (codes "b.lib") OfWriting ∷ []
   pub no_text : (before after : Devices) (printed prints : Option (List ℕ)) (status : ℕ)

@@ -203,7 +203,7 @@ fn warn<T: Reporter>(
         return Ok(());
     }
     let read = DefinitionText::new(alloc, bytes)?;
-    let Some(text) = read.text() else {
+    let Ok(text) = read.text() else {
         return Ok(());
     };
     match read_with_places(alloc, text) {

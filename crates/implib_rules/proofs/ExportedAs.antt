@@ -107,7 +107,7 @@ module _ (machine : MachineType) (dll : NamesOfDll) where
     -- weak externals stay
     weak_here : (a c : Bool) (first second : MemberSpec)
         → placed ((if a then record { has_code = c; instead = None } ∷ [] else []) ++ laters)
-          (map member_of (if c then (if a then first ∷ second ∷ [] else []) else drop 1 (if a then first ∷ second ∷ [] else [])) ++ rest)
+        (map member_of (if c then (if a then first ∷ second ∷ [] else []) else drop 1 (if a then first ∷ second ∷ [] else [])) ++ rest)
         ≡ map member_of (if c then (if a then first ∷ second ∷ [] else []) else drop 1 (if a then first ∷ second ∷ [] else [])) ++ placed laters rest
     weak_here true true first second = refl
     weak_here true false first second = refl
@@ -117,7 +117,7 @@ module _ (machine : MachineType) (dll : NamesOfDll) where
     -- and a short import stands in their place
     short_here : (a c : Bool) (first second : MemberSpec) (member : MemberView) → a ≡ true
         → placed (record { has_code = c; instead = Some member } ∷ laters)
-          (map member_of (if c then (if a then first ∷ second ∷ [] else []) else drop 1 (if a then first ∷ second ∷ [] else [])) ++ rest)
+        (map member_of (if c then (if a then first ∷ second ∷ [] else []) else drop 1 (if a then first ∷ second ∷ [] else [])) ++ rest)
         ≡ member ∷ placed laters rest
     short_here true true first second member is = refl
     short_here true false first second member is = refl
@@ -154,7 +154,7 @@ module _ (machine : MachineType) (dll : NamesOfDll) where
           ≡ map member_of (flat_map (later_specs machine dll) (Public exports))
           → (p : Bool)
           → placed (flat_map (later_of machine dll) (if not p then renamed_export e ∷ Public exports else Public exports))
-            (map member_of (flat_map (alias_specs machine dll.linked) (if not p then kept (renamed_export e) ∷ KeptPublic exports else KeptPublic exports)))
+          (map member_of (flat_map (alias_specs machine dll.linked) (if not p then kept (renamed_export e) ∷ KeptPublic exports else KeptPublic exports)))
           ≡ map member_of (flat_map (later_specs machine dll) (if not p then renamed_export e ∷ Public exports else Public exports))
       by others_are true = others_are
       by others_are false =

@@ -1,10 +1,9 @@
 -- The text of a definition keeps each place.
-use Rattle.std.proofs.Common.{◌≡◌, ◌∙◌, ℕ, zero, suc, ◌+◌, ◌/◌, ◌%◌, ◌==◌, ◌&&◌, ◌||◌, Bool, true, false, List, [], ◌∷◌, Option, None, Some, length, nat_lt, take, refl, ap, sym, arith, rules}
+use Rattle.std.proofs.Common.{◌≡◌, ◌∙◌, ℕ, zero, suc, ◌+◌, ◌/◌, ◌%◌, ◌==◌, ◌&&◌, ◌||◌, Bool, true, false, List, [], ◌∷◌, Option, None, Some, length, nat_lt, take, refl, ap, sym, arith}
 use Rattle.std.specs.Prelude.{if◌then◌else◌, slice_index}
-use Rattle.std.proofs.lemmas.Grind.{common_steps}
 use Rattle.std.specs.List.{fold}
 use Rattle.implib.specs.declared.def.position.Position.{Position}
-use Rattle.implib.specs.Text.Position.{after_byte, line_and_column, position_at}
+use Rattle.implib.specs.Text.Position.{after_byte}
 use Rattle.implib.specs.Text.Token.{is_delimiter, is_line_feed}
 use Rattle.implib_rules.specs.declared.plain.Part.TheVariants.{Between, Word, Quotes, Apostrophes, Comment, Skipped, Ended, SecondSign, Blank, Digits}
 use Rattle.implib_rules.specs.declared.plain.Part.{Part}

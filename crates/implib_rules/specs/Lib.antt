@@ -16,6 +16,8 @@ pub mod Warnings
 pub mod TextWarnings
 pub mod Views
 pub mod ExportAsViews
+pub mod Utf8
+pub mod WorkedUtf8
 pub mod WorkedNames
 pub mod WorkedExportAs
 pub mod WorkedAdditions

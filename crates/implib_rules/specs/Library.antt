@@ -10,7 +10,8 @@ use Rattle.implib.specs.declared.flavor.Flavor.{Flavor}
 use Rattle.implib.specs.declared.flavor.Flavor.TheVariants.{Msvc, Gnu}
 use Rattle.implib.specs.declared.machine.MachineType.TheVariants.{AMD64}
 use Rattle.implib.specs.Definition.{DefinitionView}
-use Rattle.implib.specs.Fault.{Cause, cause_of}
+use Rattle.implib.specs.declared.def.position.Position.{Position}
+use Rattle.implib.specs.Fault.{Cause, cause_of, export_index}
 use Rattle.implib.specs.Members.Members.{AreMembersOf, refusal}
 use Rattle.implib.specs.Members.MemberSpec.{MemberView, member_of}
 use Rattle.implib.specs.Members.ReadBack.{ReadBack}
@@ -41,6 +42,7 @@ use Rattle.implib_rules.specs.Places.{IsAtFault}
 use Rattle.implib_rules.specs.Plain.{plain_text}
 use Rattle.implib_rules.specs.Repeats.{without_repeats}
 use Rattle.implib_rules.specs.Options.{LibraryOptionsView}
+use Rattle.implib_rules.specs.Utf8.{IsNotUtf8At}
 
 -- the refusals of errors of the libraries
 abbrev pub parse_refusal : ParseError → Refusal
@@ -88,7 +90,7 @@ pub record LacksName (text : List ℕ) (options : LibraryOptionsView) : Type 0 w
 
 -- why a text has no definition for these options
 abbrev pub IsRefusalOfText : List ℕ → LibraryOptionsView → Refusal → Type 0
-IsRefusalOfText text options NotUtf8 = ⊥
+IsRefusalOfText text options (NotUtf8 position) = ⊥
 IsRefusalOfText text options (Syntax fault position) =
     RefusesAt text (cause_of fault) position.offset × (position ≡ position_at text position.offset)
 IsRefusalOfText text options NoName = LacksName text options
@@ -121,7 +123,7 @@ pub record RefusesText (bytes : List ℕ) (options : LibraryOptionsView) (why : 
 
 -- why bytes have no members
 abbrev pub IsRefusalOfMembers : List ℕ → LibraryOptionsView → Refusal → Type 0
-IsRefusalOfMembers bytes options NotUtf8 = ¬ (IsUtf8 (definition_text bytes))
+IsRefusalOfMembers bytes options (NotUtf8 position) = IsNotUtf8At (definition_text bytes) position
 IsRefusalOfMembers bytes options (Syntax fault position) = RefusesText bytes options (Syntax fault position)
 IsRefusalOfMembers bytes options NoName = RefusesText bytes options NoName
 IsRefusalOfMembers bytes options (Members fault position) =
@@ -160,7 +162,7 @@ pub record RefusesArchive (bytes : List ℕ) (options : LibraryOptionsView) (fau
 
 -- why bytes have no library
 abbrev pub IsRefusalOfBytes : List ℕ → LibraryOptionsView → Refusal → Type 0
-IsRefusalOfBytes bytes options NotUtf8 = IsRefusalOfMembers bytes options NotUtf8
+IsRefusalOfBytes bytes options (NotUtf8 position) = IsRefusalOfMembers bytes options (NotUtf8 position)
 IsRefusalOfBytes bytes options (Syntax fault position) = IsRefusalOfMembers bytes options (Syntax fault position)
 IsRefusalOfBytes bytes options NoName = IsRefusalOfMembers bytes options NoName
 IsRefusalOfBytes bytes options (Members fault position) = IsRefusalOfMembers bytes options (Members fault position)
@@ -191,3 +193,17 @@ IfBrokenOff result so = IfErr result (λ error. elim error [ Refused refusal ↦
 abbrev pub status_of : Refusal → ℕ
 status_of OutOfMemory = 3
 status_of _ = 1
+
+-- where a fault of an export is
+abbrev pub position_of_export : Position → Option ℕ → Option Position
+position_of_export position None = None
+position_of_export position (Some index) = Some position
+
+-- where a refusal is, if it is not of the whole definition
+abbrev pub position_of : Refusal → Option Position
+position_of (NotUtf8 position) = Some position
+position_of (Syntax fault position) = Some position
+position_of NoName = None
+position_of (Members fault position) = position_of_export position (export_index (cause_of fault))
+position_of (Archive fault) = None
+position_of OutOfMemory = None

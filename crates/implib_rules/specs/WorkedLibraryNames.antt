@@ -1,7 +1,7 @@
 -- Names of libraries, repeats that are left out, a whole definition, kinds of archives, exit statuses and byte order
 -- marks, worked by hand.
 -- The digits are those of md5sum.
-use Rattle.std.specs.Prelude.{◌≡◌, ℕ, true, false, List, [], ◌∷◌, Option, None, Some, codes, map}
+use Rattle.std.specs.Prelude.{◌≡◌, ℕ, true, List, [], ◌∷◌, Option, None, Some, codes, map}
 use Rattle.implib.specs.declared.def.position.Position.{Position}
 use Rattle.implib.specs.declared.error.Fault.{Fault}
 use Rattle.implib.specs.declared.flavor.Flavor.TheVariants.{Msvc, Gnu}
@@ -104,7 +104,7 @@ pub record KindsChosen : Type 0 where
 
 -- the exit status for each refusal
 pub record StatusesChosen : Type 0 where
-  pub not_utf8 : status_of NotUtf8 ≡ 1
+  pub not_utf8 : (position : Position) → status_of (NotUtf8 position) ≡ 1
   pub syntax : (fault : Fault) (position : Position) → status_of (Syntax fault position) ≡ 1
   pub no_name : status_of NoName ≡ 1
   pub members : (fault : Fault) (position : Position) → status_of (Members fault position) ≡ 1

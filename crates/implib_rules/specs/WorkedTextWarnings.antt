@@ -1,5 +1,5 @@
 -- Warnings of the form of a text, worked by hand.
-use Rattle.std.specs.Prelude.{◌≡◌, ℕ, List, [], ◌∷◌, ◌++◌, codes}
+use Rattle.std.specs.Prelude.{◌≡◌, ℕ, [], ◌∷◌, ◌++◌, codes}
 use Rattle.implib_rules.specs.TextWarnings.{text_warnings}
 use Rattle.implib_rules.specs.Warnings.{EndsEarly, IsSkipped, NoticeView, WarningView}
 use Rattle.implib_rules.specs.WorkedWarnings.{at_line}

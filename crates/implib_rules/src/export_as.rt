@@ -91,10 +91,7 @@ fn keep(alloc: Global, export: &mut ShortExport) -> Result<(), AllocError>
 /// # Errors
 ///
 /// An allocation failed; then some exports may be as they were.
-pub(crate) fn keep_exports(
-    alloc: Global,
-    exports: &mut Vec<ShortExport>,
-) -> Result<(), AllocError>
+pub(crate) fn keep_exports(alloc: Global, exports: &mut Vec<ShortExport>) -> Result<(), AllocError>
     ensures { OnOk result (map export_view exports.new.items
         ≡ map kept (map export_view exports.old.items)) }
 {
@@ -111,7 +108,9 @@ fn export_as_size(symbol: &str, dll: &str, name: &str) -> Option<u32>
     ensures too_long { IfNone result (u32.MAX
         < HEADER_SIZE + (length symbol.now + (length dll.now + length name.now) + NULS)) }
 {
-    let texts = symbol.len().checked_add(dll.len().checked_add(name.len())?)?;
+    let texts = symbol
+        .len()
+        .checked_add(dll.len().checked_add(name.len())?)?;
     let size = texts.checked_add(HEADER_SIZE + NULS)?;
     u32::try_from(size).ok()
 }

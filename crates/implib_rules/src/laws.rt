@@ -19,8 +19,10 @@ ghost use Rattle.implib_rules.specs.WorkedExportAs.{ExportAsReads, ExportAsWorke
 ghost use Rattle.implib_rules.specs.WorkedNames.{AliasesLinked, DllsNamed};
 ghost use Rattle.implib_rules.specs.WorkedNames.{ExportsLinked, MembersInOrder};
 ghost use Rattle.implib_rules.specs.PlainLaws.{PlacesAreKept};
+ghost use Rattle.implib_rules.specs.Utf8.{TextsAreNotUtf8Once};
 ghost use Rattle.implib_rules.specs.WorkedPlain.{PlainTextsWorked};
 ghost use Rattle.implib_rules.specs.WorkedTextWarnings.{TextWarningsWorked};
+ghost use Rattle.implib_rules.specs.WorkedUtf8.{BytesFound};
 ghost use Rattle.implib_rules.specs.WorkedWarnings.{PlacesWorked, WarningsWorked, WordsJudged};
 ghost use Rattle.std.specs.Prelude.{◌≡◌, ℕ, None, false};
 
@@ -162,4 +164,15 @@ pub fn export_as_worked()
 /// A short import with a third text is read as the import of its export.
 pub fn export_as_reads()
     ensures { ExportAsReads }
+{}
+
+/// A text that is not UTF-8 is so at one position, which is computed: after its longest beginning
+/// that is.
+pub fn texts_are_not_utf8_once()
+    ensures { TextsAreNotUtf8Once }
+{}
+
+/// Definitions are not UTF-8 where it was worked by hand.
+pub fn bytes_found()
+    ensures { BytesFound }
 {}

@@ -41,8 +41,8 @@ use std::{io, mem};
 /// Why a definition has no import library here.
 #[derive(Debug, Drop)]
 pub enum Refusal {
-    /// The definition is not UTF-8.
-    NotUtf8,
+    /// The definition is not UTF-8: its first byte that is not is here.
+    NotUtf8(Position),
     /// This is no module definition.
     Syntax(Fault, Position),
     /// No name of the DLL is given.
@@ -298,8 +298,9 @@ pub fn members_for(
     ensures refused { IfErr result (IsRefusalOfMembers bytes.now (library_options_view options.now)) }
 {
     let read = DefinitionText::new(alloc, bytes)?;
-    let Some(text) = read.text() else {
-        return Err(Refusal::NotUtf8);
+    let text = match read.text() {
+        Ok(text) => text,
+        Err(position) => return Err(Refusal::NotUtf8(position)),
     };
     let def = definition_for(alloc, text, options)?;
     match members_in_order(def, options.machine, options.flavor, options.naming) {

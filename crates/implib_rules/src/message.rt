@@ -1,5 +1,8 @@
 //! What is said of a definition that is refused.
 
+ghost use Rattle.implib_rules.specs.Library.{position_of};
+ghost use Rattle.std.specs.Prelude.{◌≡◌};
+
 use crate::library::Refusal;
 use crate::shown::Shown;
 use implib::Fault;
@@ -86,18 +89,23 @@ impl<'a> fmt::Display for FaultMessage<'a> {
 }
 
 /// Where the refusal of a definition is; none where it is of all of it.
-pub fn position_of(refusal: &Refusal) -> Option<Position> {
+pub fn position_of(refusal: &Refusal) -> Option<Position>
+    ensures { result ≡ position_of refusal.now }
+{
     match refusal {
-        Refusal::Syntax(_, position) => Some(*position),
-        Refusal::Members(fault, position) if fault.export_index().is_some() => Some(*position),
-        _ => None,
+        Refusal::NotUtf8(position) | Refusal::Syntax(_, position) => Some(*position),
+        Refusal::Members(fault, position) => match fault.export_index() {
+            Some(_) => Some(*position),
+            None => None,
+        },
+        Refusal::NoName | Refusal::Archive(_) | Refusal::OutOfMemory => None,
     }
 }
 
 impl fmt::Display for Refusal {
     fn fmt<W: fmt::Write>(&self, f: &mut fmt::Formatter<W>) -> fmt::Result {
         match self {
-            Refusal::NotUtf8 => f.write_str("the definition is not UTF-8"),
+            Refusal::NotUtf8(_) => f.write_str("the definition is not UTF-8"),
             Refusal::Syntax(fault, _) | Refusal::Members(fault, _) => write!(
                 f,
                 "{}",

@@ -8,7 +8,7 @@ ghost use Rattle.implib.specs.Text.RefusedAt.{IsRefusedAt};
 ghost use Rattle.implib.specs.declared.machine.MachineType.TheVariants.{AMD64};
 ghost use Rattle.implib_rules.specs.Places.{ArePlacesOf, IsAtFault, IsAtName, attribute_of};
 ghost use Rattle.implib_rules.specs.Places.{export_lines, is_export, is_heading, placed, site_at};
-ghost use Rattle.std.specs.Prelude.{◌≡◌, ◌++◌, ◌||◌, IfErr, IfOk, None};
+ghost use Rattle.std.specs.Prelude.{◌≡◌, ◌≤◌, ◌++◌, ◌||◌, IfErr, IfOk, None};
 
 use crate::warnings::words::Attribute;
 use implib::def::lexer::{Token, TokenKind};
@@ -86,16 +86,20 @@ fn site_at(is_headed: bool, before: usize, line: usize, role: Role, kind: TokenK
     }
 }
 
-// The position of an offset, from that of one before it.
-fn advanced(text: &str, from: Position, offset: usize) -> Position
-    requires { from ≡ position_at text.now from.offset }
+// The beginning of a text.
+const BEGINNING: Position = Position {
+    offset: 0,
+    line: 1,
+    column: 1,
+};
+
+// The position of an offset, from that of one that is not after it.
+fn position_from(text: &[u8], from: Position, offset: usize) -> Position
+    requires at { from ≡ position_at text.now from.offset }
+    requires order { from.offset ≤ offset }
     ensures { result ≡ position_at text.now offset }
 {
-    if offset < from.offset {
-        return Position::at(text, offset);
-    }
-    let bytes = text.as_bytes();
-    let front = &bytes[..offset.min(bytes.len())];
+    let front = &text[..offset.min(text.len())];
     let rest = &front[from.offset.min(front.len())..];
     let mut line = from.line;
     let mut column = from.column;
@@ -112,6 +116,25 @@ fn advanced(text: &str, from: Position, offset: usize) -> Position
         line,
         column,
     }
+}
+
+/// The position of an offset in bytes, in one pass over those before it: what `Position::at` is in a
+/// text.
+pub fn position_in(bytes: &[u8], offset: usize) -> Position
+    ensures { result ≡ position_at bytes.now offset }
+{
+    position_from(bytes, BEGINNING, offset)
+}
+
+// The position of an offset, from that of another.
+fn advanced(text: &[u8], from: Position, offset: usize) -> Position
+    requires { from ≡ position_at text.now from.offset }
+    ensures { result ≡ position_at text.now offset }
+{
+    if offset < from.offset {
+        return position_in(text, offset);
+    }
+    position_from(text, from, offset)
 }
 
 // Appends a place, if there is one, or keeps that an allocation failed.
@@ -151,7 +174,7 @@ impl<'a> Listener for Places<'a> {
     ghost has_heard = { HasPlacesOf };
 
     fn hear(&mut self, role: Role, token: Token<'_>) {
-        let here = advanced(self.text, self.here, token.at);
+        let here = advanced(self.text.as_bytes(), self.here, token.at);
         let site = site_at(self.is_headed, self.here.line, here.line, role, token.kind);
         note_place(&mut self.places, &mut self.failure, site, here);
         self.here = here;
@@ -173,11 +196,7 @@ pub fn read_with_places(alloc: Global, text: &str) -> Result<(ModuleDef, Vec<Pla
     let mut places = Places {
         text,
         places: Vec::new(alloc),
-        here: Position {
-            offset: 0,
-            line: 1,
-            column: 1,
-        },
+        here: BEGINNING,
         is_headed: false,
         failure: None,
     };

@@ -1,15 +1,18 @@
 //! The text that is read of the bytes of a definition.
 
 ghost use Rattle.implib_rules.specs.Library.{definition_text, without_mark};
-ghost use Rattle.std.specs.Prelude.{◌≡◌, IfOk, MatchOption};
+ghost use Rattle.implib_rules.specs.Utf8.{IsNotUtf8At};
+ghost use Rattle.std.specs.Prelude.{◌≡◌, IfOk, MatchResult};
 ghost use Rattle.std.specs.Str.{IsUtf8};
 
+use crate::places::position_in;
 use crate::plain::{is_plain, plain_text};
+use implib::def::Position;
 use std::alloc::{AllocError, Global};
 use std::marker::Model;
 
-// The bytes without a leading byte order mark of UTF-8.
-pub(crate) fn without_mark(bytes: &[u8]) -> &[u8]
+/// The bytes without a leading byte order mark of UTF-8.
+pub fn without_mark(bytes: &[u8]) -> &[u8]
     ensures { result.now ≡ without_mark bytes.now }
 {
     if bytes.starts_with(&[0xEF, 0xBB, 0xBF]) {
@@ -62,15 +65,22 @@ impl<'a> DefinitionText<'a> {
     }
 
     /// The text, if it is UTF-8.
-    pub fn text(&self) -> Option<&str>
-        ensures { MatchOption result (¬ (IsUtf8 self.now))
-            (λ text. (text.now ≡ self.now) × IsUtf8 self.now) }
+    ///
+    /// # Errors
+    ///
+    /// It is not: where its first byte is that is not.
+    pub fn text(&self) -> Result<&str, Position>
+        ensures { MatchResult result (λ text. (text.now ≡ self.now) × IsUtf8 self.now)
+            (λ position. IsNotUtf8At self.now position) }
     {
         let bytes = if self.is_given {
             self.given
         } else {
             self.changed.as_slice()
         };
-        str::from_utf8(bytes).ok()
+        match str::from_utf8(bytes) {
+            Ok(text) => Ok(text),
+            Err(error) => Err(position_in(bytes, error.valid_up_to())),
+        }
     }
 }

@@ -66,9 +66,36 @@ fn definitions_are_checked(rt: HostRuntime) -> Result<(), Fail> {
         assert_eq!(rt; wrote.as_str(), said);
         assert_eq!(rt; got, status, "{text}");
     }
-    let (got, wrote) = ran(&rt, &["-d", "-"], b"LIBRARY \xFF")?;
-    assert_eq!(rt; wrote.as_str(), "-: the definition is not UTF-8\n");
-    assert_eq!(rt; got, 1);
+    Ok(())
+}
+
+// The place of the first byte that is not UTF-8: after a comment in Latin-1, of a letter that is cut
+// short, and after a byte order mark.
+#[test]
+fn bytes_that_are_not_utf8_are_told(rt: HostRuntime) -> Result<(), Fail> {
+    let definitions: [(&[u8], &str); 4] = [
+        (
+            b"LIBRARY zoo\nEXPORTS\n caf\xE9\n",
+            "-:3:5: the definition is not UTF-8\n",
+        ),
+        (
+            b"; caf\xE9\nLIBRARY \xE9",
+            "-:2:9: the definition is not UTF-8\n",
+        ),
+        (
+            b"EXPORTS \xC3\xA9 \xC3",
+            "-:1:12: the definition is not UTF-8\n",
+        ),
+        (
+            b"\xEF\xBB\xBFNAME \xFF",
+            "-:1:6: the definition is not UTF-8\n",
+        ),
+    ];
+    for (text, said) in definitions {
+        let (got, wrote) = ran(&rt, &["-d", "-"], text)?;
+        assert_eq!(rt; wrote.as_str(), said);
+        assert_eq!(rt; got, 1);
+    }
     Ok(())
 }
 

@@ -44,7 +44,7 @@ kinds = record { msvc = refl; gnu = refl }
 
 statuses : StatusesChosen
 statuses = record {
-  not_utf8 = refl;
+  not_utf8 = λ position. refl;
   syntax = λ fault position. refl;
   no_name = refl;
   members = λ fault position. refl;

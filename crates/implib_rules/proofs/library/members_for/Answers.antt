@@ -5,14 +5,14 @@ use Rattle.implib_rules.specs.Options.{library_options_view}
 use Rattle.implib_rules.proofs.Made.{found_in, members_made, members_refused}
 use Rattle.implib_rules.proofs.library.members_for.Goals as goal
 
-pub returns-in-Ok-clause-made : goal.returns-in-Ok-clause-made
-returns-in-Ok-clause-made c =
-    members_made c.args.bytes.now c.in-Some.text.now (library_options_view c.args.options.now) _ _ (found_in c.args.bytes.now c.in-Some.text.now c.in_ok-read.read c.in_ok-read.ensures c.in-Some.ensures) c.in_ok-def.ensures.meant c.in-Ok.ensures.ok
+pub returns-in-Ok-members_in_order-clause-made : goal.returns-in-Ok-members_in_order-clause-made
+returns-in-Ok-members_in_order-clause-made c =
+    members_made c.args.bytes.now c.in-Ok.text.now (library_options_view c.args.options.now) _ _ (found_in c.args.bytes.now c.in-Ok.text.now c.in_ok-read.read c.in_ok-read.ensures c.in-Ok.ensures) c.in_ok-def.ensures.meant c.in-Ok-members_in_order.ensures.ok
 
 pub returns-in-Err-Invalid-clause-refused : goal.returns-in-Err-Invalid-clause-refused
 returns-in-Err-Invalid-clause-refused c =
     let fault = c.in-Err-Invalid.fault in
-    let found = found_in c.args.bytes.now c.in-Some.text.now c.in_ok-read.read c.in_ok-read.ensures c.in-Some.ensures in (
-      members_refused c.args.bytes.now c.in-Some.text.now (library_options_view c.args.options.now) _ (cause_of fault) found c.in_ok-def.ensures.meant (search rules),
+    let found = found_in c.args.bytes.now c.in-Ok.text.now c.in_ok-read.read c.in_ok-read.ensures c.in-Ok.ensures in (
+      members_refused c.args.bytes.now c.in-Ok.text.now (library_options_view c.args.options.now) _ (cause_of fault) found c.in_ok-def.ensures.meant (search rules),
       subst (λ (text : List ℕ). IsAtFault text (cause_of fault) c.in_ok-position-in-Err-Invalid.position) found.0 c.in_ok-position-in-Err-Invalid.ensures.at,
     )

@@ -16,7 +16,7 @@ returns c = λ start heard h. record {
       let noted = c.note_place.ensures none in
       let behind : Bool → List Place → Walked = λ is_headed places. record { is_headed = is_headed; line = here.line; places = places } in
       place_heard start.text.now heard (record { role = c.args.role; token = token_view c.args.token }) self.is_headed self.here.line self.places.items here
-      (h.walked noted.0) (c.advanced-here.ensures ∙ ap (λ (text : List ℕ). position_at text c.args.token.at) h.text)
+      (h.walked noted.0) (c.advanced-here.ensures ∙ ap (λ (text : List ℕ). position_at text c.args.token.at) (c.as_bytes.ensures.value ∙ h.text))
       ∙ ap (λ (is_headed : Bool). behind is_headed (self.places.items ++ placed (site_at self.is_headed self.here.line here.line c.args.role c.args.token.kind) here)) (sym c.is_headed_after-self.ensures)
       ∙ ap (λ (site : Option Site). behind c.is_headed_after-self.result (self.places.items ++ placed site here)) (sym c.site_at-site.ensures)
       ∙ ap (behind c.is_headed_after-self.result) (sym noted.1);

@@ -1,7 +1,7 @@
 use Rattle.std.proofs.Common.{◌≡◌, ◌+◌, ◌≤◌, take}
 use Rattle.std.specs.List.{fold}
 use Rattle.implib.specs.Text.Position.{after_byte}
-use Rattle.implib_rules.proofs.places.advanced.Given as goal
+use Rattle.implib_rules.proofs.places.position_from.Given as goal
 
 -- line and column after the bytes so far
 abbrev pub invariant-loop-byte : goal.invariant-loop-byte
