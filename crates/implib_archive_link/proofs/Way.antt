@@ -19,7 +19,8 @@ use Rattle.implib_link.specs.Search.Archives.{IsArchive, Library, archive_of}
 use Rattle.implib_link.specs.Search.Closed.{AreLinkedFor, LinksClosed, TakesInto, inputs_in, wanted_in}
 use Rattle.implib_link.specs.Search.Given.{AreGiven}
 use Rattle.implib_link.proofs.Gnu.Calls.{calls_reach_through_entries}
-use Rattle.implib_link.proofs.Gnu.Reading.{directory_read, reader_loads}
+use Rattle.implib_link.proofs.Gnu.Reading.{directory_read}
+use Rattle.implib_link.proofs.LoadedPrograms.{reader_loads}
 use Rattle.implib_link.proofs.Search.Archives.{inputs_made}
 use Rattle.implib_link.proofs.Search.Arranged.{archive_moved}
 use Rattle.implib_link.proofs.Search.Closed.{closed_links}

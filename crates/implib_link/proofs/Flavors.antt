@@ -8,7 +8,6 @@ pub mod Inputs
 pub mod Program
 pub mod Texts
 pub mod Loaded
-pub mod Reading
 pub mod Beside
 pub mod Writing
 pub mod MovedWriting

@@ -2,6 +2,8 @@ pub mod Gnu
 pub mod Flavors
 pub mod Search
 pub mod Tables
+pub mod PackedTables
 pub mod TablesOfPrograms
+pub mod LoadedPrograms
 pub mod TablesInMemory
 pub mod Worked

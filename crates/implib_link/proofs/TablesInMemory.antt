@@ -24,6 +24,7 @@ use Rattle.implib_link.proofs.Gnu.Keeps.{bytes_kept, keeps_written, memory_can_b
 use Rattle.implib_link.proofs.Gnu.Memory.{Covers, byte_first, loaded_below, written_covers}
 use Rattle.implib_link.proofs.Gnu.Operands.{all_lead, branch_arrives}
 use Rattle.implib_link.proofs.Gnu.Stubs.{same_address, wide_thunk}
+use Rattle.implib_link.proofs.PackedTables.{HasEntry}
 use Rattle.implib_link.proofs.Search.Lists.{contains_among}
 use Rattle.implib_link.proofs.Tables.{tables_load}
 
@@ -90,6 +91,13 @@ module _ (machine : MachineType) (image_base : ℕ) (t : Tables) (codes : List L
         let own = entry_in i j x e name is asked symbol in
         all_lead machine image_base t.image t.linked codes targets memory resting written covering name (gives x.dll e.ask) (x.address + thunk_width machine * j) own.once own.small
         (entry_reached machine image_base x.address j can) own.located
+
+    pub entry_leads : (name dll : List ℕ) (ask : Ask) (address : ℕ) → HasEntry t name dll ask address → CanReadFrom machine image_base address →
+        AllLead machine image_base t.linked codes (written ++ memory) name (gives dll ask)
+    entry_leads name dll ask address own can =
+        subst (λ d. AllLead machine image_base t.linked codes (written ++ memory) name (gives d ask)) own.of_dll
+        (subst (λ a. AllLead machine image_base t.linked codes (written ++ memory) name (gives own.table.dll a)) own.of_ask
+        (tables_lead_in_memory own.i own.j own.table own.entry name own.is own.asked own.symbol (subst (CanReadFrom machine image_base) (sym own.at) can)))
 
     pub tables_branch_in_memory : (c d : LinkedCode) (offset after : ℕ) (name : List ℕ) (s : ObjectSymbol) → Contains codes c → HasBranch machine c offset after name → Contains codes d → DefinesIn d s → s.name ≡ name →
         d.position + s.value < 2 ^ 31 → CanBranch machine (c.position + offset) (d.position + s.value) →

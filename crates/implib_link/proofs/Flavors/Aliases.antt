@@ -16,7 +16,8 @@ use Rattle.implib_link.specs.Gnu.Calls.{AreBeside, CallArrives, HasCall, PlacedC
 use Rattle.implib_link.specs.Gnu.Loaded.{Writes}
 use Rattle.implib_link.specs.Gnu.Pointers.{HasLoad, LoadArrives}
 use Rattle.implib_link.specs.Stub.{CanJump}
-use Rattle.implib_link.proofs.Flavors.Loaded.{entry_of, flavors_load}
+use Rattle.implib_link.proofs.Flavors.Loaded.{entry_of}
+use Rattle.implib_link.proofs.LoadedPrograms.{flavors_load}
 use Rattle.implib_link.proofs.Flavors.Program.{flavors_link}
 use Rattle.implib_link.proofs.Flavors.Rebased.{entry_holds}
 use Rattle.implib_link.proofs.Gnu.Aliases.{alias_call, alias_load}

@@ -18,7 +18,8 @@ use Rattle.implib_link.specs.Gnu.Loaded.{Writes}
 use Rattle.implib_link.specs.Gnu.Pages.{HasPage, HasPageOffset, PageArrives}
 use Rattle.implib_link.specs.Gnu.Pointers.{HasLoad, LoadArrives}
 use Rattle.implib_link.specs.Stub.{CanJump}
-use Rattle.implib_link.proofs.Flavors.Loaded.{entry_of, flavors_load}
+use Rattle.implib_link.proofs.Flavors.Loaded.{entry_of}
+use Rattle.implib_link.proofs.LoadedPrograms.{flavors_load}
 use Rattle.implib_link.proofs.Flavors.Program.{flavors_link}
 use Rattle.implib_link.proofs.Flavors.PlacedStubs.{flavors_stub}
 use Rattle.implib_link.proofs.Gnu.DirectCalls.{direct_arrives}

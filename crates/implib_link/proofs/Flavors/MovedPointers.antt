@@ -16,7 +16,8 @@ use Rattle.implib_link.specs.Gnu.Pages.{HasPage, HasPageOffset, PageArrives}
 use Rattle.implib_link.specs.Gnu.Pointers.{HasLoad, LoadArrives}
 use Rattle.implib_link.specs.Gnu.Reading.{ReadsAndWrites}
 use Rattle.implib_link.specs.Gnu.Rebased.{IsAtBase}
-use Rattle.implib_link.proofs.Flavors.Loaded.{entry_of, flavors_load}
+use Rattle.implib_link.proofs.Flavors.Loaded.{entry_of}
+use Rattle.implib_link.proofs.LoadedPrograms.{flavors_load}
 use Rattle.implib_link.proofs.Flavors.Program.{flavors_link}
 use Rattle.implib_link.proofs.Flavors.Rebased.{entry_holds, writes_of}
 use Rattle.implib_link.proofs.Flavors.Steady.{flavors_tables_none}

@@ -14,7 +14,7 @@ use Rattle.implib_link.specs.Gnu.Calls.{PlacedCode}
 use Rattle.implib_link.specs.Gnu.Reading.{ReadsAndWrites}
 use Rattle.implib_link.specs.Gnu.Rebased.{IsAtBase}
 use Rattle.implib_link.specs.Gnu.Writing.{AreAlike, WritesAsItGoes}
-use Rattle.implib_link.proofs.Flavors.Loaded.{flavors_load}
+use Rattle.implib_link.proofs.LoadedPrograms.{flavors_load}
 use Rattle.implib_link.proofs.Flavors.Rebased.{flavors_end_at_base, writes_of}
 use Rattle.implib_link.proofs.Flavors.Steady.{flavors_tables_none}
 use Rattle.implib_link.proofs.Flavors.Writing.{flavors_beside, flavors_long}

@@ -29,7 +29,8 @@ use Rattle.implib_link.proofs.Gnu.OperandsOfPrograms.{all_kept, branches_lead, c
 use Rattle.implib_link.proofs.Gnu.Stubs.{same_address}
 use Rattle.implib_link.proofs.Flavors.Program.{flavors_link}
 use Rattle.implib_link.proofs.Flavors.Steady.{flavors_tables_none}
-use Rattle.implib_link.proofs.Flavors.Loaded.{entry_of, flavors_load}
+use Rattle.implib_link.proofs.Flavors.Loaded.{entry_of}
+use Rattle.implib_link.proofs.LoadedPrograms.{flavors_load}
 
 module _ (machine : MachineType) (image_base : ℕ) (bases : Bases) (inputs : List FlavorInput) (objects : List Object) (codes : List LinkedCode) (targets : LinkedCode → ℕ → ℕ) (memory : List Range) (gives : List ℕ → Ask → List ℕ)
     (made : AllByRecursion (IsMadeFor machine) inputs) (program : IsFlavorProgram machine bases inputs objects)

@@ -18,7 +18,8 @@ use Rattle.implib_link.specs.Gnu.Calls.{CallArrives, CanBranch, Defines, DirectC
 use Rattle.implib_link.specs.Gnu.Loaded.{Writes}
 use Rattle.implib_link.specs.Gnu.Reading.{ReadsAndWrites}
 use Rattle.implib_link.specs.Gnu.Rebased.{IsAtBase, StubArrives}
-use Rattle.implib_link.proofs.Flavors.Loaded.{entry_of, flavors_load}
+use Rattle.implib_link.proofs.Flavors.Loaded.{entry_of}
+use Rattle.implib_link.proofs.LoadedPrograms.{flavors_load}
 use Rattle.implib_link.proofs.Flavors.PlacedStubs.{flavors_stub}
 use Rattle.implib_link.proofs.Flavors.Program.{flavors_link}
 use Rattle.implib_link.proofs.Flavors.Steady.{flavors_tables_none}

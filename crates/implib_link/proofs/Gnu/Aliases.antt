@@ -33,7 +33,8 @@ use Rattle.implib_link.proofs.Gnu.Memory.{Covers, byte_first, loaded_below, loca
 use Rattle.implib_link.proofs.Gnu.Pages.{near_in}
 use Rattle.implib_link.proofs.Gnu.Pointers.{load_by, load_within}
 use Rattle.implib_link.proofs.Gnu.Program.{program_links}
-use Rattle.implib_link.proofs.Gnu.Stubs.{entry_defined, entry_loaded, wide_thunk}
+use Rattle.implib_link.proofs.Gnu.Stubs.{entry_defined, wide_thunk}
+use Rattle.implib_link.proofs.LoadedPrograms.{entry_loaded}
 use Rattle.implib_link.proofs.Search.Lists.{contains_among}
 
 same_text : (name : List ℕ) → bytes_eq name name ≡ true

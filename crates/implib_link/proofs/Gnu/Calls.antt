@@ -25,7 +25,8 @@ use Rattle.implib_link.specs.Gnu.Program.{IsProgram, thunks_before}
 use Rattle.implib_link.specs.Stub.{CanJump}
 use Rattle.implib_link.proofs.Gnu.CallBytes.{Split, all_aside, all_within, code_appended, length_within}
 use Rattle.implib_link.proofs.Gnu.CallReads.{CanReach, call_by, call_within, can_reach}
-use Rattle.implib_link.proofs.Gnu.Loaded.{entry_once, program_loads}
+use Rattle.implib_link.proofs.Gnu.Loaded.{entry_once}
+use Rattle.implib_link.proofs.LoadedPrograms.{program_loads}
 use Rattle.implib_link.proofs.Gnu.Memory.{Covers, byte_first, loaded_below, located_in_memory, untouched, written_covers}
 use Rattle.implib_link.proofs.Gnu.Program.{gets_address, program_links}
 use Rattle.implib_link.proofs.Gnu.Stubs.{same_address, wide_thunk}

@@ -32,7 +32,8 @@ use Rattle.implib_link.proofs.Gnu.Jumps.{number-u32}
 use Rattle.implib_link.proofs.Gnu.Memory.{Covers, byte_first, loaded_below, located_in_memory, untouched, written_covers}
 use Rattle.implib_link.proofs.Gnu.PlacedStubs.{PlacedStub, gnu_stub, stub_reads, stub_within}
 use Rattle.implib_link.proofs.Gnu.Program.{program_links}
-use Rattle.implib_link.proofs.Gnu.Stubs.{entry_loaded, wide_thunk}
+use Rattle.implib_link.proofs.Gnu.Stubs.{wide_thunk}
+use Rattle.implib_link.proofs.LoadedPrograms.{entry_loaded}
 use Rattle.implib_link.proofs.Search.Lists.{contains_among}
 
 direct_field : (image_base position target : ℕ) → position + 16 ≤ 2 ^ 31 → target < 2 ^ 31 →

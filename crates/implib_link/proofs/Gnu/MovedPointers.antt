@@ -33,7 +33,7 @@ use Rattle.implib_link.proofs.Gnu.CallReads.{CanReach, can_reach}
 use Rattle.implib_link.proofs.Gnu.Calls.{instructions_end, instructions_linked, instructions_target}
 use Rattle.implib_link.proofs.Gnu.Jumps.{number-u32, page_and_offset, sum_of_eights}
 use Rattle.implib_link.proofs.Gnu.Keeps.{bytes_kept, keeps_written}
-use Rattle.implib_link.proofs.Gnu.Loaded.{program_loads}
+use Rattle.implib_link.proofs.LoadedPrograms.{program_loads}
 use Rattle.implib_link.proofs.Gnu.Memory.{Covers, byte_first, loaded_below, written_covers}
 use Rattle.implib_link.proofs.Gnu.Moved.{Window, code_kept, code_unwritten, field_moved, image_kept, window_clear}
 use Rattle.implib_link.proofs.Gnu.MovedCode.{Lies, apart_same, beside_field, call_window, can_jump, field_value, four_of, high_same, joined, low_same, offset_same, window_kept}

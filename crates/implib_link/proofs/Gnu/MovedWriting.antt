@@ -16,7 +16,7 @@ use Rattle.implib_link.specs.Gnu.Reading.{ReadsAndWrites}
 use Rattle.implib_link.specs.Gnu.Rebased.{IsAtBase}
 use Rattle.implib_link.specs.Gnu.Writing.{AreAlike, WritesAsItGoes}
 use Rattle.implib_link.proofs.Gnu.Filling.{all_filled}
-use Rattle.implib_link.proofs.Gnu.Loaded.{program_loads}
+use Rattle.implib_link.proofs.LoadedPrograms.{program_loads}
 use Rattle.implib_link.proofs.Gnu.Moved.{image_kept}
 use Rattle.implib_link.proofs.Gnu.Rebased.{ends_at_base, writes_of}
 use Rattle.implib_link.proofs.Gnu.Steady.{program_tables_none}

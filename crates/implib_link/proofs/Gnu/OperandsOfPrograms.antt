@@ -28,7 +28,7 @@ use Rattle.implib_link.specs.Stub.{CanJump}
 use Rattle.implib_link.proofs.Gnu.CallReads.{CanReach, can_reach}
 use Rattle.implib_link.proofs.Gnu.FieldsInMemory.{Rests, part_there, rests}
 use Rattle.implib_link.proofs.Gnu.Keeps.{bytes_kept, keeps_written, memory_can_be_read, memory_read}
-use Rattle.implib_link.proofs.Gnu.Loaded.{program_loads}
+use Rattle.implib_link.proofs.LoadedPrograms.{program_loads}
 use Rattle.implib_link.proofs.Gnu.Memory.{byte_first, loaded_below, written_covers}
 use Rattle.implib_link.proofs.Gnu.Operands.{all_lead, branch_arrives}
 use Rattle.implib_link.proofs.Gnu.OperandStubs.{stub_arrives}
@@ -36,7 +36,8 @@ use Rattle.implib_link.proofs.Gnu.PlacedStubs.{StubAt, gnu_stub_at}
 use Rattle.implib_link.proofs.Gnu.Program.{program_links}
 use Rattle.implib_link.proofs.Gnu.Steady.{program_tables_none}
 use Rattle.implib_link.proofs.Search.Lists.{contains_among}
-use Rattle.implib_link.proofs.Gnu.Stubs.{entry_defined, entry_loaded, wide_thunk}
+use Rattle.implib_link.proofs.Gnu.Stubs.{entry_defined, wide_thunk}
+use Rattle.implib_link.proofs.LoadedPrograms.{entry_loaded}
 
 -- What is loaded, of any objects with a directory of these imports.
 module _ (machine : MachineType) (image_base : ℕ) (bases : Bases) (objects : List Object) (codes : List LinkedCode) (targets : LinkedCode → ℕ → ℕ) (memory : List Range)

@@ -32,7 +32,8 @@ use Rattle.implib_link.proofs.Gnu.Calls.{instructions_target, instructions_there
 use Rattle.implib_link.proofs.Gnu.Jumps.{halves, near_pages, number-u32, page_and_offset, pages_add, sum_of_eights, whole_eights}
 use Rattle.implib_link.proofs.Gnu.Memory.{Covers, byte_first, loaded_below, located_in_memory, written_covers}
 use Rattle.implib_link.proofs.Gnu.Program.{program_links}
-use Rattle.implib_link.proofs.Gnu.Stubs.{entry_defined, entry_loaded, wide_thunk}
+use Rattle.implib_link.proofs.Gnu.Stubs.{entry_defined, wide_thunk}
+use Rattle.implib_link.proofs.LoadedPrograms.{entry_loaded}
 use Rattle.implib_link.proofs.Search.Lists.{contains_among}
 
 -- The words with their immediates: of a register, and of two, which take the low ten bits.

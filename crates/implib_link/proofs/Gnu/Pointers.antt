@@ -32,7 +32,8 @@ use Rattle.implib_link.proofs.Gnu.Jumps.{i386_field, number-u32, page_and_offset
 use Rattle.implib_link.proofs.Gnu.Memory.{Covers, byte_first, loaded_below, located_in_memory, written_covers}
 use Rattle.implib_link.proofs.Gnu.Pages.{AdrpIs, LdrIs, adrp_by, adrp_code, ldr_by, ldr_code}
 use Rattle.implib_link.proofs.Gnu.Program.{program_links}
-use Rattle.implib_link.proofs.Gnu.Stubs.{entry_defined, entry_loaded, wide_thunk}
+use Rattle.implib_link.proofs.Gnu.Stubs.{entry_defined, wide_thunk}
+use Rattle.implib_link.proofs.LoadedPrograms.{entry_loaded}
 use Rattle.implib_link.proofs.Search.Lists.{contains_among}
 
 load_field : (image_base position entry : ℕ) → position + 16 ≤ 2 ^ 31 → entry < 2 ^ 31 →

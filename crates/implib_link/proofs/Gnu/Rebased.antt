@@ -30,7 +30,8 @@ use Rattle.implib_link.proofs.Gnu.CallReads.{CanReach, call_within, can_reach}
 use Rattle.implib_link.proofs.Gnu.Calls.{instructions_end, instructions_linked, instructions_target, window}
 use Rattle.implib_link.proofs.Gnu.DirectCalls.{direct_within, leads_by}
 use Rattle.implib_link.proofs.Gnu.Keeps.{bytes_kept, keeps_written, memory_can_be_read, memory_read}
-use Rattle.implib_link.proofs.Gnu.Loaded.{entry_once, program_loads}
+use Rattle.implib_link.proofs.Gnu.Loaded.{entry_once}
+use Rattle.implib_link.proofs.LoadedPrograms.{program_loads}
 use Rattle.implib_link.proofs.Gnu.Memory.{Covers, byte_first, loaded_below, written_covers}
 use Rattle.implib_link.proofs.Gnu.Moved.{Window, code_unwritten, grows, image_kept}
 use Rattle.implib_link.proofs.Gnu.MovedCode.{call_lies, call_window, can_jump, stub_lies, window_kept}

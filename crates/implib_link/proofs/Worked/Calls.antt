@@ -38,7 +38,7 @@ use Rattle.implib_link.specs.Flavors.SectionSymbols.{with_section_symbols}
 use Rattle.implib_link.specs.Gnu.Packed.{group_end, sections_end}
 use Rattle.implib_link.specs.Worked.Flavors.{both_inputs as flavor_inputs, flavor_bases_8, flavor_image, flavor_objects, flavor_placed, foo_input as msvc_input}
 use Rattle.implib_link.proofs.Flavors.Calls.{flavors_calls_reach}
-use Rattle.implib_link.proofs.Flavors.Reading.{flavors_reader_ends, flavors_reader_loads}
+use Rattle.implib_link.proofs.LoadedPrograms.{flavors_reader_ends, flavors_reader_loads}
 use Rattle.implib_link.proofs.Worked.Flavors.{worked_flavors}
 use Rattle.implib_link.specs.Gnu.Calls.{AreBeside, Defines, HasCall, HasDirectCall, PlacedCode, Resolves, code_range, code_ranges}
 use Rattle.implib_link.specs.Gnu.Program.{IsProgram, has_tables, linked_symbols}
@@ -47,7 +47,7 @@ use Rattle.implib_link.specs.Worked.Calls.{WorkedDirectCall, direct_at, direct_c
 use Rattle.implib_link.specs.Worked.Programs.{another, both_inputs, foo_input, program_image, program_objects, program_placed, symbol_of_class, symbol_on, touching_4, touching_8}
 use Rattle.implib_link.proofs.Gnu.Calls.{calls_reach_through_entries}
 use Rattle.implib_link.proofs.Gnu.Memory.{holder, not_in_both}
-use Rattle.implib_link.proofs.Gnu.Reading.{reader_ends, reader_loads}
+use Rattle.implib_link.proofs.LoadedPrograms.{reader_ends, reader_loads}
 use Rattle.implib_link.proofs.Gnu.Stubs.{same_address}
 use Rattle.implib_link.proofs.Search.Lists.{among_at, contains_among}
 use Rattle.implib_link.proofs.Worked.Programs.{claims_none_by, distinct_by, worked_programs}
