@@ -14,7 +14,6 @@ pub mod MovedWriting
 pub mod Aliases
 pub mod Stubs
 pub mod Calls
-pub mod Operands
 pub mod Packed
 pub mod PlacedStubs
 pub mod Steady

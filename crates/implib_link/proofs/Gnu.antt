@@ -31,7 +31,6 @@ pub mod Operands
 pub mod OperandStubs
 pub mod UsualCode
 pub mod LinkedBytes
-pub mod OperandsOfPrograms
 pub mod Rebased
 pub mod Pointers
 pub mod Pages

@@ -6,4 +6,5 @@ pub mod PackedTables
 pub mod TablesOfPrograms
 pub mod LoadedPrograms
 pub mod TablesInMemory
+pub mod ProgramsInMemory
 pub mod Worked

@@ -61,7 +61,7 @@ module _ (machine : MachineType) (bases : Bases) (inputs : List LinkInput) (obje
       IsLoaded machine bases inputs objects gives written
   gnu_loaded gives written loaded = record {
     entries = λ i j p e input chosen.
-        entry_holds machine own gives written (imp_symbol e.name) p.definition.import_name (expected_ask machine e) (bases.addresses + thunk_width machine * entries_until i (map (block_of_input machine) inputs)) loaded
+        entry_holds machine own gives written (imp_symbol e.name) p.definition.import_name (expected_ask machine e) (bases.addresses + thunk_width machine * thunks_before i inputs) j loaded
         (gnu_entry machine bases inputs objects i j p e input chosen);
     within = subst (λ n. AllByRecursion (λ r. (bases.addresses ≤ r.start) × (range_end r ≤ n)) written) gnu_thunks
         (loaded_within machine image (placed_from bases objects) bases.descriptors bases.addresses (map (block_of_input machine) inputs) written loaded.within);
@@ -133,7 +133,7 @@ module _ (machine : MachineType) (bases : Bases) (inputs : List FlavorInput) (ob
   flavors_loaded gives written loaded = record {
     entries = λ i j p e input chosen.
         entry_holds machine own_of_flavors gives written (imp_symbol (symbol_in p.flavor e)) (dll_of p) (ask_in p.flavor machine e)
-        (bases.addresses + thunk_width machine * entries_until i (map (block_of_flavor machine) inputs)) loaded (flavors_entry machine bases inputs objects i j p e input chosen);
+        (bases.addresses + thunk_width machine * thunks_of i inputs) j loaded (flavors_entry machine bases inputs objects i j p e input chosen);
     within = subst (λ n. AllByRecursion (λ r. (bases.addresses ≤ r.start) × (range_end r ≤ n)) written) flavors_thunks
         (loaded_within machine image_of_flavors (placed_from bases objects) bases.descriptors bases.addresses (map (block_of_flavor machine) inputs) written loaded.within);
     kept = loaded.kept;

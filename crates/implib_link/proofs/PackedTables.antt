@@ -132,10 +132,9 @@ pub packed_count : (width : ℕ) (blocks : List Block) (address : ℕ) → lengt
 packed_count width [] address = refl
 packed_count width (b ∷ blocks) address = ap suc (packed_count width blocks (address + width * (length b.entries + 1)))
 
--- An entry of tables: its symbol, its DLL, what it asks, and the address of its table.
-pub record HasEntry (t : Tables) (name dll : List ℕ) (ask : Ask) (address : ℕ) : Type 0 where
+-- An entry of tables: its symbol, its DLL, what it asks, the address of its table, and its number in it.
+pub record HasEntry (t : Tables) (name dll : List ℕ) (ask : Ask) (address j : ℕ) : Type 0 where
   pub i : ℕ
-  pub j : ℕ
   pub table : Table
   pub entry : TableEntry
   pub is : slice_get t.tables i ≡ Some table
@@ -146,12 +145,12 @@ pub record HasEntry (t : Tables) (name dll : List ℕ) (ask : Ask) (address : �
   pub at : table.address ≡ address
 
 -- at the entry is what was written
-pub entry_holds : (machine : MachineType) (t : Tables) (gives : List ℕ → Ask → List ℕ) (written : List Range) (name dll : List ℕ) (ask : Ask) (address : ℕ) → AreTablesLoaded machine t gives written →
-    HasEntry t name dll ask address → HoldsAt (written ++ t.image) t.linked name (gives dll ask)
-entry_holds machine t gives written name dll ask address loaded own =
+pub entry_holds : (machine : MachineType) (t : Tables) (gives : List ℕ → Ask → List ℕ) (written : List Range) (name dll : List ℕ) (ask : Ask) (address j : ℕ) → AreTablesLoaded machine t gives written →
+    HasEntry t name dll ask address j → HoldsAt (written ++ t.image) t.linked name (gives dll ask)
+entry_holds machine t gives written name dll ask address j loaded own =
     subst (λ d. HoldsAt (written ++ t.image) t.linked name (gives d ask)) own.of_dll
     (subst (λ a. HoldsAt (written ++ t.image) t.linked name (gives own.table.dll a)) own.of_ask
-    (loaded.entries own.i own.j own.table own.entry name own.is own.asked own.symbol))
+    (loaded.entries own.i j own.table own.entry name own.is own.asked own.symbol))
 
 module _ (machine : MachineType) (image : List Range) (linked : List Placed) (directory addresses : ℕ) (blocks : List Block) where
   abbrev pub packed : Tables
@@ -159,10 +158,9 @@ module _ (machine : MachineType) (image : List Range) (linked : List Placed) (di
 
   -- an entry of a block
   pub block_entry : (i j : ℕ) (b : Block) (e : TableEntry) (name : List ℕ) → slice_get blocks i ≡ Some b → slice_get b.entries j ≡ Some e → e.symbol ≡ Some name →
-      HasEntry packed name b.dll e.ask (addresses + thunk_width machine * entries_until i blocks)
+      HasEntry packed name b.dll e.ask (addresses + thunk_width machine * entries_until i blocks) j
   block_entry i j b e name is asked symbol = record {
     i = i;
-    j = j;
     table = record { dll = b.dll; address = addresses + thunk_width machine * entries_until i blocks; entries = b.entries };
     entry = e;
     is = packed_get (thunk_width machine) blocks addresses i b is;

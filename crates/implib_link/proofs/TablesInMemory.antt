@@ -5,14 +5,14 @@ use Rattle.std.specs.List.{AllByRecursion, Contains}
 use Rattle.std.proofs.lemmas.List.{length-map}
 use Rattle.implib.specs.declared.machine.MachineType.{MachineType}
 use Rattle.implib.specs.declared.machine.MachineType.TheVariants.{I386, ARMNT, AMD64, ARM64}
-use Rattle.implib.specs.Formats.Object.{ObjectSymbol}
+use Rattle.implib.specs.Formats.Object.{ObjectSymbol, section_numbered}
 use Rattle.implib.specs.Import.{Ask}
 use Rattle.implib.specs.Link.Image.{Range}
 use Rattle.implib.specs.Link.Load.{BytesAt}
 use Rattle.implib.specs.Link.Resolution.{definitions_of}
 use Rattle.implib.specs.Members.ImportTables.{thunk_width}
 use Rattle.implib_link.specs.Gnu.Calls.{CanBranch}
-use Rattle.implib_link.specs.Gnu.Fields.{DefinesIn, LinkedCode}
+use Rattle.implib_link.specs.Gnu.Fields.{DefinesIn, LinkedCode, placed_code}
 use Rattle.implib_link.specs.Gnu.Loaded.{Writes}
 use Rattle.implib_link.specs.Gnu.Moves.{AreInMemory}
 use Rattle.implib_link.specs.Gnu.Operands.{AllLead, AreKept, BranchArrives, HasBranch}
@@ -24,6 +24,10 @@ use Rattle.implib_link.proofs.Gnu.Keeps.{bytes_kept, keeps_written, memory_can_b
 use Rattle.implib_link.proofs.Gnu.Memory.{Covers, byte_first, loaded_below, written_covers}
 use Rattle.implib_link.proofs.Gnu.Operands.{all_lead, branch_arrives}
 use Rattle.implib_link.proofs.Gnu.Stubs.{same_address, wide_thunk}
+use Rattle.implib_link.proofs.Gnu.OperandStubs.{stub_arrives}
+use Rattle.implib_link.proofs.Gnu.PlacedStubs.{StubAt}
+use Rattle.implib_link.specs.Gnu.Rebased.{StubArrives}
+use Rattle.implib.proofs.Link.Ranges.{all_among}
 use Rattle.implib_link.proofs.PackedTables.{HasEntry}
 use Rattle.implib_link.proofs.Search.Lists.{contains_among}
 use Rattle.implib_link.proofs.Tables.{tables_load}
@@ -48,6 +52,13 @@ module _ (machine : MachineType) (image_base : ℕ) (t : Tables) (codes : List L
     (tables : AreTables machine t) (steady : AreSteady machine t.linked) (at : AreInMemory machine image_base t.image t.linked codes targets memory) where
   pub resting : Rests machine image_base t.image t.linked codes targets memory
   resting = rests machine image_base t.image t.linked codes targets memory at steady
+
+  -- the object and the section of linked code
+  pub code_from : (d : LinkedCode) → Contains codes d → Contains t.linked d.from
+  code_from d held = all_among (λ (x : LinkedCode). Contains t.linked x.from) d codes (contains_among d codes held) resting.beside.held
+
+  pub code_section : (d : LinkedCode) → Contains codes d → section_numbered d.from.object.sections d.number ≡ Some d.code
+  code_section d held = all_among (λ (x : LinkedCode). section_numbered x.from.object.sections x.number ≡ Some x.code) d codes (contains_among d codes held) resting.beside.sections
 
   tables_in_memory_read : (n : ℕ) (written : List Range) → ReadsAndWrites memory (thunk_width machine) gives n t.directory written →
       (n ≡ length (map imported_by_table t.tables)) × Writes t.image (thunk_width machine) gives t.directory (map imported_by_table t.tables) written
@@ -92,12 +103,29 @@ module _ (machine : MachineType) (image_base : ℕ) (t : Tables) (codes : List L
         all_lead machine image_base t.image t.linked codes targets memory resting written covering name (gives x.dll e.ask) (x.address + thunk_width machine * j) own.once own.small
         (entry_reached machine image_base x.address j can) own.located
 
-    pub entry_leads : (name dll : List ℕ) (ask : Ask) (address : ℕ) → HasEntry t name dll ask address → CanReadFrom machine image_base address →
+    entry_known : (name dll : List ℕ) (ask : Ask) (address j : ℕ) → HasEntry t name dll ask address j → EntryIn machine t written memory name (gives dll ask) (address + thunk_width machine * j)
+    entry_known name dll ask address j own =
+        subst (λ a. EntryIn machine t written memory name (gives dll ask) (a + thunk_width machine * j)) own.at
+        (subst (λ d. EntryIn machine t written memory name (gives d ask) (own.table.address + thunk_width machine * j)) own.of_dll
+        (subst (λ a. EntryIn machine t written memory name (gives own.table.dll a) (own.table.address + thunk_width machine * j)) own.of_ask
+        (entry_in own.i j own.table own.entry name own.is own.asked own.symbol)))
+
+    pub entry_leads : (name dll : List ℕ) (ask : Ask) (address j : ℕ) → HasEntry t name dll ask address j → CanReadFrom machine image_base address →
         AllLead machine image_base t.linked codes (written ++ memory) name (gives dll ask)
-    entry_leads name dll ask address own can =
-        subst (λ d. AllLead machine image_base t.linked codes (written ++ memory) name (gives d ask)) own.of_dll
-        (subst (λ a. AllLead machine image_base t.linked codes (written ++ memory) name (gives own.table.dll a)) own.of_ask
-        (tables_lead_in_memory own.i own.j own.table own.entry name own.is own.asked own.symbol (subst (CanReadFrom machine image_base) (sym own.at) can)))
+    entry_leads name dll ask address j own can =
+        let known = entry_known name dll ask address j own in
+        all_lead machine image_base t.image t.linked codes targets memory resting written covering name (gives dll ask) (address + thunk_width machine * j) known.once known.small
+        (entry_reached machine image_base address j can) known.located
+
+    -- a stub of the entry
+    pub entry_stub : (name dll : List ℕ) (ask : Ask) (address j : ℕ) → HasEntry t name dll ask address j → CanReadFrom machine image_base address → (d : LinkedCode) (s : ObjectSymbol) → Contains codes d →
+        StubAt machine t.linked (placed_code d) s (address + thunk_width machine * j) → (s.value ≡ 0) × StubArrives machine image_base (written ++ memory) d.position (gives dll ask)
+    entry_stub name dll ask address j own can d s held stub =
+        let known = entry_known name dll ask address j own in (
+          stub.begins,
+          stub_arrives machine image_base t.image t.linked codes targets memory resting written covering name (gives dll ask) (address + thunk_width machine * j) known.once known.small
+              (entry_reached machine image_base address j can) known.located d s held stub,
+        )
 
     pub tables_branch_in_memory : (c d : LinkedCode) (offset after : ℕ) (name : List ℕ) (s : ObjectSymbol) → Contains codes c → HasBranch machine c offset after name → Contains codes d → DefinesIn d s → s.name ≡ name →
         d.position + s.value < 2 ^ 31 → CanBranch machine (c.position + offset) (d.position + s.value) →

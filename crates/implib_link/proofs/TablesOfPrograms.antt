@@ -73,11 +73,13 @@ gnu_tables machine bases inputs objects made program =
 -- the entry of an export
 pub gnu_entry : (machine : MachineType) (bases : Bases) (inputs : List LinkInput) (objects : List Object) (i j : ℕ) (p : LinkInput) (e : ExportView) → slice_get inputs i ≡ Some p →
     slice_get (chosen_exports p.definition p.chosen) j ≡ Some e →
-    HasEntry (tables_at machine bases objects (map (block_of_input machine) inputs)) (imp_symbol e.name) p.definition.import_name (expected_ask machine e) (bases.addresses + thunk_width machine * entries_until i (map (block_of_input machine) inputs))
+    HasEntry (tables_at machine bases objects (map (block_of_input machine) inputs)) (imp_symbol e.name) p.definition.import_name (expected_ask machine e) (bases.addresses + thunk_width machine * thunks_before i inputs) j
 gnu_entry machine bases inputs objects i j p e input chosen =
-    block_entry machine (image_of machine bases (placed_from bases objects)) (placed_from bases objects) bases.descriptors bases.addresses (map (block_of_input machine) inputs) i j
+    subst (λ n. HasEntry (tables_at machine bases objects (map (block_of_input machine) inputs)) (imp_symbol e.name) p.definition.import_name (expected_ask machine e) (bases.addresses + thunk_width machine * n) j)
+    (inputs_until machine i inputs)
+    (block_entry machine (image_of machine bases (placed_from bases objects)) (placed_from bases objects) bases.descriptors bases.addresses (map (block_of_input machine) inputs) i j
     (block_of_input machine p) (record { ask = expected_ask machine e; symbol = Some (imp_symbol e.name) }) (imp_symbol e.name) (get_map (block_of_input machine) inputs i p input)
-    (get_map (λ (x : ExportView). record { ask = expected_ask machine x; symbol = Some (imp_symbol x.name) }) (chosen_exports p.definition p.chosen) j e chosen) refl
+    (get_map (λ (x : ExportView). record { ask = expected_ask machine x; symbol = Some (imp_symbol x.name) }) (chosen_exports p.definition p.chosen) j e chosen) refl)
 
 -- The blocks of programs of both flavours.
 
@@ -123,11 +125,13 @@ flavors_tables machine bases inputs objects made program =
 pub flavors_entry : (machine : MachineType) (bases : Bases) (inputs : List FlavorInput) (objects : List Object) (i j : ℕ) (p : FlavorInput) (e : ExportView) → slice_get inputs i ≡ Some p →
     slice_get (exports_chosen p) j ≡ Some e →
     HasEntry (tables_at machine bases objects (map (block_of_flavor machine) inputs)) (imp_symbol (symbol_in p.flavor e)) (dll_of p) (ask_in p.flavor machine e)
-    (bases.addresses + thunk_width machine * entries_until i (map (block_of_flavor machine) inputs))
+    (bases.addresses + thunk_width machine * thunks_of i inputs) j
 flavors_entry machine bases inputs objects i j p e input chosen =
-    block_entry machine (image_of machine bases (placed_from bases objects)) (placed_from bases objects) bases.descriptors bases.addresses (map (block_of_flavor machine) inputs) i j
+    subst (λ n. HasEntry (tables_at machine bases objects (map (block_of_flavor machine) inputs)) (imp_symbol (symbol_in p.flavor e)) (dll_of p) (ask_in p.flavor machine e) (bases.addresses + thunk_width machine * n) j)
+    (flavors_until machine i inputs)
+    (block_entry machine (image_of machine bases (placed_from bases objects)) (placed_from bases objects) bases.descriptors bases.addresses (map (block_of_flavor machine) inputs) i j
     (block_of_flavor machine p) (record { ask = ask_in p.flavor machine e; symbol = Some (imp_symbol (symbol_in p.flavor e)) }) (imp_symbol (symbol_in p.flavor e)) (get_map (block_of_flavor machine) inputs i p input)
-    (get_map (λ (x : ExportView). record { ask = ask_in p.flavor machine x; symbol = Some (imp_symbol (symbol_in p.flavor x)) }) (exports_chosen p) j e chosen) refl
+    (get_map (λ (x : ExportView). record { ask = ask_in p.flavor machine x; symbol = Some (imp_symbol (symbol_in p.flavor x)) }) (exports_chosen p) j e chosen) refl)
 
 -- The blocks of lld's tables.
 

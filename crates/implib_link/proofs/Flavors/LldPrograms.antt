@@ -34,7 +34,7 @@ module _ (machine : MachineType) (descriptors addresses : ℕ) (taken : List Sho
   abbrev tables : AreTables machine (tables_of_lld machine descriptors addresses taken image linked)
   tables = lld_tables machine descriptors addresses taken image linked program
 
-  in_table : (r : ShortImport) → Contains taken r → (n : ℕ) × HasEntry (tables_of_lld machine descriptors addresses taken image linked) (imp_symbol r.symbol) r.dll (ask_of_short_import r) (addresses + thunk_width machine * n)
+  in_table : (r : ShortImport) → Contains taken r → (n : ℕ) × ((j : ℕ) × HasEntry (tables_of_lld machine descriptors addresses taken image linked) (imp_symbol r.symbol) r.dll (ask_of_short_import r) (addresses + thunk_width machine * n) j)
   in_table r holds =
       let at = in_place r (grouped taken) (grouped_holds r taken (contains_among r taken holds)) in
       let b : Block = block_of_group at.group in
@@ -42,10 +42,13 @@ module _ (machine : MachineType) (descriptors addresses : ℕ) (taken : List Sho
       (all_at (λ x. Contains taken x × (x.dll ≡ dll_of_group at.group)) at.group at.j r
       (all_at (λ group. AllByRecursion (λ x. Contains taken x × (x.dll ≡ dll_of_group group)) group) (grouped taken) at.i at.group (only machine descriptors addresses taken image linked program) at.its_group) at.is).1 in (
         entries_until at.i (map block_of_group (grouped taken)),
-        subst (λ dll. HasEntry (tables_of_lld machine descriptors addresses taken image linked) (imp_symbol r.symbol) dll (ask_of_short_import r) (addresses + thunk_width machine * entries_until at.i (map block_of_group (grouped taken))))
-            (sym same)
-            (block_entry machine image linked descriptors addresses (map block_of_group (grouped taken)) at.i at.j b (entry_of_short r) (imp_symbol r.symbol) (get_map block_of_group (grouped taken) at.i at.group at.its_group)
-            (get_map entry_of_short at.group at.j r at.is) refl),
+        (
+          at.j,
+          subst (λ dll. HasEntry (tables_of_lld machine descriptors addresses taken image linked) (imp_symbol r.symbol) dll (ask_of_short_import r) (addresses + thunk_width machine * entries_until at.i (map block_of_group (grouped taken))) at.j)
+              (sym same)
+              (block_entry machine image linked descriptors addresses (map block_of_group (grouped taken)) at.i at.j b (entry_of_short r) (imp_symbol r.symbol) (get_map block_of_group (grouped taken) at.i at.group at.its_group)
+              (get_map entry_of_short at.group at.j r at.is) refl),
+        ),
       )
 
   all_thunks : addresses + thunk_width machine * entries_until (length (map block_of_group (grouped taken))) (map block_of_group (grouped taken))
@@ -60,7 +63,7 @@ module _ (machine : MachineType) (descriptors addresses : ℕ) (taken : List Sho
   loaded_by gives written loaded = record {
     entries = λ r holds.
         let own = in_table r holds in
-        entry_holds machine (tables_of_lld machine descriptors addresses taken image linked) gives written (imp_symbol r.symbol) r.dll (ask_of_short_import r) (addresses + thunk_width machine * own.0) loaded own.1;
+        entry_holds machine (tables_of_lld machine descriptors addresses taken image linked) gives written (imp_symbol r.symbol) r.dll (ask_of_short_import r) (addresses + thunk_width machine * own.0) own.1.0 loaded own.1.1;
     within = subst (λ n. AllByRecursion (λ w. (addresses ≤ w.start) × (range_end w ≤ n)) written) all_thunks
         (loaded_within machine image linked descriptors addresses (map block_of_group (grouped taken)) written loaded.within);
     kept = loaded.kept;
@@ -99,7 +102,7 @@ module _ (machine : MachineType) (descriptors addresses : ℕ) (taken : List Sho
     lld_leads n written wide reads r holds can =
         let own = in_table r holds in
         entry_leads machine image_base (tables_of_lld machine descriptors addresses taken image linked) codes targets memory gives tables steady at n written wide reads
-        (imp_symbol r.symbol) r.dll (ask_of_short_import r) (addresses + thunk_width machine * own.0) own.1 (reads_further machine image_base addresses own.0 can)
+        (imp_symbol r.symbol) r.dll (ask_of_short_import r) (addresses + thunk_width machine * own.0) own.1.0 own.1.1 (reads_further machine image_base addresses own.0 can)
 
     pub lld_keeps : (n : ℕ) (written : List Range) → ((dll : List ℕ) (ask : Ask) → length (gives dll ask) ≡ thunk_width machine) → ReadsAndWrites memory (thunk_width machine) gives n descriptors written →
         AreKept machine codes (written ++ memory)

@@ -28,7 +28,7 @@ use Rattle.implib_link.proofs.Gnu.Moved.{covered_bounds}
 use Rattle.implib_link.proofs.Gnu.MovedPrograms.{moved_memory_exists}
 use Rattle.implib_link.proofs.Gnu.Operands.{operand_width}
 use Rattle.implib_link.proofs.Gnu.Steady.{program_tables_none}
-use Rattle.implib_link.proofs.Gnu.OperandsOfPrograms.{branches_in_memory, ends_in_memory, kept_in_memory, leads_in_memory, stubs_in_memory}
+use Rattle.implib_link.proofs.ProgramsInMemory.{branches_in_memory, ends_in_memory, kept_in_memory, leads_in_memory, stubs_in_memory}
 use Rattle.implib_link.proofs.Worked.Calls.{open_export, wide}
 use Rattle.implib_link.proofs.Worked.LinkedCode.{all_needed, only_absolute, rebased_by, relocated_by, relocated_test, takes_by}
 use Rattle.implib_link.proofs.Worked.Programs.{claims_none_by, distinct_by, opened, worked_programs}
