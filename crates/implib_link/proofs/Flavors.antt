@@ -11,14 +11,10 @@ pub mod Loaded
 pub mod Beside
 pub mod Writing
 pub mod MovedWriting
-pub mod Aliases
 pub mod Stubs
-pub mod Calls
 pub mod Packed
 pub mod PlacedStubs
 pub mod Steady
-pub mod Rebased
-pub mod MovedPointers
 pub mod LldTables
 pub mod LldGroups
 pub mod LldImports

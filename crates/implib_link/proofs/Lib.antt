@@ -7,4 +7,5 @@ pub mod TablesOfPrograms
 pub mod LoadedPrograms
 pub mod TablesInMemory
 pub mod ProgramsInMemory
+pub mod CodeOfPrograms
 pub mod Worked

@@ -1,5 +1,5 @@
 -- Fields against the symbols of import tables lead to their entries, in memory at any base, whoever made the tables.
-use Rattle.std.proofs.Common.{◌≡◌, ℕ, ◌+◌, ◌*◌, ◌%◌, ◌^◌, ◌<◌, List, [], ◌∷◌, ◌++◌, length, map, Some, sym, ◌∙◌, subst, arith}
+use Rattle.std.proofs.Common.{◌≡◌, ℕ, ◌+◌, ◌*◌, ◌%◌, ◌^◌, ◌<◌, ◌≤◌, List, [], ◌∷◌, ◌++◌, length, map, Some, sym, ◌∙◌, subst, arith}
 use Rattle.std.specs.Prelude.{slice_get}
 use Rattle.std.specs.List.{AllByRecursion, Contains}
 use Rattle.std.proofs.lemmas.List.{length-map}
@@ -11,7 +11,7 @@ use Rattle.implib.specs.Link.Image.{Range}
 use Rattle.implib.specs.Link.Load.{BytesAt}
 use Rattle.implib.specs.Link.Resolution.{definitions_of}
 use Rattle.implib.specs.Members.ImportTables.{thunk_width}
-use Rattle.implib_link.specs.Gnu.Calls.{CanBranch}
+use Rattle.implib_link.specs.Gnu.Calls.{CanBranch, DirectCallArrives, HasDirectCall}
 use Rattle.implib_link.specs.Gnu.Fields.{DefinesIn, LinkedCode, placed_code}
 use Rattle.implib_link.specs.Gnu.Loaded.{Writes}
 use Rattle.implib_link.specs.Gnu.Moves.{AreInMemory}
@@ -20,7 +20,9 @@ use Rattle.implib_link.specs.Gnu.Reading.{ReadsAndWrites}
 use Rattle.implib_link.specs.Tables.{AreSteady, AreTables, AreTablesLoaded, CanReadFrom, Table, TableEntry, Tables, imported_by_table}
 use Rattle.implib_link.proofs.Gnu.CallReads.{CanReach}
 use Rattle.implib_link.proofs.Gnu.FieldsInMemory.{Rests, part_there, rests}
-use Rattle.implib_link.proofs.Gnu.Keeps.{bytes_kept, keeps_written, memory_can_be_read, memory_read}
+use Rattle.implib_link.proofs.Gnu.CallsByName.{direct_arrives}
+use Rattle.implib_link.proofs.Gnu.UsualCode.{AreReached, usual_reached}
+use Rattle.implib_link.proofs.Gnu.Keeps.{bytes_kept, keeps_written, memory_can_be_read, memory_read, memory_reads}
 use Rattle.implib_link.proofs.Gnu.Memory.{Covers, byte_first, loaded_below, written_covers}
 use Rattle.implib_link.proofs.Gnu.Operands.{all_lead, branch_arrives}
 use Rattle.implib_link.proofs.Gnu.Stubs.{same_address, wide_thunk}
@@ -41,6 +43,12 @@ entry_reached I386 image_base address j can = can
 entry_reached ARMNT image_base address j can = can
 entry_reached AMD64 image_base address j can = can
 entry_reached ARM64 image_base address j can = (can.0, eights address j can.1)
+
+pub not_armnt : (machine : MachineType) (image_base address : ℕ) → CanReadFrom machine image_base address → machine ≡ ARMNT → ⊥
+not_armnt I386 image_base address can is = cc
+not_armnt ARMNT image_base address can is = absurd can
+not_armnt AMD64 image_base address can is = cc
+not_armnt ARM64 image_base address can is = cc
 
 -- What is known of one entry of loaded tables.
 pub record EntryIn (machine : MachineType) (t : Tables) (written memory : List Range) (name given : List ℕ) (entry : ℕ) : Type 0 where
@@ -76,6 +84,11 @@ module _ (machine : MachineType) (image_base : ℕ) (t : Tables) (codes : List L
       subst (λ n. (written : List Range) × ReadsAndWrites memory (thunk_width machine) gives n t.directory written) (length-map t.tables imported_by_table)
       (memory_can_be_read t.image memory resting.image_kept (thunk_width machine) gives t.directory (map imported_by_table t.tables) tables.directory)
 
+  -- a loader that is handed the imports writes what one does that reads them in memory
+  pub written_read : (written : List Range) → Writes t.image (thunk_width machine) gives t.directory (map imported_by_table t.tables) written →
+      ReadsAndWrites memory (thunk_width machine) gives (length (map imported_by_table t.tables)) t.directory written
+  written_read written writes = memory_reads t.image memory resting.image_kept (thunk_width machine) gives t.directory (map imported_by_table t.tables) written tables.directory writes
+
   module _ (n : ℕ) (written : List Range) (wide : (dll : List ℕ) (ask : Ask) → length (gives dll ask) ≡ thunk_width machine)
       (reads : ReadsAndWrites memory (thunk_width machine) gives n t.directory written) where
     pub covering : AllByRecursion (Covers t.image) written
@@ -103,7 +116,7 @@ module _ (machine : MachineType) (image_base : ℕ) (t : Tables) (codes : List L
         all_lead machine image_base t.image t.linked codes targets memory resting written covering name (gives x.dll e.ask) (x.address + thunk_width machine * j) own.once own.small
         (entry_reached machine image_base x.address j can) own.located
 
-    entry_known : (name dll : List ℕ) (ask : Ask) (address j : ℕ) → HasEntry t name dll ask address j → EntryIn machine t written memory name (gives dll ask) (address + thunk_width machine * j)
+    pub entry_known : (name dll : List ℕ) (ask : Ask) (address j : ℕ) → HasEntry t name dll ask address j → EntryIn machine t written memory name (gives dll ask) (address + thunk_width machine * j)
     entry_known name dll ask address j own =
         subst (λ a. EntryIn machine t written memory name (gives dll ask) (a + thunk_width machine * j)) own.at
         (subst (λ d. EntryIn machine t written memory name (gives d ask) (own.table.address + thunk_width machine * j)) own.of_dll
@@ -135,3 +148,17 @@ module _ (machine : MachineType) (image_base : ℕ) (t : Tables) (codes : List L
     pub tables_keep_in_memory : AreKept machine codes (written ++ memory)
     tables_keep_in_memory c offset count held none =
         part_there machine image_base t.image t.linked codes targets memory resting written covering c (contains_among c codes held) offset count none
+
+    -- what the usual instructions against an entry's symbol do
+    pub entry_reached_by : (name dll : List ℕ) (ask : Ask) (address j : ℕ) → HasEntry t name dll ask address j → CanReadFrom machine image_base address →
+        AreReached machine image_base codes (written ++ memory) name (gives dll ask)
+    entry_reached_by name dll ask address j own can =
+        usual_reached machine image_base t.linked codes (written ++ memory) name name (gives dll ask) (not_armnt machine image_base address can) (entry_leads name dll ask address j own can) tables_keep_in_memory
+
+    -- a call by a name, where what defines it is a stub that arrives
+    pub tables_call_in_memory : (c d : LinkedCode) (offset : ℕ) (name bytes : List ℕ) (s : ObjectSymbol) → Contains codes c → HasDirectCall machine (placed_code c) offset name → Contains codes d → DefinesIn d s → s.name ≡ name →
+        CanBranch machine (c.position + offset) d.position → (s.value ≡ 0) × StubArrives machine image_base (written ++ memory) d.position bytes →
+        DirectCallArrives machine image_base (written ++ memory) (c.position + offset) bytes
+    tables_call_in_memory c d offset name bytes s held has d_held defines named near stub =
+        let end : d.position + length d.code.bytes + 16 ≤ 2 ^ 31 = all_among (λ (x : LinkedCode). x.position + length x.code.bytes + 16 ≤ 2 ^ 31) d codes (contains_among d codes d_held) resting.beside.ends in
+        direct_arrives machine image_base t.image t.linked codes targets memory resting written covering c d offset name bytes s held has d_held defines named stub.0 (omega arith) near stub.1

@@ -17,7 +17,7 @@ use Rattle.implib_link.specs.Search.Search.{IsTakenInTurn}
 use Rattle.implib_link.specs.Worked.Calls.{calling_at}
 use Rattle.implib_link.specs.Worked.Lld.{two_dlls}
 use Rattle.implib_link.specs.Worked.Loads.{written_8}
-use Rattle.implib_link.specs.Worked.NearLinks.{NearAreBeside, NearAreGiven, NearAreGivenForMsvc, NearAreLinkedBeside, NearAreMoved, NearArePiecesAt, NearAreSections, NearCallReaches, NearCanBeRebased, NearDefinesIn, NearFindsBy, NearHasBranch, NearHasField, NearHasOperand, NearIsAtBase, NearIsClosedForMsvc, NearJumpsThrough, NearNames, NearResolves, NearTakes, NearTakesInto, NearTakesIntoFor, NearTakesSymbols}
+use Rattle.implib_link.specs.Worked.NearLinks.{NearAreGiven, NearAreGivenForMsvc, NearAreLinkedBeside, NearAreMoved, NearArePiecesAt, NearAreSections, NearCallReaches, NearDefinesIn, NearFindsBy, NearHasBranch, NearHasField, NearHasOperand, NearIsClosedForMsvc, NearJumpsThrough, NearNames, NearResolves, NearTakes, NearTakesInto, NearTakesIntoFor, NearTakesSymbols}
 use Rattle.implib_link.specs.Worked.NearSearches.{again, listing}
 use Rattle.implib_link.specs.Worked.Operands.{field, imp_open, passing_at}
 use Rattle.implib_link.specs.Worked.Programs.{program_image, program_placed, symbol_of_class, symbol_on, touching_8}
@@ -91,9 +91,6 @@ near_call_reaches = record {
 
 -- Code beside the tables.
 
-no_section : (n : ℕ) → None ≡ Some n → ⊥
-no_section n is = cc
-
 too_high : (n : ℕ) → n ≡ 0x7FFF_FFE2 + 15 + 16 → n ≤ 2 ^ 31 → ⊥
 too_high n is below = omega arith
 
@@ -102,12 +99,6 @@ far_too_high n is below = omega arith
 
 too_far : (n : ℕ) → n ≡ 7 → n ≤ 6 → ⊥
 too_far n is below = omega arith
-
-pub near_are_beside : NearAreBeside
-near_are_beside = record {
-  held = λ x. none_in _ x.held.0;
-  sections = λ x. let none : None ≡ Some (calling_at AMD64 0x1000).code = x.sections.0 in cc;
-}
 
 pub near_are_sections : NearAreSections
 near_are_sections = record {
@@ -195,12 +186,6 @@ near_finds_by = record {
 
 past_code : (n : ℕ) → n ≡ 0x1000 + 38 + 4 → n ≤ 0x1000 + 41 → ⊥
 past_code n is below = omega arith
-
-pub near_can_be_rebased : NearCanBeRebased
-near_can_be_rebased = record { within = λ x. past_code (0x1000 + 38 + 4) refl x.within.0.0 }
-
-pub near_is_at_base : NearIsAtBase
-near_is_at_base = record { within = λ objects targets memory x. past_code (0x1000 + 38 + 4) refl x.within.0.0 }
 
 pub near_are_moved : NearAreMoved
 unfolding searched

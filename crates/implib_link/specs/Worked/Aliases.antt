@@ -14,7 +14,7 @@ use Rattle.implib.specs.Members.WeakExternal.{weak_object}
 use Rattle.implib_link.specs.Directory.{imported}
 use Rattle.implib_link.specs.Flavors.Program.{IsFlavorProgram, imported_in, objects_taken}
 use Rattle.implib_link.specs.Gnu.Aliases.{ResolvesAliases, weak_target}
-use Rattle.implib_link.specs.Gnu.Calls.{AreBeside, CallArrives, HasCall, PlacedCode, call_reads, code_range, code_ranges}
+use Rattle.implib_link.specs.Gnu.Calls.{CallArrives, HasCall, PlacedCode, call_reads}
 use Rattle.implib_link.specs.Gnu.Loaded.{Writes}
 use Rattle.implib_link.specs.Gnu.Pointers.{HasLoad, LoadArrives, load_reads}
 use Rattle.implib_link.specs.Gnu.Program.{IsProgram, null_descriptor}
@@ -22,6 +22,7 @@ use Rattle.implib_link.specs.Worked.Calls.{calling, calling_code, first_bytes, g
 use Rattle.implib_link.specs.Worked.Flavors.{both_inputs as flavor_inputs, flavor_bases_8, members_with_null}
 use Rattle.implib_link.specs.Worked.Pointers.{loading, loading_code}
 use Rattle.implib_link.specs.Worked.Programs.{another, both_inputs, foo_input, input_objects, symbol_of_class, touching_8, zed_input}
+use Rattle.implib_link.specs.Worked.Relocated.{CodesBeside, as_placed, code_range, code_ranges, linked_codes}
 
 -- the alias and its target
 abbrev pub opened_name : List ℕ
@@ -88,8 +89,9 @@ alias_memory bases objects address written =
 -- at what foo.dll gives for `open`, and the pointer that is read at 0x1014 is this, too.
 pub record WorkedAlias : Type 0 where
   pub program : IsProgram AMD64 touching_8 (both_inputs AMD64) alias_objects
-  pub beside : AreBeside AMD64 0x1_4000_0000 touching_8 alias_objects alias_codes (all_at 0x80)
-  pub resolves : ResolvesAliases alias_placed alias_codes (all_at 0x80)
+  pub beside : CodesBeside AMD64 0x1_4000_0000 touching_8 alias_objects alias_codes (all_at 0x80)
+  pub resolves : ResolvesAliases alias_placed (linked_codes AMD64 0x1_4000_0000 (all_at 0x80) alias_codes)
+      (as_placed (all_at 0x80))
   pub undefined : definitions_of opened_name alias_placed ≡ []
   pub weak : weak_target opened_name alias_placed ≡ Some (imp_symbol (codes "open"))
   -- another name is weak for nothing, and the target itself is
@@ -140,8 +142,9 @@ opened_placed = placed_from flavor_bases_8 opened_flavors
 -- call at 0x1004 arrives at what foo.dll gives for `open`, and the pointer that is read at 0x1014 is this, too.
 pub record WorkedFlavorAlias : Type 0 where
   pub program : IsFlavorProgram AMD64 flavor_bases_8 (flavor_inputs AMD64) opened_flavors
-  pub beside : AreBeside AMD64 0x1_4000_0000 flavor_bases_8 opened_flavors alias_codes (all_at 0x88)
-  pub resolves : ResolvesAliases opened_placed alias_codes (all_at 0x88)
+  pub beside : CodesBeside AMD64 0x1_4000_0000 flavor_bases_8 opened_flavors alias_codes (all_at 0x88)
+  pub resolves : ResolvesAliases opened_placed (linked_codes AMD64 0x1_4000_0000 (all_at 0x88) alias_codes)
+      (as_placed (all_at 0x88))
   pub undefined : definitions_of opened_name opened_placed ≡ []
   pub weak : weak_target opened_name opened_placed ≡ Some (imp_symbol (codes "open"))
   pub calls : HasCall AMD64 alias_at 4 opened_name
@@ -168,4 +171,4 @@ pub record WorkedFlavorAlias : Type 0 where
       (0x40 ∷ 0 ∷ 0 ∷ 0x10 ∷ 0 ∷ 0 ∷ 0 ∷ 0 ∷ [])
   -- weak for `__imp_stat`, whose entry is at 0x90, it is not at 0x88
   pub astray : ResolvesAliases (placed_from flavor_bases_8 (alias_flavors (imp_symbol (codes "stat"))))
-      alias_codes (all_at 0x88) → ⊥
+      (linked_codes AMD64 0x1_4000_0000 (all_at 0x88) alias_codes) (as_placed (all_at 0x88)) → ⊥

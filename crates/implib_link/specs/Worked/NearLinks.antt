@@ -3,23 +3,21 @@
 use Rattle.std.specs.Prelude.{ℕ, List, [], ◌∷◌, ◌++◌, codes}
 use Rattle.implib.specs.declared.machine.MachineType.TheVariants.{I386, AMD64}
 use Rattle.implib.specs.Formats.Constants.{class_external, i386_dir32}
-use Rattle.implib.specs.Formats.Object.{Object}
 use Rattle.implib.specs.Link.Image.{Range}
 use Rattle.implib_link.specs.Directory.{FindsBy, Imported}
 use Rattle.implib_link.specs.Flavors.LldTables.{ArePiecesAt}
-use Rattle.implib_link.specs.Gnu.Calls.{AreBeside, PlacedCode, Resolves}
-use Rattle.implib_link.specs.Gnu.Choices.{AreSections, CanBeRebased}
+use Rattle.implib_link.specs.Gnu.Calls.{Resolves}
+use Rattle.implib_link.specs.Gnu.Choices.{AreSections}
 use Rattle.implib_link.specs.Gnu.Fields.{AreLinkedBeside, DefinesIn, LinkedCode, TakesSymbols, placed_code}
 use Rattle.implib_link.specs.Gnu.Moves.{AreMoved}
 use Rattle.implib_link.specs.Gnu.Operands.{HasBranch, HasField, HasOperand, Names}
-use Rattle.implib_link.specs.Gnu.Rebased.{IsAtBase}
 use Rattle.implib_link.specs.Search.Closed.{TakesInto}
 use Rattle.implib_link.specs.Search.Given.{AreGiven}
 use Rattle.implib_link.specs.Search.MsvcClosed.{IsClosedForMsvc, TakesIntoFor}
 use Rattle.implib_link.specs.Search.MsvcGiven.{AreGivenForMsvc}
 use Rattle.implib_link.specs.Search.Search.{Takes}
 use Rattle.implib_link.specs.Stub.{CallReaches, JumpsThrough}
-use Rattle.implib_link.specs.Worked.Calls.{calling_at, calling_objects, calling_placed, table_targets}
+use Rattle.implib_link.specs.Worked.Calls.{calling_at, calling_objects, calling_placed}
 use Rattle.implib_link.specs.Worked.Closed.{choosing}
 use Rattle.implib_link.specs.Worked.Lld.{two_dlls}
 use Rattle.implib_link.specs.Worked.Loads.{written_8}
@@ -70,13 +68,8 @@ pub record NearCallReaches : Type 0 where
   pub located : CallReaches AMD64 0x1_4000_0000 (written_8 AMD64 ++ program_image AMD64 touching_8)
       (program_placed AMD64 touching_8) (codes "queue") (0x72 ∷ 0x7A ∷ []) → ⊥
 
--- code of an object that is not linked, and of a section that the object does not have
-pub record NearAreBeside : Type 0 where
-  pub held : AreBeside AMD64 0x1_4000_0000 touching_8 [] (calling_at AMD64 0x1000 ∷ []) (table_targets AMD64 touching_8) → ⊥
-  pub sections : AreBeside AMD64 0x1_4000_0000 touching_8 (calling_objects AMD64)
-      (record (calling_at AMD64 0x1000) { number = 2 } ∷ []) (table_targets AMD64 touching_8) → ⊥
-
--- the same; too high; and a field that leads out of its section
+-- code of an object that is not linked, and of a section that the object does not have; too high; and a field that leads
+-- out of its section
 pub record NearAreSections : Type 0 where
   pub held : AreSections AMD64 touching_8 [] (calling_at AMD64 0x1000 ∷ []) → ⊥
   pub sections : AreSections AMD64 touching_8 (calling_objects AMD64) (record (calling_at AMD64 0x1000) { number = 2 } ∷ []) → ⊥
@@ -140,13 +133,6 @@ pub record NearFindsBy : Type 0 where
 -- I386's code with an address that leads out of its section
 abbrev pub leading_out : LinkedCode
 leading_out = record (passing_at I386) { code = record (passing_code I386) { relocations = field 38 2 i386_dir32 ∷ [] } }
-
-pub record NearCanBeRebased : Type 0 where
-  pub within : CanBeRebased I386 (placed_code leading_out ∷ []) → ⊥
-
-pub record NearIsAtBase : Type 0 where
-  pub within : (objects : List Object) (targets : PlacedCode → ℕ → ℕ) (memory : List Range) →
-      IsAtBase I386 0x40_0000 0x1000_0000 touching_4 objects (placed_code leading_out ∷ []) targets memory → ⊥
 
 -- no base relocation for the call's field; and one where code stores no address
 pub record NearAreMoved : Type 0 where
