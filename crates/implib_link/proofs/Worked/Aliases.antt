@@ -1,7 +1,7 @@
 -- The calls and the pointer by an alias by hand, by computing and by the law.
 use Rattle.implib_link.specs.Gnu.Fields.{LinkedCode}
 use Rattle.std.proofs.Common.{◌≡◌, ℕ, ◌^◌, Bool, true, List, [], ◌∷◌, ◌++◌, codes, Option, None, Some, refl, ap, sym, ◌∙◌, subst, arith, true≢false}
-use Rattle.std.specs.Prelude.{drop, take, ◌==◌, if◌then◌else◌}
+use Rattle.std.specs.Prelude.{drop, take, ◌==◌, if◌then◌else◌, slice_get}
 use Rattle.std.specs.List.{list_all}
 use Rattle.std.specs.Option.{option_and_then}
 use Rattle.std.proofs.lemmas.Bool.{eqb-true}
@@ -9,12 +9,12 @@ use Rattle.implib.specs.declared.machine.MachineType.TheVariants.{AMD64}
 use Rattle.implib.specs.Formats.Bytes.{u32_bytes}
 use Rattle.implib.specs.Formats.Constants.{class_external}
 use Rattle.implib.specs.Formats.Layout.{encoded_size, entries_of, name_text, object_of}
-use Rattle.implib.specs.Formats.Object.{ASymbol, Auxiliary, Entry, u32_at}
+use Rattle.implib.specs.Formats.Object.{ASymbol, Auxiliary, Entry, u32_at, ObjectSymbol}
 use Rattle.implib.specs.Formats.ShortImport.{short_import_in}
 use Rattle.implib.specs.Import.{imp_symbol}
 use Rattle.implib.specs.Link.Image.{image_of}
 use Rattle.implib.specs.Link.Placement.{Placed, placed_from}
-use Rattle.implib.specs.Link.Resolution.{definitions_of, first_address, is_undefined_external, symbol_address}
+use Rattle.implib.specs.Link.Resolution.{definitions_of, first_address, is_undefined_external, symbol_address, SymbolDefinition}
 use Rattle.implib.specs.Members.GnuMembers.{alias_specs}
 use Rattle.implib.specs.Members.Members.{refusal, renamed_refusal}
 use Rattle.implib.specs.Members.MsvcMembers.{descriptor_spec, header_specs, null_descriptor_spec, null_thunk_spec, weak_specs}
@@ -29,7 +29,7 @@ use Rattle.implib_link.specs.Gnu.Calls.{HasCall, PlacedCode, Resolves}
 use Rattle.implib_link.specs.Gnu.Packed.{group_end, sections_end}
 use Rattle.implib_link.specs.Gnu.Pointers.{HasLoad}
 use Rattle.implib_link.specs.Gnu.Program.{IsProgram, has_tables, linked_symbols}
-use Rattle.implib_link.specs.Worked.Aliases.{WorkedAlias, WorkedFlavorAlias, alias_at, alias_calling, alias_codes, alias_flavors, alias_load_at, alias_loading, alias_objects, alias_placed, all_at, opened_flavors, opened_name, opened_placed}
+use Rattle.implib_link.specs.Worked.Aliases.{WorkedAlias, WorkedFlavorAlias, alias_at, alias_calling, alias_codes, alias_flavors, alias_load_at, alias_loading, alias_objects, alias_placed, all_at, opened_flavors, opened_name, opened_placed, OverriddenAlias, overridden_code, overridden_placed}
 use Rattle.implib_link.specs.Worked.Calls.{first_bytes, given_on, last_bytes}
 use Rattle.implib_link.specs.Worked.Flavors.{both_inputs as flavor_inputs, flavor_bases_8, foo_input as msvc_input}
 use Rattle.implib_link.specs.Worked.Programs.{another, both_inputs, foo_input, symbol_of_class, touching_8}
@@ -37,7 +37,7 @@ use Rattle.implib_link.proofs.Worked.Relocated.{flavors_calls_by_alias, flavors_
 use Rattle.implib_link.proofs.Gnu.Aliases.{weak_is_weak}
 use Rattle.implib_link.proofs.Worked.Relocated.{calls_by_alias, loads_by_alias}
 use Rattle.implib_link.proofs.Search.Lists.{among_at, contains_among}
-use Rattle.implib_link.proofs.Worked.Calls.{is_none, open_export, wide}
+use Rattle.implib_link.proofs.Worked.Calls.{is_none, open_export, wide, one_of, second_at}
 use Rattle.implib_link.proofs.Search.Lists.{each_of}
 use Rattle.implib_link.proofs.Worked.Flavors.{worked_flavors}
 use Rattle.implib_link.proofs.Worked.Programs.{claims_none_by, distinct_by, opened, worked_programs}
@@ -289,4 +289,30 @@ worked_flavor_alias = record {
       flavors_loads_by_alias AMD64 0x1_4000_0000 flavor_bases_8 (flavor_inputs AMD64) opened_flavors alias_codes (all_at 0x88) (given_on AMD64) written 0 1 (msvc_input AMD64) (open_export AMD64) alias_load_at 4
       opened_name worked_flavors.amd64.made flavors_program tt flavors_beside flavors_resolves (wide AMD64) writes refl refl (1, omega arith, refl) flavors_undefined flavors_weak loads;
   astray = astray;
+}
+
+-- A name that is weak, and defined.
+
+stat_defined : definitions_of (imp_symbol (codes "stat")) overridden_placed ≡ record { name = imp_symbol (codes "stat"); address = Some 0x88 } ∷ []
+unfolding opened alias_specs encoded_size weak_object has_tables object_of entries_of name_text u32_bytes
+stat_defined = refl
+
+not_nothing : (d : SymbolDefinition) → d ∷ [] ≡ [] → ⊥
+not_nothing d none = cc
+
+stat_resolves : ResolvesAliases overridden_placed (overridden_code ∷ []) (λ c index. 0x88)
+stat_resolves c index address s target held at undefined none weak there =
+    let c_is : c ≡ overridden_code = one_of c overridden_code (contains_among c (overridden_code ∷ []) held) in
+    let u : ObjectSymbol = symbol_of_class (imp_symbol (codes "stat")) 0 class_external in
+    let s_is : s ≡ u = second_at (symbol_of_class (codes "main") 1 class_external) u s index refl undefined (subst (λ (x : LinkedCode). slice_get x.from.object.entries index ≡ Some (ASymbol s)) c_is at) in
+    absurd (not_nothing (record { name = imp_symbol (codes "stat"); address = Some 0x88 }) (sym stat_defined ∙ subst (λ (x : ObjectSymbol). definitions_of x.name overridden_placed ≡ []) s_is none))
+
+pub overridden_alias : OverriddenAlias
+unfolding opened alias_specs encoded_size weak_object has_tables object_of entries_of name_text u32_bytes u32_at
+overridden_alias = record {
+  weak = refl;
+  defined = stat_defined;
+  target = refl;
+  resolves = stat_resolves;
+  taken = λ targets takes. takes.tables overridden_code 1 0x88 (ASymbol (symbol_of_class (imp_symbol (codes "stat")) 0 class_external)) (0, omega arith, refl) refl refl;
 }

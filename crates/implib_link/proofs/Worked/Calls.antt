@@ -63,7 +63,7 @@ opened = tt
 
 -- Code of one object, whose first symbol is its own and whose second is another object's, is resolved by the tables.
 
-one_of : {X : Type 0} (x k : X) → Among x (k ∷ []) → x ≡ k
+pub one_of : {X : Type 0} (x k : X) → Among x (k ∷ []) → x ≡ k
 unfolding Among
 one_of x k (inl same) = same
 one_of x k (inr none) = absurd none
@@ -74,7 +74,7 @@ first_or_second x m u (inl same) = inl same
 first_or_second x m u (inr (inl same)) = inr same
 first_or_second x m u (inr (inr none)) = absurd none
 
-second_at : (m u s : ObjectSymbol) (index : ℕ) → is_undefined_external m ≡ false → is_undefined_external s ≡ true → slice_get (ASymbol m ∷ ASymbol u ∷ []) index ≡ Some (ASymbol s) → s ≡ u
+pub second_at : (m u s : ObjectSymbol) (index : ℕ) → is_undefined_external m ≡ false → is_undefined_external s ≡ true → slice_get (ASymbol m ∷ ASymbol u ∷ []) index ≡ Some (ASymbol s) → s ≡ u
 second_at m u s zero own undefined at =
     let same : m ≡ s = cc in
     absurd (true≢false (sym undefined ∙ sym (ap is_undefined_external same) ∙ own))

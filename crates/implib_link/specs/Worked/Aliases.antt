@@ -1,6 +1,7 @@
 -- Calls and pointers by an alias, by hand: a program as in Worked/Calls on AMD64, whose code calls through
 -- `__imp_opened` and reads a pointer through it, with the weak external that makes this an alias of
 -- `__imp_open`; and a program of both flavours with such code.
+use Rattle.implib_link.specs.Gnu.Fields.{LinkedCode, TakesSymbols}
 use Rattle.std.specs.Prelude.{◌≡◌, ℕ, List, [], ◌∷◌, ◌++◌, codes, map, Some, None}
 use Rattle.implib.specs.declared.machine.MachineType.TheVariants.{AMD64}
 use Rattle.implib.specs.Formats.Constants.{class_external}
@@ -20,9 +21,9 @@ use Rattle.implib_link.specs.Gnu.Pointers.{HasLoad, LoadArrives, load_reads}
 use Rattle.implib_link.specs.Gnu.Program.{IsProgram, null_descriptor}
 use Rattle.implib_link.specs.Worked.Calls.{calling, calling_code, first_bytes, given_on, last_bytes}
 use Rattle.implib_link.specs.Worked.Flavors.{both_inputs as flavor_inputs, flavor_bases_8, members_with_null}
-use Rattle.implib_link.specs.Worked.Pointers.{loading, loading_code}
+use Rattle.implib_link.specs.Worked.Pointers.{loading, loading_code, loading_at, tables_of}
 use Rattle.implib_link.specs.Worked.Programs.{another, both_inputs, foo_input, input_objects, symbol_of_class, touching_8, zed_input}
-use Rattle.implib_link.specs.Worked.Relocated.{CodesBeside, as_placed, code_range, code_ranges, linked_codes}
+use Rattle.implib_link.specs.Worked.Relocated.{CodesBeside, as_placed, code_range, code_ranges, linked_codes, linked_by}
 
 -- the alias and its target
 abbrev pub opened_name : List ℕ
@@ -172,3 +173,28 @@ pub record WorkedFlavorAlias : Type 0 where
   -- weak for `__imp_stat`, whose entry is at 0x90, it is not at 0x88
   pub astray : ResolvesAliases (placed_from flavor_bases_8 (alias_flavors (imp_symbol (codes "stat"))))
       (linked_codes AMD64 0x1_4000_0000 (all_at 0x88) alias_codes) (as_placed (all_at 0x88)) → ⊥
+
+-- A name that is weak for another and defined, too: what is linked is the code of Worked/Pointers, which reads a pointer
+-- through `__imp_stat`, a weak external that would make this an alias of `__imp_open`, and the members.
+abbrev pub overridden_objects : List Object
+overridden_objects =
+    loading AMD64
+    ∷ (object_of (weak_object AMD64 (imp_symbol (codes "stat")) (imp_symbol (codes "open")))
+    ∷ (input_objects AMD64 (foo_input AMD64) ++ (input_objects AMD64 (zed_input AMD64) ++ null_descriptor ∷ [])))
+
+abbrev pub overridden_placed : List Placed
+overridden_placed = placed_from touching_8 overridden_objects
+
+abbrev pub overridden_code : LinkedCode
+overridden_code = linked_by AMD64 0x1_4000_0000 (tables_of overridden_placed) (loading_at AMD64)
+
+-- The definition counts: `__imp_stat` is its own entry at 0x88, where its target is at 0x80.
+pub record OverriddenAlias : Type 0 where
+  pub weak : weak_target (imp_symbol (codes "stat")) overridden_placed ≡ Some (imp_symbol (codes "open"))
+  pub defined : definitions_of (imp_symbol (codes "stat")) overridden_placed
+      ≡ record { name = imp_symbol (codes "stat"); address = Some 0x88 } ∷ []
+  pub target : definitions_of (imp_symbol (codes "open")) overridden_placed
+      ≡ record { name = imp_symbol (codes "open"); address = Some 0x80 } ∷ []
+  pub resolves : ResolvesAliases overridden_placed (overridden_code ∷ []) (λ c index. 0x88)
+  pub taken : (targets : LinkedCode → ℕ → ℕ) → TakesSymbols overridden_placed (overridden_code ∷ []) targets →
+      targets overridden_code 1 ≡ 0x88

@@ -15,7 +15,7 @@ ghost use Rattle.implib_link.specs.Worked.NearLinks.{NearAreMoved, NearArePieces
 ghost use Rattle.implib_link.specs.Worked.NearLinks.{NearAreSections, NearCallReaches};
 ghost use Rattle.implib_link.specs.Worked.NearLinks.{NearDefinesIn};
 ghost use Rattle.implib_link.specs.Worked.NearLinks.{NearFindsBy, NearHasBranch};
-ghost use Rattle.implib_link.specs.Worked.NearLinks.{NearHasField, NearHasOperand};
+ghost use Rattle.implib_link.specs.Worked.NearLinks.{NearHasField, NearHasInstruction, NearHasOperand};
 ghost use Rattle.implib_link.specs.Worked.NearLinks.{NearIsClosedForMsvc};
 ghost use Rattle.implib_link.specs.Worked.NearLinks.{NearJumpsThrough, NearNames};
 ghost use Rattle.implib_link.specs.Worked.NearLinks.{NearResolves, NearTakes};
@@ -34,7 +34,7 @@ ghost use Rattle.implib_link.specs.Worked.NearResults.{NearImportsBy, NearInputI
 ghost use Rattle.implib_link.specs.Worked.NearResults.{NearInstructionArrives, NearIsClosed};
 ghost use Rattle.implib_link.specs.Worked.NearResults.{NearLinksAmong, NearLinksBeside};
 ghost use Rattle.implib_link.specs.Worked.NearResults.{NearLinksClosed, NearLinksClosedForMsvc};
-ghost use Rattle.implib_link.specs.Worked.NearResults.{NearPageArrives};
+ghost use Rattle.implib_link.specs.Worked.NearResults.{NearPageArrives, NearPairArrives};
 ghost use Rattle.implib_link.specs.Worked.NearSearches.{NearAreNamedApart, NearIsAliasTaken};
 ghost use Rattle.implib_link.specs.Worked.NearSearches.{NearIsArchive, NearIsImported};
 ghost use Rattle.implib_link.specs.Worked.NearSearches.{NearIsImportedShort, NearIsMsvcArchive};
@@ -140,6 +140,7 @@ pub fn near_misses_of_links()
     ensures finds_by { NearFindsBy }
     ensures has_branch { NearHasBranch }
     ensures has_field { NearHasField }
+    ensures has_instruction { NearHasInstruction }
     ensures has_operand { NearHasOperand }
     ensures is_closed_for_msvc { NearIsClosedForMsvc }
     ensures jumps_through { NearJumpsThrough }
@@ -172,4 +173,5 @@ pub fn near_misses_of_results()
     ensures links_closed { NearLinksClosed }
     ensures links_closed_for_msvc { NearLinksClosedForMsvc }
     ensures page_arrives { NearPageArrives }
+    ensures pair_arrives { NearPairArrives }
 {}
