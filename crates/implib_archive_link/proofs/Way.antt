@@ -18,8 +18,9 @@ use Rattle.implib_link.specs.Directory.{imported}
 use Rattle.implib_link.specs.Search.Archives.{IsArchive, Library, archive_of}
 use Rattle.implib_link.specs.Search.Closed.{AreLinkedFor, LinksClosed, TakesInto, inputs_in, wanted_in}
 use Rattle.implib_link.specs.Search.Given.{AreGiven}
-use Rattle.implib_link.proofs.Gnu.Calls.{calls_reach_through_entries}
-use Rattle.implib_link.proofs.Gnu.Reading.{directory_read, reader_loads}
+use Rattle.implib_link.proofs.CodeOfPrograms.{linked_reached}
+use Rattle.implib_link.proofs.Gnu.Reading.{directory_read}
+use Rattle.implib_link.proofs.LoadedPrograms.{reader_loads}
 use Rattle.implib_link.proofs.Search.Archives.{inputs_made}
 use Rattle.implib_link.proofs.Search.Arranged.{archive_moved}
 use Rattle.implib_link.proofs.Search.Closed.{closed_links}
@@ -37,9 +38,9 @@ calls_arrive machine libraries own taken arranged bases objects archive given ta
       links = links;
       ends = λ gives n written wide reads. (reader_loads machine bases inputs objects gives n written made links.program wide reads).0;
       calls = λ image_base codes targets gives n written i j p e c offset can beside wide reads input chosen held has.
-          calls_reach_through_entries machine image_base bases inputs objects codes targets gives written i j p e c offset made links.program can beside wide
-          (directory_read (image_of machine bases (placed_from bases objects)) (thunk_width machine) gives n bases.descriptors (map (imported machine) inputs) written links.links.directory reads).1
-          input chosen held has;
+          (linked_reached machine image_base bases inputs objects codes targets gives written made links.program can beside wide
+          (directory_read (image_of machine bases (placed_from bases objects)) (thunk_width machine) gives n bases.descriptors (map (imported machine) inputs) written links.links.directory reads).1 i j p e input chosen).calls
+          c offset held has;
     }
 
 pub bytes_lead_to_calls : (kind : Kind) (linker : LinkerMember) (machine : MachineType) (libraries : List Library) (own : List Object) → HaveArchive kind linker (archive_of libraries) →

@@ -24,7 +24,10 @@ use Rattle.implib_archive_link.specs.WorkedWay.{WorkedWay, bar_definition, bar_l
 use Rattle.implib_archive_link.specs.Way.{CallsArrive}
 use Rattle.implib_archive_link.proofs.Corollaries.{are_found_in_bytes}
 use Rattle.implib_archive_link.proofs.Way.{calls_arrive}
-use Rattle.implib_link.specs.Gnu.Calls.{AreBeside, HasCall}
+use Rattle.implib_link.specs.Gnu.Calls.{HasCall}
+use Rattle.implib_link.specs.Worked.Relocated.{CodesBeside, as_placed, linked_by, linked_codes}
+use Rattle.implib_link.proofs.Worked.LinkedCode.{relocated_test}
+use Rattle.implib_link.proofs.Worked.Relocated.{beside_by, codes_tested}
 use Rattle.implib_link.specs.Gnu.Program.{ClaimsNone, claimed_names, has_tables}
 use Rattle.implib_link.specs.Search.Archives.{IsArchive, archive_of, is_weak, symbols_of_library}
 use Rattle.implib_link.specs.Search.Closed.{AreLinkedFor, TakesInto, claims_of, listed_in, references_of}
@@ -106,15 +109,18 @@ linked_for = record {
   };
 }
 
-beside : AreBeside AMD64 0x1_4000_0000 bases objects (placed_code ∷ []) targets
-unfolding opened refusal renamed_refusal alias_specs encoded_size weak_object has_tables
-beside = record {
-  held = ((0, omega arith, refl), tt);
-  sections = (refl, tt);
-  ends = (omega arith, tt);
-  apart = apart_as_they_rise (2 ^ 31) memory refl;
-  resolved = one_code_resolves linked placed_code (symbol_of_class (codes "main") 1 class_external) (symbol_of_class (codes "__imp_bar") 0 class_external) refl refl refl (λ same. cc);
-}
+beside : CodesBeside AMD64 0x1_4000_0000 bases objects (placed_code ∷ []) targets
+unfolding opened refusal renamed_refusal alias_specs encoded_size weak_object has_tables relocated_test codes_tested
+beside =
+    beside_by AMD64 0x1_4000_0000 bases objects (placed_code ∷ []) targets
+    (record {
+      held = ((0, omega arith, refl), tt);
+      sections = (refl, tt);
+      ends = (omega arith, tt);
+      apart = apart_as_they_rise (2 ^ 31) memory refl;
+      resolved = one_code_resolves linked placed_code (symbol_of_class (codes "main") 1 class_external) (symbol_of_class (codes "__imp_bar") 0 class_external) refl refl refl (λ same. cc);
+    })
+    refl
 
 has_call : HasCall AMD64 placed_code 4 (codes "__imp_bar")
 has_call = record {
@@ -160,7 +166,7 @@ worked_way = record {
   entry = refl;
   arrives = λ n written reads. (
     arrive.ends (given_on AMD64) n written (wide AMD64) reads,
-    arrive.calls 0x1_4000_0000 (placed_code ∷ []) targets (given_on AMD64) n written 0 0 input (plain_export (codes "bar")) placed_code 4 tt beside (wide AMD64) reads refl refl (0, omega arith, refl) has_call,
+    arrive.calls 0x1_4000_0000 (linked_codes AMD64 0x1_4000_0000 targets (placed_code ∷ [])) (as_placed targets) (given_on AMD64) n written 0 0 input (plain_export (codes "bar")) (linked_by AMD64 0x1_4000_0000 targets placed_code) 4 tt beside (wide AMD64) reads refl refl (0, omega arith, refl) has_call,
   );
   refused = refused;
 }

@@ -10,7 +10,8 @@ use Rattle.implib.specs.Link.LinkedMembers.{LinkInput, chosen_exports}
 use Rattle.implib.specs.Link.Placement.{Bases, placed_from}
 use Rattle.implib.specs.Members.ImportTables.{thunk_width}
 use Rattle.implib.specs.Members.MemberSpec.{MemberView}
-use Rattle.implib_link.specs.Gnu.Calls.{AreBeside, CallArrives, HasCall, PlacedCode, code_ranges}
+use Rattle.implib_link.specs.Gnu.Calls.{CallArrives, HasCall}
+use Rattle.implib_link.specs.Gnu.Fields.{AreBeside, LinkedCode, placed_code, ranges_of_codes}
 use Rattle.implib_link.specs.Gnu.Reading.{ReadsAndWrites}
 use Rattle.implib_link.specs.Search.Archives.{Library}
 use Rattle.implib_link.specs.Search.Closed.{LinksClosed, inputs_in}
@@ -19,7 +20,7 @@ use Rattle.implib_link.specs.Stub.{CanJump}
 -- What is taken for the objects of a program closes it (`links`: each import is used, and each name that the
 -- program leaves undefined and the libraries list is an import or an alias). A loader that reads the image stops
 -- after as many descriptors as there are DLLs (`ends`). In the memory that it leaves, a call through `__imp_E` in
--- any object's placed code goes to what the DLL gives for E (`calls`).
+-- any object's linked code goes to what the DLL gives for E (`calls`).
 pub record CallsArrive (machine : MachineType) (libraries : List Library) (own : List Object)
     (taken : List MemberView) (arranged : List Library) (bases : Bases) (objects : List Object)
     : Type 0 where
@@ -29,9 +30,9 @@ pub record CallsArrive (machine : MachineType) (libraries : List Library) (own :
       ReadsAndWrites (image_of machine bases (placed_from bases objects)) (thunk_width machine) gives n
       bases.descriptors written →
       n ≡ length (inputs_in arranged own taken)
-  pub calls : (image_base : ℕ) (codes : List PlacedCode) (targets : PlacedCode → ℕ → ℕ)
+  pub calls : (image_base : ℕ) (codes : List LinkedCode) (targets : LinkedCode → ℕ → ℕ)
       (gives : List ℕ → Ask → List ℕ) (n : ℕ) (written : List Range) (i j : ℕ) (p : LinkInput) (e : ExportView)
-      (c : PlacedCode) (offset : ℕ) →
+      (c : LinkedCode) (offset : ℕ) →
       CanJump machine image_base bases →
       AreBeside machine image_base bases objects codes targets →
       ((dll : List ℕ) (ask : Ask) → length (gives dll ask) ≡ thunk_width machine) →
@@ -40,8 +41,8 @@ pub record CallsArrive (machine : MachineType) (libraries : List Library) (own :
       slice_get (inputs_in arranged own taken) i ≡ Some p →
       slice_get (chosen_exports p.definition p.chosen) j ≡ Some e →
       Contains codes c →
-      HasCall machine c offset (imp_symbol e.name) →
+      HasCall machine (placed_code c) offset (imp_symbol e.name) →
       CallArrives machine image_base
       (written ++ (image_of machine bases (placed_from bases objects)
-      ++ code_ranges machine image_base targets codes))
+      ++ ranges_of_codes codes))
       (c.position + offset) (gives p.definition.import_name (expected_ask machine e))

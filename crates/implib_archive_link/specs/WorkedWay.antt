@@ -19,7 +19,7 @@ use Rattle.implib.specs.Worked.Statements.{plain_export}
 use Rattle.implib_archive.specs.declared.kind.Kind.TheVariants.{Gnu}
 use Rattle.implib_archive_link.specs.InBytes.{First, asks_with}
 use Rattle.implib_archive_link.specs.Results.{HaveArchive, IsSearchOf}
-use Rattle.implib_link.specs.Gnu.Calls.{AreBeside, CallArrives, HasCall, PlacedCode, call_bytes, call_relocations, code_range, code_ranges, moved_by}
+use Rattle.implib_link.specs.Gnu.Calls.{CallArrives, HasCall, PlacedCode, call_bytes, call_relocations, moved_by}
 use Rattle.implib_link.specs.Gnu.Program.{null_descriptor}
 use Rattle.implib_link.specs.Gnu.Reading.{ReadsAndWrites}
 use Rattle.implib_link.specs.Search.Archives.{IsArchive, Library, archive_of}
@@ -28,6 +28,7 @@ use Rattle.implib_link.specs.Search.Given.{AreGiven}
 use Rattle.implib_link.specs.Worked.Archives.{library_of}
 use Rattle.implib_link.specs.Worked.Calls.{first_bytes, given_on, last_bytes}
 use Rattle.implib_link.specs.Worked.Programs.{symbol_of_class}
+use Rattle.implib_link.specs.Worked.Relocated.{CodesBeside, code_range, code_ranges}
 
 abbrev pub bar_text : List ℕ
 bar_text = codes "LIBRARY foo.dll\nEXPORTS\nbar\n"
@@ -130,7 +131,7 @@ pub record WorkedWay : Type 0 where
   pub leaves : unresolved own ≡ codes "__imp_bar" ∷ []
   pub takes : IsSearchOf Gnu First (archive_of libraries) (asks_with own) taken
   pub linked_for : AreLinkedFor AMD64 libraries own taken libraries bases objects
-  pub beside : AreBeside AMD64 0x1_4000_0000 bases objects (placed_code ∷ []) targets
+  pub beside : CodesBeside AMD64 0x1_4000_0000 bases objects (placed_code ∷ []) targets
   pub calls : HasCall AMD64 placed_code 4 (codes "__imp_bar")
   pub bytes : (code_range AMD64 0x1_4000_0000 targets placed_code).bytes
       ≡ first_bytes AMD64 ++ (0xFF ∷ 0x15 ∷ 0x2E ∷ 0xF0 ∷ 0xFF ∷ 0xFF ∷ last_bytes AMD64)

@@ -2,6 +2,10 @@ pub mod Gnu
 pub mod Flavors
 pub mod Search
 pub mod Tables
+pub mod PackedTables
 pub mod TablesOfPrograms
+pub mod LoadedPrograms
 pub mod TablesInMemory
+pub mod ProgramsInMemory
+pub mod CodeOfPrograms
 pub mod Worked

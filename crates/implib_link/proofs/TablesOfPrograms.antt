@@ -1,111 +1,46 @@
 -- Programs for GNU's linker, of both flavours, and of lld have import tables.
-use Rattle.std.proofs.Common.{◌≡◌, ℕ, zero, suc, ◌+◌, ◌*◌, ◌^◌, ◌<◌, ◌≤◌, List, [], ◌∷◌, ◌++◌, length, map, Option, Some, refl, ap, sym, ◌∙◌, subst, arith}
+use Rattle.std.proofs.Common.{◌≡◌, ℕ, zero, suc, ◌+◌, ◌*◌, List, [], ◌∷◌, ◌++◌, length, map, Some, refl, ap, sym, ◌∙◌, subst}
 use Rattle.std.specs.Prelude.{slice_get}
 use Rattle.std.specs.List.{AllByRecursion, Contains}
-use Rattle.std.proofs.Math.Nat.{mul-add}
 use Rattle.std.proofs.lemmas.List.{length-map}
 use Rattle.implib.specs.declared.machine.MachineType.{MachineType}
 use Rattle.implib.specs.Definition.{ExportView}
 use Rattle.implib.specs.Formats.Object.{Object}
 use Rattle.implib.specs.Formats.ShortImport.{ShortImport, ask_of_short_import}
-use Rattle.implib.specs.Import.{Ask, expected_ask, imp_symbol}
-use Rattle.implib.specs.Link.Image.{Range, image_of, range_end}
+use Rattle.implib.specs.Import.{expected_ask, imp_symbol}
+use Rattle.implib.specs.Link.Image.{Range, image_of}
 use Rattle.implib.specs.Link.LinkedMembers.{IsMade, LinkInput, chosen_exports}
 use Rattle.implib.specs.Link.Load.{NumberAt}
 use Rattle.implib.specs.Link.Placement.{Bases, Placed, placed_from}
 use Rattle.implib.specs.Link.Resolution.{definitions_of}
 use Rattle.implib.specs.Members.ImportTables.{thunk_width}
 use Rattle.implib.proofs.Link.LinkedBlocks.{ends, starts}
-use Rattle.implib_link.specs.Directory.{DirectoryAt, Imported, imported}
+use Rattle.implib_link.specs.Directory.{DirectoryAt, imported}
 use Rattle.implib_link.specs.Flavors.LldImports.{IsLldProgram, dll_of_group, grouped, imported_by, imports_of_lld, placed_by_lld}
 use Rattle.implib_link.specs.Flavors.LldTables.{thunks_until}
 use Rattle.implib_link.specs.Flavors.Program.{FlavorInput, IsFlavorProgram, IsMadeFor, ask_in, dll_of, exports_chosen, imported_in, symbol_in, thunks_of}
 use Rattle.implib_link.specs.Gnu.Program.{IsProgram, thunks_before}
 use Rattle.implib_link.specs.Gnu.Rebased.{table_places, table_places_in}
-use Rattle.implib_link.specs.Tables.{AreSteady, AreTables, Block, RiseFrom, Table, TableEntry, block_of_flavor, block_of_group, block_of_input, entry_of_short, imported_by_table, packed_tables, tables_at, tables_of_lld}
+use Rattle.implib_link.specs.Tables.{AreSteady, AreTables, Block, TableEntry, block_of_flavor, block_of_group, block_of_input, entry_of_short, tables_at, tables_of_lld}
 use Rattle.implib_link.proofs.Flavors.LldImports.{all_at, all_define, defined_once, get_map, lld_links, nth_stands, only, stand}
 use Rattle.implib_link.proofs.Flavors.Loaded.{entry_of}
 use Rattle.implib_link.proofs.Flavors.Program.{flavors_link}
 use Rattle.implib_link.proofs.Gnu.Loaded.{mapped_at}
 use Rattle.implib_link.proofs.Gnu.Program.{program_links}
 use Rattle.implib_link.proofs.Gnu.Stubs.{entry_defined}
+use Rattle.implib_link.proofs.PackedTables.{HasEntry, are_packed, asks_again, block_entry, entries_until, imported_by_block}
 use Rattle.implib_link.proofs.Search.Lists.{contains_among}
-
--- what is imported by a block
-abbrev imported_by_block : Block → Imported
-imported_by_block b = record { dll = b.dll; asks = map (λ (e : TableEntry). e.ask) b.entries }
-
--- asks that are read back from entries
-asks_again : {X : Type 0} (asks : X → Ask) (symbols : X → Option (List ℕ)) (xs : List X) → map (λ (e : TableEntry). e.ask) (map (λ x. record { ask = asks x; symbol = symbols x }) xs) ≡ map asks xs
-asks_again asks symbols [] = refl
-asks_again asks symbols (x ∷ xs) = ap (λ others. asks x ∷ others) (asks_again asks symbols xs)
-
--- the entries, with null thunks, of the first few blocks
-abbrev pub entries_until : ℕ → List Block → ℕ
-entries_until zero blocks = 0
-entries_until (suc i) [] = 0
-entries_until (suc i) (b ∷ blocks) = length b.entries + 1 + entries_until i blocks
-
-module _ (width : ℕ) where
-  packed_imports : (blocks : List Block) (address : ℕ) → map imported_by_table (packed_tables width address blocks) ≡ map imported_by_block blocks
-  packed_imports [] address = refl
-  packed_imports (b ∷ blocks) address = ap (λ is. imported_by_block b ∷ is) (packed_imports blocks (address + width * (length b.entries + 1)))
-
-  past_null : (address n : ℕ) → address + width * n ≤ address + width * (n + 1)
-  past_null address n = (let split : width * (n + 1) ≡ width * n + width * 1 = mul-add width n 1 in omega arith)
-
-  packed_rise : (blocks : List Block) (low address : ℕ) → low ≤ address → RiseFrom width low (packed_tables width address blocks)
-  unfolding RiseFrom
-  packed_rise [] low address above = tt
-  packed_rise (b ∷ blocks) low address above =
-      (above, packed_rise blocks (address + width * length b.entries) (address + width * (length b.entries + 1)) (past_null address (length b.entries)))
-
-  next_sum : (address n m : ℕ) → address + width * n + width * m ≡ address + width * (n + m)
-  next_sum address n m = (let split : width * (n + m) ≡ width * n + width * m = mul-add width n m in omega arith)
-
-  -- the table of a block
-  packed_at : (blocks : List Block) (address i : ℕ) (x : Table) → slice_get (packed_tables width address blocks) i ≡ Some x →
-      (b : Block) × ((slice_get blocks i ≡ Some b) × (record { dll = b.dll; address = address + width * entries_until i blocks; entries = b.entries } ≡ x))
-  packed_at [] address i x is = cc
-  packed_at (b ∷ blocks) address zero x is =
-      let same : record { dll = b.dll; address = address; entries = b.entries } ≡ x = cc in
-      let none : address + width * 0 ≡ address = omega arith in
-      (b, (refl, ap (λ a. record { dll = b.dll; address = a; entries = b.entries }) none ∙ same))
-  packed_at (b ∷ blocks) address (suc i) x is =
-      let later = packed_at blocks (address + width * (length b.entries + 1)) i x is in
-      (later.0, (later.1.0, ap (λ a. record { dll = later.0.dll; address = a; entries = later.0.entries }) (sym (next_sum address (length b.entries + 1) (entries_until i blocks))) ∙ later.1.1))
-
--- What packed tables have of what is known of their blocks.
-are_packed : (machine : MachineType) (image : List Range) (linked : List Placed) (directory addresses : ℕ) (blocks : List Block) →
-    AllByRecursion (λ r. 0 < r.start) image → AllByRecursion (λ r. range_end r < 2 ^ 31) image → DirectoryAt image (thunk_width machine) directory (map imported_by_block blocks) →
-    ((i : ℕ) (b : Block) → slice_get blocks i ≡ Some b → NumberAt image 4 (directory + 20 * i + 16) (addresses + thunk_width machine * entries_until i blocks)) →
-    ((i j : ℕ) (b : Block) (e : TableEntry) (name : List ℕ) → slice_get blocks i ≡ Some b → slice_get b.entries j ≡ Some e → e.symbol ≡ Some name →
-    definitions_of name linked ≡ record { name = name; address = Some (addresses + thunk_width machine * entries_until i blocks + thunk_width machine * j) } ∷ []) →
-    AreTables machine (record { image = image; linked = linked; directory = directory; tables = packed_tables (thunk_width machine) addresses blocks })
-are_packed machine image linked directory addresses blocks starts ends is_directory fields symbols = record {
-  starts = starts;
-  ends = ends;
-  directory = subst (DirectoryAt image (thunk_width machine) directory) (sym (packed_imports (thunk_width machine) blocks addresses)) is_directory;
-  addresses = λ i x is.
-      let at = packed_at (thunk_width machine) blocks addresses i x is in
-      subst (λ (y : Table). NumberAt image 4 (directory + 20 * i + 16) y.address) at.1.1 (fields i at.0 at.1.0);
-  rise = packed_rise (thunk_width machine) blocks 0 addresses (omega arith);
-  symbols = λ i j x e name is asked symbol.
-      let at = packed_at (thunk_width machine) blocks addresses i x is in
-      subst (λ (y : Table). definitions_of name linked ≡ record { name = name; address = Some (y.address + thunk_width machine * j) } ∷ []) at.1.1
-      (symbols i j at.0 e name at.1.0 (subst (λ (y : Table). slice_get y.entries j ≡ Some e) (sym at.1.1) asked) symbol);
-}
 
 -- The blocks of programs for GNU's linker.
 
-inputs_blocks : (machine : MachineType) (inputs : List LinkInput) → map imported_by_block (map (block_of_input machine) inputs) ≡ map (imported machine) inputs
+pub inputs_blocks : (machine : MachineType) (inputs : List LinkInput) → map imported_by_block (map (block_of_input machine) inputs) ≡ map (imported machine) inputs
 inputs_blocks machine [] = refl
 inputs_blocks machine (p ∷ inputs) =
     ap (λ asks. record { dll = p.definition.import_name; asks = asks } ∷ map imported_by_block (map (block_of_input machine) inputs))
     (asks_again (expected_ask machine) (λ (e : ExportView). Some (imp_symbol e.name)) (chosen_exports p.definition p.chosen))
     ∙ ap (λ is. imported machine p ∷ is) (inputs_blocks machine inputs)
 
-inputs_until : (machine : MachineType) (i : ℕ) (inputs : List LinkInput) → entries_until i (map (block_of_input machine) inputs) ≡ thunks_before i inputs
+pub inputs_until : (machine : MachineType) (i : ℕ) (inputs : List LinkInput) → entries_until i (map (block_of_input machine) inputs) ≡ thunks_before i inputs
 inputs_until machine zero inputs = refl
 inputs_until machine (suc i) [] = refl
 inputs_until machine (suc i) (p ∷ inputs) =
@@ -135,16 +70,27 @@ gnu_tables machine bases inputs objects made program =
     (subst (λ k. definitions_of (imp_symbol own.0.name) (placed_from bases objects) ≡ record { name = imp_symbol own.0.name; address = Some (bases.addresses + thunk_width machine * k + thunk_width machine * j) } ∷ [])
     (sym (inputs_until machine i inputs)) (entry_defined machine bases inputs objects i j at.0 own.0 made program at.1.0 own.1.0)))
 
+-- the entry of an export
+pub gnu_entry : (machine : MachineType) (bases : Bases) (inputs : List LinkInput) (objects : List Object) (i j : ℕ) (p : LinkInput) (e : ExportView) → slice_get inputs i ≡ Some p →
+    slice_get (chosen_exports p.definition p.chosen) j ≡ Some e →
+    HasEntry (tables_at machine bases objects (map (block_of_input machine) inputs)) (imp_symbol e.name) p.definition.import_name (expected_ask machine e) (bases.addresses + thunk_width machine * thunks_before i inputs) j
+gnu_entry machine bases inputs objects i j p e input chosen =
+    subst (λ n. HasEntry (tables_at machine bases objects (map (block_of_input machine) inputs)) (imp_symbol e.name) p.definition.import_name (expected_ask machine e) (bases.addresses + thunk_width machine * n) j)
+    (inputs_until machine i inputs)
+    (block_entry machine (image_of machine bases (placed_from bases objects)) (placed_from bases objects) bases.descriptors bases.addresses (map (block_of_input machine) inputs) i j
+    (block_of_input machine p) (record { ask = expected_ask machine e; symbol = Some (imp_symbol e.name) }) (imp_symbol e.name) (get_map (block_of_input machine) inputs i p input)
+    (get_map (λ (x : ExportView). record { ask = expected_ask machine x; symbol = Some (imp_symbol x.name) }) (chosen_exports p.definition p.chosen) j e chosen) refl)
+
 -- The blocks of programs of both flavours.
 
-flavors_blocks : (machine : MachineType) (inputs : List FlavorInput) → map imported_by_block (map (block_of_flavor machine) inputs) ≡ map (imported_in machine) inputs
+pub flavors_blocks : (machine : MachineType) (inputs : List FlavorInput) → map imported_by_block (map (block_of_flavor machine) inputs) ≡ map (imported_in machine) inputs
 flavors_blocks machine [] = refl
 flavors_blocks machine (p ∷ inputs) =
     ap (λ asks. record { dll = dll_of p; asks = asks } ∷ map imported_by_block (map (block_of_flavor machine) inputs))
     (asks_again (ask_in p.flavor machine) (λ (e : ExportView). Some (imp_symbol (symbol_in p.flavor e))) (exports_chosen p))
     ∙ ap (λ is. imported_in machine p ∷ is) (flavors_blocks machine inputs)
 
-flavors_until : (machine : MachineType) (i : ℕ) (inputs : List FlavorInput) → entries_until i (map (block_of_flavor machine) inputs) ≡ thunks_of i inputs
+pub flavors_until : (machine : MachineType) (i : ℕ) (inputs : List FlavorInput) → entries_until i (map (block_of_flavor machine) inputs) ≡ thunks_of i inputs
 flavors_until machine zero inputs = refl
 flavors_until machine (suc i) [] = refl
 flavors_until machine (suc i) (p ∷ inputs) =
@@ -174,6 +120,18 @@ flavors_tables machine bases inputs objects made program =
     (subst (λ k. definitions_of (imp_symbol (symbol_in at.0.flavor own.0)) (placed_from bases objects)
     ≡ record { name = imp_symbol (symbol_in at.0.flavor own.0); address = Some (bases.addresses + thunk_width machine * k + thunk_width machine * j) } ∷ [])
     (sym (flavors_until machine i inputs)) (entry_of machine bases inputs objects i j at.0 own.0 links at.1.0 own.1.0)))
+
+-- the entry of an export
+pub flavors_entry : (machine : MachineType) (bases : Bases) (inputs : List FlavorInput) (objects : List Object) (i j : ℕ) (p : FlavorInput) (e : ExportView) → slice_get inputs i ≡ Some p →
+    slice_get (exports_chosen p) j ≡ Some e →
+    HasEntry (tables_at machine bases objects (map (block_of_flavor machine) inputs)) (imp_symbol (symbol_in p.flavor e)) (dll_of p) (ask_in p.flavor machine e)
+    (bases.addresses + thunk_width machine * thunks_of i inputs) j
+flavors_entry machine bases inputs objects i j p e input chosen =
+    subst (λ n. HasEntry (tables_at machine bases objects (map (block_of_flavor machine) inputs)) (imp_symbol (symbol_in p.flavor e)) (dll_of p) (ask_in p.flavor machine e) (bases.addresses + thunk_width machine * n) j)
+    (flavors_until machine i inputs)
+    (block_entry machine (image_of machine bases (placed_from bases objects)) (placed_from bases objects) bases.descriptors bases.addresses (map (block_of_flavor machine) inputs) i j
+    (block_of_flavor machine p) (record { ask = ask_in p.flavor machine e; symbol = Some (imp_symbol (symbol_in p.flavor e)) }) (imp_symbol (symbol_in p.flavor e)) (get_map (block_of_flavor machine) inputs i p input)
+    (get_map (λ (x : ExportView). record { ask = ask_in p.flavor machine x; symbol = Some (imp_symbol (symbol_in p.flavor x)) }) (exports_chosen p) j e chosen) refl)
 
 -- The blocks of lld's tables.
 

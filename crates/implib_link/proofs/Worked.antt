@@ -1,5 +1,6 @@
 -- What is worked by hand, computed.
 pub mod Programs
+pub mod Relocated
 pub mod Calls
 pub mod RefusedLinks
 pub mod Search

@@ -1,5 +1,6 @@
 -- Programs, expansions and searches worked by hand, and images that are wrong.
 pub mod Programs
+pub mod Relocated
 pub mod Calls
 pub mod RefusedLinks
 pub mod Search

@@ -96,9 +96,6 @@ descriptors_one machine Gnu dll b es = descriptors_after machine dll b es
 plus_twice : (a w m : ℕ) → a + w + m ≡ a + (m + w)
 plus_twice a w m = omega arith
 
-plus_one : (a w : ℕ) → a + w ≡ a + w * 1
-plus_one a w = omega arith
-
 askings_addresses : (machine : MachineType) (b : Bases) (es : List ExportView) → (ends_of_askings machine b es).addresses ≡ b.addresses + thunk_width machine * (length es + 1)
 unfolding ends_of_askings
 askings_addresses machine b [] = omega arith

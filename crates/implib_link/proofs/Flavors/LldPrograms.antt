@@ -1,118 +1,55 @@
 -- Programs of lld, by what is proved of any import tables: they load, in the image and in memory, and fields lead.
-use Rattle.std.proofs.Common.{◌≡◌, ℕ, zero, suc, ◌+◌, ◌*◌, ◌%◌, ◌^◌, ◌≤◌, List, [], ◌∷◌, ◌++◌, length, map, Some, refl, ap, sym, ◌∙◌, subst, inl, inr, arith}
-use Rattle.std.specs.Prelude.{slice_get}
+use Rattle.std.proofs.Common.{◌≡◌, ℕ, ◌+◌, ◌*◌, ◌^◌, ◌≤◌, List, ◌++◌, length, map, Some, refl, ap, sym, ◌∙◌, subst, arith}
 use Rattle.std.specs.List.{AllByRecursion, Contains}
-use Rattle.std.proofs.Math.Nat.{mul-add}
 use Rattle.std.proofs.lemmas.List.{length-map}
 use Rattle.implib.specs.declared.machine.MachineType.{MachineType}
-use Rattle.implib.specs.declared.machine.MachineType.TheVariants.{I386, ARMNT, AMD64, ARM64}
 use Rattle.implib.specs.Formats.Object.{section_numbered}
 use Rattle.implib.specs.Formats.ShortImport.{ShortImport, ask_of_short_import}
 use Rattle.implib.specs.Import.{Ask, imp_symbol}
 use Rattle.implib.specs.Link.Image.{Range, range_end}
 use Rattle.implib.specs.Link.Placement.{Placed}
 use Rattle.implib.specs.Members.ImportTables.{thunk_width}
-use Rattle.implib.proofs.Link.Ranges.{Among, all_among}
+use Rattle.implib.proofs.Link.Ranges.{all_among}
 use Rattle.implib_link.specs.Flavors.LldImports.{IsLldProgram, dll_of_group, grouped, imported_by, imports_of_lld}
 use Rattle.implib_link.specs.Flavors.LldLoaded.{IsLldLoaded}
 use Rattle.implib_link.specs.Flavors.LldTables.{thunks_until}
 use Rattle.implib_link.specs.Flavors.LldThunks.{BranchArrivesByThunk, IsThunk, ThunkArrives, thunk_section}
 use Rattle.implib_link.specs.Gnu.Fields.{LinkedCode}
-use Rattle.implib_link.specs.Gnu.Loaded.{HoldsAt}
 use Rattle.implib_link.specs.Gnu.Moves.{AreInMemory}
 use Rattle.implib_link.specs.Gnu.Calls.{CanBranch}
 use Rattle.implib_link.specs.Gnu.Operands.{AllLead, AreKept, BranchArrives, HasBranch}
 use Rattle.implib_link.specs.Gnu.Reading.{ReadsAndWrites}
-use Rattle.implib_link.specs.Tables.{AreSteady, AreTables, AreTablesLoaded, Block, CanReadFrom, IsInTable, Table, block_of_group, entry_of_short, packed_tables, tables_of_lld}
+use Rattle.implib_link.specs.Tables.{AreSteady, AreTables, AreTablesLoaded, Block, CanReadFrom, block_of_group, entry_of_short, tables_of_lld}
 use Rattle.implib_link.proofs.Flavors.LldGroups.{grouped_holds, in_place}
 use Rattle.implib_link.proofs.Flavors.LldImports.{all_at, get_map, only}
 use Rattle.implib_link.proofs.Flavors.LldThunks.{bare_symbol, thunk_arrives, thunk_defines, thunk_is}
 use Rattle.implib_link.proofs.Search.Lists.{contains_among}
 use Rattle.implib_link.proofs.Tables.{tables_end, tables_read}
-use Rattle.implib_link.proofs.TablesInMemory.{resting, tables_branch_in_memory, tables_end_in_memory, tables_keep_in_memory, tables_lead_in_memory, tables_load_in_memory}
-use Rattle.implib_link.proofs.TablesOfPrograms.{entries_until, groups_until, lld_tables}
-
--- Where a table of packed ones is.
-
-next_sum : (width address n m : ℕ) → address + width * n + width * m ≡ address + width * (n + m)
-next_sum width address n m = (let split : width * (n + m) ≡ width * n + width * m = mul-add width n m in omega arith)
-
-none_yet : (width address : ℕ) → address ≡ address + width * 0
-none_yet width address = omega arith
-
-packed_get : (width : ℕ) (blocks : List Block) (address i : ℕ) (b : Block) → slice_get blocks i ≡ Some b →
-    slice_get (packed_tables width address blocks) i ≡ Some (record { dll = b.dll; address = address + width * entries_until i blocks; entries = b.entries })
-packed_get width [] address i b is = cc
-packed_get width (c ∷ blocks) address zero b is =
-    let same : c ≡ b = cc in
-    ap (λ (x : Block). Some (record { dll = x.dll; address = address; entries = x.entries })) same
-    ∙ ap (λ a. Some (record { dll = b.dll; address = a; entries = b.entries })) (none_yet width address)
-packed_get width (c ∷ blocks) address (suc i) b is =
-    packed_get width blocks (address + width * (length c.entries + 1)) i b is
-    ∙ ap (λ a. Some (record { dll = b.dll; address = a; entries = b.entries })) (next_sum width address (length c.entries + 1) (entries_until i blocks))
-
-packed_within : (width : ℕ) (blocks : List Block) (address : ℕ) (x : Table) → Among x (packed_tables width address blocks) →
-    (address ≤ x.address) × (x.address + width * length x.entries ≤ address + width * entries_until (length blocks) blocks)
-unfolding Among
-packed_within width [] address x m = absurd m
-packed_within width (b ∷ blocks) address x (inl same) =
-    let past : width * (length b.entries + 1 + entries_until (length blocks) blocks) ≡ width * length b.entries + width * (1 + entries_until (length blocks) blocks) =
-    ap (λ n. width * n) (further (length b.entries) (entries_until (length blocks) blocks)) ∙ mul-add width (length b.entries) (1 + entries_until (length blocks) blocks) in
-    subst (λ (y : Table). (address ≤ y.address) × (y.address + width * length y.entries ≤ address + width * (length b.entries + 1 + entries_until (length blocks) blocks))) (sym same) (omega arith, omega arith)
-  where
-    further : (n m : ℕ) → n + 1 + m ≡ n + (1 + m)
-    further n m = omega arith
-packed_within width (b ∷ blocks) address x (inr m) =
-    let later = packed_within width blocks (address + width * (length b.entries + 1)) x m in
-    let low : address + width * (length b.entries + 1) ≤ x.address = later.0 in
-    let high : x.address + width * length x.entries ≤ address + width * (length b.entries + 1) + width * entries_until (length blocks) blocks = later.1 in
-    let sum : address + width * (length b.entries + 1) + width * entries_until (length blocks) blocks ≡ address + width * (length b.entries + 1 + entries_until (length blocks) blocks) =
-    next_sum width address (length b.entries + 1) (entries_until (length blocks) blocks) in
-    (omega arith, omega arith)
-
--- a machine that can read from an address on can read each packed table
-eights : (a n : ℕ) → a % 8 ≡ 0 → (a + 8 * n) % 8 ≡ 0
-eights a n even = omega arith
-
-reads_further : (machine : MachineType) (image_base addresses n : ℕ) → CanReadFrom machine image_base addresses → CanReadFrom machine image_base (addresses + thunk_width machine * n)
-reads_further I386 image_base addresses n can = can
-reads_further ARMNT image_base addresses n can = can
-reads_further AMD64 image_base addresses n can = can
-reads_further ARM64 image_base addresses n can = (can.0, eights addresses n can.1)
-
--- where a short import's entry is
-record InTable (machine : MachineType) (descriptors addresses : ℕ) (taken : List ShortImport) (image : List Range) (linked : List Placed) (r : ShortImport) : Type 0 where
-  i : ℕ
-  j : ℕ
-  x : Table
-  is : slice_get (tables_of_lld machine descriptors addresses taken image linked).tables i ≡ Some x
-  asked : slice_get x.entries j ≡ Some (entry_of_short r)
-  dll : x.dll ≡ r.dll
-  before : ℕ
-  address : x.address ≡ addresses + thunk_width machine * before
+use Rattle.implib_link.proofs.TablesInMemory.{entry_leads, resting, tables_branch_in_memory, tables_end_in_memory, tables_keep_in_memory, tables_load_in_memory}
+use Rattle.implib_link.proofs.PackedTables.{HasEntry, block_entry, entries_until, entry_holds, loaded_within, packed_count, reads_further}
+use Rattle.implib_link.proofs.TablesOfPrograms.{groups_until, lld_tables}
 
 module _ (machine : MachineType) (descriptors addresses : ℕ) (taken : List ShortImport) (image : List Range) (linked : List Placed)
     (program : IsLldProgram machine descriptors addresses taken image linked) where
   abbrev tables : AreTables machine (tables_of_lld machine descriptors addresses taken image linked)
   tables = lld_tables machine descriptors addresses taken image linked program
 
-  in_table : (r : ShortImport) → Contains taken r → InTable machine descriptors addresses taken image linked r
+  in_table : (r : ShortImport) → Contains taken r → (n : ℕ) × ((j : ℕ) × HasEntry (tables_of_lld machine descriptors addresses taken image linked) (imp_symbol r.symbol) r.dll (ask_of_short_import r) (addresses + thunk_width machine * n) j)
   in_table r holds =
       let at = in_place r (grouped taken) (grouped_holds r taken (contains_among r taken holds)) in
       let b : Block = block_of_group at.group in
       let same : r.dll ≡ dll_of_group at.group =
       (all_at (λ x. Contains taken x × (x.dll ≡ dll_of_group at.group)) at.group at.j r
-      (all_at (λ group. AllByRecursion (λ x. Contains taken x × (x.dll ≡ dll_of_group group)) group) (grouped taken) at.i at.group (only machine descriptors addresses taken image linked program) at.its_group) at.is).1 in
-      record {
-        i = at.i;
-        j = at.j;
-        x = record { dll = b.dll; address = addresses + thunk_width machine * entries_until at.i (map block_of_group (grouped taken)); entries = b.entries };
-        is = packed_get (thunk_width machine) (map block_of_group (grouped taken)) addresses at.i b (get_map block_of_group (grouped taken) at.i at.group at.its_group);
-        asked = get_map entry_of_short at.group at.j r at.is;
-        dll = sym same;
-        before = entries_until at.i (map block_of_group (grouped taken));
-        address = refl;
-      }
+      (all_at (λ group. AllByRecursion (λ x. Contains taken x × (x.dll ≡ dll_of_group group)) group) (grouped taken) at.i at.group (only machine descriptors addresses taken image linked program) at.its_group) at.is).1 in (
+        entries_until at.i (map block_of_group (grouped taken)),
+        (
+          at.j,
+          subst (λ dll. HasEntry (tables_of_lld machine descriptors addresses taken image linked) (imp_symbol r.symbol) dll (ask_of_short_import r) (addresses + thunk_width machine * entries_until at.i (map block_of_group (grouped taken))) at.j)
+              (sym same)
+              (block_entry machine image linked descriptors addresses (map block_of_group (grouped taken)) at.i at.j b (entry_of_short r) (imp_symbol r.symbol) (get_map block_of_group (grouped taken) at.i at.group at.its_group)
+              (get_map entry_of_short at.group at.j r at.is) refl),
+        ),
+      )
 
   all_thunks : addresses + thunk_width machine * entries_until (length (map block_of_group (grouped taken))) (map block_of_group (grouped taken))
       ≡ addresses + thunk_width machine * thunks_until (length (imports_of_lld taken)) (imports_of_lld taken)
@@ -121,37 +58,19 @@ module _ (machine : MachineType) (descriptors addresses : ℕ) (taken : List Sho
       (ap (λ n. entries_until n (map block_of_group (grouped taken))) (length-map (grouped taken) block_of_group ∙ sym (length-map (grouped taken) imported_by))
       ∙ groups_until (length (imports_of_lld taken)) (grouped taken))
 
-  all_within : (written : List Range) → AllByRecursion (IsInTable (thunk_width machine) (tables_of_lld machine descriptors addresses taken image linked).tables) written →
-      AllByRecursion (λ w. (addresses ≤ w.start) × (range_end w ≤ addresses + thunk_width machine * thunks_until (length (imports_of_lld taken)) (imports_of_lld taken))) written
-  all_within [] all = tt
-  all_within (w ∷ written) all =
-      let x : Table = all.0.table in
-      let tables : List Table = (tables_of_lld machine descriptors addresses taken image linked).tables in
-      let bounds = packed_within (thunk_width machine) (map block_of_group (grouped taken)) addresses x (contains_among x tables all.0.held) in
-      let low : addresses ≤ x.address = bounds.0 in
-      let high : x.address + thunk_width machine * length x.entries ≤ addresses + thunk_width machine * thunks_until (length (imports_of_lld taken)) (imports_of_lld taken) =
-      subst (λ n. x.address + thunk_width machine * length x.entries ≤ n) all_thunks bounds.1 in
-      let from : x.address ≤ w.start = all.0.from in
-      let to : range_end w ≤ x.address + thunk_width machine * length x.entries = all.0.to in
-      ((omega arith, omega arith), all_within written all.1)
-
   loaded_by : (gives : List ℕ → Ask → List ℕ) (written : List Range) → AreTablesLoaded machine (tables_of_lld machine descriptors addresses taken image linked) gives written →
       IsLldLoaded machine addresses taken image linked gives written
   loaded_by gives written loaded = record {
     entries = λ r holds.
         let own = in_table r holds in
-        subst (λ dll. HoldsAt (written ++ image) linked (imp_symbol r.symbol) (gives dll (ask_of_short_import r))) own.dll
-        (loaded.entries own.i own.j own.x (entry_of_short r) (imp_symbol r.symbol) own.is own.asked refl);
-    within = all_within written loaded.within;
+        entry_holds machine (tables_of_lld machine descriptors addresses taken image linked) gives written (imp_symbol r.symbol) r.dll (ask_of_short_import r) (addresses + thunk_width machine * own.0) own.1.0 loaded own.1.1;
+    within = subst (λ n. AllByRecursion (λ w. (addresses ≤ w.start) × (range_end w ≤ n)) written) all_thunks
+        (loaded_within machine image linked descriptors addresses (map block_of_group (grouped taken)) written loaded.within);
     kept = loaded.kept;
   }
 
   count_of : length (tables_of_lld machine descriptors addresses taken image linked).tables ≡ length (grouped taken)
   count_of = packed_count (thunk_width machine) (map block_of_group (grouped taken)) addresses ∙ length-map (grouped taken) block_of_group
-    where
-      packed_count : (width : ℕ) (blocks : List Block) (address : ℕ) → length (packed_tables width address blocks) ≡ length blocks
-      packed_count width [] address = refl
-      packed_count width (b ∷ blocks) address = ap suc (packed_count width blocks (address + width * (length b.entries + 1)))
 
   pub lld_loads : (gives : List ℕ → Ask → List ℕ) (n : ℕ) (written : List Range) → ((dll : List ℕ) (ask : Ask) → length (gives dll ask) ≡ thunk_width machine) →
       ReadsAndWrites image (thunk_width machine) gives n descriptors written → (n ≡ length (grouped taken)) × IsLldLoaded machine addresses taken image linked gives written
@@ -182,10 +101,8 @@ module _ (machine : MachineType) (descriptors addresses : ℕ) (taken : List Sho
         AllLead machine image_base linked codes (written ++ memory) (imp_symbol r.symbol) (gives r.dll (ask_of_short_import r))
     lld_leads n written wide reads r holds can =
         let own = in_table r holds in
-        subst (λ dll. AllLead machine image_base linked codes (written ++ memory) (imp_symbol r.symbol) (gives dll (ask_of_short_import r))) own.dll
-        (tables_lead_in_memory machine image_base (tables_of_lld machine descriptors addresses taken image linked) codes targets memory gives tables steady at n written wide reads
-        own.i own.j own.x (entry_of_short r) (imp_symbol r.symbol) own.is own.asked refl
-        (subst (CanReadFrom machine image_base) (sym own.address) (reads_further machine image_base addresses own.before can)))
+        entry_leads machine image_base (tables_of_lld machine descriptors addresses taken image linked) codes targets memory gives tables steady at n written wide reads
+        (imp_symbol r.symbol) r.dll (ask_of_short_import r) (addresses + thunk_width machine * own.0) own.1.0 own.1.1 (reads_further machine image_base addresses own.0 can)
 
     pub lld_keeps : (n : ℕ) (written : List Range) → ((dll : List ℕ) (ask : Ask) → length (gives dll ask) ≡ thunk_width machine) → ReadsAndWrites memory (thunk_width machine) gives n descriptors written →
         AreKept machine codes (written ++ memory)

@@ -4,25 +4,25 @@ use Rattle.std.specs.List.{AllByRecursion}
 use Rattle.implib.specs.declared.machine.MachineType.{MachineType}
 use Rattle.implib.specs.Formats.Object.{Object}
 use Rattle.implib.specs.Import.{Ask}
-use Rattle.implib.specs.Link.Image.{Range}
-use Rattle.implib.specs.Link.Placement.{Bases}
+use Rattle.implib.specs.Link.Image.{Range, image_of}
+use Rattle.implib.specs.Link.Placement.{Bases, placed_from}
 use Rattle.implib.specs.Members.ImportTables.{thunk_width}
 use Rattle.implib_link.specs.Directory.{Imported}
 use Rattle.implib_link.specs.Flavors.Loaded.{AreLoaded}
 use Rattle.implib_link.specs.Flavors.Program.{FlavorInput, IsFlavorProgram, IsMadeFor, imported_in}
-use Rattle.implib_link.specs.Gnu.Calls.{PlacedCode}
+use Rattle.implib_link.specs.Gnu.Fields.{LinkedCode}
 use Rattle.implib_link.specs.Gnu.Reading.{ReadsAndWrites}
-use Rattle.implib_link.specs.Gnu.Rebased.{IsAtBase}
+use Rattle.implib_link.specs.Gnu.Moves.{IsAtBase}
 use Rattle.implib_link.specs.Gnu.Writing.{AreAlike, WritesAsItGoes}
-use Rattle.implib_link.proofs.Flavors.Loaded.{flavors_load}
-use Rattle.implib_link.proofs.Flavors.Rebased.{flavors_end_at_base, writes_of}
+use Rattle.implib_link.proofs.CodeOfPrograms.{flavors_moved_end, flavors_moved_load, image_kept}
+use Rattle.implib_link.proofs.Gnu.Keeps.{memory_read}
+use Rattle.implib_link.proofs.Flavors.Program.{flavors_link}
 use Rattle.implib_link.proofs.Flavors.Steady.{flavors_tables_none}
 use Rattle.implib_link.proofs.Flavors.Writing.{flavors_beside, flavors_long}
 use Rattle.implib_link.proofs.Gnu.Filling.{all_filled}
-use Rattle.implib_link.proofs.Gnu.Moved.{image_kept}
 use Rattle.implib_link.proofs.Gnu.Writing.{run_alike, run_can, run_once}
 
-module _ (machine : MachineType) (from to : ℕ) (bases : Bases) (inputs : List FlavorInput) (objects : List Object) (codes : List PlacedCode) (targets : PlacedCode → ℕ → ℕ) (memory : List Range)
+module _ (machine : MachineType) (from to : ℕ) (bases : Bases) (inputs : List FlavorInput) (objects : List Object) (codes : List LinkedCode) (targets : LinkedCode → ℕ → ℕ) (memory : List Range)
     (gives : List ℕ → Ask → List ℕ) where
   pub flavors_writer_loads_at_base : (found : List Imported) (after : List Range) → AllByRecursion (IsMadeFor machine) inputs → IsFlavorProgram machine bases inputs objects →
       IsAtBase machine from to bases objects codes targets memory → ((dll : List ℕ) (ask : Ask) → length (gives dll ask) ≡ thunk_width machine) →
@@ -35,8 +35,8 @@ module _ (machine : MachineType) (from to : ℕ) (bases : Bases) (inputs : List 
       let long = flavors_long machine bases inputs objects made program in
       let beside = flavors_beside machine bases inputs objects made program in
       let once = run_once machine bases objects program.admissible imports long beside gives wide memory keeps found after runs in
-      let reader = flavors_end_at_base machine from to bases inputs objects codes targets memory gives made program at in
-      let read = writes_of machine from to bases inputs objects codes targets memory gives (length inputs) reader.0 made program at reader.1 in
+      let reader = flavors_moved_end machine from to bases inputs objects codes targets memory gives made program at in
+      let read = memory_read (image_of machine bases (placed_from bases objects)) memory keeps (thunk_width machine) gives (length inputs) bases.descriptors imports reader.0 (flavors_link machine bases inputs objects made program).directory reader.1 in
       let alike = run_alike machine bases objects program.admissible imports long beside gives wide memory keeps reader.0 read.1 in (
         once.0,
         (
@@ -44,7 +44,7 @@ module _ (machine : MachineType) (from to : ℕ) (bases : Bases) (inputs : List 
           (
             reader.1,
             (
-              flavors_load machine bases inputs objects gives reader.0 made program wide read.1,
+              (flavors_moved_load machine from to bases inputs objects codes targets memory gives made program at (length inputs) reader.0 wide reader.1).1,
               subst (λ m. AreAlike m (reader.0 ++ memory)) (sym once.1) alike,
             ),
           ),

@@ -11,15 +11,15 @@ use Rattle.implib.specs.Link.Placement.{Bases, Placed, placed_from}
 use Rattle.implib.specs.Link.Resolution.{definitions_of, symbol_address}
 use Rattle.implib.specs.Members.Gnu.{section, stub_bytes, stub_relocations, text_name}
 use Rattle.implib.specs.Members.ImportTables.{thunk_width}
-use Rattle.implib.proofs.Link.Ranges.{Among, all_among}
+use Rattle.implib.proofs.Link.Ranges.{Among}
 use Rattle.implib_link.specs.Flavors.Program.{FlavorInput, IsCode, IsFlavorProgram, IsMadeFor, exports_chosen, symbol_in, thunks_of}
-use Rattle.implib_link.specs.Gnu.Calls.{AreBeside, Defines, PlacedCode}
+use Rattle.implib_link.specs.Gnu.Calls.{Defines, PlacedCode}
 use Rattle.implib_link.specs.Gnu.Program.{has_tables}
 use Rattle.implib_link.proofs.Flavors.Inputs.{block_in}
 use Rattle.implib_link.proofs.Flavors.Program.{placed_among, thunks_are, wide}
 use Rattle.implib_link.proofs.Flavors.Stubs.{all_placed, code_in, name_once, placed_in}
 use Rattle.implib_link.proofs.Gnu.Definers.{one_definer}
-use Rattle.implib_link.proofs.Gnu.PlacedStubs.{PlacedStub, StubAt, found_entry, placed_stub, same_section, symbol_of_entry}
+use Rattle.implib_link.proofs.Gnu.PlacedStubs.{StubAt, found_entry, same_section, symbol_of_entry}
 use Rattle.implib_link.proofs.Gnu.Stubs.{among_filter}
 use Rattle.implib_link.proofs.Search.Lists.{contains_among}
 use Rattle.implib_link.specs.Flavors.Program.{dll_names_in}
@@ -49,23 +49,10 @@ flavors_stub_at machine bases inputs objects i j p e d t made program input chos
     let code_is = same_section own.object.sections d.number d.code (section text_name (cnt_code + align_4bytes + mem_execute_read) (stub_bytes machine) (stub_relocations machine 2)) first numbered code.here in
     let at = found_entry (symbol_address linked own) (slice_get own.object.entries 2) entry code.found in
     record {
-      own = own;
       bytes = ap (λ (x : ObjectSection). x.bytes) code_is;
       relocations = ap (λ (x : ObjectSection). x.relocations) code_is;
       begins = ap (λ (x : ObjectSymbol). x.value) t_is;
-      target = code.target;
       symbol = at.0;
       held = subst (λ (x : Placed). slice_get x.object.entries 2 ≡ Some at.0) (sym one.0) at.1.0;
       placed = subst (λ (x : Placed). symbol_address linked x at.0 ≡ Some entry) (sym one.0) at.1.1;
     }
-
-pub flavors_stub : (machine : MachineType) (image_base : ℕ) (bases : Bases) (inputs : List FlavorInput) (objects : List Object) (codes : List PlacedCode) (targets : PlacedCode → ℕ → ℕ)
-    (i j : ℕ) (p : FlavorInput) (e : ExportView) (d : PlacedCode) (t : ObjectSymbol) →
-    AllByRecursion (IsMadeFor machine) inputs → IsFlavorProgram machine bases inputs objects → AreBeside machine image_base bases objects codes targets →
-    slice_get inputs i ≡ Some p → slice_get (exports_chosen p) j ≡ Some e → IsCode p.flavor e → Contains codes d → Defines d t → t.name ≡ symbol_in p.flavor e →
-    PlacedStub machine (placed_from bases objects) targets d t (bases.addresses + thunk_width machine * thunks_of i inputs + thunk_width machine * j)
-flavors_stub machine image_base bases inputs objects codes targets i j p e d t made program beside input chosen is d_held defines named =
-    placed_stub machine image_base bases objects codes targets beside d t (bases.addresses + thunk_width machine * thunks_of i inputs + thunk_width machine * j) d_held
-    (flavors_stub_at machine bases inputs objects i j p e d t made program input chosen is
-    (all_among (λ (x : PlacedCode). Contains (placed_from bases objects) x.from) d codes (contains_among d codes d_held) beside.held)
-    (all_among (λ (x : PlacedCode). section_numbered x.from.object.sections x.number ≡ Some x.code) d codes (contains_among d codes d_held) beside.sections) defines named)

@@ -1,5 +1,5 @@
 -- Stubs of both flavours jump through their own entries.
-use Rattle.std.proofs.Common.{◌≡◌, ℕ, zero, suc, ◌+◌, ◌*◌, ◌^◌, ◌<◌, Bool, true, false, List, [], ◌∷◌, ◌++◌, length, map, Some, refl, ap, sym, ◌∙◌, subst, inl, inr, if◌then◌else◌, arith}
+use Rattle.std.proofs.Common.{◌≡◌, ℕ, zero, suc, ◌+◌, ◌*◌, ◌^◌, ◌<◌, Bool, true, false, List, [], ◌∷◌, length, map, Some, refl, ap, sym, ◌∙◌, subst, inl, inr, if◌then◌else◌, arith}
 use Rattle.std.specs.Prelude.{option_map, slice_get}
 use Rattle.std.specs.List.{AllByRecursion, flat_map}
 use Rattle.std.specs.Option.{option_and_then}
@@ -11,33 +11,31 @@ use Rattle.implib.specs.Formats.Constants.{align_4bytes, class_external, cnt_cod
 use Rattle.implib.specs.Definition.{ExportView}
 use Rattle.implib.specs.Members.Gnu.{archive_symbols, relocations_of_stub, section, stub_bytes, stub_relocations, text_name}
 use Rattle.implib.specs.Link.Image.{Range, image_of}
-use Rattle.implib.specs.Import.{Ask, Name, Ordinal, imp_symbol}
+use Rattle.implib.specs.Import.{Ask, Name, Ordinal}
 use Rattle.implib.specs.Members.ImportTables.{thunk_width}
 use Rattle.implib.specs.Link.Linked.{IsDefinedOnce}
-use Rattle.implib.specs.Link.Load.{BytesAt, TableAt}
+use Rattle.implib.specs.Link.Load.{TableAt}
 use Rattle.implib.specs.Members.Msvc.{short_import_symbols, short_import_symbol}
 use Rattle.implib.specs.Formats.Object.{ASymbol, Object}
 use Rattle.implib.specs.Link.Placement.{Bases, Placed, placed_from}
-use Rattle.implib.specs.Link.Resolution.{definitions_of, symbol_address, target_address}
+use Rattle.implib.specs.Link.Resolution.{symbol_address, target_address}
 use Rattle.implib.proofs.Link.Linked.{address_found}
 use Rattle.implib.proofs.Link.LinkedBlocks.{ends, starts}
 use Rattle.implib.proofs.Link.LinkedMembers.{among_contains, among_map}
 use Rattle.implib.proofs.Link.Placement.{after_head, aligned_head, ends_of_head, placed-head, placed_export}
 use Rattle.implib.proofs.Link.Ranges.{Among, all_among, among_first, among_front, among_later}
 use Rattle.implib_link.specs.Flavors.Expansion.{Code, Constant, Data, Use, import_object}
-use Rattle.implib_link.specs.Flavors.Program.{FlavorInput, IsCode, IsFlavorProgram, IsMadeFor, all_members, ask_in, dll_of, exports_chosen, imported_in, symbol_in, symbols_listed, thunks_of}
-use Rattle.implib_link.specs.Gnu.Loaded.{Writes}
+use Rattle.implib_link.specs.Flavors.Program.{FlavorInput, IsCode, IsFlavorProgram, IsMadeFor, all_members, ask_in, exports_chosen, symbol_in, symbols_listed, thunks_of}
 use Rattle.implib_link.specs.Gnu.Program.{has_tables}
-use Rattle.implib_link.specs.Stub.{CallReaches, CanJump, JumpsThrough}
+use Rattle.implib_link.specs.Stub.{CanJump, JumpsThrough}
 use Rattle.implib_link.proofs.Gnu.Blocks.{table_sum}
 use Rattle.implib_link.proofs.Flavors.Block.{behind_descriptor, ends_in, ends_of_askings, objects_of, symbols_of, use_for, wide_in}
 use Rattle.implib_link.proofs.Flavors.Blocks.{FlavorBlock, addresses_one, all_objects, ends_one, thunks_in}
-use Rattle.implib_link.proofs.Flavors.Loaded.{entry_of, flavors_load}
 use Rattle.implib_link.proofs.Flavors.Inputs.{block_in, inputs_symbols}
 use Rattle.implib_link.proofs.Flavors.Program.{flavors_link, placed_among, thunks_are, wide}
 use Rattle.implib_link.proofs.Gnu.Loaded.{times_next, times_none}
 use Rattle.implib_link.proofs.Search.Lists.{among_at, flat_map_among}
-use Rattle.implib_link.proofs.Gnu.Stubs.{among_filter, behind_exports, code_bytes, code_defined, code_here, code_relocations, export_placed, first_sum, jump_by, later_sum, same_address, target_is, thunk_below, wide_thunk}
+use Rattle.implib_link.proofs.Gnu.Stubs.{among_filter, behind_exports, code_bytes, code_defined, code_here, code_relocations, export_placed, first_sum, jump_by, later_sum, target_is, thunk_below, wide_thunk}
 use Rattle.implib_link.proofs.Flavors.Expanded.{AreWide, ends_of_asking, ends_of_descriptor, placed-asking, placed-descriptor, placed-null_thunk, placed_asking, wide_aligned, wide_asking, wide_descriptor}
 use Rattle.implib.specs.LibraryName.{NamesOfDll}
 use Rattle.implib_link.specs.Flavors.Program.{dll_names_in}
@@ -254,24 +252,4 @@ stubs_of_flavors_jump machine image_base bases inputs objects i j p e made progr
       code = section text_name (cnt_code + align_4bytes + mem_execute_read) (stub_bytes machine) (stub_relocations machine 2);
       here = code.here;
       jumps = λ place near. jump_by machine image_base bases (thunks_of i inputs) j place linked own can near small code.target;
-    }
-
-pub calls_of_flavors_reach : (machine : MachineType) (image_base : ℕ) (bases : Bases) (inputs : List FlavorInput) (objects : List Object) (gives : List ℕ → Ask → List ℕ) (written : List Range) (i j : ℕ) (p : FlavorInput)
-    (e : ExportView) → AllByRecursion (IsMadeFor machine) inputs → IsFlavorProgram machine bases inputs objects → CanJump machine image_base bases →
-    ((dll : List ℕ) (ask : Ask) → length (gives dll ask) ≡ thunk_width machine) →
-    Writes (image_of machine bases (placed_from bases objects)) (thunk_width machine) gives bases.descriptors (map (imported_in machine) inputs) written →
-    slice_get inputs i ≡ Some p → slice_get (exports_chosen p) j ≡ Some e → IsCode p.flavor e →
-    CallReaches machine image_base (written ++ image_of machine bases (placed_from bases objects)) (placed_from bases objects) (symbol_in p.flavor e) (gives (dll_of p) (ask_in p.flavor machine e))
-calls_of_flavors_reach machine image_base bases inputs objects gives written i j p e made program can wide_gives writes input chosen is =
-    let linked : List Placed = placed_from bases objects in
-    let symbol : List ℕ = imp_symbol (symbol_in p.flavor e) in
-    let place : ℕ = bases.addresses + thunk_width machine * thunks_of i inputs + thunk_width machine * j in
-    let once = entry_of machine bases inputs objects i j p e (flavors_link machine bases inputs objects made program) input chosen in
-    let holds = (flavors_load machine bases inputs objects gives written made program wide_gives writes).entries i j p e input chosen in
-    let same : holds.address ≡ place = same_address symbol holds.address place (definitions_of symbol linked) holds.once once in
-    record {
-      entry = place;
-      once = once;
-      jumps = stubs_of_flavors_jump machine image_base bases inputs objects i j p e made program can input chosen is;
-      located = subst (λ n. BytesAt (written ++ image_of machine bases linked) n (gives (dll_of p) (ask_in p.flavor machine e))) same holds.located;
     }

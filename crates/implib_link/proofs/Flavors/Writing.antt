@@ -26,10 +26,10 @@ use Rattle.implib_link.proofs.Flavors.Beside.{all_beside, all_long}
 use Rattle.implib_link.proofs.Flavors.Blocks.{FlavorBlock, all_objects, definitions-all, definitions_all, descriptors_all, ends_all, imported_of, names-all, thunks_in}
 use Rattle.implib_link.proofs.Flavors.Expanded.{taken_null}
 use Rattle.implib_link.proofs.Flavors.Inputs.{block_in, inputs_link, inputs_symbols}
-use Rattle.implib_link.proofs.Flavors.Loaded.{flavors_load}
+use Rattle.implib_link.proofs.LoadedPrograms.{flavors_load}
 use Rattle.implib_link.proofs.Flavors.NullDescriptor.{EndsNothing, addresses_same, descriptors_same, dll_names_same, hint_names_same, lookups_same, null_filled, others_same}
 use Rattle.implib_link.proofs.Flavors.Program.{blocks_end, each, flavors_link, kept_are, parts_are, thunks_are, wide}
-use Rattle.implib_link.proofs.Flavors.Reading.{flavors_reader_ends}
+use Rattle.implib_link.proofs.LoadedPrograms.{flavors_reader_ends}
 use Rattle.implib_link.proofs.Gnu.Apart.{beside_of, descriptors_beside, directory_ends_beside, dll_names_beside, ends_beside, hint_names_beside, lookups_beside, starts_beside}
 use Rattle.implib_link.proofs.Gnu.Beside.{LocatedBeside}
 use Rattle.implib_link.proofs.Gnu.Filling.{DirectoryBeside, all_filled}

@@ -9,21 +9,20 @@ use Rattle.implib.specs.declared.machine.MachineType.TheVariants.{I386, ARMNT, A
 use Rattle.implib.specs.declared.coff.object.Relocation.{Relocation}
 use Rattle.implib.specs.Formats.Constants.{i386_dir32}
 use Rattle.implib.specs.Formats.File.{is_defined_external}
-use Rattle.implib.specs.Formats.Object.{ASymbol, Auxiliary, Entry, Object, ObjectSymbol}
-use Rattle.implib.specs.Link.Image.{AllApart, AreApart, Range, byte_at, image_of, is_in, range_end}
+use Rattle.implib.specs.Formats.Object.{ASymbol, Auxiliary, Entry, ObjectSymbol}
+use Rattle.implib.specs.Link.Image.{AllApart, AreApart, Range, byte_at, is_in, range_end}
 use Rattle.implib.specs.Link.Load.{BytesAt, NumberAt, number_in}
-use Rattle.implib.specs.Link.Placement.{Bases, Placed, placed_from}
+use Rattle.implib.specs.Link.Placement.{Placed}
 use Rattle.implib.specs.Link.Resolution.{is_undefined_external, symbol_address}
 use Rattle.implib.proofs.Link.LinkedMembers.{among_contains, among_map}
 use Rattle.implib.proofs.Link.Ranges.{Among, all_among, among_back, among_front, is_in_from, range_located}
-use Rattle.implib_link.specs.Gnu.Calls.{AreBeside, Defines, PlacedCode, Resolves, amd64_addr64, arm64_addr64, code_range, code_ranges}
-use Rattle.implib_link.specs.Gnu.Choices.{AreSections, ArePlacesApart, CanBeRebased, DefineOnce, plain_range}
-use Rattle.implib_link.specs.Gnu.Rebased.{CanMove, IsAtBase, IsRebased, Place, absolute_width, amd64_addr32, arm64_addr32, base_relocations, code_places, covers, moved_number, places_at, table_places}
-use Rattle.implib_link.proofs.Gnu.CallBytes.{length_within}
+use Rattle.implib_link.specs.Gnu.Calls.{Defines, PlacedCode, Resolves, amd64_addr64, arm64_addr64}
+use Rattle.implib_link.specs.Gnu.Choices.{ArePlacesApart, DefineOnce}
+use Rattle.implib_link.specs.Gnu.Rebased.{IsRebased, Place, absolute_width, amd64_addr32, arm64_addr32, covers, moved_number, places_at}
 use Rattle.implib_link.proofs.Gnu.Keeps.{Keeps, bytes_kept}
 use Rattle.implib_link.proofs.Gnu.Loaded.{kept_outside}
 use Rattle.implib_link.proofs.Gnu.Memory.{byte_front}
-use Rattle.implib_link.proofs.Gnu.Moved.{apart_back, covered_bounds, grows, places_from}
+use Rattle.implib_link.proofs.Gnu.Moved.{covered_bounds}
 use Rattle.implib_link.proofs.Search.Lists.{among_at, among_either, contains_among}
 
 -- Where code defines a name.
@@ -199,29 +198,6 @@ memory_apart f g codes alike [] apart = codes_apart f g codes alike apart
 memory_apart f g codes alike (r ∷ image) apart =
     let parts = all_split (AreApart r) image (map f codes) apart.0 in
     (all_joined (AreApart r) image (map g codes) parts.0 (apart_from_all f g r r (λ a is. is) codes alike parts.1), memory_apart f g codes alike image apart.1)
-
-alike_codes : (machine : MachineType) (image_base : ℕ) (targets : PlacedCode → ℕ → ℕ) (codes : List PlacedCode) →
-    AllByRecursion (λ (c : PlacedCode). AllByRecursion (λ (r : Relocation). r.offset + 4 ≤ length c.code.bytes) c.code.relocations) codes →
-    AllByRecursion (AlikeFor plain_range (code_range machine image_base targets)) codes
-alike_codes machine image_base targets [] fields = tt
-alike_codes machine image_base targets (c ∷ codes) fields = (
-  λ a within. is_in_same a (code_range machine image_base targets c) (plain_range c) refl (length_within machine image_base (targets c) c.position c.code.relocations c.code.bytes fields.0) within,
-  alike_codes machine image_base targets codes fields.1,
-)
-
-pub sections_beside : (machine : MachineType) (image_base : ℕ) (bases : Bases) (objects : List Object) (codes : List PlacedCode) → AreSections machine bases objects codes → DefineOnce (placed_from bases objects) codes →
-    (targets : PlacedCode → ℕ → ℕ) × AreBeside machine image_base bases objects codes targets
-sections_beside machine image_base bases objects codes are once =
-    let targets : PlacedCode → ℕ → ℕ = choice (placed_from bases objects) codes in (
-      targets,
-      record {
-        held = are.held;
-        sections = are.sections;
-        ends = are.ends;
-        apart = memory_apart plain_range (code_range machine image_base targets) codes (alike_codes machine image_base targets codes are.fields) (image_of machine bases (placed_from bases objects)) are.apart;
-        resolved = choice_resolves (placed_from bases objects) codes once;
-      },
-    )
 
 -- Memory at another base: in front of what was linked, the moved numbers.
 
@@ -415,41 +391,3 @@ module _ {X : Type 0} (range : X → Range) (places : X → List Place) where
   places_apart [] within own apart = tt
   places_apart (c ∷ codes) within own apart =
       apart_joined (places c) (flat_map places codes) own.0 (places_apart codes within.1 own.1 apart.1) (cross_codes c codes within.0 within.1 apart.0)
-
-module _ (machine : MachineType) (image_base : ℕ) (targets : PlacedCode → ℕ → ℕ) where
-  below_end : (c : PlacedCode) (ps : List Place) → AllByRecursion (λ (p : Place). p.address + p.width ≤ c.position + length c.code.bytes) ps →
-      AllByRecursion (λ (p : Place). p.address + p.width ≤ range_end (code_range machine image_base targets c)) ps
-  below_end c [] below = tt
-  below_end c (p ∷ ps) below =
-      let long = grows machine image_base (targets c) c.position c.code.relocations c.code.bytes in
-      let end : p.address + p.width ≤ c.position + length c.code.bytes = below.0 in
-      (omega arith, below_end c ps below.1)
-
-  in_code : (c : PlacedCode) → AllByRecursion (λ (p : Place). p.address + p.width ≤ c.position + length c.code.bytes) (code_places machine c) →
-      AllByRecursion (PlaceIn (code_range machine image_base targets c)) (code_places machine c)
-  in_code c within =
-      places_in (code_range machine image_base targets c) (code_places machine c) (places_from machine c.position c.code.relocations) (below_end c (code_places machine c) within)
-
-  all_in_code : (codes : List PlacedCode) → AllByRecursion (λ (d : PlacedCode). AllByRecursion (λ (p : Place). p.address + p.width ≤ d.position + length d.code.bytes) (code_places machine d)) codes →
-      AllByRecursion (λ (d : PlacedCode). AllByRecursion (PlaceIn (code_range machine image_base targets d)) (code_places machine d)) codes
-  all_in_code [] within = tt
-  all_in_code (c ∷ codes) within = (in_code c within.0, all_in_code codes within.1)
-
--- So there is memory at another base, where the import tables have no base relocation.
-pub memory_exists : (machine : MachineType) (from to : ℕ) (bases : Bases) (objects : List Object) (codes : List PlacedCode) (targets : PlacedCode → ℕ → ℕ) → table_places machine (placed_from bases objects) ≡ [] →
-    AreBeside machine from bases objects codes targets → CanBeRebased machine codes → CanMove machine from to bases → (memory : List Range) × IsAtBase machine from to bases objects codes targets memory
-memory_exists machine from to bases objects codes targets none beside rebases can =
-    let image : List Range = image_of machine bases (placed_from bases objects) in
-    let ranges : List Range = code_ranges machine from targets codes in
-    let places : List Place = flat_map (code_places machine) codes in
-    let are : base_relocations machine (placed_from bases objects) codes ≡ places = ap (λ ps. ps ++ places) none in
-    let rebased = can_rebase from to (image ++ ranges) places
-    (places_apart (code_range machine from targets) (code_places machine) codes (all_in_code machine from targets codes rebases.within) rebases.apart (apart_back image ranges beside.apart)) (all_widths (code_places machine) (λ c. places_widths machine c.position c.code.relocations) codes) in (
-      rebased.0,
-      record {
-        beside = beside;
-        within = rebases.within;
-        can = can;
-        rebased = subst (λ ps. IsRebased from to ps (image ++ ranges) rebased.0) (sym are) rebased.1;
-      },
-    )

@@ -53,7 +53,7 @@ module _ (machine : MachineType) (image_base : ℕ) (image : List Range) (linked
   code_size : (from : ℕ) → AreLinkedBeside machine from image linked codes targets → (c : LinkedCode) → Among c codes → length c.bytes ≡ length c.code.bytes
   code_size from beside c m = (all_among (λ (x : LinkedCode). IsRelocated machine from (targets x) x.position x.code x.bytes) c codes m beside.relocated).size
 
-  linked_rests : AreLinkedBeside machine image_base image linked codes targets → Rests machine image_base image linked codes targets (image ++ ranges_of_codes codes)
+  pub linked_rests : AreLinkedBeside machine image_base image linked codes targets → Rests machine image_base image linked codes targets (image ++ ranges_of_codes codes)
   unfolding Keeps
   linked_rests beside = record {
     from = image_base;
@@ -111,6 +111,29 @@ pub rests : (machine : MachineType) (image_base : ℕ) (image : List Range) (lin
     AreInMemory machine image_base image linked codes targets memory → table_places machine linked ≡ [] → Rests machine image_base image linked codes targets memory
 rests machine image_base image linked codes targets memory (inl at) none = subst (Rests machine image_base image linked codes targets) (sym at.1) (linked_rests machine image_base image linked codes targets at.0)
 rests machine image_base image linked codes targets memory (inr (from, (places, (paged, moved)))) none = moved_rests machine image_base image linked codes targets from places memory moved none paged
+
+-- What is known of a symbol of linked code: the address that it is taken to be at, and that memory has it where it is stored whole.
+pub record Settles (machine : MachineType) (image_base : ℕ) (image : List Range) (linked : List Placed) (codes : List LinkedCode) (targets : LinkedCode → ℕ → ℕ) (memory : List Range)
+    (at : Rests machine image_base image linked codes targets memory) (c : LinkedCode) (symbol address : ℕ) : Type 0 where
+  pub taken : targets c symbol ≡ address
+  pub whole : (r : Relocation) (width n : ℕ) → r.symbol ≡ symbol → Among r c.code.relocations → absolute_width machine r.kind ≡ Some width → NumberAt (image ++ ranges_of_codes codes) width (c.position + r.offset) n →
+      ((at.from ≡ image_base) × NumberAt memory width (c.position + r.offset) n) ⊎ NumberAt memory width (c.position + r.offset) (moved_number width at.from image_base n)
+
+-- of one that has an address in the tables
+pub settled_in_tables : (machine : MachineType) (image_base : ℕ) (image : List Range) (linked : List Placed) (codes : List LinkedCode) (targets : LinkedCode → ℕ → ℕ) (memory : List Range)
+    (at : Rests machine image_base image linked codes targets memory) (c : LinkedCode) (symbol address : ℕ) (entry : Entry) → Contains codes c → slice_get c.from.object.entries symbol ≡ Some entry →
+    symbol_address linked c.from entry ≡ Some address → Settles machine image_base image linked codes targets memory at c symbol address
+settled_in_tables machine image_base image linked codes targets memory at c symbol address entry held found placed = record {
+  taken = at.beside.resolved.tables c symbol address entry held found placed;
+  whole = λ r width n same m is number. at.whole c r width address n entry held m is (subst (λ k. slice_get c.from.object.entries k ≡ Some entry) (sym same) found) placed number;
+}
+
+-- at the base that code was linked for, of any
+pub settled_linked : (machine : MachineType) (image_base : ℕ) (image : List Range) (linked : List Placed) (codes : List LinkedCode) (targets : LinkedCode → ℕ → ℕ)
+    (beside : AreLinkedBeside machine image_base image linked codes targets) (c : LinkedCode) (symbol address : ℕ) → targets c symbol ≡ address →
+    Settles machine image_base image linked codes targets (image ++ ranges_of_codes codes) (linked_rests machine image_base image linked codes targets beside) c symbol address
+unfolding linked_rests
+settled_linked machine image_base image linked codes targets beside c symbol address taken = record { taken = taken; whole = λ r width n same m is number. inl (refl, number) }
 
 any_meets : (machine : MachineType) (k count : ℕ) (rs : List Relocation) (s : Relocation) → Among s rs → meets machine k count s ≡ true → list_any (meets machine k count) rs ≡ true
 unfolding Among
@@ -237,11 +260,11 @@ module _ (machine : MachineType) (image_base : ℕ) (image : List Range) (linked
       ),
     )
 
-    -- one that stores the address of a symbol of the tables whole has it at the base
-    whole_there : (width address : ℕ) (entry : Entry) → absolute_width machine type ≡ Some width → slice_get c.from.object.entries symbol ≡ Some entry → symbol_address linked c.from entry ≡ Some address →
+    -- one that stores an address whole has it at the base
+    whole_there : (width address : ℕ) → absolute_width machine type ≡ Some width → Settles machine image_base image linked codes targets memory at c symbol address →
         (new : ℕ → ℕ) × (NumberAt (written ++ memory) (field_width machine type) (c.position + offset) (new (field_width machine type))
         × FieldHolds machine type image_base (c.position + offset) (targets c symbol) (field_at c.code.bytes offset) new)
-    whole_there width address entry is found placed =
+    whole_there width address is settles =
         let wide : ℕ = field_width machine type in
         let whole : absolute_width machine type ≡ Some wide = is ∙ ap Some (whole_width machine type width is) in
         let linked_number : NumberAt (image ++ ranges_of_codes codes) wide (c.position + offset) (field_at c.bytes offset wide) = record {
@@ -253,7 +276,7 @@ module _ (machine : MachineType) (image_base : ℕ) (image : List Range) (linked
           count = bytes_count;
           value = refl;
         } in
-        elim (at.whole c r wide address (field_at c.bytes offset wide) entry (among_contains c codes m) (alone_among machine c.code.relocations offset wide r alone) whole found placed linked_number) [
+        elim (settles.whole r wide (field_at c.bytes offset wide) refl (alone_among machine c.code.relocations offset wide r alone) whole linked_number) [
           | inl (same, number) ↦ (
             field_at c.bytes offset,
             (
@@ -270,16 +293,15 @@ module _ (machine : MachineType) (image_base : ℕ) (image : List Range) (linked
           )
         ]
 
-    pub field_there : (address : ℕ) (entry : Entry) → slice_get c.from.object.entries symbol ≡ Some entry → symbol_address linked c.from entry ≡ Some address →
+    pub field_there : (address : ℕ) → Settles machine image_base image linked codes targets memory at c symbol address →
         (new : ℕ → ℕ) × (NumberAt (written ++ memory) (field_width machine type) (c.position + offset) (new (field_width machine type))
         × FieldHolds machine type image_base (c.position + offset) address (field_at c.code.bytes offset) new)
-    field_there address entry found placed =
-        let target : targets c symbol ≡ address = at.beside.resolved.tables c symbol address entry (among_contains c codes m) found placed in
+    field_there address settles =
         subst (λ n. (new : ℕ → ℕ) × (NumberAt (written ++ memory) (field_width machine type) (c.position + offset) (new (field_width machine type))
-        × FieldHolds machine type image_base (c.position + offset) n (field_at c.code.bytes offset) new)) target
+        × FieldHolds machine type image_base (c.position + offset) n (field_at c.code.bytes offset) new)) settles.taken
         (elim (absolute_width machine type) as (λ o. absolute_width machine type ≡ o →
         (new : ℕ → ℕ) × (NumberAt (written ++ memory) (field_width machine type) (c.position + offset) (new (field_width machine type))
         × FieldHolds machine type image_base (c.position + offset) (targets c symbol) (field_at c.code.bytes offset) new)) [
           | None ↦ λ none. steady_there none
-          | Some width ↦ λ some. whole_there width address entry some found placed
+          | Some width ↦ λ some. whole_there width address some settles
         ] refl)

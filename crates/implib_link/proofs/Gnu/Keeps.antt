@@ -1,12 +1,12 @@
 -- Memory that keeps the bytes of an image has all that is found in the image.
-use Rattle.std.proofs.Common.{◌≡◌, ℕ, ◌+◌, List, [], ◌∷◌, ◌++◌, length, Some, subst, inl, inr}
+use Rattle.std.proofs.Common.{◌≡◌, ℕ, ◌+◌, List, [], ◌∷◌, ◌++◌, length, Some, subst, inl, inr, ◌∙◌, ap, sym}
 use Rattle.std.proofs.lemmas.Bool.{cases_Bool}
 use Rattle.implib.specs.Import.{Ask, Name, Ordinal}
 use Rattle.implib.specs.Link.Image.{Range, byte_at, is_in}
 use Rattle.implib.specs.Link.Load.{BytesAt, LoadsStrictly, NumberAt, TableAt, TextAt, ThunkAsksFor, ThunkAt, WholeTableAt}
 use Rattle.implib.proofs.Link.Loading.{number_once}
 use Rattle.implib_link.specs.Directory.{DirectoryAt, Imported}
-use Rattle.implib_link.specs.Gnu.Loaded.{Writes}
+use Rattle.implib_link.specs.Gnu.Loaded.{Writes, entries_written}
 use Rattle.implib_link.specs.Gnu.Reading.{ReadsAndWrites}
 use Rattle.implib_link.proofs.Gnu.Reading.{directory_can_be_read, directory_read}
 
@@ -102,3 +102,20 @@ module _ (image memory : List Range) (keeps : Keeps image memory) where
         | inl within ↦ rw within (rw within at is)
         | inr outside ↦ rw outside (keeps_written written a byte (rw outside at is))
       ]
+
+  writes_once : (width : ℕ) (gives : List ℕ → Ask → List ℕ) (imports : List Imported) (a : ℕ) (first second : List Range) → Writes image width gives a imports first → Writes image width gives a imports second → first ≡ second
+  unfolding Writes
+  writes_once width gives [] a first second one two = one ∙ sym two
+  writes_once width gives (i ∷ imports) a first second (table, (field, (behind, (is, later)))) (other, (other_field, (other_behind, (other_is, other_later)))) =
+      is
+      ∙ ap (λ n. entries_written width n (gives i.dll) i.asks ++ behind) (number_once image 4 (a + 16) table other field other_field)
+      ∙ ap (λ rest. entries_written width other (gives i.dll) i.asks ++ rest) (writes_once width gives imports (a + 20) behind other_behind later other_later)
+      ∙ sym other_is
+
+  -- a loader that is handed the imports writes what one does that reads them in memory
+  pub memory_reads : (width : ℕ) (gives : List ℕ → Ask → List ℕ) (a : ℕ) (imports : List Imported) (written : List Range) → DirectoryAt image width a imports → Writes image width gives a imports written →
+      ReadsAndWrites memory width gives (length imports) a written
+  memory_reads width gives a imports written directory writes =
+      let found = memory_can_be_read width gives a imports directory in
+      subst (ReadsAndWrites memory width gives (length imports) a)
+      (writes_once width gives imports a found.0 written (memory_read width gives (length imports) a imports found.0 directory found.1).1 writes) found.1

@@ -1,5 +1,5 @@
 -- Placed code can be linked: there are bytes of each section, and addresses of all symbols.
-use Rattle.std.proofs.Common.{◌≡◌, ℕ, ◌+◌, ◌<◌, ◌≤◌, ◌^◌, List, [], ◌∷◌, ◌++◌, length, map, Some, refl, ap, sym, subst}
+use Rattle.std.proofs.Common.{◌≡◌, ℕ, ◌+◌, ◌<◌, ◌≤◌, ◌^◌, List, [], ◌∷◌, ◌++◌, length, map, Some, refl, ap, sym, subst, ◌∙◌}
 use Rattle.std.specs.List.{AllByRecursion, Contains}
 use Rattle.implib.specs.declared.machine.MachineType.{MachineType}
 use Rattle.implib.specs.Formats.Object.{Object, section_numbered}
@@ -9,7 +9,7 @@ use Rattle.implib.proofs.Link.LinkedMembers.{among_contains, among_map}
 use Rattle.implib.proofs.Link.Ranges.{Among}
 use Rattle.implib_link.specs.Gnu.Calls.{PlacedCode, Resolves}
 use Rattle.implib_link.specs.Gnu.Choices.{AreSections, DefineOnce, plain_range}
-use Rattle.implib_link.specs.Gnu.Fields.{AreLinkedBeside, IsRelocated, LinkedCode, TakesSymbols, placed_code, range_of_code}
+use Rattle.implib_link.specs.Gnu.Fields.{AreBeside, AreLinkedBeside, IsRelocated, LinkedCode, TakesSymbols, placed_code, range_of_code}
 use Rattle.implib_link.proofs.Gnu.Choices.{AlikeFor, choice, choice_resolves, is_in_same, memory_apart}
 use Rattle.implib_link.proofs.Gnu.LinkedBytes.{linked_bytes}
 use Rattle.implib_link.proofs.Search.Lists.{contains_among}
@@ -28,23 +28,11 @@ module _ (machine : MachineType) (image_base : ℕ) (targets : PlacedCode → �
   as_placed [] of_bytes = refl
   as_placed (c ∷ codes) of_bytes = ap (λ cs. c ∷ cs) (as_placed codes of_bytes.1)
 
-  all_as_placed : (P : PlacedCode → Type 0) (codes : List PlacedCode) (of_bytes : AllByRecursion (λ (c : PlacedCode). AllByRecursion (λ b. b < 256) c.code.bytes) codes) → AllByRecursion P codes →
-      AllByRecursion (λ (c : LinkedCode). P (placed_code c)) (link_all codes of_bytes)
-  unfolding link link_all
-  all_as_placed P [] of_bytes all = tt
-  all_as_placed P (c ∷ codes) of_bytes all = (all.0, all_as_placed P codes of_bytes.1 all.1)
-
   all_relocated : (codes : List PlacedCode) (of_bytes : AllByRecursion (λ (c : PlacedCode). AllByRecursion (λ b. b < 256) c.code.bytes) codes) →
       AllByRecursion (λ (c : LinkedCode). IsRelocated machine image_base (targets (placed_code c)) c.position c.code c.bytes) (link_all codes of_bytes)
   unfolding link link_all
   all_relocated [] of_bytes = tt
   all_relocated (c ∷ codes) of_bytes = ((linked_bytes machine image_base (targets c) c.position c.code of_bytes.0).1, all_relocated codes of_bytes.1)
-
-  plain_ranges : (codes : List PlacedCode) (of_bytes : AllByRecursion (λ (c : PlacedCode). AllByRecursion (λ b. b < 256) c.code.bytes) codes) →
-      map (λ (c : LinkedCode). plain_range (placed_code c)) (link_all codes of_bytes) ≡ map plain_range codes
-  unfolding link link_all
-  plain_ranges [] of_bytes = refl
-  plain_ranges (c ∷ codes) of_bytes = ap (λ rs. plain_range c ∷ rs) (plain_ranges codes of_bytes.1)
 
 all_alike : (machine : MachineType) (image_base : ℕ) (targets : LinkedCode → ℕ → ℕ) (codes : List LinkedCode) →
     AllByRecursion (λ (c : LinkedCode). IsRelocated machine image_base (targets c) c.position c.code c.bytes) codes →
@@ -53,7 +41,7 @@ all_alike machine image_base targets [] relocated = tt
 all_alike machine image_base targets (c ∷ codes) relocated =
     (λ a within. is_in_same a (range_of_code c) (plain_range (placed_code c)) refl relocated.0.size within, all_alike machine image_base targets codes relocated.1)
 
-takes_from : (linked : List Placed) (placed : List PlacedCode) (codes : List LinkedCode) (targets : PlacedCode → ℕ → ℕ) → map placed_code codes ≡ placed → Resolves linked placed targets →
+pub takes_from : (linked : List Placed) (placed : List PlacedCode) (codes : List LinkedCode) (targets : PlacedCode → ℕ → ℕ) → map placed_code codes ≡ placed → Resolves linked placed targets →
     TakesSymbols linked codes (λ c. targets (placed_code c))
 takes_from linked placed codes targets same resolves =
     let held : (c : LinkedCode) → Contains codes c → Contains placed (placed_code c) = λ c m.
@@ -62,6 +50,33 @@ takes_from linked placed codes targets same resolves =
       tables = λ c index address entry m at is. resolves.tables (placed_code c) index address entry (held c m) at is;
       code = λ c d index s t m n at undefined defines named.
           resolves.code (placed_code c) (placed_code d) index s t (held c m) (held d n) at undefined (record { held = defines.held; external = defines.external; here = defines.here }) named;
+    }
+
+pub all_mapped : {X Y : Type 0} (f : X → Y) (P : Y → Type 0) (xs : List X) → AllByRecursion P (map f xs) → AllByRecursion (λ x. P (f x)) xs
+all_mapped f P [] all = tt
+all_mapped f P (x ∷ xs) all = (all.0, all_mapped f P xs all.1)
+
+pub mapped_twice : {X Y Z : Type 0} (f : X → Y) (g : Y → Z) (xs : List X) → map g (map f xs) ≡ map (λ x. g (f x)) xs
+mapped_twice f g [] = refl
+mapped_twice f g (x ∷ xs) = ap (λ ys. g (f x) ∷ ys) (mapped_twice f g xs)
+
+-- however placed code is relocated with addresses that its symbols can have, it is linked beside the tables
+pub linked_beside : (machine : MachineType) (image_base : ℕ) (bases : Bases) (objects : List Object) (placed : List PlacedCode) → AreSections machine bases objects placed → (targets : PlacedCode → ℕ → ℕ) →
+    Resolves (placed_from bases objects) placed targets → (codes : List LinkedCode) → map placed_code codes ≡ placed →
+    AllByRecursion (λ (c : LinkedCode). IsRelocated machine image_base (targets (placed_code c)) c.position c.code c.bytes) codes → AreBeside machine image_base bases objects codes (λ c. targets (placed_code c))
+linked_beside machine image_base bases objects placed are targets resolves codes same relocated =
+    let linked : List Placed = placed_from bases objects in
+    let image : List Range = image_of machine bases linked in
+    let each : (Q : PlacedCode → Type 0) → AllByRecursion Q placed → AllByRecursion (λ (c : LinkedCode). Q (placed_code c)) codes = λ Q all.
+    all_mapped placed_code Q codes (subst (AllByRecursion Q) (sym same) all) in
+    record {
+      held = each (λ (c : PlacedCode). Contains linked c.from) are.held;
+      sections = each (λ (c : PlacedCode). section_numbered c.from.object.sections c.number ≡ Some c.code) are.sections;
+      ends = each (λ (c : PlacedCode). c.position + length c.code.bytes + 16 ≤ 2 ^ 31) are.ends;
+      apart = memory_apart (λ (c : LinkedCode). plain_range (placed_code c)) range_of_code codes (all_alike machine image_base (λ c. targets (placed_code c)) codes relocated) image
+          (subst (λ rs. AllApart (image ++ rs)) (ap (map plain_range) (sym same) ∙ mapped_twice placed_code plain_range codes) are.apart);
+      relocated = relocated;
+      resolved = takes_from linked placed codes targets same resolves;
     }
 
 pub codes_can_be_linked : (machine : MachineType) (image_base : ℕ) (bases : Bases) (objects : List Object) (placed : List PlacedCode) → AreSections machine bases objects placed → DefineOnce (placed_from bases objects) placed →
@@ -74,22 +89,13 @@ codes_can_be_linked machine image_base bases objects placed are once of_bytes =
     let chosen : PlacedCode → ℕ → ℕ = choice linked placed in
     let targets : LinkedCode → ℕ → ℕ = λ c. chosen (placed_code c) in
     let codes : List LinkedCode = link_all machine image_base chosen placed of_bytes in
-    let same : map placed_code codes ≡ placed = as_placed machine image_base chosen placed of_bytes in
-    let relocated = all_relocated machine image_base chosen placed of_bytes in (
+    let same : map placed_code codes ≡ placed = as_placed machine image_base chosen placed of_bytes in (
       codes,
       (
         targets,
         (
           same,
-          record {
-            held = all_as_placed machine image_base chosen (λ (c : PlacedCode). Contains linked c.from) placed of_bytes are.held;
-            sections = all_as_placed machine image_base chosen (λ (c : PlacedCode). section_numbered c.from.object.sections c.number ≡ Some c.code) placed of_bytes are.sections;
-            ends = all_as_placed machine image_base chosen (λ (c : PlacedCode). c.position + length c.code.bytes + 16 ≤ 2 ^ 31) placed of_bytes are.ends;
-            apart = memory_apart (λ (c : LinkedCode). plain_range (placed_code c)) range_of_code codes (all_alike machine image_base targets codes relocated) image
-                (subst (λ rs. AllApart (image ++ rs)) (sym (plain_ranges machine image_base chosen placed of_bytes)) are.apart);
-            relocated = relocated;
-            resolved = takes_from linked placed codes chosen same (choice_resolves linked placed once);
-          },
+          linked_beside machine image_base bases objects placed are chosen (choice_resolves linked placed once) codes same (all_relocated machine image_base chosen placed of_bytes),
         ),
       ),
     )

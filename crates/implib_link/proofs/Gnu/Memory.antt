@@ -3,7 +3,6 @@ use Rattle.std.proofs.Common.{◌≡◌, ℕ, ◌+◌, ◌^◌, ◌<◌, ◌≤�
 use Rattle.std.specs.Prelude.{nat_le, nat_lt}
 use Rattle.std.specs.List.{AllByRecursion, list_any}
 use Rattle.std.proofs.lemmas.Bool.{and_parts, cases_Bool, false_from_ne_true, leb-true, ltb-false, ltb-true}
-use Rattle.std.proofs.lemmas.List.{append_assoc}
 use Rattle.implib.specs.Import.{Ask}
 use Rattle.implib.specs.Link.Image.{AllApart, AreApart, Range, byte_at, is_in, range_end}
 use Rattle.implib.specs.Link.Load.{BytesAt, TableAt}
@@ -127,7 +126,3 @@ pub located_front : (xs ys : List Range) (bytes : List ℕ) (a : ℕ) → BytesA
 unfolding BytesAt
 located_front xs ys [] a located = tt
 located_front xs ys (b ∷ bytes) a located = (byte_front xs ys a b located.0, located_front xs ys bytes (a + 1) located.1)
-
-pub located_in_memory : (written image codes : List Range) (bytes : List ℕ) (a : ℕ) → BytesAt (written ++ image) a bytes → BytesAt (written ++ (image ++ codes)) a bytes
-located_in_memory written image codes bytes a located =
-    subst (λ (rs : List Range). BytesAt rs a bytes) (append_assoc written image codes) (located_front (written ++ image) codes bytes a located)

@@ -2,13 +2,14 @@
 use Rattle.std.proofs.Common.{◌≡◌, ℕ, ◌+◌, ◌≤◌, List, [], ◌∷◌, ◌++◌, length, ap, ◌∙◌, inr, arith}
 use Rattle.std.specs.List.{AllByRecursion, flat_map, list_any}
 use Rattle.implib.specs.declared.machine.MachineType.{MachineType}
-use Rattle.implib.specs.Link.Image.{Range, range_end}
-use Rattle.implib.specs.Link.Placement.{Placed}
+use Rattle.implib.specs.Formats.Object.{Object}
+use Rattle.implib.specs.Link.Image.{image_of, Range, range_end}
+use Rattle.implib.specs.Link.Placement.{Bases, Placed, placed_from}
 use Rattle.implib.proofs.Link.LinkedMembers.{among_contains}
 use Rattle.implib.proofs.Link.Ranges.{among_flat}
-use Rattle.implib_link.specs.Gnu.Fields.{AreLinkedBeside, IsRelocated, LinkedCode, range_of_code, ranges_of_codes}
-use Rattle.implib_link.specs.Gnu.Moves.{AreInMemory, ArePaged, CanBeMoved, places_of_code}
-use Rattle.implib_link.specs.Gnu.Rebased.{Place, covers, table_places}
+use Rattle.implib_link.specs.Gnu.Fields.{AreBeside, AreLinkedBeside, IsRelocated, LinkedCode, range_of_code, ranges_of_codes}
+use Rattle.implib_link.specs.Gnu.Moves.{AreMoved, IsAtBase, AreInMemory, ArePaged, CanBeMoved, places_of_code}
+use Rattle.implib_link.specs.Gnu.Rebased.{CanMove, Place, covers, table_places}
 use Rattle.implib_link.proofs.Gnu.Choices.{PlaceIn, all_widths, can_rebase, places_apart, places_in, places_widths}
 use Rattle.implib_link.proofs.Gnu.Moved.{among_place, apart_back, places_from}
 use Rattle.implib_link.proofs.Search.Lists.{contains_among}
@@ -28,32 +29,37 @@ module _ (machine : MachineType) (image_base : ℕ) (targets : LinkedCode → �
     all_in_code codes relocated.1 within.1,
   )
 
-pub moved_memory_exists : (machine : MachineType) (from to : ℕ) (image : List Range) (linked : List Placed) (codes : List LinkedCode) (targets : LinkedCode → ℕ → ℕ) → table_places machine linked ≡ [] →
-    AreLinkedBeside machine from image linked codes targets → CanBeMoved machine codes → ArePaged machine from to → (memory : List Range) × AreInMemory machine to image linked codes targets memory
-moved_memory_exists machine from to image linked codes targets none beside can paged =
+-- at the places where its code stores addresses whole
+pub moved_exists : (machine : MachineType) (from to : ℕ) (image : List Range) (linked : List Placed) (codes : List LinkedCode) (targets : LinkedCode → ℕ → ℕ) → table_places machine linked ≡ [] →
+    AreLinkedBeside machine from image linked codes targets → CanBeMoved machine codes → (memory : List Range) × AreMoved machine from to image linked codes targets (flat_map (places_of_code machine) codes) memory
+moved_exists machine from to image linked codes targets none beside can =
     let ranges : List Range = ranges_of_codes codes in
     let places : List Place = flat_map (places_of_code machine) codes in
     let rebased = can_rebase from to (image ++ ranges) places
     (places_apart range_of_code (places_of_code machine) codes (all_in_code machine from targets codes beside.relocated can.within) can.apart (apart_back image ranges beside.apart))
     (all_widths (places_of_code machine) (λ c. places_widths machine c.position c.code.relocations) codes) in (
       rebased.0,
-      inr (
-        from,
-        (
-          places,
-          (
-            paged,
-            record {
-              beside = beside;
-              within = can.within;
-              needed = λ c r width address entry held m is symbol own.
-                  among_contains (record { address = c.position + r.offset; width = width }) (flat_map (places_of_code machine) codes)
-                  (among_flat (places_of_code machine) c codes (record { address = c.position + r.offset; width = width }) (contains_among c codes held)
-                  (among_place machine c.position r width c.code.relocations is (contains_among r c.code.relocations m)));
-              only = λ a byte is covered. ap (λ ps. list_any (covers a) (ps ++ flat_map (places_of_code machine) codes)) none ∙ covered;
-              rebased = rebased.1;
-            },
-          ),
-        ),
-      ),
+      record {
+        beside = beside;
+        within = can.within;
+        needed = λ c r width address entry held m is symbol own.
+            among_contains (record { address = c.position + r.offset; width = width }) (flat_map (places_of_code machine) codes)
+            (among_flat (places_of_code machine) c codes (record { address = c.position + r.offset; width = width }) (contains_among c codes held)
+            (among_place machine c.position r width c.code.relocations is (contains_among r c.code.relocations m)));
+        only = λ a byte is covered. ap (λ ps. list_any (covers a) (ps ++ flat_map (places_of_code machine) codes)) none ∙ covered;
+        rebased = rebased.1;
+      },
     )
+
+pub moved_memory_exists : (machine : MachineType) (from to : ℕ) (image : List Range) (linked : List Placed) (codes : List LinkedCode) (targets : LinkedCode → ℕ → ℕ) → table_places machine linked ≡ [] →
+    AreLinkedBeside machine from image linked codes targets → CanBeMoved machine codes → ArePaged machine from to → (memory : List Range) × AreInMemory machine to image linked codes targets memory
+moved_memory_exists machine from to image linked codes targets none beside can paged =
+    let moved = moved_exists machine from to image linked codes targets none beside can in
+    (moved.0, inr (from, (flat_map (places_of_code machine) codes, (paged, moved.1))))
+
+-- and so a program is at any base
+pub base_exists : (machine : MachineType) (from to : ℕ) (bases : Bases) (objects : List Object) (codes : List LinkedCode) (targets : LinkedCode → ℕ → ℕ) → table_places machine (placed_from bases objects) ≡ [] →
+    AreBeside machine from bases objects codes targets → CanBeMoved machine codes → CanMove machine from to bases → (memory : List Range) × IsAtBase machine from to bases objects codes targets memory
+base_exists machine from to bases objects codes targets none beside can bases_can =
+    let moved = moved_exists machine from to (image_of machine bases (placed_from bases objects)) (placed_from bases objects) codes targets none beside can in
+    (moved.0, record { can = bases_can; places = flat_map (places_of_code machine) codes; moved = moved.1 })

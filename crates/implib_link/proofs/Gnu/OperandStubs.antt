@@ -17,7 +17,7 @@ use Rattle.implib_link.specs.Gnu.Operands.{InstructionArrives, PairArrives}
 use Rattle.implib_link.specs.Gnu.Rebased.{StubArrives}
 use Rattle.implib_link.specs.Stub.{adrp_immediate, bits_of, jump_reads, ldr_immediate, page, plus_signed, with_adrp, with_bits}
 use Rattle.implib_link.proofs.Gnu.CallReads.{CanReach}
-use Rattle.implib_link.proofs.Gnu.FieldsInMemory.{Rests, part_there}
+use Rattle.implib_link.proofs.Gnu.FieldsInMemory.{Rests, part_there, settled_in_tables}
 use Rattle.implib_link.proofs.Gnu.Memory.{Covers}
 use Rattle.implib_link.proofs.Gnu.MovedCode.{four_of, joined, jump_field}
 use Rattle.implib_link.proofs.Gnu.Operands.{instruction_at, pair_at}
@@ -76,7 +76,7 @@ pub stub_arrives : (machine : MachineType) (image_base : ℕ) (image : List Rang
 stub_arrives I386 image_base image linked codes targets memory at written covers_it name bytes entry once small can located d t held stub =
     let x = instruction_at I386 image_base image linked codes targets memory at written covers_it name bytes entry once small can located d 0 (0xFF ∷ 0x25 ∷ []) (0 ∷ 0 ∷ 0 ∷ 0 ∷ []) [] i386_dir32 2 held
     (subst (λ rs. MeetsAlone I386 rs 0 6 (record { offset = 2; symbol = 2; kind = i386_dir32 })) (sym stub.relocations) refl) refl
-    (subst (λ xs. take 6 (drop 0 xs) ≡ 0xFF ∷ 0x25 ∷ 0 ∷ 0 ∷ 0 ∷ 0 ∷ []) (sym stub.bytes) refl) (refl, refl) stub.symbol stub.held stub.placed in
+    (subst (λ xs. take 6 (drop 0 xs) ≡ 0xFF ∷ 0x25 ∷ 0 ∷ 0 ∷ 0 ∷ 0 ∷ []) (sym stub.bytes) refl) (refl, refl) (settled_in_tables I386 image_base image linked codes targets memory at d 2 entry stub.symbol held stub.held stub.placed) in
     x86_jumps (written ++ memory) d.position name bytes I386 image_base linked refl x
     (stub_part I386 image_base image linked codes targets memory at written covers_it d held (stub_relocations I386 2) 6 2 (0x90 ∷ 0x90 ∷ []) (subst (λ xs. take 2 (drop 6 xs) ≡ 0x90 ∷ 0x90 ∷ []) (sym stub.bytes) refl) stub.relocations refl)
     (jump_field (image_base + d.position) x.field x.four ∙ x.leads)
@@ -84,7 +84,7 @@ stub_arrives ARMNT image_base image linked codes targets memory at written cover
 stub_arrives AMD64 image_base image linked codes targets memory at written covers_it name bytes entry once small can located d t held stub =
     let x = instruction_at AMD64 image_base image linked codes targets memory at written covers_it name bytes entry once small can located d 0 (0xFF ∷ 0x25 ∷ []) (0 ∷ 0 ∷ 0 ∷ 0 ∷ []) [] amd64_rel32 2 held
     (subst (λ rs. MeetsAlone AMD64 rs 0 6 (record { offset = 2; symbol = 2; kind = amd64_rel32 })) (sym stub.relocations) refl) refl
-    (subst (λ xs. take 6 (drop 0 xs) ≡ 0xFF ∷ 0x25 ∷ 0 ∷ 0 ∷ 0 ∷ 0 ∷ []) (sym stub.bytes) refl) (0, (omega arith, (refl, refl))) stub.symbol stub.held stub.placed in
+    (subst (λ xs. take 6 (drop 0 xs) ≡ 0xFF ∷ 0x25 ∷ 0 ∷ 0 ∷ 0 ∷ 0 ∷ []) (sym stub.bytes) refl) (0, (omega arith, (refl, refl))) (settled_in_tables AMD64 image_base image linked codes targets memory at d 2 entry stub.symbol held stub.held stub.placed) in
     let place : image_base + d.position + 6 ≡ image_base + (d.position + 0 + 2) + 4 + 0 = omega arith in
     x86_jumps (written ++ memory) d.position name bytes AMD64 image_base linked refl x
     (stub_part AMD64 image_base image linked codes targets memory at written covers_it d held (stub_relocations AMD64 2) 6 2 (0x90 ∷ 0x90 ∷ []) (subst (λ xs. take 2 (drop 6 xs) ≡ 0x90 ∷ 0x90 ∷ []) (sym stub.bytes) refl) stub.relocations refl)
@@ -97,7 +97,8 @@ stub_arrives ARM64 image_base image linked codes targets memory at written cover
     pair_at image_base image linked codes targets memory at written covers_it name bytes entry once small can located d d 0 4 2 2 held held
     (subst (λ rs. MeetsAlone ARM64 rs 0 4 (record { offset = 0; symbol = 2; kind = arm64_pagebase_rel21 })) (sym stub.relocations) refl) (omega arith)
     (subst (λ rs. MeetsAlone ARM64 rs 4 4 (record { offset = 4; symbol = 2; kind = arm64_pageoffset_12l })) (sym stub.relocations) refl) (omega arith)
-    (ap adrp_immediate page_code) (ap (bits_of 30 2) load_code) (ap ldr_immediate load_code) stub.symbol stub.held stub.placed stub.symbol stub.held stub.placed in
+    (ap adrp_immediate page_code) (ap (bits_of 30 2) load_code) (ap ldr_immediate load_code)
+    (settled_in_tables ARM64 image_base image linked codes targets memory at d 2 entry stub.symbol held stub.held stub.placed) (settled_in_tables ARM64 image_base image linked codes targets memory at d 2 entry stub.symbol held stub.held stub.placed) in
     let branch = stub_part ARM64 image_base image linked codes targets memory at written covers_it d held (stub_relocations ARM64 2) 8 4 (0 ∷ 2 ∷ 0x1F ∷ 0xD6 ∷ [])
     (subst (λ xs. take 4 (drop 8 xs) ≡ 0 ∷ 2 ∷ 0x1F ∷ 0xD6 ∷ []) (sym stub.bytes) refl) stub.relocations refl in
     let adrp : List ℕ = x.adrp_there.bytes in

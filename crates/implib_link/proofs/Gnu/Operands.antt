@@ -9,23 +9,22 @@ use Rattle.implib.specs.declared.coff.object.Relocation.{Relocation}
 use Rattle.implib.specs.declared.machine.MachineType.{MachineType}
 use Rattle.implib.specs.declared.machine.MachineType.TheVariants.{I386, ARMNT, AMD64, ARM64}
 use Rattle.implib.specs.Formats.Constants.{amd64_rel32, arm64_pagebase_rel21, arm64_pageoffset_12l}
-use Rattle.implib.specs.Formats.Object.{ASymbol, Entry, ObjectSymbol}
+use Rattle.implib.specs.Formats.Object.{ASymbol, ObjectSymbol}
 use Rattle.implib.specs.Link.Image.{Range}
 use Rattle.implib.specs.Link.Load.{BytesAt, NumberAt, number_in}
 use Rattle.implib.specs.Link.Placement.{Placed}
-use Rattle.implib.specs.Link.Resolution.{definitions_of, symbol_address}
+use Rattle.implib.specs.Link.Resolution.{definitions_of}
 use Rattle.implib.specs.Members.ImportTables.{thunk_width}
 use Rattle.implib.proofs.Link.LinkedMembers.{among_contains}
 use Rattle.implib.proofs.Link.Ranges.{Among, all_among}
 use Rattle.implib_link.specs.Gnu.Calls.{CanBranch, amd64_addr64, field_width}
 use Rattle.implib_link.specs.Gnu.Fields.{DefinesIn, FieldHolds, LinkedCode, MeetsAlone, field_at, meets}
-use Rattle.implib_link.specs.Gnu.Operands.{AllLead, BranchArrives, HasBranch, HasInstruction, HasOffsetField, HasOperand, HasPageField, HasPointer, InstructionArrives, IsBranch, IsOperand, IsPointer, Names, OperandArrives, PairArrives, PointerArrives, branch_leads, operand_leads}
+use Rattle.implib_link.specs.Gnu.Operands.{AllLead, AllLeadTo, BranchArrives, HasBranch, HasInstruction, HasOffsetField, HasOperand, HasPageField, HasPointer, InstructionArrives, IsBranch, IsOperand, IsPointer, Names, OperandArrives, PairArrives, PointerArrives, branch_leads, operand_leads}
 use Rattle.implib_link.specs.Gnu.Rebased.{absolute_width, amd64_addr32}
 use Rattle.implib_link.specs.Stub.{adrp_immediate, bits_of, ldr_immediate, page, plus_signed, with_bits}
 use Rattle.implib_link.proofs.Gnu.CallReads.{CanReach}
-use Rattle.implib_link.proofs.Gnu.DirectCalls.{words_lead}
 use Rattle.implib_link.proofs.Gnu.Fields.{alone_same, alone_within, get_drop, get_front, meeting, meets_bounds, meets_from}
-use Rattle.implib_link.proofs.Gnu.FieldsInMemory.{Rests, bytes_there, field_there, own_end, steady_there}
+use Rattle.implib_link.proofs.Gnu.FieldsInMemory.{Rests, Settles, bytes_there, field_there, own_end, settled_in_tables, steady_there}
 use Rattle.implib_link.proofs.Gnu.Jumps.{near_pages, page_and_offset, pages_add, sum_of_eights, whole_eights}
 use Rattle.implib_link.proofs.Gnu.Memory.{Covers}
 use Rattle.implib_link.proofs.Gnu.MovedCode.{joined}
@@ -89,6 +88,14 @@ pointer_width AMD64 type stores = subst (λ t. field_width AMD64 t ≡ 8) (sym s
 pointer_width ARM64 type stores = subst (λ t. field_width ARM64 t ≡ 8) (sym stores) refl
 
 -- Where they lead, by the machines.
+
+pub words_lead : (address position target : ℕ) → position % 4 ≡ 0 → target % 4 ≡ 0 → position ≤ target + 2 ^ 27 → target < position + 2 ^ 27 → (n : ℕ) → n ≡ (target + (2 ^ 28 - position % 2 ^ 28)) / 4 % 2 ^ 26 →
+    plus_signed 26 4 n (address + position) ≡ address + target
+words_lead address position target first second far near n is =
+    elim (cases_Bool (nat_lt n (2 ^ 25))) [
+      | inl below ↦ let low = ltb-true n (2 ^ 25) below in rw below (omega arith)
+      | inr above ↦ let high = ltb-false n (2 ^ 25) above in rw above (omega arith)
+    ]
 
 operand_by : (machine : MachineType) (type base position target after : ℕ) (old new : ℕ → ℕ) → IsOperand machine type after (old 4) → FieldHolds machine type base position target old new →
     CanReach machine base target → position + (4 + after) ≤ 2 ^ 31 → target < 2 ^ 31 → operand_leads machine (base + position) after (new 4) ≡ Some (base + target)
@@ -185,57 +192,30 @@ module _ (machine : MachineType) (image_base : ℕ) (image : List Range) (linked
         (new : ℕ → ℕ) × (NumberAt (written ++ memory) (field_width machine type) (c.position + offset) (new (field_width machine type))
         × FieldHolds machine type image_base (c.position + offset) entry (field_at c.code.bytes offset) new)
 
+    abbrev pub Settled : LinkedCode → ℕ → Type 0
+    Settled c symbol = Settles machine image_base image linked codes targets memory at c symbol entry
+
     found_at : (c : LinkedCode) (offset type symbol : ℕ) → Contains codes c → MeetsAlone machine c.code.relocations offset (field_width machine type) (record { offset = offset; symbol = symbol; kind = type }) →
-        offset + field_width machine type ≤ length c.code.bytes → (x : Entry) → slice_get c.from.object.entries symbol ≡ Some x → symbol_address linked c.from x ≡ Some entry → Found c offset type
-    found_at c offset type symbol held alone inside x got placed =
-        field_there machine image_base image linked codes targets memory at written covers_it c (contains_among c codes held) offset type symbol alone inside entry x got placed
+        offset + field_width machine type ≤ length c.code.bytes → Settled c symbol → Found c offset type
+    found_at c offset type symbol held alone inside settles =
+        field_there machine image_base image linked codes targets memory at written covers_it c (contains_among c codes held) offset type symbol alone inside entry settles
 
-    placed_by : (c : LinkedCode) (symbol : ℕ) → Contains codes c → (names : Names c.from symbol name) → symbol_address linked c.from (ASymbol names.symbol) ≡ Some entry
-    placed_by c symbol held names =
-        gets_address linked name entry once c.from names.symbol (all_among (λ (x : LinkedCode). Contains linked x.from) c codes (contains_among c codes held) at.beside.held)
-        (among_contains (ASymbol names.symbol) c.from.object.entries (among_at (ASymbol names.symbol) c.from.object.entries symbol names.target)) names.undefined names.named
-
-    found_by : (c : LinkedCode) (offset type symbol : ℕ) → Contains codes c → MeetsAlone machine c.code.relocations offset (field_width machine type) (record { offset = offset; symbol = symbol; kind = type }) →
-        offset + field_width machine type ≤ length c.code.bytes → Names c.from symbol name → Found c offset type
-    found_by c offset type symbol held alone inside names = found_at c offset type symbol held alone inside (ASymbol names.symbol) names.target (placed_by c symbol held names)
+    -- symbols of the name have the address
+    settled_by : (c : LinkedCode) (symbol : ℕ) → Contains codes c → Names c.from symbol name → Settled c symbol
+    settled_by c symbol held names =
+        settled_in_tables machine image_base image linked codes targets memory at c symbol entry (ASymbol names.symbol) held names.target
+        (gets_address linked name entry once c.from names.symbol (all_among (λ (x : LinkedCode). Contains linked x.from) c codes (contains_among c codes held) at.beside.held)
+        (among_contains (ASymbol names.symbol) c.from.object.entries (among_at (ASymbol names.symbol) c.from.object.entries symbol names.target)) names.undefined names.named)
 
     end_of : (c : LinkedCode) → Contains codes c → c.position + length c.code.bytes + 16 ≤ 2 ^ 31
     end_of c held = own_end machine image_base image linked codes targets memory at written covers_it c (contains_among c codes held)
-
-    operand_arrives : (c : LinkedCode) (offset after : ℕ) → Contains codes c → HasOperand machine c offset after name → OperandArrives machine image_base linked (written ++ memory) (c.position + offset) after name bytes
-    operand_arrives c offset after held has =
-        let wide : field_width machine has.type ≡ 4 = operand_width machine has.type after (field_at c.code.bytes offset 4) has.counts in
-        let found : Found c offset has.type = found_by c offset has.type has.field.symbol held has.field.alone has.field.inside has.field.names in
-        let end : c.position + length c.code.bytes + 16 ≤ 2 ^ 31 = end_of c held in
-        let within : offset + (4 + after) ≤ length c.code.bytes = has.within in
-        record {
-          number = found.0 4;
-          there = subst (λ w. NumberAt (written ++ memory) w (c.position + offset) (found.0 w)) wide found.1.0;
-          entry = entry;
-          own = once;
-          leads = operand_by machine has.type image_base (c.position + offset) entry after (field_at c.code.bytes offset) found.0 has.counts found.1.1 can (omega arith) small;
-          located = located;
-        }
-
-    pointer_arrives : (c : LinkedCode) (offset : ℕ) → image_base + 2 ^ 31 ≤ 2 ^ 64 → Contains codes c → HasPointer machine c offset name → PointerArrives machine image_base linked (written ++ memory) (c.position + offset) name bytes
-    pointer_arrives c offset fits held has =
-        let found : Found c offset has.type = found_by c offset has.type has.field.symbol held has.field.alone has.field.inside has.field.names in
-        record {
-          entry = entry;
-          own = once;
-          there = subst (λ n. NumberAt (written ++ memory) (thunk_width machine) (c.position + offset) n)
-              (pointer_by machine has.type image_base (c.position + offset) entry (field_at c.code.bytes offset) found.0 has.stores has.empty found.1.1 can fits small)
-              (subst (λ w. NumberAt (written ++ memory) w (c.position + offset) (found.0 w)) (pointer_width machine has.type has.stores) found.1.0);
-          located = located;
-        }
 
     -- an instruction with an operand against a symbol that has the entry's address
     pub instruction_at : (c : LinkedCode) (offset : ℕ) (head field tail : List ℕ) (type symbol : ℕ) → Contains codes c →
         MeetsAlone machine c.code.relocations offset (length head + (4 + length tail)) (record { offset = offset + length head; symbol = symbol; kind = type }) → length field ≡ 4 →
         take (length head + (4 + length tail)) (drop offset c.code.bytes) ≡ head ++ (field ++ tail) → IsOperand machine type (length tail) (number_in field) →
-        (x : Entry) → slice_get c.from.object.entries symbol ≡ Some x → symbol_address linked c.from x ≡ Some entry →
-        InstructionArrives machine image_base linked (written ++ memory) (c.position + offset) head tail name bytes
-    instruction_at c offset head field tail type symbol held alone_in four code counts x got placed =
+        Settled c symbol → InstructionArrives machine image_base linked (written ++ memory) (c.position + offset) head tail name bytes
+    instruction_at c offset head field tail type symbol held alone_in four code counts settles =
         let m : Among c codes = contains_among c codes held in
         let inner : ℕ = offset + length head in
         let last : ℕ = inner + 4 in
@@ -251,7 +231,7 @@ module _ (machine : MachineType) (image_base : ℕ) (image : List Range) (linked
         let inside : inner + field_width machine type ≤ length c.code.bytes = omega arith in
         let alone : MeetsAlone machine c.code.relocations inner (field_width machine type) r =
         alone_within machine c.code.relocations offset count inner (field_width machine type) r alone_in (omega arith) (omega arith) (meets_from machine inner (field_width machine type) r (omega arith) (omega arith)) in
-        let found : Found c inner type = found_at c inner type symbol held alone inside x got placed in
+        let found : Found c inner type = found_at c inner type symbol held alone inside settles in
         let end : c.position + length c.code.bytes + 16 ≤ 2 ^ 31 = end_of c held in
         let at_field : drop inner c.code.bytes ≡ field ++ (tail ++ parts.back) =
         sym (drop-drop (length head) offset c.code.bytes) ∙ ap (drop (length head)) parts.whole ∙ drop_at head (field ++ (tail ++ parts.back)) (length head) refl in
@@ -298,10 +278,39 @@ module _ (machine : MachineType) (image_base : ℕ) (image : List Range) (linked
           located = located;
         }
 
-    instruction_arrives : (c : LinkedCode) (offset : ℕ) (head tail : List ℕ) → Contains codes c → HasInstruction machine c offset head tail name →
-        InstructionArrives machine image_base linked (written ++ memory) (c.position + offset) head tail name bytes
-    instruction_arrives c offset head tail held has =
-        instruction_at c offset head has.field tail has.type has.symbol held has.alone has.four has.code has.counts (ASymbol has.names.symbol) has.names.target (placed_by c has.symbol held has.names)
+    -- what leads there that is against a name whose symbols have the address
+    module _ (called : List ℕ) (settled : (c : LinkedCode) (symbol : ℕ) → Contains codes c → Names c.from symbol called → Settles machine image_base image linked codes targets memory at c symbol entry) where
+      operand_arrives : (c : LinkedCode) (offset after : ℕ) → Contains codes c → HasOperand machine c offset after called → OperandArrives machine image_base linked (written ++ memory) (c.position + offset) after name bytes
+      operand_arrives c offset after held has =
+          let wide : field_width machine has.type ≡ 4 = operand_width machine has.type after (field_at c.code.bytes offset 4) has.counts in
+          let found : Found c offset has.type = found_at c offset has.type has.field.symbol held has.field.alone has.field.inside (settled c has.field.symbol held has.field.names) in
+          let end : c.position + length c.code.bytes + 16 ≤ 2 ^ 31 = end_of c held in
+          let within : offset + (4 + after) ≤ length c.code.bytes = has.within in
+          record {
+            number = found.0 4;
+            there = subst (λ w. NumberAt (written ++ memory) w (c.position + offset) (found.0 w)) wide found.1.0;
+            entry = entry;
+            own = once;
+            leads = operand_by machine has.type image_base (c.position + offset) entry after (field_at c.code.bytes offset) found.0 has.counts found.1.1 can (omega arith) small;
+            located = located;
+          }
+
+      pointer_arrives : (c : LinkedCode) (offset : ℕ) → image_base + 2 ^ 31 ≤ 2 ^ 64 → Contains codes c → HasPointer machine c offset called → PointerArrives machine image_base linked (written ++ memory) (c.position + offset) name bytes
+      pointer_arrives c offset fits held has =
+          let found : Found c offset has.type = found_at c offset has.type has.field.symbol held has.field.alone has.field.inside (settled c has.field.symbol held has.field.names) in
+          record {
+            entry = entry;
+            own = once;
+            there = subst (λ n. NumberAt (written ++ memory) (thunk_width machine) (c.position + offset) n)
+                (pointer_by machine has.type image_base (c.position + offset) entry (field_at c.code.bytes offset) found.0 has.stores has.empty found.1.1 can fits small)
+                (subst (λ w. NumberAt (written ++ memory) w (c.position + offset) (found.0 w)) (pointer_width machine has.type has.stores) found.1.0);
+            located = located;
+          }
+
+      instruction_arrives : (c : LinkedCode) (offset : ℕ) (head tail : List ℕ) → Contains codes c → HasInstruction machine c offset head tail called →
+          InstructionArrives machine image_base linked (written ++ memory) (c.position + offset) head tail name bytes
+      instruction_arrives c offset head tail held has =
+          instruction_at c offset head has.field tail has.type has.symbol held has.alone has.four has.code has.counts (settled c has.symbol held has.names)
 
 -- ARM64's two instructions, of fields against symbols that have the entry's address.
 pub pair_at : (image_base : ℕ) (image : List Range) (linked : List Placed) (codes : List LinkedCode) (targets : LinkedCode → ℕ → ℕ) (memory : List Range) (at : Rests ARM64 image_base image linked codes targets memory)
@@ -310,13 +319,12 @@ pub pair_at : (image_base : ℕ) (image : List Range) (linked : List Placed) (co
     MeetsAlone ARM64 c.code.relocations first 4 (record { offset = first; symbol = page_symbol; kind = arm64_pagebase_rel21 }) → first + 4 ≤ length c.code.bytes →
     MeetsAlone ARM64 d.code.relocations second 4 (record { offset = second; symbol = offset_symbol; kind = arm64_pageoffset_12l }) → second + 4 ≤ length d.code.bytes →
     adrp_immediate (field_at c.code.bytes first 4) ≡ 0 → bits_of 30 2 (field_at d.code.bytes second 4) ≡ 3 → ldr_immediate (field_at d.code.bytes second 4) ≡ 0 →
-    (x : Entry) → slice_get c.from.object.entries page_symbol ≡ Some x → symbol_address linked c.from x ≡ Some entry →
-    (y : Entry) → slice_get d.from.object.entries offset_symbol ≡ Some y → symbol_address linked d.from y ≡ Some entry →
+    Settles ARM64 image_base image linked codes targets memory at c page_symbol entry → Settles ARM64 image_base image linked codes targets memory at d offset_symbol entry →
     PairArrives image_base linked (written ++ memory) (c.position + first) (d.position + second) (field_at c.code.bytes first 4) (field_at d.code.bytes second 4) name bytes
 pair_at image_base image linked codes targets memory at written covers_it name bytes entry once small can located c d first second page_symbol offset_symbol c_held d_held page_alone page_inside offset_alone offset_inside
-    page_empty eight offset_empty x x_got x_placed y y_got y_placed =
-    let paged = found_at ARM64 image_base image linked codes targets memory at written covers_it name bytes entry once small can located c first arm64_pagebase_rel21 page_symbol c_held page_alone page_inside x x_got x_placed in
-    let placed = found_at ARM64 image_base image linked codes targets memory at written covers_it name bytes entry once small can located d second arm64_pageoffset_12l offset_symbol d_held offset_alone offset_inside y y_got y_placed in
+    page_empty eight offset_empty page_settles offset_settles =
+    let paged = found_at ARM64 image_base image linked codes targets memory at written covers_it name bytes entry once small can located c first arm64_pagebase_rel21 page_symbol c_held page_alone page_inside page_settles in
+    let placed = found_at ARM64 image_base image linked codes targets memory at written covers_it name bytes entry once small can located d second arm64_pageoffset_12l offset_symbol d_held offset_alone offset_inside offset_settles in
     let end : c.position + length c.code.bytes + 16 ≤ 2 ^ 31 = end_of ARM64 image_base image linked codes targets memory at written covers_it name bytes entry once small can located c c_held in
     let page_holds = paged.1.1.page_of refl in
     let offset_holds = placed.1.1.offset_of refl eight in
@@ -337,25 +345,34 @@ pair_at image_base image linked codes targets memory at written covers_it name b
 
 pairs_arrive : (machine : MachineType) (image_base : ℕ) (image : List Range) (linked : List Placed) (codes : List LinkedCode) (targets : LinkedCode → ℕ → ℕ) (memory : List Range) (at : Rests machine image_base image linked codes targets memory)
     (written : List Range) (covers_it : AllByRecursion (Covers image) written) (name bytes : List ℕ) (entry : ℕ) → definitions_of name linked ≡ record { name = name; address = Some entry } ∷ [] → entry < 2 ^ 31 →
-    CanReach machine image_base entry → BytesAt (written ++ memory) entry bytes → (c d : LinkedCode) (first second : ℕ) → machine ≡ ARM64 → Contains codes c → Contains codes d → HasPageField c first name → HasOffsetField d second name →
+    CanReach machine image_base entry → BytesAt (written ++ memory) entry bytes → (called : List ℕ) →
+    ((c : LinkedCode) (symbol : ℕ) → Contains codes c → Names c.from symbol called → Settles machine image_base image linked codes targets memory at c symbol entry) → (c d : LinkedCode) (first second : ℕ) → machine ≡ ARM64 →
+    Contains codes c → Contains codes d → HasPageField c first called → HasOffsetField d second called →
     PairArrives image_base linked (written ++ memory) (c.position + first) (d.position + second) (field_at c.code.bytes first 4) (field_at d.code.bytes second 4) name bytes
-pairs_arrive I386 image_base image linked codes targets memory at written covers_it name bytes entry once small can located c d first second is c_held d_held page_field offset_field = cc
-pairs_arrive ARMNT image_base image linked codes targets memory at written covers_it name bytes entry once small can located c d first second is c_held d_held page_field offset_field = absurd can
-pairs_arrive AMD64 image_base image linked codes targets memory at written covers_it name bytes entry once small can located c d first second is c_held d_held page_field offset_field = cc
-pairs_arrive ARM64 image_base image linked codes targets memory at written covers_it name bytes entry once small can located c d first second is c_held d_held page_field offset_field =
-    let x = page_field.field.names in
-    let y = offset_field.field.names in
+pairs_arrive I386 image_base image linked codes targets memory at written covers_it name bytes entry once small can located called settled c d first second is c_held d_held page_field offset_field = cc
+pairs_arrive ARMNT image_base image linked codes targets memory at written covers_it name bytes entry once small can located called settled c d first second is c_held d_held page_field offset_field = absurd can
+pairs_arrive AMD64 image_base image linked codes targets memory at written covers_it name bytes entry once small can located called settled c d first second is c_held d_held page_field offset_field = cc
+pairs_arrive ARM64 image_base image linked codes targets memory at written covers_it name bytes entry once small can located called settled c d first second is c_held d_held page_field offset_field =
     pair_at image_base image linked codes targets memory at written covers_it name bytes entry once small can located c d first second page_field.field.symbol offset_field.field.symbol c_held d_held
     page_field.field.alone page_field.field.inside offset_field.field.alone offset_field.field.inside page_field.empty offset_field.eight offset_field.empty
-    (ASymbol x.symbol) x.target (placed_by ARM64 image_base image linked codes targets memory at written covers_it name bytes entry once small can located c page_field.field.symbol c_held x)
-    (ASymbol y.symbol) y.target (placed_by ARM64 image_base image linked codes targets memory at written covers_it name bytes entry once small can located d offset_field.field.symbol d_held y)
+    (settled c page_field.field.symbol c_held page_field.field.names) (settled d offset_field.field.symbol d_held offset_field.field.names)
+
+-- fields against a name whose symbols have the entry's address, be it the entry's own name or another
+pub all_lead_to : (machine : MachineType) (image_base : ℕ) (image : List Range) (linked : List Placed) (codes : List LinkedCode) (targets : LinkedCode → ℕ → ℕ) (memory : List Range)
+    (at : Rests machine image_base image linked codes targets memory) (written : List Range) → AllByRecursion (Covers image) written → (name bytes : List ℕ) (entry : ℕ) →
+    definitions_of name linked ≡ record { name = name; address = Some entry } ∷ [] → entry < 2 ^ 31 → CanReach machine image_base entry → BytesAt (written ++ memory) entry bytes → (called : List ℕ) →
+    ((c : LinkedCode) (symbol : ℕ) → Contains codes c → Names c.from symbol called → Settles machine image_base image linked codes targets memory at c symbol entry) →
+    AllLeadTo machine image_base linked codes (written ++ memory) called name bytes
+all_lead_to machine image_base image linked codes targets memory at written covers_it name bytes entry once small can located called settled = record {
+  operands = operand_arrives machine image_base image linked codes targets memory at written covers_it name bytes entry once small can located called settled;
+  instructions = instruction_arrives machine image_base image linked codes targets memory at written covers_it name bytes entry once small can located called settled;
+  pairs = pairs_arrive machine image_base image linked codes targets memory at written covers_it name bytes entry once small can located called settled;
+  pointers = pointer_arrives machine image_base image linked codes targets memory at written covers_it name bytes entry once small can located called settled;
+}
 
 pub all_lead : (machine : MachineType) (image_base : ℕ) (image : List Range) (linked : List Placed) (codes : List LinkedCode) (targets : LinkedCode → ℕ → ℕ) (memory : List Range) → Rests machine image_base image linked codes targets memory →
     (written : List Range) → AllByRecursion (Covers image) written → (name bytes : List ℕ) (entry : ℕ) → definitions_of name linked ≡ record { name = name; address = Some entry } ∷ [] → entry < 2 ^ 31 →
     CanReach machine image_base entry → BytesAt (written ++ memory) entry bytes → AllLead machine image_base linked codes (written ++ memory) name bytes
-all_lead machine image_base image linked codes targets memory at written covers_it name bytes entry once small can located = record {
-  operands = operand_arrives machine image_base image linked codes targets memory at written covers_it name bytes entry once small can located;
-  instructions = instruction_arrives machine image_base image linked codes targets memory at written covers_it name bytes entry once small can located;
-  pairs = pairs_arrive machine image_base image linked codes targets memory at written covers_it name bytes entry once small can located;
-  pointers = pointer_arrives machine image_base image linked codes targets memory at written covers_it name bytes entry once small can located;
-}
+all_lead machine image_base image linked codes targets memory at written covers_it name bytes entry once small can located =
+    all_lead_to machine image_base image linked codes targets memory at written covers_it name bytes entry once small can located name
+    (settled_by machine image_base image linked codes targets memory at written covers_it name bytes entry once small can located)

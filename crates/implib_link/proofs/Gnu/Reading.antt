@@ -1,21 +1,11 @@
 -- A loader that reads an image walks its directory once, and writes what the law of loaded programs speaks of.
-use Rattle.std.proofs.Common.{◌≡◌, ℕ, zero, suc, ◌+◌, List, [], ◌∷◌, ◌++◌, length, map, refl, ap, sym, ◌∙◌, subst, arith}
-use Rattle.std.specs.List.{AllByRecursion}
-use Rattle.std.proofs.lemmas.List.{length-map}
-use Rattle.implib.specs.declared.machine.MachineType.{MachineType}
-use Rattle.implib.specs.Link.Image.{Range, image_of}
+use Rattle.std.proofs.Common.{◌≡◌, ℕ, zero, suc, ◌+◌, List, [], ◌∷◌, ◌++◌, length, refl, ap, sym, ◌∙◌, subst, arith}
+use Rattle.implib.specs.Link.Image.{Range}
 use Rattle.implib.specs.Import.{Ask}
-use Rattle.implib.specs.Link.LinkedMembers.{IsMade, LinkInput}
-use Rattle.implib.specs.Members.ImportTables.{thunk_width}
-use Rattle.implib.specs.Formats.Object.{Object}
-use Rattle.implib.specs.Link.Placement.{Bases, placed_from}
-use Rattle.implib_link.specs.Directory.{DirectoryAt, Imported, WalkFinds, imported}
-use Rattle.implib_link.specs.Gnu.Loaded.{IsLoaded, Writes, entries_written}
-use Rattle.implib_link.specs.Gnu.Program.{IsProgram}
+use Rattle.implib_link.specs.Directory.{DirectoryAt, Imported, WalkFinds}
+use Rattle.implib_link.specs.Gnu.Loaded.{Writes, entries_written}
 use Rattle.implib_link.specs.Gnu.Reading.{ReadsAndWrites}
 use Rattle.implib_link.proofs.Gnu.Directory.{directory_walk, walk_once}
-use Rattle.implib_link.proofs.Gnu.Loaded.{program_loads}
-use Rattle.implib_link.proofs.Gnu.Program.{program_links}
 
 module _ (image : List Range) (width : ℕ) (gives : List ℕ → Ask → List ℕ) where
   one_more : (found : Imported) (others : List Imported) (n : ℕ) → length others ≡ n → length (found ∷ others) ≡ suc n
@@ -50,21 +40,3 @@ module _ (image : List Range) (width : ℕ) (gives : List ℕ → Ask → List �
   pub directory_can_be_read : (address : ℕ) (imports : List Imported) → DirectoryAt image width address imports →
       (written : List Range) × ReadsAndWrites image width gives (length imports) address written
   directory_can_be_read address imports directory = walk_writes address imports (directory_walk image width address imports directory)
-
-pub reader_loads : (machine : MachineType) (bases : Bases) (inputs : List LinkInput) (objects : List Object) (gives : List ℕ → Ask → List ℕ) (n : ℕ) (written : List Range) →
-    AllByRecursion (IsMade machine) inputs → IsProgram machine bases inputs objects → ((dll : List ℕ) (ask : Ask) → length (gives dll ask) ≡ thunk_width machine) →
-    ReadsAndWrites (image_of machine bases (placed_from bases objects)) (thunk_width machine) gives n bases.descriptors written →
-    (n ≡ length inputs) × IsLoaded machine bases inputs objects gives written
-reader_loads machine bases inputs objects gives n written made program wide reads =
-    let links = program_links machine bases inputs objects made program in
-    let read = directory_read (image_of machine bases (placed_from bases objects)) (thunk_width machine) gives n bases.descriptors (map (imported machine) inputs) written links.directory reads in
-    (read.0 ∙ length-map inputs (imported machine), program_loads machine bases inputs objects gives written made program wide read.1)
-
-pub reader_ends : (machine : MachineType) (bases : Bases) (inputs : List LinkInput) (objects : List Object) (gives : List ℕ → Ask → List ℕ) →
-    AllByRecursion (IsMade machine) inputs → IsProgram machine bases inputs objects →
-    (written : List Range) × ReadsAndWrites (image_of machine bases (placed_from bases objects)) (thunk_width machine) gives (length inputs) bases.descriptors written
-reader_ends machine bases inputs objects gives made program =
-    let links = program_links machine bases inputs objects made program in
-    let image : List Range = image_of machine bases (placed_from bases objects) in
-    subst (λ n. (written : List Range) × ReadsAndWrites image (thunk_width machine) gives n bases.descriptors written) (length-map inputs (imported machine))
-    (directory_can_be_read image (thunk_width machine) gives bases.descriptors (map (imported machine) inputs) links.directory)

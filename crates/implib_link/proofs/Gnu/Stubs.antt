@@ -1,5 +1,5 @@
 -- Stubs jump through their own entries.
-use Rattle.std.proofs.Common.{◌≡◌, ℕ, zero, suc, ◌+◌, ◌*◌, ◌%◌, ◌^◌, ◌<◌, ◌≤◌, Bool, false, List, [], ◌∷◌, ◌++◌, length, map, Some, refl, ap, sym, ◌∙◌, subst, inl, inr, arith}
+use Rattle.std.proofs.Common.{◌≡◌, ℕ, zero, suc, ◌+◌, ◌*◌, ◌%◌, ◌^◌, ◌<◌, ◌≤◌, Bool, false, List, [], ◌∷◌, length, map, Some, refl, ap, sym, ◌∙◌, subst, inl, inr, arith}
 use Rattle.std.specs.Prelude.{option_map, slice_get}
 use Rattle.std.specs.List.{AllByRecursion, filter, flat_map}
 use Rattle.std.proofs.lemmas.Bool.{cases_Bool}
@@ -24,13 +24,11 @@ use Rattle.implib.proofs.Link.LinkedMembers.{among_contains, among_map}
 use Rattle.implib.proofs.Link.LinkedInputs.{block_of, gnu_inputs_symbols}
 use Rattle.implib.proofs.Link.Placement.{AreAligned, after_head, aligned_after, aligned_head, ends_of_all, ends_of_export, ends_of_exports, ends_of_head, placed-export, placed-head, placed-tail, placed_export}
 use Rattle.implib.proofs.Link.Ranges.{Among, address_bounds, all_among, among_first, among_front, among_later}
-use Rattle.implib_link.specs.Directory.{imported}
-use Rattle.implib_link.specs.Gnu.Loaded.{Writes}
 use Rattle.implib_link.specs.Gnu.Program.{IsProgram, has_tables, linked_symbols, null_descriptor, thunks_before}
-use Rattle.implib_link.specs.Stub.{CallReaches, CanJump, JumpsThrough, code_relocated, jump_reads}
+use Rattle.implib_link.specs.Stub.{CanJump, JumpsThrough, code_relocated, jump_reads}
 use Rattle.implib_link.proofs.Gnu.Blocks.{addresses_after, table_sum}
 use Rattle.implib_link.proofs.Gnu.Jumps.{amd64_jumps, arm64_jumps, i386_jumps}
-use Rattle.implib_link.proofs.Gnu.Loaded.{entry_once, program_loads, times_next, times_none}
+use Rattle.implib_link.proofs.Gnu.Loaded.{entry_once, times_next, times_none}
 use Rattle.implib_link.proofs.Gnu.Program.{kept_placed, program_links}
 use Rattle.implib_link.proofs.Search.Lists.{among_at, flat_map_among}
 use Rattle.implib.specs.LibraryName.{NamesOfDll, names_for}
@@ -262,37 +260,3 @@ entry_defined machine bases inputs objects i j p e made program input chosen =
     (subst (λ n. EntriesAt (placed_from bases objects) (thunk_width machine) n (chosen_exports p.definition p.chosen)) one.table_located one.strictly.entries) chosen
 
 -- the entry of an export has what its DLL gives
-pub entry_loaded : (machine : MachineType) (bases : Bases) (inputs : List LinkInput) (objects : List Object) (gives : List ℕ → Ask → List ℕ) (written : List Range) (i j : ℕ) (p : LinkInput) (e : ExportView) →
-    AllByRecursion (IsMade machine) inputs → IsProgram machine bases inputs objects → ((dll : List ℕ) (ask : Ask) → length (gives dll ask) ≡ thunk_width machine) →
-    Writes (image_of machine bases (placed_from bases objects)) (thunk_width machine) gives bases.descriptors (map (imported machine) inputs) written →
-    slice_get inputs i ≡ Some p → slice_get (chosen_exports p.definition p.chosen) j ≡ Some e →
-    BytesAt (written ++ image_of machine bases (placed_from bases objects)) (bases.addresses + thunk_width machine * thunks_before i inputs + thunk_width machine * j)
-    (gives p.definition.import_name (expected_ask machine e))
-entry_loaded machine bases inputs objects gives written i j p e made program wide writes input chosen =
-    let linked : List Placed = placed_from bases objects in
-    let place : ℕ = bases.addresses + thunk_width machine * thunks_before i inputs + thunk_width machine * j in
-    let once = entry_defined machine bases inputs objects i j p e made program input chosen in
-    let holds = (program_loads machine bases inputs objects gives written made program wide writes).entries i j p e input chosen in
-    let same : holds.address ≡ place = same_address (imp_symbol e.name) holds.address place (definitions_of (imp_symbol e.name) linked) holds.once once in
-    subst (λ n. BytesAt (written ++ image_of machine bases linked) n (gives p.definition.import_name (expected_ask machine e))) same holds.located
-
-pub calls_reach : (machine : MachineType) (image_base : ℕ) (bases : Bases) (inputs : List LinkInput) (objects : List Object) (gives : List ℕ → Ask → List ℕ) (written : List Range) (i j : ℕ) (p : LinkInput) (e : ExportView) →
-    AllByRecursion (IsMade machine) inputs → IsProgram machine bases inputs objects → CanJump machine image_base bases → ((dll : List ℕ) (ask : Ask) → length (gives dll ask) ≡ thunk_width machine) →
-    Writes (image_of machine bases (placed_from bases objects)) (thunk_width machine) gives bases.descriptors (map (imported machine) inputs) written →
-    slice_get inputs i ≡ Some p → slice_get (chosen_exports p.definition p.chosen) j ≡ Some e → e.is_data ≡ false →
-    CallReaches machine image_base (written ++ image_of machine bases (placed_from bases objects)) (placed_from bases objects) e.name (gives p.definition.import_name (expected_ask machine e))
-calls_reach machine image_base bases inputs objects gives written i j p e made program can wide writes input chosen is =
-    let linked : List Placed = placed_from bases objects in
-    let links = (program_links machine bases inputs objects made program).imports i p input in
-    let table : ℕ = bases.addresses + thunk_width machine * thunks_before i inputs in
-    let once : definitions_of (imp_symbol e.name) linked ≡ record { name = imp_symbol e.name; address = Some (table + thunk_width machine * j) } ∷ [] =
-    entry_once linked (thunk_width machine) table (chosen_exports p.definition p.chosen) j e
-    (subst (λ n. EntriesAt linked (thunk_width machine) n (chosen_exports p.definition p.chosen)) links.table_located links.strictly.entries) chosen in
-    let holds = (program_loads machine bases inputs objects gives written made program wide writes).entries i j p e input chosen in
-    let same : holds.address ≡ table + thunk_width machine * j = same_address (imp_symbol e.name) holds.address (table + thunk_width machine * j) (definitions_of (imp_symbol e.name) linked) holds.once once in
-    record {
-      entry = table + thunk_width machine * j;
-      once = once;
-      jumps = stubs_jump machine image_base bases inputs objects i j p e made program can input chosen is;
-      located = subst (λ n. BytesAt (written ++ image_of machine bases linked) n (gives p.definition.import_name (expected_ask machine e))) same holds.located;
-    }

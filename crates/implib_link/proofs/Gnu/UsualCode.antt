@@ -16,14 +16,13 @@ use Rattle.implib.specs.Link.Placement.{Placed}
 use Rattle.implib.proofs.Formats.Bytes.{length-u32_bytes}
 use Rattle.implib_link.specs.Gnu.Calls.{CallArrives, HasCall, HasInstructions, IsAside, call_bytes, call_reads, call_relocations, field_width, moved_by}
 use Rattle.implib_link.specs.Gnu.Fields.{LinkedCode, MeetsAlone, field_at, meets, placed_code}
-use Rattle.implib_link.specs.Gnu.Operands.{AllLead, AreKept, HasInstruction, HasOffsetField, HasPageField, InstructionArrives, IsOperand, Names, PairArrives}
+use Rattle.implib_link.specs.Gnu.Operands.{AllLeadTo, AreKept, HasInstruction, HasOffsetField, HasPageField, InstructionArrives, IsOperand, Names, PairArrives}
 use Rattle.implib_link.specs.Gnu.Pages.{HasPage, HasPageOffset, PageArrives, offset_word, page_word}
 use Rattle.implib_link.specs.Gnu.Pointers.{HasLoad, LoadArrives, load_reads}
 use Rattle.implib_link.specs.Stub.{adrp_immediate, bits_of, ldr_immediate, page, plus_signed, with_adrp, with_bits, word_at}
 use Rattle.implib_link.proofs.Gnu.Fields.{meets_bounds, meets_from}
 use Rattle.implib_link.proofs.Gnu.Jumps.{number-u32}
-use Rattle.implib_link.proofs.Gnu.MovedCode.{call_field, four_of, joined}
-use Rattle.implib_link.proofs.Gnu.MovedPointers.{mov_field}
+use Rattle.implib_link.proofs.Gnu.MovedCode.{call_field, four_of, joined, mov_field}
 
 -- Relocations aside meet no part of the instructions.
 
@@ -50,7 +49,7 @@ module _ (machine : MachineType) (c : LinkedCode) (offset : ℕ) (name bytes : L
   own = map (moved_by offset) (relocations has.index)
 
   -- what meets a part of the instructions is theirs
-  own_met : (inner size : ℕ) → offset ≤ inner → inner + size ≤ offset + length bytes → filter (meets machine inner size) c.code.relocations ≡ filter (meets machine inner size) own
+  pub own_met : (inner size : ℕ) → offset ≤ inner → inner + size ≤ offset + length bytes → filter (meets machine inner size) c.code.relocations ≡ filter (meets machine inner size) own
   own_met inner size from to =
       let p : Relocation → Bool = meets machine inner size in
       let first : filter p has.before ≡ [] = aside_none machine offset (length bytes) inner size has.before has.aside_before from to in
@@ -58,27 +57,27 @@ module _ (machine : MachineType) (c : LinkedCode) (offset : ℕ) (name bytes : L
       ap (filter p) has.relocated ∙ filter-append p has.before (own ++ has.behind) ∙ ap (λ xs. xs ++ filter p (own ++ has.behind)) first
       ∙ filter-append p own has.behind ∙ ap (λ xs. filter p own ++ xs) last ∙ append-nil (filter p own)
 
-  own_any : (inner size : ℕ) → offset ≤ inner → inner + size ≤ offset + length bytes → list_any (meets machine inner size) own ≡ false → list_any (meets machine inner size) c.code.relocations ≡ false
+  pub own_any : (inner size : ℕ) → offset ≤ inner → inner + size ≤ offset + length bytes → list_any (meets machine inner size) own ≡ false → list_any (meets machine inner size) c.code.relocations ≡ false
   own_any inner size from to none =
       let p : Relocation → Bool = meets machine inner size in
       let first : list_any p has.before ≡ false = aside_any machine offset (length bytes) inner size has.before has.aside_before from to in
       let last : list_any p has.behind ≡ false = aside_any machine offset (length bytes) inner size has.behind has.aside_behind from to in
       ap (list_any p) has.relocated ∙ list_any-append p has.before (own ++ has.behind) ∙ rw first (list_any-append p own has.behind ∙ rw (none, last) refl)
 
-  own_names : Names c.from has.index name
+  pub own_names : Names c.from has.index name
   own_names = record { symbol = has.symbol; target = has.target; undefined = has.undefined; named = has.named }
 
-  own_code : drop offset c.code.bytes ≡ bytes ++ has.back
+  pub own_code : drop offset c.code.bytes ≡ bytes ++ has.back
   own_code = ap (drop offset) has.instructions ∙ drop_at has.front (bytes ++ has.back) offset has.here
 
-  own_end : offset + length bytes ≤ length c.code.bytes
+  pub own_end : offset + length bytes ≤ length c.code.bytes
   own_end =
       let here : length has.front ≡ offset = has.here in
       let size : length c.code.bytes ≡ length has.front + length (bytes ++ has.back) = ap length has.instructions ∙ length-append has.front (bytes ++ has.back) in
       let more : length (bytes ++ has.back) ≡ length bytes + length has.back = length-append bytes has.back in
       omega arith
 
-one_met : (machine : MachineType) (inner size : ℕ) (r : Relocation) → r.offset < inner + size → inner < r.offset + field_width machine r.kind → filter (meets machine inner size) (r ∷ []) ≡ r ∷ []
+pub one_met : (machine : MachineType) (inner size : ℕ) (r : Relocation) → r.offset < inner + size → inner < r.offset + field_width machine r.kind → filter (meets machine inner size) (r ∷ []) ≡ r ∷ []
 one_met machine inner size r low high = rw (meets_from machine inner size r low high) refl
 
 -- The instructions of I386 and AMD64.
@@ -221,33 +220,33 @@ module _ (image_base : ℕ) (linked : List Placed) (memory : List Range) (addres
       let place : address + 4 ≡ address + length x.adrp_there.bytes = omega arith in
       joined memory x.adrp_there.bytes x.load_there.bytes address x.adrp_there.located (subst (λ a. BytesAt memory a x.load_there.bytes) place x.load_there.located)
 
-pub usual_calls : (machine : MachineType) (image_base : ℕ) (linked : List Placed) (codes : List LinkedCode) (memory : List Range) (name bytes : List ℕ) (c : LinkedCode) (offset : ℕ) → (machine ≡ ARMNT → ⊥) →
-    AllLead machine image_base linked codes memory name bytes → AreKept machine codes memory → Contains codes c → HasCall machine (placed_code c) offset name → CallArrives machine image_base memory (c.position + offset) bytes
-usual_calls I386 image_base linked codes memory name bytes c offset other lead kept held has =
-    let x = lead.instructions c offset (0xFF ∷ 0x15 ∷ []) [] held (x86_instruction I386 c offset i386_dir32 6 (0xFF ∷ 0x15 ∷ []) name refl refl refl (refl, refl) has) in
+pub usual_calls : (machine : MachineType) (image_base : ℕ) (linked : List Placed) (codes : List LinkedCode) (memory : List Range) (called name bytes : List ℕ) (c : LinkedCode) (offset : ℕ) → (machine ≡ ARMNT → ⊥) →
+    AllLeadTo machine image_base linked codes memory called name bytes → AreKept machine codes memory → Contains codes c → HasCall machine (placed_code c) offset called → CallArrives machine image_base memory (c.position + offset) bytes
+usual_calls I386 image_base linked codes memory called name bytes c offset other lead kept held has =
+    let x = lead.instructions c offset (0xFF ∷ 0x15 ∷ []) [] held (x86_instruction I386 c offset i386_dir32 6 (0xFF ∷ 0x15 ∷ []) called refl refl refl (refl, refl) has) in
     x86_call I386 image_base linked codes memory name bytes (c.position + offset) refl x (call_field (image_base + (c.position + offset)) x.field x.four ∙ x.leads)
-usual_calls ARMNT image_base linked codes memory name bytes c offset other lead kept held has = absurd (other refl)
-usual_calls AMD64 image_base linked codes memory name bytes c offset other lead kept held has =
-    let x = lead.instructions c offset (0xFF ∷ 0x15 ∷ []) [] held (x86_instruction AMD64 c offset amd64_rel32 6 (0xFF ∷ 0x15 ∷ []) name refl refl refl (0, (omega arith, (refl, refl))) has) in
+usual_calls ARMNT image_base linked codes memory called name bytes c offset other lead kept held has = absurd (other refl)
+usual_calls AMD64 image_base linked codes memory called name bytes c offset other lead kept held has =
+    let x = lead.instructions c offset (0xFF ∷ 0x15 ∷ []) [] held (x86_instruction AMD64 c offset amd64_rel32 6 (0xFF ∷ 0x15 ∷ []) called refl refl refl (0, (omega arith, (refl, refl))) has) in
     let place : image_base + (c.position + offset) + 6 ≡ image_base + (c.position + offset + 2) + 4 + 0 = omega arith in
     x86_call AMD64 image_base linked codes memory name bytes (c.position + offset) refl x
     (amd64_call (image_base + (c.position + offset)) x.field x.four ∙ ap (λ a. Some (plus_signed 32 1 (number_in x.field) a)) place ∙ x.leads)
-usual_calls ARM64 image_base linked codes memory name bytes c offset other lead kept held has =
+usual_calls ARM64 image_base linked codes memory called name bytes c offset other lead kept held has =
     let at : ℕ = c.position + offset in
     let second_place : c.position + (offset + 4) ≡ at + 4 = omega arith in
-    let page_field : HasPageField c offset name = page_has c offset name 0x10 0 0 0x90 0x10 2 0x40 0xF9 (0 ∷ 2 ∷ 0x3F ∷ 0xD6 ∷ []) has refl in
-    let offset_field : HasOffsetField c (offset + 4) name = offset_has c offset name 0x10 0 0 0x90 0x10 2 0x40 0xF9 (0 ∷ 2 ∷ 0x3F ∷ 0xD6 ∷ []) has refl refl in
+    let page_field : HasPageField c offset called = page_has c offset called 0x10 0 0 0x90 0x10 2 0x40 0xF9 (0 ∷ 2 ∷ 0x3F ∷ 0xD6 ∷ []) has refl in
+    let offset_field : HasOffsetField c (offset + 4) called = offset_has c offset called 0x10 0 0 0x90 0x10 2 0x40 0xF9 (0 ∷ 2 ∷ 0x3F ∷ 0xD6 ∷ []) has refl refl in
     let x : PairArrives image_base linked memory at (at + 4) (field_at c.code.bytes offset 4) (field_at c.code.bytes (offset + 4) 4) name bytes =
     subst (λ a. PairArrives image_base linked memory at a (field_at c.code.bytes offset 4) (field_at c.code.bytes (offset + 4) 4) name bytes) second_place (lead.pairs c c offset (offset + 4) refl held held page_field offset_field) in
-    let old_adrp = first_is c offset name 0x10 0 0 0x90 0x10 2 0x40 0xF9 (0 ∷ 2 ∷ 0x3F ∷ 0xD6 ∷ []) has in
-    let old_load = second_is c offset name 0x10 0 0 0x90 0x10 2 0x40 0xF9 (0 ∷ 2 ∷ 0x3F ∷ 0xD6 ∷ []) has in
+    let old_adrp = first_is c offset called 0x10 0 0 0x90 0x10 2 0x40 0xF9 (0 ∷ 2 ∷ 0x3F ∷ 0xD6 ∷ []) has in
+    let old_load = second_is c offset called 0x10 0 0 0x90 0x10 2 0x40 0xF9 (0 ∷ 2 ∷ 0x3F ∷ 0xD6 ∷ []) has in
     let first : length x.adrp_there.bytes ≡ 4 = x.adrp_there.count in
     let second : length x.load_there.bytes ≡ 4 = x.load_there.count in
     let branch_code : take 4 (drop (offset + 8) c.code.bytes) ≡ 0 ∷ 2 ∷ 0x3F ∷ 0xD6 ∷ [] =
-    ap (take 4) (sym (drop-drop 8 offset c.code.bytes) ∙ ap (drop 8) (own_code ARM64 c offset name (call_bytes ARM64) (call_relocations ARM64) has)) in
+    ap (take 4) (sym (drop-drop 8 offset c.code.bytes) ∙ ap (drop 8) (own_code ARM64 c offset called (call_bytes ARM64) (call_relocations ARM64) has)) in
     let branch : BytesAt memory (c.position + (offset + 8)) (0 ∷ 2 ∷ 0x3F ∷ 0xD6 ∷ []) =
     subst (BytesAt memory (c.position + (offset + 8))) branch_code
-    (kept c (offset + 8) 4 held (own_any ARM64 c offset name (call_bytes ARM64) (call_relocations ARM64) has (offset + 8) 4 (omega arith) (omega arith) (tail_met offset has.index))) in
+    (kept c (offset + 8) 4 held (own_any ARM64 c offset called (call_bytes ARM64) (call_relocations ARM64) has (offset + 8) 4 (omega arith) (omega arith) (tail_met offset has.index))) in
     let pair : List ℕ = x.adrp_there.bytes ++ x.load_there.bytes in
     let pair_long : length (x.adrp_there.bytes ++ x.load_there.bytes) ≡ 8 = omega (arith, length-append x.adrp_there.bytes x.load_there.bytes) in
     let branch_place : c.position + (offset + 8) ≡ at + length (x.adrp_there.bytes ++ x.load_there.bytes) = omega arith in
@@ -264,10 +263,10 @@ usual_calls ARM64 image_base linked codes memory name bytes c offset other lead 
       located = x.located;
     }
 
-pub usual_loads : (machine : MachineType) (image_base : ℕ) (linked : List Placed) (codes : List LinkedCode) (memory : List Range) (name bytes : List ℕ) (c : LinkedCode) (offset : ℕ) → (machine ≡ ARMNT → ⊥) →
-    AllLead machine image_base linked codes memory name bytes → Contains codes c → HasLoad machine (placed_code c) offset name → LoadArrives machine image_base memory (c.position + offset) bytes
-usual_loads I386 image_base linked codes memory name bytes c offset other lead held has =
-    let x = lead.instructions c offset (0xA1 ∷ []) [] held (x86_instruction I386 c offset i386_dir32 5 (0xA1 ∷ []) name refl refl refl (refl, refl) has) in
+pub usual_loads : (machine : MachineType) (image_base : ℕ) (linked : List Placed) (codes : List LinkedCode) (memory : List Range) (called name bytes : List ℕ) (c : LinkedCode) (offset : ℕ) → (machine ≡ ARMNT → ⊥) →
+    AllLeadTo machine image_base linked codes memory called name bytes → Contains codes c → HasLoad machine (placed_code c) offset called → LoadArrives machine image_base memory (c.position + offset) bytes
+usual_loads I386 image_base linked codes memory called name bytes c offset other lead held has =
+    let x = lead.instructions c offset (0xA1 ∷ []) [] held (x86_instruction I386 c offset i386_dir32 5 (0xA1 ∷ []) called refl refl refl (refl, refl) has) in
     let four : length x.field ≡ 4 = x.four in
     record {
       instructions = 0xA1 ∷ (x.field ++ []);
@@ -277,9 +276,9 @@ usual_loads I386 image_base linked codes memory name bytes c offset other lead h
       reads = mov_field (image_base + (c.position + offset)) x.field x.four ∙ x.leads;
       located = x.located;
     }
-usual_loads ARMNT image_base linked codes memory name bytes c offset other lead held has = absurd (other refl)
-usual_loads AMD64 image_base linked codes memory name bytes c offset other lead held has =
-    let x = lead.instructions c offset (0x48 ∷ 0x8B ∷ 5 ∷ []) [] held (x86_instruction AMD64 c offset amd64_rel32 7 (0x48 ∷ 0x8B ∷ 5 ∷ []) name refl refl refl (0, (omega arith, (refl, refl))) has) in
+usual_loads ARMNT image_base linked codes memory called name bytes c offset other lead held has = absurd (other refl)
+usual_loads AMD64 image_base linked codes memory called name bytes c offset other lead held has =
+    let x = lead.instructions c offset (0x48 ∷ 0x8B ∷ 5 ∷ []) [] held (x86_instruction AMD64 c offset amd64_rel32 7 (0x48 ∷ 0x8B ∷ 5 ∷ []) called refl refl refl (0, (omega arith, (refl, refl))) has) in
     let four : length x.field ≡ 4 = x.four in
     let place : image_base + (c.position + offset) + 7 ≡ image_base + (c.position + offset + 3) + 4 + 0 = omega arith in
     record {
@@ -290,11 +289,11 @@ usual_loads AMD64 image_base linked codes memory name bytes c offset other lead 
       reads = amd64_load (image_base + (c.position + offset)) x.field x.four ∙ ap (λ a. Some (plus_signed 32 1 (number_in x.field) a)) place ∙ x.leads;
       located = x.located;
     }
-usual_loads ARM64 image_base linked codes memory name bytes c offset other lead held has =
+usual_loads ARM64 image_base linked codes memory called name bytes c offset other lead held has =
     let at : ℕ = c.position + offset in
     let second_place : c.position + (offset + 4) ≡ at + 4 = omega arith in
-    let page_field : HasPageField c offset name = page_has c offset name 8 0 0 0x90 8 1 0x40 0xF9 [] has refl in
-    let offset_field : HasOffsetField c (offset + 4) name = offset_has c offset name 8 0 0 0x90 8 1 0x40 0xF9 [] has refl refl in
+    let page_field : HasPageField c offset called = page_has c offset called 8 0 0 0x90 8 1 0x40 0xF9 [] has refl in
+    let offset_field : HasOffsetField c (offset + 4) called = offset_has c offset called 8 0 0 0x90 8 1 0x40 0xF9 [] has refl refl in
     let x : PairArrives image_base linked memory at (at + 4) (field_at c.code.bytes offset 4) (field_at c.code.bytes (offset + 4) 4) name bytes =
     subst (λ a. PairArrives image_base linked memory at a (field_at c.code.bytes offset 4) (field_at c.code.bytes (offset + 4) 4) name bytes) second_place (lead.pairs c c offset (offset + 4) refl held held page_field offset_field) in
     let first : length x.adrp_there.bytes ≡ 4 = x.adrp_there.count in
@@ -305,8 +304,8 @@ usual_loads ARM64 image_base linked codes memory name bytes c offset other lead 
       whole = omega (arith, length-append x.adrp_there.bytes x.load_there.bytes);
       entry = x.entry;
       reads = arm64_load (image_base + at) x.adrp_there.bytes x.load_there.bytes first second
-          (ap (with_adrp 0) x.adrp_there.value ∙ x.is_adrp ∙ ap (with_adrp 0) (first_is c offset name 8 0 0 0x90 8 1 0x40 0xF9 [] has))
-          (ap (with_bits 10 12 0) x.load_there.value ∙ x.is_load ∙ ap (with_bits 10 12 0) (second_is c offset name 8 0 0 0x90 8 1 0x40 0xF9 [] has))
+          (ap (with_adrp 0) x.adrp_there.value ∙ x.is_adrp ∙ ap (with_adrp 0) (first_is c offset called 8 0 0 0x90 8 1 0x40 0xF9 [] has))
+          (ap (with_bits 10 12 0) x.load_there.value ∙ x.is_load ∙ ap (with_bits 10 12 0) (second_is c offset called 8 0 0 0x90 8 1 0x40 0xF9 [] has))
           ∙ ap Some (pair_sum image_base linked memory at (field_at c.code.bytes offset 4) (field_at c.code.bytes (offset + 4) 4) name bytes x);
       located = x.located;
     }
@@ -361,21 +360,21 @@ offset_empty paged loaded small also =
 offset_cleared : (paged loaded : ℕ) → paged < 32 → loaded < 32 → with_bits 10 12 0 (offset_word paged loaded) ≡ offset_word paged loaded
 offset_cleared paged loaded small also = omega arith
 
-read_word : (xs : List ℕ) → length xs ≡ 4 → word_at xs 0 ≡ number_in xs
+pub read_word : (xs : List ℕ) → length xs ≡ 4 → word_at xs 0 ≡ number_in xs
 read_word xs four = let f = four_of xs four in subst (λ ys. word_at ys 0 ≡ number_in ys) (sym f.is) refl
 
-pub usual_pages : (image_base : ℕ) (linked : List Placed) (codes : List LinkedCode) (memory : List Range) (name bytes : List ℕ) (c : LinkedCode) (first second paged loaded : ℕ) →
-    AllLead ARM64 image_base linked codes memory name bytes → Contains codes c → paged < 32 → loaded < 32 → HasPage (placed_code c) first paged name → HasPageOffset (placed_code c) second paged loaded name →
+pub usual_pages : (image_base : ℕ) (linked : List Placed) (codes : List LinkedCode) (memory : List Range) (called name bytes : List ℕ) (c : LinkedCode) (first second paged loaded : ℕ) →
+    AllLeadTo ARM64 image_base linked codes memory called name bytes → Contains codes c → paged < 32 → loaded < 32 → HasPage (placed_code c) first paged called → HasPageOffset (placed_code c) second paged loaded called →
     PageArrives image_base memory (c.position + first) (c.position + second) paged loaded bytes
-usual_pages image_base linked codes memory name bytes c first second paged loaded lead held small also has has_offset =
-    let page_is : field_at c.code.bytes first 4 ≡ page_word paged = word_is c first (page_word paged) arm64_pagebase_rel21 name (page_small paged small) has in
-    let offset_is : field_at c.code.bytes second 4 ≡ offset_word paged loaded = word_is c second (offset_word paged loaded) arm64_pageoffset_12l name (offset_small paged loaded small also) has_offset in
+usual_pages image_base linked codes memory called name bytes c first second paged loaded lead held small also has has_offset =
+    let page_is : field_at c.code.bytes first 4 ≡ page_word paged = word_is c first (page_word paged) arm64_pagebase_rel21 called (page_small paged small) has in
+    let offset_is : field_at c.code.bytes second 4 ≡ offset_word paged loaded = word_is c second (offset_word paged loaded) arm64_pageoffset_12l called (offset_small paged loaded small also) has_offset in
     let x = lead.pairs c c first second refl held held
     (record {
       field = record {
         symbol = has.index;
-        alone = word_alone c first (page_word paged) arm64_pagebase_rel21 name refl has;
-        inside = word_inside c first (page_word paged) arm64_pagebase_rel21 name has;
+        alone = word_alone c first (page_word paged) arm64_pagebase_rel21 called refl has;
+        inside = word_inside c first (page_word paged) arm64_pagebase_rel21 called has;
         names = record { symbol = has.symbol; target = has.target; undefined = has.undefined; named = has.named };
       };
       empty = ap adrp_immediate page_is ∙ page_empty paged small;
@@ -383,8 +382,8 @@ usual_pages image_base linked codes memory name bytes c first second paged loade
     (record {
       field = record {
         symbol = has_offset.index;
-        alone = word_alone c second (offset_word paged loaded) arm64_pageoffset_12l name refl has_offset;
-        inside = word_inside c second (offset_word paged loaded) arm64_pageoffset_12l name has_offset;
+        alone = word_alone c second (offset_word paged loaded) arm64_pageoffset_12l called refl has_offset;
+        inside = word_inside c second (offset_word paged loaded) arm64_pageoffset_12l called has_offset;
         names = record { symbol = has_offset.symbol; target = has_offset.target; undefined = has_offset.undefined; named = has_offset.named };
       };
       eight = ap (bits_of 30 2) offset_is ∙ offset_size paged loaded small also;
@@ -406,3 +405,27 @@ usual_pages image_base linked codes memory name bytes c first second paged loade
           ∙ ap (λ n. plus_signed 21 4096 (adrp_immediate x.adrp) (page (image_base + (c.position + first)) * 4096) + ldr_immediate n) load_is ∙ x.leads;
       located = x.located;
     }
+
+-- What the usual instructions against a name do: calls and loads through its pointer arrive at these bytes, and on ARM64 a page and an offset.
+pub record AreReached (machine : MachineType) (image_base : ℕ) (codes : List LinkedCode) (memory : List Range) (called bytes : List ℕ) : Type 0 where
+  pub calls : (c : LinkedCode) (offset : ℕ) → Contains codes c → HasCall machine (placed_code c) offset called → CallArrives machine image_base memory (c.position + offset) bytes
+  pub loads : (c : LinkedCode) (offset : ℕ) → Contains codes c → HasLoad machine (placed_code c) offset called → LoadArrives machine image_base memory (c.position + offset) bytes
+  pub pages : (c : LinkedCode) (first second paged loaded : ℕ) → machine ≡ ARM64 → Contains codes c → paged < 32 → loaded < 32 → HasPage (placed_code c) first paged called →
+      HasPageOffset (placed_code c) second paged loaded called → PageArrives image_base memory (c.position + first) (c.position + second) paged loaded bytes
+
+pages_by : (machine : MachineType) (image_base : ℕ) (linked : List Placed) (codes : List LinkedCode) (memory : List Range) (called name bytes : List ℕ) → AllLeadTo machine image_base linked codes memory called name bytes →
+    (c : LinkedCode) (first second paged loaded : ℕ) → machine ≡ ARM64 → Contains codes c → paged < 32 → loaded < 32 → HasPage (placed_code c) first paged called →
+    HasPageOffset (placed_code c) second paged loaded called → PageArrives image_base memory (c.position + first) (c.position + second) paged loaded bytes
+pages_by I386 image_base linked codes memory called name bytes lead c first second paged loaded is held small also has has_offset = cc
+pages_by ARMNT image_base linked codes memory called name bytes lead c first second paged loaded is held small also has has_offset = cc
+pages_by AMD64 image_base linked codes memory called name bytes lead c first second paged loaded is held small also has has_offset = cc
+pages_by ARM64 image_base linked codes memory called name bytes lead c first second paged loaded is held small also has has_offset =
+    usual_pages image_base linked codes memory called name bytes c first second paged loaded lead held small also has has_offset
+
+pub usual_reached : (machine : MachineType) (image_base : ℕ) (linked : List Placed) (codes : List LinkedCode) (memory : List Range) (called name bytes : List ℕ) → (machine ≡ ARMNT → ⊥) →
+    AllLeadTo machine image_base linked codes memory called name bytes → AreKept machine codes memory → AreReached machine image_base codes memory called bytes
+usual_reached machine image_base linked codes memory called name bytes other lead kept = record {
+  calls = λ c offset held has. usual_calls machine image_base linked codes memory called name bytes c offset other lead kept held has;
+  loads = λ c offset held has. usual_loads machine image_base linked codes memory called name bytes c offset other lead held has;
+  pages = pages_by machine image_base linked codes memory called name bytes lead;
+}

@@ -101,9 +101,6 @@ sections_addresses n (s ∷ sections) keeps even =
     let parts = and_parts (keeps_fours s (group_named s.name)) (list_all (λ s. keeps_fours s (group_named s.name)) sections) keeps in
     sections_addresses (end_with Addresses n s (group_named s.name)) sections parts.1 (addresses_even s (group_named s.name) n parts.0 even)
 
-plus_later : (a n r m : ℕ) → a ≡ n + r → a + m ≡ n + (r + m)
-plus_later a n r m is = omega arith
-
 sections_descriptors : (n : ℕ) (sections : List ObjectSection) → keep_fours sections → n % 4 ≡ 0 →
     (sections_end Descriptors n sections ≡ n + rows_of_sections sections) × ((n + rows_of_sections sections) % 4 ≡ 0)
 unfolding sections_end

@@ -28,10 +28,12 @@ use Rattle.implib_link.proofs.Gnu.Blocks.{objects_behind}
 use Rattle.implib_link.proofs.Gnu.Bounds.{table_long}
 use Rattle.implib_link.proofs.Gnu.Filling.{DirectoryBeside, all_filled, can_run, left_alike, runs_once}
 use Rattle.implib_link.proofs.Gnu.Keeps.{Keeps}
-use Rattle.implib_link.proofs.Gnu.Loaded.{program_loads, thunks_asked}
+use Rattle.implib_link.proofs.Gnu.Loaded.{thunks_asked}
+use Rattle.implib_link.proofs.LoadedPrograms.{program_loads}
 use Rattle.implib_link.proofs.Gnu.Others.{contributions_kept, definitions_kept}
 use Rattle.implib_link.proofs.Gnu.Program.{all_claim, each, program_links}
-use Rattle.implib_link.proofs.Gnu.Reading.{directory_read, reader_ends}
+use Rattle.implib_link.proofs.Gnu.Reading.{directory_read}
+use Rattle.implib_link.proofs.LoadedPrograms.{reader_ends}
 
 keeps_twice : (first second third : List Range) → Keeps first second → Keeps second third → Keeps first third
 unfolding Keeps

@@ -1,8 +1,8 @@
 -- An archive whose listed symbols differ: each name has one member, and what members leave and claim.
-use Rattle.std.proofs.Common.{◌≡◌, ℕ, zero, suc, true, false, List, [], ◌∷◌, ◌++◌, map, Option, Some, None, refl, ap, sym, ◌∙◌, subst, inl, inr, ◌⊎◌, arith}
+use Rattle.std.proofs.Common.{◌≡◌, ℕ, zero, suc, true, false, List, [], ◌∷◌, ◌++◌, map, Option, Some, None, refl, ap, sym, ◌∙◌, subst, inl, inr, ◌⊎◌, arith, Bool}
 use Rattle.std.specs.Prelude.{bytes_eq, reverse, slice_get}
-use Rattle.std.specs.List.{AllByRecursion, Contains, IsDistinct, cons_option, flat_map, list_any}
-use Rattle.std.proofs.lemmas.Bool.{cases_Bool, false_from_ne_true, or_parts, true≢false}
+use Rattle.std.specs.List.{AllByRecursion, Contains, IsDistinct, cons_option, flat_map, list_any, list_all}
+use Rattle.std.proofs.lemmas.Bool.{cases_Bool, false_from_ne_true, or_parts, true≢false, and_parts}
 use Rattle.std.proofs.lemmas.List.{reverse-append}
 use Rattle.std.proofs.lemmas.Grind.{flat_map-append}
 use Rattle.std.proofs.lemmas.Slice.Eq.{bytes_eq-Decides}
@@ -264,3 +264,10 @@ some_distinct archive (x ∷ some) distinct held once =
 pub listed_mapped : (ps : List MemberSpec) → all_listed (map member_of ps) ≡ flat_map (λ (p : MemberSpec). p.symbols) ps
 listed_mapped [] = refl
 listed_mapped (p ∷ ps) = ap (λ names. p.symbols ++ names) (listed_mapped ps)
+
+-- each of a list passes a test that all pass
+pub each_of : {X : Type 0} (test : X → Bool) (x : X) (xs : List X) → list_all test xs ≡ true → Among x xs → test x ≡ true
+unfolding Among
+each_of test x [] all m = absurd m
+each_of test x (y ∷ xs) all (inl same) = ap test same ∙ (and_parts (test y) (list_all test xs) all).0
+each_of test x (y ∷ xs) all (inr m) = each_of test x xs (and_parts (test y) (list_all test xs) all).1 m

@@ -19,7 +19,7 @@ use Rattle.implib.specs.Link.LinkedMembers.{chosen_exports}
 use Rattle.implib.specs.Members.Msvc.{name_type_of, short_import_symbol}
 use Rattle.implib.specs.Members.MsvcObjects.{descriptor, null_descriptor, null_thunk}
 use Rattle.implib_link.specs.Flavors.Expansion.{Use, import_object}
-use Rattle.implib_link.specs.Flavors.Program.{AreFlavorObjects, FlavorInput, IsMadeFor, ask_in, exports_chosen, objects_taken}
+use Rattle.implib_link.specs.Flavors.Program.{AreFlavorObjects, FlavorInput, IsMadeFor, ask_in, objects_taken}
 use Rattle.implib_link.specs.Flavors.SectionSymbols.{with_section_symbols}
 use Rattle.implib_link.specs.Gnu.Packed.{packed_end}
 use Rattle.implib_link.specs.Search.Archives.{Library, exports_of}
@@ -115,9 +115,6 @@ askings_near machine dll (e ∷ es) rest =
     omega arith
 
 -- The rooms of libraries.
-
-abbrev input_room : FlavorInput → ℕ
-input_room p = 67 + length p.input.definition.import_name + sum_by short_room (exports_chosen p)
 
 library_near : (machine : MachineType) (l : Library) (chosen : List ℕ) (others : List FlavorInput) (n m : ℕ) → all_rooms (all_objects machine (map block_in others) []) ≤ n →
     67 + length l.definition.import_name + sum_by short_room (chosen_exports l.definition chosen) ≤ m →

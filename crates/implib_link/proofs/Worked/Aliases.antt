@@ -1,6 +1,7 @@
 -- The calls and the pointer by an alias by hand, by computing and by the law.
+use Rattle.implib_link.specs.Gnu.Fields.{LinkedCode}
 use Rattle.std.proofs.Common.{◌≡◌, ℕ, ◌^◌, Bool, true, List, [], ◌∷◌, ◌++◌, codes, Option, None, Some, refl, ap, sym, ◌∙◌, subst, arith, true≢false}
-use Rattle.std.specs.Prelude.{drop, take, ◌==◌, if◌then◌else◌}
+use Rattle.std.specs.Prelude.{drop, take, ◌==◌, if◌then◌else◌, slice_get}
 use Rattle.std.specs.List.{list_all}
 use Rattle.std.specs.Option.{option_and_then}
 use Rattle.std.proofs.lemmas.Bool.{eqb-true}
@@ -8,12 +9,12 @@ use Rattle.implib.specs.declared.machine.MachineType.TheVariants.{AMD64}
 use Rattle.implib.specs.Formats.Bytes.{u32_bytes}
 use Rattle.implib.specs.Formats.Constants.{class_external}
 use Rattle.implib.specs.Formats.Layout.{encoded_size, entries_of, name_text, object_of}
-use Rattle.implib.specs.Formats.Object.{ASymbol, Auxiliary, Entry, u32_at}
+use Rattle.implib.specs.Formats.Object.{ASymbol, Auxiliary, Entry, u32_at, ObjectSymbol}
 use Rattle.implib.specs.Formats.ShortImport.{short_import_in}
 use Rattle.implib.specs.Import.{imp_symbol}
 use Rattle.implib.specs.Link.Image.{image_of}
 use Rattle.implib.specs.Link.Placement.{Placed, placed_from}
-use Rattle.implib.specs.Link.Resolution.{definitions_of, first_address, is_undefined_external, symbol_address}
+use Rattle.implib.specs.Link.Resolution.{definitions_of, first_address, is_undefined_external, symbol_address, SymbolDefinition}
 use Rattle.implib.specs.Members.GnuMembers.{alias_specs}
 use Rattle.implib.specs.Members.Members.{refusal, renamed_refusal}
 use Rattle.implib.specs.Members.MsvcMembers.{descriptor_spec, header_specs, null_descriptor_spec, null_thunk_spec, weak_specs}
@@ -24,21 +25,26 @@ use Rattle.implib_link.specs.Flavors.Expansion.{descriptor_symbol_by_name, expan
 use Rattle.implib_link.specs.Flavors.Program.{IsFlavorProgram, all_members, symbols_listed}
 use Rattle.implib_link.specs.Flavors.SectionSymbols.{with_section_symbols}
 use Rattle.implib_link.specs.Gnu.Aliases.{ResolvesAliases, weak_target}
-use Rattle.implib_link.specs.Gnu.Calls.{AreBeside, HasCall, PlacedCode, Resolves, code_ranges}
+use Rattle.implib_link.specs.Gnu.Calls.{HasCall, PlacedCode, Resolves}
 use Rattle.implib_link.specs.Gnu.Packed.{group_end, sections_end}
 use Rattle.implib_link.specs.Gnu.Pointers.{HasLoad}
 use Rattle.implib_link.specs.Gnu.Program.{IsProgram, has_tables, linked_symbols}
-use Rattle.implib_link.specs.Worked.Aliases.{WorkedAlias, WorkedFlavorAlias, alias_at, alias_calling, alias_codes, alias_flavors, alias_load_at, alias_loading, alias_objects, alias_placed, all_at, opened_flavors, opened_name, opened_placed}
+use Rattle.implib_link.specs.Worked.Aliases.{WorkedAlias, WorkedFlavorAlias, alias_at, alias_calling, alias_codes, alias_flavors, alias_load_at, alias_loading, alias_objects, alias_placed, all_at, opened_flavors, opened_name, opened_placed, OverriddenAlias, overridden_code, overridden_placed}
 use Rattle.implib_link.specs.Worked.Calls.{first_bytes, given_on, last_bytes}
 use Rattle.implib_link.specs.Worked.Flavors.{both_inputs as flavor_inputs, flavor_bases_8, foo_input as msvc_input}
 use Rattle.implib_link.specs.Worked.Programs.{another, both_inputs, foo_input, symbol_of_class, touching_8}
-use Rattle.implib_link.proofs.Flavors.Aliases.{flavors_calls_by_alias, flavors_loads_by_alias}
-use Rattle.implib_link.proofs.Gnu.Aliases.{calls_by_alias, loads_by_alias, weak_is_weak}
+use Rattle.implib_link.proofs.Worked.Relocated.{flavors_calls_by_alias, flavors_loads_by_alias}
+use Rattle.implib_link.proofs.Gnu.Aliases.{weak_is_weak}
+use Rattle.implib_link.proofs.Worked.Relocated.{calls_by_alias, loads_by_alias}
 use Rattle.implib_link.proofs.Search.Lists.{among_at, contains_among}
-use Rattle.implib_link.proofs.Worked.Calls.{each_of, is_none, open_export, wide}
+use Rattle.implib_link.proofs.Worked.Calls.{is_none, open_export, wide, one_of, second_at}
+use Rattle.implib_link.proofs.Search.Lists.{each_of}
 use Rattle.implib_link.proofs.Worked.Flavors.{worked_flavors}
 use Rattle.implib_link.proofs.Worked.Programs.{claims_none_by, distinct_by, opened, worked_programs}
 use Rattle.implib_link.proofs.Worked.Rebased.{all_unwanted, none_wanted}
+use Rattle.implib_link.specs.Worked.Relocated.{CodesBeside, code_ranges, linked_codes, as_placed, linked_by}
+use Rattle.implib_link.proofs.Worked.Relocated.{beside_by, codes_tested}
+use Rattle.implib_link.proofs.Worked.LinkedCode.{relocated_test}
 
 program : IsProgram AMD64 touching_8 (both_inputs AMD64) alias_objects
 unfolding opened alias_specs encoded_size weak_object has_tables object_of entries_of name_text u32_bytes
@@ -94,33 +100,36 @@ leads_to address linked (Auxiliary bytes) = true
 leads_to address linked (ASymbol s) =
     if is_undefined_external s then is_at address (option_and_then (address_of linked) (weak_target s.name linked)) else true
 
-aliases_at : (linked : List Placed) (codes : List PlacedCode) (n : ℕ) → list_all (λ (c : PlacedCode). list_all (leads_to n linked) c.from.object.entries) codes ≡ true →
+aliases_at : (linked : List Placed) (codes : List LinkedCode) (n : ℕ) → list_all (λ (c : LinkedCode). list_all (leads_to n linked) c.from.object.entries) codes ≡ true →
     ResolvesAliases linked codes (λ c index. n)
 aliases_at linked codes n all c index address s target held at undefined none weak there =
     let own : list_all (leads_to n linked) c.from.object.entries ≡ true =
-    each_of (λ (x : PlacedCode). list_all (leads_to n linked) x.from.object.entries) c codes all (contains_among c codes held) in
+    each_of (λ (x : LinkedCode). list_all (leads_to n linked) x.from.object.entries) c codes all (contains_among c codes held) in
     let one : leads_to n linked (ASymbol s) ≡ true = each_of (leads_to n linked) (ASymbol s) c.from.object.entries own (among_at (ASymbol s) c.from.object.entries index at) in
     let two : is_at n (option_and_then (address_of linked) (weak_target s.name linked)) ≡ true = rw undefined at one in
     let three : is_at n (address_of linked target) ≡ true = subst (λ o. is_at n (option_and_then (address_of linked) o) ≡ true) weak two in
     eqb-true n address (subst (λ o. is_at n o ≡ true) there three)
 
-beside : AreBeside AMD64 0x1_4000_0000 touching_8 alias_objects alias_codes (all_at 0x80)
-unfolding opened alias_specs encoded_size weak_object has_tables object_of entries_of name_text u32_bytes
-beside = record {
-  held = ((0, omega arith, refl), ((1, omega arith, refl), tt));
-  sections = (refl, (refl, tt));
-  ends = (omega arith, (omega arith, tt));
-  apart = apart_as_they_rise (2 ^ 31) (image_of AMD64 touching_8 alias_placed ++ code_ranges AMD64 0x1_4000_0000 (all_at 0x80) alias_codes) refl;
-  resolved = resolves_anywhere alias_placed alias_codes (all_at 0x80) refl refl;
-}
+beside : CodesBeside AMD64 0x1_4000_0000 touching_8 alias_objects alias_codes (all_at 0x80)
+unfolding opened alias_specs encoded_size weak_object has_tables object_of entries_of name_text u32_bytes relocated_test codes_tested
+beside =
+    beside_by AMD64 0x1_4000_0000 touching_8 alias_objects alias_codes (all_at 0x80)
+    (record {
+      held = ((0, omega arith, refl), ((1, omega arith, refl), tt));
+      sections = (refl, (refl, tt));
+      ends = (omega arith, (omega arith, tt));
+      apart = apart_as_they_rise (2 ^ 31) (image_of AMD64 touching_8 alias_placed ++ code_ranges AMD64 0x1_4000_0000 (all_at 0x80) alias_codes) refl;
+      resolved = resolves_anywhere alias_placed alias_codes (all_at 0x80) refl refl;
+    })
+    refl
 
 weak_is : weak_target opened_name alias_placed ≡ Some (imp_symbol (codes "open"))
 unfolding opened alias_specs encoded_size weak_object has_tables object_of entries_of name_text u32_bytes u32_at
 weak_is = refl
 
-resolves : ResolvesAliases alias_placed alias_codes (all_at 0x80)
+resolves : ResolvesAliases alias_placed (linked_codes AMD64 0x1_4000_0000 (all_at 0x80) alias_codes) (as_placed (all_at 0x80))
 unfolding opened alias_specs encoded_size weak_object has_tables object_of entries_of name_text u32_bytes u32_at
-resolves = aliases_at alias_placed alias_codes 0x80 refl
+resolves = aliases_at alias_placed (linked_codes AMD64 0x1_4000_0000 (all_at 0x80) alias_codes) 0x80 refl
 
 has : HasCall AMD64 alias_at 4 opened_name
 has = record {
@@ -225,19 +234,22 @@ flavors_program =
       follows = refl;
     }
 
-flavors_beside : AreBeside AMD64 0x1_4000_0000 flavor_bases_8 opened_flavors alias_codes (all_at 0x88)
-unfolding opened refusal renamed_refusal alias_specs encoded_size weak_object has_tables expanded_in short_import_in import_object descriptor_symbol_by_name with_section_symbols descriptor null_descriptor null_thunk descriptor_symbol null_descriptor_symbol null_thunk_symbol base_name descriptor_spec null_descriptor_spec null_thunk_spec header_specs weak_specs group_end sections_end object_of entries_of name_text u32_bytes u32_at
-flavors_beside = record {
-  held = ((0, omega arith, refl), ((1, omega arith, refl), tt));
-  sections = (refl, (refl, tt));
-  ends = (omega arith, (omega arith, tt));
-  apart = apart_as_they_rise (2 ^ 31) (image_of AMD64 flavor_bases_8 opened_placed ++ code_ranges AMD64 0x1_4000_0000 (all_at 0x88) alias_codes) refl;
-  resolved = resolves_anywhere opened_placed alias_codes (all_at 0x88) refl refl;
-}
+flavors_beside : CodesBeside AMD64 0x1_4000_0000 flavor_bases_8 opened_flavors alias_codes (all_at 0x88)
+unfolding opened refusal renamed_refusal alias_specs encoded_size weak_object has_tables expanded_in short_import_in import_object descriptor_symbol_by_name with_section_symbols descriptor null_descriptor null_thunk descriptor_symbol null_descriptor_symbol null_thunk_symbol base_name descriptor_spec null_descriptor_spec null_thunk_spec header_specs weak_specs group_end sections_end object_of entries_of name_text u32_bytes u32_at relocated_test codes_tested
+flavors_beside =
+    beside_by AMD64 0x1_4000_0000 flavor_bases_8 opened_flavors alias_codes (all_at 0x88)
+    (record {
+      held = ((0, omega arith, refl), ((1, omega arith, refl), tt));
+      sections = (refl, (refl, tt));
+      ends = (omega arith, (omega arith, tt));
+      apart = apart_as_they_rise (2 ^ 31) (image_of AMD64 flavor_bases_8 opened_placed ++ code_ranges AMD64 0x1_4000_0000 (all_at 0x88) alias_codes) refl;
+      resolved = resolves_anywhere opened_placed alias_codes (all_at 0x88) refl refl;
+    })
+    refl
 
-flavors_resolves : ResolvesAliases opened_placed alias_codes (all_at 0x88)
+flavors_resolves : ResolvesAliases opened_placed (linked_codes AMD64 0x1_4000_0000 (all_at 0x88) alias_codes) (as_placed (all_at 0x88))
 unfolding opened refusal renamed_refusal alias_specs encoded_size weak_object has_tables expanded_in short_import_in import_object descriptor_symbol_by_name with_section_symbols descriptor null_descriptor null_thunk descriptor_symbol null_descriptor_symbol null_thunk_symbol base_name descriptor_spec null_descriptor_spec null_thunk_spec header_specs weak_specs group_end sections_end object_of entries_of name_text u32_bytes u32_at
-flavors_resolves = aliases_at opened_placed alias_codes 0x88 refl
+flavors_resolves = aliases_at opened_placed (linked_codes AMD64 0x1_4000_0000 (all_at 0x88) alias_codes) 0x88 refl
 
 flavors_undefined : definitions_of opened_name opened_placed ≡ []
 unfolding opened refusal renamed_refusal alias_specs encoded_size weak_object has_tables expanded_in short_import_in import_object descriptor_symbol_by_name with_section_symbols descriptor null_descriptor null_thunk descriptor_symbol null_descriptor_symbol null_thunk_symbol base_name descriptor_spec null_descriptor_spec null_thunk_spec header_specs weak_specs group_end sections_end object_of entries_of name_text u32_bytes u32_at
@@ -250,11 +262,11 @@ flavors_weak = refl
 not_same : (n m : ℕ) → n ≡ 0x88 → m ≡ 0x90 → n ≡ m → ⊥
 not_same n m first second same = omega arith
 
-astray : ResolvesAliases (placed_from flavor_bases_8 (alias_flavors (imp_symbol (codes "stat")))) alias_codes (all_at 0x88) → ⊥
+astray : ResolvesAliases (placed_from flavor_bases_8 (alias_flavors (imp_symbol (codes "stat")))) (linked_codes AMD64 0x1_4000_0000 (all_at 0x88) alias_codes) (as_placed (all_at 0x88)) → ⊥
 unfolding opened refusal renamed_refusal alias_specs encoded_size weak_object has_tables expanded_in short_import_in import_object descriptor_symbol_by_name with_section_symbols descriptor null_descriptor null_thunk descriptor_symbol null_descriptor_symbol null_thunk_symbol base_name descriptor_spec null_descriptor_spec null_thunk_spec header_specs weak_specs group_end sections_end object_of entries_of name_text u32_bytes u32_at
 astray resolves =
     not_same 0x88 0x90 refl refl
-    (resolves alias_at 1 0x90 (symbol_of_class opened_name 0 class_external) (imp_symbol (codes "stat")) (0, omega arith, refl) refl refl refl refl refl)
+    (resolves (linked_by AMD64 0x1_4000_0000 (all_at 0x88) alias_at) 1 0x90 (symbol_of_class opened_name 0 class_external) (imp_symbol (codes "stat")) (0, omega arith, refl) refl refl refl refl refl)
 
 pub worked_flavor_alias : WorkedFlavorAlias
 unfolding opened refusal renamed_refusal alias_specs encoded_size weak_object has_tables expanded_in short_import_in import_object descriptor_symbol_by_name with_section_symbols descriptor null_descriptor null_thunk descriptor_symbol null_descriptor_symbol null_thunk_symbol base_name descriptor_spec null_descriptor_spec null_thunk_spec header_specs weak_specs group_end sections_end object_of entries_of name_text u32_bytes u32_at
@@ -277,4 +289,30 @@ worked_flavor_alias = record {
       flavors_loads_by_alias AMD64 0x1_4000_0000 flavor_bases_8 (flavor_inputs AMD64) opened_flavors alias_codes (all_at 0x88) (given_on AMD64) written 0 1 (msvc_input AMD64) (open_export AMD64) alias_load_at 4
       opened_name worked_flavors.amd64.made flavors_program tt flavors_beside flavors_resolves (wide AMD64) writes refl refl (1, omega arith, refl) flavors_undefined flavors_weak loads;
   astray = astray;
+}
+
+-- A name that is weak, and defined.
+
+stat_defined : definitions_of (imp_symbol (codes "stat")) overridden_placed ≡ record { name = imp_symbol (codes "stat"); address = Some 0x88 } ∷ []
+unfolding opened alias_specs encoded_size weak_object has_tables object_of entries_of name_text u32_bytes
+stat_defined = refl
+
+not_nothing : (d : SymbolDefinition) → d ∷ [] ≡ [] → ⊥
+not_nothing d none = cc
+
+stat_resolves : ResolvesAliases overridden_placed (overridden_code ∷ []) (λ c index. 0x88)
+stat_resolves c index address s target held at undefined none weak there =
+    let c_is : c ≡ overridden_code = one_of c overridden_code (contains_among c (overridden_code ∷ []) held) in
+    let u : ObjectSymbol = symbol_of_class (imp_symbol (codes "stat")) 0 class_external in
+    let s_is : s ≡ u = second_at (symbol_of_class (codes "main") 1 class_external) u s index refl undefined (subst (λ (x : LinkedCode). slice_get x.from.object.entries index ≡ Some (ASymbol s)) c_is at) in
+    absurd (not_nothing (record { name = imp_symbol (codes "stat"); address = Some 0x88 }) (sym stat_defined ∙ subst (λ (x : ObjectSymbol). definitions_of x.name overridden_placed ≡ []) s_is none))
+
+pub overridden_alias : OverriddenAlias
+unfolding opened alias_specs encoded_size weak_object has_tables object_of entries_of name_text u32_bytes u32_at
+overridden_alias = record {
+  weak = refl;
+  defined = stat_defined;
+  target = refl;
+  resolves = stat_resolves;
+  taken = λ targets takes. takes.tables overridden_code 1 0x88 (ASymbol (symbol_of_class (imp_symbol (codes "stat")) 0 class_external)) (0, omega arith, refl) refl refl;
 }

@@ -2,9 +2,9 @@
 use Rattle.std.proofs.Common.{◌≡◌, ℕ, zero, suc, ◌+◌, ◌^◌, ◌⊎◌, true, false, List, [], ◌∷◌, ◌++◌, codes, length, Some, None, Option, refl, ap, sym, ◌∙◌, subst, inl, inr, arith, true≢false}
 use Rattle.std.specs.Prelude.{Bool, bytes_eq, not, slice_get, ◌&&◌, ◌==◌, if◌then◌else◌}
 use Rattle.std.specs.List.{list_all}
-use Rattle.std.proofs.lemmas.Bool.{and_from, and_parts, cases_Bool, eq-eqb, eqb-true, not-true}
+use Rattle.std.proofs.lemmas.Bool.{and_from, cases_Bool, eq-eqb, eqb-true, not-true}
 use Rattle.implib.proofs.Link.Definitions.{same_text}
-use Rattle.implib_link.proofs.Gnu.DirectCalls.{direct_calls_reach}
+use Rattle.implib_link.proofs.Worked.Relocated.{direct_calls_reach}
 use Rattle.std.specs.Fmt.{digits}
 use Rattle.implib.specs.declared.machine.MachineType.{MachineType}
 use Rattle.implib.specs.declared.machine.MachineType.TheVariants.{I386, ARMNT, AMD64, ARM64}
@@ -37,21 +37,24 @@ use Rattle.implib_link.specs.Flavors.Program.{IsFlavorProgram, all_members, symb
 use Rattle.implib_link.specs.Flavors.SectionSymbols.{with_section_symbols}
 use Rattle.implib_link.specs.Gnu.Packed.{group_end, sections_end}
 use Rattle.implib_link.specs.Worked.Flavors.{both_inputs as flavor_inputs, flavor_bases_8, flavor_image, flavor_objects, flavor_placed, foo_input as msvc_input}
-use Rattle.implib_link.proofs.Flavors.Calls.{flavors_calls_reach}
-use Rattle.implib_link.proofs.Flavors.Reading.{flavors_reader_ends, flavors_reader_loads}
+use Rattle.implib_link.proofs.Worked.Relocated.{flavors_calls_reach}
+use Rattle.implib_link.proofs.LoadedPrograms.{flavors_reader_ends, flavors_reader_loads}
 use Rattle.implib_link.proofs.Worked.Flavors.{worked_flavors}
-use Rattle.implib_link.specs.Gnu.Calls.{AreBeside, Defines, HasCall, HasDirectCall, PlacedCode, Resolves, code_range, code_ranges}
+use Rattle.implib_link.specs.Gnu.Calls.{Defines, HasCall, HasDirectCall, PlacedCode, Resolves}
 use Rattle.implib_link.specs.Gnu.Program.{IsProgram, has_tables, linked_symbols}
 use Rattle.implib_link.specs.Gnu.Reading.{ReadsAndWrites}
 use Rattle.implib_link.specs.Worked.Calls.{WorkedDirectCall, direct_at, direct_calling, direct_objects, direct_placed, direct_targets, is_open, open_or, open_targets, stub_at, WorkedFlavorCall, calling_flavors, flavor_targets, flavors_placed, WorkedCall, WorkedCalls, WorkedReading, calling, calling_at, calling_memory, calling_objects, calling_placed, first_bytes, given_on, last_bytes, nameless_image, table_targets}
 use Rattle.implib_link.specs.Worked.Programs.{another, both_inputs, foo_input, program_image, program_objects, program_placed, symbol_of_class, symbol_on, touching_4, touching_8}
-use Rattle.implib_link.proofs.Gnu.Calls.{calls_reach_through_entries}
+use Rattle.implib_link.proofs.Worked.Relocated.{calls_reach_through_entries}
 use Rattle.implib_link.proofs.Gnu.Memory.{holder, not_in_both}
-use Rattle.implib_link.proofs.Gnu.Reading.{reader_ends, reader_loads}
+use Rattle.implib_link.proofs.LoadedPrograms.{reader_ends, reader_loads}
 use Rattle.implib_link.proofs.Gnu.Stubs.{same_address}
-use Rattle.implib_link.proofs.Search.Lists.{among_at, contains_among}
+use Rattle.implib_link.proofs.Search.Lists.{among_at, contains_among, each_of}
 use Rattle.implib_link.proofs.Worked.Programs.{claims_none_by, distinct_by, worked_programs}
 use Rattle.implib_link.proofs.Worked.RefusedLinks.{differ, number}
+use Rattle.implib_link.specs.Worked.Relocated.{CodesBeside, code_range, code_ranges}
+use Rattle.implib_link.proofs.Worked.Relocated.{beside_by, codes_tested}
+use Rattle.implib_link.proofs.Worked.LinkedCode.{relocated_test}
 
 -- what the computing has to open
 abbrev opened : Unit {0}
@@ -60,7 +63,7 @@ opened = tt
 
 -- Code of one object, whose first symbol is its own and whose second is another object's, is resolved by the tables.
 
-one_of : {X : Type 0} (x k : X) → Among x (k ∷ []) → x ≡ k
+pub one_of : {X : Type 0} (x k : X) → Among x (k ∷ []) → x ≡ k
 unfolding Among
 one_of x k (inl same) = same
 one_of x k (inr none) = absurd none
@@ -71,7 +74,7 @@ first_or_second x m u (inl same) = inl same
 first_or_second x m u (inr (inl same)) = inr same
 first_or_second x m u (inr (inr none)) = absurd none
 
-second_at : (m u s : ObjectSymbol) (index : ℕ) → is_undefined_external m ≡ false → is_undefined_external s ≡ true → slice_get (ASymbol m ∷ ASymbol u ∷ []) index ≡ Some (ASymbol s) → s ≡ u
+pub second_at : (m u s : ObjectSymbol) (index : ℕ) → is_undefined_external m ≡ false → is_undefined_external s ≡ true → slice_get (ASymbol m ∷ ASymbol u ∷ []) index ≡ Some (ASymbol s) → s ≡ u
 second_at m u s zero own undefined at =
     let same : m ≡ s = cc in
     absurd (true≢false (sym undefined ∙ sym (ap is_undefined_external same) ∙ own))
@@ -118,28 +121,34 @@ amd64_program = record {
   };
 }
 
-amd64_beside : AreBeside AMD64 0x1_4000_0000 touching_8 (calling_objects AMD64) (calling_at AMD64 0x1000 ∷ []) (table_targets AMD64 touching_8)
-unfolding opened refusal renamed_refusal alias_specs encoded_size weak_object has_tables
-amd64_beside = record {
-  held = ((0, omega arith, refl), tt);
-  sections = (refl, tt);
-  ends = (omega arith, tt);
-  apart = apart_as_they_rise (2 ^ 31) (calling_memory AMD64 0x1_4000_0000 touching_8) refl;
-  resolved = one_code_resolves (calling_placed AMD64 touching_8) (calling_at AMD64 0x1000) (symbol_of_class (codes "main") 1 class_external)
-      (symbol_of_class (imp_symbol (symbol_on AMD64 (codes "open"))) 0 class_external) refl refl refl (λ same. cc);
-}
+amd64_beside : CodesBeside AMD64 0x1_4000_0000 touching_8 (calling_objects AMD64) (calling_at AMD64 0x1000 ∷ []) (table_targets AMD64 touching_8)
+unfolding opened refusal renamed_refusal alias_specs encoded_size weak_object has_tables relocated_test codes_tested
+amd64_beside =
+    beside_by AMD64 0x1_4000_0000 touching_8 (calling_objects AMD64) (calling_at AMD64 0x1000 ∷ []) (table_targets AMD64 touching_8)
+    (record {
+      held = ((0, omega arith, refl), tt);
+      sections = (refl, tt);
+      ends = (omega arith, tt);
+      apart = apart_as_they_rise (2 ^ 31) (calling_memory AMD64 0x1_4000_0000 touching_8) refl;
+      resolved = one_code_resolves (calling_placed AMD64 touching_8) (calling_at AMD64 0x1000) (symbol_of_class (codes "main") 1 class_external)
+          (symbol_of_class (imp_symbol (symbol_on AMD64 (codes "open"))) 0 class_external) refl refl refl (λ same. cc);
+    })
+    refl
 
 -- the same, its code ending 16 bytes below 2^31
-pub far_beside : AreBeside AMD64 0x1_4000_0000 touching_8 (calling_objects AMD64) (calling_at AMD64 0x7FFF_FFE1 ∷ []) (table_targets AMD64 touching_8)
-unfolding opened refusal renamed_refusal alias_specs encoded_size weak_object has_tables
-far_beside = record {
-  held = ((0, omega arith, refl), tt);
-  sections = (refl, tt);
-  ends = (omega arith, tt);
-  apart = apart_as_they_rise (2 ^ 31) (image_of AMD64 touching_8 (calling_placed AMD64 touching_8) ++ code_ranges AMD64 0x1_4000_0000 (table_targets AMD64 touching_8) (calling_at AMD64 0x7FFF_FFE1 ∷ [])) refl;
-  resolved = one_code_resolves (calling_placed AMD64 touching_8) (calling_at AMD64 0x7FFF_FFE1) (symbol_of_class (codes "main") 1 class_external)
-      (symbol_of_class (imp_symbol (symbol_on AMD64 (codes "open"))) 0 class_external) refl refl refl (λ same. cc);
-}
+pub far_beside : CodesBeside AMD64 0x1_4000_0000 touching_8 (calling_objects AMD64) (calling_at AMD64 0x7FFF_FFE1 ∷ []) (table_targets AMD64 touching_8)
+unfolding opened refusal renamed_refusal alias_specs encoded_size weak_object has_tables relocated_test codes_tested
+far_beside =
+    beside_by AMD64 0x1_4000_0000 touching_8 (calling_objects AMD64) (calling_at AMD64 0x7FFF_FFE1 ∷ []) (table_targets AMD64 touching_8)
+    (record {
+      held = ((0, omega arith, refl), tt);
+      sections = (refl, tt);
+      ends = (omega arith, tt);
+      apart = apart_as_they_rise (2 ^ 31) (image_of AMD64 touching_8 (calling_placed AMD64 touching_8) ++ code_ranges AMD64 0x1_4000_0000 (table_targets AMD64 touching_8) (calling_at AMD64 0x7FFF_FFE1 ∷ [])) refl;
+      resolved = one_code_resolves (calling_placed AMD64 touching_8) (calling_at AMD64 0x7FFF_FFE1) (symbol_of_class (codes "main") 1 class_external)
+          (symbol_of_class (imp_symbol (symbol_on AMD64 (codes "open"))) 0 class_external) refl refl refl (λ same. cc);
+    })
+    refl
 
 pub amd64_has : HasCall AMD64 (calling_at AMD64 0x1000) 4 (imp_symbol (symbol_on AMD64 (codes "open")))
 amd64_has = record {
@@ -177,16 +186,19 @@ i386_program = record {
   };
 }
 
-i386_beside : AreBeside I386 0x40_0000 touching_4 (calling_objects I386) (calling_at I386 0x1000 ∷ []) (table_targets I386 touching_4)
-unfolding opened refusal renamed_refusal alias_specs encoded_size weak_object has_tables
-i386_beside = record {
-  held = ((0, omega arith, refl), tt);
-  sections = (refl, tt);
-  ends = (omega arith, tt);
-  apart = apart_as_they_rise (2 ^ 31) (calling_memory I386 0x40_0000 touching_4) refl;
-  resolved = one_code_resolves (calling_placed I386 touching_4) (calling_at I386 0x1000) (symbol_of_class (codes "main") 1 class_external)
-      (symbol_of_class (imp_symbol (symbol_on I386 (codes "open"))) 0 class_external) refl refl refl (λ same. cc);
-}
+i386_beside : CodesBeside I386 0x40_0000 touching_4 (calling_objects I386) (calling_at I386 0x1000 ∷ []) (table_targets I386 touching_4)
+unfolding opened refusal renamed_refusal alias_specs encoded_size weak_object has_tables relocated_test codes_tested
+i386_beside =
+    beside_by I386 0x40_0000 touching_4 (calling_objects I386) (calling_at I386 0x1000 ∷ []) (table_targets I386 touching_4)
+    (record {
+      held = ((0, omega arith, refl), tt);
+      sections = (refl, tt);
+      ends = (omega arith, tt);
+      apart = apart_as_they_rise (2 ^ 31) (calling_memory I386 0x40_0000 touching_4) refl;
+      resolved = one_code_resolves (calling_placed I386 touching_4) (calling_at I386 0x1000) (symbol_of_class (codes "main") 1 class_external)
+          (symbol_of_class (imp_symbol (symbol_on I386 (codes "open"))) 0 class_external) refl refl refl (λ same. cc);
+    })
+    refl
 
 pub i386_has : HasCall I386 (calling_at I386 0x1000) 4 (imp_symbol (symbol_on I386 (codes "open")))
 i386_has = record {
@@ -224,16 +236,19 @@ arm64_program = record {
   };
 }
 
-arm64_beside : AreBeside ARM64 0x1_4000_0000 touching_8 (calling_objects ARM64) (calling_at ARM64 0x1000 ∷ []) (table_targets ARM64 touching_8)
-unfolding opened refusal renamed_refusal alias_specs encoded_size weak_object has_tables
-arm64_beside = record {
-  held = ((0, omega arith, refl), tt);
-  sections = (refl, tt);
-  ends = (omega arith, tt);
-  apart = apart_as_they_rise (2 ^ 31) (calling_memory ARM64 0x1_4000_0000 touching_8) refl;
-  resolved = one_code_resolves (calling_placed ARM64 touching_8) (calling_at ARM64 0x1000) (symbol_of_class (codes "main") 1 class_external)
-      (symbol_of_class (imp_symbol (symbol_on ARM64 (codes "open"))) 0 class_external) refl refl refl (λ same. cc);
-}
+arm64_beside : CodesBeside ARM64 0x1_4000_0000 touching_8 (calling_objects ARM64) (calling_at ARM64 0x1000 ∷ []) (table_targets ARM64 touching_8)
+unfolding opened refusal renamed_refusal alias_specs encoded_size weak_object has_tables relocated_test codes_tested
+arm64_beside =
+    beside_by ARM64 0x1_4000_0000 touching_8 (calling_objects ARM64) (calling_at ARM64 0x1000 ∷ []) (table_targets ARM64 touching_8)
+    (record {
+      held = ((0, omega arith, refl), tt);
+      sections = (refl, tt);
+      ends = (omega arith, tt);
+      apart = apart_as_they_rise (2 ^ 31) (calling_memory ARM64 0x1_4000_0000 touching_8) refl;
+      resolved = one_code_resolves (calling_placed ARM64 touching_8) (calling_at ARM64 0x1000) (symbol_of_class (codes "main") 1 class_external)
+          (symbol_of_class (imp_symbol (symbol_on ARM64 (codes "open"))) 0 class_external) refl refl refl (λ same. cc);
+    })
+    refl
 
 pub arm64_has : HasCall ARM64 (calling_at ARM64 0x1000) 4 (imp_symbol (symbol_on ARM64 (codes "open")))
 arm64_has = record {
@@ -314,7 +329,7 @@ arm64 = record {
 }
 
 -- code over the address tables
-over_tables : AreBeside AMD64 0x1_4000_0000 touching_8 (calling_objects AMD64) (calling_at AMD64 0x78 ∷ []) (table_targets AMD64 touching_8) → ⊥
+over_tables : CodesBeside AMD64 0x1_4000_0000 touching_8 (calling_objects AMD64) (calling_at AMD64 0x78 ∷ []) (table_targets AMD64 touching_8) → ⊥
 unfolding opened refusal renamed_refusal alias_specs encoded_size weak_object has_tables Among
 over_tables beside =
     let image : List Range = image_of AMD64 touching_8 (calling_placed AMD64 touching_8) in
@@ -404,16 +419,19 @@ flavors_program = record {
   follows = refl;
 }
 
-pub flavors_beside : AreBeside AMD64 0x1_4000_0000 flavor_bases_8 calling_flavors (calling_at AMD64 0x1000 ∷ []) flavor_targets
-unfolding opened refusal renamed_refusal alias_specs encoded_size weak_object has_tables expanded_in short_import_in import_object descriptor_symbol_by_name with_section_symbols descriptor null_descriptor null_thunk descriptor_symbol null_descriptor_symbol null_thunk_symbol base_name descriptor_spec null_descriptor_spec null_thunk_spec header_specs weak_specs group_end sections_end
-flavors_beside = record {
-  held = ((0, omega arith, refl), tt);
-  sections = (refl, tt);
-  ends = (omega arith, tt);
-  apart = apart_as_they_rise (2 ^ 31) (image_of AMD64 flavor_bases_8 flavors_placed ++ code_ranges AMD64 0x1_4000_0000 flavor_targets (calling_at AMD64 0x1000 ∷ [])) refl;
-  resolved = one_code_resolves flavors_placed (calling_at AMD64 0x1000) (symbol_of_class (codes "main") 1 class_external)
-      (symbol_of_class (imp_symbol (symbol_on AMD64 (codes "open"))) 0 class_external) refl refl refl (λ same. cc);
-}
+pub flavors_beside : CodesBeside AMD64 0x1_4000_0000 flavor_bases_8 calling_flavors (calling_at AMD64 0x1000 ∷ []) flavor_targets
+unfolding opened refusal renamed_refusal alias_specs encoded_size weak_object has_tables expanded_in short_import_in import_object descriptor_symbol_by_name with_section_symbols descriptor null_descriptor null_thunk descriptor_symbol null_descriptor_symbol null_thunk_symbol base_name descriptor_spec null_descriptor_spec null_thunk_spec header_specs weak_specs group_end sections_end relocated_test codes_tested
+flavors_beside =
+    beside_by AMD64 0x1_4000_0000 flavor_bases_8 calling_flavors (calling_at AMD64 0x1000 ∷ []) flavor_targets
+    (record {
+      held = ((0, omega arith, refl), tt);
+      sections = (refl, tt);
+      ends = (omega arith, tt);
+      apart = apart_as_they_rise (2 ^ 31) (image_of AMD64 flavor_bases_8 flavors_placed ++ code_ranges AMD64 0x1_4000_0000 flavor_targets (calling_at AMD64 0x1000 ∷ [])) refl;
+      resolved = one_code_resolves flavors_placed (calling_at AMD64 0x1000) (symbol_of_class (codes "main") 1 class_external)
+          (symbol_of_class (imp_symbol (symbol_on AMD64 (codes "open"))) 0 class_external) refl refl refl (λ same. cc);
+    })
+    refl
 
 pub worked_flavor_call : WorkedFlavorCall
 unfolding opened refusal renamed_refusal alias_specs encoded_size weak_object has_tables expanded_in short_import_in import_object descriptor_symbol_by_name with_section_symbols descriptor null_descriptor null_thunk descriptor_symbol null_descriptor_symbol null_thunk_symbol base_name descriptor_spec null_descriptor_spec null_thunk_spec header_specs weak_specs group_end sections_end
@@ -456,12 +474,6 @@ fits wanted d (ASymbol t) =
     if is_defined_external t && (t.section == d.number)
     then (if is_open (ASymbol t) then d.position + t.value == 0x1010 else list_all (λ x. not (is_wanted t.name x)) wanted)
     else true
-
-pub each_of : {X : Type 0} (test : X → Bool) (x : X) (xs : List X) → list_all test xs ≡ true → Among x xs → test x ≡ true
-unfolding Among
-each_of test x [] all m = absurd m
-each_of test x (y ∷ xs) all (inl same) = ap test same ∙ (and_parts (test y) (list_all test xs) all).0
-each_of test x (y ∷ xs) all (inr m) = each_of test x xs (and_parts (test y) (list_all test xs) all).1 m
 
 defined_fits : (wanted : List Entry) (d : PlacedCode) (t : ObjectSymbol) → fits wanted d (ASymbol t) ≡ true → is_defined_external t ≡ true → t.section ≡ d.number →
     (if is_open (ASymbol t) then d.position + t.value == 0x1010 else list_all (λ x. not (is_wanted t.name x)) wanted) ≡ true
@@ -535,15 +547,18 @@ direct_program = record {
   };
 }
 
-direct_beside : AreBeside AMD64 0x1_4000_0000 touching_8 direct_objects (direct_at ∷ stub_at ∷ []) direct_targets
-unfolding opened refusal renamed_refusal alias_specs encoded_size weak_object has_tables
-direct_beside = record {
-  held = ((0, omega arith, refl), ((3, omega arith, refl), tt));
-  sections = (refl, (refl, tt));
-  ends = (omega arith, (omega arith, tt));
-  apart = apart_as_they_rise (2 ^ 31) (image_of AMD64 touching_8 direct_placed ++ code_ranges AMD64 0x1_4000_0000 direct_targets (direct_at ∷ stub_at ∷ [])) refl;
-  resolved = direct_resolved;
-}
+direct_beside : CodesBeside AMD64 0x1_4000_0000 touching_8 direct_objects (direct_at ∷ stub_at ∷ []) direct_targets
+unfolding opened refusal renamed_refusal alias_specs encoded_size weak_object has_tables relocated_test codes_tested
+direct_beside =
+    beside_by AMD64 0x1_4000_0000 touching_8 direct_objects (direct_at ∷ stub_at ∷ []) direct_targets
+    (record {
+      held = ((0, omega arith, refl), ((3, omega arith, refl), tt));
+      sections = (refl, (refl, tt));
+      ends = (omega arith, (omega arith, tt));
+      apart = apart_as_they_rise (2 ^ 31) (image_of AMD64 touching_8 direct_placed ++ code_ranges AMD64 0x1_4000_0000 direct_targets (direct_at ∷ stub_at ∷ [])) refl;
+      resolved = direct_resolved;
+    })
+    refl
 
 direct_defines : Defines stub_at (symbol_of_class (codes "open") 1 class_external)
 unfolding opened refusal renamed_refusal alias_specs encoded_size weak_object has_tables

@@ -15,22 +15,24 @@ use Rattle.implib.proofs.Link.Ranges.{apart_as_they_rise, ends_below}
 use Rattle.implib_link.specs.Flavors.Expansion.{descriptor_symbol_by_name, expanded_in, import_object}
 use Rattle.implib_link.specs.Flavors.Program.{IsFlavorProgram, all_members, symbols_listed}
 use Rattle.implib_link.specs.Flavors.SectionSymbols.{with_section_symbols}
-use Rattle.implib_link.specs.Gnu.Calls.{AreBeside, Defines, HasDirectCall, code_ranges}
+use Rattle.implib_link.specs.Gnu.Calls.{Defines, HasDirectCall}
 use Rattle.implib_link.specs.Gnu.Packed.{group_end, sections_end}
 use Rattle.implib_link.specs.Gnu.Program.{IsProgram, has_tables, linked_symbols}
 use Rattle.implib_link.specs.Worked.Calls.{direct_at, direct_calling, first_bytes, given_on, last_bytes, open_targets}
 use Rattle.implib_link.specs.Worked.DirectCalls.{WorkedBranch, WorkedFlavorDirect, branch_at, branch_codes, branch_memory, branching, branching_objects, branching_placed, mixed_codes, mixed_memory, mixed_objects, mixed_placed, stub_of}
 use Rattle.implib_link.specs.Worked.Flavors.{both_inputs as flavor_inputs, flavor_bases_8, foo_input as msvc_input}
 use Rattle.implib_link.specs.Worked.Programs.{another, both_inputs, foo_input, symbol_of_class, touching_8}
-use Rattle.implib_link.proofs.Flavors.Calls.{flavors_direct_calls_reach}
-use Rattle.implib_link.proofs.Flavors.Rebased.{flavors_direct_calls_at_base, flavors_stubs_at_base}
-use Rattle.implib_link.proofs.Gnu.DirectCalls.{direct_calls_reach}
+use Rattle.implib_link.proofs.Worked.Relocated.{flavors_direct_calls_reach}
+use Rattle.implib_link.proofs.Worked.Relocated.{flavors_direct_calls_at_base, flavors_stubs_at_base}
+use Rattle.implib_link.proofs.Worked.Relocated.{direct_calls_reach}
 use Rattle.implib_link.proofs.Worked.Calls.{direct_has, open_export, open_resolved, wide}
 use Rattle.implib_link.proofs.Worked.Flavors.{worked_flavors}
-use Rattle.implib_link.specs.Gnu.Rebased.{IsAtBase}
-use Rattle.implib_link.proofs.Gnu.Rebased.{direct_calls_at_base}
+use Rattle.implib_link.proofs.Worked.Relocated.{direct_calls_at_base}
 use Rattle.implib_link.proofs.Worked.Rebased.{none_rebased}
 use Rattle.implib_link.proofs.Worked.Programs.{claims_none_by, distinct_by, opened, worked_programs}
+use Rattle.implib_link.specs.Worked.Relocated.{CodesAtBase, CodesBeside, code_ranges}
+use Rattle.implib_link.proofs.Worked.Relocated.{at_base_by, beside_by, codes_tested}
+use Rattle.implib_link.proofs.Worked.LinkedCode.{relocated_test}
 
 branch_program : IsProgram ARM64 touching_8 (both_inputs ARM64) branching_objects
 unfolding opened alias_specs encoded_size weak_object has_tables
@@ -50,15 +52,18 @@ branch_program = record {
   };
 }
 
-branch_beside : AreBeside ARM64 0x1_4000_0000 touching_8 branching_objects branch_codes (open_targets branching_placed)
-unfolding opened alias_specs encoded_size weak_object has_tables
-branch_beside = record {
-  held = ((0, omega arith, refl), ((3, omega arith, refl), tt));
-  sections = (refl, (refl, tt));
-  ends = (omega arith, (omega arith, tt));
-  apart = apart_as_they_rise (2 ^ 31) (image_of ARM64 touching_8 branching_placed ++ code_ranges ARM64 0x1_4000_0000 (open_targets branching_placed) branch_codes) refl;
-  resolved = open_resolved branching_placed branch_codes refl refl;
-}
+branch_beside : CodesBeside ARM64 0x1_4000_0000 touching_8 branching_objects branch_codes (open_targets branching_placed)
+unfolding opened alias_specs encoded_size weak_object has_tables relocated_test codes_tested
+branch_beside =
+    beside_by ARM64 0x1_4000_0000 touching_8 branching_objects branch_codes (open_targets branching_placed)
+    (record {
+      held = ((0, omega arith, refl), ((3, omega arith, refl), tt));
+      sections = (refl, (refl, tt));
+      ends = (omega arith, (omega arith, tt));
+      apart = apart_as_they_rise (2 ^ 31) (image_of ARM64 touching_8 branching_placed ++ code_ranges ARM64 0x1_4000_0000 (open_targets branching_placed) branch_codes) refl;
+      resolved = open_resolved branching_placed branch_codes refl refl;
+    })
+    refl
 
 branch_defines : Defines (stub_of ARM64 branching_placed 3) (symbol_of_class (codes "open") 1 class_external)
 unfolding opened alias_specs encoded_size weak_object has_tables
@@ -82,14 +87,16 @@ branch_has = record {
   named = refl;
 }
 
-branch_based : IsAtBase ARM64 0x1_4000_0000 0x7FF6_1234_0000 touching_8 branching_objects branch_codes (open_targets branching_placed) branch_memory
+branch_based : CodesAtBase ARM64 0x1_4000_0000 0x7FF6_1234_0000 touching_8 branching_objects branch_codes (open_targets branching_placed) branch_memory
 unfolding opened alias_specs encoded_size weak_object has_tables
-branch_based = record {
-  beside = branch_beside;
-  within = (tt, (tt, tt));
-  can = ((refl, refl), refl);
-  rebased = none_rebased 0x1_4000_0000 0x7FF6_1234_0000 branch_memory;
-}
+branch_based =
+    at_base_by ARM64 0x1_4000_0000 0x7FF6_1234_0000 touching_8 branching_objects branch_codes (open_targets branching_placed) branch_memory
+    (record {
+      beside = branch_beside;
+      within = (tt, (tt, tt));
+      can = ((refl, refl), refl);
+      rebased = none_rebased 0x1_4000_0000 0x7FF6_1234_0000 branch_memory;
+    })
 
 pub worked_branch : WorkedBranch
 unfolding opened alias_specs encoded_size weak_object has_tables
@@ -145,23 +152,26 @@ mixed_program = record {
   follows = refl;
 }
 
-mixed_beside : AreBeside AMD64 0x1_4000_0000 flavor_bases_8 mixed_objects mixed_codes (open_targets mixed_placed)
-unfolding opened refusal renamed_refusal alias_specs encoded_size weak_object has_tables expanded_in short_import_in import_object descriptor_symbol_by_name with_section_symbols descriptor null_descriptor null_thunk descriptor_symbol null_descriptor_symbol null_thunk_symbol base_name descriptor_spec null_descriptor_spec null_thunk_spec header_specs weak_specs group_end sections_end
-mixed_beside = record {
-  held = ((0, omega arith, refl), ((4, omega arith, refl), tt));
-  sections = (refl, (refl, tt));
-  ends = (omega arith, (omega arith, tt));
-  apart = apart_as_they_rise (2 ^ 31) (image_of AMD64 flavor_bases_8 mixed_placed ++ code_ranges AMD64 0x1_4000_0000 (open_targets mixed_placed) mixed_codes) refl;
-  resolved = open_resolved mixed_placed mixed_codes refl refl;
-}
+mixed_beside : CodesBeside AMD64 0x1_4000_0000 flavor_bases_8 mixed_objects mixed_codes (open_targets mixed_placed)
+unfolding opened refusal renamed_refusal alias_specs encoded_size weak_object has_tables expanded_in short_import_in import_object descriptor_symbol_by_name with_section_symbols descriptor null_descriptor null_thunk descriptor_symbol null_descriptor_symbol null_thunk_symbol base_name descriptor_spec null_descriptor_spec null_thunk_spec header_specs weak_specs group_end sections_end relocated_test codes_tested
+mixed_beside =
+    beside_by AMD64 0x1_4000_0000 flavor_bases_8 mixed_objects mixed_codes (open_targets mixed_placed)
+    (record {
+      held = ((0, omega arith, refl), ((4, omega arith, refl), tt));
+      sections = (refl, (refl, tt));
+      ends = (omega arith, (omega arith, tt));
+      apart = apart_as_they_rise (2 ^ 31) (image_of AMD64 flavor_bases_8 mixed_placed ++ code_ranges AMD64 0x1_4000_0000 (open_targets mixed_placed) mixed_codes) refl;
+      resolved = open_resolved mixed_placed mixed_codes refl refl;
+    })
+    refl
 
 mixed_defines : Defines (stub_of AMD64 mixed_placed 4) (symbol_of_class (codes "open") 1 class_external)
 unfolding opened refusal renamed_refusal alias_specs encoded_size weak_object has_tables expanded_in short_import_in import_object descriptor_symbol_by_name with_section_symbols descriptor null_descriptor null_thunk descriptor_symbol null_descriptor_symbol null_thunk_symbol base_name descriptor_spec null_descriptor_spec null_thunk_spec header_specs weak_specs group_end sections_end
 mixed_defines = record { held = (4, omega arith, refl); external = refl; here = refl }
 
-mixed_based : IsAtBase AMD64 0x1_4000_0000 0x7FF6_1234_0000 flavor_bases_8 mixed_objects mixed_codes (open_targets mixed_placed) mixed_memory
+mixed_based : CodesAtBase AMD64 0x1_4000_0000 0x7FF6_1234_0000 flavor_bases_8 mixed_objects mixed_codes (open_targets mixed_placed) mixed_memory
 unfolding opened refusal renamed_refusal alias_specs encoded_size weak_object has_tables expanded_in short_import_in import_object descriptor_symbol_by_name with_section_symbols descriptor null_descriptor null_thunk descriptor_symbol null_descriptor_symbol null_thunk_symbol base_name descriptor_spec null_descriptor_spec null_thunk_spec header_specs weak_specs group_end sections_end
-mixed_based = record { beside = mixed_beside; within = (tt, (tt, tt)); can = tt; rebased = none_rebased 0x1_4000_0000 0x7FF6_1234_0000 mixed_memory }
+mixed_based = at_base_by AMD64 0x1_4000_0000 0x7FF6_1234_0000 flavor_bases_8 mixed_objects mixed_codes (open_targets mixed_placed) mixed_memory (record { beside = mixed_beside; within = (tt, (tt, tt)); can = tt; rebased = none_rebased 0x1_4000_0000 0x7FF6_1234_0000 mixed_memory })
 
 pub worked_flavor_direct : WorkedFlavorDirect
 unfolding opened refusal renamed_refusal alias_specs encoded_size weak_object has_tables expanded_in short_import_in import_object descriptor_symbol_by_name with_section_symbols descriptor null_descriptor null_thunk descriptor_symbol null_descriptor_symbol null_thunk_symbol base_name descriptor_spec null_descriptor_spec null_thunk_spec header_specs weak_specs group_end sections_end

@@ -23,7 +23,7 @@ use Rattle.implib_link.specs.Worked.Calls.{calling_flavors, flavors_placed, give
 use Rattle.implib_link.specs.Worked.Flavors.{both_inputs as flavor_inputs, flavor_bases_8, foo_input as msvc_input}
 use Rattle.implib_link.specs.Worked.Operands.{WorkedFlavorFields, calling_linked, flavors_linked, imp_open, linked_targets}
 use Rattle.implib_link.specs.Worked.Programs.{symbol_of_class}
-use Rattle.implib_link.proofs.Flavors.Operands.{flavors_lead_in_memory}
+use Rattle.implib_link.proofs.ProgramsInMemory.{flavors_lead_in_memory}
 use Rattle.implib_link.proofs.Worked.Calls.{flavors_program, open_export, wide}
 use Rattle.implib_link.proofs.Worked.Flavors.{worked_flavors}
 use Rattle.implib_link.proofs.Worked.LinkedCode.{all_needed, only_absolute, relocated_by, relocated_test, takes_by}

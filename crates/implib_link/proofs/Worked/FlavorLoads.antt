@@ -21,10 +21,11 @@ use Rattle.implib_link.specs.Worked.FlavorLoads.{WorkedFlavorCall, WorkedFlavorC
 use Rattle.implib_link.specs.Worked.Flavors.{both_inputs, flavor_bases_4, flavor_bases_8, flavor_image, flavor_objects, foo_input, zed_input}
 use Rattle.implib_link.specs.Worked.Loads.{gives_by_hand}
 use Rattle.implib_link.specs.Worked.Programs.{symbol_on}
-use Rattle.implib_link.proofs.Flavors.Loaded.{flavors_load}
+use Rattle.implib_link.proofs.LoadedPrograms.{flavors_load}
 use Rattle.implib_link.proofs.Flavors.Packed.{packed_flavors}
 use Rattle.implib_link.proofs.Flavors.Program.{flavors_link}
-use Rattle.implib_link.proofs.Flavors.Stubs.{calls_of_flavors_reach, stubs_of_flavors_jump}
+use Rattle.implib_link.proofs.Flavors.Stubs.{stubs_of_flavors_jump}
+use Rattle.implib_link.proofs.LoadedPrograms.{calls_of_flavors_reach}
 use Rattle.implib_link.proofs.Worked.Flavors.{opened, worked_flavors}
 use Rattle.implib_link.proofs.Worked.Loads.{amd64_given, arm64_given, armnt_given, i386_given}
 use Rattle.implib_link.proofs.Worked.RefusedLinks.{number}

@@ -1,4 +1,8 @@
 -- Premises that are met a second time, by computing.
+use Rattle.implib_link.specs.Gnu.Fields.{placed_code}
+use Rattle.implib_link.specs.Worked.Operands.{passing_codes, passing_objects, passing_placed}
+use Rattle.implib_link.proofs.Worked.LinkedCode.{relocated_test}
+use Rattle.implib_link.proofs.Worked.Relocated.{beside_by, codes_tested}
 use Rattle.std.proofs.Common.{◌≡◌, ℕ, ◌+◌, ◌^◌, ◌≤◌, List, [], ◌∷◌, ◌++◌, codes, map, refl, sym, subst, inr, arith}
 use Rattle.std.specs.Prelude.{◌-◌, ◌%◌}
 use Rattle.std.specs.List.{AllByRecursion, flat_map}
@@ -14,8 +18,8 @@ use Rattle.implib.proofs.Link.Ranges.{apart_as_they_rise, ends_below}
 use Rattle.implib_link.specs.Flavors.LldImports.{imp_symbols_of, imports_of_lld}
 use Rattle.implib_link.specs.Flavors.LldTables.{IsAskable, built}
 use Rattle.implib_link.specs.Flavors.Program.{all_members, members_linked, symbols_listed}
-use Rattle.implib_link.specs.Gnu.Calls.{AreBeside, Defines, code_range, code_ranges}
-use Rattle.implib_link.specs.Gnu.Choices.{plain_range}
+use Rattle.implib_link.specs.Gnu.Calls.{Defines}
+use Rattle.implib_link.specs.Gnu.Choices.{plain_range, AreSections}
 use Rattle.implib_link.specs.Gnu.OtherLibraries.{AllTaken, DescriptorsAt, inputs_of_runs}
 use Rattle.implib_link.specs.Gnu.Program.{linked_symbols}
 use Rattle.implib_link.specs.Search.Archives.{symbols_of_library}
@@ -37,6 +41,7 @@ use Rattle.implib_link.proofs.Worked.NearSearches.{searched}
 use Rattle.implib_link.proofs.Worked.Operands.{movable_code}
 use Rattle.implib_link.proofs.Worked.Programs.{claims_none_by, distinct_by}
 use Rattle.implib_link.proofs.Worked.RefusedLinks.{are_located, differ}
+use Rattle.implib_link.specs.Worked.Relocated.{CodesBeside, code_range, code_ranges}
 
 pub section_instances : SectionInstances
 section_instances = record {
@@ -63,8 +68,6 @@ type_instances = record {
     page_of = λ is. absurd (omega arith);
     offset_of = λ is. absurd (omega arith);
   };
-  placed_rel32_1 = refl;
-  placed_branch14 = refl;
 }
 
 -- Programs.
@@ -173,20 +176,32 @@ put_last : (ranges : List Range) (r : Range) → AllByRecursion (AreApart r) ran
 put_last [] r each apart = (tt, tt)
 put_last (x ∷ ranges) r each apart = (all_append (AreApart x) ranges (r ∷ []) apart.0 ((λ address here there. each.0 address there here), tt), put_last ranges r each.1 apart.1)
 
-in_front : AreBeside AMD64 0x1_4000_0000 far_8 (calling_objects AMD64) (calling_at AMD64 0x1000 ∷ []) (table_targets AMD64 far_8)
-unfolding searched
+in_front : CodesBeside AMD64 0x1_4000_0000 far_8 (calling_objects AMD64) (calling_at AMD64 0x1000 ∷ []) (table_targets AMD64 far_8)
+unfolding searched relocated_test codes_tested
 in_front =
     let ranges : List Range = image_of AMD64 far_8 (calling_placed AMD64 far_8) in
     let code : List Range = code_ranges AMD64 0x1_4000_0000 (table_targets AMD64 far_8) (calling_at AMD64 0x1000 ∷ []) in
     let apart : AllApart (code ++ ranges) = apart_as_they_rise (2 ^ 31) (code ++ ranges) refl in
-    record {
+    beside_by AMD64 0x1_4000_0000 far_8 (calling_objects AMD64) (calling_at AMD64 0x1000 ∷ []) (table_targets AMD64 far_8)
+    (record {
       held = ((0, omega arith, refl), tt);
       sections = (refl, tt);
       ends = (omega arith, tt);
       apart = put_last ranges (code_range AMD64 0x1_4000_0000 (table_targets AMD64 far_8) (calling_at AMD64 0x1000)) apart.0 apart.1;
       resolved = one_code_resolves (calling_placed AMD64 far_8) (calling_at AMD64 0x1000) (symbol_of_class (codes "main") 1 class_external)
           (symbol_of_class (imp_symbol (symbol_on AMD64 (codes "open"))) 0 class_external) refl refl refl (λ same. cc);
-    }
+    })
+    refl
+
+fields_end : AreSections I386 touching_4 (passing_objects I386) (map placed_code (passing_codes I386 touching_4))
+unfolding searched
+fields_end = record {
+  held = ((0, omega arith, refl), ((3, omega arith, refl), tt));
+  sections = (refl, (refl, tt));
+  ends = (omega arith, (omega arith, tt));
+  fields = ((omega arith, (omega arith, (omega arith, (omega arith, (omega arith, (omega arith, (omega arith, tt))))))), ((omega arith, tt), tt));
+  apart = apart_as_they_rise (2 ^ 31) (image_of I386 touching_4 (passing_placed I386 touching_4) ++ map plain_range (map placed_code (passing_codes I386 touching_4))) refl;
+}
 
 first_f : Defines defines_twice (symbol_of_class (codes "f") 1 class_external)
 first_f = record { held = (0, omega arith, refl); external = refl; here = refl }
@@ -197,7 +212,7 @@ second_f = record { held = (1, omega arith, refl); external = refl; here = refl 
 pub code_instances : CodeInstances
 code_instances = record {
   in_front = in_front;
-  rebased = record { within = movable_code.i386.within; apart = movable_code.i386.apart };
-  overlapping = λ x. movable_code.overlapping (record { within = x.within; apart = x.apart });
+  fields_end = fields_end;
+  moved = movable_code.i386;
   twice = λ x. differ 0x1000 0x1008 (x.once defines_twice defines_twice (symbol_of_class (codes "f") 1 class_external) (record (symbol_of_class (codes "f") 1 class_external) { value = 8 }) (0, omega arith, refl) (0, omega arith, refl) first_f second_f refl) (omega arith);
 }

@@ -36,7 +36,8 @@ use Rattle.implib_link.proofs.Gnu.Memory.{byte_first, within_bounds}
 use Rattle.implib_link.proofs.Gnu.Stubs.{same_address}
 use Rattle.implib_link.proofs.Search.Lists.{among_at, contains_among}
 use Rattle.implib_link.proofs.TablesOfPrograms.{lld_tables}
-use Rattle.implib_link.proofs.Worked.Calls.{each_of, wide}
+use Rattle.implib_link.proofs.Worked.Calls.{wide}
+use Rattle.implib_link.proofs.Search.Lists.{each_of}
 use Rattle.implib_link.proofs.Worked.LinkedCode.{all_needed, only_absolute, rebased_by, relocated_by, relocated_test}
 use Rattle.implib_link.proofs.Worked.Lld.{alike, lld_opened}
 use Rattle.implib_link.proofs.Worked.Programs.{distinct_by}
@@ -450,9 +451,6 @@ arm64_moved = record {
   only = λ a byte is covered. only_absolute a (table_places ARM64 (lld_linked_on ARM64)) (lld_places ARM64) covered;
   rebased = arm64_rebased;
 }
-
-arm64_zeta : Names (placed_object ARM64) 1 (imp_symbol (symbol_on ARM64 (codes "zeta")))
-arm64_zeta = record { symbol = symbol_of_class (imp_symbol (symbol_on ARM64 (codes "zeta"))) 0 class_external; target = refl; undefined = refl; named = refl }
 
 arm64_gee : Names (placed_object ARM64) 2 (imp_symbol (symbol_on ARM64 (codes "gee")))
 arm64_gee = record { symbol = symbol_of_class (imp_symbol (symbol_on ARM64 (codes "gee"))) 0 class_external; target = refl; undefined = refl; named = refl }

@@ -14,9 +14,10 @@ use Rattle.implib_link.specs.Stub.{CanJump}
 use Rattle.implib_link.specs.Worked.Loads.{WorkedCall, WorkedCalls, WorkedLoad, WorkedLoads, gives_by_hand, written_4, written_8}
 use Rattle.implib_link.specs.Worked.Programs.{both_inputs, foo_input, program_image, program_objects, symbol_on, touching_4, touching_8, zed_input}
 use Rattle.implib_link.proofs.Gnu.Directory.{directory_walk}
-use Rattle.implib_link.proofs.Gnu.Loaded.{program_loads}
+use Rattle.implib_link.proofs.LoadedPrograms.{program_loads}
 use Rattle.implib_link.proofs.Gnu.Program.{program_links}
-use Rattle.implib_link.proofs.Gnu.Stubs.{calls_reach, stubs_jump}
+use Rattle.implib_link.proofs.Gnu.Stubs.{stubs_jump}
+use Rattle.implib_link.proofs.LoadedPrograms.{calls_reach}
 use Rattle.implib_link.proofs.Worked.Programs.{opened, worked_programs}
 use Rattle.implib_link.proofs.Worked.RefusedLinks.{number}
 

@@ -1,14 +1,25 @@
 -- Direct calls on I386 and pointers of both flavours on I386 and ARM64, by computing and by the laws.
-use Rattle.std.proofs.Common.{ℕ, ◌^◌, List, [], ◌∷◌, ◌++◌, codes, map, refl, arith}
-use Rattle.std.specs.Prelude.{drop, take}
+use Rattle.implib.specs.Formats.Object.{ObjectSymbol}
+use Rattle.std.specs.List.{AllByRecursion, Contains}
+use Rattle.implib.proofs.Link.LinkedMembers.{among_contains}
+use Rattle.implib_link.proofs.Search.Lists.{among_at}
+use Rattle.implib_link.proofs.Gnu.Loaded.{mapped_at}
+use Rattle.implib_link.specs.Gnu.Rebased.{places_at}
+use Rattle.implib_link.specs.Gnu.Moves.{CanBeMoved}
+use Rattle.implib_link.specs.Gnu.Fields.{AreBeside, DefinesIn, LinkedCode, placed_code, ranges_of_codes}
+use Rattle.implib_link.proofs.CodeOfPrograms.{linked_direct, moved_direct}
+use Rattle.implib_link.proofs.Gnu.LinkedCodes.{codes_can_be_linked, all_mapped}
+use Rattle.implib_link.proofs.Gnu.MovedPrograms.{base_exists}
+use Rattle.std.proofs.Common.{ℕ, ◌^◌, List, [], ◌∷◌, ◌++◌, codes, map, refl, arith, ◌+◌, ◌≤◌, ap, sym, ◌∙◌, subst, length, Some, ◌≡◌}
+use Rattle.std.specs.Prelude.{drop, take, slice_get}
 use Rattle.implib.specs.declared.machine.MachineType.TheVariants.{I386, ARM64}
 use Rattle.implib.specs.Formats.Constants.{class_external}
 use Rattle.implib.specs.Link.Image.{image_of}
 use Rattle.implib.specs.Members.MsvcObjects.{null_descriptor_symbol}
 use Rattle.implib.proofs.Link.Ranges.{apart_as_they_rise, ends_below}
 use Rattle.implib_link.specs.Flavors.Program.{IsFlavorProgram, all_members, symbols_listed}
-use Rattle.implib_link.specs.Gnu.Calls.{AreBeside, Defines, HasDirectCall, code_ranges}
-use Rattle.implib_link.specs.Gnu.Choices.{AreSections, CanBeRebased, DefineOnce, plain_range}
+use Rattle.implib_link.specs.Gnu.Calls.{Defines, HasDirectCall, PlacedCode, DirectCallArrives}
+use Rattle.implib_link.specs.Gnu.Choices.{AreSections, DefineOnce, plain_range, ArePlacesApart}
 use Rattle.implib_link.specs.Gnu.Packed.{group_end, sections_end}
 use Rattle.implib_link.specs.Gnu.Program.{IsProgram, linked_symbols}
 use Rattle.implib_link.specs.Worked.Calls.{first_bytes, given_on, last_bytes}
@@ -17,10 +28,8 @@ use Rattle.implib_link.specs.Worked.Flavors.{both_inputs as flavor_inputs, flavo
 use Rattle.implib_link.specs.Worked.MoreCalls.{WorkedFlavorPointer, WorkedFlavorPointers, WorkedI386Direct, near, near_at, near_codes, near_objects, near_placed, reading_flavors, reading_placed}
 use Rattle.implib_link.specs.Worked.Pointers.{loading, loading_at, tables_of}
 use Rattle.implib_link.specs.Worked.Programs.{another, both_inputs, foo_input, symbol_of_class, touching_4}
-use Rattle.implib_link.proofs.Flavors.Calls.{flavors_pointers_are_read}
-use Rattle.implib_link.proofs.Gnu.Choices.{found, found_in, memory_exists, sections_beside}
-use Rattle.implib_link.proofs.Gnu.DirectCalls.{direct_calls_reach}
-use Rattle.implib_link.proofs.Gnu.Rebased.{direct_calls_at_base}
+use Rattle.implib_link.proofs.Worked.Relocated.{flavors_pointers_are_read}
+use Rattle.implib_link.proofs.Gnu.Choices.{found, found_in}
 use Rattle.implib_link.proofs.Gnu.Steady.{program_tables_none}
 use Rattle.implib_link.proofs.Worked.Calls.{open_export, wide}
 use Rattle.implib_link.proofs.Worked.Choices.{once_by}
@@ -29,6 +38,9 @@ use Rattle.implib_link.proofs.Worked.NearSearches.{searched}
 use Rattle.implib_link.proofs.Worked.Pointers.{arm64_has, i386_has, stat_export}
 use Rattle.implib_link.proofs.Worked.Programs.{claims_none_by, distinct_by, worked_programs}
 use Rattle.implib_link.proofs.Worked.Rebased.{resolves_by_tables}
+use Rattle.implib_link.specs.Worked.Relocated.{CodesBeside, code_ranges}
+use Rattle.implib_link.proofs.Worked.Relocated.{beside_by, codes_tested}
+use Rattle.implib_link.proofs.Worked.LinkedCode.{relocated_test}
 
 near_program : IsProgram I386 touching_4 (both_inputs I386) near_objects
 unfolding searched
@@ -84,41 +96,98 @@ near_defines : Defines (stub_of I386 near_placed 3) (symbol_of_class (codes "_op
 unfolding searched
 near_defines = record { held = (1, omega arith, refl); external = refl; here = refl }
 
-near_rebases : CanBeRebased I386 near_codes
+near_linked : (codes : List LinkedCode) × ((targets : LinkedCode → ℕ → ℕ) × ((map placed_code codes ≡ near_codes) × AreBeside I386 0x40_0000 touching_4 near_objects codes targets))
 unfolding searched
-near_rebases = record { within = (tt, ((omega arith, tt), tt)); apart = (tt, ((tt, tt), tt)) }
+near_linked = codes_can_be_linked I386 0x40_0000 touching_4 near_objects near_codes near_sections near_once ((omega arith, (omega arith, (omega arith, (omega arith, (omega arith, (omega arith, (omega arith, (omega arith, (omega arith, (omega arith, tt)))))))))), ((omega arith, (omega arith, (omega arith, (omega arith, (omega arith, (omega arith, (omega arith, (omega arith, tt)))))))), tt))
+
+-- the linked code of a placed one
+record Found (codes : List LinkedCode) (c : PlacedCode) : Type 0 where
+  own : LinkedCode
+  held : Contains codes own
+  is : placed_code own ≡ c
+
+found_code : (codes : List LinkedCode) (placed : List PlacedCode) (i : ℕ) (c : PlacedCode) → map placed_code codes ≡ placed → slice_get placed i ≡ Some c → Found codes c
+found_code codes placed i c same at =
+    let own = mapped_at placed_code codes i c (ap (λ xs. slice_get xs i) same ∙ at) in
+    record { own = own.0; held = among_contains own.0 codes (among_at own.0 codes i own.1.0); is = own.1.1 }
+
+linked_defines : (d : LinkedCode) (t : ObjectSymbol) → Defines (placed_code d) t → DefinesIn d t
+linked_defines d t defines = record { held = defines.held; external = defines.external; here = defines.here }
+
+module _ (linked : List LinkedCode) (targets : LinkedCode → ℕ → ℕ) (same : map placed_code linked ≡ near_codes) where
+  caller : Found linked near_at
+  caller = found_code linked near_codes 0 near_at same refl
+
+  callee : Found linked (stub_of I386 near_placed 3)
+  callee = found_code linked near_codes 1 (stub_of I386 near_placed 3) same refl
+
+  caller_has : HasDirectCall I386 (placed_code caller.own) 4 (codes "_open")
+  caller_has = subst (λ c. HasDirectCall I386 c 4 (codes "_open")) (sym caller.is) near_has
+
+  callee_defines : DefinesIn callee.own (symbol_of_class (codes "_open") 1 class_external)
+  callee_defines = linked_defines callee.own (symbol_of_class (codes "_open") 1 class_external) (subst (λ c. Defines c (symbol_of_class (codes "_open") 1 class_external)) (sym callee.is) near_defines)
+
+  at_1004 : caller.own.position + 4 ≡ 0x1004
+  at_1004 = ap (λ (c : PlacedCode). c.position + 4) caller.is
+
+  near_moves : CanBeMoved I386 linked
+  unfolding searched
+  near_moves = record {
+    within = all_mapped placed_code (λ c. AllByRecursion (λ p. p.address + p.width ≤ c.position + length c.code.bytes) (places_at I386 c.position c.code.relocations)) linked
+        (subst (AllByRecursion (λ c. AllByRecursion (λ p. p.address + p.width ≤ c.position + length c.code.bytes) (places_at I386 c.position c.code.relocations))) (sym same) (tt, ((omega arith, tt), tt)));
+    apart = all_mapped placed_code (λ c. ArePlacesApart (places_at I386 c.position c.code.relocations)) linked
+        (subst (AllByRecursion (λ c. ArePlacesApart (places_at I386 c.position c.code.relocations))) (sym same) (tt, ((tt, tt), tt)));
+  }
 
 pub worked_i386_direct : WorkedI386Direct
 unfolding searched
 worked_i386_direct =
-    let chosen = sections_beside I386 0x40_0000 touching_4 near_objects near_codes near_sections near_once in
-    let there = memory_exists I386 0x40_0000 0x1000_0000 touching_4 near_objects near_codes chosen.0 (program_tables_none I386 touching_4 (both_inputs I386) near_objects worked_programs.i386.made near_program)
-    chosen.1 near_rebases (omega arith) in
+    let linked = near_linked in
+    let call = caller linked.0 linked.1.0 linked.1.1.0 in
+    let stub = callee linked.0 linked.1.0 linked.1.1.0 in
+    let here = at_1004 linked.0 linked.1.0 linked.1.1.0 in
+    let has = caller_has linked.0 linked.1.0 linked.1.1.0 in
+    let defines = callee_defines linked.0 linked.1.0 linked.1.1.0 in
+    let made = worked_programs.i386.made in
+    let there = base_exists I386 0x40_0000 0x1000_0000 touching_4 near_objects linked.0 linked.1.0 (program_tables_none I386 touching_4 (both_inputs I386) near_objects made near_program) linked.1.1.1
+    (near_moves linked.0 linked.1.0 linked.1.1.0) (omega arith) in
     record {
       program = near_program;
       sections = near_sections;
       once = near_once;
       calls = near_has;
       arrives = (
-        chosen.0,
+        linked.0,
         (
-          chosen.1,
-          λ written writes.
-              direct_calls_reach I386 0x40_0000 touching_4 (both_inputs I386) near_objects near_codes chosen.0 (given_on I386) written 0 1 (foo_input I386) (open_export I386) near_at (stub_of I386 near_placed 3) 4
-              (symbol_of_class (codes "_open") 1 class_external) worked_programs.i386.made near_program (omega arith) chosen.1 (wide I386) writes refl refl refl (1, omega arith, refl) near_defines refl
-              (0, omega arith, refl) near_has tt,
+          linked.1.0,
+          (
+            linked.1.1.0,
+            (
+              linked.1.1.1,
+              λ written writes.
+                  subst (λ a. DirectCallArrives I386 0x40_0000 (written ++ (image_of I386 touching_4 near_placed ++ ranges_of_codes linked.0)) a (0x40 ∷ 0 ∷ 0 ∷ 0x10 ∷ [])) here
+                  (linked_direct I386 0x40_0000 touching_4 (both_inputs I386) near_objects linked.0 linked.1.0 (given_on I386) written made near_program (omega arith) linked.1.1.1 (wide I386) writes 0 1 (foo_input I386)
+                  (open_export I386) call.own stub.own 4 (symbol_of_class (codes "_open") 1 class_external) refl refl refl stub.held defines refl call.held has tt),
+            ),
+          ),
         ),
       );
       moved = (
-        chosen.0,
+        linked.0,
         (
-          there.0,
+          linked.1.0,
           (
-            there.1,
-            λ n written reads.
-                direct_calls_at_base I386 0x40_0000 0x1000_0000 touching_4 (both_inputs I386) near_objects near_codes chosen.0 there.0 (given_on I386) n written 0 1 (foo_input I386) (open_export I386) near_at
-                (stub_of I386 near_placed 3) 4 (symbol_of_class (codes "_open") 1 class_external) worked_programs.i386.made near_program there.1 (wide I386) reads refl refl refl (1, omega arith, refl) near_defines
-                refl (0, omega arith, refl) near_has tt,
+            there.0,
+            (
+              linked.1.1.0,
+              (
+                there.1,
+                λ n written reads.
+                    subst (λ a. DirectCallArrives I386 0x1000_0000 (written ++ there.0) a (0x40 ∷ 0 ∷ 0 ∷ 0x10 ∷ [])) here
+                    (moved_direct I386 0x40_0000 0x1000_0000 touching_4 (both_inputs I386) near_objects linked.0 linked.1.0 there.0 (given_on I386) made near_program there.1 n written (wide I386) reads 0 1 (foo_input I386)
+                    (open_export I386) refl refl call.own stub.own 4 (symbol_of_class (codes "_open") 1 class_external) refl stub.held defines refl call.held has tt),
+              ),
+            ),
           ),
         ),
       );
@@ -158,15 +227,18 @@ i386_program =
       follows = refl;
     }
 
-i386_beside : AreBeside I386 0x40_0000 flavor_bases_4 (reading_flavors I386 2) (loading_at I386 ∷ []) (tables_of (reading_placed I386 2 flavor_bases_4))
-unfolding searched
-i386_beside = record {
-  held = ((0, omega arith, refl), tt);
-  sections = (refl, tt);
-  ends = (omega arith, tt);
-  apart = apart_as_they_rise (2 ^ 31) (image_of I386 flavor_bases_4 (reading_placed I386 2 flavor_bases_4) ++ code_ranges I386 0x40_0000 (tables_of (reading_placed I386 2 flavor_bases_4)) (loading_at I386 ∷ [])) refl;
-  resolved = resolves_by_tables (reading_placed I386 2 flavor_bases_4) (loading_at I386 ∷ []) refl;
-}
+i386_beside : CodesBeside I386 0x40_0000 flavor_bases_4 (reading_flavors I386 2) (loading_at I386 ∷ []) (tables_of (reading_placed I386 2 flavor_bases_4))
+unfolding searched relocated_test codes_tested
+i386_beside =
+    beside_by I386 0x40_0000 flavor_bases_4 (reading_flavors I386 2) (loading_at I386 ∷ []) (tables_of (reading_placed I386 2 flavor_bases_4))
+    (record {
+      held = ((0, omega arith, refl), tt);
+      sections = (refl, tt);
+      ends = (omega arith, tt);
+      apart = apart_as_they_rise (2 ^ 31) (image_of I386 flavor_bases_4 (reading_placed I386 2 flavor_bases_4) ++ code_ranges I386 0x40_0000 (tables_of (reading_placed I386 2 flavor_bases_4)) (loading_at I386 ∷ [])) refl;
+      resolved = resolves_by_tables (reading_placed I386 2 flavor_bases_4) (loading_at I386 ∷ []) refl;
+    })
+    refl
 
 i386 : WorkedFlavorPointer I386 2 0x40_0000 flavor_bases_4 (0xA1 ∷ 0x68 ∷ 0 ∷ 0x40 ∷ 0 ∷ []) (0x40 ∷ 0 ∷ 0 ∷ 0x10 ∷ [])
 unfolding searched
@@ -211,15 +283,18 @@ arm64_program =
       follows = refl;
     }
 
-arm64_beside : AreBeside ARM64 0x1_4000_0000 flavor_bases_8 (reading_flavors ARM64 9) (loading_at ARM64 ∷ []) (tables_of (reading_placed ARM64 9 flavor_bases_8))
-unfolding searched
-arm64_beside = record {
-  held = ((0, omega arith, refl), tt);
-  sections = (refl, tt);
-  ends = (omega arith, tt);
-  apart = apart_as_they_rise (2 ^ 31) (image_of ARM64 flavor_bases_8 (reading_placed ARM64 9 flavor_bases_8) ++ code_ranges ARM64 0x1_4000_0000 (tables_of (reading_placed ARM64 9 flavor_bases_8)) (loading_at ARM64 ∷ [])) refl;
-  resolved = resolves_by_tables (reading_placed ARM64 9 flavor_bases_8) (loading_at ARM64 ∷ []) refl;
-}
+arm64_beside : CodesBeside ARM64 0x1_4000_0000 flavor_bases_8 (reading_flavors ARM64 9) (loading_at ARM64 ∷ []) (tables_of (reading_placed ARM64 9 flavor_bases_8))
+unfolding searched relocated_test codes_tested
+arm64_beside =
+    beside_by ARM64 0x1_4000_0000 flavor_bases_8 (reading_flavors ARM64 9) (loading_at ARM64 ∷ []) (tables_of (reading_placed ARM64 9 flavor_bases_8))
+    (record {
+      held = ((0, omega arith, refl), tt);
+      sections = (refl, tt);
+      ends = (omega arith, tt);
+      apart = apart_as_they_rise (2 ^ 31) (image_of ARM64 flavor_bases_8 (reading_placed ARM64 9 flavor_bases_8) ++ code_ranges ARM64 0x1_4000_0000 (tables_of (reading_placed ARM64 9 flavor_bases_8)) (loading_at ARM64 ∷ [])) refl;
+      resolved = resolves_by_tables (reading_placed ARM64 9 flavor_bases_8) (loading_at ARM64 ∷ []) refl;
+    })
+    refl
 
 arm64 : WorkedFlavorPointer ARM64 9 0x1_4000_0000 flavor_bases_8 (0xE8 ∷ 0xFF ∷ 0xFF ∷ 0xF0 ∷ 8 ∷ 0x49 ∷ 0x40 ∷ 0xF9 ∷ []) (0x40 ∷ 0 ∷ 0 ∷ 0x10 ∷ 0 ∷ 0 ∷ 0 ∷ 0 ∷ [])
 unfolding searched

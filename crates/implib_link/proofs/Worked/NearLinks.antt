@@ -1,5 +1,11 @@
 -- Near misses of searches, of code beside the tables and of moved programs, by computing.
-use Rattle.std.proofs.Common.{◌≡◌, ℕ, ◌+◌, ◌<◌, ◌≤◌, ◌^◌, List, [], ◌∷◌, ◌++◌, codes, length, Some, None, refl, ap, sym, ◌∙◌, subst, arith}
+use Rattle.implib_link.specs.Gnu.Calls.{i386_rel32}
+use Rattle.implib.specs.declared.coff.object.Relocation.{Relocation}
+use Rattle.implib.proofs.Link.Ranges.{Among}
+use Rattle.implib_link.proofs.Gnu.Memory.{holder, not_in_both}
+use Rattle.implib.specs.Link.Image.{Range, image_of}
+use Rattle.implib_link.specs.Gnu.Choices.{AreSections, plain_range}
+use Rattle.std.proofs.Common.{◌≡◌, ℕ, ◌+◌, ◌<◌, ◌≤◌, ◌^◌, List, [], ◌∷◌, ◌++◌, codes, length, Some, None, refl, ap, sym, ◌∙◌, subst, arith, inl}
 use Rattle.std.proofs.lemmas.Bool.{true≢false}
 use Rattle.implib.specs.declared.machine.MachineType.TheVariants.{I386, AMD64}
 use Rattle.implib.specs.Formats.Bytes.{u32_bytes}
@@ -14,10 +20,10 @@ use Rattle.implib_link.specs.Flavors.LldTables.{directory_built}
 use Rattle.implib_link.specs.Search.MsvcClosed.{AreTakenIntoFor}
 use Rattle.implib_link.specs.Search.Closed.{AreTakenInto}
 use Rattle.implib_link.specs.Search.Search.{IsTakenInTurn}
-use Rattle.implib_link.specs.Worked.Calls.{calling_at}
+use Rattle.implib_link.specs.Worked.Calls.{calling_at, calling_objects, calling_placed}
 use Rattle.implib_link.specs.Worked.Lld.{two_dlls}
 use Rattle.implib_link.specs.Worked.Loads.{written_8}
-use Rattle.implib_link.specs.Worked.NearLinks.{NearAreBeside, NearAreGiven, NearAreGivenForMsvc, NearAreLinkedBeside, NearAreMoved, NearArePiecesAt, NearAreSections, NearCallReaches, NearCanBeRebased, NearDefinesIn, NearFindsBy, NearHasBranch, NearHasField, NearHasOperand, NearIsAtBase, NearIsClosedForMsvc, NearJumpsThrough, NearNames, NearResolves, NearTakes, NearTakesInto, NearTakesIntoFor, NearTakesSymbols}
+use Rattle.implib_link.specs.Worked.NearLinks.{NearAreGiven, NearAreGivenForMsvc, NearAreLinkedBeside, NearAreMoved, NearArePiecesAt, NearAreSections, NearCallReaches, NearDefinesIn, NearFindsBy, NearHasBranch, NearHasField, NearHasOperand, NearIsClosedForMsvc, NearJumpsThrough, NearNames, NearResolves, NearTakes, NearTakesInto, NearTakesIntoFor, NearTakesSymbols, NearHasInstruction}
 use Rattle.implib_link.specs.Worked.NearSearches.{again, listing}
 use Rattle.implib_link.specs.Worked.Operands.{field, imp_open, passing_at}
 use Rattle.implib_link.specs.Worked.Programs.{program_image, program_placed, symbol_of_class, symbol_on, touching_8}
@@ -91,9 +97,6 @@ near_call_reaches = record {
 
 -- Code beside the tables.
 
-no_section : (n : ℕ) → None ≡ Some n → ⊥
-no_section n is = cc
-
 too_high : (n : ℕ) → n ≡ 0x7FFF_FFE2 + 15 + 16 → n ≤ 2 ^ 31 → ⊥
 too_high n is below = omega arith
 
@@ -103,11 +106,13 @@ far_too_high n is below = omega arith
 too_far : (n : ℕ) → n ≡ 7 → n ≤ 6 → ⊥
 too_far n is below = omega arith
 
-pub near_are_beside : NearAreBeside
-near_are_beside = record {
-  held = λ x. none_in _ x.held.0;
-  sections = λ x. let none : None ≡ Some (calling_at AMD64 0x1000).code = x.sections.0 in cc;
-}
+over_tables : AreSections AMD64 touching_8 (calling_objects AMD64) (calling_at AMD64 0x78 ∷ []) → ⊥
+unfolding searched Among
+over_tables x =
+    let image : List Range = image_of AMD64 touching_8 (calling_placed AMD64 touching_8) in
+    let over : Range = plain_range (calling_at AMD64 0x78) in
+    let found = holder image 0x80 0xB0 refl in
+    not_in_both image (over ∷ []) found.0 over 0x80 x.apart found.1.0 (inl refl) found.1.1 refl
 
 pub near_are_sections : NearAreSections
 near_are_sections = record {
@@ -115,6 +120,7 @@ near_are_sections = record {
   sections = λ x. let none : None ≡ Some (calling_at AMD64 0x1000).code = x.sections.0 in cc;
   ends = λ x. too_high (0x7FFF_FFE2 + 15 + 16) refl x.ends.0;
   fields = λ x. too_far 7 refl x.fields.0.0;
+  apart = over_tables;
 }
 
 pub near_are_linked_beside : NearAreLinkedBeside
@@ -165,14 +171,39 @@ near_names = record {
 past_60 : (n : ℕ) → n ≡ 61 → n ≤ 60 → ⊥
 past_60 n is below = omega arith
 
+-- the type of the one relocation of a list
+pub kind_of : (r s : Relocation) → r ∷ [] ≡ s ∷ [] → r.kind ≡ s.kind
+kind_of r s same = let is : r ≡ s = cc in ap (λ (x : Relocation). x.kind) is
+
+abbrev first_byte : List ℕ → ℕ
+first_byte [] = 0
+first_byte (x ∷ xs) = x
+
+-- the byte after the first
+second_of : (xs ys : List ℕ) → 0xFF ∷ xs ≡ 0xFF ∷ ys → first_byte xs ≡ first_byte ys
+second_of xs ys same = let later : xs ≡ ys = cc in ap first_byte later
+
 pub near_has_field : NearHasField
-near_has_field = record { inside = λ x. past_60 61 refl x.inside }
+near_has_field = record {
+  alone = λ x. let two : field 5 2 i386_dir32 ∷ field 7 2 i386_dir32 ∷ [] ≡ field 5 x.symbol i386_dir32 ∷ [] = x.alone in cc;
+  inside = λ x. past_60 61 refl x.inside;
+}
 
 pub near_has_operand : NearHasOperand
 near_has_operand = record { within = λ x. past_60 61 refl x.within }
 
 pub near_has_branch : NearHasBranch
-near_has_branch = record { within = λ x. past_60 61 refl x.within }
+near_has_branch = record {
+  within = λ x. past_60 61 refl x.within;
+  counts = λ x. let type : 6 ≡ x.type = kind_of (field 11 1 i386_dir32) (field 11 x.field.symbol x.type) x.field.alone in differ 6 0x14 (type ∙ x.counts.0) (omega arith);
+}
+
+pub near_has_instruction : NearHasInstruction
+near_has_instruction = record {
+  alone = λ x. let two : field 5 2 i386_dir32 ∷ field 11 1 i386_dir32 ∷ [] ≡ field 5 x.symbol x.type ∷ [] = x.alone in cc;
+  code = λ x. let other : 0x15 ≡ 0x25 = second_of (0x15 ∷ 0 ∷ 0 ∷ 0 ∷ 0 ∷ []) (0x25 ∷ (x.field ++ [])) x.code in differ 0x15 0x25 other (omega arith);
+  counts = λ x. let type : 0x14 ≡ x.type = kind_of (field 37 3 i386_rel32) (field 37 x.symbol x.type) x.alone in differ 6 0x14 (sym x.counts.0 ∙ sym type) (omega arith);
+}
 
 directory_long : 0 < length (directory_built AMD64 0x2040 0x209E 0x2068 two_dlls)
 unfolding lld_opened
@@ -195,12 +226,6 @@ near_finds_by = record {
 
 past_code : (n : ℕ) → n ≡ 0x1000 + 38 + 4 → n ≤ 0x1000 + 41 → ⊥
 past_code n is below = omega arith
-
-pub near_can_be_rebased : NearCanBeRebased
-near_can_be_rebased = record { within = λ x. past_code (0x1000 + 38 + 4) refl x.within.0.0 }
-
-pub near_is_at_base : NearIsAtBase
-near_is_at_base = record { within = λ objects targets memory x. past_code (0x1000 + 38 + 4) refl x.within.0.0 }
 
 pub near_are_moved : NearAreMoved
 unfolding searched

@@ -1,4 +1,6 @@
 -- Near misses of what links and loaders give, and of what is linked for given objects, by computing.
+use Rattle.implib_link.proofs.Worked.RefusedFields.{absent}
+use Rattle.implib_link.proofs.Worked.NearLinks.{kind_of}
 use Rattle.std.proofs.Common.{◌≡◌, ℕ, ◌+◌, ◌*◌, ◌<◌, List, [], ◌∷◌, ◌++◌, codes, length, Some, None, refl, ap, sym, ◌∙◌, subst, arith}
 use Rattle.std.proofs.lemmas.Bool.{true≢false}
 use Rattle.std.proofs.lemmas.List.{length-append}
@@ -16,16 +18,16 @@ use Rattle.implib_link.specs.Search.Archives.{archive_of}
 use Rattle.implib_link.specs.Worked.Archives.{two_libraries}
 use Rattle.implib_link.specs.Worked.MsvcArchives.{two_msvc}
 use Rattle.implib_link.proofs.Search.Lists.{any_among}
-use Rattle.implib_link.specs.Gnu.Calls.{Defines}
+use Rattle.implib_link.specs.Gnu.Calls.{Defines, i386_rel32}
 use Rattle.implib_link.specs.Gnu.Operands.{operand_leads}
 use Rattle.implib_link.specs.Search.Closed.{listed_in}
 use Rattle.implib_link.specs.Stub.{adrp_immediate, ldr_immediate, page, plus_signed, with_adrp, with_bits, word_at}
 use Rattle.implib_link.specs.Worked.Calls.{calling_at}
 use Rattle.implib_link.specs.Worked.Flavors.{flavor_bases_8, flavor_image, flavor_placed}
 use Rattle.implib_link.specs.Worked.NearCode.{code_of}
-use Rattle.implib_link.specs.Worked.NearResults.{NearAreChosenFor, NearAreClosedForMsvc, NearAreLinkedFor, NearAreLinkedForMsvc, NearDefineOnce, NearFillsBy, NearFlavorsLink, NearHasOffsetField, NearHasPageField, NearHasPointer, NearImportsBy, NearInputImports, NearInstructionArrives, NearIsClosed, NearLinksAmong, NearLinksBeside, NearLinksClosed, NearLinksClosedForMsvc, NearPageArrives}
+use Rattle.implib_link.specs.Worked.NearResults.{NearAreChosenFor, NearAreClosedForMsvc, NearAreLinkedFor, NearAreLinkedForMsvc, NearDefineOnce, NearFillsBy, NearFlavorsLink, NearHasOffsetField, NearHasPageField, NearHasPointer, NearImportsBy, NearInputImports, NearInstructionArrives, NearIsClosed, NearLinksAmong, NearLinksBeside, NearLinksClosed, NearLinksClosedForMsvc, NearPageArrives, NearPairArrives}
 use Rattle.implib_link.specs.Worked.NearSearches.{asking}
-use Rattle.implib_link.specs.Worked.Operands.{imp_open}
+use Rattle.implib_link.specs.Worked.Operands.{imp_open, field}
 use Rattle.implib_link.specs.Worked.Programs.{program_image, symbol_of_class, symbol_on, touching_8}
 use Rattle.implib_link.specs.Worked.RefusedFields.{linked_on_amd64, open_address, two_ranges}
 use Rattle.implib_link.specs.Worked.Walks.{without_addresses, without_name}
@@ -154,7 +156,10 @@ pub near_has_offset_field : NearHasOffsetField
 near_has_offset_field = record { empty = λ x. differ 0 8 (sym x.empty) (omega arith) }
 
 pub near_has_pointer : NearHasPointer
-near_has_pointer = record { empty = λ x. differ 0 1 (sym x.empty) (omega arith) }
+near_has_pointer = record {
+  empty = λ x. differ 0 1 (sym x.empty) (omega arith);
+  stores = λ x. let type : 0x14 ≡ x.type = kind_of (field 37 3 i386_rel32) (field 37 x.field.symbol x.type) x.field.alone in differ 6 0x14 (sym x.stores ∙ sym type) (omega arith);
+}
 
 next_call : List ℕ
 next_call = 0xFF ∷ 0x15 ∷ 0x70 ∷ 0xF0 ∷ 0xFF ∷ 0xFF ∷ []
@@ -218,4 +223,10 @@ near_page_arrives = record {
       sym (ap (λ xs. plus_signed 21 4096 (adrp_immediate (word_at xs 0)) (page 0x1_4000_100C * 4096) + ldr_immediate (word_at ldr 0)) first)
       ∙ sym (ap (λ xs. plus_signed 21 4096 (adrp_immediate (word_at x.adrp 0)) (page 0x1_4000_100C * 4096) + ldr_immediate (word_at xs 0)) second) ∙ x.leads in
       next_missing memory x.entry (omega arith) refl x.located;
+}
+
+pub near_pair_arrives : NearPairArrives
+near_pair_arrives = record {
+  adrp_there = λ x. absent (two_ranges 0x1010 (8 ∷ 0x41 ∷ 0x40 ∷ 0xF9 ∷ []) open_address) 0x100C 4 x.adrp refl (omega arith) x.adrp_there;
+  load_there = λ x. absent (two_ranges 0x100C (0xE8 ∷ 0xFF ∷ 0xFF ∷ 0xF0 ∷ []) open_address) 0x1010 4 x.load refl (omega arith) x.load_there;
 }

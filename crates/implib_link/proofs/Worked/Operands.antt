@@ -28,7 +28,7 @@ use Rattle.implib_link.proofs.Gnu.Moved.{covered_bounds}
 use Rattle.implib_link.proofs.Gnu.MovedPrograms.{moved_memory_exists}
 use Rattle.implib_link.proofs.Gnu.Operands.{operand_width}
 use Rattle.implib_link.proofs.Gnu.Steady.{program_tables_none}
-use Rattle.implib_link.proofs.Gnu.OperandsOfPrograms.{branches_in_memory, ends_in_memory, kept_in_memory, leads_in_memory, stubs_in_memory}
+use Rattle.implib_link.proofs.ProgramsInMemory.{branches_in_memory, ends_in_memory, kept_in_memory, leads_in_memory, stubs_in_memory}
 use Rattle.implib_link.proofs.Worked.Calls.{open_export, wide}
 use Rattle.implib_link.proofs.Worked.LinkedCode.{all_needed, only_absolute, rebased_by, relocated_by, relocated_test, takes_by}
 use Rattle.implib_link.proofs.Worked.Programs.{claims_none_by, distinct_by, opened, worked_programs}
@@ -194,26 +194,17 @@ arm64_moved = record {
 amd64_names_1 : Names (passing_at AMD64).from 1 (imp_open AMD64)
 amd64_names_1 = record { symbol = symbol_of_class (imp_open AMD64) 0 class_external; target = refl; undefined = refl; named = refl }
 
-amd64_names_2 : Names (passing_at AMD64).from 2 (codes "hello")
-amd64_names_2 = record { symbol = symbol_of_class (codes "hello") 0 class_external; target = refl; undefined = refl; named = refl }
-
 amd64_names_3 : Names (passing_at AMD64).from 3 (open_on AMD64)
 amd64_names_3 = record { symbol = symbol_of_class (open_on AMD64) 0 class_external; target = refl; undefined = refl; named = refl }
 
 i386_names_1 : Names (passing_at I386).from 1 (imp_open I386)
 i386_names_1 = record { symbol = symbol_of_class (imp_open I386) 0 class_external; target = refl; undefined = refl; named = refl }
 
-i386_names_2 : Names (passing_at I386).from 2 (codes "hello")
-i386_names_2 = record { symbol = symbol_of_class (codes "hello") 0 class_external; target = refl; undefined = refl; named = refl }
-
 i386_names_3 : Names (passing_at I386).from 3 (open_on I386)
 i386_names_3 = record { symbol = symbol_of_class (open_on I386) 0 class_external; target = refl; undefined = refl; named = refl }
 
 arm64_names_1 : Names (passing_at ARM64).from 1 (imp_open ARM64)
 arm64_names_1 = record { symbol = symbol_of_class (imp_open ARM64) 0 class_external; target = refl; undefined = refl; named = refl }
-
-arm64_names_2 : Names (passing_at ARM64).from 2 (codes "hello")
-arm64_names_2 = record { symbol = symbol_of_class (codes "hello") 0 class_external; target = refl; undefined = refl; named = refl }
 
 arm64_names_3 : Names (passing_at ARM64).from 3 (open_on ARM64)
 arm64_names_3 = record { symbol = symbol_of_class (open_on ARM64) 0 class_external; target = refl; undefined = refl; named = refl }

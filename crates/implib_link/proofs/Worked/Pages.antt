@@ -17,24 +17,25 @@ use Rattle.implib.proofs.Link.Ranges.{apart_as_they_rise, ends_below}
 use Rattle.implib_link.specs.Flavors.Expansion.{descriptor_symbol_by_name, expanded_in, import_object}
 use Rattle.implib_link.specs.Flavors.Program.{IsFlavorProgram, all_members, symbols_listed}
 use Rattle.implib_link.specs.Flavors.SectionSymbols.{with_section_symbols}
-use Rattle.implib_link.specs.Gnu.Calls.{AreBeside, code_ranges}
 use Rattle.implib_link.specs.Gnu.Packed.{group_end, sections_end}
 use Rattle.implib_link.specs.Gnu.Pages.{HasPage, HasPageOffset}
 use Rattle.implib_link.specs.Gnu.Program.{IsProgram, has_tables, linked_symbols}
-use Rattle.implib_link.specs.Gnu.Rebased.{IsAtBase}
 use Rattle.implib_link.specs.Worked.Calls.{first_bytes, given_on, last_bytes}
 use Rattle.implib_link.specs.Worked.Flavors.{both_inputs as flavor_inputs, flavor_bases_8, foo_input as msvc_input}
 use Rattle.implib_link.specs.Worked.Pages.{WorkedFlavorPages, WorkedPages, paging, paging_at, paging_flavors, paging_flavors_memory, paging_flavors_placed, paging_objects, paging_placed}
 use Rattle.implib_link.specs.Worked.Pointers.{tables_of}
 use Rattle.implib_link.specs.Worked.Programs.{another, both_inputs, foo_input, symbol_of_class, touching_8}
-use Rattle.implib_link.proofs.Flavors.Calls.{flavors_pages_reach}
-use Rattle.implib_link.proofs.Flavors.MovedPointers.{flavors_pages_at_base}
-use Rattle.implib_link.proofs.Gnu.Pages.{pages_reach}
+use Rattle.implib_link.proofs.Worked.Relocated.{flavors_pages_reach}
+use Rattle.implib_link.proofs.Worked.Relocated.{flavors_pages_at_base}
+use Rattle.implib_link.proofs.Worked.Relocated.{pages_reach}
 use Rattle.implib_link.proofs.Worked.Calls.{wide}
 use Rattle.implib_link.proofs.Worked.Flavors.{worked_flavors}
 use Rattle.implib_link.proofs.Worked.Pointers.{stat_export}
 use Rattle.implib_link.proofs.Worked.Programs.{claims_none_by, distinct_by, opened, worked_programs}
 use Rattle.implib_link.proofs.Worked.Rebased.{none_rebased, resolves_by_tables}
+use Rattle.implib_link.specs.Worked.Relocated.{CodesAtBase, CodesBeside, code_ranges}
+use Rattle.implib_link.proofs.Worked.Relocated.{at_base_by, beside_by, codes_tested}
+use Rattle.implib_link.proofs.Worked.LinkedCode.{relocated_test}
 
 paging_program : IsProgram ARM64 touching_8 (both_inputs ARM64) paging_objects
 unfolding opened alias_specs encoded_size weak_object has_tables
@@ -54,15 +55,18 @@ paging_program = record {
   };
 }
 
-paging_beside : AreBeside ARM64 0x1_4000_0000 touching_8 paging_objects (paging_at ∷ []) (tables_of paging_placed)
-unfolding opened alias_specs encoded_size weak_object has_tables
-paging_beside = record {
-  held = ((0, omega arith, refl), tt);
-  sections = (refl, tt);
-  ends = (omega arith, tt);
-  apart = apart_as_they_rise (2 ^ 31) (image_of ARM64 touching_8 paging_placed ++ code_ranges ARM64 0x1_4000_0000 (tables_of paging_placed) (paging_at ∷ [])) refl;
-  resolved = resolves_by_tables paging_placed (paging_at ∷ []) refl;
-}
+paging_beside : CodesBeside ARM64 0x1_4000_0000 touching_8 paging_objects (paging_at ∷ []) (tables_of paging_placed)
+unfolding opened alias_specs encoded_size weak_object has_tables relocated_test codes_tested
+paging_beside =
+    beside_by ARM64 0x1_4000_0000 touching_8 paging_objects (paging_at ∷ []) (tables_of paging_placed)
+    (record {
+      held = ((0, omega arith, refl), tt);
+      sections = (refl, tt);
+      ends = (omega arith, tt);
+      apart = apart_as_they_rise (2 ^ 31) (image_of ARM64 touching_8 paging_placed ++ code_ranges ARM64 0x1_4000_0000 (tables_of paging_placed) (paging_at ∷ [])) refl;
+      resolved = resolves_by_tables paging_placed (paging_at ∷ []) refl;
+    })
+    refl
 
 paging_page : HasPage paging_at 4 9 (imp_symbol (codes "stat"))
 unfolding u32_bytes
@@ -149,24 +153,29 @@ flavors_program =
       follows = refl;
     }
 
-flavors_beside : AreBeside ARM64 0x1_4000_0000 flavor_bases_8 paging_flavors (paging_at ∷ []) (tables_of paging_flavors_placed)
-unfolding opened refusal renamed_refusal alias_specs encoded_size weak_object has_tables expanded_in short_import_in import_object descriptor_symbol_by_name with_section_symbols descriptor null_descriptor null_thunk descriptor_symbol null_descriptor_symbol null_thunk_symbol base_name descriptor_spec null_descriptor_spec null_thunk_spec header_specs weak_specs group_end sections_end
-flavors_beside = record {
-  held = ((0, omega arith, refl), tt);
-  sections = (refl, tt);
-  ends = (omega arith, tt);
-  apart = apart_as_they_rise (2 ^ 31) paging_flavors_memory refl;
-  resolved = resolves_by_tables paging_flavors_placed (paging_at ∷ []) refl;
-}
+flavors_beside : CodesBeside ARM64 0x1_4000_0000 flavor_bases_8 paging_flavors (paging_at ∷ []) (tables_of paging_flavors_placed)
+unfolding opened refusal renamed_refusal alias_specs encoded_size weak_object has_tables expanded_in short_import_in import_object descriptor_symbol_by_name with_section_symbols descriptor null_descriptor null_thunk descriptor_symbol null_descriptor_symbol null_thunk_symbol base_name descriptor_spec null_descriptor_spec null_thunk_spec header_specs weak_specs group_end sections_end relocated_test codes_tested
+flavors_beside =
+    beside_by ARM64 0x1_4000_0000 flavor_bases_8 paging_flavors (paging_at ∷ []) (tables_of paging_flavors_placed)
+    (record {
+      held = ((0, omega arith, refl), tt);
+      sections = (refl, tt);
+      ends = (omega arith, tt);
+      apart = apart_as_they_rise (2 ^ 31) paging_flavors_memory refl;
+      resolved = resolves_by_tables paging_flavors_placed (paging_at ∷ []) refl;
+    })
+    refl
 
-flavors_at : IsAtBase ARM64 0x1_4000_0000 0x7FF6_1234_0000 flavor_bases_8 paging_flavors (paging_at ∷ []) (tables_of paging_flavors_placed) paging_flavors_memory
+flavors_at : CodesAtBase ARM64 0x1_4000_0000 0x7FF6_1234_0000 flavor_bases_8 paging_flavors (paging_at ∷ []) (tables_of paging_flavors_placed) paging_flavors_memory
 unfolding opened refusal renamed_refusal alias_specs encoded_size weak_object has_tables expanded_in short_import_in import_object descriptor_symbol_by_name with_section_symbols descriptor null_descriptor null_thunk descriptor_symbol null_descriptor_symbol null_thunk_symbol base_name descriptor_spec null_descriptor_spec null_thunk_spec header_specs weak_specs group_end sections_end
-flavors_at = record {
-  beside = flavors_beside;
-  within = (tt, tt);
-  can = ((refl, refl), refl);
-  rebased = none_rebased 0x1_4000_0000 0x7FF6_1234_0000 paging_flavors_memory;
-}
+flavors_at =
+    at_base_by ARM64 0x1_4000_0000 0x7FF6_1234_0000 flavor_bases_8 paging_flavors (paging_at ∷ []) (tables_of paging_flavors_placed) paging_flavors_memory
+    (record {
+      beside = flavors_beside;
+      within = (tt, tt);
+      can = ((refl, refl), refl);
+      rebased = none_rebased 0x1_4000_0000 0x7FF6_1234_0000 paging_flavors_memory;
+    })
 
 not_half : (n m : ℕ) → n ≡ 0 → m ≡ 0x800 → n ≡ m → ⊥
 not_half n m first second same = omega arith

@@ -19,7 +19,6 @@ use Rattle.implib.proofs.Link.Ranges.{apart_as_they_rise, ends_below}
 use Rattle.implib_link.specs.Flavors.Expansion.{descriptor_symbol_by_name, expanded_in, import_object}
 use Rattle.implib_link.specs.Flavors.Program.{IsFlavorProgram, all_members, symbols_listed}
 use Rattle.implib_link.specs.Flavors.SectionSymbols.{with_section_symbols}
-use Rattle.implib_link.specs.Gnu.Calls.{AreBeside, code_ranges}
 use Rattle.implib_link.specs.Gnu.Packed.{group_end, sections_end}
 use Rattle.implib_link.specs.Gnu.Pointers.{HasLoad}
 use Rattle.implib_link.specs.Gnu.Program.{IsProgram, has_tables, linked_symbols}
@@ -27,12 +26,15 @@ use Rattle.implib_link.specs.Worked.Calls.{first_bytes, given_on, last_bytes}
 use Rattle.implib_link.specs.Worked.Flavors.{both_inputs as flavor_inputs, flavor_bases_8, foo_input as msvc_input}
 use Rattle.implib_link.specs.Worked.Pointers.{WorkedPointer, WorkedPointers, loading, loading_at, loading_flavors, loading_flavors_placed, loading_objects, loading_placed, tables_of}
 use Rattle.implib_link.specs.Worked.Programs.{another, both_inputs, foo_input, symbol_of_class, symbol_on, touching_4, touching_8}
-use Rattle.implib_link.proofs.Flavors.Calls.{flavors_pointers_are_read}
-use Rattle.implib_link.proofs.Gnu.Pointers.{pointers_are_read}
+use Rattle.implib_link.proofs.Worked.Relocated.{flavors_pointers_are_read}
+use Rattle.implib_link.proofs.Worked.Relocated.{pointers_are_read}
 use Rattle.implib_link.proofs.Worked.Calls.{wide}
 use Rattle.implib_link.proofs.Worked.Flavors.{worked_flavors}
 use Rattle.implib_link.proofs.Worked.Programs.{claims_none_by, distinct_by, opened, worked_programs}
 use Rattle.implib_link.proofs.Worked.Rebased.{resolves_by_tables}
+use Rattle.implib_link.specs.Worked.Relocated.{CodesBeside, code_ranges}
+use Rattle.implib_link.proofs.Worked.Relocated.{beside_by, codes_tested}
+use Rattle.implib_link.proofs.Worked.LinkedCode.{relocated_test}
 
 -- the export whose address is read
 abbrev pub stat_export : MachineType → ExportView
@@ -56,15 +58,18 @@ amd64_program = record {
   };
 }
 
-amd64_beside : AreBeside AMD64 0x1_4000_0000 touching_8 (loading_objects AMD64) (loading_at AMD64 ∷ []) (tables_of (loading_placed AMD64 touching_8))
-unfolding opened alias_specs encoded_size weak_object has_tables
-amd64_beside = record {
-  held = ((0, omega arith, refl), tt);
-  sections = (refl, tt);
-  ends = (omega arith, tt);
-  apart = apart_as_they_rise (2 ^ 31) (image_of AMD64 touching_8 (loading_placed AMD64 touching_8) ++ code_ranges AMD64 0x1_4000_0000 (tables_of (loading_placed AMD64 touching_8)) (loading_at AMD64 ∷ [])) refl;
-  resolved = resolves_by_tables (loading_placed AMD64 touching_8) (loading_at AMD64 ∷ []) refl;
-}
+amd64_beside : CodesBeside AMD64 0x1_4000_0000 touching_8 (loading_objects AMD64) (loading_at AMD64 ∷ []) (tables_of (loading_placed AMD64 touching_8))
+unfolding opened alias_specs encoded_size weak_object has_tables relocated_test codes_tested
+amd64_beside =
+    beside_by AMD64 0x1_4000_0000 touching_8 (loading_objects AMD64) (loading_at AMD64 ∷ []) (tables_of (loading_placed AMD64 touching_8))
+    (record {
+      held = ((0, omega arith, refl), tt);
+      sections = (refl, tt);
+      ends = (omega arith, tt);
+      apart = apart_as_they_rise (2 ^ 31) (image_of AMD64 touching_8 (loading_placed AMD64 touching_8) ++ code_ranges AMD64 0x1_4000_0000 (tables_of (loading_placed AMD64 touching_8)) (loading_at AMD64 ∷ [])) refl;
+      resolved = resolves_by_tables (loading_placed AMD64 touching_8) (loading_at AMD64 ∷ []) refl;
+    })
+    refl
 
 amd64_has : HasLoad AMD64 (loading_at AMD64) 4 (imp_symbol (symbol_on AMD64 (codes "stat")))
 amd64_has = record {
@@ -115,15 +120,18 @@ i386_program = record {
   };
 }
 
-i386_beside : AreBeside I386 0x40_0000 touching_4 (loading_objects I386) (loading_at I386 ∷ []) (tables_of (loading_placed I386 touching_4))
-unfolding opened alias_specs encoded_size weak_object has_tables
-i386_beside = record {
-  held = ((0, omega arith, refl), tt);
-  sections = (refl, tt);
-  ends = (omega arith, tt);
-  apart = apart_as_they_rise (2 ^ 31) (image_of I386 touching_4 (loading_placed I386 touching_4) ++ code_ranges I386 0x40_0000 (tables_of (loading_placed I386 touching_4)) (loading_at I386 ∷ [])) refl;
-  resolved = resolves_by_tables (loading_placed I386 touching_4) (loading_at I386 ∷ []) refl;
-}
+i386_beside : CodesBeside I386 0x40_0000 touching_4 (loading_objects I386) (loading_at I386 ∷ []) (tables_of (loading_placed I386 touching_4))
+unfolding opened alias_specs encoded_size weak_object has_tables relocated_test codes_tested
+i386_beside =
+    beside_by I386 0x40_0000 touching_4 (loading_objects I386) (loading_at I386 ∷ []) (tables_of (loading_placed I386 touching_4))
+    (record {
+      held = ((0, omega arith, refl), tt);
+      sections = (refl, tt);
+      ends = (omega arith, tt);
+      apart = apart_as_they_rise (2 ^ 31) (image_of I386 touching_4 (loading_placed I386 touching_4) ++ code_ranges I386 0x40_0000 (tables_of (loading_placed I386 touching_4)) (loading_at I386 ∷ [])) refl;
+      resolved = resolves_by_tables (loading_placed I386 touching_4) (loading_at I386 ∷ []) refl;
+    })
+    refl
 
 pub i386_has : HasLoad I386 (loading_at I386) 4 (imp_symbol (symbol_on I386 (codes "stat")))
 i386_has = record {
@@ -174,15 +182,18 @@ arm64_program = record {
   };
 }
 
-arm64_beside : AreBeside ARM64 0x1_4000_0000 touching_8 (loading_objects ARM64) (loading_at ARM64 ∷ []) (tables_of (loading_placed ARM64 touching_8))
-unfolding opened alias_specs encoded_size weak_object has_tables
-arm64_beside = record {
-  held = ((0, omega arith, refl), tt);
-  sections = (refl, tt);
-  ends = (omega arith, tt);
-  apart = apart_as_they_rise (2 ^ 31) (image_of ARM64 touching_8 (loading_placed ARM64 touching_8) ++ code_ranges ARM64 0x1_4000_0000 (tables_of (loading_placed ARM64 touching_8)) (loading_at ARM64 ∷ [])) refl;
-  resolved = resolves_by_tables (loading_placed ARM64 touching_8) (loading_at ARM64 ∷ []) refl;
-}
+arm64_beside : CodesBeside ARM64 0x1_4000_0000 touching_8 (loading_objects ARM64) (loading_at ARM64 ∷ []) (tables_of (loading_placed ARM64 touching_8))
+unfolding opened alias_specs encoded_size weak_object has_tables relocated_test codes_tested
+arm64_beside =
+    beside_by ARM64 0x1_4000_0000 touching_8 (loading_objects ARM64) (loading_at ARM64 ∷ []) (tables_of (loading_placed ARM64 touching_8))
+    (record {
+      held = ((0, omega arith, refl), tt);
+      sections = (refl, tt);
+      ends = (omega arith, tt);
+      apart = apart_as_they_rise (2 ^ 31) (image_of ARM64 touching_8 (loading_placed ARM64 touching_8) ++ code_ranges ARM64 0x1_4000_0000 (tables_of (loading_placed ARM64 touching_8)) (loading_at ARM64 ∷ [])) refl;
+      resolved = resolves_by_tables (loading_placed ARM64 touching_8) (loading_at ARM64 ∷ []) refl;
+    })
+    refl
 
 pub arm64_has : HasLoad ARM64 (loading_at ARM64) 4 (imp_symbol (symbol_on ARM64 (codes "stat")))
 arm64_has = record {
@@ -248,15 +259,18 @@ flavors_program = record {
   follows = refl;
 }
 
-flavors_beside : AreBeside AMD64 0x1_4000_0000 flavor_bases_8 loading_flavors (loading_at AMD64 ∷ []) (tables_of loading_flavors_placed)
-unfolding opened refusal renamed_refusal alias_specs encoded_size weak_object has_tables expanded_in short_import_in import_object descriptor_symbol_by_name with_section_symbols descriptor null_descriptor null_thunk descriptor_symbol null_descriptor_symbol null_thunk_symbol base_name descriptor_spec null_descriptor_spec null_thunk_spec header_specs weak_specs group_end sections_end
-flavors_beside = record {
-  held = ((0, omega arith, refl), tt);
-  sections = (refl, tt);
-  ends = (omega arith, tt);
-  apart = apart_as_they_rise (2 ^ 31) (image_of AMD64 flavor_bases_8 loading_flavors_placed ++ code_ranges AMD64 0x1_4000_0000 (tables_of loading_flavors_placed) (loading_at AMD64 ∷ [])) refl;
-  resolved = resolves_by_tables loading_flavors_placed (loading_at AMD64 ∷ []) refl;
-}
+flavors_beside : CodesBeside AMD64 0x1_4000_0000 flavor_bases_8 loading_flavors (loading_at AMD64 ∷ []) (tables_of loading_flavors_placed)
+unfolding opened refusal renamed_refusal alias_specs encoded_size weak_object has_tables expanded_in short_import_in import_object descriptor_symbol_by_name with_section_symbols descriptor null_descriptor null_thunk descriptor_symbol null_descriptor_symbol null_thunk_symbol base_name descriptor_spec null_descriptor_spec null_thunk_spec header_specs weak_specs group_end sections_end relocated_test codes_tested
+flavors_beside =
+    beside_by AMD64 0x1_4000_0000 flavor_bases_8 loading_flavors (loading_at AMD64 ∷ []) (tables_of loading_flavors_placed)
+    (record {
+      held = ((0, omega arith, refl), tt);
+      sections = (refl, tt);
+      ends = (omega arith, tt);
+      apart = apart_as_they_rise (2 ^ 31) (image_of AMD64 flavor_bases_8 loading_flavors_placed ++ code_ranges AMD64 0x1_4000_0000 (tables_of loading_flavors_placed) (loading_at AMD64 ∷ [])) refl;
+      resolved = resolves_by_tables loading_flavors_placed (loading_at AMD64 ∷ []) refl;
+    })
+    refl
 
 pub worked_pointers : WorkedPointers
 unfolding opened refusal renamed_refusal alias_specs encoded_size weak_object has_tables expanded_in short_import_in import_object descriptor_symbol_by_name with_section_symbols descriptor null_descriptor null_thunk descriptor_symbol null_descriptor_symbol null_thunk_symbol base_name descriptor_spec null_descriptor_spec null_thunk_spec header_specs weak_specs group_end sections_end

@@ -1,10 +1,11 @@
 -- The programs that were moved by hand, by computing and by the laws.
+use Rattle.implib.specs.Import.{imp_symbol}
 use Rattle.std.proofs.Common.{◌≡◌, ℕ, ◌^◌, ◌⊎◌, Bool, true, false, List, [], ◌∷◌, codes, refl, ap, sym, ◌∙◌, subst, inl, inr, arith, true≢false}
 use Rattle.std.specs.Prelude.{bytes_eq, drop, not, slice_get, take, ◌&&◌, ◌||◌, ◌==◌, Some, if◌then◌else◌}
 use Rattle.std.specs.List.{Contains, list_all, list_any}
-use Rattle.std.proofs.lemmas.Bool.{and_from, eq-eqb, not-true, or_parts}
+use Rattle.std.proofs.lemmas.Bool.{and_from, eq-eqb, not-true, or_parts, false_from_ne_true}
 use Rattle.implib.specs.declared.machine.MachineType.TheVariants.{I386, AMD64, ARM64}
-use Rattle.implib.specs.Formats.Constants.{class_external}
+use Rattle.implib.specs.Formats.Constants.{class_external, i386_dir32}
 use Rattle.implib.specs.Formats.File.{is_defined_external}
 use Rattle.implib.specs.Formats.Layout.{encoded_size}
 use Rattle.implib.specs.Formats.Object.{ASymbol, Auxiliary, Entry, ObjectSymbol}
@@ -26,19 +27,23 @@ use Rattle.implib_link.specs.Flavors.Program.{IsFlavorProgram, all_members, symb
 use Rattle.implib_link.specs.Flavors.SectionSymbols.{with_section_symbols}
 use Rattle.implib_link.specs.Gnu.Packed.{group_end, sections_end}
 use Rattle.implib_link.specs.Worked.Flavors.{both_inputs as flavor_inputs, flavor_bases_4, flavor_bases_8, foo_input as msvc_input}
-use Rattle.implib_link.proofs.Flavors.Rebased.{flavors_calls_at_base, flavors_end_at_base, flavors_load_at_base}
+use Rattle.implib_link.proofs.Worked.Relocated.{flavors_calls_at_base, flavors_end_at_base, flavors_load_at_base}
 use Rattle.implib_link.proofs.Worked.Flavors.{worked_flavors}
-use Rattle.implib_link.specs.Gnu.Calls.{AreBeside, Defines, PlacedCode, Resolves}
+use Rattle.implib_link.specs.Gnu.Calls.{Defines, PlacedCode, Resolves}
 use Rattle.implib_link.specs.Gnu.Program.{has_tables}
-use Rattle.implib_link.specs.Gnu.Rebased.{IsAtBase, IsRebased, Place, base_relocations, covers, moved_number}
+use Rattle.implib_link.specs.Gnu.Rebased.{IsRebased, Place, covers, moved_number}
 use Rattle.implib_link.specs.Worked.Calls.{calling, calling_at, calling_flavors, calling_objects, calling_placed, flavor_targets, given_on, table_targets}
 use Rattle.implib_link.specs.Worked.Programs.{another, both_inputs, foo_input, symbol_of_class, symbol_on, touching_4, touching_8}
 use Rattle.implib_link.specs.Worked.Rebased.{WorkedFlavorMove, WorkedFlavorRebase, WorkedMove, WorkedMoves, WorkedPlaces, flavors_memory, i386_memory, i386_places, linked_memory, moving_codes, moving_flavors, moving_linked, moving_memory, moving_placed, moving_targets, open_stub}
-use Rattle.implib_link.proofs.Gnu.Rebased.{calls_at_base, ends_at_base, loads_at_base, stubs_at_base}
+use Rattle.implib_link.proofs.Worked.Relocated.{calls_at_base, ends_at_base, loads_at_base, stubs_at_base}
 use Rattle.implib_link.proofs.Search.Lists.{among_at, contains_among}
-use Rattle.implib_link.proofs.Worked.Calls.{amd64_has, amd64_program, arm64_has, arm64_program, each_of, flavors_beside, flavors_program, i386_has, i386_program, is_wanted, open_export, wide}
+use Rattle.implib_link.proofs.Worked.Calls.{amd64_has, amd64_program, arm64_has, arm64_program, flavors_beside, flavors_program, i386_has, i386_program, is_wanted, open_export, wide}
+use Rattle.implib_link.proofs.Search.Lists.{each_of}
 use Rattle.implib_link.proofs.Worked.Programs.{claims_none_by, distinct_by, opened, worked_programs}
 use Rattle.implib_link.proofs.Worked.RefusedLinks.{are_located, number}
+use Rattle.implib_link.specs.Worked.Relocated.{CodesAtBase, CodesBeside, base_relocations, linked_by}
+use Rattle.implib_link.proofs.Worked.Relocated.{at_base_by, beside_by, codes_tested}
+use Rattle.implib_link.proofs.Worked.LinkedCode.{relocated_test}
 
 -- Code whose symbols no code of another object defines is resolved by the tables.
 
@@ -74,35 +79,44 @@ resolves_by_tables linked codes all = record {
   code = λ c d index s t c_held d_held at undefined defines named. absurd (none_wanted codes all c d index s t c_held d_held at undefined defines named);
 }
 
-amd64_beside : AreBeside AMD64 0x1_4000_0000 touching_8 (calling_objects AMD64) (moving_codes AMD64 touching_8) (table_targets AMD64 touching_8)
-unfolding opened alias_specs encoded_size weak_object has_tables
-amd64_beside = record {
-  held = ((0, omega arith, refl), ((3, omega arith, refl), tt));
-  sections = (refl, (refl, tt));
-  ends = (omega arith, (omega arith, tt));
-  apart = apart_as_they_rise (2 ^ 31) (linked_memory AMD64 0x1_4000_0000 touching_8) refl;
-  resolved = resolves_by_tables (calling_placed AMD64 touching_8) (moving_codes AMD64 touching_8) refl;
-}
+amd64_beside : CodesBeside AMD64 0x1_4000_0000 touching_8 (calling_objects AMD64) (moving_codes AMD64 touching_8) (table_targets AMD64 touching_8)
+unfolding opened alias_specs encoded_size weak_object has_tables relocated_test codes_tested
+amd64_beside =
+    beside_by AMD64 0x1_4000_0000 touching_8 (calling_objects AMD64) (moving_codes AMD64 touching_8) (table_targets AMD64 touching_8)
+    (record {
+      held = ((0, omega arith, refl), ((3, omega arith, refl), tt));
+      sections = (refl, (refl, tt));
+      ends = (omega arith, (omega arith, tt));
+      apart = apart_as_they_rise (2 ^ 31) (linked_memory AMD64 0x1_4000_0000 touching_8) refl;
+      resolved = resolves_by_tables (calling_placed AMD64 touching_8) (moving_codes AMD64 touching_8) refl;
+    })
+    refl
 
-i386_beside : AreBeside I386 0x40_0000 touching_4 (calling_objects I386) (moving_codes I386 touching_4) (table_targets I386 touching_4)
-unfolding opened alias_specs encoded_size weak_object has_tables
-i386_beside = record {
-  held = ((0, omega arith, refl), ((3, omega arith, refl), tt));
-  sections = (refl, (refl, tt));
-  ends = (omega arith, (omega arith, tt));
-  apart = apart_as_they_rise (2 ^ 31) (linked_memory I386 0x40_0000 touching_4) refl;
-  resolved = resolves_by_tables (calling_placed I386 touching_4) (moving_codes I386 touching_4) refl;
-}
+i386_beside : CodesBeside I386 0x40_0000 touching_4 (calling_objects I386) (moving_codes I386 touching_4) (table_targets I386 touching_4)
+unfolding opened alias_specs encoded_size weak_object has_tables relocated_test codes_tested
+i386_beside =
+    beside_by I386 0x40_0000 touching_4 (calling_objects I386) (moving_codes I386 touching_4) (table_targets I386 touching_4)
+    (record {
+      held = ((0, omega arith, refl), ((3, omega arith, refl), tt));
+      sections = (refl, (refl, tt));
+      ends = (omega arith, (omega arith, tt));
+      apart = apart_as_they_rise (2 ^ 31) (linked_memory I386 0x40_0000 touching_4) refl;
+      resolved = resolves_by_tables (calling_placed I386 touching_4) (moving_codes I386 touching_4) refl;
+    })
+    refl
 
-arm64_beside : AreBeside ARM64 0x1_4000_0000 touching_8 (calling_objects ARM64) (moving_codes ARM64 touching_8) (table_targets ARM64 touching_8)
-unfolding opened alias_specs encoded_size weak_object has_tables
-arm64_beside = record {
-  held = ((0, omega arith, refl), ((3, omega arith, refl), tt));
-  sections = (refl, (refl, tt));
-  ends = (omega arith, (omega arith, tt));
-  apart = apart_as_they_rise (2 ^ 31) (linked_memory ARM64 0x1_4000_0000 touching_8) refl;
-  resolved = resolves_by_tables (calling_placed ARM64 touching_8) (moving_codes ARM64 touching_8) refl;
-}
+arm64_beside : CodesBeside ARM64 0x1_4000_0000 touching_8 (calling_objects ARM64) (moving_codes ARM64 touching_8) (table_targets ARM64 touching_8)
+unfolding opened alias_specs encoded_size weak_object has_tables relocated_test codes_tested
+arm64_beside =
+    beside_by ARM64 0x1_4000_0000 touching_8 (calling_objects ARM64) (moving_codes ARM64 touching_8) (table_targets ARM64 touching_8)
+    (record {
+      held = ((0, omega arith, refl), ((3, omega arith, refl), tt));
+      sections = (refl, (refl, tt));
+      ends = (omega arith, (omega arith, tt));
+      apart = apart_as_they_rise (2 ^ 31) (linked_memory ARM64 0x1_4000_0000 touching_8) refl;
+      resolved = resolves_by_tables (calling_placed ARM64 touching_8) (moving_codes ARM64 touching_8) refl;
+    })
+    refl
 
 -- Without base relocations nothing changes.
 
@@ -113,23 +127,27 @@ among_none p m = m
 pub none_rebased : (from to : ℕ) (memory : List Range) → IsRebased from to [] memory memory
 none_rebased from to memory = record { moved = λ p n held number. absurd (among_none p (contains_among p [] held)); kept = λ a byte none is. is }
 
-amd64_at : IsAtBase AMD64 0x1_4000_0000 0x7FF6_1234_0000 touching_8 (calling_objects AMD64) (moving_codes AMD64 touching_8) (table_targets AMD64 touching_8) (linked_memory AMD64 0x1_4000_0000 touching_8)
+amd64_at : CodesAtBase AMD64 0x1_4000_0000 0x7FF6_1234_0000 touching_8 (calling_objects AMD64) (moving_codes AMD64 touching_8) (table_targets AMD64 touching_8) (linked_memory AMD64 0x1_4000_0000 touching_8)
 unfolding opened alias_specs encoded_size weak_object has_tables
-amd64_at = record {
-  beside = amd64_beside;
-  within = (tt, (tt, tt));
-  can = tt;
-  rebased = none_rebased 0x1_4000_0000 0x7FF6_1234_0000 (linked_memory AMD64 0x1_4000_0000 touching_8);
-}
+amd64_at =
+    at_base_by AMD64 0x1_4000_0000 0x7FF6_1234_0000 touching_8 (calling_objects AMD64) (moving_codes AMD64 touching_8) (table_targets AMD64 touching_8) (linked_memory AMD64 0x1_4000_0000 touching_8)
+    (record {
+      beside = amd64_beside;
+      within = (tt, (tt, tt));
+      can = tt;
+      rebased = none_rebased 0x1_4000_0000 0x7FF6_1234_0000 (linked_memory AMD64 0x1_4000_0000 touching_8);
+    })
 
-arm64_at : IsAtBase ARM64 0x1_4000_0000 0x7FF6_1234_0000 touching_8 (calling_objects ARM64) (moving_codes ARM64 touching_8) (table_targets ARM64 touching_8) (linked_memory ARM64 0x1_4000_0000 touching_8)
+arm64_at : CodesAtBase ARM64 0x1_4000_0000 0x7FF6_1234_0000 touching_8 (calling_objects ARM64) (moving_codes ARM64 touching_8) (table_targets ARM64 touching_8) (linked_memory ARM64 0x1_4000_0000 touching_8)
 unfolding opened alias_specs encoded_size weak_object has_tables
-arm64_at = record {
-  beside = arm64_beside;
-  within = (tt, (tt, tt));
-  can = ((refl, refl), refl);
-  rebased = none_rebased 0x1_4000_0000 0x7FF6_1234_0000 (linked_memory ARM64 0x1_4000_0000 touching_8);
-}
+arm64_at =
+    at_base_by ARM64 0x1_4000_0000 0x7FF6_1234_0000 touching_8 (calling_objects ARM64) (moving_codes ARM64 touching_8) (table_targets ARM64 touching_8) (linked_memory ARM64 0x1_4000_0000 touching_8)
+    (record {
+      beside = arm64_beside;
+      within = (tt, (tt, tt));
+      can = ((refl, refl), refl);
+      rebased = none_rebased 0x1_4000_0000 0x7FF6_1234_0000 (linked_memory ARM64 0x1_4000_0000 touching_8);
+    })
 
 -- On I386 both fields change.
 
@@ -177,14 +195,16 @@ i386_rebased = record {
       rw (one.0, two.0) is;
 }
 
-i386_at : IsAtBase I386 0x40_0000 0x1000_0000 touching_4 (calling_objects I386) (moving_codes I386 touching_4) (table_targets I386 touching_4) (i386_memory (0x60 ∷ 0 ∷ 0 ∷ 0x10 ∷ []))
+i386_at : CodesAtBase I386 0x40_0000 0x1000_0000 touching_4 (calling_objects I386) (moving_codes I386 touching_4) (table_targets I386 touching_4) (i386_memory (0x60 ∷ 0 ∷ 0 ∷ 0x10 ∷ []))
 unfolding opened alias_specs encoded_size weak_object has_tables
-i386_at = record {
-  beside = i386_beside;
-  within = ((omega arith, tt), ((omega arith, tt), tt));
-  can = omega arith;
-  rebased = i386_rebased;
-}
+i386_at =
+    at_base_by I386 0x40_0000 0x1000_0000 touching_4 (calling_objects I386) (moving_codes I386 touching_4) (table_targets I386 touching_4) (i386_memory (0x60 ∷ 0 ∷ 0 ∷ 0x10 ∷ []))
+    (record {
+      beside = i386_beside;
+      within = ((omega arith, tt), ((omega arith, tt), tt));
+      can = omega arith;
+      rebased = i386_rebased;
+    })
 
 amd64_defines : Defines (open_stub AMD64 touching_8) (symbol_of_class (symbol_on AMD64 (codes "open")) 1 class_external)
 unfolding opened alias_specs encoded_size weak_object has_tables
@@ -281,14 +301,16 @@ arm64 =
 
 -- In both flavours.
 
-flavors_at : IsAtBase AMD64 0x1_4000_0000 0x7FF6_1234_0000 flavor_bases_8 calling_flavors (calling_at AMD64 0x1000 ∷ []) flavor_targets flavors_memory
+flavors_at : CodesAtBase AMD64 0x1_4000_0000 0x7FF6_1234_0000 flavor_bases_8 calling_flavors (calling_at AMD64 0x1000 ∷ []) flavor_targets flavors_memory
 unfolding opened refusal renamed_refusal alias_specs encoded_size weak_object has_tables expanded_in short_import_in import_object descriptor_symbol_by_name with_section_symbols descriptor null_descriptor null_thunk descriptor_symbol null_descriptor_symbol null_thunk_symbol base_name descriptor_spec null_descriptor_spec null_thunk_spec header_specs weak_specs group_end sections_end
-flavors_at = record {
-  beside = flavors_beside;
-  within = (tt, tt);
-  can = tt;
-  rebased = none_rebased 0x1_4000_0000 0x7FF6_1234_0000 flavors_memory;
-}
+flavors_at =
+    at_base_by AMD64 0x1_4000_0000 0x7FF6_1234_0000 flavor_bases_8 calling_flavors (calling_at AMD64 0x1000 ∷ []) flavor_targets flavors_memory
+    (record {
+      beside = flavors_beside;
+      within = (tt, tt);
+      can = tt;
+      rebased = none_rebased 0x1_4000_0000 0x7FF6_1234_0000 flavors_memory;
+    })
 
 pub worked_flavor_move : WorkedFlavorMove
 unfolding opened refusal renamed_refusal alias_specs encoded_size weak_object has_tables expanded_in short_import_in import_object descriptor_symbol_by_name with_section_symbols descriptor null_descriptor null_thunk descriptor_symbol null_descriptor_symbol null_thunk_symbol base_name descriptor_spec null_descriptor_spec null_thunk_spec header_specs weak_specs group_end sections_end
@@ -336,15 +358,18 @@ moving_program =
       follows = refl;
     }
 
-moving_beside : AreBeside I386 0x40_0000 flavor_bases_4 moving_flavors (calling_at I386 0x1000 ∷ []) moving_targets
-unfolding opened refusal renamed_refusal alias_specs encoded_size weak_object has_tables expanded_in short_import_in import_object descriptor_symbol_by_name with_section_symbols descriptor null_descriptor null_thunk descriptor_symbol null_descriptor_symbol null_thunk_symbol base_name descriptor_spec null_descriptor_spec null_thunk_spec header_specs weak_specs group_end sections_end
-moving_beside = record {
-  held = ((0, omega arith, refl), tt);
-  sections = (refl, tt);
-  ends = (omega arith, tt);
-  apart = apart_as_they_rise (2 ^ 31) moving_linked refl;
-  resolved = resolves_by_tables moving_placed (calling_at I386 0x1000 ∷ []) refl;
-}
+moving_beside : CodesBeside I386 0x40_0000 flavor_bases_4 moving_flavors (calling_at I386 0x1000 ∷ []) moving_targets
+unfolding opened refusal renamed_refusal alias_specs encoded_size weak_object has_tables expanded_in short_import_in import_object descriptor_symbol_by_name with_section_symbols descriptor null_descriptor null_thunk descriptor_symbol null_descriptor_symbol null_thunk_symbol base_name descriptor_spec null_descriptor_spec null_thunk_spec header_specs weak_specs group_end sections_end relocated_test codes_tested
+moving_beside =
+    beside_by I386 0x40_0000 flavor_bases_4 moving_flavors (calling_at I386 0x1000 ∷ []) moving_targets
+    (record {
+      held = ((0, omega arith, refl), tt);
+      sections = (refl, tt);
+      ends = (omega arith, tt);
+      apart = apart_as_they_rise (2 ^ 31) moving_linked refl;
+      resolved = resolves_by_tables moving_placed (calling_at I386 0x1000 ∷ []) refl;
+    })
+    refl
 
 moving_places : base_relocations I386 moving_placed (calling_at I386 0x1000 ∷ []) ≡ record { address = 0x1006; width = 4 } ∷ []
 unfolding opened refusal renamed_refusal alias_specs encoded_size weak_object has_tables expanded_in short_import_in import_object descriptor_symbol_by_name with_section_symbols descriptor null_descriptor null_thunk descriptor_symbol null_descriptor_symbol null_thunk_symbol base_name descriptor_spec null_descriptor_spec null_thunk_spec header_specs weak_specs group_end sections_end
@@ -375,33 +400,36 @@ moving_rebased =
           rw one.0 is;
     }
 
-moving_at : IsAtBase I386 0x40_0000 0x1000_0000 flavor_bases_4 moving_flavors (calling_at I386 0x1000 ∷ []) moving_targets (moving_memory (0x64 ∷ 0 ∷ 0 ∷ 0x10 ∷ []))
+moving_at : CodesAtBase I386 0x40_0000 0x1000_0000 flavor_bases_4 moving_flavors (calling_at I386 0x1000 ∷ []) moving_targets (moving_memory (0x64 ∷ 0 ∷ 0 ∷ 0x10 ∷ []))
 unfolding opened alias_specs encoded_size weak_object has_tables
 moving_at =
     let memory : List Range = moving_memory (0x64 ∷ 0 ∷ 0 ∷ 0x10 ∷ []) in
-    record {
+    at_base_by I386 0x40_0000 0x1000_0000 flavor_bases_4 moving_flavors (calling_at I386 0x1000 ∷ []) moving_targets memory
+    (record {
       beside = moving_beside;
       within = ((omega arith, tt), tt);
       can = omega arith;
       rebased = subst (λ (ps : List Place). IsRebased 0x40_0000 0x1000_0000 ps moving_linked memory) (sym moving_places) moving_rebased;
-    }
+    })
 
 -- what the field of the call is in memory at that base
-moved_there : (memory : List Range) → IsAtBase I386 0x40_0000 0x1000_0000 flavor_bases_4 moving_flavors (calling_at I386 0x1000 ∷ []) moving_targets memory → NumberAt memory 4 0x1006 0x1000_0064
+moved_there : (memory : List Range) → CodesAtBase I386 0x40_0000 0x1000_0000 flavor_bases_4 moving_flavors (calling_at I386 0x1000 ∷ []) moving_targets memory → NumberAt memory 4 0x1006 0x1000_0064
+unfolding opened refusal renamed_refusal alias_specs encoded_size weak_object has_tables expanded_in short_import_in import_object descriptor_symbol_by_name with_section_symbols descriptor null_descriptor null_thunk descriptor_symbol null_descriptor_symbol null_thunk_symbol base_name descriptor_spec null_descriptor_spec null_thunk_spec header_specs weak_specs group_end sections_end
 moved_there memory at =
-    at.rebased.moved (record { address = 0x1006; width = 4 }) 0x40_0064
-    (subst (λ (ps : List Place). Contains ps (record { address = 0x1006; width = 4 })) (sym moving_places) (0, omega arith, refl)) linked_field
+    let entry : Entry = ASymbol (symbol_of_class (imp_symbol (symbol_on I386 (codes "open"))) 0 class_external) in
+    at.moved.rebased.moved (record { address = 0x1006; width = 4 }) 0x40_0064
+    (at.moved.needed (linked_by I386 0x40_0000 moving_targets (calling_at I386 0x1000)) (record { offset = 6; symbol = 1; kind = i386_dir32 }) 4 0x64 entry (0, omega arith, refl) (0, omega arith, refl) refl refl refl) linked_field
 
 not_linked : (n : ℕ) → 0x1000_0064 ≡ n → n ≡ 0x40_0064 → ⊥
 not_linked n first second = omega arith
 
-field_left : IsAtBase I386 0x40_0000 0x1000_0000 flavor_bases_4 moving_flavors (calling_at I386 0x1000 ∷ []) moving_targets moving_linked → ⊥
+field_left : CodesAtBase I386 0x40_0000 0x1000_0000 flavor_bases_4 moving_flavors (calling_at I386 0x1000 ∷ []) moving_targets moving_linked → ⊥
 field_left at = not_linked 0x40_0064 (number_once moving_linked 4 0x1006 0x1000_0064 0x40_0064 (moved_there moving_linked at) linked_field) refl
 
 not_next : (n : ℕ) → 0x1000_0064 ≡ n → n ≡ 0x1000_0068 → ⊥
 not_next n first second = omega arith
 
-next_entry : IsAtBase I386 0x40_0000 0x1000_0000 flavor_bases_4 moving_flavors (calling_at I386 0x1000 ∷ []) moving_targets (moving_memory (0x68 ∷ 0 ∷ 0 ∷ 0x10 ∷ [])) → ⊥
+next_entry : CodesAtBase I386 0x40_0000 0x1000_0000 flavor_bases_4 moving_flavors (calling_at I386 0x1000 ∷ []) moving_targets (moving_memory (0x68 ∷ 0 ∷ 0 ∷ 0x10 ∷ [])) → ⊥
 next_entry at =
     let memory : List Range = moving_memory (0x68 ∷ 0 ∷ 0 ∷ 0x10 ∷ []) in
     not_next 0x1000_0068
@@ -418,9 +446,11 @@ no_place = subst (λ (ps : List Place). list_any (covers 26) ps ≡ false) (sym 
 not_zero : (n : ℕ) → n ≡ 0xC0 → Some n ≡ Some 0 → ⊥
 not_zero n is same = let none : n ≡ 0 = cc in omega arith
 
-table_moved : IsAtBase I386 0x40_0000 0x1000_0000 flavor_bases_4 moving_flavors (calling_at I386 0x1000 ∷ []) moving_targets
+table_moved : CodesAtBase I386 0x40_0000 0x1000_0000 flavor_bases_4 moving_flavors (calling_at I386 0x1000 ∷ []) moving_targets
     (record { start = 24; bytes = 0x60 ∷ 0 ∷ 0xC0 ∷ 0xF ∷ [] } ∷ moving_memory (0x64 ∷ 0 ∷ 0 ∷ 0x10 ∷ [])) → ⊥
-table_moved at = not_zero 0xC0 refl (at.rebased.kept 26 0 no_place linked_byte)
+table_moved at =
+    not_zero 0xC0 refl
+    (at.moved.rebased.kept 26 0 (false_from_ne_true (list_any (covers 26) at.places) (λ covered. true≢false (sym (at.moved.only 26 0 linked_byte covered) ∙ no_place))) linked_byte)
 
 pub worked_flavor_rebase : WorkedFlavorRebase
 unfolding opened refusal renamed_refusal alias_specs encoded_size weak_object has_tables expanded_in short_import_in import_object descriptor_symbol_by_name with_section_symbols descriptor null_descriptor null_thunk descriptor_symbol null_descriptor_symbol null_thunk_symbol base_name descriptor_spec null_descriptor_spec null_thunk_spec header_specs weak_specs group_end sections_end

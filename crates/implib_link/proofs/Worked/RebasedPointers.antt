@@ -15,15 +15,15 @@ use Rattle.implib_link.specs.Flavors.Expansion.{descriptor_symbol_by_name, expan
 use Rattle.implib_link.specs.Flavors.SectionSymbols.{with_section_symbols}
 use Rattle.implib_link.specs.Gnu.Packed.{group_end, sections_end}
 use Rattle.implib_link.specs.Gnu.Program.{has_tables}
-use Rattle.implib_link.specs.Gnu.Rebased.{IsAtBase, IsRebased, Place, covers, moved_number}
+use Rattle.implib_link.specs.Gnu.Rebased.{IsRebased, Place, covers, moved_number}
 use Rattle.implib_link.specs.Worked.Calls.{given_on}
 use Rattle.implib_link.specs.Worked.Flavors.{both_inputs as flavor_inputs, flavor_bases_8, foo_input as msvc_input}
 use Rattle.implib_link.specs.Worked.Pages.{paging_at, paging_objects, paging_placed}
 use Rattle.implib_link.specs.Worked.Pointers.{loading_at, loading_flavors, loading_flavors_placed, loading_objects, loading_placed, tables_of}
 use Rattle.implib_link.specs.Worked.Programs.{both_inputs, foo_input, touching_4, touching_8}
 use Rattle.implib_link.specs.Worked.RebasedPointers.{WorkedPointerMove, WorkedPointerMoves, flavors_loading_memory, loading_memory, moved_memory, paging_memory}
-use Rattle.implib_link.proofs.Flavors.MovedPointers.{flavors_pointers_at_base}
-use Rattle.implib_link.proofs.Gnu.MovedPointers.{pages_at_base, pointers_at_base}
+use Rattle.implib_link.proofs.Worked.Relocated.{flavors_pointers_at_base}
+use Rattle.implib_link.proofs.Worked.Relocated.{pages_at_base, pointers_at_base}
 use Rattle.implib_link.proofs.Search.Lists.{contains_among}
 use Rattle.implib_link.proofs.Worked.Calls.{wide}
 use Rattle.implib_link.proofs.Worked.Flavors.{worked_flavors}
@@ -33,24 +33,30 @@ use Rattle.implib_link.proofs.Worked.Programs.{opened, worked_programs}
 use Rattle.implib_link.proofs.Worked.Rebased.{none_rebased}
 use Rattle.implib_link.proofs.Worked.RefusedLinks.{are_located, number}
 use Rattle.implib.proofs.Link.Ranges.{Among}
+use Rattle.implib_link.specs.Worked.Relocated.{CodesAtBase}
+use Rattle.implib_link.proofs.Worked.Relocated.{at_base_by}
 
-amd64_at : IsAtBase AMD64 0x1_4000_0000 0x7FF6_1234_0000 touching_8 (loading_objects AMD64) (loading_at AMD64 ∷ []) (tables_of (loading_placed AMD64 touching_8)) (loading_memory AMD64 0x1_4000_0000 touching_8)
+amd64_at : CodesAtBase AMD64 0x1_4000_0000 0x7FF6_1234_0000 touching_8 (loading_objects AMD64) (loading_at AMD64 ∷ []) (tables_of (loading_placed AMD64 touching_8)) (loading_memory AMD64 0x1_4000_0000 touching_8)
 unfolding opened alias_specs encoded_size weak_object has_tables
-amd64_at = record {
-  beside = worked_pointers.amd64.beside;
-  within = (tt, tt);
-  can = tt;
-  rebased = none_rebased 0x1_4000_0000 0x7FF6_1234_0000 (loading_memory AMD64 0x1_4000_0000 touching_8);
-}
+amd64_at =
+    at_base_by AMD64 0x1_4000_0000 0x7FF6_1234_0000 touching_8 (loading_objects AMD64) (loading_at AMD64 ∷ []) (tables_of (loading_placed AMD64 touching_8)) (loading_memory AMD64 0x1_4000_0000 touching_8)
+    (record {
+      beside = worked_pointers.amd64.beside;
+      within = (tt, tt);
+      can = tt;
+      rebased = none_rebased 0x1_4000_0000 0x7FF6_1234_0000 (loading_memory AMD64 0x1_4000_0000 touching_8);
+    })
 
-arm64_at : IsAtBase ARM64 0x1_4000_0000 0x7FF6_1234_0000 touching_8 (loading_objects ARM64) (loading_at ARM64 ∷ []) (tables_of (loading_placed ARM64 touching_8)) (loading_memory ARM64 0x1_4000_0000 touching_8)
+arm64_at : CodesAtBase ARM64 0x1_4000_0000 0x7FF6_1234_0000 touching_8 (loading_objects ARM64) (loading_at ARM64 ∷ []) (tables_of (loading_placed ARM64 touching_8)) (loading_memory ARM64 0x1_4000_0000 touching_8)
 unfolding opened alias_specs encoded_size weak_object has_tables
-arm64_at = record {
-  beside = worked_pointers.arm64.beside;
-  within = (tt, tt);
-  can = ((refl, refl), refl);
-  rebased = none_rebased 0x1_4000_0000 0x7FF6_1234_0000 (loading_memory ARM64 0x1_4000_0000 touching_8);
-}
+arm64_at =
+    at_base_by ARM64 0x1_4000_0000 0x7FF6_1234_0000 touching_8 (loading_objects ARM64) (loading_at ARM64 ∷ []) (tables_of (loading_placed ARM64 touching_8)) (loading_memory ARM64 0x1_4000_0000 touching_8)
+    (record {
+      beside = worked_pointers.arm64.beside;
+      within = (tt, tt);
+      can = ((refl, refl), refl);
+      rebased = none_rebased 0x1_4000_0000 0x7FF6_1234_0000 (loading_memory ARM64 0x1_4000_0000 touching_8);
+    })
 
 -- I386's field
 
@@ -78,14 +84,16 @@ i386_rebased = record {
       rw one.0 is;
 }
 
-i386_at : IsAtBase I386 0x40_0000 0x1000_0000 touching_4 (loading_objects I386) (loading_at I386 ∷ []) (tables_of (loading_placed I386 touching_4)) moved_memory
+i386_at : CodesAtBase I386 0x40_0000 0x1000_0000 touching_4 (loading_objects I386) (loading_at I386 ∷ []) (tables_of (loading_placed I386 touching_4)) moved_memory
 unfolding opened alias_specs encoded_size weak_object has_tables
-i386_at = record {
-  beside = worked_pointers.i386.beside;
-  within = ((omega arith, tt), tt);
-  can = omega arith;
-  rebased = i386_rebased;
-}
+i386_at =
+    at_base_by I386 0x40_0000 0x1000_0000 touching_4 (loading_objects I386) (loading_at I386 ∷ []) (tables_of (loading_placed I386 touching_4)) moved_memory
+    (record {
+      beside = worked_pointers.i386.beside;
+      within = ((omega arith, tt), tt);
+      can = omega arith;
+      rebased = i386_rebased;
+    })
 
 amd64 : WorkedPointerMove AMD64 0x1_4000_0000 0x7FF6_1234_0000 touching_8 (loading_memory AMD64 0x1_4000_0000 touching_8) [] (0x48 ∷ 0x8B ∷ 5 ∷ 0x7D ∷ 0xF0 ∷ 0xFF ∷ 0xFF ∷ []) 0x88
     (0x40 ∷ 0 ∷ 0 ∷ 0x10 ∷ 0 ∷ 0 ∷ 0 ∷ 0 ∷ [])
@@ -128,23 +136,27 @@ arm64 = record {
       arm64_at (wide ARM64) reads refl refl (0, omega arith, refl) worked_pointers.arm64.loads;
 }
 
-pages_at : IsAtBase ARM64 0x1_4000_0000 0x7FF6_1234_0000 touching_8 paging_objects (paging_at ∷ []) (tables_of paging_placed) paging_memory
+pages_at : CodesAtBase ARM64 0x1_4000_0000 0x7FF6_1234_0000 touching_8 paging_objects (paging_at ∷ []) (tables_of paging_placed) paging_memory
 unfolding opened alias_specs encoded_size weak_object has_tables
-pages_at = record {
-  beside = worked_pages.beside;
-  within = (tt, tt);
-  can = ((refl, refl), refl);
-  rebased = none_rebased 0x1_4000_0000 0x7FF6_1234_0000 paging_memory;
-}
+pages_at =
+    at_base_by ARM64 0x1_4000_0000 0x7FF6_1234_0000 touching_8 paging_objects (paging_at ∷ []) (tables_of paging_placed) paging_memory
+    (record {
+      beside = worked_pages.beside;
+      within = (tt, tt);
+      can = ((refl, refl), refl);
+      rebased = none_rebased 0x1_4000_0000 0x7FF6_1234_0000 paging_memory;
+    })
 
-flavors_at : IsAtBase AMD64 0x1_4000_0000 0x7FF6_1234_0000 flavor_bases_8 loading_flavors (loading_at AMD64 ∷ []) (tables_of loading_flavors_placed) flavors_loading_memory
+flavors_at : CodesAtBase AMD64 0x1_4000_0000 0x7FF6_1234_0000 flavor_bases_8 loading_flavors (loading_at AMD64 ∷ []) (tables_of loading_flavors_placed) flavors_loading_memory
 unfolding opened refusal renamed_refusal alias_specs encoded_size weak_object has_tables expanded_in short_import_in import_object descriptor_symbol_by_name with_section_symbols descriptor null_descriptor null_thunk descriptor_symbol null_descriptor_symbol null_thunk_symbol base_name descriptor_spec null_descriptor_spec null_thunk_spec header_specs weak_specs group_end sections_end
-flavors_at = record {
-  beside = worked_pointers.flavors_beside;
-  within = (tt, tt);
-  can = tt;
-  rebased = none_rebased 0x1_4000_0000 0x7FF6_1234_0000 flavors_loading_memory;
-}
+flavors_at =
+    at_base_by AMD64 0x1_4000_0000 0x7FF6_1234_0000 flavor_bases_8 loading_flavors (loading_at AMD64 ∷ []) (tables_of loading_flavors_placed) flavors_loading_memory
+    (record {
+      beside = worked_pointers.flavors_beside;
+      within = (tt, tt);
+      can = tt;
+      rebased = none_rebased 0x1_4000_0000 0x7FF6_1234_0000 flavors_loading_memory;
+    })
 
 pub worked_pointer_moves : WorkedPointerMoves
 unfolding opened refusal renamed_refusal alias_specs encoded_size weak_object has_tables expanded_in short_import_in import_object descriptor_symbol_by_name with_section_symbols descriptor null_descriptor null_thunk descriptor_symbol null_descriptor_symbol null_thunk_symbol base_name descriptor_spec null_descriptor_spec null_thunk_spec header_specs weak_specs group_end sections_end

@@ -27,7 +27,7 @@ use Rattle.implib_link.proofs.Worked.RefusedLinks.{are_located, differ, number}
 pub value : (a b : ℕ) → Some a ≡ Some b → a ≡ b
 value a b is = ap (λ o. or_else o 0) is
 
-absent : (memory : List Range) (a width n : ℕ) → byte_at memory a ≡ None → 0 < width → NumberAt memory width a n → ⊥
+pub absent : (memory : List Range) (a width n : ℕ) → byte_at memory a ≡ None → 0 < width → NumberAt memory width a n → ⊥
 absent memory a width n none long there =
     let count : length there.bytes ≡ width = there.count in
     let first = byte_first memory there.bytes a there.located (omega arith) in

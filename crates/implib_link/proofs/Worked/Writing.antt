@@ -1,4 +1,5 @@
 -- A loader that writes as it goes, by hand, by computing and by the law.
+use Rattle.implib_link.specs.Worked.Relocated.{linked_codes, as_placed}
 use Rattle.std.proofs.Common.{◌≡◌, ℕ, ◌+◌, ◌%◌, ◌^◌, ◌<◌, List, [], ◌∷◌, ◌++◌, length, map, None, Some, refl, ap, sym, ◌∙◌, subst, inl, inr, arith}
 use Rattle.implib.specs.declared.machine.MachineType.{MachineType}
 use Rattle.implib.specs.declared.machine.MachineType.TheVariants.{I386, ARMNT, AMD64, ARM64}
@@ -35,7 +36,7 @@ use Rattle.implib_link.specs.Worked.Writing.{WorkedWriting, WorkedWritings, give
 use Rattle.implib_link.proofs.Gnu.Filling.{all_filled, table_filled}
 use Rattle.implib_link.proofs.Gnu.MovedWriting.{writer_ends_at_base, writer_loads_at_base}
 use Rattle.implib_link.proofs.Gnu.Writing.{gnu_beside, gnu_long, keeps_itself, run_can, run_once, writer_loads}
-use Rattle.implib_link.proofs.Gnu.Moved.{image_kept}
+use Rattle.implib_link.proofs.CodeOfPrograms.{image_kept}
 use Rattle.implib_link.proofs.Gnu.Steady.{program_tables_none}
 use Rattle.implib_link.proofs.Flavors.MovedWriting.{flavors_writer_ends_at_base, flavors_writer_loads_at_base}
 use Rattle.implib_link.proofs.Flavors.Steady.{flavors_tables_none}
@@ -278,11 +279,11 @@ moved found after runs =
     let made = worked_programs.i386.made in
     let program : IsProgram I386 touching_4 (both_inputs I386) (calling_objects I386) = worked_moves.i386.program in
     let memory : List Range = i386_memory (0x60 ∷ 0 ∷ 0 ∷ 0x10 ∷ []) in
-    let keeps = image_kept I386 0x40_0000 0x1000_0000 touching_4 (calling_objects I386) (moving_codes I386 touching_4) (table_targets I386 touching_4) memory worked_moves.i386.at
+    let keeps = image_kept I386 0x40_0000 0x1000_0000 touching_4 (calling_objects I386) (linked_codes I386 0x40_0000 (table_targets I386 touching_4) (moving_codes I386 touching_4)) (as_placed (table_targets I386 touching_4)) memory worked_moves.i386.at
     (program_tables_none I386 touching_4 (both_inputs I386) (calling_objects I386) made program) in
     let same = run_once I386 touching_4 (calling_objects I386) program.admissible (imports I386) (gnu_long I386 touching_4 (both_inputs I386) (calling_objects I386) made program)
     (gnu_beside I386 touching_4 (both_inputs I386) (calling_objects I386) made program) (given_on I386) (wide I386) memory keeps found after runs in
-    let law = writer_loads_at_base I386 0x40_0000 0x1000_0000 touching_4 (both_inputs I386) (calling_objects I386) (moving_codes I386 touching_4) (table_targets I386 touching_4) memory (given_on I386) found after
+    let law = writer_loads_at_base I386 0x40_0000 0x1000_0000 touching_4 (both_inputs I386) (calling_objects I386) (linked_codes I386 0x40_0000 (table_targets I386 touching_4) (moving_codes I386 touching_4)) (as_placed (table_targets I386 touching_4)) memory (given_on I386) found after
     made program worked_moves.i386.at (wide I386) runs in
     let entries : List Range = law.1.0 in (
       law.0,
@@ -309,11 +310,11 @@ flavors_moved : (found : List Imported) (after : List Range) → WritesAsItGoes 
 flavors_moved found after runs =
     let made = worked_flavors.i386.made in
     let program : IsFlavorProgram I386 flavor_bases_4 (flavor_inputs I386) moving_flavors = worked_flavor_rebase.program in
-    let keeps = image_kept I386 0x40_0000 0x1000_0000 flavor_bases_4 moving_flavors (calling_at I386 0x1000 ∷ []) moving_targets moved_memory worked_flavor_rebase.at
+    let keeps = image_kept I386 0x40_0000 0x1000_0000 flavor_bases_4 moving_flavors (linked_codes I386 0x40_0000 moving_targets (calling_at I386 0x1000 ∷ [])) (as_placed moving_targets) moved_memory worked_flavor_rebase.at
     (flavors_tables_none I386 flavor_bases_4 (flavor_inputs I386) moving_flavors made program) in
     let same = run_once I386 flavor_bases_4 moving_flavors program.admissible moved_imports (flavors_long I386 flavor_bases_4 (flavor_inputs I386) moving_flavors made program)
     (flavors_beside I386 flavor_bases_4 (flavor_inputs I386) moving_flavors made program) (given_on I386) (wide I386) moved_memory keeps found after runs in
-    let law = flavors_writer_loads_at_base I386 0x40_0000 0x1000_0000 flavor_bases_4 (flavor_inputs I386) moving_flavors (calling_at I386 0x1000 ∷ []) moving_targets moved_memory (given_on I386) found after made program
+    let law = flavors_writer_loads_at_base I386 0x40_0000 0x1000_0000 flavor_bases_4 (flavor_inputs I386) moving_flavors (linked_codes I386 0x40_0000 moving_targets (calling_at I386 0x1000 ∷ [])) (as_placed moving_targets) moved_memory (given_on I386) found after made program
     worked_flavor_rebase.at (wide I386) runs in
     let entries : List Range = law.1.0 in (
       law.0,
@@ -345,13 +346,13 @@ worked_writings = record {
   not_given = not_given;
   never_stops = never_stops;
   moved = moved;
-  moved_end = writer_ends_at_base I386 0x40_0000 0x1000_0000 touching_4 (both_inputs I386) (calling_objects I386) (moving_codes I386 touching_4) (table_targets I386 touching_4) (i386_memory (0x60 ∷ 0 ∷ 0 ∷ 0x10 ∷ []))
+  moved_end = writer_ends_at_base I386 0x40_0000 0x1000_0000 touching_4 (both_inputs I386) (calling_objects I386) (linked_codes I386 0x40_0000 (table_targets I386 touching_4) (moving_codes I386 touching_4)) (as_placed (table_targets I386 touching_4)) (i386_memory (0x60 ∷ 0 ∷ 0 ∷ 0x10 ∷ []))
       (given_on I386) worked_programs.i386.made worked_moves.i386.program worked_moves.i386.at (wide I386);
   flavors = λ found after runs.
       (flavors_writer_loads AMD64 flavor_bases_8 (flavor_inputs AMD64) calling_flavors (given_on AMD64) found after worked_flavors.amd64.made flavors_program (wide AMD64) runs).0;
   flavors_end = flavors_writer_ends AMD64 flavor_bases_8 (flavor_inputs AMD64) calling_flavors (given_on AMD64) worked_flavors.amd64.made flavors_program (wide AMD64);
   flavors_moved = flavors_moved;
-  flavors_moved_end = flavors_writer_ends_at_base I386 0x40_0000 0x1000_0000 flavor_bases_4 (flavor_inputs I386) moving_flavors (calling_at I386 0x1000 ∷ []) moving_targets moved_memory (given_on I386)
+  flavors_moved_end = flavors_writer_ends_at_base I386 0x40_0000 0x1000_0000 flavor_bases_4 (flavor_inputs I386) moving_flavors (linked_codes I386 0x40_0000 moving_targets (calling_at I386 0x1000 ∷ [])) (as_placed moving_targets) moved_memory (given_on I386)
       worked_flavors.i386.made worked_flavor_rebase.program worked_flavor_rebase.at (wide I386);
   flavors_not_one = flavors_not_one;
 }

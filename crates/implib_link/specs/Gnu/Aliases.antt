@@ -7,7 +7,7 @@ use Rattle.implib.specs.Formats.Constants.{class_weak_external}
 use Rattle.implib.specs.Formats.Object.{ASymbol, Auxiliary, Entry, ObjectSymbol, u32_at}
 use Rattle.implib.specs.Link.Placement.{Placed}
 use Rattle.implib.specs.Link.Resolution.{definitions_of, first_address, is_undefined_external}
-use Rattle.implib_link.specs.Gnu.Calls.{PlacedCode}
+use Rattle.implib_link.specs.Gnu.Fields.{LinkedCode}
 
 -- the name of a symbol
 abbrev pub name_of : Entry → Option (List ℕ)
@@ -40,11 +40,11 @@ abbrev pub weak_target : List ℕ → List Placed → Option (List ℕ)
 weak_target name [] = None
 weak_target name (p ∷ linked) = first_of (weak_in name p.object.entries p.object.entries) (weak_target name linked)
 
--- A linker takes an undefined symbol of placed code, whose name nothing defines, to be where the target of
+-- A linker takes an undefined symbol of linked code, whose name nothing defines, to be where the target of
 -- its weak external is defined.
-abbrev pub ResolvesAliases : List Placed → List PlacedCode → (PlacedCode → ℕ → ℕ) → Type 0
+abbrev pub ResolvesAliases : List Placed → List LinkedCode → (LinkedCode → ℕ → ℕ) → Type 0
 ResolvesAliases linked codes targets =
-    (c : PlacedCode) (index address : ℕ) (s : ObjectSymbol) (target : List ℕ) → Contains codes c →
+    (c : LinkedCode) (index address : ℕ) (s : ObjectSymbol) (target : List ℕ) → Contains codes c →
     slice_get c.from.object.entries index ≡ Some (ASymbol s) → is_undefined_external s ≡ true →
     definitions_of s.name linked ≡ [] → weak_target s.name linked ≡ Some target →
     first_address (definitions_of target linked) ≡ Some address → targets c index ≡ address

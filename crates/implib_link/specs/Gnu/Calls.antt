@@ -1,19 +1,19 @@
 -- Calls of imports in the code of any object that is linked: by the import's entry of the address table, or by
 -- its stub. Addresses of code count from the image's base.
-use Rattle.std.specs.Prelude.{◌≡◌, ℕ, ◌+◌, ◌-◌, ◌*◌, ◌/◌, ◌%◌, ◌^◌, ◌<◌, ◌≤◌, ◌⊎◌, ◌&&◌, ◌==◌, true, List, [], ◌∷◌, ◌++◌, bytes_eq, length, map, slice_get, take, Option, Some, None, if◌then◌else◌}
+use Rattle.std.specs.Prelude.{◌≡◌, ℕ, ◌+◌, ◌*◌, ◌%◌, ◌^◌, ◌<◌, ◌≤◌, ◌⊎◌, ◌&&◌, ◌==◌, true, List, [], ◌∷◌, ◌++◌, bytes_eq, length, map, slice_get, take, Option, Some, None, if◌then◌else◌}
 use Rattle.std.specs.List.{AllByRecursion, Contains}
 use Rattle.implib.specs.declared.coff.object.Relocation.{Relocation}
 use Rattle.implib.specs.declared.machine.MachineType.{MachineType}
 use Rattle.implib.specs.declared.machine.MachineType.TheVariants.{I386, ARMNT, AMD64, ARM64}
 use Rattle.implib.specs.Formats.Constants.{amd64_rel32, arm64_pagebase_rel21, arm64_pageoffset_12l, i386_dir32}
 use Rattle.implib.specs.Formats.File.{is_defined_external}
-use Rattle.implib.specs.Formats.Object.{ASymbol, Entry, Object, ObjectSection, ObjectSymbol, section_numbered}
+use Rattle.implib.specs.Formats.Object.{ASymbol, Entry, ObjectSection, ObjectSymbol}
 use Rattle.implib.specs.Members.Gnu.{stub_bytes}
-use Rattle.implib.specs.Link.Image.{AllApart, Range, image_of}
+use Rattle.implib.specs.Link.Image.{Range}
 use Rattle.implib.specs.Link.Load.{BytesAt}
-use Rattle.implib.specs.Link.Placement.{Bases, Placed, placed_from}
+use Rattle.implib.specs.Link.Placement.{Placed}
 use Rattle.implib.specs.Link.Resolution.{is_undefined_external, symbol_address}
-use Rattle.implib_link.specs.Stub.{adrp_immediate, bits_of, code_word, jump_reads, ldr_immediate, page, plus_signed, with_adrp, with_bits, with_word, word_at}
+use Rattle.implib_link.specs.Stub.{adrp_immediate, bits_of, jump_reads, ldr_immediate, page, plus_signed, with_adrp, with_bits, word_at}
 
 -- a section of a placed object, by its number, which counts from 1, with the address of its code
 pub record PlacedCode : Type 0 where
@@ -30,41 +30,6 @@ i386_rel32 = 0x14
 -- ARM64's relocation of a branch by 26 bits, which count in words from the branch itself (IMAGE_REL_ARM64_BRANCH26)
 abbrev pub arm64_branch26 : ℕ
 arm64_branch26 = 3
-
--- a word that a relocation changes in code: as in a stub's, on I386 relative to the byte after the field too, and
--- on ARM64 in a branch
-abbrev pub word_in_code : MachineType → ℕ → ℕ → ℕ → ℕ → ℕ → ℕ
-word_in_code I386 type image_base position target word =
-    if type == i386_rel32 then (word + target + (2 ^ 32 - (position + 4) % 2 ^ 32)) % 2 ^ 32
-    else code_word I386 type image_base position target word
-word_in_code ARMNT type image_base position target word =
-    code_word ARMNT type image_base position target word
-word_in_code AMD64 type image_base position target word =
-    code_word AMD64 type image_base position target word
-word_in_code ARM64 type image_base position target word =
-    if type == arm64_branch26
-    then with_bits 0 26 (bits_of 0 26 word + (target + (2 ^ 28 - position % 2 ^ 28)) / 4) word
-    else code_word ARM64 type image_base position target word
-
--- The bytes of code at an address, relocated by the addresses that a linker takes for the symbols of its
--- object, by their indices (PE/COFF specification, "COFF Relocations").
-abbrev pub code_relocated_by : MachineType → ℕ → (ℕ → ℕ) → ℕ → List Relocation → List ℕ → List ℕ
-code_relocated_by machine image_base targets position [] bytes = bytes
-code_relocated_by machine image_base targets position (r ∷ relocations) bytes =
-    code_relocated_by machine image_base targets position relocations
-    (with_word bytes r.offset
-    (word_in_code machine r.kind image_base (position + r.offset) (targets r.symbol) (word_at bytes r.offset)))
-
--- the range of the code, relocated
-abbrev pub code_range : MachineType → ℕ → (PlacedCode → ℕ → ℕ) → PlacedCode → Range
-code_range machine image_base targets c = record {
-  start = c.position;
-  bytes = code_relocated_by machine image_base (targets c) c.position c.code.relocations c.code.bytes;
-}
-
--- the ranges of several codes
-abbrev pub code_ranges : MachineType → ℕ → (PlacedCode → ℕ → ℕ) → List PlacedCode → List Range
-code_ranges machine image_base targets codes = map (code_range machine image_base targets) codes
 
 -- code defines a symbol: it is an external of its object, in this section
 pub record Defines (c : PlacedCode) (t : ObjectSymbol) : Type 0 where
@@ -84,17 +49,6 @@ pub record Resolves (linked : List Placed) (codes : List PlacedCode) (targets : 
   pub code : (c d : PlacedCode) (index : ℕ) (s t : ObjectSymbol) → Contains codes c → Contains codes d →
       slice_get c.from.object.entries index ≡ Some (ASymbol s) → is_undefined_external s ≡ true →
       Defines d t → t.name ≡ s.name → targets c index ≡ d.position + t.value
-
--- Code that is placed beside the import tables: sections of objects that are linked, each ending 16 bytes
--- below 2^31 at least, relocated by what a linker takes for their symbols; no address is in two ranges.
-pub record AreBeside (machine : MachineType) (image_base : ℕ) (bases : Bases) (objects : List Object)
-    (codes : List PlacedCode) (targets : PlacedCode → ℕ → ℕ) : Type 0 where
-  pub held : AllByRecursion (λ c. Contains (placed_from bases objects) c.from) codes
-  pub sections : AllByRecursion (λ c. section_numbered c.from.object.sections c.number ≡ Some c.code) codes
-  pub ends : AllByRecursion (λ c. c.position + length c.code.bytes + 16 ≤ 2 ^ 31) codes
-  pub apart : AllApart (image_of machine bases (placed_from bases objects)
-      ++ code_ranges machine image_base targets codes)
-  pub resolved : Resolves (placed_from bases objects) codes targets
 
 -- a relocation so much further on
 abbrev pub moved_by : ℕ → Relocation → Relocation

@@ -8,7 +8,7 @@ use Rattle.implib.specs.Link.Image.{AllApart, Range, image_of}
 use Rattle.implib.specs.Link.Placement.{Bases, Placed, placed_from}
 use Rattle.implib.specs.Link.Resolution.{is_undefined_external, symbol_address}
 use Rattle.implib_link.specs.Gnu.Calls.{Defines, PlacedCode}
-use Rattle.implib_link.specs.Gnu.Rebased.{Place, code_places, covers}
+use Rattle.implib_link.specs.Gnu.Rebased.{Place, covers}
 
 -- the range of code before its relocation
 abbrev pub plain_range : PlacedCode → Range
@@ -41,10 +41,3 @@ ArePlacesApart [] = Unit {0}
 ArePlacesApart (p ∷ places) =
     AllByRecursion (λ q. (address : ℕ) → covers address p ≡ true → covers address q ≡ true → ⊥) places
     × ArePlacesApart places
-
--- The base relocations of each section are within it, and no two of them have an address in common.
-pub record CanBeRebased (machine : MachineType) (codes : List PlacedCode) : Type 0 where
-  pub within : AllByRecursion
-      (λ c. AllByRecursion (λ p. p.address + p.width ≤ c.position + length c.code.bytes) (code_places machine c))
-      codes
-  pub apart : AllByRecursion (λ c. ArePlacesApart (code_places machine c)) codes

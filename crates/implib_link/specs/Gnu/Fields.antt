@@ -9,10 +9,10 @@ use Rattle.implib.specs.declared.machine.MachineType.{MachineType}
 use Rattle.implib.specs.declared.machine.MachineType.TheVariants.{I386, ARMNT, AMD64, ARM64}
 use Rattle.implib.specs.Formats.Constants.{amd64_rel32, arm64_pagebase_rel21, arm64_pageoffset_12l, i386_dir32}
 use Rattle.implib.specs.Formats.File.{is_defined_external}
-use Rattle.implib.specs.Formats.Object.{ASymbol, Entry, ObjectSection, ObjectSymbol, section_numbered}
-use Rattle.implib.specs.Link.Image.{AllApart, Range}
+use Rattle.implib.specs.Formats.Object.{ASymbol, Entry, Object, ObjectSection, ObjectSymbol, section_numbered}
+use Rattle.implib.specs.Link.Image.{AllApart, Range, image_of}
 use Rattle.implib.specs.Link.Load.{number_in}
-use Rattle.implib.specs.Link.Placement.{Placed}
+use Rattle.implib.specs.Link.Placement.{Bases, Placed, placed_from}
 use Rattle.implib.specs.Link.Resolution.{is_undefined_external, symbol_address}
 use Rattle.implib_link.specs.Gnu.Calls.{PlacedCode, amd64_addr64, arm64_addr64, arm64_branch26, field_width, i386_rel32}
 use Rattle.implib_link.specs.Stub.{adrp_immediate, bits_of, ldr_immediate, page, with_adrp, with_bits}
@@ -130,6 +130,12 @@ pub record AreLinkedBeside (machine : MachineType) (image_base : ℕ) (image : L
   pub apart : AllApart (image ++ ranges_of_codes codes)
   pub relocated : AllByRecursion (λ c. IsRelocated machine image_base (targets c) c.position c.code c.bytes) codes
   pub resolved : TakesSymbols linked codes targets
+
+-- code that is linked beside the import tables of a program
+abbrev pub AreBeside : MachineType → ℕ → Bases → List Object → List LinkedCode → (LinkedCode → ℕ → ℕ) → Type 0
+AreBeside machine image_base bases objects codes targets =
+    AreLinkedBeside machine image_base (image_of machine bases (placed_from bases objects)) (placed_from bases objects)
+    codes targets
 
 -- linked code without its linked bytes
 abbrev pub placed_code : LinkedCode → PlacedCode

@@ -143,25 +143,29 @@ pub record PointerArrives (machine : MachineType) (image_base : ℕ) (linked : L
   pub there : NumberAt memory (thunk_width machine) address (image_base + entry)
   pub located : BytesAt memory entry bytes
 
--- Every field of linked code against a name leads to its only definition, and there are these bytes:
+-- Every field of linked code against a name leads to the only definition of another, and there are these bytes:
 -- `operands`, `instructions`: by I386's and AMD64's operands, alone and in their instructions;
 -- `pairs`: by the page and the offset of ARM64's two instructions;
 -- `pointers`: by addresses stored whole, where the image is below 2^64.
-pub record AllLead (machine : MachineType) (image_base : ℕ) (linked : List Placed) (codes : List LinkedCode)
-    (memory : List Range) (name bytes : List ℕ) : Type 0 where
+pub record AllLeadTo (machine : MachineType) (image_base : ℕ) (linked : List Placed) (codes : List LinkedCode)
+    (memory : List Range) (called name bytes : List ℕ) : Type 0 where
   pub operands : (c : LinkedCode) (offset after : ℕ) → Contains codes c →
-      HasOperand machine c offset after name →
+      HasOperand machine c offset after called →
       OperandArrives machine image_base linked memory (c.position + offset) after name bytes
   pub instructions : (c : LinkedCode) (offset : ℕ) (head tail : List ℕ) → Contains codes c →
-      HasInstruction machine c offset head tail name →
+      HasInstruction machine c offset head tail called →
       InstructionArrives machine image_base linked memory (c.position + offset) head tail name bytes
   pub pairs : (c d : LinkedCode) (first second : ℕ) → machine ≡ ARM64 → Contains codes c → Contains codes d →
-      HasPageField c first name → HasOffsetField d second name →
+      HasPageField c first called → HasOffsetField d second called →
       PairArrives image_base linked memory (c.position + first) (d.position + second)
       (field_at c.code.bytes first 4) (field_at d.code.bytes second 4) name bytes
   pub pointers : (c : LinkedCode) (offset : ℕ) → image_base + 2 ^ 31 ≤ 2 ^ 64 → Contains codes c →
-      HasPointer machine c offset name →
+      HasPointer machine c offset called →
       PointerArrives machine image_base linked memory (c.position + offset) name bytes
+
+-- every field of linked code against a name leads to its only definition, and there are these bytes
+abbrev pub AllLead : MachineType → ℕ → List Placed → List LinkedCode → List Range → List ℕ → List ℕ → Type 0
+AllLead machine image_base linked codes memory name bytes = AllLeadTo machine image_base linked codes memory name name bytes
 
 -- bytes of linked code that no relocation meets are in memory as they were in the object
 abbrev pub AreKept : MachineType → List LinkedCode → List Range → Type 0

@@ -1,18 +1,18 @@
 -- A program at another base than the one that it was linked for: its base relocations, and what a loader makes
 -- of them (PE/COFF specification, "The .reloc Section"). Addresses count from the image's base.
-use Rattle.std.specs.Prelude.{◌≡◌, ℕ, ◌+◌, ◌-◌, ◌*◌, ◌%◌, ◌^◌, ◌≤◌, Bool, ◌&&◌, ◌==◌, nat_le, nat_lt, false, List, [], ◌∷◌, ◌++◌, length, Option, Some, None, if◌then◌else◌}
-use Rattle.std.specs.List.{AllByRecursion, Contains, filter_map, flat_map, list_any}
+use Rattle.std.specs.Prelude.{◌≡◌, ℕ, ◌+◌, ◌-◌, ◌*◌, ◌%◌, ◌^◌, Bool, ◌&&◌, ◌==◌, nat_le, nat_lt, false, List, [], ◌∷◌, ◌++◌, length, Option, Some, None, if◌then◌else◌}
+use Rattle.std.specs.List.{Contains, filter_map, flat_map, list_any}
 use Rattle.std.specs.Option.{option_map}
 use Rattle.implib.specs.declared.coff.object.Relocation.{Relocation}
 use Rattle.implib.specs.declared.machine.MachineType.{MachineType}
 use Rattle.implib.specs.declared.machine.MachineType.TheVariants.{I386, ARMNT, AMD64, ARM64}
 use Rattle.implib.specs.Formats.Constants.{i386_dir32}
-use Rattle.implib.specs.Formats.Object.{Object, ObjectSection}
-use Rattle.implib.specs.Link.Image.{Range, byte_at, image_of}
+use Rattle.implib.specs.Formats.Object.{ObjectSection}
+use Rattle.implib.specs.Link.Image.{Range, byte_at}
 use Rattle.implib.specs.Link.Load.{BytesAt, NumberAt}
-use Rattle.implib.specs.Link.Placement.{At, Bases, Placed, SectionAddress, Unplaced, placed_from}
+use Rattle.implib.specs.Link.Placement.{At, Bases, Placed, SectionAddress, Unplaced}
 use Rattle.implib.specs.Members.Gnu.{stub_bytes}
-use Rattle.implib_link.specs.Gnu.Calls.{AreBeside, PlacedCode, amd64_addr64, arm64_addr64, code_ranges}
+use Rattle.implib_link.specs.Gnu.Calls.{amd64_addr64, arm64_addr64}
 use Rattle.implib_link.specs.Stub.{CanJump, jump_reads}
 
 -- AMD64's and ARM64's relocations by 32 bits that store an address whole ("Type Indicators")
@@ -60,15 +60,6 @@ abbrev pub table_places : MachineType → List Placed → List Place
 table_places machine linked =
     flat_map (λ p. table_places_in machine p.section_addresses p.object.sections) linked
 
--- those of placed code
-abbrev pub code_places : MachineType → PlacedCode → List Place
-code_places machine c = places_at machine c.position c.code.relocations
-
--- The base relocations of a program: where relocations of its sections store addresses whole, in the import
--- tables and in the code beside them.
-abbrev pub base_relocations : MachineType → List Placed → List PlacedCode → List Place
-base_relocations machine linked codes = table_places machine linked ++ flat_map (code_places machine) codes
-
 -- whether an address is in a place
 abbrev pub covers : ℕ → Place → Bool
 covers address p = nat_le p.address address && nat_lt address (p.address + p.width)
@@ -95,21 +86,6 @@ CanMove I386 from to bases = CanJump I386 to bases
 CanMove ARMNT from to bases = ⊥
 CanMove AMD64 from to bases = CanJump AMD64 to bases
 CanMove ARM64 from to bases = CanJump ARM64 to bases × (from % 4096 ≡ to % 4096)
-
--- A program that was linked for one base is in memory at another:
--- `beside`: its code was placed beside its import tables, and relocated for the first base;
--- `within`: each base relocation of code is within the code;
--- `can`: the machine can read entries at the second base;
--- `rebased`: its base relocations were applied, and nothing else.
-pub record IsAtBase (machine : MachineType) (from to : ℕ) (bases : Bases) (objects : List Object)
-    (codes : List PlacedCode) (targets : PlacedCode → ℕ → ℕ) (memory : List Range) : Type 0 where
-  pub beside : AreBeside machine from bases objects codes targets
-  pub within : AllByRecursion
-      (λ c. AllByRecursion (λ p. p.address + p.width ≤ c.position + length c.code.bytes) (code_places machine c))
-      codes
-  pub can : CanMove machine from to bases
-  pub rebased : IsRebased from to (base_relocations machine (placed_from bases objects) codes)
-      (image_of machine bases (placed_from bases objects) ++ code_ranges machine from targets codes) memory
 
 -- At an address of memory is a stub, by the bytes that are there, and where its jump reads its target are these
 -- bytes: say, the address of a DLL's function.

@@ -1,6 +1,7 @@
 -- Calls and pointers by an alias, by hand: a program as in Worked/Calls on AMD64, whose code calls through
 -- `__imp_opened` and reads a pointer through it, with the weak external that makes this an alias of
 -- `__imp_open`; and a program of both flavours with such code.
+use Rattle.implib_link.specs.Gnu.Fields.{LinkedCode, TakesSymbols}
 use Rattle.std.specs.Prelude.{◌≡◌, ℕ, List, [], ◌∷◌, ◌++◌, codes, map, Some, None}
 use Rattle.implib.specs.declared.machine.MachineType.TheVariants.{AMD64}
 use Rattle.implib.specs.Formats.Constants.{class_external}
@@ -14,14 +15,15 @@ use Rattle.implib.specs.Members.WeakExternal.{weak_object}
 use Rattle.implib_link.specs.Directory.{imported}
 use Rattle.implib_link.specs.Flavors.Program.{IsFlavorProgram, imported_in, objects_taken}
 use Rattle.implib_link.specs.Gnu.Aliases.{ResolvesAliases, weak_target}
-use Rattle.implib_link.specs.Gnu.Calls.{AreBeside, CallArrives, HasCall, PlacedCode, call_reads, code_range, code_ranges}
+use Rattle.implib_link.specs.Gnu.Calls.{CallArrives, HasCall, PlacedCode, call_reads}
 use Rattle.implib_link.specs.Gnu.Loaded.{Writes}
 use Rattle.implib_link.specs.Gnu.Pointers.{HasLoad, LoadArrives, load_reads}
 use Rattle.implib_link.specs.Gnu.Program.{IsProgram, null_descriptor}
 use Rattle.implib_link.specs.Worked.Calls.{calling, calling_code, first_bytes, given_on, last_bytes}
 use Rattle.implib_link.specs.Worked.Flavors.{both_inputs as flavor_inputs, flavor_bases_8, members_with_null}
-use Rattle.implib_link.specs.Worked.Pointers.{loading, loading_code}
+use Rattle.implib_link.specs.Worked.Pointers.{loading, loading_code, loading_at, tables_of}
 use Rattle.implib_link.specs.Worked.Programs.{another, both_inputs, foo_input, input_objects, symbol_of_class, touching_8, zed_input}
+use Rattle.implib_link.specs.Worked.Relocated.{CodesBeside, as_placed, code_range, code_ranges, linked_codes, linked_by}
 
 -- the alias and its target
 abbrev pub opened_name : List ℕ
@@ -88,8 +90,9 @@ alias_memory bases objects address written =
 -- at what foo.dll gives for `open`, and the pointer that is read at 0x1014 is this, too.
 pub record WorkedAlias : Type 0 where
   pub program : IsProgram AMD64 touching_8 (both_inputs AMD64) alias_objects
-  pub beside : AreBeside AMD64 0x1_4000_0000 touching_8 alias_objects alias_codes (all_at 0x80)
-  pub resolves : ResolvesAliases alias_placed alias_codes (all_at 0x80)
+  pub beside : CodesBeside AMD64 0x1_4000_0000 touching_8 alias_objects alias_codes (all_at 0x80)
+  pub resolves : ResolvesAliases alias_placed (linked_codes AMD64 0x1_4000_0000 (all_at 0x80) alias_codes)
+      (as_placed (all_at 0x80))
   pub undefined : definitions_of opened_name alias_placed ≡ []
   pub weak : weak_target opened_name alias_placed ≡ Some (imp_symbol (codes "open"))
   -- another name is weak for nothing, and the target itself is
@@ -140,8 +143,9 @@ opened_placed = placed_from flavor_bases_8 opened_flavors
 -- call at 0x1004 arrives at what foo.dll gives for `open`, and the pointer that is read at 0x1014 is this, too.
 pub record WorkedFlavorAlias : Type 0 where
   pub program : IsFlavorProgram AMD64 flavor_bases_8 (flavor_inputs AMD64) opened_flavors
-  pub beside : AreBeside AMD64 0x1_4000_0000 flavor_bases_8 opened_flavors alias_codes (all_at 0x88)
-  pub resolves : ResolvesAliases opened_placed alias_codes (all_at 0x88)
+  pub beside : CodesBeside AMD64 0x1_4000_0000 flavor_bases_8 opened_flavors alias_codes (all_at 0x88)
+  pub resolves : ResolvesAliases opened_placed (linked_codes AMD64 0x1_4000_0000 (all_at 0x88) alias_codes)
+      (as_placed (all_at 0x88))
   pub undefined : definitions_of opened_name opened_placed ≡ []
   pub weak : weak_target opened_name opened_placed ≡ Some (imp_symbol (codes "open"))
   pub calls : HasCall AMD64 alias_at 4 opened_name
@@ -168,4 +172,29 @@ pub record WorkedFlavorAlias : Type 0 where
       (0x40 ∷ 0 ∷ 0 ∷ 0x10 ∷ 0 ∷ 0 ∷ 0 ∷ 0 ∷ [])
   -- weak for `__imp_stat`, whose entry is at 0x90, it is not at 0x88
   pub astray : ResolvesAliases (placed_from flavor_bases_8 (alias_flavors (imp_symbol (codes "stat"))))
-      alias_codes (all_at 0x88) → ⊥
+      (linked_codes AMD64 0x1_4000_0000 (all_at 0x88) alias_codes) (as_placed (all_at 0x88)) → ⊥
+
+-- A name that is weak for another and defined, too: what is linked is the code of Worked/Pointers, which reads a pointer
+-- through `__imp_stat`, a weak external that would make this an alias of `__imp_open`, and the members.
+abbrev pub overridden_objects : List Object
+overridden_objects =
+    loading AMD64
+    ∷ (object_of (weak_object AMD64 (imp_symbol (codes "stat")) (imp_symbol (codes "open")))
+    ∷ (input_objects AMD64 (foo_input AMD64) ++ (input_objects AMD64 (zed_input AMD64) ++ null_descriptor ∷ [])))
+
+abbrev pub overridden_placed : List Placed
+overridden_placed = placed_from touching_8 overridden_objects
+
+abbrev pub overridden_code : LinkedCode
+overridden_code = linked_by AMD64 0x1_4000_0000 (tables_of overridden_placed) (loading_at AMD64)
+
+-- The definition counts: `__imp_stat` is its own entry at 0x88, where its target is at 0x80.
+pub record OverriddenAlias : Type 0 where
+  pub weak : weak_target (imp_symbol (codes "stat")) overridden_placed ≡ Some (imp_symbol (codes "open"))
+  pub defined : definitions_of (imp_symbol (codes "stat")) overridden_placed
+      ≡ record { name = imp_symbol (codes "stat"); address = Some 0x88 } ∷ []
+  pub target : definitions_of (imp_symbol (codes "open")) overridden_placed
+      ≡ record { name = imp_symbol (codes "open"); address = Some 0x80 } ∷ []
+  pub resolves : ResolvesAliases overridden_placed (overridden_code ∷ []) (λ c index. 0x88)
+  pub taken : (targets : LinkedCode → ℕ → ℕ) → TakesSymbols overridden_placed (overridden_code ∷ []) targets →
+      targets overridden_code 1 ≡ 0x88

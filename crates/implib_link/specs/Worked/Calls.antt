@@ -17,13 +17,14 @@ use Rattle.implib.specs.Members.Gnu.{section, stub_bytes, stub_relocations, text
 use Rattle.implib.specs.Members.ImportTables.{thunk_width, zeros}
 use Rattle.implib_link.specs.Directory.{imported}
 use Rattle.implib_link.specs.Flavors.Program.{IsFlavorProgram, IsMadeFor, imported_in, objects_taken}
-use Rattle.implib_link.specs.Gnu.Calls.{AreBeside, CallArrives, Defines, DirectCallArrives, HasCall, HasDirectCall, PlacedCode, call_bytes, call_reads, call_relocations, code_range, code_ranges, direct_bytes, direct_leads, direct_relocations, moved_by}
+use Rattle.implib_link.specs.Gnu.Calls.{CallArrives, Defines, DirectCallArrives, HasCall, HasDirectCall, PlacedCode, call_bytes, call_reads, call_relocations, direct_bytes, direct_leads, direct_relocations, moved_by}
 use Rattle.implib_link.specs.Gnu.Loaded.{Writes}
 use Rattle.implib_link.specs.Gnu.Program.{IsProgram, null_descriptor}
 use Rattle.implib_link.specs.Gnu.Reading.{ReadsAndWrites}
 use Rattle.implib_link.specs.Stub.{CanJump, jump_reads}
 use Rattle.implib_link.specs.Worked.Flavors.{both_inputs as flavor_inputs, flavor_bases_8, flavor_image, members_with_null}
 use Rattle.implib_link.specs.Worked.Programs.{another, both_inputs, foo_input, input_objects, program_image, symbol_of_class, symbol_on, touching_4, touching_8, zed_input}
+use Rattle.implib_link.specs.Worked.Relocated.{CodesBeside, code_range, code_ranges}
 
 -- what a function of a machine begins with, 4 bytes: I386 four `nop`; AMD64 `sub rsp, 40`; ARM64
 -- `stp x29, x30, [sp, -16]!`
@@ -110,7 +111,7 @@ pub record WorkedCall (machine : MachineType) (image_base : ℕ) (bases : Bases)
   pub made : AllByRecursion (IsMade machine) (both_inputs machine)
   pub program : IsProgram machine bases (both_inputs machine) (calling_objects machine)
   pub can : CanJump machine image_base bases
-  pub beside : AreBeside machine image_base bases (calling_objects machine) (calling_at machine 0x1000 ∷ [])
+  pub beside : CodesBeside machine image_base bases (calling_objects machine) (calling_at machine 0x1000 ∷ [])
       (table_targets machine bases)
   pub calls : HasCall machine (calling_at machine 0x1000) 4 (imp_symbol (symbol_on machine (codes "open")))
   pub bytes : (code_range machine image_base (table_targets machine bases) (calling_at machine 0x1000)).bytes
@@ -134,7 +135,7 @@ pub record WorkedCalls : Type 0 where
       (0xF0 ∷ 0xFF ∷ 0xFF ∷ 0xF0 ∷ 0x10 ∷ 0x42 ∷ 0x40 ∷ 0xF9 ∷ 0 ∷ 2 ∷ 0x3F ∷ 0xD6 ∷ []) 0x80
       (0x40 ∷ 0 ∷ 0 ∷ 0x10 ∷ 0 ∷ 0 ∷ 0 ∷ 0 ∷ [])
   -- code at 0x78, over the address tables, is not beside them
-  pub refused : AreBeside AMD64 0x1_4000_0000 touching_8 (calling_objects AMD64) (calling_at AMD64 0x78 ∷ [])
+  pub refused : CodesBeside AMD64 0x1_4000_0000 touching_8 (calling_objects AMD64) (calling_at AMD64 0x78 ∷ [])
       (table_targets AMD64 touching_8) → ⊥
 
 -- what is linked of both flavours: the calling object, what the members of foo.dll for Microsoft's linker, its
@@ -154,7 +155,7 @@ flavor_targets c index = target_address flavors_placed c.from index
 pub record WorkedFlavorCall : Type 0 where
   pub made : AllByRecursion (IsMadeFor AMD64) (flavor_inputs AMD64)
   pub program : IsFlavorProgram AMD64 flavor_bases_8 (flavor_inputs AMD64) calling_flavors
-  pub beside : AreBeside AMD64 0x1_4000_0000 flavor_bases_8 calling_flavors (calling_at AMD64 0x1000 ∷ []) flavor_targets
+  pub beside : CodesBeside AMD64 0x1_4000_0000 flavor_bases_8 calling_flavors (calling_at AMD64 0x1000 ∷ []) flavor_targets
   -- call [rip - 0xF82]
   pub bytes : (code_range AMD64 0x1_4000_0000 flavor_targets (calling_at AMD64 0x1000)).bytes
       ≡ first_bytes AMD64 ++ (0xFF ∷ 0x15 ∷ 0x7E ∷ 0xF0 ∷ 0xFF ∷ 0xFF ∷ last_bytes AMD64)
@@ -232,7 +233,7 @@ direct_targets c index = open_targets direct_placed c index
 -- bytes; the call leads to 0x1010, the jump there reads 0x80, and the call arrives at what foo.dll gives for `open`.
 pub record WorkedDirectCall : Type 0 where
   pub program : IsProgram AMD64 touching_8 (both_inputs AMD64) direct_objects
-  pub beside : AreBeside AMD64 0x1_4000_0000 touching_8 direct_objects (direct_at ∷ stub_at ∷ []) direct_targets
+  pub beside : CodesBeside AMD64 0x1_4000_0000 touching_8 direct_objects (direct_at ∷ stub_at ∷ []) direct_targets
   pub defines : Defines stub_at (symbol_of_class (codes "open") 1 class_external)
   pub calls : HasDirectCall AMD64 direct_at 4 (codes "open")
   -- call +7

@@ -1,9 +1,10 @@
 -- What objects claim, and direct calls, with every number written out: a second statement of both.
+use Rattle.implib_link.specs.Worked.Relocated.{code_relocated_by}
 use Rattle.std.specs.Prelude.{◌≡◌, ℕ, List, [], ◌∷◌, codes, Some}
 use Rattle.implib.specs.declared.coff.object.Relocation.{Relocation}
 use Rattle.implib.specs.declared.machine.MachineType.TheVariants.{I386, AMD64, ARM64}
 use Rattle.implib.specs.Formats.Object.{Object, ObjectSymbol}
-use Rattle.implib_link.specs.Gnu.Calls.{CanBranch, code_relocated_by, direct_leads, direct_relocations}
+use Rattle.implib_link.specs.Gnu.Calls.{CanBranch, direct_leads, direct_relocations}
 use Rattle.implib_link.specs.Gnu.Program.{claimed_names}
 use Rattle.implib_link.specs.Worked.Programs.{code_object, symbol_of_class}
 

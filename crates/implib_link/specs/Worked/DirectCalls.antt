@@ -10,15 +10,16 @@ use Rattle.implib.specs.Link.Placement.{Placed, Unplaced, placed_from}
 use Rattle.implib.specs.Members.Gnu.{section, stub_bytes, stub_relocations, text_name}
 use Rattle.implib_link.specs.Directory.{imported}
 use Rattle.implib_link.specs.Flavors.Program.{IsFlavorProgram, imported_in, objects_taken}
-use Rattle.implib_link.specs.Gnu.Calls.{AreBeside, CanBranch, Defines, DirectCallArrives, HasDirectCall, PlacedCode, code_range, code_ranges, direct_bytes, direct_leads, direct_relocations, moved_by}
+use Rattle.implib_link.specs.Gnu.Calls.{CanBranch, Defines, DirectCallArrives, HasDirectCall, PlacedCode, direct_bytes, direct_leads, direct_relocations, moved_by}
 use Rattle.implib_link.specs.Gnu.Loaded.{Writes}
 use Rattle.implib_link.specs.Gnu.Program.{IsProgram, null_descriptor}
 use Rattle.implib_link.specs.Gnu.Reading.{ReadsAndWrites}
-use Rattle.implib_link.specs.Gnu.Rebased.{IsAtBase, StubArrives}
+use Rattle.implib_link.specs.Gnu.Rebased.{StubArrives}
 use Rattle.implib_link.specs.Stub.{jump_reads}
 use Rattle.implib_link.specs.Worked.Calls.{calling, direct_calling, direct_at, first_bytes, given_on, last_bytes, open_targets, placed_or_empty}
 use Rattle.implib_link.specs.Worked.Flavors.{both_inputs as flavor_inputs, flavor_bases_8, members_with_null}
 use Rattle.implib_link.specs.Worked.Programs.{another, both_inputs, foo_input, input_objects, symbol_of_class, touching_8, zed_input}
+use Rattle.implib_link.specs.Worked.Relocated.{CodesAtBase, CodesBeside, code_range, code_ranges}
 
 -- `stp x29, x30, [sp, -16]!`, `bl open`, `ldp x29, x30, [sp], 16`, `ret`
 abbrev pub branch_code : ObjectSection
@@ -76,7 +77,7 @@ branch_memory =
 -- 0x80, and the call arrives at what foo.dll gives for `open`, at another base too.
 pub record WorkedBranch : Type 0 where
   pub program : IsProgram ARM64 touching_8 (both_inputs ARM64) branching_objects
-  pub beside : AreBeside ARM64 0x1_4000_0000 touching_8 branching_objects branch_codes (open_targets branching_placed)
+  pub beside : CodesBeside ARM64 0x1_4000_0000 touching_8 branching_objects branch_codes (open_targets branching_placed)
   pub defines : Defines (stub_of ARM64 branching_placed 3) (symbol_of_class (codes "open") 1 class_external)
   pub calls : HasDirectCall ARM64 branch_at 4 (codes "open")
   pub reaches : CanBranch ARM64 0x1004 0x1010
@@ -90,7 +91,7 @@ pub record WorkedBranch : Type 0 where
       DirectCallArrives ARM64 0x1_4000_0000 (written ++ (image_of ARM64 touching_8 branching_placed
       ++ code_ranges ARM64 0x1_4000_0000 (open_targets branching_placed) branch_codes)) 0x1004
       (0x40 ∷ 0 ∷ 0 ∷ 0x10 ∷ 0 ∷ 0 ∷ 0 ∷ 0 ∷ [])
-  pub at : IsAtBase ARM64 0x1_4000_0000 0x7FF6_1234_0000 touching_8 branching_objects branch_codes
+  pub at : CodesAtBase ARM64 0x1_4000_0000 0x7FF6_1234_0000 touching_8 branching_objects branch_codes
       (open_targets branching_placed) branch_memory
   pub moved : (n : ℕ) (written : List Range) → ReadsAndWrites branch_memory 8 (given_on ARM64) n 4 written →
       DirectCallArrives ARM64 0x7FF6_1234_0000 (written ++ branch_memory) 0x1004
@@ -117,7 +118,7 @@ mixed_memory =
 -- The same of a program of both flavours on AMD64: the stub reads 0x88. At another base the stub arrives, too.
 pub record WorkedFlavorDirect : Type 0 where
   pub program : IsFlavorProgram AMD64 flavor_bases_8 (flavor_inputs AMD64) mixed_objects
-  pub beside : AreBeside AMD64 0x1_4000_0000 flavor_bases_8 mixed_objects mixed_codes (open_targets mixed_placed)
+  pub beside : CodesBeside AMD64 0x1_4000_0000 flavor_bases_8 mixed_objects mixed_codes (open_targets mixed_placed)
   pub defines : Defines (stub_of AMD64 mixed_placed 4) (symbol_of_class (codes "open") 1 class_external)
   -- jmp [rip - 0xF8E]
   pub stub : (code_range AMD64 0x1_4000_0000 (open_targets mixed_placed) (stub_of AMD64 mixed_placed 4)).bytes
@@ -129,7 +130,7 @@ pub record WorkedFlavorDirect : Type 0 where
       DirectCallArrives AMD64 0x1_4000_0000 (written ++ (image_of AMD64 flavor_bases_8 mixed_placed
       ++ code_ranges AMD64 0x1_4000_0000 (open_targets mixed_placed) mixed_codes)) 0x1004
       (0x40 ∷ 0 ∷ 0 ∷ 0x10 ∷ 0 ∷ 0 ∷ 0 ∷ 0 ∷ [])
-  pub at : IsAtBase AMD64 0x1_4000_0000 0x7FF6_1234_0000 flavor_bases_8 mixed_objects mixed_codes
+  pub at : CodesAtBase AMD64 0x1_4000_0000 0x7FF6_1234_0000 flavor_bases_8 mixed_objects mixed_codes
       (open_targets mixed_placed) mixed_memory
   pub moved : (n : ℕ) (written : List Range) → ReadsAndWrites mixed_memory 8 (given_on AMD64) n 8 written →
       DirectCallArrives AMD64 0x7FF6_1234_0000 (written ++ mixed_memory) 0x1004

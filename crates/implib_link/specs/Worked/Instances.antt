@@ -2,7 +2,7 @@
 -- narrower than it reads is met by the first instances alone.
 use Rattle.std.specs.Prelude.{◌≡◌, ℕ, Some, true, false, List, [], ◌∷◌, ◌++◌, codes, map}
 use Rattle.implib.specs.declared.flavor.Flavor.TheVariants.{Msvc}
-use Rattle.implib.specs.declared.machine.MachineType.TheVariants.{I386, AMD64, ARM64}
+use Rattle.implib.specs.declared.machine.MachineType.TheVariants.{I386, AMD64}
 use Rattle.implib.specs.Definition.{DefinitionView}
 use Rattle.implib.specs.Formats.Constants.{class_external}
 use Rattle.implib.specs.Formats.Object.{Object}
@@ -15,12 +15,13 @@ use Rattle.implib.specs.Members.Members.{member_specs}
 use Rattle.implib.specs.Renaming.{renamed}
 use Rattle.implib.specs.Worked.Members.{of_dll}
 use Rattle.implib.specs.Worked.Statements.{plain_export}
+use Rattle.implib_link.specs.Gnu.Moves.{CanBeMoved}
 use Rattle.implib_link.specs.Flavors.LldImports.{IsLldProgram, imports_of_lld, placed_by_lld}
 use Rattle.implib_link.specs.Flavors.LldTables.{addresses_at, built}
 use Rattle.implib_link.specs.Flavors.Program.{AreFlavorObjects, objects_taken}
 use Rattle.implib_link.specs.Gnu.Bounds.{HaveEvenHints}
-use Rattle.implib_link.specs.Gnu.Calls.{AreBeside, PlacedCode, word_in_code}
-use Rattle.implib_link.specs.Gnu.Choices.{AreSections, CanBeRebased, DefineOnce}
+use Rattle.implib_link.specs.Gnu.Calls.{PlacedCode}
+use Rattle.implib_link.specs.Gnu.Choices.{AreSections, DefineOnce}
 use Rattle.implib_link.specs.Gnu.Fields.{Amd64Holds, Arm64Holds, I386Holds, placed_code}
 use Rattle.implib_link.specs.Gnu.OtherLibraries.{IsProgramBeside, keeps_fours}
 use Rattle.implib_link.specs.Search.Archives.{IsArchive, Library}
@@ -33,10 +34,11 @@ use Rattle.implib_link.specs.Worked.Flavors.{foo_input as foo_flavor, zed_input 
 use Rattle.implib_link.specs.Worked.Jumps.{far_8}
 use Rattle.implib_link.specs.Worked.MsvcArchives.{null_named}
 use Rattle.implib_link.specs.Worked.NearPrograms.{members_of_both, run_with, short_of, table_object}
-use Rattle.implib_link.specs.Worked.Operands.{overlapping_at, passing_codes}
+use Rattle.implib_link.specs.Worked.Operands.{passing_codes, passing_objects}
 use Rattle.implib_link.specs.Worked.Programs.{code_object, symbol_of_class, touching_4, touching_8, zed_input}
 use Rattle.implib_link.specs.Worked.Rebased.{moving_codes}
 use Rattle.implib_link.specs.Flavors.Program.{members_linked}
+use Rattle.implib_link.specs.Worked.Relocated.{CodesBeside}
 
 -- A table's section may be aligned at 8 bytes, and no more, and a descriptor's at 4, 2 or 1; both have a multiple of 4
 -- bytes. Of hints nothing is asked.
@@ -48,7 +50,7 @@ pub record SectionInstances : Type 0 where
   pub descriptors_of_18 : keeps_fours (section (codes ".idata$2") 0x20_0000 (zeros 18) []) (Some Descriptors) ≡ false
 
 -- Fields of types that no call uses: REL32_5 counts 5 bytes after the field. Of I386's DIR32NB, AMD64's SECTION and ADDR32NB,
--- and ARM64's BRANCH14 nothing is said, and the relation of placed code leaves AMD64's REL32_1 and ARM64's BRANCH14 alone.
+-- and ARM64's BRANCH14 nothing is said.
 pub record TypeInstances : Type 0 where
   pub rel32_5 : Amd64Holds 9 0x1_4000_0000 0x1000 0x80 (λ width. 0) (λ width. 0xFFFF_F077)
   pub rel32_5_as_4 : Amd64Holds 9 0x1_4000_0000 0x1000 0x80 (λ width. 0) (λ width. 0xFFFF_F078) → ⊥
@@ -56,8 +58,6 @@ pub record TypeInstances : Type 0 where
   pub section_index : Amd64Holds 10 0x1_4000_0000 0x1000 0x80 (λ width. 0) (λ width. 1)
   pub addr32nb : Amd64Holds 3 0x1_4000_0000 0x1000 0x80 (λ width. 0) (λ width. 1)
   pub branch14 : Arm64Holds 0x10 0x1_4000_0000 0x1000 0x80 (λ width. 0) (λ width. 1)
-  pub placed_rel32_1 : word_in_code AMD64 5 0x1_4000_0000 0x1000 0x80 1 ≡ 1
-  pub placed_branch14 : word_in_code ARM64 0x10 0x1_4000_0000 0x1000 0x80 0x3600_0000 ≡ 0x3600_0000
 
 -- zed.dll's members for GNU's linker in front of foo.dll's for Microsoft's, whose null descriptor is between them
 abbrev pub gnu_first : List Object
@@ -140,9 +140,10 @@ defines_twice = record {
 
 -- The code of Worked/Calls in front of the tables.
 pub record CodeInstances : Type 0 where
-  pub in_front : AreBeside AMD64 0x1_4000_0000 far_8 (calling_objects AMD64) (calling_at AMD64 0x1000 ∷ [])
+  pub in_front : CodesBeside AMD64 0x1_4000_0000 far_8 (calling_objects AMD64) (calling_at AMD64 0x1000 ∷ [])
       (table_targets AMD64 far_8)
-  -- six base relocations, five of them in one section; not two that lie on one another, nor one that leads out
-  pub rebased : CanBeRebased I386 (map placed_code (passing_codes I386 touching_4))
-  pub overlapping : CanBeRebased I386 (placed_code overlapping_at ∷ []) → ⊥
+  -- sections one of which ends with a field
+  pub fields_end : AreSections I386 touching_4 (passing_objects I386) (map placed_code (passing_codes I386 touching_4))
+  -- six base relocations, five of them in one section
+  pub moved : CanBeMoved I386 (passing_codes I386 touching_4)
   pub twice : DefineOnce [] (defines_twice ∷ []) → ⊥

@@ -6,7 +6,7 @@ use Rattle.implib.specs.declared.machine.MachineType.TheVariants.{I386, ARMNT, A
 use Rattle.implib.specs.Definition.{ExportView, empty_export}
 use Rattle.implib.specs.Import.{Name, Ordinal}
 use Rattle.implib_link.specs.Flavors.LldTables.{IsAskable}
-use Rattle.implib_link.specs.Gnu.Calls.{AreBeside, CanBranch, call_reads, direct_leads}
+use Rattle.implib_link.specs.Gnu.Calls.{CanBranch, call_reads, direct_leads}
 use Rattle.implib_link.specs.Gnu.Pointers.{load_reads}
 use Rattle.implib_link.specs.Gnu.Rebased.{CanMove, Place, covers}
 use Rattle.implib_link.specs.Search.Given.{is_data_alias}
@@ -14,6 +14,7 @@ use Rattle.implib_link.specs.Stub.{CanJump}
 use Rattle.implib_link.specs.Worked.Calls.{calling_at, calling_objects, table_targets}
 use Rattle.implib_link.specs.Worked.Jumps.{adrp_5_pages, br_x16, far_4, far_8, ldr_0x280}
 use Rattle.implib_link.specs.Worked.Programs.{touching_8}
+use Rattle.implib_link.specs.Worked.Relocated.{CodesBeside}
 
 -- blr x16
 abbrev pub blr_x16 : List ℕ
@@ -86,7 +87,7 @@ four_bytes = record { address = 0x2000; width = 4 }
 
 -- the calling code of 15 bytes at an address is beside the tables
 abbrev pub IsBeside : ℕ → Type 0
-IsBeside position = AreBeside AMD64 0x1_4000_0000 touching_8 (calling_objects AMD64)
+IsBeside position = CodesBeside AMD64 0x1_4000_0000 touching_8 (calling_objects AMD64)
     (calling_at AMD64 position ∷ []) (table_targets AMD64 touching_8)
 
 -- exports with an alias

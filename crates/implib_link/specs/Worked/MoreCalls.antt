@@ -8,20 +8,22 @@ use Rattle.implib.specs.Link.Image.{Range, image_of}
 use Rattle.implib.specs.Link.Placement.{Bases, Placed, Unplaced, placed_from}
 use Rattle.implib.specs.Members.Gnu.{section, text_name}
 use Rattle.implib.specs.Members.ImportTables.{thunk_width}
+use Rattle.implib_link.specs.Gnu.Moves.{IsAtBase}
+use Rattle.implib_link.specs.Gnu.Fields.{AreBeside, LinkedCode, placed_code, ranges_of_codes}
 use Rattle.implib_link.specs.Directory.{imported}
 use Rattle.implib_link.specs.Flavors.Program.{IsFlavorProgram, imported_in, objects_taken}
-use Rattle.implib_link.specs.Gnu.Calls.{AreBeside, DirectCallArrives, HasDirectCall, PlacedCode, code_range, code_ranges, direct_bytes, direct_relocations, moved_by}
+use Rattle.implib_link.specs.Gnu.Calls.{DirectCallArrives, HasDirectCall, PlacedCode, direct_bytes, direct_relocations, moved_by}
 use Rattle.implib_link.specs.Gnu.Choices.{AreSections, DefineOnce}
 use Rattle.implib_link.specs.Gnu.Loaded.{Writes}
 use Rattle.implib_link.specs.Gnu.Pointers.{LoadArrives}
 use Rattle.implib_link.specs.Gnu.Program.{IsProgram, null_descriptor}
 use Rattle.implib_link.specs.Gnu.Reading.{ReadsAndWrites}
-use Rattle.implib_link.specs.Gnu.Rebased.{IsAtBase}
 use Rattle.implib_link.specs.Worked.Calls.{calling, first_bytes, given_on, last_bytes}
 use Rattle.implib_link.specs.Worked.DirectCalls.{stub_of}
 use Rattle.implib_link.specs.Worked.Flavors.{both_inputs as flavor_inputs, flavor_bases_4, flavor_bases_8, members_with_null}
 use Rattle.implib_link.specs.Worked.Pointers.{loading, loading_at, tables_of}
 use Rattle.implib_link.specs.Worked.Programs.{another, both_inputs, foo_input, input_objects, symbol_of_class, touching_4, zed_input}
+use Rattle.implib_link.specs.Worked.Relocated.{CodesBeside, code_range, code_ranges}
 
 -- four `nop`, `call _open`, `ret`, in an object whose symbol 1 is `_open`
 abbrev pub near_code : ObjectSection
@@ -64,17 +66,21 @@ pub record WorkedI386Direct : Type 0 where
   pub sections : AreSections I386 touching_4 near_objects near_codes
   pub once : DefineOnce near_placed near_codes
   pub calls : HasDirectCall I386 near_at 4 (codes "_open")
-  pub arrives : (targets : PlacedCode → ℕ → ℕ)
-      × (AreBeside I386 0x40_0000 touching_4 near_objects near_codes targets
+  pub arrives : (codes : List LinkedCode)
+      × ((targets : LinkedCode → ℕ → ℕ)
+      × ((map placed_code codes ≡ near_codes)
+      × (AreBeside I386 0x40_0000 touching_4 near_objects codes targets
       × ((written : List Range) →
       Writes (image_of I386 touching_4 near_placed) 4 (given_on I386) 4 (map (imported I386) (both_inputs I386)) written →
-      DirectCallArrives I386 0x40_0000 (written ++ (image_of I386 touching_4 near_placed
-      ++ code_ranges I386 0x40_0000 targets near_codes)) 0x1004 (0x40 ∷ 0 ∷ 0 ∷ 0x10 ∷ [])))
-  pub moved : (targets : PlacedCode → ℕ → ℕ)
+      DirectCallArrives I386 0x40_0000 (written ++ (image_of I386 touching_4 near_placed ++ ranges_of_codes codes)) 0x1004
+      (0x40 ∷ 0 ∷ 0 ∷ 0x10 ∷ [])))))
+  pub moved : (codes : List LinkedCode)
+      × ((targets : LinkedCode → ℕ → ℕ)
       × ((memory : List Range)
-      × (IsAtBase I386 0x40_0000 0x1000_0000 touching_4 near_objects near_codes targets memory
+      × ((map placed_code codes ≡ near_codes)
+      × (IsAtBase I386 0x40_0000 0x1000_0000 touching_4 near_objects codes targets memory
       × ((n : ℕ) (written : List Range) → ReadsAndWrites memory 4 (given_on I386) n 4 written →
-      DirectCallArrives I386 0x1000_0000 (written ++ memory) 0x1004 (0x40 ∷ 0 ∷ 0 ∷ 0x10 ∷ []))))
+      DirectCallArrives I386 0x1000_0000 (written ++ memory) 0x1004 (0x40 ∷ 0 ∷ 0 ∷ 0x10 ∷ []))))))
 
 -- what is linked of both flavours on a machine: the reading object, what the members are taken for, foo.dll's null
 -- descriptor after a few of them, and another object
@@ -90,7 +96,7 @@ reading_placed machine count bases = placed_from bases (reading_flavors machine 
 pub record WorkedFlavorPointer (machine : MachineType) (count image_base : ℕ) (bases : Bases) (relocated address : List ℕ)
     : Type 0 where
   pub program : IsFlavorProgram machine bases (flavor_inputs machine) (reading_flavors machine count)
-  pub beside : AreBeside machine image_base bases (reading_flavors machine count) (loading_at machine ∷ [])
+  pub beside : CodesBeside machine image_base bases (reading_flavors machine count) (loading_at machine ∷ [])
       (tables_of (reading_placed machine count bases))
   pub bytes : (code_range machine image_base (tables_of (reading_placed machine count bases)) (loading_at machine)).bytes
       ≡ first_bytes machine ++ (relocated ++ last_bytes machine)

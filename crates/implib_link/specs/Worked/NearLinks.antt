@@ -3,23 +3,21 @@
 use Rattle.std.specs.Prelude.{ℕ, List, [], ◌∷◌, ◌++◌, codes}
 use Rattle.implib.specs.declared.machine.MachineType.TheVariants.{I386, AMD64}
 use Rattle.implib.specs.Formats.Constants.{class_external, i386_dir32}
-use Rattle.implib.specs.Formats.Object.{Object}
 use Rattle.implib.specs.Link.Image.{Range}
 use Rattle.implib_link.specs.Directory.{FindsBy, Imported}
 use Rattle.implib_link.specs.Flavors.LldTables.{ArePiecesAt}
-use Rattle.implib_link.specs.Gnu.Calls.{AreBeside, PlacedCode, Resolves}
-use Rattle.implib_link.specs.Gnu.Choices.{AreSections, CanBeRebased}
+use Rattle.implib_link.specs.Gnu.Calls.{Resolves}
+use Rattle.implib_link.specs.Gnu.Choices.{AreSections}
 use Rattle.implib_link.specs.Gnu.Fields.{AreLinkedBeside, DefinesIn, LinkedCode, TakesSymbols, placed_code}
 use Rattle.implib_link.specs.Gnu.Moves.{AreMoved}
-use Rattle.implib_link.specs.Gnu.Operands.{HasBranch, HasField, HasOperand, Names}
-use Rattle.implib_link.specs.Gnu.Rebased.{IsAtBase}
+use Rattle.implib_link.specs.Gnu.Operands.{HasBranch, HasField, HasOperand, Names, HasInstruction}
 use Rattle.implib_link.specs.Search.Closed.{TakesInto}
 use Rattle.implib_link.specs.Search.Given.{AreGiven}
 use Rattle.implib_link.specs.Search.MsvcClosed.{IsClosedForMsvc, TakesIntoFor}
 use Rattle.implib_link.specs.Search.MsvcGiven.{AreGivenForMsvc}
 use Rattle.implib_link.specs.Search.Search.{Takes}
 use Rattle.implib_link.specs.Stub.{CallReaches, JumpsThrough}
-use Rattle.implib_link.specs.Worked.Calls.{calling_at, calling_objects, calling_placed, table_targets}
+use Rattle.implib_link.specs.Worked.Calls.{calling_at, calling_objects, calling_placed}
 use Rattle.implib_link.specs.Worked.Closed.{choosing}
 use Rattle.implib_link.specs.Worked.Lld.{two_dlls}
 use Rattle.implib_link.specs.Worked.Loads.{written_8}
@@ -27,7 +25,7 @@ use Rattle.implib_link.specs.Worked.MsvcArchives.{shorts_of_both, two_msvc}
 use Rattle.implib_link.specs.Worked.MsvcClosed.{msvc_bases, msvc_objects, msvc_zed_first}
 use Rattle.implib_link.specs.Worked.NearCode.{call_code, code_of, imp_f, left}
 use Rattle.implib_link.specs.Worked.NearSearches.{again, listing, zed_library, zed_short}
-use Rattle.implib_link.specs.Worked.Operands.{field, imp_open, passing_at, passing_code, passing_codes, passing_image, passing_placed, passing_targets}
+use Rattle.implib_link.specs.Worked.Operands.{field, imp_open, passing_at, passing_code, passing_codes, passing_image, passing_placed, passing_targets, overlapping_at, open_on}
 use Rattle.implib_link.specs.Worked.Programs.{code_object, program_image, program_placed, symbol_of_class, touching_4, touching_8}
 use Rattle.implib_link.specs.Worked.RefusedLinks.{five_and_six, foo}
 use Rattle.implib_link.specs.Worked.Rules.{early_caller, late_open}
@@ -70,18 +68,14 @@ pub record NearCallReaches : Type 0 where
   pub located : CallReaches AMD64 0x1_4000_0000 (written_8 AMD64 ++ program_image AMD64 touching_8)
       (program_placed AMD64 touching_8) (codes "queue") (0x72 ∷ 0x7A ∷ []) → ⊥
 
--- code of an object that is not linked, and of a section that the object does not have
-pub record NearAreBeside : Type 0 where
-  pub held : AreBeside AMD64 0x1_4000_0000 touching_8 [] (calling_at AMD64 0x1000 ∷ []) (table_targets AMD64 touching_8) → ⊥
-  pub sections : AreBeside AMD64 0x1_4000_0000 touching_8 (calling_objects AMD64)
-      (record (calling_at AMD64 0x1000) { number = 2 } ∷ []) (table_targets AMD64 touching_8) → ⊥
-
--- the same; too high; and a field that leads out of its section
+-- code of an object that is not linked, and of a section that the object does not have; too high; a field that leads out
+-- of its section; and code over the address tables
 pub record NearAreSections : Type 0 where
   pub held : AreSections AMD64 touching_8 [] (calling_at AMD64 0x1000 ∷ []) → ⊥
   pub sections : AreSections AMD64 touching_8 (calling_objects AMD64) (record (calling_at AMD64 0x1000) { number = 2 } ∷ []) → ⊥
   pub ends : AreSections AMD64 touching_8 (calling_objects AMD64) (calling_at AMD64 0x7FFF_FFE2 ∷ []) → ⊥
   pub fields : AreSections AMD64 touching_8 [] (code_of call_code (field 3 1 4 ∷ []) (left imp_f) ∷ []) → ⊥
+  pub apart : AreSections AMD64 touching_8 (calling_objects AMD64) (calling_at AMD64 0x78 ∷ []) → ⊥
 
 -- of linked code, too
 pub record NearAreLinkedBeside : Type 0 where
@@ -114,8 +108,9 @@ pub record NearNames : Type 0 where
   pub undefined : Names late_open.from 0 (codes "open") → ⊥
   pub named : Names early_caller.from 0 (codes "opened") → ⊥
 
--- fields and operands that end past the code's 60 bytes
+-- fields and operands that end past the code's 60 bytes; a field that another one meets; a call's field as a branch's
 pub record NearHasField : Type 0 where
+  pub alone : HasField I386 overlapping_at 5 i386_dir32 (codes "hello") → ⊥
   pub inside : HasField AMD64 (passing_at AMD64) 57 4 (imp_open AMD64) → ⊥
 
 pub record NearHasOperand : Type 0 where
@@ -123,6 +118,13 @@ pub record NearHasOperand : Type 0 where
 
 pub record NearHasBranch : Type 0 where
   pub within : HasBranch AMD64 (passing_at AMD64) 52 5 (imp_open AMD64) → ⊥
+  pub counts : HasBranch I386 (passing_at I386) 11 0 (imp_open I386) → ⊥
+
+-- `push` with a part of the call behind it; other bytes than the call's; and the field of a jump
+pub record NearHasInstruction : Type 0 where
+  pub alone : HasInstruction I386 (passing_at I386) 4 (0x68 ∷ []) (0xFF ∷ 0x15 ∷ 0 ∷ []) (codes "hello") → ⊥
+  pub code : HasInstruction I386 (passing_at I386) 9 (0xFF ∷ 0x25 ∷ []) [] (imp_open I386) → ⊥
+  pub counts : HasInstruction I386 (passing_at I386) 36 (0xE9 ∷ []) [] (open_on I386) → ⊥
 
 -- no image
 pub record NearArePiecesAt : Type 0 where
@@ -140,13 +142,6 @@ pub record NearFindsBy : Type 0 where
 -- I386's code with an address that leads out of its section
 abbrev pub leading_out : LinkedCode
 leading_out = record (passing_at I386) { code = record (passing_code I386) { relocations = field 38 2 i386_dir32 ∷ [] } }
-
-pub record NearCanBeRebased : Type 0 where
-  pub within : CanBeRebased I386 (placed_code leading_out ∷ []) → ⊥
-
-pub record NearIsAtBase : Type 0 where
-  pub within : (objects : List Object) (targets : PlacedCode → ℕ → ℕ) (memory : List Range) →
-      IsAtBase I386 0x40_0000 0x1000_0000 touching_4 objects (placed_code leading_out ∷ []) targets memory → ⊥
 
 -- no base relocation for the call's field; and one where code stores no address
 pub record NearAreMoved : Type 0 where

@@ -2,7 +2,7 @@
 -- each by the name of the field that refuses it.
 use Rattle.std.specs.Prelude.{ℕ, List, [], ◌∷◌, codes}
 use Rattle.implib.specs.declared.flavor.Flavor.TheVariants.{Gnu}
-use Rattle.implib.specs.declared.machine.MachineType.TheVariants.{AMD64, ARM64}
+use Rattle.implib.specs.declared.machine.MachineType.TheVariants.{AMD64, ARM64, I386}
 use Rattle.implib.specs.Formats.Constants.{class_external}
 use Rattle.implib.specs.Formats.Object.{ASymbol, Object}
 use Rattle.implib.specs.Import.{Ask}
@@ -12,7 +12,7 @@ use Rattle.implib.specs.Link.LinkedMembers.{chosen_exports}
 use Rattle.implib_link.specs.Flavors.Program.{FlavorsLink, InputImports}
 use Rattle.implib_link.specs.Gnu.Choices.{DefineOnce}
 use Rattle.implib_link.specs.Gnu.Fields.{LinkedCode}
-use Rattle.implib_link.specs.Gnu.Operands.{HasOffsetField, HasPageField, HasPointer, InstructionArrives}
+use Rattle.implib_link.specs.Gnu.Operands.{HasOffsetField, HasPageField, HasPointer, InstructionArrives, PairArrives}
 use Rattle.implib_link.specs.Gnu.OtherLibraries.{LinksBeside}
 use Rattle.implib_link.specs.Gnu.Pages.{PageArrives}
 use Rattle.implib_link.specs.Gnu.Program.{ImportsBy, LinksAmong, null_descriptor}
@@ -30,7 +30,7 @@ use Rattle.implib_link.specs.Worked.NearCode.{code_of}
 use Rattle.implib_link.specs.Worked.NearLinks.{found_there}
 use Rattle.implib_link.specs.Worked.NearPrograms.{run_with, table_object}
 use Rattle.implib_link.specs.Worked.NearSearches.{asking, zed_library, zed_short}
-use Rattle.implib_link.specs.Worked.Operands.{imp_open, passing_at, passing_code}
+use Rattle.implib_link.specs.Worked.Operands.{imp_open, passing_at, passing_code, open_on, passing_placed}
 use Rattle.implib_link.specs.Worked.Programs.{both_inputs, code_object, foo_input, program_image, program_placed, symbol_of_class, touching_8}
 use Rattle.implib_link.specs.Worked.RefusedFields.{linked_on_amd64, open_address, two_ranges, with_byte}
 use Rattle.implib_link.specs.Worked.Walks.{without_addresses, without_name}
@@ -117,8 +117,8 @@ pub record NearDefineOnce : Type 0 where
   pub tables : DefineOnce (calling_placed AMD64 touching_8)
       (calling_at AMD64 0x1000 ∷ code_of [] [] (symbol_of_class (codes "__imp_open") 1 class_external) ∷ []) → ⊥
 
--- ARM64's code with a page of 4, and with an offset of 8, in its fields; AMD64's with a 1 in the stored address, and its
--- relative field as a pointer
+-- ARM64's code with a page of 4, and with an offset of 8, in its fields; AMD64's with a 1 in the stored address;
+-- and the field of I386's jump as a pointer
 abbrev pub other_code : ℕ → ℕ → LinkedCode
 other_code offset byte = record (passing_at ARM64) {
   code = record (passing_code ARM64) { bytes = with_byte (passing_code ARM64).bytes offset byte };
@@ -134,6 +134,7 @@ pub record NearHasPointer : Type 0 where
   pub empty : HasPointer AMD64
       (record (passing_at AMD64) { code = record (passing_code AMD64) { bytes = with_byte (passing_code AMD64).bytes 52 1 } })
       52 (imp_open AMD64) → ⊥
+  pub stores : HasPointer I386 (passing_at I386) 37 (open_on I386) → ⊥
 
 -- the call at 0x100B to the next byte
 pub record NearInstructionArrives : Type 0 where
@@ -155,3 +156,12 @@ pub record NearPageArrives : Type 0 where
       ∷ two_ranges 0x1010 (9 ∷ 0x41 ∷ 0x40 ∷ 0xF9 ∷ []) open_address) → ⊥
   pub leads : Paged (record { start = 0x100C; bytes = 0xE8 ∷ 0xFF ∷ 0xFF ∷ 0xF0 ∷ [] }
       ∷ two_ranges 0x1010 (8 ∷ 0x45 ∷ 0x40 ∷ 0xF9 ∷ []) open_address) → ⊥
+
+-- the same two, by a field each, without the one and without the other
+pub record NearPairArrives : Type 0 where
+  pub adrp_there : PairArrives 0x1_4000_0000 (passing_placed ARM64 touching_8)
+      (two_ranges 0x1010 (8 ∷ 0x41 ∷ 0x40 ∷ 0xF9 ∷ []) open_address) 0x100C 0x1010 0x9000_0008 0xF940_0108
+      (imp_open ARM64) open_address → ⊥
+  pub load_there : PairArrives 0x1_4000_0000 (passing_placed ARM64 touching_8)
+      (two_ranges 0x100C (0xE8 ∷ 0xFF ∷ 0xFF ∷ 0xF0 ∷ []) open_address) 0x100C 0x1010 0x9000_0008 0xF940_0108
+      (imp_open ARM64) open_address → ⊥

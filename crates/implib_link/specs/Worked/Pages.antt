@@ -10,16 +10,16 @@ use Rattle.implib.specs.Link.Placement.{Placed, Unplaced, placed_from}
 use Rattle.implib.specs.Members.Gnu.{section, text_name}
 use Rattle.implib_link.specs.Directory.{imported}
 use Rattle.implib_link.specs.Flavors.Program.{IsFlavorProgram, imported_in, objects_taken}
-use Rattle.implib_link.specs.Gnu.Calls.{AreBeside, PlacedCode, code_range, code_ranges}
+use Rattle.implib_link.specs.Gnu.Calls.{PlacedCode}
 use Rattle.implib_link.specs.Gnu.Loaded.{Writes}
 use Rattle.implib_link.specs.Gnu.Pages.{HasPage, HasPageOffset, PageArrives}
 use Rattle.implib_link.specs.Gnu.Program.{IsProgram, null_descriptor}
 use Rattle.implib_link.specs.Gnu.Reading.{ReadsAndWrites}
-use Rattle.implib_link.specs.Gnu.Rebased.{IsAtBase}
 use Rattle.implib_link.specs.Worked.Calls.{first_bytes, given_on, last_bytes}
 use Rattle.implib_link.specs.Worked.Flavors.{both_inputs as flavor_inputs, flavor_bases_8, members_with_null}
 use Rattle.implib_link.specs.Worked.Pointers.{loading, tables_of}
 use Rattle.implib_link.specs.Worked.Programs.{another, both_inputs, foo_input, input_objects, touching_8, zed_input}
+use Rattle.implib_link.specs.Worked.Relocated.{CodesAtBase, CodesBeside, code_range, code_ranges}
 
 -- `stp x29, x30, [sp, -16]!`, `adrp x9, page`, `nop`, `ldr x8, [x9, offset]`, `ldp x29, x30, [sp], 16`, `ret`
 abbrev pub paging_code : ObjectSection
@@ -53,7 +53,7 @@ paging_at = record {
 -- 0x88, where whatever a loader writes leaves what foo.dll gives for `stat`.
 pub record WorkedPages : Type 0 where
   pub program : IsProgram ARM64 touching_8 (both_inputs ARM64) paging_objects
-  pub beside : AreBeside ARM64 0x1_4000_0000 touching_8 paging_objects (paging_at ∷ []) (tables_of paging_placed)
+  pub beside : CodesBeside ARM64 0x1_4000_0000 touching_8 paging_objects (paging_at ∷ []) (tables_of paging_placed)
   pub pages : HasPage paging_at 4 9 (imp_symbol (codes "stat"))
   pub offsets : HasPageOffset paging_at 12 9 8 (imp_symbol (codes "stat"))
   -- adrp x9, -0x1000; nop; ldr x8, [x9, 0x88]
@@ -85,7 +85,7 @@ paging_flavors_memory =
 -- half a page off.
 pub record WorkedFlavorPages : Type 0 where
   pub program : IsFlavorProgram ARM64 flavor_bases_8 (flavor_inputs ARM64) paging_flavors
-  pub beside : AreBeside ARM64 0x1_4000_0000 flavor_bases_8 paging_flavors (paging_at ∷ [])
+  pub beside : CodesBeside ARM64 0x1_4000_0000 flavor_bases_8 paging_flavors (paging_at ∷ [])
       (tables_of paging_flavors_placed)
   -- adrp x9, -0x1000; nop; ldr x8, [x9, 0x90]
   pub bytes : (code_range ARM64 0x1_4000_0000 (tables_of paging_flavors_placed) paging_at).bytes
@@ -96,12 +96,12 @@ pub record WorkedFlavorPages : Type 0 where
       (map (imported_in ARM64) (flavor_inputs ARM64)) written →
       PageArrives 0x1_4000_0000 (written ++ paging_flavors_memory) 0x1004 0x100C 9 8
       (0x40 ∷ 0 ∷ 0 ∷ 0x10 ∷ 0 ∷ 0 ∷ 0 ∷ 0 ∷ [])
-  pub at : IsAtBase ARM64 0x1_4000_0000 0x7FF6_1234_0000 flavor_bases_8 paging_flavors (paging_at ∷ [])
+  pub at : CodesAtBase ARM64 0x1_4000_0000 0x7FF6_1234_0000 flavor_bases_8 paging_flavors (paging_at ∷ [])
       (tables_of paging_flavors_placed) paging_flavors_memory
   pub moved : (n : ℕ) (written : List Range) →
       ReadsAndWrites paging_flavors_memory 8 (given_on ARM64) n 8 written →
       PageArrives 0x7FF6_1234_0000 (written ++ paging_flavors_memory) 0x1004 0x100C 9 8
       (0x40 ∷ 0 ∷ 0 ∷ 0x10 ∷ 0 ∷ 0 ∷ 0 ∷ 0 ∷ [])
   pub half_page : (memory : List Range) →
-      IsAtBase ARM64 0x1_4000_0000 0x7FF6_1234_0800 flavor_bases_8 paging_flavors (paging_at ∷ [])
+      CodesAtBase ARM64 0x1_4000_0000 0x7FF6_1234_0800 flavor_bases_8 paging_flavors (paging_at ∷ [])
       (tables_of paging_flavors_placed) memory → ⊥

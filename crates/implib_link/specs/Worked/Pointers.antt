@@ -13,13 +13,14 @@ use Rattle.implib.specs.Members.Gnu.{section, text_name}
 use Rattle.implib.specs.Members.ImportTables.{thunk_width}
 use Rattle.implib_link.specs.Directory.{imported}
 use Rattle.implib_link.specs.Flavors.Program.{IsFlavorProgram, imported_in, objects_taken}
-use Rattle.implib_link.specs.Gnu.Calls.{AreBeside, PlacedCode, code_range, code_ranges, moved_by}
+use Rattle.implib_link.specs.Gnu.Calls.{PlacedCode, moved_by}
 use Rattle.implib_link.specs.Gnu.Loaded.{Writes}
 use Rattle.implib_link.specs.Gnu.Pointers.{HasLoad, LoadArrives, load_bytes, load_reads, load_relocations}
 use Rattle.implib_link.specs.Gnu.Program.{IsProgram, null_descriptor}
 use Rattle.implib_link.specs.Worked.Calls.{calling, first_bytes, given_on, last_bytes}
 use Rattle.implib_link.specs.Worked.Flavors.{both_inputs as flavor_inputs, flavor_bases_8, members_with_null}
 use Rattle.implib_link.specs.Worked.Programs.{another, both_inputs, foo_input, input_objects, symbol_of_class, symbol_on, touching_4, touching_8, zed_input}
+use Rattle.implib_link.specs.Worked.Relocated.{CodesBeside, code_range, code_ranges}
 
 -- code that reads a pointer under the symbol of index 1, at offset 4
 abbrev pub loading_code : MachineType → ObjectSection
@@ -63,7 +64,7 @@ tables_of linked c index = target_address linked c.from index
 pub record WorkedPointer (machine : MachineType) (image_base : ℕ) (bases : Bases) (relocated : List ℕ) (entry : ℕ)
     (address : List ℕ) : Type 0 where
   pub program : IsProgram machine bases (both_inputs machine) (loading_objects machine)
-  pub beside : AreBeside machine image_base bases (loading_objects machine) (loading_at machine ∷ [])
+  pub beside : CodesBeside machine image_base bases (loading_objects machine) (loading_at machine ∷ [])
       (tables_of (loading_placed machine bases))
   pub loads : HasLoad machine (loading_at machine) 4 (imp_symbol (symbol_on machine (codes "stat")))
   pub bytes : (code_range machine image_base (tables_of (loading_placed machine bases)) (loading_at machine)).bytes
@@ -95,7 +96,7 @@ pub record WorkedPointers : Type 0 where
   pub arm64 : WorkedPointer ARM64 0x1_4000_0000 touching_8
       (0xE8 ∷ 0xFF ∷ 0xFF ∷ 0xF0 ∷ 8 ∷ 0x45 ∷ 0x40 ∷ 0xF9 ∷ []) 0x88 (0x40 ∷ 0 ∷ 0 ∷ 0x10 ∷ 0 ∷ 0 ∷ 0 ∷ 0 ∷ [])
   pub flavors : IsFlavorProgram AMD64 flavor_bases_8 (flavor_inputs AMD64) loading_flavors
-  pub flavors_beside : AreBeside AMD64 0x1_4000_0000 flavor_bases_8 loading_flavors (loading_at AMD64 ∷ [])
+  pub flavors_beside : CodesBeside AMD64 0x1_4000_0000 flavor_bases_8 loading_flavors (loading_at AMD64 ∷ [])
       (tables_of loading_flavors_placed)
   -- mov rax, [rip - 0xF7B]
   pub flavors_bytes : (code_range AMD64 0x1_4000_0000 (tables_of loading_flavors_placed) (loading_at AMD64)).bytes

@@ -12,14 +12,15 @@ use Rattle.implib.specs.Link.Resolution.{target_address}
 use Rattle.implib.specs.Members.Gnu.{section, stub_bytes, stub_relocations, text_name}
 use Rattle.implib.specs.Members.ImportTables.{thunk_width}
 use Rattle.implib_link.specs.Flavors.Program.{IsFlavorProgram, objects_taken}
-use Rattle.implib_link.specs.Gnu.Calls.{CallArrives, Defines, PlacedCode, call_reads, code_ranges}
+use Rattle.implib_link.specs.Gnu.Calls.{CallArrives, Defines, PlacedCode, call_reads}
 use Rattle.implib_link.specs.Gnu.Program.{IsProgram}
 use Rattle.implib_link.specs.Gnu.Reading.{ReadsAndWrites}
-use Rattle.implib_link.specs.Gnu.Rebased.{CanMove, IsAtBase, IsRebased, Place, StubArrives, base_relocations, moved_number, places_at}
+use Rattle.implib_link.specs.Gnu.Rebased.{CanMove, IsRebased, Place, StubArrives, moved_number, places_at}
 use Rattle.implib_link.specs.Stub.{jump_reads}
 use Rattle.implib_link.specs.Worked.Calls.{calling, calling_at, calling_flavors, calling_objects, calling_placed, flavor_targets, flavors_placed, given_on, table_targets}
 use Rattle.implib_link.specs.Worked.Flavors.{both_inputs as flavor_inputs, flavor_bases_4, flavor_bases_8, members_with_null}
 use Rattle.implib_link.specs.Worked.Programs.{another, both_inputs, symbol_of_class, symbol_on, touching_4, touching_8}
+use Rattle.implib_link.specs.Worked.Relocated.{CodesAtBase, base_relocations, code_ranges}
 
 -- the stub of `open`, which is the fourth object's, at 0x1040
 abbrev pub placed_or_calling : MachineType → Option Placed → Placed
@@ -51,7 +52,7 @@ linked_memory machine image_base bases =
 pub record WorkedMove (machine : MachineType) (from to : ℕ) (bases : Bases) (memory : List Range) (places : List Place)
     (call stub : List ℕ) (entry : ℕ) (address : List ℕ) : Type 0 where
   pub program : IsProgram machine bases (both_inputs machine) (calling_objects machine)
-  pub at : IsAtBase machine from to bases (calling_objects machine) (moving_codes machine bases)
+  pub at : CodesAtBase machine from to bases (calling_objects machine) (moving_codes machine bases)
       (table_targets machine bases) memory
   pub places_are : base_relocations machine (calling_placed machine bases) (moving_codes machine bases) ≡ places
   pub call_there : BytesAt memory 0x1004 call
@@ -116,7 +117,7 @@ flavors_memory =
 
 -- It has no base relocations; at another base a loader that reads it loads both DLLs, and the call arrives.
 pub record WorkedFlavorMove : Type 0 where
-  pub at : IsAtBase AMD64 0x1_4000_0000 0x7FF6_1234_0000 flavor_bases_8 calling_flavors (calling_at AMD64 0x1000 ∷ [])
+  pub at : CodesAtBase AMD64 0x1_4000_0000 0x7FF6_1234_0000 flavor_bases_8 calling_flavors (calling_at AMD64 0x1000 ∷ [])
       flavor_targets flavors_memory
   pub arrives : (n : ℕ) (written : List Range) → ReadsAndWrites flavors_memory 8 (given_on AMD64) n 8 written →
       (n ≡ 2) × CallArrives AMD64 0x7FF6_1234_0000 (written ++ flavors_memory) 0x1004
@@ -148,7 +149,7 @@ moving_memory field = record { start = 0x1006; bytes = field } ∷ moving_linked
 -- loads both DLLs, and the call arrives at what foo.dll gives for `open`.
 pub record WorkedFlavorRebase : Type 0 where
   pub program : IsFlavorProgram I386 flavor_bases_4 (flavor_inputs I386) moving_flavors
-  pub at : IsAtBase I386 0x40_0000 0x1000_0000 flavor_bases_4 moving_flavors (calling_at I386 0x1000 ∷ [])
+  pub at : CodesAtBase I386 0x40_0000 0x1000_0000 flavor_bases_4 moving_flavors (calling_at I386 0x1000 ∷ [])
       moving_targets (moving_memory (0x64 ∷ 0 ∷ 0 ∷ 0x10 ∷ []))
   pub places_are : base_relocations I386 moving_placed (calling_at I386 0x1000 ∷ [])
       ≡ record { address = 0x1006; width = 4 } ∷ []
@@ -165,11 +166,11 @@ pub record WorkedFlavorRebase : Type 0 where
       × ReadsAndWrites (moving_memory (0x64 ∷ 0 ∷ 0 ∷ 0x10 ∷ [])) 4 (given_on I386) 2 8 written
   -- without the base relocation, or with the next entry's address in the call, it is not the program at that base,
   -- nor where the difference is added to the field of the address table in the first descriptor, too
-  pub left_out : IsAtBase I386 0x40_0000 0x1000_0000 flavor_bases_4 moving_flavors (calling_at I386 0x1000 ∷ [])
+  pub left_out : CodesAtBase I386 0x40_0000 0x1000_0000 flavor_bases_4 moving_flavors (calling_at I386 0x1000 ∷ [])
       moving_targets moving_linked → ⊥
-  pub next_entry : IsAtBase I386 0x40_0000 0x1000_0000 flavor_bases_4 moving_flavors (calling_at I386 0x1000 ∷ [])
+  pub next_entry : CodesAtBase I386 0x40_0000 0x1000_0000 flavor_bases_4 moving_flavors (calling_at I386 0x1000 ∷ [])
       moving_targets (moving_memory (0x68 ∷ 0 ∷ 0 ∷ 0x10 ∷ [])) → ⊥
-  pub table_moved : IsAtBase I386 0x40_0000 0x1000_0000 flavor_bases_4 moving_flavors (calling_at I386 0x1000 ∷ [])
+  pub table_moved : CodesAtBase I386 0x40_0000 0x1000_0000 flavor_bases_4 moving_flavors (calling_at I386 0x1000 ∷ [])
       moving_targets (record { start = 24; bytes = 0x60 ∷ 0 ∷ 0xC0 ∷ 0xF ∷ [] }
       ∷ moving_memory (0x64 ∷ 0 ∷ 0 ∷ 0x10 ∷ [])) → ⊥
 

@@ -6,16 +6,16 @@ use Rattle.implib.specs.Link.Image.{Range, image_of}
 use Rattle.implib.specs.Link.Load.{BytesAt}
 use Rattle.implib.specs.Link.Placement.{Bases}
 use Rattle.implib.specs.Members.ImportTables.{thunk_width}
-use Rattle.implib_link.specs.Gnu.Calls.{code_ranges}
 use Rattle.implib_link.specs.Gnu.Pages.{PageArrives}
 use Rattle.implib_link.specs.Gnu.Pointers.{LoadArrives, load_reads}
 use Rattle.implib_link.specs.Gnu.Reading.{ReadsAndWrites}
-use Rattle.implib_link.specs.Gnu.Rebased.{IsAtBase, Place, base_relocations}
+use Rattle.implib_link.specs.Gnu.Rebased.{Place}
 use Rattle.implib_link.specs.Worked.Calls.{given_on}
 use Rattle.implib_link.specs.Worked.Flavors.{flavor_bases_8}
 use Rattle.implib_link.specs.Worked.Pages.{paging_at, paging_objects, paging_placed}
 use Rattle.implib_link.specs.Worked.Pointers.{loading_at, loading_flavors, loading_flavors_placed, loading_objects, loading_placed, tables_of}
 use Rattle.implib_link.specs.Worked.Programs.{touching_4, touching_8}
+use Rattle.implib_link.specs.Worked.Relocated.{CodesAtBase, base_relocations, code_ranges}
 
 -- the image with the reading code after it, as it was linked for a base
 abbrev pub loading_memory : MachineType → ℕ → Bases → List Range
@@ -28,7 +28,7 @@ loading_memory machine image_base bases =
 -- what foo.dll gives for `stat`.
 pub record WorkedPointerMove (machine : MachineType) (from to : ℕ) (bases : Bases) (memory : List Range)
     (places : List Place) (instructions : List ℕ) (entry : ℕ) (address : List ℕ) : Type 0 where
-  pub at : IsAtBase machine from to bases (loading_objects machine) (loading_at machine ∷ [])
+  pub at : CodesAtBase machine from to bases (loading_objects machine) (loading_at machine ∷ [])
       (tables_of (loading_placed machine bases)) memory
   pub places_are : base_relocations machine (loading_placed machine bases) (loading_at machine ∷ []) ≡ places
   pub there : BytesAt memory 0x1004 instructions
@@ -68,13 +68,13 @@ pub record WorkedPointerMoves : Type 0 where
   -- an instruction that was left as it was linked reads where the program is not
   pub astray : load_reads I386 0x1000_1004 (0xA1 ∷ 0x64 ∷ 0 ∷ 0x40 ∷ 0 ∷ []) ≡ Some 0x40_0064
   -- adrp x9, -0x1000 and ldr x8, [x9, 0x88], eight bytes further on
-  pub pages_at : IsAtBase ARM64 0x1_4000_0000 0x7FF6_1234_0000 touching_8 paging_objects (paging_at ∷ [])
+  pub pages_at : CodesAtBase ARM64 0x1_4000_0000 0x7FF6_1234_0000 touching_8 paging_objects (paging_at ∷ [])
       (tables_of paging_placed) paging_memory
   pub pages : (n : ℕ) (written : List Range) → ReadsAndWrites paging_memory 8 (given_on ARM64) n 4 written →
       PageArrives 0x7FF6_1234_0000 (written ++ paging_memory) 0x1004 0x100C 9 8
       (0x40 ∷ 0 ∷ 0 ∷ 0x10 ∷ 0 ∷ 0 ∷ 0 ∷ 0 ∷ [])
   -- in the program of both flavours
-  pub flavors_at : IsAtBase AMD64 0x1_4000_0000 0x7FF6_1234_0000 flavor_bases_8 loading_flavors (loading_at AMD64 ∷ [])
+  pub flavors_at : CodesAtBase AMD64 0x1_4000_0000 0x7FF6_1234_0000 flavor_bases_8 loading_flavors (loading_at AMD64 ∷ [])
       (tables_of loading_flavors_placed) flavors_loading_memory
   pub flavors : (n : ℕ) (written : List Range) → ReadsAndWrites flavors_loading_memory 8 (given_on AMD64) n 8 written →
       LoadArrives AMD64 0x7FF6_1234_0000 (written ++ flavors_loading_memory) 0x1004

@@ -13,9 +13,9 @@ ghost use Rattle.implib_link.specs.Directory.{imported};
 ghost use Rattle.implib_link.specs.Flavors.Program.{FlavorInput, IsCode, IsFlavorProgram};
 ghost use Rattle.implib_link.specs.Flavors.Program.{IsMadeFor, ask_in, dll_of, exports_chosen};
 ghost use Rattle.implib_link.specs.Flavors.Program.{imported_in, symbol_in};
-ghost use Rattle.implib_link.specs.Gnu.Calls.{AreBeside, CallArrives, CanBranch, Defines};
+ghost use Rattle.implib_link.specs.Gnu.Fields.{AreBeside, DefinesIn, LinkedCode, placed_code, ranges_of_codes};
+ghost use Rattle.implib_link.specs.Gnu.Calls.{CallArrives, CanBranch};
 ghost use Rattle.implib_link.specs.Gnu.Calls.{DirectCallArrives, HasCall, HasDirectCall};
-ghost use Rattle.implib_link.specs.Gnu.Calls.{PlacedCode, code_ranges};
 ghost use Rattle.implib_link.specs.Gnu.Loaded.{Writes};
 ghost use Rattle.implib_link.specs.Gnu.Pages.{HasPage, HasPageOffset, PageArrives};
 ghost use Rattle.implib_link.specs.Gnu.Pointers.{HasLoad, LoadArrives};
@@ -35,9 +35,9 @@ ghost use Rattle.std.specs.Prelude.{slice_get};
 pub fn calls_reach_through_entries()
     ensures reaches { (machine : MachineType) (image_base : ℕ) (bases : Bases)
         (inputs : List LinkInput) (objects : List Object)
-        (codes : List PlacedCode) (targets : PlacedCode → ℕ → ℕ) (gives : List ℕ → Ask →
+        (codes : List LinkedCode) (targets : LinkedCode → ℕ → ℕ) (gives : List ℕ → Ask →
         List ℕ) (written : List Range)
-        (i j : ℕ) (p : LinkInput) (e : ExportView) (c : PlacedCode) (offset : ℕ) →
+        (i j : ℕ) (p : LinkInput) (e : ExportView) (c : LinkedCode) (offset : ℕ) →
         AllByRecursion (IsMade machine) inputs →
         IsProgram machine bases inputs objects →
         CanJump machine image_base bases →
@@ -49,10 +49,10 @@ pub fn calls_reach_through_entries()
         slice_get inputs i ≡ Some p →
         slice_get (chosen_exports p.definition p.chosen) j ≡ Some e →
         Contains codes c →
-        HasCall machine c offset (imp_symbol e.name) →
+        HasCall machine (placed_code c) offset (imp_symbol e.name) →
         CallArrives machine image_base
         (written ++ (image_of machine bases (placed_from bases objects)
-        ++ code_ranges machine image_base targets codes))
+        ++ ranges_of_codes codes))
         (c.position + offset) (gives p.definition.import_name (expected_ask machine e)) }
 {}
 
@@ -60,9 +60,9 @@ pub fn calls_reach_through_entries()
 pub fn calls_of_flavors_reach_through_entries()
     ensures reaches { (machine : MachineType) (image_base : ℕ) (bases : Bases)
         (inputs : List FlavorInput) (objects : List Object)
-        (codes : List PlacedCode) (targets : PlacedCode → ℕ → ℕ) (gives : List ℕ → Ask →
+        (codes : List LinkedCode) (targets : LinkedCode → ℕ → ℕ) (gives : List ℕ → Ask →
         List ℕ) (written : List Range)
-        (i j : ℕ) (p : FlavorInput) (e : ExportView) (c : PlacedCode) (offset : ℕ) →
+        (i j : ℕ) (p : FlavorInput) (e : ExportView) (c : LinkedCode) (offset : ℕ) →
         AllByRecursion (IsMadeFor machine) inputs →
         IsFlavorProgram machine bases inputs objects →
         CanJump machine image_base bases →
@@ -74,10 +74,10 @@ pub fn calls_of_flavors_reach_through_entries()
         slice_get inputs i ≡ Some p →
         slice_get (exports_chosen p) j ≡ Some e →
         Contains codes c →
-        HasCall machine c offset (imp_symbol (symbol_in p.flavor e)) →
+        HasCall machine (placed_code c) offset (imp_symbol (symbol_in p.flavor e)) →
         CallArrives machine image_base
         (written ++ (image_of machine bases (placed_from bases objects)
-        ++ code_ranges machine image_base targets codes))
+        ++ ranges_of_codes codes))
         (c.position + offset) (gives (dll_of p) (ask_in p.flavor machine e)) }
 {}
 
@@ -89,9 +89,9 @@ pub fn calls_of_flavors_reach_through_entries()
 pub fn direct_calls_reach()
     ensures reaches { (machine : MachineType) (image_base : ℕ) (bases : Bases)
         (inputs : List LinkInput) (objects : List Object)
-        (codes : List PlacedCode) (targets : PlacedCode → ℕ → ℕ) (gives : List ℕ → Ask →
+        (codes : List LinkedCode) (targets : LinkedCode → ℕ → ℕ) (gives : List ℕ → Ask →
         List ℕ) (written : List Range)
-        (i j : ℕ) (p : LinkInput) (e : ExportView) (c d : PlacedCode) (offset : ℕ)
+        (i j : ℕ) (p : LinkInput) (e : ExportView) (c d : LinkedCode) (offset : ℕ)
         (t : ObjectSymbol) →
         AllByRecursion (IsMade machine) inputs →
         IsProgram machine bases inputs objects →
@@ -105,14 +105,14 @@ pub fn direct_calls_reach()
         slice_get (chosen_exports p.definition p.chosen) j ≡ Some e →
         e.is_data ≡ false →
         Contains codes d →
-        Defines d t →
+        DefinesIn d t →
         t.name ≡ e.name →
         Contains codes c →
-        HasDirectCall machine c offset e.name →
+        HasDirectCall machine (placed_code c) offset e.name →
         CanBranch machine (c.position + offset) d.position →
         DirectCallArrives machine image_base
         (written ++ (image_of machine bases (placed_from bases objects)
-        ++ code_ranges machine image_base targets codes))
+        ++ ranges_of_codes codes))
         (c.position + offset) (gives p.definition.import_name (expected_ask machine e)) }
 {}
 
@@ -120,9 +120,9 @@ pub fn direct_calls_reach()
 pub fn direct_calls_of_flavors_reach()
     ensures reaches { (machine : MachineType) (image_base : ℕ) (bases : Bases)
         (inputs : List FlavorInput) (objects : List Object)
-        (codes : List PlacedCode) (targets : PlacedCode → ℕ → ℕ) (gives : List ℕ → Ask →
+        (codes : List LinkedCode) (targets : LinkedCode → ℕ → ℕ) (gives : List ℕ → Ask →
         List ℕ) (written : List Range)
-        (i j : ℕ) (p : FlavorInput) (e : ExportView) (c d : PlacedCode) (offset : ℕ)
+        (i j : ℕ) (p : FlavorInput) (e : ExportView) (c d : LinkedCode) (offset : ℕ)
         (t : ObjectSymbol) →
         AllByRecursion (IsMadeFor machine) inputs →
         IsFlavorProgram machine bases inputs objects →
@@ -136,14 +136,14 @@ pub fn direct_calls_of_flavors_reach()
         slice_get (exports_chosen p) j ≡ Some e →
         IsCode p.flavor e →
         Contains codes d →
-        Defines d t →
+        DefinesIn d t →
         t.name ≡ symbol_in p.flavor e →
         Contains codes c →
-        HasDirectCall machine c offset (symbol_in p.flavor e) →
+        HasDirectCall machine (placed_code c) offset (symbol_in p.flavor e) →
         CanBranch machine (c.position + offset) d.position →
         DirectCallArrives machine image_base
         (written ++ (image_of machine bases (placed_from bases objects)
-        ++ code_ranges machine image_base targets codes))
+        ++ ranges_of_codes codes))
         (c.position + offset) (gives (dll_of p) (ask_in p.flavor machine e)) }
 {}
 
@@ -152,9 +152,9 @@ pub fn direct_calls_of_flavors_reach()
 pub fn pointers_are_read_through_entries()
     ensures reaches { (machine : MachineType) (image_base : ℕ) (bases : Bases)
         (inputs : List LinkInput) (objects : List Object)
-        (codes : List PlacedCode) (targets : PlacedCode → ℕ → ℕ) (gives : List ℕ → Ask →
+        (codes : List LinkedCode) (targets : LinkedCode → ℕ → ℕ) (gives : List ℕ → Ask →
         List ℕ) (written : List Range)
-        (i j : ℕ) (p : LinkInput) (e : ExportView) (c : PlacedCode) (offset : ℕ) →
+        (i j : ℕ) (p : LinkInput) (e : ExportView) (c : LinkedCode) (offset : ℕ) →
         AllByRecursion (IsMade machine) inputs →
         IsProgram machine bases inputs objects →
         CanJump machine image_base bases →
@@ -166,10 +166,10 @@ pub fn pointers_are_read_through_entries()
         slice_get inputs i ≡ Some p →
         slice_get (chosen_exports p.definition p.chosen) j ≡ Some e →
         Contains codes c →
-        HasLoad machine c offset (imp_symbol e.name) →
+        HasLoad machine (placed_code c) offset (imp_symbol e.name) →
         LoadArrives machine image_base
         (written ++ (image_of machine bases (placed_from bases objects)
-        ++ code_ranges machine image_base targets codes))
+        ++ ranges_of_codes codes))
         (c.position + offset) (gives p.definition.import_name (expected_ask machine e)) }
 {}
 
@@ -177,9 +177,9 @@ pub fn pointers_are_read_through_entries()
 pub fn pointers_of_flavors_are_read_through_entries()
     ensures reaches { (machine : MachineType) (image_base : ℕ) (bases : Bases)
         (inputs : List FlavorInput) (objects : List Object)
-        (codes : List PlacedCode) (targets : PlacedCode → ℕ → ℕ) (gives : List ℕ → Ask →
+        (codes : List LinkedCode) (targets : LinkedCode → ℕ → ℕ) (gives : List ℕ → Ask →
         List ℕ) (written : List Range)
-        (i j : ℕ) (p : FlavorInput) (e : ExportView) (c : PlacedCode) (offset : ℕ) →
+        (i j : ℕ) (p : FlavorInput) (e : ExportView) (c : LinkedCode) (offset : ℕ) →
         AllByRecursion (IsMadeFor machine) inputs →
         IsFlavorProgram machine bases inputs objects →
         CanJump machine image_base bases →
@@ -191,10 +191,10 @@ pub fn pointers_of_flavors_are_read_through_entries()
         slice_get inputs i ≡ Some p →
         slice_get (exports_chosen p) j ≡ Some e →
         Contains codes c →
-        HasLoad machine c offset (imp_symbol (symbol_in p.flavor e)) →
+        HasLoad machine (placed_code c) offset (imp_symbol (symbol_in p.flavor e)) →
         LoadArrives machine image_base
         (written ++ (image_of machine bases (placed_from bases objects)
-        ++ code_ranges machine image_base targets codes))
+        ++ ranges_of_codes codes))
         (c.position + offset) (gives (dll_of p) (ask_in p.flavor machine e)) }
 {}
 
@@ -203,9 +203,9 @@ pub fn pointers_of_flavors_are_read_through_entries()
 pub fn pages_and_offsets_reach_entries()
     ensures reaches { (image_base : ℕ) (bases : Bases)
         (inputs : List LinkInput) (objects : List Object)
-        (codes : List PlacedCode) (targets : PlacedCode → ℕ → ℕ) (gives : List ℕ → Ask →
+        (codes : List LinkedCode) (targets : LinkedCode → ℕ → ℕ) (gives : List ℕ → Ask →
         List ℕ) (written : List Range)
-        (i j : ℕ) (p : LinkInput) (e : ExportView) (c : PlacedCode)
+        (i j : ℕ) (p : LinkInput) (e : ExportView) (c : LinkedCode)
         (first second paged loaded : ℕ) →
         AllByRecursion (IsMade ARM64) inputs →
         IsProgram ARM64 bases inputs objects →
@@ -220,11 +220,11 @@ pub fn pages_and_offsets_reach_entries()
         Contains codes c →
         paged < 32 →
         loaded < 32 →
-        HasPage c first paged (imp_symbol e.name) →
-        HasPageOffset c second paged loaded (imp_symbol e.name) →
+        HasPage (placed_code c) first paged (imp_symbol e.name) →
+        HasPageOffset (placed_code c) second paged loaded (imp_symbol e.name) →
         PageArrives image_base
         (written ++ (image_of ARM64 bases (placed_from bases objects)
-        ++ code_ranges ARM64 image_base targets codes))
+        ++ ranges_of_codes codes))
         (c.position + first) (c.position + second) paged loaded
         (gives p.definition.import_name (expected_ask ARM64 e)) }
 {}
@@ -233,9 +233,9 @@ pub fn pages_and_offsets_reach_entries()
 pub fn pages_and_offsets_of_flavors_reach_entries()
     ensures reaches { (image_base : ℕ) (bases : Bases)
         (inputs : List FlavorInput) (objects : List Object)
-        (codes : List PlacedCode) (targets : PlacedCode → ℕ → ℕ) (gives : List ℕ → Ask →
+        (codes : List LinkedCode) (targets : LinkedCode → ℕ → ℕ) (gives : List ℕ → Ask →
         List ℕ) (written : List Range)
-        (i j : ℕ) (p : FlavorInput) (e : ExportView) (c : PlacedCode)
+        (i j : ℕ) (p : FlavorInput) (e : ExportView) (c : LinkedCode)
         (first second paged loaded : ℕ) →
         AllByRecursion (IsMadeFor ARM64) inputs →
         IsFlavorProgram ARM64 bases inputs objects →
@@ -250,11 +250,11 @@ pub fn pages_and_offsets_of_flavors_reach_entries()
         Contains codes c →
         paged < 32 →
         loaded < 32 →
-        HasPage c first paged (imp_symbol (symbol_in p.flavor e)) →
-        HasPageOffset c second paged loaded (imp_symbol (symbol_in p.flavor e)) →
+        HasPage (placed_code c) first paged (imp_symbol (symbol_in p.flavor e)) →
+        HasPageOffset (placed_code c) second paged loaded (imp_symbol (symbol_in p.flavor e)) →
         PageArrives image_base
         (written ++ (image_of ARM64 bases (placed_from bases objects)
-        ++ code_ranges ARM64 image_base targets codes))
+        ++ ranges_of_codes codes))
         (c.position + first) (c.position + second) paged loaded
         (gives (dll_of p) (ask_in p.flavor ARM64 e)) }
 {}

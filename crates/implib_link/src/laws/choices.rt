@@ -6,23 +6,30 @@ ghost use Rattle.implib.specs.Link.LinkedMembers.{IsMade, LinkInput};
 ghost use Rattle.implib.specs.Link.Placement.{Bases, placed_from};
 ghost use Rattle.implib.specs.declared.machine.MachineType.{MachineType};
 ghost use Rattle.implib_link.specs.Flavors.Program.{FlavorInput, IsFlavorProgram, IsMadeFor};
-ghost use Rattle.implib_link.specs.Gnu.Calls.{AreBeside, PlacedCode};
-ghost use Rattle.implib_link.specs.Gnu.Choices.{AreSections, CanBeRebased, DefineOnce};
+ghost use Rattle.implib_link.specs.Gnu.Calls.{PlacedCode, Resolves};
+ghost use Rattle.implib_link.specs.Gnu.Choices.{AreSections, DefineOnce};
+ghost use Rattle.implib_link.specs.Gnu.Fields.{AreBeside, IsRelocated, LinkedCode, placed_code};
+ghost use Rattle.implib_link.specs.Gnu.Moves.{CanBeMoved, IsAtBase};
 ghost use Rattle.implib_link.specs.Gnu.Program.{IsProgram};
-ghost use Rattle.implib_link.specs.Gnu.Rebased.{CanMove, IsAtBase};
+ghost use Rattle.implib_link.specs.Gnu.Rebased.{CanMove};
 ghost use Rattle.implib_link.specs.Worked.Choices.{WorkedChoices};
 ghost use Rattle.std.specs.List.{AllByRecursion};
-ghost use Rattle.std.specs.Prelude.{ℕ, List};
+ghost use Rattle.std.specs.Prelude.{◌≡◌, ℕ, List, map};
 
-/// A linker can choose addresses for all symbols of placed code, for any base of the image: where
-/// no name is defined twice, the laws of calls and pointers find their code beside the tables.
+/// A linker can choose addresses for all symbols of placed code, for any base of the image, where no
+/// name is defined twice: however the code is relocated with them, the laws of calls and pointers
+/// find it beside the tables. That it can be relocated is `laws::operands::linked_bytes_exist`.
 pub fn symbols_have_addresses()
     ensures exists { (machine : MachineType) (image_base : ℕ) (bases : Bases)
         (objects : List Object) (codes : List PlacedCode) →
         AreSections machine bases objects codes →
         DefineOnce (placed_from bases objects) codes →
-        (targets : PlacedCode → ℕ → ℕ)
-        × AreBeside machine image_base bases objects codes targets }
+        (targets : PlacedCode → ℕ → ℕ) × (Resolves (placed_from bases objects) codes targets
+        × ((linked : List LinkedCode) →
+        map placed_code linked ≡ codes →
+        AllByRecursion (λ c. IsRelocated machine image_base (targets (placed_code c)) c.position
+        c.code c.bytes) linked →
+        AreBeside machine image_base bases objects linked (λ c. targets (placed_code c)))) }
 {}
 
 /// A program can be loaded at any base that its machine can move it to: there is memory in which
@@ -30,11 +37,11 @@ pub fn symbols_have_addresses()
 pub fn programs_can_be_rebased()
     ensures exists { (machine : MachineType) (from to : ℕ) (bases : Bases)
         (inputs : List LinkInput) (objects : List Object)
-        (codes : List PlacedCode) (targets : PlacedCode → ℕ → ℕ) →
+        (codes : List LinkedCode) (targets : LinkedCode → ℕ → ℕ) →
         AllByRecursion (IsMade machine) inputs →
         IsProgram machine bases inputs objects →
         AreBeside machine from bases objects codes targets →
-        CanBeRebased machine codes →
+        CanBeMoved machine codes →
         CanMove machine from to bases →
         (memory : List Range) × IsAtBase machine from to bases objects codes targets memory }
 {}
@@ -43,11 +50,11 @@ pub fn programs_can_be_rebased()
 pub fn programs_of_flavors_can_be_rebased()
     ensures exists { (machine : MachineType) (from to : ℕ) (bases : Bases)
         (inputs : List FlavorInput) (objects : List Object)
-        (codes : List PlacedCode) (targets : PlacedCode → ℕ → ℕ) →
+        (codes : List LinkedCode) (targets : LinkedCode → ℕ → ℕ) →
         AllByRecursion (IsMadeFor machine) inputs →
         IsFlavorProgram machine bases inputs objects →
         AreBeside machine from bases objects codes targets →
-        CanBeRebased machine codes →
+        CanBeMoved machine codes →
         CanMove machine from to bases →
         (memory : List Range) × IsAtBase machine from to bases objects codes targets memory }
 {}

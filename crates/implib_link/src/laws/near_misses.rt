@@ -9,14 +9,14 @@ ghost use Rattle.implib_link.specs.Worked.NearCode.{NearCallArrives, NearDefines
 ghost use Rattle.implib_link.specs.Worked.NearCode.{NearDirectCallArrives, NearHasDirectCall};
 ghost use Rattle.implib_link.specs.Worked.NearCode.{NearHasInstructions, NearHasLoad, NearHasPage};
 ghost use Rattle.implib_link.specs.Worked.NearCode.{NearLoadArrives, NearStubArrives};
-ghost use Rattle.implib_link.specs.Worked.NearLinks.{NearAreBeside, NearAreGiven};
+ghost use Rattle.implib_link.specs.Worked.NearLinks.{NearAreGiven};
 ghost use Rattle.implib_link.specs.Worked.NearLinks.{NearAreGivenForMsvc, NearAreLinkedBeside};
 ghost use Rattle.implib_link.specs.Worked.NearLinks.{NearAreMoved, NearArePiecesAt};
 ghost use Rattle.implib_link.specs.Worked.NearLinks.{NearAreSections, NearCallReaches};
-ghost use Rattle.implib_link.specs.Worked.NearLinks.{NearCanBeRebased, NearDefinesIn};
+ghost use Rattle.implib_link.specs.Worked.NearLinks.{NearDefinesIn};
 ghost use Rattle.implib_link.specs.Worked.NearLinks.{NearFindsBy, NearHasBranch};
-ghost use Rattle.implib_link.specs.Worked.NearLinks.{NearHasField, NearHasOperand};
-ghost use Rattle.implib_link.specs.Worked.NearLinks.{NearIsAtBase, NearIsClosedForMsvc};
+ghost use Rattle.implib_link.specs.Worked.NearLinks.{NearHasField, NearHasInstruction, NearHasOperand};
+ghost use Rattle.implib_link.specs.Worked.NearLinks.{NearIsClosedForMsvc};
 ghost use Rattle.implib_link.specs.Worked.NearLinks.{NearJumpsThrough, NearNames};
 ghost use Rattle.implib_link.specs.Worked.NearLinks.{NearResolves, NearTakes};
 ghost use Rattle.implib_link.specs.Worked.NearLinks.{NearTakesInto, NearTakesIntoFor};
@@ -34,7 +34,7 @@ ghost use Rattle.implib_link.specs.Worked.NearResults.{NearImportsBy, NearInputI
 ghost use Rattle.implib_link.specs.Worked.NearResults.{NearInstructionArrives, NearIsClosed};
 ghost use Rattle.implib_link.specs.Worked.NearResults.{NearLinksAmong, NearLinksBeside};
 ghost use Rattle.implib_link.specs.Worked.NearResults.{NearLinksClosed, NearLinksClosedForMsvc};
-ghost use Rattle.implib_link.specs.Worked.NearResults.{NearPageArrives};
+ghost use Rattle.implib_link.specs.Worked.NearResults.{NearPageArrives, NearPairArrives};
 ghost use Rattle.implib_link.specs.Worked.NearSearches.{NearAreNamedApart, NearIsAliasTaken};
 ghost use Rattle.implib_link.specs.Worked.NearSearches.{NearIsArchive, NearIsImported};
 ghost use Rattle.implib_link.specs.Worked.NearSearches.{NearIsImportedShort, NearIsMsvcArchive};
@@ -129,7 +129,6 @@ pub fn more_worked_calls()
 
 /// What is no search at its end, no code beside the tables, and no moved program.
 pub fn near_misses_of_links()
-    ensures are_beside { NearAreBeside }
     ensures are_given { NearAreGiven }
     ensures are_given_for_msvc { NearAreGivenForMsvc }
     ensures are_linked_beside { NearAreLinkedBeside }
@@ -137,13 +136,12 @@ pub fn near_misses_of_links()
     ensures are_pieces_at { NearArePiecesAt }
     ensures are_sections { NearAreSections }
     ensures call_reaches { NearCallReaches }
-    ensures can_be_rebased { NearCanBeRebased }
     ensures defines_in { NearDefinesIn }
     ensures finds_by { NearFindsBy }
     ensures has_branch { NearHasBranch }
     ensures has_field { NearHasField }
+    ensures has_instruction { NearHasInstruction }
     ensures has_operand { NearHasOperand }
-    ensures is_at_base { NearIsAtBase }
     ensures is_closed_for_msvc { NearIsClosedForMsvc }
     ensures jumps_through { NearJumpsThrough }
     ensures names { NearNames }
@@ -175,4 +173,5 @@ pub fn near_misses_of_results()
     ensures links_closed { NearLinksClosed }
     ensures links_closed_for_msvc { NearLinksClosedForMsvc }
     ensures page_arrives { NearPageArrives }
+    ensures pair_arrives { NearPairArrives }
 {}

@@ -19,8 +19,8 @@ ghost use Rattle.implib_link.specs.Gnu.Fields.{AreLinkedBeside, DefinesIn, IsRel
 ghost use Rattle.implib_link.specs.Gnu.Fields.{placed_code};
 ghost use Rattle.implib_link.specs.Gnu.Loaded.{IsLoaded};
 ghost use Rattle.implib_link.specs.Gnu.Moves.{AreInMemory, ArePaged, CanBeMoved};
-ghost use Rattle.implib_link.specs.Gnu.Operands.{AllLead, AreKept, BranchArrives};
-ghost use Rattle.implib_link.specs.Gnu.Operands.{HasBranch};
+ghost use Rattle.implib_link.specs.Gnu.Operands.{AllLead, AllLeadTo, AreKept};
+ghost use Rattle.implib_link.specs.Gnu.Operands.{BranchArrives, HasBranch};
 ghost use Rattle.implib_link.specs.Gnu.Pages.{HasPage, HasPageOffset, PageArrives};
 ghost use Rattle.implib_link.specs.Gnu.Pointers.{HasLoad, LoadArrives};
 ghost use Rattle.implib_link.specs.Gnu.Program.{IsProgram};
@@ -236,37 +236,37 @@ pub fn fields_of_flavors_lead_to_entries()
         (gives (dll_of p) (ask_in p.flavor machine e)) }
 {}
 
-/// What the usual instructions are in these terms. Where every field against a name leads to its
-/// only definition, and bytes that no relocation meets are as they were: a call and a load through
+/// What the usual instructions are in these terms. Where every field against a name leads to the
+/// only definition of another (its own, or an alias's target), and bytes that no relocation meets are as they were: a call and a load through
 /// the name's pointer, and on ARM64 an `adrp` and a load of any registers, arrive there, at any
 /// place of the linked code. Not on ARMNT.
 pub fn usual_instructions_lead()
     ensures calls { (machine : MachineType) (image_base : ℕ) (linked : List Placed)
-        (codes : List LinkedCode) (memory : List Range) (name bytes : List ℕ)
+        (codes : List LinkedCode) (memory : List Range) (called name bytes : List ℕ)
         (c : LinkedCode) (offset : ℕ) →
         (machine ≡ ARMNT → ⊥) →
-        AllLead machine image_base linked codes memory name bytes →
+        AllLeadTo machine image_base linked codes memory called name bytes →
         AreKept machine codes memory →
         Contains codes c →
-        HasCall machine (placed_code c) offset name →
+        HasCall machine (placed_code c) offset called →
         CallArrives machine image_base memory (c.position + offset) bytes }
     ensures loads { (machine : MachineType) (image_base : ℕ) (linked : List Placed)
-        (codes : List LinkedCode) (memory : List Range) (name bytes : List ℕ)
+        (codes : List LinkedCode) (memory : List Range) (called name bytes : List ℕ)
         (c : LinkedCode) (offset : ℕ) →
         (machine ≡ ARMNT → ⊥) →
-        AllLead machine image_base linked codes memory name bytes →
+        AllLeadTo machine image_base linked codes memory called name bytes →
         Contains codes c →
-        HasLoad machine (placed_code c) offset name →
+        HasLoad machine (placed_code c) offset called →
         LoadArrives machine image_base memory (c.position + offset) bytes }
     ensures pages { (image_base : ℕ) (linked : List Placed) (codes : List LinkedCode)
-        (memory : List Range) (name bytes : List ℕ)
+        (memory : List Range) (called name bytes : List ℕ)
         (c : LinkedCode) (first second paged loaded : ℕ) →
-        AllLead ARM64 image_base linked codes memory name bytes →
+        AllLeadTo ARM64 image_base linked codes memory called name bytes →
         Contains codes c →
         paged < 32 →
         loaded < 32 →
-        HasPage (placed_code c) first paged name →
-        HasPageOffset (placed_code c) second paged loaded name →
+        HasPage (placed_code c) first paged called →
+        HasPageOffset (placed_code c) second paged loaded called →
         PageArrives image_base memory (c.position + first) (c.position + second) paged loaded
         bytes }
 {}

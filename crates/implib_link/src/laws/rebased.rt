@@ -12,12 +12,14 @@ ghost use Rattle.implib_link.specs.Flavors.Loaded.{AreLoaded};
 ghost use Rattle.implib_link.specs.Flavors.Program.{FlavorInput, IsCode, IsFlavorProgram};
 ghost use Rattle.implib_link.specs.Flavors.Program.{IsMadeFor, ask_in, dll_of, exports_chosen};
 ghost use Rattle.implib_link.specs.Flavors.Program.{symbol_in};
-ghost use Rattle.implib_link.specs.Gnu.Calls.{CallArrives, CanBranch, Defines, DirectCallArrives};
-ghost use Rattle.implib_link.specs.Gnu.Calls.{HasCall, HasDirectCall, PlacedCode};
+ghost use Rattle.implib_link.specs.Gnu.Fields.{DefinesIn, LinkedCode, placed_code};
+ghost use Rattle.implib_link.specs.Gnu.Moves.{IsAtBase};
+ghost use Rattle.implib_link.specs.Gnu.Calls.{CallArrives, CanBranch, DirectCallArrives};
+ghost use Rattle.implib_link.specs.Gnu.Calls.{HasCall, HasDirectCall};
 ghost use Rattle.implib_link.specs.Gnu.Loaded.{IsLoaded};
 ghost use Rattle.implib_link.specs.Gnu.Program.{IsProgram};
 ghost use Rattle.implib_link.specs.Gnu.Reading.{ReadsAndWrites};
-ghost use Rattle.implib_link.specs.Gnu.Rebased.{IsAtBase, StubArrives};
+ghost use Rattle.implib_link.specs.Gnu.Rebased.{StubArrives};
 ghost use Rattle.implib_link.specs.Worked.Rebased.{WorkedFlavorMove, WorkedFlavorRebase};
 ghost use Rattle.implib_link.specs.Worked.Rebased.{WorkedMoves, WorkedPlaces};
 ghost use Rattle.std.specs.List.{AllByRecursion, Contains};
@@ -32,7 +34,7 @@ ghost use Rattle.std.specs.Prelude.{◌≡◌, ◌+◌, ◌++◌, ℕ, List, Som
 pub fn rebased_programs_reach()
     ensures loads { (machine : MachineType) (from to : ℕ) (bases : Bases)
         (inputs : List LinkInput) (objects : List Object)
-        (codes : List PlacedCode) (targets : PlacedCode → ℕ → ℕ) (memory : List Range)
+        (codes : List LinkedCode) (targets : LinkedCode → ℕ → ℕ) (memory : List Range)
         (gives : List ℕ → Ask → List ℕ) (n : ℕ) (written : List Range) →
         AllByRecursion (IsMade machine) inputs →
         IsProgram machine bases inputs objects →
@@ -42,7 +44,7 @@ pub fn rebased_programs_reach()
         (n ≡ length inputs) × IsLoaded machine bases inputs objects gives written }
     ensures ends { (machine : MachineType) (from to : ℕ) (bases : Bases)
         (inputs : List LinkInput) (objects : List Object)
-        (codes : List PlacedCode) (targets : PlacedCode → ℕ → ℕ) (memory : List Range)
+        (codes : List LinkedCode) (targets : LinkedCode → ℕ → ℕ) (memory : List Range)
         (gives : List ℕ → Ask → List ℕ) →
         AllByRecursion (IsMade machine) inputs →
         IsProgram machine bases inputs objects →
@@ -51,9 +53,9 @@ pub fn rebased_programs_reach()
         bases.descriptors written }
     ensures calls { (machine : MachineType) (from to : ℕ) (bases : Bases)
         (inputs : List LinkInput) (objects : List Object)
-        (codes : List PlacedCode) (targets : PlacedCode → ℕ → ℕ) (memory : List Range)
+        (codes : List LinkedCode) (targets : LinkedCode → ℕ → ℕ) (memory : List Range)
         (gives : List ℕ → Ask → List ℕ) (n : ℕ) (written : List Range)
-        (i j : ℕ) (p : LinkInput) (e : ExportView) (c : PlacedCode) (offset : ℕ) →
+        (i j : ℕ) (p : LinkInput) (e : ExportView) (c : LinkedCode) (offset : ℕ) →
         AllByRecursion (IsMade machine) inputs →
         IsProgram machine bases inputs objects →
         IsAtBase machine from to bases objects codes targets memory →
@@ -62,14 +64,14 @@ pub fn rebased_programs_reach()
         slice_get inputs i ≡ Some p →
         slice_get (chosen_exports p.definition p.chosen) j ≡ Some e →
         Contains codes c →
-        HasCall machine c offset (imp_symbol e.name) →
+        HasCall machine (placed_code c) offset (imp_symbol e.name) →
         CallArrives machine to (written ++ memory) (c.position + offset)
         (gives p.definition.import_name (expected_ask machine e)) }
     ensures stubs { (machine : MachineType) (from to : ℕ) (bases : Bases)
         (inputs : List LinkInput) (objects : List Object)
-        (codes : List PlacedCode) (targets : PlacedCode → ℕ → ℕ) (memory : List Range)
+        (codes : List LinkedCode) (targets : LinkedCode → ℕ → ℕ) (memory : List Range)
         (gives : List ℕ → Ask → List ℕ) (n : ℕ) (written : List Range)
-        (i j : ℕ) (p : LinkInput) (e : ExportView) (d : PlacedCode) (t : ObjectSymbol) →
+        (i j : ℕ) (p : LinkInput) (e : ExportView) (d : LinkedCode) (t : ObjectSymbol) →
         AllByRecursion (IsMade machine) inputs →
         IsProgram machine bases inputs objects →
         IsAtBase machine from to bases objects codes targets memory →
@@ -79,15 +81,15 @@ pub fn rebased_programs_reach()
         slice_get (chosen_exports p.definition p.chosen) j ≡ Some e →
         e.is_data ≡ false →
         Contains codes d →
-        Defines d t →
+        DefinesIn d t →
         t.name ≡ e.name →
         StubArrives machine to (written ++ memory) d.position
         (gives p.definition.import_name (expected_ask machine e)) }
     ensures direct { (machine : MachineType) (from to : ℕ) (bases : Bases)
         (inputs : List LinkInput) (objects : List Object)
-        (codes : List PlacedCode) (targets : PlacedCode → ℕ → ℕ) (memory : List Range)
+        (codes : List LinkedCode) (targets : LinkedCode → ℕ → ℕ) (memory : List Range)
         (gives : List ℕ → Ask → List ℕ) (n : ℕ) (written : List Range)
-        (i j : ℕ) (p : LinkInput) (e : ExportView) (c d : PlacedCode) (offset : ℕ)
+        (i j : ℕ) (p : LinkInput) (e : ExportView) (c d : LinkedCode) (offset : ℕ)
         (t : ObjectSymbol) →
         AllByRecursion (IsMade machine) inputs →
         IsProgram machine bases inputs objects →
@@ -98,10 +100,10 @@ pub fn rebased_programs_reach()
         slice_get (chosen_exports p.definition p.chosen) j ≡ Some e →
         e.is_data ≡ false →
         Contains codes d →
-        Defines d t →
+        DefinesIn d t →
         t.name ≡ e.name →
         Contains codes c →
-        HasDirectCall machine c offset e.name →
+        HasDirectCall machine (placed_code c) offset e.name →
         CanBranch machine (c.position + offset) d.position →
         DirectCallArrives machine to (written ++ memory) (c.position + offset)
         (gives p.definition.import_name (expected_ask machine e)) }
@@ -111,7 +113,7 @@ pub fn rebased_programs_reach()
 pub fn rebased_programs_of_flavors_reach()
     ensures loads { (machine : MachineType) (from to : ℕ) (bases : Bases)
         (inputs : List FlavorInput) (objects : List Object)
-        (codes : List PlacedCode) (targets : PlacedCode → ℕ → ℕ) (memory : List Range)
+        (codes : List LinkedCode) (targets : LinkedCode → ℕ → ℕ) (memory : List Range)
         (gives : List ℕ → Ask → List ℕ) (n : ℕ) (written : List Range) →
         AllByRecursion (IsMadeFor machine) inputs →
         IsFlavorProgram machine bases inputs objects →
@@ -121,7 +123,7 @@ pub fn rebased_programs_of_flavors_reach()
         (n ≡ length inputs) × AreLoaded machine bases inputs objects gives written }
     ensures ends { (machine : MachineType) (from to : ℕ) (bases : Bases)
         (inputs : List FlavorInput) (objects : List Object)
-        (codes : List PlacedCode) (targets : PlacedCode → ℕ → ℕ) (memory : List Range)
+        (codes : List LinkedCode) (targets : LinkedCode → ℕ → ℕ) (memory : List Range)
         (gives : List ℕ → Ask → List ℕ) →
         AllByRecursion (IsMadeFor machine) inputs →
         IsFlavorProgram machine bases inputs objects →
@@ -130,9 +132,9 @@ pub fn rebased_programs_of_flavors_reach()
         bases.descriptors written }
     ensures calls { (machine : MachineType) (from to : ℕ) (bases : Bases)
         (inputs : List FlavorInput) (objects : List Object)
-        (codes : List PlacedCode) (targets : PlacedCode → ℕ → ℕ) (memory : List Range)
+        (codes : List LinkedCode) (targets : LinkedCode → ℕ → ℕ) (memory : List Range)
         (gives : List ℕ → Ask → List ℕ) (n : ℕ) (written : List Range)
-        (i j : ℕ) (p : FlavorInput) (e : ExportView) (c : PlacedCode) (offset : ℕ) →
+        (i j : ℕ) (p : FlavorInput) (e : ExportView) (c : LinkedCode) (offset : ℕ) →
         AllByRecursion (IsMadeFor machine) inputs →
         IsFlavorProgram machine bases inputs objects →
         IsAtBase machine from to bases objects codes targets memory →
@@ -141,14 +143,14 @@ pub fn rebased_programs_of_flavors_reach()
         slice_get inputs i ≡ Some p →
         slice_get (exports_chosen p) j ≡ Some e →
         Contains codes c →
-        HasCall machine c offset (imp_symbol (symbol_in p.flavor e)) →
+        HasCall machine (placed_code c) offset (imp_symbol (symbol_in p.flavor e)) →
         CallArrives machine to (written ++ memory) (c.position + offset)
         (gives (dll_of p) (ask_in p.flavor machine e)) }
     ensures stubs { (machine : MachineType) (from to : ℕ) (bases : Bases)
         (inputs : List FlavorInput) (objects : List Object)
-        (codes : List PlacedCode) (targets : PlacedCode → ℕ → ℕ) (memory : List Range)
+        (codes : List LinkedCode) (targets : LinkedCode → ℕ → ℕ) (memory : List Range)
         (gives : List ℕ → Ask → List ℕ) (n : ℕ) (written : List Range)
-        (i j : ℕ) (p : FlavorInput) (e : ExportView) (d : PlacedCode) (t : ObjectSymbol) →
+        (i j : ℕ) (p : FlavorInput) (e : ExportView) (d : LinkedCode) (t : ObjectSymbol) →
         AllByRecursion (IsMadeFor machine) inputs →
         IsFlavorProgram machine bases inputs objects →
         IsAtBase machine from to bases objects codes targets memory →
@@ -158,15 +160,15 @@ pub fn rebased_programs_of_flavors_reach()
         slice_get (exports_chosen p) j ≡ Some e →
         IsCode p.flavor e →
         Contains codes d →
-        Defines d t →
+        DefinesIn d t →
         t.name ≡ symbol_in p.flavor e →
         StubArrives machine to (written ++ memory) d.position
         (gives (dll_of p) (ask_in p.flavor machine e)) }
     ensures direct { (machine : MachineType) (from to : ℕ) (bases : Bases)
         (inputs : List FlavorInput) (objects : List Object)
-        (codes : List PlacedCode) (targets : PlacedCode → ℕ → ℕ) (memory : List Range)
+        (codes : List LinkedCode) (targets : LinkedCode → ℕ → ℕ) (memory : List Range)
         (gives : List ℕ → Ask → List ℕ) (n : ℕ) (written : List Range)
-        (i j : ℕ) (p : FlavorInput) (e : ExportView) (c d : PlacedCode) (offset : ℕ)
+        (i j : ℕ) (p : FlavorInput) (e : ExportView) (c d : LinkedCode) (offset : ℕ)
         (t : ObjectSymbol) →
         AllByRecursion (IsMadeFor machine) inputs →
         IsFlavorProgram machine bases inputs objects →
@@ -177,10 +179,10 @@ pub fn rebased_programs_of_flavors_reach()
         slice_get (exports_chosen p) j ≡ Some e →
         IsCode p.flavor e →
         Contains codes d →
-        Defines d t →
+        DefinesIn d t →
         t.name ≡ symbol_in p.flavor e →
         Contains codes c →
-        HasDirectCall machine c offset (symbol_in p.flavor e) →
+        HasDirectCall machine (placed_code c) offset (symbol_in p.flavor e) →
         CanBranch machine (c.position + offset) d.position →
         DirectCallArrives machine to (written ++ memory) (c.position + offset)
         (gives (dll_of p) (ask_in p.flavor machine e)) }

@@ -11,11 +11,11 @@ ghost use Rattle.implib_link.specs.Directory.{Imported, imported};
 ghost use Rattle.implib_link.specs.Flavors.Loaded.{AreLoaded};
 ghost use Rattle.implib_link.specs.Flavors.Program.{FlavorInput, IsFlavorProgram, IsMadeFor};
 ghost use Rattle.implib_link.specs.Flavors.Program.{imported_in};
-ghost use Rattle.implib_link.specs.Gnu.Calls.{PlacedCode};
+ghost use Rattle.implib_link.specs.Gnu.Fields.{LinkedCode};
+ghost use Rattle.implib_link.specs.Gnu.Moves.{IsAtBase};
 ghost use Rattle.implib_link.specs.Gnu.Loaded.{IsLoaded};
 ghost use Rattle.implib_link.specs.Gnu.Program.{IsProgram};
 ghost use Rattle.implib_link.specs.Gnu.Reading.{ReadsAndWrites};
-ghost use Rattle.implib_link.specs.Gnu.Rebased.{IsAtBase};
 ghost use Rattle.implib_link.specs.Gnu.Writing.{AreAlike, WritesAsItGoes};
 ghost use Rattle.implib_link.specs.Worked.Writing.{WorkedWritings};
 ghost use Rattle.std.specs.List.{AllByRecursion};
@@ -82,7 +82,7 @@ pub fn loader_of_flavors_writes()
 pub fn loader_writes_at_base()
     ensures loads { (machine : MachineType) (from to : ℕ) (bases : Bases)
         (inputs : List LinkInput) (objects : List Object)
-        (codes : List PlacedCode) (targets : PlacedCode → ℕ → ℕ) (memory : List Range)
+        (codes : List LinkedCode) (targets : LinkedCode → ℕ → ℕ) (memory : List Range)
         (gives : List ℕ → Ask → List ℕ) (found : List Imported) (after : List Range) →
         AllByRecursion (IsMade machine) inputs →
         IsProgram machine bases inputs objects →
@@ -95,7 +95,7 @@ pub fn loader_writes_at_base()
         × AreAlike after (entries ++ memory)))) }
     ensures ends { (machine : MachineType) (from to : ℕ) (bases : Bases)
         (inputs : List LinkInput) (objects : List Object)
-        (codes : List PlacedCode) (targets : PlacedCode → ℕ → ℕ) (memory : List Range)
+        (codes : List LinkedCode) (targets : LinkedCode → ℕ → ℕ) (memory : List Range)
         (gives : List ℕ → Ask → List ℕ) →
         AllByRecursion (IsMade machine) inputs →
         IsProgram machine bases inputs objects →
@@ -109,7 +109,7 @@ pub fn loader_writes_at_base()
 pub fn loader_of_flavors_writes_at_base()
     ensures loads { (machine : MachineType) (from to : ℕ) (bases : Bases)
         (inputs : List FlavorInput) (objects : List Object)
-        (codes : List PlacedCode) (targets : PlacedCode → ℕ → ℕ) (memory : List Range)
+        (codes : List LinkedCode) (targets : LinkedCode → ℕ → ℕ) (memory : List Range)
         (gives : List ℕ → Ask → List ℕ) (found : List Imported) (after : List Range) →
         AllByRecursion (IsMadeFor machine) inputs →
         IsFlavorProgram machine bases inputs objects →
@@ -122,7 +122,7 @@ pub fn loader_of_flavors_writes_at_base()
         × AreAlike after (entries ++ memory)))) }
     ensures ends { (machine : MachineType) (from to : ℕ) (bases : Bases)
         (inputs : List FlavorInput) (objects : List Object)
-        (codes : List PlacedCode) (targets : PlacedCode → ℕ → ℕ) (memory : List Range)
+        (codes : List LinkedCode) (targets : LinkedCode → ℕ → ℕ) (memory : List Range)
         (gives : List ℕ → Ask → List ℕ) →
         AllByRecursion (IsMadeFor machine) inputs →
         IsFlavorProgram machine bases inputs objects →

@@ -1,5 +1,11 @@
-use Rattle.implib_link.proofs.Flavors.Aliases.{flavors_calls_by_alias, flavors_loads_by_alias}
+use Rattle.implib_link.proofs.CodeOfPrograms.{flavors_linked_aliases}
 use Rattle.implib_link.proofs.laws.aliases.aliases_of_flavors_reach_their_targets.Goals as goal
 
 pub returns : goal.returns
-returns c = record { calls = flavors_calls_by_alias; pointers = flavors_loads_by_alias }
+returns c = record {
+  fields = λ machine image_base bases inputs objects codes targets gives written i j p e alias made program can beside resolves wide writes input chosen none weak. (flavors_linked_aliases machine image_base bases inputs objects codes targets gives written made program can beside wide writes i j p e alias resolves input chosen none weak).0;
+  calls = λ machine image_base bases inputs objects codes targets gives written i j p e c offset alias made program can beside resolves wide writes input chosen held none weak.
+      (flavors_linked_aliases machine image_base bases inputs objects codes targets gives written made program can beside wide writes i j p e alias resolves input chosen none weak).1.calls c offset held;
+  pointers = λ machine image_base bases inputs objects codes targets gives written i j p e c offset alias made program can beside resolves wide writes input chosen held none weak.
+      (flavors_linked_aliases machine image_base bases inputs objects codes targets gives written made program can beside wide writes i j p e alias resolves input chosen none weak).1.loads c offset held;
+}

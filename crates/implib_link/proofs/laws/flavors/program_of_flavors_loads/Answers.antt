@@ -1,4 +1,4 @@
-use Rattle.implib_link.proofs.Flavors.Loaded.{flavors_load, flavors_write}
+use Rattle.implib_link.proofs.LoadedPrograms.{flavors_load, flavors_write}
 use Rattle.implib_link.proofs.laws.flavors.program_of_flavors_loads.Goals as goal
 
 pub returns : goal.returns

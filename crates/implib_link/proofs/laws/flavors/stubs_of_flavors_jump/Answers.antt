@@ -1,4 +1,5 @@
-use Rattle.implib_link.proofs.Flavors.Stubs.{calls_of_flavors_reach, stubs_of_flavors_jump}
+use Rattle.implib_link.proofs.Flavors.Stubs.{stubs_of_flavors_jump}
+use Rattle.implib_link.proofs.LoadedPrograms.{calls_of_flavors_reach}
 use Rattle.implib_link.proofs.laws.flavors.stubs_of_flavors_jump.Goals as goal
 
 pub returns : goal.returns

@@ -1,4 +1,4 @@
-use Rattle.implib_link.proofs.Gnu.Loaded.{program_loads, program_writes}
+use Rattle.implib_link.proofs.LoadedPrograms.{program_loads, program_writes}
 use Rattle.implib_link.proofs.laws.loaded.program_loads.Goals as goal
 
 pub returns : goal.returns

@@ -1,4 +1,4 @@
-use Rattle.implib_link.proofs.Gnu.OperandsOfPrograms.{branches_in_memory, ends_in_memory, kept_in_memory, leads_in_memory, loads_in_memory, stubs_in_memory}
+use Rattle.implib_link.proofs.ProgramsInMemory.{branches_in_memory, ends_in_memory, kept_in_memory, leads_in_memory, loads_in_memory, stubs_in_memory}
 use Rattle.implib_link.proofs.laws.operands.fields_lead_to_entries.Goals as goal
 
 pub returns : goal.returns

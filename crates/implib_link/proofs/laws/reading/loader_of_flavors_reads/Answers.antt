@@ -1,4 +1,4 @@
-use Rattle.implib_link.proofs.Flavors.Reading.{flavors_reader_ends, flavors_reader_loads}
+use Rattle.implib_link.proofs.LoadedPrograms.{flavors_reader_ends, flavors_reader_loads}
 use Rattle.implib_link.proofs.laws.reading.loader_of_flavors_reads.Goals as goal
 
 pub returns : goal.returns

@@ -1,4 +1,4 @@
-use Rattle.implib_link.proofs.Gnu.Reading.{reader_ends, reader_loads}
+use Rattle.implib_link.proofs.LoadedPrograms.{reader_ends, reader_loads}
 use Rattle.implib_link.proofs.laws.reading.loader_reads.Goals as goal
 
 pub returns : goal.returns

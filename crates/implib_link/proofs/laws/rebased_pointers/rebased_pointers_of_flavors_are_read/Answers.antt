@@ -1,5 +1,12 @@
-use Rattle.implib_link.proofs.Flavors.MovedPointers.{flavors_pages_at_base, flavors_pointers_at_base}
+use Rattle.std.proofs.Common.{refl}
+use Rattle.implib.specs.declared.machine.MachineType.TheVariants.{ARM64}
+use Rattle.implib_link.proofs.CodeOfPrograms.{flavors_moved_reached}
 use Rattle.implib_link.proofs.laws.rebased_pointers.rebased_pointers_of_flavors_are_read.Goals as goal
 
 pub returns : goal.returns
-returns c = record { pointers = flavors_pointers_at_base; pages = flavors_pages_at_base }
+returns c = record {
+  pointers = λ machine from to bases inputs objects codes targets memory gives n written i j p e c offset made program at wide reads input chosen.
+      (flavors_moved_reached machine from to bases inputs objects codes targets memory gives made program at n written wide reads i j p e input chosen).loads c offset;
+  pages = λ from to bases inputs objects codes targets memory gives n written i j p e c first second paged loaded made program at wide reads input chosen.
+      (flavors_moved_reached ARM64 from to bases inputs objects codes targets memory gives made program at n written wide reads i j p e input chosen).pages c first second paged loaded refl;
+}

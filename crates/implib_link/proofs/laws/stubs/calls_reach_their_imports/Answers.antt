@@ -1,4 +1,4 @@
-use Rattle.implib_link.proofs.Gnu.Stubs.{calls_reach}
+use Rattle.implib_link.proofs.LoadedPrograms.{calls_reach}
 use Rattle.implib_link.proofs.laws.stubs.calls_reach_their_imports.Goals as goal
 
 pub returns : goal.returns
