@@ -199,7 +199,7 @@ true_all {A = A} test (x ∷ xs) same =
     let rest : map test xs ≡ map (λ (x : A). true) xs = cc in
     ap (λ b. b && list_all test xs) first ∙ true_all test xs rest
 
-files_plain : (machine : MachineType) (d : DefinitionView) → list_all is_plain (files_of_specs (msvc_specs machine d)) ≡ true
+pub files_plain : (machine : MachineType) (d : DefinitionView) → list_all is_plain (files_of_specs (msvc_specs machine d)) ≡ true
 files_plain machine d =
     let test : MemberSpec → Bool = λ p. is_plain (file_of p.contents) in
     list_all-map is_plain (λ (p : MemberSpec). file_of p.contents) (msvc_specs machine d)
@@ -207,7 +207,7 @@ files_plain machine d =
     (shown_whole test (λ p. true) machine (names_for Msvc d) (public_exports d)
     (all_true test (member_specs d machine Msvc) (sym (list_all-map is_plain (λ (p : MemberSpec). file_of p.contents) (member_specs d machine Msvc)) ∙ specs_plain d machine)))
 
-files_read : (machine : MachineType) (d : DefinitionView) (all : List MemberView) → AreMembersOf d machine Msvc all → MsvcReadBack d machine all → renamed d ≡ d
+pub files_read : (machine : MachineType) (d : DefinitionView) (all : List MemberView) → AreMembersOf d machine Msvc all → MsvcReadBack d machine all → renamed d ≡ d
     → map (λ (p : MemberSpec). file_in (member_of p).bytes) (msvc_specs machine d) ≡ map (λ (p : MemberSpec). Some (file_of p.contents)) (msvc_specs machine d)
 files_read machine d all made reads once =
     let specs = member_specs d machine Msvc in

@@ -9,6 +9,7 @@ pub mod OwnLibraries
 pub mod DefinitionText
 pub mod Defining
 pub mod Working
+pub mod OwnIndexes
 pub mod Tasks
 pub mod Status
 pub mod Worked

@@ -38,6 +38,15 @@ pub record WorkedWorking : Type 0 where
   -- the second: one offset, 0x48, and one entry with its number, or with another
   pub numbered : second_misleads short_import (1 ∷ 0 ∷ 0 ∷ 0 ∷ 0x48 ∷ 0 ∷ 0 ∷ 0 ∷ 1 ∷ 0 ∷ 0 ∷ 0 ∷ 1 ∷ 0 ∷ codes "f\0") ≡ Some []
   pub misnumbered : second_misleads short_import (1 ∷ 0 ∷ 0 ∷ 0 ∷ 0x48 ∷ 0 ∷ 0 ∷ 0 ∷ 1 ∷ 0 ∷ 0 ∷ 0 ∷ 2 ∷ 0 ∷ codes "f\0") ≡ Some (record { symbol = codes "f"; place = 0 } ∷ [])
+  -- a second entry of `f` is passed over, but not where the first misleads; `g` has a first entry of its own
+  pub passed_over : first_misleads short_import (0 ∷ 0 ∷ 0 ∷ 2 ∷ 0 ∷ 0 ∷ 0 ∷ 0x48 ∷ 0 ∷ 0 ∷ 0 ∷ 0x49 ∷ codes "f\0f\0") ≡ Some []
+  pub first_counts : first_misleads short_import (0 ∷ 0 ∷ 0 ∷ 2 ∷ 0 ∷ 0 ∷ 0 ∷ 0x49 ∷ 0 ∷ 0 ∷ 0 ∷ 0x48 ∷ codes "f\0f\0")
+      ≡ Some (record { symbol = codes "f"; place = 0x49 } ∷ [])
+  pub other_symbol : first_misleads short_import (0 ∷ 0 ∷ 0 ∷ 2 ∷ 0 ∷ 0 ∷ 0 ∷ 0x48 ∷ 0 ∷ 0 ∷ 0 ∷ 0x48 ∷ codes "f\0g\0")
+      ≡ Some (record { symbol = codes "g"; place = 0x48 } ∷ [])
+  pub second_passed_over : second_misleads short_import (1 ∷ 0 ∷ 0 ∷ 0 ∷ 0x48 ∷ 0 ∷ 0 ∷ 0 ∷ 2 ∷ 0 ∷ 0 ∷ 0 ∷ 1 ∷ 0 ∷ 2 ∷ 0 ∷ codes "f\0f\0") ≡ Some []
+  pub second_counts : second_misleads short_import (1 ∷ 0 ∷ 0 ∷ 0 ∷ 0x48 ∷ 0 ∷ 0 ∷ 0 ∷ 2 ∷ 0 ∷ 0 ∷ 0 ∷ 2 ∷ 0 ∷ 1 ∷ 0 ∷ codes "f\0f\0")
+      ≡ Some (record { symbol = codes "f"; place = 0 } ∷ [])
   -- import tables
   pub msvc : has_whole_tables Msvc (member NullThunk ∷ member Descriptor ∷ member Other ∷ member NullDescriptor ∷ []) ≡ true
   pub no_thunk : has_whole_tables Msvc (member Descriptor ∷ member NullDescriptor ∷ []) ≡ false

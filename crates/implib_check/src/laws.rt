@@ -1,13 +1,16 @@
 //! Laws of the definitions. The functions do nothing: their contracts are the laws.
 
 ghost use Rattle.implib_check.specs.Facts.{KeysTellFacts};
+ghost use Rattle.implib_check.specs.OwnIndexes.{OwnIndexesLead};
 ghost use Rattle.implib_check.specs.OwnLibraries.{MeantIsDefined, OwnLibrariesAreTheSame, SameSaysTheDefined};
 ghost use Rattle.implib_check.specs.Worked.{WorkedComparisons, WorkedIdentities, WorkedStatuses, WorkedTasks};
 ghost use Rattle.implib_check.specs.WorkedChecks.{WorkedChecks, WorkedTargets};
 ghost use Rattle.implib_check.specs.WorkedDefinitions.{WorkedDefines, WorkedDefinitions};
 ghost use Rattle.implib_check.specs.WorkedWorking.{WorkedWorking};
 
-use implib_read::laws::{own_gnu_libraries, own_members_found, same_objects, same_short_imports};
+use implib_read::laws::{
+    own_gnu_libraries, own_members_found, same_objects, same_parts, same_short_imports,
+};
 
 /// Two imports or aliases with one key are the same.
 pub fn keys_tell_facts()
@@ -38,6 +41,17 @@ pub fn own_libraries_are_the_same()
     ensures { OwnLibrariesAreTheSame }
 {
     meant_is_defined();
+}
+
+/// The index of the library of a definition, as `implib_dlltool` writes it, leads each of its symbols to the first
+/// member that declares it.
+pub fn own_indexes_lead()
+    ensures { OwnIndexesLead }
+{
+    same_parts();
+    own_members_found();
+    same_short_imports();
+    same_objects();
 }
 
 /// Which libraries are the same, and which differ in what, worked by hand.
