@@ -1,12 +1,12 @@
--- The first linker member, as this reader and that of `implib_archive` have it.
+-- Entries of indexes and the first linker member, as this reader and that of `implib_archive` have them.
 use Rattle.std.proofs.Common.{◌≡◌, ◌∙◌, ℕ, zero, suc, ◌+◌, ◌*◌, ◌^◌, ◌<◌, ◌≤◌, Bool, true, false, not, List, [], ◌∷◌, ◌++◌, Option, None, Some, ap, append_assoc, arith, drop, flat_map, if◌then◌else◌, length, length-append, map, nat_eq, nat_le, refl, sym, take, take-take, take_while}
-use Rattle.std.specs.Int.{from_be_bytes, w32}
+use Rattle.std.specs.Int.{from_be_bytes, from_le_bytes, w16, w32}
 use Rattle.std.specs.Option.{option_and_then, option_map}
 use Rattle.std.proofs.lemmas.Bool.{le-leb, true≢false}
 use Rattle.std.proofs.lemmas.List.{drop-take, drop_at, take_at}
 use Rattle.std.proofs.lemmas.List.Sums.{take_while-cons}
 use Rattle.std.proofs.lemmas.Nat.{from_be_bytes-to_be_bytes_4}
-use Rattle.implib.specs.Formats.Object.{bytes_at}
+use Rattle.implib.specs.Formats.Object.{bytes_at, u16_at}
 use Rattle.implib.specs.Formats.ShortImport.{text_in, text_longer}
 use Rattle.implib_archive.specs.Archive.{first_linker, place_of, strings_of}
 use Rattle.implib_archive.specs.Parts.{u32_be}
@@ -19,7 +19,7 @@ use Rattle.implib_check.proofs.FirstEntries.{pair_of}
 -- Texts that a NUL ends.
 
 -- how many bytes are NUL
-nuls : List ℕ → ℕ
+pub nuls : List ℕ → ℕ
 nuls [] = 0
 nuls (c ∷ bytes) = if nat_eq c 0 then suc (nuls bytes) else nuls bytes
 
@@ -69,7 +69,7 @@ text_there (c ∷ symbols) some = by (nat_eq c 0) refl (text_there symbols)
         }
 
 -- the symbols of entries have as many NULs
-strings_nuls : (entries : List (List ℕ × ℕ)) (rest : List ℕ) → length entries ≤ nuls (strings_of entries ++ rest)
+pub strings_nuls : (entries : List (List ℕ × ℕ)) (rest : List ℕ) → length entries ≤ nuls (strings_of entries ++ rest)
 unfolding strings_of nuls
 strings_nuls [] rest = omega arith
 strings_nuls (e ∷ entries) rest =
@@ -81,40 +81,53 @@ strings_nuls (e ∷ entries) rest =
 
 -- Entries.
 
--- what both readers have of entries
-record HaveEntries (n : ℕ) (places symbols : List ℕ) : Type 0 where
-  entries : List IndexEntry
-  is : entries_from false n places symbols ≡ Some entries
-  same : map pair_of entries ≡ paired (texts_in n symbols) (numbers_in (from_be_bytes w32) 4 n places)
+-- how a place is read, in the second index or in the first
+abbrev pub read_of : Bool → List ℕ → ℕ
+read_of true bytes = from_le_bytes w16 bytes
+read_of false bytes = from_be_bytes w32 bytes
 
-entries_there : (n : ℕ) (places symbols : List ℕ) → n ≤ nuls symbols → HaveEntries n places symbols
+place_as : (second : Bool) (places : List ℕ) → place_in second places ≡ read_of second (take (place_size second) places)
+unfolding u16_at
+place_as true places = refl
+place_as false places = refl
+
+-- what both readers have of entries
+pub record HaveEntries (second : Bool) (n : ℕ) (places symbols : List ℕ) : Type 0 where
+  pub entries : List IndexEntry
+  pub is : entries_from second n places symbols ≡ Some entries
+  pub same : map pair_of entries ≡ paired (texts_in n symbols) (numbers_in (read_of second) (place_size second) n places)
+
+pub entries_there : (second : Bool) (n : ℕ) (places symbols : List ℕ) → n ≤ nuls symbols → HaveEntries second n places symbols
 unfolding entries_from texts_in numbers_in paired
-entries_there zero places symbols enough = record { entries = []; is = refl; same = refl }
-entries_there (suc n) places symbols enough =
+entries_there second zero places symbols enough = record { entries = []; is = refl; same = refl }
+entries_there second (suc n) places symbols enough =
     let t = text_there symbols (omega (arith, enough)) in
     let left = t.left in
-    let more = entries_there n (drop 4 places) t.rest (omega (arith, enough, left)) in
-    let place = place_in false places in
+    let size = place_size second in
+    let later = drop size places in
+    let more = entries_there second n later t.rest (omega (arith, enough, left)) in
+    let place = place_in second places in
+    let numbers = numbers_in (read_of second) size n later in
     let e : IndexEntry = record { symbol = t.text; place = place } in
     record {
       entries = e ∷ more.entries;
-      is = ap (option_and_then (λ text. option_map (λ entries. record { symbol = text.0; place = place_in false places } ∷ entries) (entries_from false n (drop 4 places) text.1))) t.is
+      is = ap (option_and_then (λ text. option_map (λ entries. record { symbol = text.0; place = place_in second places } ∷ entries) (entries_from second n later text.1))) t.is
           ∙ ap (option_map (λ entries. e ∷ entries)) more.is;
       same = ap (λ others. (t.text, place) ∷ others) more.same
-          ∙ ap (λ r. (t.text, place) ∷ paired (texts_in n r) (numbers_in (from_be_bytes w32) 4 n (drop 4 places))) (sym t.behind)
-          ∙ ap (λ x. (x, place) ∷ paired (texts_in n (drop (length x + 1) symbols)) (numbers_in (from_be_bytes w32) 4 n (drop 4 places))) (sym t.before);
+          ∙ ap (λ p. (t.text, p) ∷ paired (texts_in n t.rest) numbers) (place_as second places)
+          ∙ ap (λ r. (t.text, read_of second (take size places)) ∷ paired (texts_in n r) numbers) (sym t.behind)
+          ∙ ap (λ x. (x, read_of second (take size places)) ∷ paired (texts_in n (drop (length x + 1) symbols)) numbers) (sym t.before);
     }
 
 -- as many numbers as there are bytes for
-numbers_taken : (read : List ℕ → ℕ) (n : ℕ) (bytes : List ℕ) → numbers_in read 4 n (take (4 * n) bytes) ≡ numbers_in read 4 n bytes
+pub taken : (size : ℕ) (longer : (n : ℕ) → size * suc n ≡ size + size * n) (read : List ℕ → ℕ) (n : ℕ) (bytes : List ℕ) → numbers_in read size n (take (size * n) bytes) ≡ numbers_in read size n bytes
 unfolding numbers_in
-numbers_taken read zero bytes = refl
-numbers_taken read (suc n) bytes =
-    let longer : 4 * suc n ≡ 4 + 4 * n = omega arith in
-    ap (λ k. read (take 4 (take k bytes)) ∷ numbers_in read 4 n (drop 4 (take k bytes))) longer
-    ∙ ap (λ t. read t ∷ numbers_in read 4 n (drop 4 (take (4 + 4 * n) bytes))) (take-take 4 (4 + 4 * n) bytes (omega arith))
-    ∙ ap (λ t. read (take 4 bytes) ∷ numbers_in read 4 n t) (drop-take 4 (4 * n) bytes)
-    ∙ ap (λ t. read (take 4 bytes) ∷ t) (numbers_taken read n (drop 4 bytes))
+taken size longer read zero bytes = refl
+taken size longer read (suc n) bytes =
+    ap (λ k. read (take size (take k bytes)) ∷ numbers_in read size n (drop size (take k bytes))) (longer n)
+    ∙ ap (λ t. read t ∷ numbers_in read size n (drop size (take (size + size * n) bytes))) (take-take size (size + size * n) bytes (omega arith))
+    ∙ ap (λ t. read (take size bytes) ∷ numbers_in read size n t) (drop-take size (size * n) bytes)
+    ∙ ap (λ t. read (take size bytes) ∷ t) (taken size longer read n (drop size bytes))
 
 -- The first linker member.
 
@@ -125,7 +138,7 @@ pub record HasIndex (bytes : List ℕ) : Type 0 where
   pub same : map pair_of entries ≡ first_data bytes
 
 -- bytes that are there
-there : (bytes : List ℕ) (offset count : ℕ) → offset + count ≤ length bytes → bytes_at bytes offset count ≡ Some (take count (drop offset bytes))
+pub there : (bytes : List ℕ) (offset count : ℕ) → offset + count ≤ length bytes → bytes_at bytes offset count ≡ Some (take count (drop offset bytes))
 unfolding bytes_at
 there bytes offset count enough = ap (λ b. if b then Some (take count (drop offset bytes)) else None) (le-leb (offset + count) (length bytes) enough)
 
@@ -148,7 +161,7 @@ index_there places entries pad few =
     let found_strings : drop (4 + 4 * n) bytes ≡ strings ++ pad =
     ap (drop (4 + 4 * n)) (append_assoc (count ++ offsets) strings pad) ∙ drop_at (count ++ offsets) (strings ++ pad) (4 + 4 * n) front in
     let enough : n ≤ nuls (drop (4 + 4 * n) bytes) = omega (arith, ap nuls found_strings, strings_nuls entries pad) in
-    let found = entries_there n (take (4 * n) (drop 4 bytes)) (drop (4 + 4 * n) bytes) enough in
+    let found = entries_there false n (take (4 * n) (drop 4 bytes)) (drop (4 + 4 * n) bytes) enough in
     record {
       entries = found.entries;
       is = ap (option_and_then (λ count. entries_behind false (from_be_bytes w32 (take 4 count)) 4 bytes)) (there bytes 0 4 (omega (arith, long, size)))
@@ -156,6 +169,6 @@ index_there places entries pad few =
           ∙ ap (option_and_then (λ places. entries_from false n places (drop (4 + 4 * n) bytes))) (there bytes 4 (4 * n) (omega (arith, long, size)))
           ∙ found.is;
       same = found.same
-          ∙ ap (paired (texts_in n (drop (4 + 4 * n) bytes))) (numbers_taken (from_be_bytes w32) n (drop 4 bytes))
+          ∙ ap (paired (texts_in n (drop (4 + 4 * n) bytes))) (taken 4 (λ k. omega arith) (from_be_bytes w32) n (drop 4 bytes))
           ∙ sym (ap (λ k. paired (texts_in k (drop (4 + 4 * k) bytes)) (numbers_in (from_be_bytes w32) 4 k (drop 4 bytes))) counted);
     }

@@ -8,4 +8,6 @@ pub mod Matching
 pub mod MeantLibraries
 pub mod OwnIndexes
 pub mod OwnLibraries
+pub mod OwnTables
 pub mod SameLibraries
+pub mod SecondIndex

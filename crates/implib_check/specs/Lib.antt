@@ -10,6 +10,7 @@ pub mod DefinitionText
 pub mod Defining
 pub mod Working
 pub mod OwnIndexes
+pub mod OwnTables
 pub mod Tasks
 pub mod Status
 pub mod Worked

@@ -3,6 +3,7 @@
 ghost use Rattle.implib_check.specs.Facts.{KeysTellFacts};
 ghost use Rattle.implib_check.specs.OwnIndexes.{OwnIndexesLead};
 ghost use Rattle.implib_check.specs.OwnLibraries.{MeantIsDefined, OwnLibrariesAreTheSame, SameSaysTheDefined};
+ghost use Rattle.implib_check.specs.OwnTables.{OwnTablesAreWhole};
 ghost use Rattle.implib_check.specs.Worked.{WorkedComparisons, WorkedIdentities, WorkedStatuses, WorkedTasks};
 ghost use Rattle.implib_check.specs.WorkedChecks.{WorkedChecks, WorkedTargets};
 ghost use Rattle.implib_check.specs.WorkedDefinitions.{WorkedDefines, WorkedDefinitions};
@@ -43,7 +44,7 @@ pub fn own_libraries_are_the_same()
     meant_is_defined();
 }
 
-/// The index of the library of a definition, as `implib_dlltool` writes it, leads each of its symbols to the first
+/// The indexes of the library of a definition, as `implib_dlltool` writes it, lead each of their symbols to the first
 /// member that declares it.
 pub fn own_indexes_lead()
     ensures { OwnIndexesLead }
@@ -52,6 +53,18 @@ pub fn own_indexes_lead()
     own_members_found();
     same_short_imports();
     same_objects();
+}
+
+/// The library of a definition, as `implib_dlltool` writes it, works, apart from where its indexes lead: each member is
+/// understood, and its import tables are whole.
+pub fn own_tables_are_whole()
+    ensures { OwnTablesAreWhole }
+{
+    own_members_found();
+    same_short_imports();
+    same_objects();
+    own_gnu_libraries();
+    meant_is_defined();
 }
 
 /// Which libraries are the same, and which differ in what, worked by hand.
