@@ -196,5 +196,15 @@ worked_working = record {
   done = refl;
   fails = refl;
   undecided = refl;
+  both_open = refl;
+  second_broken = refl;
+  first_broken = refl;
+  second_open = refl;
+  both_do = refl;
+  same_works = refl;
+  same_broken = refl;
+  same_open = refl;
+  different_works = refl;
+  open_broken = refl;
   task = refl;
 }

@@ -102,3 +102,11 @@ abbrev pub working_status : Working → ℕ
 working_status Works = 0
 working_status Broken = 1
 working_status NotDecided = 4
+
+-- whether two libraries work, given whether each does
+abbrev pub both_work : Working → Working → Working
+both_work Broken other = Broken
+both_work NotDecided Broken = Broken
+both_work NotDecided NotDecided = NotDecided
+both_work NotDecided Works = NotDecided
+both_work Works other = other

@@ -4,19 +4,19 @@ ghost use Rattle.std.specs.Prelude.{◌≡◌};
 ghost use Rattle.implib_check.specs.Status.{refusal_status, undefined_status};
 
 use crate::call::{Check, Define};
-use crate::compare::{compare, has_unread};
+use crate::compare::{Comparison, Verdict, compare, has_unread};
 use crate::defining::{Undefined, definition_of};
 use crate::definition::{CheckError, check_definition};
 use crate::differences::{BUFFER, Failure, Lines, flushed, tell_both};
 use crate::identity::dlls_of;
 use crate::status::{
-    identity_status, list_status, refusal_status, undefined_status, verdict_status,
+    comparison_status, identity_status, list_status, refusal_status, undefined_status,
 };
 use crate::target::{flavor_of, options_for, options_of};
 use crate::task::{Task, task_named};
 use crate::text::{Listed, Place, Shown, Source, doubt_of, fault_of};
 use crate::working::{
-    Piece, Working, first_misleads, has_one, has_whole_tables, linker_member, second_misleads,
+    Piece, Working, both_work, first_misleads, has_one, has_whole_tables, linker_member, second_misleads,
     working_status, works_of,
 };
 use implib::Flavor;
@@ -69,8 +69,8 @@ one of the definition; the differences.
   -V, --version
 
 Status: 0 done, the same; 1 different, a refused definition, no DLL, no
-definition, or broken; 2 wrong call; 3 a file or memory failed; 4 a member that may matter
-was not understood.
+definition, or broken; 2 wrong call; 3 a file or memory failed;
+4 a member that may matter was not understood.
 ";
 
 // What the program prints for `--version`.
@@ -226,6 +226,58 @@ fn run_identify<R: Files + AllocGlobal, O: Write, E: Write>(
     status_of(faults, written, status)
 }
 
+// Writes why a library that is the same as another does not work, if it does not.
+fn tell_working_if_same<O: Write>(
+    alloc: Global,
+    printer: &mut O,
+    verdict: Verdict,
+    path: &str,
+    library: &Library,
+) -> Result<Working, Failure> {
+    match verdict {
+        Verdict::Same => tell_working(alloc, printer, path, library),
+        Verdict::Different | Verdict::NotDecided => Ok(Working::Works),
+    }
+}
+
+// Writes in what two libraries differ, or why one does not work; and gives the exit status.
+fn tell_same<O: Write>(
+    alloc: Global,
+    printer: &mut O,
+    paths: (&str, &str),
+    libraries: (&Library, &Library),
+    found: &Comparison,
+) -> Result<u8, Failure> {
+    let sources = (Source::Library(paths.0), Source::Library(paths.1));
+    let (left, right) = libraries;
+    tell_both(
+        alloc,
+        printer,
+        sources,
+        &left.members,
+        &right.members,
+        found,
+    )?;
+    let first = tell_working_if_same(alloc, printer, found.verdict, paths.0, left)?;
+    let second = tell_working_if_same(alloc, printer, found.verdict, paths.1, right)?;
+    Ok(comparison_status(found.verdict, both_work(first, second)))
+}
+
+// Writes why a library that means what a definition means does not work, if it does not; and gives the exit status.
+fn tell_checked<O: Write, E: Write>(
+    alloc: Global,
+    printer: &mut O,
+    faults: &mut E,
+    verdict: Verdict,
+    path: &str,
+    library: &Library,
+) -> u8 {
+    match tell_working_if_same(alloc, printer, verdict, path, library) {
+        Ok(working) => comparison_status(verdict, working),
+        Err(failure) => status_of(faults, Err(failure), 3),
+    }
+}
+
 // Compares two libraries, and gives the exit status.
 fn run_same<R: Files + AllocGlobal, O: Write, E: Write>(
     rt: &R,
@@ -255,16 +307,10 @@ fn run_same<R: Files + AllocGlobal, O: Write, E: Write>(
     };
     doubt(faults, paths.0, &left.members, true);
     doubt(faults, paths.1, &right.members, true);
-    let sources = (Source::Library(paths.0), Source::Library(paths.1));
-    let written = tell_both(
-        rt.alloc(),
-        printer,
-        sources,
-        &left.members,
-        &right.members,
-        &found,
-    );
-    status_of(faults, written, verdict_status(found.verdict))
+    match tell_same(rt.alloc(), printer, paths, (&left, &right), &found) {
+        Ok(status) => status,
+        Err(failure) => status_of(faults, Err(failure), 3),
+    }
 }
 
 // Says why a definition is refused, and gives the exit status.
@@ -304,7 +350,7 @@ fn run_check<R: Files + AllocGlobal, O: Write, E: Write>(
     doubt(faults, check.library, members, true);
     let paths = (check.library, check.definition);
     match check_definition(rt.alloc(), printer, paths, members, &definition, &options) {
-        Ok(verdict) => verdict_status(verdict),
+        Ok(verdict) => tell_checked(rt.alloc(), printer, faults, verdict, check.library, &library),
         Err(CheckError::Refused(refusal)) => refuse(faults, check.definition, &refusal),
         Err(CheckError::Failed(failure)) => status_of(faults, Err(failure), 3),
     }

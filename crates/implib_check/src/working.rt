@@ -2,7 +2,7 @@
 
 ghost use Rattle.std.specs.Prelude.{◌≡◌, ◌==◌, map, IfOk, OnOk};
 ghost use Rattle.std.specs.Option.{option_map};
-ghost use Rattle.implib_check.specs.Working.{first_entries, first_misleads, has_one, has_whole_tables, is_linker, is_piece, linker_member, misleading};
+ghost use Rattle.implib_check.specs.Working.{both_work, first_entries, first_misleads, has_one, has_whole_tables, is_linker, is_piece, linker_member, misleading};
 ghost use Rattle.implib_check.specs.Working.{second_misleads, with_first, with_offset, working_status, works_of};
 ghost use Rattle.implib_read.specs.ArchiveViews.{member_view, part_view};
 ghost use Rattle.implib_read.specs.ClassViews.{class_view, member_read_view};
@@ -255,5 +255,19 @@ pub fn working_status(working: Working) -> u8
         Working::Works => 0,
         Working::Broken => 1,
         Working::NotDecided => 4,
+    }
+}
+
+/// Whether two libraries work, given whether each does.
+pub fn both_work(left: Working, right: Working) -> Working
+    ensures { result ≡ both_work left right }
+{
+    match left {
+        Working::Broken => Working::Broken,
+        Working::NotDecided => match right {
+            Working::Broken => Working::Broken,
+            Working::NotDecided | Working::Works => Working::NotDecided,
+        },
+        Working::Works => right,
     }
 }
