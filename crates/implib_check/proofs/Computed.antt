@@ -3,6 +3,7 @@ use Rattle.std.proofs.Common.{refl}
 use Rattle.implib_check.specs.Worked.{WorkedComparisons, WorkedIdentities, WorkedStatuses, WorkedTasks}
 use Rattle.implib_rules.specs.Names.{part_after_last}
 use Rattle.implib_check.specs.WorkedChecks.{WorkedChecks, WorkedTargets}
+use Rattle.implib_check.specs.WorkedTogether.{WorkedTogether}
 use Rattle.implib_check.specs.WorkedWorking.{WorkedWorking}
 use Rattle.implib.specs.Formats.Object.{before_nul, bytes_at, u16_at, u32_at}
 use Rattle.implib_read.specs.Indexes.{entries_from, first_index_in, second_index_in}
@@ -207,4 +208,25 @@ worked_working = record {
   different_works = refl;
   open_broken = refl;
   task = refl;
+}
+
+pub worked_together : WorkedTogether
+worked_together = record {
+  other_dll = refl;
+  other_ordinal = refl;
+  other_name = refl;
+  by_ordinal = refl;
+  an_alias = refl;
+  other_target = refl;
+  same = refl;
+  other_symbol = refl;
+  one_library = refl;
+  first_counts = refl;
+  unread = refl;
+  clash = refl;
+  none = refl;
+  task = refl;
+  three = refl;
+  one_alone = refl;
+  no_library = refl;
 }

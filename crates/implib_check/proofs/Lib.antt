@@ -1,3 +1,4 @@
+pub mod Claims
 pub mod Computed
 pub mod Counting
 pub mod Definitions

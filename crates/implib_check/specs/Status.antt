@@ -41,3 +41,7 @@ undefined_status undefined.Unread = 4
 undefined_status (undefined.Refused refusal) = refusal_status refusal
 undefined_status undefined.Different = 1
 undefined_status (undefined.Failed failure) = 3
+
+-- of libraries in one link: 4 where a member may import what is not read, and 1 where two clash
+abbrev pub together_status : Bool → Bool → ℕ
+together_status unread clash = if unread then 4 else if clash then 1 else 0

@@ -1,7 +1,7 @@
 //! Exit statuses.
 
 ghost use Rattle.std.specs.Prelude.{◌≡◌};
-ghost use Rattle.implib_check.specs.Status.{comparison_status, identity_status, list_status, refusal_status, undefined_status, verdict_status};
+ghost use Rattle.implib_check.specs.Status.{comparison_status, identity_status, list_status, refusal_status, together_status, undefined_status, verdict_status};
 
 use crate::compare::Verdict;
 use crate::defining::Undefined;
@@ -68,5 +68,18 @@ pub fn undefined_status(why: &Undefined) -> u8
         Undefined::Refused(refusal) => refusal_status(refusal),
         Undefined::Different => 1,
         Undefined::Failed(_) => 3,
+    }
+}
+
+/// The exit status of libraries in one link, given whether a member may import what is not read, and whether two clash.
+pub fn together_status(unread: bool, clash: bool) -> u8
+    ensures { result ≡ together_status unread clash }
+{
+    if unread {
+        4
+    } else if clash {
+        1
+    } else {
+        0
     }
 }
