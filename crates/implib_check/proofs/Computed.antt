@@ -3,6 +3,7 @@ use Rattle.std.proofs.Common.{refl}
 use Rattle.implib_check.specs.Worked.{WorkedComparisons, WorkedIdentities, WorkedStatuses, WorkedTasks}
 use Rattle.implib_rules.specs.Names.{part_after_last}
 use Rattle.implib_check.specs.WorkedChecks.{WorkedChecks, WorkedTargets}
+use Rattle.implib_check.specs.WorkedTogether.{WorkedTogether}
 use Rattle.implib_check.specs.WorkedWorking.{WorkedWorking}
 use Rattle.implib.specs.Formats.Object.{before_nul, bytes_at, u16_at, u32_at}
 use Rattle.implib_read.specs.Indexes.{entries_from, first_index_in, second_index_in}
@@ -176,6 +177,11 @@ worked_working = record {
   too_short = refl;
   numbered = refl;
   misnumbered = refl;
+  passed_over = refl;
+  first_counts = refl;
+  other_symbol = refl;
+  second_passed_over = refl;
+  second_counts = refl;
   msvc = refl;
   no_thunk = refl;
   two_descriptors = refl;
@@ -191,5 +197,36 @@ worked_working = record {
   done = refl;
   fails = refl;
   undecided = refl;
+  both_open = refl;
+  second_broken = refl;
+  first_broken = refl;
+  second_open = refl;
+  both_do = refl;
+  same_works = refl;
+  same_broken = refl;
+  same_open = refl;
+  different_works = refl;
+  open_broken = refl;
   task = refl;
+}
+
+pub worked_together : WorkedTogether
+worked_together = record {
+  other_dll = refl;
+  other_ordinal = refl;
+  other_name = refl;
+  by_ordinal = refl;
+  an_alias = refl;
+  other_target = refl;
+  same = refl;
+  other_symbol = refl;
+  one_library = refl;
+  first_counts = refl;
+  unread = refl;
+  clash = refl;
+  none = refl;
+  task = refl;
+  three = refl;
+  one_alone = refl;
+  no_library = refl;
 }

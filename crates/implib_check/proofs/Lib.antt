@@ -1,8 +1,14 @@
+pub mod Claims
 pub mod Computed
 pub mod Counting
 pub mod Definitions
+pub mod FirstEntries
+pub mod IndexReadings
 pub mod KeyTexts
 pub mod Matching
 pub mod MeantLibraries
+pub mod OwnIndexes
 pub mod OwnLibraries
+pub mod OwnTables
 pub mod SameLibraries
+pub mod SecondIndex

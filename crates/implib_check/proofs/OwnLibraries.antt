@@ -58,7 +58,7 @@ read_members : (members : List MemberRead) → meanings_read members ≡ filter_
 read_members [] = refl
 read_members (m ∷ members) = ap (cons_option (meaning_of_class m.class)) (read_members members)
 
-any_members : (test : Class → Bool) (members : List MemberRead) → list_any (λ m. test m.class) members ≡ list_any test (map (λ m. m.class) members)
+pub any_members : (test : Class → Bool) (members : List MemberRead) → list_any (λ m. test m.class) members ≡ list_any test (map (λ m. m.class) members)
 any_members test [] = refl
 any_members test (m ∷ members) = ap (λ b. test m.class || b) (any_members test members)
 
@@ -75,7 +75,7 @@ told test import alias DelayImport m is = cc
 told test import alias Other m is = cc
 told test import alias NotUnderstood m is = cc
 
-all_told : (test : Class → Bool) → ((i : Imported) → test (AnImport i) ≡ false) → ((a : Alias) → test (AnAlias a) ≡ false) → (cs : List Class) (ms : List Meaning)
+pub all_told : (test : Class → Bool) → ((i : Imported) → test (AnImport i) ≡ false) → ((a : Alias) → test (AnAlias a) ≡ false) → (cs : List Class) (ms : List Meaning)
     → map meaning_of_class cs ≡ map Some ms → list_any test cs ≡ false
 all_told test import alias [] ms same = refl
 all_told test import alias (c ∷ cs) [] same = cc
@@ -117,6 +117,11 @@ after_header n header members ms unread other none is means =
           any_members is_other members
           ∙ none_after n is_other cs (ap (list_any is_other) is ∙ other) (all_told is_other (λ i. refl) (λ a. refl) (drop n cs) ms means);
     }
+
+-- the first classes of members are these, and those after them mean this
+pub record HasHeader (n : ℕ) (header : List Class) (members : List MemberRead) (ms : List Meaning) : Type 0 where
+  pub first : take n (map (λ m. m.class) members) ≡ header
+  pub rest : map meaning_of_class (drop n (map (λ m. m.class) members)) ≡ map Some ms
 
 -- Libraries for GNU's linker.
 
@@ -200,7 +205,7 @@ true_all {A = A} test (x ∷ xs) same =
     let rest : map test xs ≡ map (λ (x : A). true) xs = cc in
     ap (λ b. b && list_all test xs) first ∙ true_all test xs rest
 
-files_plain : (machine : MachineType) (d : DefinitionView) → list_all is_plain (files_of_specs (msvc_specs machine d)) ≡ true
+pub files_plain : (machine : MachineType) (d : DefinitionView) → list_all is_plain (files_of_specs (msvc_specs machine d)) ≡ true
 files_plain machine d =
     let test : MemberSpec → Bool = λ p. is_plain (file_of p.contents) in
     list_all-map is_plain (λ (p : MemberSpec). file_of p.contents) (msvc_specs machine d)
@@ -208,7 +213,7 @@ files_plain machine d =
     (shown_whole test (λ p. true) machine (names_for Msvc d) (public_exports d)
     (all_true test (member_specs d machine Msvc) (sym (list_all-map is_plain (λ (p : MemberSpec). file_of p.contents) (member_specs d machine Msvc)) ∙ specs_plain d machine)))
 
-files_read : (machine : MachineType) (d : DefinitionView) (all : List MemberView) → AreMembersOf d machine Msvc all → MsvcReadBack d machine all → renamed d ≡ d
+pub files_read : (machine : MachineType) (d : DefinitionView) (all : List MemberView) → AreMembersOf d machine Msvc all → MsvcReadBack d machine all → renamed d ≡ d
     → map (λ (p : MemberSpec). file_in (member_of p).bytes) (msvc_specs machine d) ≡ map (λ (p : MemberSpec). Some (file_of p.contents)) (msvc_specs machine d)
 files_read machine d all made reads once =
     let specs = member_specs d machine Msvc in
@@ -224,11 +229,12 @@ header_read : (defined : List ℕ → Option Place) (machine : MachineType) (d :
 unfolding header_specs
 header_read defined machine d = header_classes defined d machine
 
-says_msvc : OwnMembersFound → SameShortImports → SameObjects → (kind : Kind) (d : DefinitionView) (machine : MachineType) (all members : List MemberView) (meant : List MemberRead)
+pub header_msvc : OwnMembersFound → SameShortImports → SameObjects → (kind : Kind) (d : DefinitionView) (machine : MachineType) (all members : List MemberView) (meant : List MemberRead)
     → AreMembersOf d machine Msvc all → MsvcReadBack d machine all → renamed d ≡ d → members ≡ map member_of (msvc_specs machine d) → ReadsInOrder d machine members
-    → refusal_of kind members ≡ None → library_in (archive_of kind members) ≡ Some meant → SaysWhatIsDefined d machine Msvc meant
+    → refusal_of kind members ≡ None → library_in (archive_of kind members) ≡ Some meant
+    → HasHeader 3 (Descriptor ∷ NullDescriptor ∷ NullThunk ∷ []) meant (map MeansImport (own_imports machine d) ++ map MeansAlias (own_aliases d))
 unfolding library_in
-says_msvc own imports objects kind d machine all members meant made back once is reads accepted there =
+header_msvc own imports objects kind d machine all members meant made back once is reads accepted there =
     let bytes = archive_of kind members in
     let specs = msvc_specs machine d in
     let contents = map (λ (m : MemberView). m.bytes) members in
@@ -261,13 +267,23 @@ says_msvc own imports objects kind d machine all members meant made back once is
     let meanings : map meaning_of_class (drop 3 classes) ≡ map Some ms =
     ap (map meaning_of_class) (drop_mapped (class_of_file defined) (map found_of fs) ∙ ap (map (class_of_file defined)) (drop_mapped found_of fs))
     ∙ meanings_as defined (drop 3 fs) ms (drop_plain fs plain) means in
-    let read_whole = after_header 3 (Descriptor ∷ NullDescriptor ∷ NullThunk ∷ []) meant ms refl refl refl
-    (ap (take 3) (sym same) ∙ header_read defined machine d) (ap (λ cs. map meaning_of_class (drop 3 cs)) (sym same) ∙ meanings) in
     record {
-      imports = ap (filter_map import_among) read_whole.meanings ∙ imports_first (own_imports machine d) (own_aliases d);
-      aliases = ap (filter_map alias_among) read_whole.meanings ∙ aliases_last (own_imports machine d) (own_aliases d);
-      read = read_whole.read;
-      alone = read_whole.alone;
+      first = ap (take 3) (sym same) ∙ header_read defined machine d;
+      rest = ap (λ cs. map meaning_of_class (drop 3 cs)) (sym same) ∙ meanings;
+    }
+
+says_msvc : OwnMembersFound → SameShortImports → SameObjects → (kind : Kind) (d : DefinitionView) (machine : MachineType) (all members : List MemberView) (meant : List MemberRead)
+    → AreMembersOf d machine Msvc all → MsvcReadBack d machine all → renamed d ≡ d → members ≡ map member_of (msvc_specs machine d) → ReadsInOrder d machine members
+    → refusal_of kind members ≡ None → library_in (archive_of kind members) ≡ Some meant → SaysWhatIsDefined d machine Msvc meant
+says_msvc own imports objects kind d machine all members meant made back once is reads accepted there =
+    let has = header_msvc own imports objects kind d machine all members meant made back once is reads accepted there in
+    let ms = map MeansImport (own_imports machine d) ++ map MeansAlias (own_aliases d) in
+    let whole = after_header 3 (Descriptor ∷ NullDescriptor ∷ NullThunk ∷ []) meant ms refl refl refl has.first has.rest in
+    record {
+      imports = ap (filter_map import_among) whole.meanings ∙ imports_first (own_imports machine d) (own_aliases d);
+      aliases = ap (filter_map alias_among) whole.meanings ∙ aliases_last (own_imports machine d) (own_aliases d);
+      read = whole.read;
+      alone = whole.alone;
     }
 
 -- Libraries of either flavour.

@@ -9,9 +9,13 @@ pub mod OwnLibraries
 pub mod DefinitionText
 pub mod Defining
 pub mod Working
+pub mod OwnIndexes
+pub mod OwnTables
 pub mod Tasks
+pub mod Together
 pub mod Status
 pub mod Worked
 pub mod WorkedChecks
 pub mod WorkedDefinitions
 pub mod WorkedWorking
+pub mod WorkedTogether

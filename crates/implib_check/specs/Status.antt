@@ -4,6 +4,8 @@ use Rattle.implib_check.specs.declared.compare.Verdict.{Verdict}
 use Rattle.implib_check.specs.declared.compare.Verdict.TheVariants.{Different, NotDecided, Same}
 use Rattle.implib_check.specs.declared.defining.Undefined.{Undefined}
 use Rattle.implib_check.specs.declared.defining.Undefined.TheVariants as undefined
+use Rattle.implib_check.specs.declared.working.Working.{Working}
+use Rattle.implib_check.specs.Working.{working_status}
 use Rattle.implib_rules.specs.declared.library.Refusal.{Refusal}
 use Rattle.implib_rules.specs.Library.{status_of}
 
@@ -12,6 +14,12 @@ abbrev pub verdict_status : Verdict → ℕ
 verdict_status Same = 0
 verdict_status Different = 1
 verdict_status NotDecided = 4
+
+-- of a comparison of libraries that have to work: where they are the same, whether they work
+abbrev pub comparison_status : Verdict → Working → ℕ
+comparison_status Same working = working_status working
+comparison_status Different working = verdict_status Different
+comparison_status NotDecided working = verdict_status NotDecided
 
 -- of a list: 4 where a member may import what is not read
 abbrev pub list_status : Bool → ℕ
@@ -33,3 +41,7 @@ undefined_status undefined.Unread = 4
 undefined_status (undefined.Refused refusal) = refusal_status refusal
 undefined_status undefined.Different = 1
 undefined_status (undefined.Failed failure) = 3
+
+-- of libraries in one link: 4 where a member may import what is not read, and 1 where two clash
+abbrev pub together_status : Bool → Bool → ℕ
+together_status unread clash = if unread then 4 else if clash then 1 else 0

@@ -1,6 +1,7 @@
 -- What the words of a command line ask for (this project's choice; `--identify` after GNU dlltool's).
-use Rattle.std.specs.Prelude.{ℕ, Bool, true, false, ◌||◌, List, [], ◌∷◌, Option, Some, None, bytes_eq, codes, if◌then◌else◌}
+use Rattle.std.specs.Prelude.{ℕ, Bool, true, false, ◌||◌, List, [], ◌∷◌, Option, Some, None, bytes_eq, codes, if◌then◌else◌, map}
 use Rattle.std.specs.Option.{option_map, option_or}
+use Rattle.std.specs.String.{string_bytes}
 use Rattle.implib_check.specs.Calls.{CheckView, DefineView, check_called, check_view, define_called, define_view}
 use Rattle.implib_check.specs.declared.task.Task.{Task}
 use Rattle.implib_check.specs.declared.task.Task.TheVariants as task
@@ -17,6 +18,8 @@ pub data TaskView : Type 0 where
   WorksOf : List ℕ → TaskView
   -- whether two libraries mean the same
   Compares : List ℕ → List ℕ → TaskView
+  -- what libraries of one link do to each other
+  Joins : List (List ℕ) → TaskView
   -- whether a library means what a definition means
   Checks : CheckView → TaskView
   -- the definition of a library
@@ -30,6 +33,7 @@ task_view (task.List path) = Lists path.now
 task_view (task.Identify path is_strict) = Identifies path.now is_strict
 task_view (task.Works path) = WorksOf path.now
 task_view (task.Same left right) = Compares left.now right.now
+task_view (task.Together paths) = Joins (map string_bytes paths.now)
 task_view (task.Check check) = Checks (check_view check)
 task_view (task.Define define) = Defines (define_view define)
 
@@ -61,11 +65,19 @@ task_by_name (option ∷ path ∷ []) = with_library option path
 task_by_name (option ∷ left ∷ right ∷ []) = with_libraries option left right
 task_by_name (option ∷ left ∷ right ∷ more ∷ words) = None
 
--- what words ask for that name files and options: behind `--def` a definition, else a comparison with one
+-- the task of two libraries or more
+abbrev pub with_all : List (List ℕ) → Option TaskView
+with_all [] = None
+with_all (path ∷ []) = None
+with_all (path ∷ other ∷ paths) = Some (Joins (path ∷ other ∷ paths))
+
+-- what words ask for that name files and options: behind `--def` a definition, behind `--together` what libraries do to
+-- each other, else a comparison with a definition
 abbrev pub with_files : List (List ℕ) → Option TaskView
 with_files [] = option_map Checks (check_called [])
 with_files (first ∷ rest) =
     if bytes_eq first (codes "--def") then option_map Defines (define_called rest)
+    else if bytes_eq first (codes "--together") then with_all rest
     else option_map Checks (check_called (first ∷ rest))
 
 -- what the words after the program's name ask for

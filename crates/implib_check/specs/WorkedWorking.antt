@@ -4,9 +4,12 @@ use Rattle.implib.specs.declared.flavor.Flavor.TheVariants.{Gnu, Msvc}
 use Rattle.implib_read.specs.Archives.{Part, StoredMember}
 use Rattle.implib_read.specs.Classes.{Descriptor, Head, NullDescriptor, NullThunk, Other, Tail}
 use Rattle.implib_read.specs.MemberNames.{LinkerMember, LongNamesMember, MemberName, Named}
+use Rattle.implib_check.specs.declared.compare.Verdict.TheVariants.{Different, Same}
+use Rattle.implib_check.specs.declared.compare.Verdict.TheVariants.{NotDecided as Open}
 use Rattle.implib_check.specs.declared.working.Working.TheVariants.{Broken, NotDecided, Works}
+use Rattle.implib_check.specs.Status.{comparison_status}
 use Rattle.implib_check.specs.Tasks.{WorksOf, task_named}
-use Rattle.implib_check.specs.Working.{first_misleads, has_whole_tables, linker_member, second_misleads, working_status, works_of}
+use Rattle.implib_check.specs.Working.{both_work, first_misleads, has_whole_tables, linker_member, second_misleads, working_status, works_of}
 use Rattle.implib_check.specs.Worked.{member}
 
 -- a part with one byte of data
@@ -38,6 +41,15 @@ pub record WorkedWorking : Type 0 where
   -- the second: one offset, 0x48, and one entry with its number, or with another
   pub numbered : second_misleads short_import (1 ∷ 0 ∷ 0 ∷ 0 ∷ 0x48 ∷ 0 ∷ 0 ∷ 0 ∷ 1 ∷ 0 ∷ 0 ∷ 0 ∷ 1 ∷ 0 ∷ codes "f\0") ≡ Some []
   pub misnumbered : second_misleads short_import (1 ∷ 0 ∷ 0 ∷ 0 ∷ 0x48 ∷ 0 ∷ 0 ∷ 0 ∷ 1 ∷ 0 ∷ 0 ∷ 0 ∷ 2 ∷ 0 ∷ codes "f\0") ≡ Some (record { symbol = codes "f"; place = 0 } ∷ [])
+  -- a second entry of `f` is passed over, but not where the first misleads; `g` has a first entry of its own
+  pub passed_over : first_misleads short_import (0 ∷ 0 ∷ 0 ∷ 2 ∷ 0 ∷ 0 ∷ 0 ∷ 0x48 ∷ 0 ∷ 0 ∷ 0 ∷ 0x49 ∷ codes "f\0f\0") ≡ Some []
+  pub first_counts : first_misleads short_import (0 ∷ 0 ∷ 0 ∷ 2 ∷ 0 ∷ 0 ∷ 0 ∷ 0x49 ∷ 0 ∷ 0 ∷ 0 ∷ 0x48 ∷ codes "f\0f\0")
+      ≡ Some (record { symbol = codes "f"; place = 0x49 } ∷ [])
+  pub other_symbol : first_misleads short_import (0 ∷ 0 ∷ 0 ∷ 2 ∷ 0 ∷ 0 ∷ 0 ∷ 0x48 ∷ 0 ∷ 0 ∷ 0 ∷ 0x48 ∷ codes "f\0g\0")
+      ≡ Some (record { symbol = codes "g"; place = 0x48 } ∷ [])
+  pub second_passed_over : second_misleads short_import (1 ∷ 0 ∷ 0 ∷ 0 ∷ 0x48 ∷ 0 ∷ 0 ∷ 0 ∷ 2 ∷ 0 ∷ 0 ∷ 0 ∷ 1 ∷ 0 ∷ 2 ∷ 0 ∷ codes "f\0f\0") ≡ Some []
+  pub second_counts : second_misleads short_import (1 ∷ 0 ∷ 0 ∷ 0 ∷ 0x48 ∷ 0 ∷ 0 ∷ 0 ∷ 2 ∷ 0 ∷ 0 ∷ 0 ∷ 2 ∷ 0 ∷ 1 ∷ 0 ∷ codes "f\0f\0")
+      ≡ Some (record { symbol = codes "f"; place = 0 } ∷ [])
   -- import tables
   pub msvc : has_whole_tables Msvc (member NullThunk ∷ member Descriptor ∷ member Other ∷ member NullDescriptor ∷ []) ≡ true
   pub no_thunk : has_whole_tables Msvc (member Descriptor ∷ member NullDescriptor ∷ []) ≡ false
@@ -55,4 +67,16 @@ pub record WorkedWorking : Type 0 where
   pub done : working_status Works ≡ 0
   pub fails : working_status Broken ≡ 1
   pub undecided : working_status NotDecided ≡ 4
+  -- of two libraries
+  pub both_open : both_work NotDecided Works ≡ NotDecided
+  pub second_broken : both_work NotDecided Broken ≡ Broken
+  pub first_broken : both_work Broken Works ≡ Broken
+  pub second_open : both_work Works NotDecided ≡ NotDecided
+  pub both_do : both_work Works Works ≡ Works
+  -- of those that are the same whether they work counts; what differs differs, whether it works or not
+  pub same_works : comparison_status Same Works ≡ 0
+  pub same_broken : comparison_status Same Broken ≡ 1
+  pub same_open : comparison_status Same NotDecided ≡ 4
+  pub different_works : comparison_status Different Works ≡ 1
+  pub open_broken : comparison_status Open Broken ≡ 4
   pub task : task_named (codes "--works" ∷ codes "a.lib" ∷ []) ≡ Some (WorksOf (codes "a.lib"))

@@ -1,6 +1,7 @@
 -- Whether a library works: whether its indexes lead to what they name, and its chains of import tables are whole
 -- (this project's choice; docs/CHECK.md, "Whether a library works").
-use Rattle.std.specs.Prelude.{ℕ, ◌-◌, ◌==◌, Bool, true, false, ◌&&◌, List, [], ◌∷◌, Option, None, Some, if◌then◌else◌, map, unwrap_or}
+use Rattle.std.specs.Prelude.{ℕ, ◌-◌, ◌==◌, Bool, true, false, ◌&&◌, List, [], ◌∷◌, ◌++◌, Option, None, Some, bytes_eq, fold, if◌then◌else◌, map, unwrap_or}
+use Rattle.std.specs.List.{list_any}
 use Rattle.std.specs.Option.{option_map}
 use Rattle.implib.specs.declared.flavor.Flavor.{Flavor}
 use Rattle.implib.specs.declared.flavor.Flavor.TheVariants.{Gnu, Msvc}
@@ -31,9 +32,21 @@ linker_member skipped (p ∷ parts) =
     if is_linker p.name then (if skipped == 0 then Some p.contents else linker_member (skipped - 1) parts)
     else linker_member skipped parts
 
--- the entries of the first linker member that do not lead to the first member that declares their symbol
+-- entries, with one more unless one of its symbol is among them
+abbrev pub with_first : List IndexEntry → IndexEntry → List IndexEntry
+with_first entries e = if list_any (λ f. bytes_eq e.symbol f.symbol) entries then entries else entries ++ e ∷ []
+
+-- The first entry of each symbol. A linker goes by it; later entries of the symbol it passes over.
+abbrev pub first_entries : List IndexEntry → List IndexEntry
+first_entries entries = fold with_first [] entries
+
+-- the first entries of symbols that do not lead to the first member that declares their symbol
+abbrev pub misleading : List StoredMember → List IndexEntry → List IndexEntry
+misleading members entries = wrong_entries (first_declarer members) (first_entries entries)
+
+-- the entries of the first linker member by which a linker is misled
 abbrev pub first_misleads : List StoredMember → List ℕ → Option (List IndexEntry)
-first_misleads members contents = option_map (wrong_entries (first_declarer members)) (first_index_in contents)
+first_misleads members contents = option_map (misleading members) (first_index_in contents)
 
 -- an entry of the second linker member with the offset that its number has, or 0, where no member is
 abbrev pub with_offset : List ℕ → IndexEntry → IndexEntry
@@ -42,7 +55,7 @@ with_offset offsets e = record { symbol = e.symbol; place = unwrap_or (offset_nu
 -- the same of the second linker member
 abbrev pub second_misleads : List StoredMember → List ℕ → Option (List IndexEntry)
 second_misleads members contents =
-    option_map (λ i. wrong_entries (first_declarer members) (map (with_offset i.offsets) i.entries)) (second_index_in contents)
+    option_map (λ i. misleading members (map (with_offset i.offsets) i.entries)) (second_index_in contents)
 
 -- Import tables.
 
@@ -89,3 +102,11 @@ abbrev pub working_status : Working → ℕ
 working_status Works = 0
 working_status Broken = 1
 working_status NotDecided = 4
+
+-- whether two libraries work, given whether each does
+abbrev pub both_work : Working → Working → Working
+both_work Broken other = Broken
+both_work NotDecided Broken = Broken
+both_work NotDecided NotDecided = NotDecided
+both_work NotDecided Works = NotDecided
+both_work Works other = other

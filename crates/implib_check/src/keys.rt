@@ -47,7 +47,7 @@ fn push_lowered(key: &mut Vec<u8>, text: &[u8]) -> Result<(), AllocError>
 }
 
 // Adds a text.
-fn push_text(key: &mut Vec<u8>, text: &[u8]) -> Result<(), AllocError>
+pub(crate) fn push_text(key: &mut Vec<u8>, text: &[u8]) -> Result<(), AllocError>
     ensures { OnOk result (key.new.items ≡ key.old.items ++ text_key text.now) }
 {
     push_bytes(key, text)?;
@@ -56,7 +56,7 @@ fn push_text(key: &mut Vec<u8>, text: &[u8]) -> Result<(), AllocError>
 }
 
 // Adds a DLL's name.
-fn push_dll(key: &mut Vec<u8>, dll: &[u8]) -> Result<(), AllocError>
+pub(crate) fn push_dll(key: &mut Vec<u8>, dll: &[u8]) -> Result<(), AllocError>
     ensures { OnOk result (key.new.items ≡ key.old.items ++ text_key (map to_ascii_lowercase dll.now)) }
 {
     push_lowered(key, dll)?;
@@ -118,7 +118,7 @@ fn push_number(key: &mut Vec<u8>, number: u16) -> Result<(), AllocError>
 }
 
 // Adds what is asked for.
-fn push_asked(key: &mut Vec<u8>, ask: AskFound) -> Result<(), AllocError>
+pub(crate) fn push_asked(key: &mut Vec<u8>, ask: AskFound) -> Result<(), AllocError>
     ensures { OnOk result (key.new.items ≡ key.old.items ++ asked_key (asked_by (ask_view ask.entry))) }
 {
     match ask {

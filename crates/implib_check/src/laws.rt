@@ -1,13 +1,18 @@
 //! Laws of the definitions. The functions do nothing: their contracts are the laws.
 
 ghost use Rattle.implib_check.specs.Facts.{KeysTellFacts};
+ghost use Rattle.implib_check.specs.OwnIndexes.{OwnIndexesLead};
 ghost use Rattle.implib_check.specs.OwnLibraries.{MeantIsDefined, OwnLibrariesAreTheSame, SameSaysTheDefined};
+ghost use Rattle.implib_check.specs.OwnTables.{OwnTablesAreWhole};
 ghost use Rattle.implib_check.specs.Worked.{WorkedComparisons, WorkedIdentities, WorkedStatuses, WorkedTasks};
 ghost use Rattle.implib_check.specs.WorkedChecks.{WorkedChecks, WorkedTargets};
 ghost use Rattle.implib_check.specs.WorkedDefinitions.{WorkedDefines, WorkedDefinitions};
+ghost use Rattle.implib_check.specs.WorkedTogether.{WorkedTogether};
 ghost use Rattle.implib_check.specs.WorkedWorking.{WorkedWorking};
 
-use implib_read::laws::{own_gnu_libraries, own_members_found, same_objects, same_short_imports};
+use implib_read::laws::{
+    own_gnu_libraries, own_members_found, same_objects, same_parts, same_short_imports,
+};
 
 /// Two imports or aliases with one key are the same.
 pub fn keys_tell_facts()
@@ -37,6 +42,29 @@ pub fn same_says_the_defined()
 pub fn own_libraries_are_the_same()
     ensures { OwnLibrariesAreTheSame }
 {
+    meant_is_defined();
+}
+
+/// The indexes of the library of a definition, as `implib_dlltool` writes it, lead each of their symbols to the first
+/// member that declares it.
+pub fn own_indexes_lead()
+    ensures { OwnIndexesLead }
+{
+    same_parts();
+    own_members_found();
+    same_short_imports();
+    same_objects();
+}
+
+/// The library of a definition, as `implib_dlltool` writes it, works, apart from where its indexes lead: each member is
+/// understood, and its import tables are whole.
+pub fn own_tables_are_whole()
+    ensures { OwnTablesAreWhole }
+{
+    own_members_found();
+    same_short_imports();
+    same_objects();
+    own_gnu_libraries();
     meant_is_defined();
 }
 
@@ -83,4 +111,9 @@ pub fn worked_defines()
 /// Where indexes mislead, and which libraries work, worked by hand.
 pub fn worked_working()
     ensures { WorkedWorking }
+{}
+
+/// What libraries do to each other in one link, worked by hand.
+pub fn worked_together()
+    ensures { WorkedTogether }
 {}

@@ -23,6 +23,7 @@ pub mod status;
 pub mod target;
 pub mod task;
 mod text;
+pub mod together;
 pub mod working;
 
 use crate::program::perform;

@@ -4,19 +4,21 @@ ghost use Rattle.std.specs.Prelude.{◌≡◌};
 ghost use Rattle.implib_check.specs.Status.{refusal_status, undefined_status};
 
 use crate::call::{Check, Define};
-use crate::compare::{compare, has_unread};
+use crate::compare::{Comparison, Verdict, compare, has_unread};
 use crate::defining::{Undefined, definition_of};
 use crate::definition::{CheckError, check_definition};
 use crate::differences::{BUFFER, Failure, Lines, flushed, tell_both};
 use crate::identity::dlls_of;
 use crate::status::{
-    identity_status, list_status, refusal_status, undefined_status, verdict_status,
+    comparison_status, identity_status, list_status, refusal_status, together_status,
+    undefined_status,
 };
 use crate::target::{flavor_of, options_for, options_of};
 use crate::task::{Task, task_named};
-use crate::text::{Listed, Place, Shown, Source, doubt_of, fault_of};
+use crate::text::{Listed, Place, Said, Shown, Source, doubt_of, fault_of};
+use crate::together::{Claim, add_claims, clashes};
 use crate::working::{
-    Piece, Working, first_misleads, has_one, has_whole_tables, linker_member, second_misleads,
+    Piece, Working, both_work, first_misleads, has_one, has_whole_tables, linker_member, second_misleads,
     working_status, works_of,
 };
 use implib::Flavor;
@@ -44,6 +46,7 @@ usage: implib_check LIB DEF [-m MACHINE] [-k] [--no-leading-underscore]
        implib_check --identify-strict LIB
        implib_check --same LIB LIB
        implib_check --works LIB
+       implib_check --together LIB LIB..
 
 Reads import libraries of any maker. With a library and a module definition:
 whether the library has the imports and aliases that implib_dlltool would give
@@ -63,14 +66,16 @@ one of the definition; the differences.
   --identify-strict  the DLL; an error where there are several
   --same             whether two libraries have the same imports and aliases;
                      the differences
+  --together         which symbols two of these libraries take from different
+                     DLLs, or by different names, in one link
   --works            whether the indexes lead to what they name, and the parts
                      of the import tables are there once each
   -h, --help
   -V, --version
 
 Status: 0 done, the same; 1 different, a refused definition, no DLL, no
-definition, or broken; 2 wrong call; 3 a file or memory failed; 4 a member that may matter
-was not understood.
+definition, broken, or a clash; 2 wrong call; 3 a file or memory failed;
+4 a member that may matter was not understood.
 ";
 
 // What the program prints for `--version`.
@@ -226,6 +231,58 @@ fn run_identify<R: Files + AllocGlobal, O: Write, E: Write>(
     status_of(faults, written, status)
 }
 
+// Writes why a library that is the same as another does not work, if it does not.
+fn tell_working_if_same<O: Write>(
+    alloc: Global,
+    printer: &mut O,
+    verdict: Verdict,
+    path: &str,
+    library: &Library,
+) -> Result<Working, Failure> {
+    match verdict {
+        Verdict::Same => tell_working(alloc, printer, path, library),
+        Verdict::Different | Verdict::NotDecided => Ok(Working::Works),
+    }
+}
+
+// Writes in what two libraries differ, or why one does not work; and gives the exit status.
+fn tell_same<O: Write>(
+    alloc: Global,
+    printer: &mut O,
+    paths: (&str, &str),
+    libraries: (&Library, &Library),
+    found: &Comparison,
+) -> Result<u8, Failure> {
+    let sources = (Source::Library(paths.0), Source::Library(paths.1));
+    let (left, right) = libraries;
+    tell_both(
+        alloc,
+        printer,
+        sources,
+        &left.members,
+        &right.members,
+        found,
+    )?;
+    let first = tell_working_if_same(alloc, printer, found.verdict, paths.0, left)?;
+    let second = tell_working_if_same(alloc, printer, found.verdict, paths.1, right)?;
+    Ok(comparison_status(found.verdict, both_work(first, second)))
+}
+
+// Writes why a library that means what a definition means does not work, if it does not; and gives the exit status.
+fn tell_checked<O: Write, E: Write>(
+    alloc: Global,
+    printer: &mut O,
+    faults: &mut E,
+    verdict: Verdict,
+    path: &str,
+    library: &Library,
+) -> u8 {
+    match tell_working_if_same(alloc, printer, verdict, path, library) {
+        Ok(working) => comparison_status(verdict, working),
+        Err(failure) => status_of(faults, Err(failure), 3),
+    }
+}
+
 // Compares two libraries, and gives the exit status.
 fn run_same<R: Files + AllocGlobal, O: Write, E: Write>(
     rt: &R,
@@ -255,16 +312,10 @@ fn run_same<R: Files + AllocGlobal, O: Write, E: Write>(
     };
     doubt(faults, paths.0, &left.members, true);
     doubt(faults, paths.1, &right.members, true);
-    let sources = (Source::Library(paths.0), Source::Library(paths.1));
-    let written = tell_both(
-        rt.alloc(),
-        printer,
-        sources,
-        &left.members,
-        &right.members,
-        &found,
-    );
-    status_of(faults, written, verdict_status(found.verdict))
+    match tell_same(rt.alloc(), printer, paths, (&left, &right), &found) {
+        Ok(status) => status,
+        Err(failure) => status_of(faults, Err(failure), 3),
+    }
 }
 
 // Says why a definition is refused, and gives the exit status.
@@ -304,7 +355,7 @@ fn run_check<R: Files + AllocGlobal, O: Write, E: Write>(
     doubt(faults, check.library, members, true);
     let paths = (check.library, check.definition);
     match check_definition(rt.alloc(), printer, paths, members, &definition, &options) {
-        Ok(verdict) => verdict_status(verdict),
+        Ok(verdict) => tell_checked(rt.alloc(), printer, faults, verdict, check.library, &library),
         Err(CheckError::Refused(refusal)) => refuse(faults, check.definition, &refusal),
         Err(CheckError::Failed(failure)) => status_of(faults, Err(failure), 3),
     }
@@ -540,6 +591,152 @@ fn run_works<R: Files + AllocGlobal, O: Write, E: Write>(
     }
 }
 
+// The bytes of files, or an exit status.
+fn all_bytes<R: Files + AllocGlobal, E: Write>(
+    rt: &R,
+    faults: &mut E,
+    paths: &[String],
+) -> Result<Vec<Vec<u8>>, u8> {
+    let mut files = Vec::new(rt.alloc());
+    for path in paths {
+        let bytes = bytes_of(rt, faults, path)?;
+        if files.push(bytes).is_err() {
+            return Err(complain(faults, NAME, "out of memory", 3));
+        }
+    }
+    Ok(files)
+}
+
+// The libraries that files are, or an exit status.
+fn all_libraries<'a, E: Write>(
+    alloc: Global,
+    faults: &mut E,
+    paths: &[String],
+    files: &'a [Vec<u8>],
+) -> Result<Vec<Library<'a>>, u8> {
+    let mut libraries = Vec::new(alloc);
+    for (path, bytes) in paths.iter().zip(files) {
+        let library = library_of(alloc, faults, path, bytes)?;
+        doubt(faults, path, &library.members, false);
+        if libraries.push(library).is_err() {
+            return Err(complain(faults, NAME, "out of memory", 3));
+        }
+    }
+    Ok(libraries)
+}
+
+// Whether a library has a member that may import what is not read.
+fn is_some_unread(libraries: &[Library]) -> bool {
+    for library in libraries {
+        if has_unread(&library.members) {
+            return true;
+        }
+    }
+    false
+}
+
+// Writes where a claim is made, and what is made of the symbol.
+fn tell_claim<O: Write>(
+    lines: &mut Lines<O>,
+    paths: &[String],
+    libraries: &[Library],
+    claim: &Claim,
+) -> Result<(), Failure> {
+    let Some(path) = paths.get(claim.library) else {
+        return Ok(());
+    };
+    let Some(library) = libraries.get(claim.library) else {
+        return Ok(());
+    };
+    let Some(member) = library.members.get(claim.member) else {
+        return Ok(());
+    };
+    let place = Place(Source::Library(path), member);
+    write!(lines, "{place}: {}", Said(member))?;
+    Ok(())
+}
+
+// Writes a claim, and the first claim of its symbol, with which it clashes.
+fn tell_clash<O: Write>(
+    lines: &mut Lines<O>,
+    paths: &[String],
+    libraries: &[Library],
+    claim: &Claim,
+    first: &Claim,
+) -> Result<(), Failure> {
+    write!(lines, "{}: ", Shown(&claim.symbol))?;
+    tell_claim(lines, paths, libraries, first)?;
+    write!(lines, "; ")?;
+    tell_claim(lines, paths, libraries, claim)?;
+    writeln!(lines)?;
+    Ok(())
+}
+
+// Writes which claims clash, and whether one does.
+fn tell_clashes<O: Write>(
+    printer: &mut O,
+    paths: &[String],
+    libraries: &[Library],
+    claims: &[Claim],
+    found: &[Option<usize>],
+) -> Result<bool, Failure> {
+    let mut lines = Lines { writer: printer };
+    let mut is_told = false;
+    for (claim, number) in claims.iter().zip(found) {
+        let Some(number) = *number else {
+            continue;
+        };
+        let Some(first) = claims.get(number) else {
+            continue;
+        };
+        tell_clash(&mut lines, paths, libraries, claim, first)?;
+        is_told = true;
+    }
+    Ok(is_told)
+}
+
+// The claims of libraries, in order.
+fn all_claims(alloc: Global, libraries: &[Library]) -> Result<Vec<Claim>, AllocError> {
+    let mut claims = Vec::new(alloc);
+    for i in 0..libraries.len() {
+        add_claims(alloc, &mut claims, i, &libraries[i].members)?;
+    }
+    Ok(claims)
+}
+
+// Writes what libraries do to each other, and whether two clash.
+fn tell_together<O: Write>(
+    alloc: Global,
+    printer: &mut O,
+    paths: &[String],
+    libraries: &[Library],
+) -> Result<bool, Failure> {
+    let claims = all_claims(alloc, libraries)?;
+    let found = clashes(alloc, &claims)?;
+    tell_clashes(printer, paths, libraries, &claims, &found)
+}
+
+// Says what libraries of one link do to each other, and gives the exit status.
+fn run_together<R: Files + AllocGlobal, O: Write, E: Write>(
+    rt: &R,
+    printer: &mut O,
+    faults: &mut E,
+    paths: &[String],
+) -> u8 {
+    let files = match all_bytes(rt, faults, paths) {
+        Ok(files) => files,
+        Err(status) => return status,
+    };
+    let libraries = match all_libraries(rt.alloc(), faults, paths, &files) {
+        Ok(libraries) => libraries,
+        Err(status) => return status,
+    };
+    match tell_together(rt.alloc(), printer, paths, &libraries) {
+        Ok(clash) => together_status(is_some_unread(&libraries), clash),
+        Err(failure) => status_of(faults, Err(failure), 3),
+    }
+}
+
 // Does what the words after the program's name ask for, and gives the exit status.
 fn run<R: Files + AllocGlobal, O: Write, E: Write>(
     rt: &R,
@@ -554,6 +751,7 @@ fn run<R: Files + AllocGlobal, O: Write, E: Write>(
         Some(Task::Identify(path, is_strict)) => run_identify(rt, printer, faults, path, is_strict),
         Some(Task::Works(path)) => run_works(rt, printer, faults, path),
         Some(Task::Same(left, right)) => run_same(rt, printer, faults, (left, right)),
+        Some(Task::Together(paths)) => run_together(rt, printer, faults, paths),
         Some(Task::Check(check)) => run_check(rt, printer, faults, &check),
         Some(Task::Define(define)) => run_define(rt, printer, faults, &define),
         None => complain(faults, NAME, "wrong call; --help says how to call it", 2),

@@ -1,10 +1,11 @@
 //! Exit statuses.
 
 ghost use Rattle.std.specs.Prelude.{◌≡◌};
-ghost use Rattle.implib_check.specs.Status.{identity_status, list_status, refusal_status, undefined_status, verdict_status};
+ghost use Rattle.implib_check.specs.Status.{comparison_status, identity_status, list_status, refusal_status, together_status, undefined_status, verdict_status};
 
 use crate::compare::Verdict;
 use crate::defining::Undefined;
+use crate::working::{Working, working_status};
 use implib_rules::library::Refusal;
 
 /// The exit status of a comparison.
@@ -15,6 +16,16 @@ pub fn verdict_status(verdict: Verdict) -> u8
         Verdict::Same => 0,
         Verdict::Different => 1,
         Verdict::NotDecided => 4,
+    }
+}
+
+/// The exit status of a comparison of libraries that have to work: where they are the same, whether they work.
+pub fn comparison_status(verdict: Verdict, working: Working) -> u8
+    ensures { result ≡ comparison_status verdict working }
+{
+    match verdict {
+        Verdict::Same => working_status(working),
+        Verdict::Different | Verdict::NotDecided => verdict_status(verdict),
     }
 }
 
@@ -57,5 +68,18 @@ pub fn undefined_status(why: &Undefined) -> u8
         Undefined::Refused(refusal) => refusal_status(refusal),
         Undefined::Different => 1,
         Undefined::Failed(_) => 3,
+    }
+}
+
+/// The exit status of libraries in one link, given whether a member may import what is not read, and whether two clash.
+pub fn together_status(unread: bool, clash: bool) -> u8
+    ensures { result ≡ together_status unread clash }
+{
+    if unread {
+        4
+    } else if clash {
+        1
+    } else {
+        0
     }
 }

@@ -3,7 +3,7 @@
 ghost use Rattle.std.specs.Prelude.{◌≡◌, map};
 ghost use Rattle.std.specs.Option.{option_map, option_or};
 ghost use Rattle.std.specs.String.{string_bytes};
-ghost use Rattle.implib_check.specs.Tasks.{alone, task_by_name, task_named, task_view, with_files, with_libraries, with_library};
+ghost use Rattle.implib_check.specs.Tasks.{alone, task_by_name, task_named, task_view, with_all, with_files, with_libraries, with_library};
 
 use crate::call::{Check, Define, check_called, define_called};
 
@@ -20,6 +20,8 @@ pub enum Task<'a> {
     Works(&'a str),
     /// Whether two libraries mean the same.
     Same(&'a str, &'a str),
+    /// What libraries of one link do to each other.
+    Together(&'a [String]),
     /// Whether a library means what a definition means.
     Check(Check<'a>),
     /// The definition of a library.
@@ -79,7 +81,18 @@ fn task_by_name(words: &[String]) -> Option<Task<'_>>
     }
 }
 
-// What words ask for that name files and options: behind `--def` a definition, else a comparison with one.
+// The task of two libraries or more.
+fn with_all(paths: &[String]) -> Option<Task<'_>>
+    ensures { option_map task_view result ≡ with_all (map string_bytes paths.now) }
+{
+    match paths {
+        [_, _, ..] => Some(Task::Together(paths)),
+        _ => None,
+    }
+}
+
+// What words ask for that name files and options: behind `--def` a definition, behind `--together` what libraries do to
+// each other, else a comparison with a definition.
 fn with_files(words: &[String]) -> Option<Task<'_>>
     ensures { option_map task_view result ≡ with_files (map string_bytes words.now) }
 {
@@ -89,6 +102,9 @@ fn with_files(words: &[String]) -> Option<Task<'_>>
                 Some(define) => Some(Task::Define(define)),
                 None => None,
             };
+        }
+        if first.as_str() == "--together" {
+            return with_all(rest);
         }
     }
     match check_called(words) {

@@ -1,9 +1,9 @@
 //! Whether a library works.
 
-ghost use Rattle.std.specs.Prelude.{◌≡◌, ◌==◌, map, IfOk};
+ghost use Rattle.std.specs.Prelude.{◌≡◌, ◌==◌, map, IfOk, OnOk};
 ghost use Rattle.std.specs.Option.{option_map};
-ghost use Rattle.implib_check.specs.Working.{first_misleads, has_one, has_whole_tables, is_linker, is_piece, linker_member, second_misleads};
-ghost use Rattle.implib_check.specs.Working.{with_offset, working_status, works_of};
+ghost use Rattle.implib_check.specs.Working.{both_work, first_entries, first_misleads, has_one, has_whole_tables, is_linker, is_piece, linker_member, misleading};
+ghost use Rattle.implib_check.specs.Working.{second_misleads, with_first, with_offset, working_status, works_of};
 ghost use Rattle.implib_read.specs.ArchiveViews.{member_view, part_view};
 ghost use Rattle.implib_read.specs.ClassViews.{class_view, member_read_view};
 ghost use Rattle.implib_read.specs.IndexViews.{index_entry_view, second_index_view};
@@ -13,6 +13,7 @@ use implib::Flavor;
 use implib_read::{
     IndexEntry, MemberClass, MemberName, MemberRead, Part, SecondIndex, StoredMember, wrong_entries,
 };
+use indexmap::IndexSet;
 use std::alloc::{AllocError, Global};
 
 /// A part of import tables.
@@ -60,8 +61,52 @@ pub fn linker_member<'a>(skipped: usize, parts: &[Part<'a>]) -> Option<&'a [u8]>
     None
 }
 
-/// The entries of a first linker member that do not lead to the first member that declares their symbol, or `None`
-/// where its counts lead out of it.
+// Adds an entry, unless one of its symbol is there; the set has the symbols of the entries.
+fn add_first<'a>(
+    symbols: &mut IndexSet<&'a [u8]>,
+    entries: &mut Vec<IndexEntry<'a>>,
+    entry: &IndexEntry<'a>,
+) -> Result<(), AllocError>
+    requires { map (λ k. k.now) symbols.old.keys ≡ map (λ e. e.symbol) (map index_entry_view entries.old.items) }
+    ensures symbols { OnOk result (map (λ k. k.now) symbols.new.keys ≡ map (λ e. e.symbol) (map index_entry_view entries.new.items)) }
+    ensures entries { OnOk result (map index_entry_view entries.new.items ≡ with_first (map index_entry_view entries.old.items) (index_entry_view entry.now)) }
+{
+    if !symbols.insert(entry.symbol)? {
+        return Ok(());
+    }
+    entries.push(*entry)?;
+    Ok(())
+}
+
+// The first entry of each symbol.
+fn first_entries<'a>(
+    alloc: Global,
+    entries: &[IndexEntry<'a>],
+) -> Result<Vec<IndexEntry<'a>>, AllocError>
+    ensures { IfOk result (λ v. map index_entry_view v.items ≡ first_entries (map index_entry_view entries.now)) }
+{
+    let mut symbols = IndexSet::new(alloc);
+    let mut firsts = Vec::new(alloc);
+    for entry in entries {
+        add_first(&mut symbols, &mut firsts, entry)?;
+    }
+    Ok(firsts)
+}
+
+// The first entries of symbols that do not lead to the first member that declares their symbol.
+fn misleading<'a>(
+    alloc: Global,
+    members: &[StoredMember<'a>],
+    entries: &[IndexEntry<'a>],
+) -> Result<Vec<IndexEntry<'a>>, AllocError>
+    ensures { IfOk result (λ v. map index_entry_view v.items ≡ misleading (map member_view members.now) (map index_entry_view entries.now)) }
+{
+    let firsts = first_entries(alloc, entries)?;
+    wrong_entries(alloc, members, &firsts)
+}
+
+/// The entries of a first linker member by which a linker is misled: of each symbol the first, if it does not lead to
+/// the first member that declares the symbol; or `None` where its counts lead out of it.
 pub fn first_misleads<'a>(
     alloc: Global,
     members: &[StoredMember<'a>],
@@ -71,7 +116,7 @@ pub fn first_misleads<'a>(
 {
     let entries = IndexEntry::read_first(alloc, contents)?;
     match entries {
-        Some(entries) => Ok(Some(wrong_entries(alloc, members, &entries)?)),
+        Some(entries) => Ok(Some(misleading(alloc, members, &entries)?)),
         None => Ok(None),
     }
 }
@@ -116,7 +161,7 @@ pub fn second_misleads<'a>(
     match index {
         Some(index) => {
             let entries = with_offsets(alloc, &index)?;
-            Ok(Some(wrong_entries(alloc, members, &entries)?))
+            Ok(Some(misleading(alloc, members, &entries)?))
         }
         None => Ok(None),
     }
@@ -210,5 +255,19 @@ pub fn working_status(working: Working) -> u8
         Working::Works => 0,
         Working::Broken => 1,
         Working::NotDecided => 4,
+    }
+}
+
+/// Whether two libraries work, given whether each does.
+pub fn both_work(left: Working, right: Working) -> Working
+    ensures { result ≡ both_work left right }
+{
+    match left {
+        Working::Broken => Working::Broken,
+        Working::NotDecided => match right {
+            Working::Broken => Working::Broken,
+            Working::NotDecided | Working::Works => Working::NotDecided,
+        },
+        Working::Works => right,
     }
 }

@@ -17,21 +17,21 @@ use Rattle.implib_read.specs.MemberNames.{MemberName, LinkerMember, LongNamesMem
 use Rattle.implib_read.specs.OwnLibraries.{member_bytes_in}
 
 -- the bytes of a member, by its name in either reader
-bytes_as : MemberName → List ℕ → Option (List ℕ)
+unfoldable pub bytes_as : MemberName → List ℕ → Option (List ℕ)
 bytes_as LinkerMember contents = None
 bytes_as LongNamesMember contents = None
 bytes_as (NameAt offset) contents = Some contents
 bytes_as (Named text) contents = Some contents
 bytes_as (Special text) contents = None
 
-bytes_by : Name → List ℕ → Option (List ℕ)
+unfoldable pub bytes_by : Name → List ℕ → Option (List ℕ)
 bytes_by Linker contents = None
 bytes_by LongNames contents = None
 bytes_by (LongAt offset) contents = Some contents
 bytes_by (Short text) contents = Some contents
 bytes_by Unknown contents = None
 
-is_known : Name → Bool
+unfoldable pub is_known : Name → Bool
 is_known Linker = true
 is_known LongNames = true
 is_known (LongAt offset) = true
@@ -66,7 +66,7 @@ apart_by (c ∷ text) other ends = by (nat_eq c 47) refl
         let one : bytes_eq (c ∷ text) (codes "/") ≡ true = sym (ap (λ (t : List ℕ). bytes_eq (c ∷ text) (t ++ 47 ∷ [])) alone) ∙ ends in
         absurd (true≢false (sym one ∙ other))
 
-same_bytes : (field contents : List ℕ) → is_known (name_in field) ≡ true → bytes_as (member_name field) contents ≡ bytes_by (name_in field) contents
+pub same_bytes : (field contents : List ℕ) → is_known (name_in field) ≡ true → bytes_as (member_name field) contents ≡ bytes_by (name_in field) contents
 unfolding name_in member_name
 same_bytes field contents known =
     let text = trimmed field in
@@ -93,11 +93,11 @@ bytes_of_parts names (p ∷ parts) = by (bytes_of_parts names parts) p.name
     by same (Special text) = same
 
 -- a step over a part, in the reader of `implib_archive`
-record Step (n : Name) (contents : List ℕ) (others : Option (List Read)) (reads : List Read) : Type 0 where
-  known : is_known n ≡ true
-  later : List Read
-  rest : others ≡ Some later
-  bytes : map (λ r. r.bytes) reads ≡ cons_option (bytes_by n contents) (map (λ r. r.bytes) later)
+pub record Step (n : Name) (contents : List ℕ) (others : Option (List Read)) (reads : List Read) : Type 0 where
+  pub known : is_known n ≡ true
+  pub later : List Read
+  pub rest : others ≡ Some later
+  pub bytes : map (λ r. r.bytes) reads ≡ cons_option (bytes_by n contents) (map (λ r. r.bytes) later)
 
 with_one : (n : Name) (m : Read) (contents : List ℕ) (others : Option (List Read)) (reads : List Read) → is_known n ≡ true → bytes_by n contents ≡ Some m.bytes
     → option_map (λ more. m ∷ more) others ≡ Some reads → Step n contents others reads
@@ -111,7 +111,7 @@ with_one n m contents (Some more) reads known has is =
       bytes = sym (ap (map (λ r. r.bytes)) whole) ∙ sym (ap (λ o. cons_option o (map (λ r. r.bytes) more)) has);
     }
 
-step : (kind : Kind) (names : List ℕ) (n : Name) (contents : List ℕ) (others : Option (List Read)) (reads : List Read) → before_others kind names n contents others ≡ Some reads → Step n contents others reads
+pub step : (kind : Kind) (names : List ℕ) (n : Name) (contents : List ℕ) (others : Option (List Read)) (reads : List Read) → before_others kind names n contents others ≡ Some reads → Step n contents others reads
 unfolding before_others read_as is_known bytes_by
 step kind names Linker contents others reads is = record { known = refl; later = reads; rest = is; bytes = refl }
 step kind names LongNames contents others reads is = record { known = refl; later = reads; rest = is; bytes = refl }
@@ -135,12 +135,12 @@ view_bytes [] = refl
 view_bytes (m ∷ members) = ap (λ bs. m.bytes ∷ bs) (view_bytes members)
 
 -- the parts that both have
-record Found (bytes : List ℕ) (parts : List Stored) : Type 0 where
-  found : List Part
-  is : parts_in bytes ≡ Some found
-  same : map said_by_part found ≡ map said parts
+pub record Found (bytes : List ℕ) (parts : List Stored) : Type 0 where
+  pub found : List Part
+  pub is : parts_in bytes ≡ Some found
+  pub same : map said_by_part found ≡ map said parts
 
-found_by : (bytes : List ℕ) (parts : List Stored) (o : Option (List Part)) → parts_in bytes ≡ o → option_map (map said_by_part) o ≡ Some (map said parts) → Found bytes parts
+pub found_by : (bytes : List ℕ) (parts : List Stored) (o : Option (List Part)) → parts_in bytes ≡ o → option_map (map said_by_part) o ≡ Some (map said parts) → Found bytes parts
 found_by bytes parts None is same = cc
 found_by bytes parts (Some found) is same = record { found = found; is = is; same = cc }
 

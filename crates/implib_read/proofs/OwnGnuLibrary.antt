@@ -133,6 +133,31 @@ good_list machine dll others (p ∷ ps) (m ∷ ms) good same =
     ap (λ x. x ∷ map meaning_of_class (map (class_of_file defined) (map found_of (files_of_specs ps)))) (good.0 m first)
     ∙ ap (λ xs. Some m ∷ xs) (good_list machine dll others ps ms good.1 rest)
 
+-- the files of a definition's members
+abbrev pub own_gnu_files : DefinitionView → MachineType → List File
+own_gnu_files d machine =
+    ObjectFile (written_object (tail_object machine (names_for Gnu (renamed d)))) ∷ ObjectFile (written_object (head_object machine (names_for Gnu (renamed d)).linked))
+    ∷ files_of_specs (reverse (numbered_specs machine (names_for Gnu (renamed d)).linked 0 (public_exports (renamed d))))
+
+pub gnu_files_plain : (d : DefinitionView) (machine : MachineType) → list_all is_plain (own_gnu_files d machine) ≡ true
+gnu_files_plain d machine =
+    let dll = names_for Gnu (renamed d) in
+    let built = reverse (numbered_specs machine dll.linked 0 (public_exports (renamed d))) in
+    tables_plain machine dll (files_of_specs built)
+    (files_plain built (reversed_all (λ p. is_plain (file_of p.contents) ≡ true) _ (numbered_plain machine dll.linked 0 (public_exports (renamed d)))))
+
+-- they are those that are read
+pub gnu_files_read : (d : DefinitionView) (machine : MachineType) (members : List MemberView) → GnuReadBack d machine members
+    → map (λ (m : MemberView). file_in m.bytes) members ≡ map Some (own_gnu_files d machine)
+unfolding tail_spec head_spec
+gnu_files_read d machine members back =
+    let dll = names_for Gnu (renamed d) in
+    let rest = files_of_specs (reverse (numbered_specs machine dll.linked 0 (public_exports (renamed d)))) in
+    let written : ObjectFile (object_of (layout_of (tail_object machine dll))) ∷ ObjectFile (object_of (layout_of (head_object machine dll.linked))) ∷ rest ≡ own_gnu_files d machine =
+    ap (λ o. ObjectFile o ∷ ObjectFile (object_of (layout_of (head_object machine dll.linked))) ∷ rest) (object_of-layout_of (tail_object machine dll))
+    ∙ ap (λ o. ObjectFile (written_object (tail_object machine dll)) ∷ ObjectFile o ∷ rest) (object_of-layout_of (head_object machine dll.linked)) in
+    back.files ∙ sym (map_twice Some (λ (p : MemberSpec). file_of p.contents) (member_specs (renamed d) machine Gnu)) ∙ ap (map Some) written
+
 pub own_gnu : OwnMembersFound → SameShortImports → SameObjects → (kind : Kind) (d : DefinitionView) (machine : MachineType) (members : List MemberView)
     → GnuReadBack d machine members → refusal_of kind members ≡ None → ReadsAsGnuLibrary d machine (archive_of kind members)
 unfolding library_in found_of tail_spec head_spec
@@ -145,13 +170,9 @@ own_gnu own imports objects kind d machine members back accepted =
     let head = written_object (head_object machine dll.linked) in
     let fs : List File = ObjectFile tail ∷ ObjectFile head ∷ rest in
     let contents = map (λ (m : MemberView). m.bytes) members in
-    let written : ObjectFile (object_of (layout_of (tail_object machine dll))) ∷ ObjectFile (object_of (layout_of (head_object machine dll.linked))) ∷ rest ≡ fs =
-    ap (λ o. ObjectFile o ∷ ObjectFile (object_of (layout_of (head_object machine dll.linked))) ∷ rest) (object_of-layout_of (tail_object machine dll))
-    ∙ ap (λ o. ObjectFile tail ∷ ObjectFile o ∷ rest) (object_of-layout_of (head_object machine dll.linked)) in
-    let members_files : map (λ (m : MemberView). file_in m.bytes) members ≡ map Some fs = back.files ∙ sym (map_twice Some (λ (p : MemberSpec). file_of p.contents) (member_specs (renamed d) machine Gnu)) ∙ ap (map Some) written in
+    let members_files : map (λ (m : MemberView). file_in m.bytes) members ≡ map Some fs = gnu_files_read d machine members back in
     let files : map file_in contents ≡ map Some fs = map_twice file_in (λ (m : MemberView). m.bytes) members ∙ members_files in
-    let plain : list_all is_plain fs ≡ true =
-    tables_plain machine dll rest (files_plain built (reversed_all (λ p. is_plain (file_of p.contents) ≡ true) _ (numbered_plain machine dll.linked 0 (public_exports (renamed d))))) in
+    let plain = gnu_files_plain d machine in
     let found = archive_by bytes contents (archive_in bytes) refl (own kind members accepted) in
     let stored = found.archive.members in
     let read : map file_found (map (λ m. m.bytes) stored) ≡ map found_of fs = ap (map file_found) found.same ∙ files_as imports objects contents fs files plain in

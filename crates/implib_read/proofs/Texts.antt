@@ -1,8 +1,10 @@
 -- Texts up to a NUL, found by the place of the NUL.
-use Rattle.std.proofs.Common.{◌≡◌, ℕ, zero, suc, ◌+◌, ◌-◌, ◌<◌, ◌≤◌, ◌==◌, Bool, false, cond, not, ◌&&◌, List, [], ◌∷◌, Option, Some, None, length, take, drop, refl, ap, ◌∙◌, sym, arith, if◌then◌else◌}
-use Rattle.std.specs.List.{position_or_len}
+use Rattle.std.proofs.Common.{◌≡◌, ℕ, zero, suc, ◌+◌, ◌-◌, ◌<◌, ◌≤◌, ◌==◌, Bool, true, false, cond, not, nat_lt, ◌&&◌, List, [], ◌∷◌, Option, Some, None, length, take, drop, refl, ap, ◌∙◌, sym, arith, if◌then◌else◌}
+use Rattle.std.specs.List.{position, position_or_len}
+use Rattle.memchr.specs.Find.{IsFirstByte, is_byte}
 use Rattle.std.specs.Option.{option_map}
-use Rattle.std.proofs.lemmas.Bool.{eqb-true, false_from_ne_true}
+use Rattle.std.proofs.lemmas.Bool.{eqb-true, false_from_ne_true, le-ltb, lt-ltb}
+use Rattle.std.proofs.lemmas.List.Sums.{position_or_len_is}
 use Rattle.std.proofs.lemmas.Grind.{common_steps}
 use Rattle.implib.specs.Formats.Object.{before_nul, name_of, up_to_nul, u32_at}
 use Rattle.implib_read.specs.Objects.{begins_with_zeros}
@@ -11,6 +13,19 @@ use Rattle.implib.specs.Formats.ShortImport.{text_in, text_longer}
 -- the place of the first NUL, or the length
 abbrev pub nul_place : List ℕ → ℕ
 nul_place bytes = position_or_len (λ byte. byte == 0) bytes
+
+-- the first NUL, as a search of bytes finds it
+pub first_nul : (bytes : List ℕ) (r : Option ℕ) → IsFirstByte (is_byte 0) bytes r → r ≡ position (λ byte. byte == 0) bytes
+first_nul bytes None none =
+    let all : nul_place bytes ≡ length bytes =
+    position_or_len_is (λ byte. byte == 0) bytes (length bytes) 0 (omega arith) (λ k within. false_from_ne_true _ (none k (omega arith) within)) (λ within. absurd (omega (arith, within))) in
+    let past : nat_lt (nul_place bytes) (length bytes) ≡ false = le-ltb (nul_place bytes) (length bytes) (omega (arith, all)) in
+    sym (ap (λ b. cond b (Some (nul_place bytes)) None) past)
+first_nul bytes (Some k) found =
+    let here : nul_place bytes ≡ k =
+    position_or_len_is (λ byte. byte == 0) bytes k 0 (omega (arith, found.0.high)) (λ j before. false_from_ne_true _ (found.0.before j (omega arith) before)) (λ within. found.1) in
+    let within : nat_lt (nul_place bytes) (length bytes) ≡ true = lt-ltb (nul_place bytes) (length bytes) (omega (arith, here, found.0.high)) in
+    sym (ap (λ b. cond b (Some (nul_place bytes)) None) within ∙ ap Some here)
 
 pub suc_is_no_zero : (n : ℕ) → (suc n == 0) ≡ false
 suc_is_no_zero n = false_from_ne_true (suc n == 0) (λ is. let same = eqb-true (suc n) 0 is in omega (arith, same))

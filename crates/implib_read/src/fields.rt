@@ -6,6 +6,8 @@ ghost use Rattle.std.specs.Option.{option_map};
 ghost use Rattle.implib.specs.Formats.Object.{bytes_at, u16_at, u32_at, before_nul, up_to_nul};
 ghost use Rattle.implib.specs.Formats.ShortImport.{text_in};
 
+use memchr::memchr;
+
 /// `count` bytes from an offset on, if they are there.
 #[tactic(auto, unfolding(implib::specs::Formats::Object::bytes_at))]
 pub(crate) fn bytes_at(bytes: &[u8], offset: usize, count: usize) -> Option<&[u8]>
@@ -44,10 +46,11 @@ pub(crate) fn u32_at(bytes: &[u8], offset: usize) -> u32
 }
 
 /// Where the first NUL is.
+#[tactic(auto, using(crate::proofs::Texts::first_nul))]
 fn nul_at(bytes: &[u8]) -> Option<usize>
     ensures { result ≡ position (λ byte. byte == 0) bytes.now }
 {
-    bytes.iter().position(|byte| *byte == 0)
+    memchr(0, bytes)
 }
 
 /// Where the first NUL is, or the length where there is none.
