@@ -58,7 +58,7 @@ use Rattle.implib_check.specs.OwnIndexes.{IndexesLead, OwnIndexesLead}
 use Rattle.implib_check.specs.Working.{first_entries, first_misleads, is_linker, linker_member, misleading, second_misleads, with_offset}
 use Rattle.implib_check.proofs.FirstEntries.{none_misleads, pair_of}
 use Rattle.implib_check.proofs.IndexReadings.{index_there}
-use Rattle.implib_check.proofs.OwnLibraries.{files_plain, files_read}
+use Rattle.implib_check.proofs.OwnLibraries.{files_plain, files_read, made_plainly}
 use Rattle.implib_check.proofs.SecondIndex.{second_there}
 
 -- The offsets of members.
@@ -466,16 +466,17 @@ some_listed d machine Msvc = lt-ltb 0 (suc _) (omega arith)
 some_listed d machine ForGnu = lt-ltb 0 (suc _) (omega arith)
 
 pub library_leads : SameParts → OwnMembersFound → SameShortImports → SameObjects → OwnIndexesLead
-library_leads parts own imports objects definition options file a is there =
+library_leads parts own imports objects definition options file a off is there =
     let made = is.members_for in
     let members = is.members in
+    let plainly = made_plainly options.naming (renamed made.definition) options.machine options.flavor members made.made_for off in
     let kind = kind_of options.flavor members in
     let d = renamed made.definition in
     let contents = map (λ (m : MemberView). m.bytes) members in
     let archive_there : archive_in (archive_of kind members) ≡ Some a = sym (ap archive_in is.is) ∙ there in
     let bytes : map (λ m. m.bytes) a.members ≡ contents =
     same_Some _ _ (sym (ap (option_map (λ (x : Archive). map (λ m. m.bytes) x.members)) archive_there) ∙ own kind members is.accepted) in
-    let has = has_files made.definition options.machine options.flavor made.all members made.made made.reads made.is made.library_reads in
+    let has = has_files made.definition options.machine options.flavor plainly.all members plainly.made plainly.reads plainly.is (made.library_reads off) in
     let files : map file_in contents ≡ map Some has.fs = map_twice file_in (λ (m : MemberView). m.bytes) members ∙ has.files in
     let declared : map (λ m. declared_by_found (file_found m.bytes)) a.members ≡ map (λ (m : MemberView). m.symbols) members =
     sym (map_twice (λ b. declared_by_found (file_found b)) (λ (m : StoredMember). m.bytes) a.members)
@@ -484,5 +485,5 @@ library_leads parts own imports objects definition options file a is there =
     ∙ ap (map declared_by_found) (files_as imports objects contents has.fs files has.plain)
     ∙ declared_of has.fs
     ∙ listed_of members has.fs has.files has.declared in
-    let some = ap (λ (ms : List MemberView). nat_lt 0 (length (entries_of Gnu ms))) made.is ∙ some_listed d options.machine options.flavor in
+    let some = ap (λ (ms : List MemberView). nat_lt 0 (length (entries_of Gnu ms))) plainly.is ∙ some_listed d options.machine options.flavor in
     archive_leads parts kind members is.accepted some a archive_there declared

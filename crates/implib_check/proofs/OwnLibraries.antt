@@ -36,6 +36,8 @@ use Rattle.implib_read.specs.OwnLibraries.{IsGnuLibraryOf, OwnGnuLibraries, OwnM
 use Rattle.implib_read.specs.ShortImports.{SameShortImports}
 use Rattle.implib_read.proofs.OwnMembers.{drop_mapped, drop_plain, files_as, files_of_specs, found_of, header_classes, is_plain, meanings_as, read_meanings, specs_plain}
 use Rattle.implib_read.proofs.OwnMsvc.{archive_by, classes_read, map_twice}
+use Rattle.implib_rules.specs.ExportAs.{AreMadeFor}
+use Rattle.implib_rules.specs.Linked.{NamingView}
 use Rattle.implib_rules.proofs.Made.{made_is, specs_are}
 use Rattle.implib_rules.specs.Order.{LibraryReads, ReadsInOrder, library_specs, msvc_specs, own_aliases, own_imports}
 use Rattle.implib_rules.proofs.OrderedReadings.{shown_in_order}
@@ -298,17 +300,30 @@ says own imports objects law kind d machine Gnu all members meant made back is r
     let same : all ≡ members = made.made ∙ ap (λ (x : DefinitionView). map member_of (member_specs x machine Gnu)) (renamed_twice d) ∙ sym is in
     says_gnu law kind (renamed d) machine members meant (subst (GnuReadBack (renamed d) machine) same back) accepted there
 
+-- the members of a library without third texts: those of its definition, read back, in order
+pub record MadePlainly (d : DefinitionView) (machine : MachineType) (flavor : Flavor) (members : List MemberView) : Type 0 where
+  pub all : List MemberView
+  pub made : AreMembersOf d machine flavor all
+  pub reads : ReadBack d machine flavor all
+  pub is : members ≡ map member_of (library_specs d machine flavor)
+
+pub made_plainly : (naming : NamingView) (d : DefinitionView) (machine : MachineType) (flavor : Flavor) (members : List MemberView)
+    → AreMadeFor naming d machine flavor members → naming.exports_as ≡ false → MadePlainly d machine flavor members
+made_plainly naming d machine flavor members made off =
+    let is_made = made_is naming flavor d off in
+    record {
+      all = made.all;
+      made = subst (λ (x : DefinitionView). AreMembersOf x machine flavor made.all) is_made made.made;
+      reads = subst (λ (x : DefinitionView). ReadBack x machine flavor made.all) is_made made.reads;
+      is = made.is ∙ ap (map member_of) (specs_are naming machine flavor d off);
+    }
+
 pub meant_is_defined : OwnMembersFound → SameShortImports → SameObjects → OwnGnuLibraries → MeantIsDefined
 meant_is_defined own imports objects law definition options file meant off is there =
     let made = is.members_for in
-    let made_for = made.made_for in
-    let d = renamed made.definition in
-    let is_made = made_is options.naming options.flavor d off in
+    let plainly = made_plainly options.naming (renamed made.definition) options.machine options.flavor is.members made.made_for off in
     record {
       d = made.definition;
       of_text = made.of_text;
-      says = says own imports objects law _ made.definition options.machine options.flavor made_for.all is.members meant
-          (subst (λ (x : DefinitionView). AreMembersOf x options.machine options.flavor made_for.all) is_made made_for.made)
-          (subst (λ (x : DefinitionView). ReadBack x options.machine options.flavor made_for.all) is_made made_for.reads)
-          (made_for.is ∙ ap (map member_of) (specs_are options.naming options.machine options.flavor d off)) (made.library_reads off) is.accepted (sym (ap library_in is.is) ∙ there);
+      says = says own imports objects law _ made.definition options.machine options.flavor plainly.all is.members meant plainly.made plainly.reads plainly.is (made.library_reads off) is.accepted (sym (ap library_in is.is) ∙ there);
     }

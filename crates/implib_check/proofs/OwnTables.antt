@@ -54,7 +54,7 @@ use Rattle.implib_check.specs.OwnLibraries.{MeantIsDefined, SaysWhatIsDefined, b
 use Rattle.implib_check.specs.OwnTables.{OwnTablesAreWhole}
 use Rattle.implib_check.specs.Targets.{flavor_of, is_for_msvc, tells_code}
 use Rattle.implib_check.specs.Working.{has_one_from, has_whole_tables, is_piece, works_of}
-use Rattle.implib_check.proofs.OwnLibraries.{HasHeader, all_told, any_members, header_msvc}
+use Rattle.implib_check.proofs.OwnLibraries.{HasHeader, all_told, any_members, header_msvc, made_plainly}
 
 -- Parts of import tables.
 
@@ -333,10 +333,11 @@ whole own imports objects law kind d machine Gnu all members meant made back is 
     ap (λ f. has_whole_tables f meant) (flavor_gnu own imports objects kind (renamed d) machine members meant has.0 read accepted there has.1) ∙ whole_gnu meant has.0 has.1
 
 pub tables_are_whole : OwnMembersFound → SameShortImports → SameObjects → OwnGnuLibraries → MeantIsDefined → OwnTablesAreWhole
-tables_are_whole own imports objects law meant_defined definition options file members is there =
+tables_are_whole own imports objects law meant_defined definition options file members off is there =
     let made = is.members_for in
-    let says = meant_defined definition options file members is there in
+    let plainly = made_plainly options.naming (renamed made.definition) options.machine options.flavor is.members made.made_for off in
+    let says = meant_defined definition options file members off is there in
     let read = sym (ap library_in is.is) ∙ there in
     works _ (dlls_of members) (has_unread members) (has_whole_tables (flavor_of members) members) says.says.read
-    (whole own imports objects law _ made.definition options.machine options.flavor made.all is.members members made.made made.reads made.is made.library_reads is.accepted read)
+    (whole own imports objects law _ made.definition options.machine options.flavor plainly.all is.members members plainly.made plainly.reads plainly.is (made.library_reads off) is.accepted read)
     (says_one options.flavor options.machine (renamed says.d) members says.says)

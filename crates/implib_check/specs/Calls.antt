@@ -114,6 +114,7 @@ with_option option r =
     if bytes_eq option (codes "-k") then Some (record r { naming = record r.naming { kills_at = true } })
     else if bytes_eq option (codes "--kill-at") then Some (record r { naming = record r.naming { kills_at = true } })
     else if bytes_eq option (codes "--no-leading-underscore") then Some (record r { naming = record r.naming { is_plain = true } })
+    else if bytes_eq option (codes "--export-as") then Some (record r { naming = record r.naming { exports_as = true } })
     else if bytes_eq option (codes "-m") then Some (record r { waiting = Some setting.Machine })
     else if bytes_eq option (codes "--machine") then Some (record r { waiting = Some setting.Machine })
     else if bytes_eq option (codes "-D") then Some (record r { waiting = Some setting.Dll })
@@ -182,7 +183,7 @@ define_of _ _ _ r = None
 -- What all words say. A library has the name of its DLL and the names that it asks for itself, so no option says
 -- these.
 abbrev pub define_in : ReadingView → Option DefineView
-define_in r = if r.naming.kills_at || is_some r.dll then None else define_of r.library r.definition r.waiting r
+define_in r = if r.naming.kills_at || r.naming.exports_as || is_some r.dll then None else define_of r.library r.definition r.waiting r
 
 -- the definition that words ask for
 abbrev pub define_called : List (List ℕ) → Option DefineView

@@ -9,7 +9,7 @@ use Rattle.implib_read.specs.declared.import.ImportKind.{ImportKind}
 use Rattle.implib_read.specs.declared.import.ImportKind.TheVariants.{Code, CodeOrConst, Const, Data}
 use Rattle.implib_rules.specs.declared.library.Refusal.TheVariants.{NoName, NotUtf8, OutOfMemory}
 use Rattle.implib_rules.specs.Additions.{no_additions}
-use Rattle.implib_check.specs.Calls.{CheckView, check_called, machine_called}
+use Rattle.implib_check.specs.Calls.{CheckView, check_called, machine_called, define_called}
 use Rattle.implib_check.specs.Status.{refusal_status}
 use Rattle.implib_check.specs.Targets.{flavor_of, machine_of, options_for}
 use Rattle.implib_check.specs.Tasks.{Checks, Compares, task_named}
@@ -47,6 +47,9 @@ pub record WorkedChecks : Type 0 where
   pub long : check_called
       (codes "--machine" ∷ codes "arm64" ∷ codes "a.lib" ∷ codes "--kill-at" ∷ codes "--dllname" ∷ codes "d/zoo.dll" ∷ codes "a.def" ∷ codes "--no-leading-underscore"
       ∷ codes "--flavor" ∷ codes "gnu" ∷ codes "--machine" ∷ codes "x86" ∷ []) ≡ Some full_check
+  pub export_as : check_called (codes "a.lib" ∷ codes "--export-as" ∷ codes "a.def" ∷ [])
+      ≡ Some (record plain_check { naming = record { is_plain = false; kills_at = false; exports_as = true } })
+  pub no_definition_of_export_as : define_called (codes "a.lib" ∷ codes "--export-as" ∷ []) ≡ None
   pub task : task_named (codes "a.lib" ∷ codes "a.def" ∷ []) ≡ Some (Checks plain_check)
   pub task_of_more : task_named (codes "a.lib" ∷ codes "a.def" ∷ codes "--flavor" ∷ codes "msvc" ∷ []) ≡ Some (Checks (record plain_check { flavor = Some Msvc }))
   pub same : task_named (codes "--same" ∷ codes "a.lib" ∷ codes "b.lib" ∷ []) ≡ Some (Compares (codes "a.lib") (codes "b.lib"))

@@ -147,6 +147,13 @@ fn with_option<'a>(option: &str, reading: Reading<'a>) -> Option<Reading<'a>>
             },
             ..reading
         }),
+        "--export-as" => Some(Reading {
+            naming: Naming {
+                exports_as: true,
+                ..naming
+            },
+            ..reading
+        }),
         "-m" | "--machine" => Some(Reading {
             waiting: Some(Setting::Machine),
             ..reading
@@ -248,7 +255,7 @@ pub fn check_called(words: &[String]) -> Option<Check<'_>>
 fn define_in<'a>(reading: Reading<'a>) -> Option<Define<'a>>
     ensures { option_map define_view result ≡ define_in (reading_view reading.entry) }
 {
-    if reading.naming.kills_at || reading.dll.is_some() {
+    if reading.naming.kills_at || reading.naming.exports_as || reading.dll.is_some() {
         return None;
     }
     match (reading.library, reading.definition, reading.waiting) {

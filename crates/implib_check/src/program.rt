@@ -38,7 +38,7 @@ const NAME: &str = "implib_check";
 // What the program prints for `--help`.
 const HELP: &str = "\
 usage: implib_check LIB DEF [-m MACHINE] [-k] [--no-leading-underscore]
-                    [-D DLL] [--flavor FLAVOR]
+                    [--export-as] [-D DLL] [--flavor FLAVOR]
        implib_check --def LIB [-m MACHINE] [--no-leading-underscore]
                     [--flavor FLAVOR]
        implib_check --list LIB
@@ -56,6 +56,7 @@ one of the definition; the differences.
   -k, --kill-at      ask for names without @ and the number after it, on i386
   --no-leading-underscore
                      no underscore before symbols, on i386
+  --export-as        names that are not made of their symbols stand beside them
   -D, --dllname      the DLL's name, before the definition's
   --flavor           msvc or gnu; without it the library's
   --def              a definition that means the library's imports and aliases,
