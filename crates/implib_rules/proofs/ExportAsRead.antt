@@ -1,5 +1,5 @@
 -- A short import with a third text is read as the import of its export.
-use Rattle.std.proofs.Common.{◌≡◌, ◌∙◌, ℕ, ◌+◌, ◌-◌, ◌*◌, ◌<◌, ◌≤◌, ◌^◌, Bool, true, false, List, [], ◌∷◌, ◌++◌, Option, None, Some, ap, append_assoc, arith, drop, eq-eqb, if◌then◌else◌, length, nat_le, refl, sym}
+use Rattle.std.proofs.Common.{◌≡◌, ◌∙◌, ℕ, ◌+◌, ◌-◌, ◌*◌, ◌<◌, ◌≤◌, ◌^◌, Bool, true, false, List, [], ◌∷◌, ◌++◌, None, Some, ap, append_assoc, arith, drop, eq-eqb, if◌then◌else◌, length, nat_le, refl}
 use Rattle.std.specs.Prelude.{◌==◌, ◌&&◌}
 use Rattle.std.proofs.lemmas.Bool.{le-leb}
 use Rattle.std.proofs.lemmas.Nat.{from_le_bytes-to_le_bytes_2, from_le_bytes-to_le_bytes_4}
@@ -9,11 +9,11 @@ use Rattle.implib.specs.Definition.{ExportView}
 use Rattle.implib.specs.Formats.Bytes.{u16_bytes, u32_bytes}
 use Rattle.implib.specs.Formats.Object.{u16_at, u32_at}
 use Rattle.implib.specs.Formats.ShortImport.{ShortImport, import_data, is_short_import, short_import_header_size, text_in}
-use Rattle.implib.specs.Import.{Name, holds, import_symbols}
+use Rattle.implib.specs.Import.{Name, import_symbols}
 use Rattle.implib.specs.Machine.{machine_number}
 use Rattle.implib.specs.Members.Msvc.{import_type_of, short_import_bytes, short_import_data_size, short_import_size, short_import_symbol}
 use Rattle.implib.proofs.Members.ShortImport.{length-short_import_bytes, text_in-append}
-use Rattle.implib_rules.specs.ExportAs.{ExportAsRead, export_as_after_dll, export_as_after_symbol, export_as_import, export_as_in, export_as_of}
+use Rattle.implib_rules.specs.ExportAs.{ExportAsRead, export_as_after_dll, export_as_after_symbol, export_as_import, export_as_of}
 use Rattle.implib_rules.specs.WorkedExportAs.{ExportAsReads}
 
 size_read : (r : ShortImport) → short_import_size r ≤ 0xFFFF_FFFF → u32_at (short_import_bytes r) 12 ≡ short_import_data_size r

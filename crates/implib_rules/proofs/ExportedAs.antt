@@ -1,5 +1,5 @@
 -- The members for Microsoft's linker where an export may have a short import with a third text.
-use Rattle.std.proofs.Common.{◌≡◌, ◌∙◌, ◌⊎◌, ℕ, Bool, true, false, List, [], ◌∷◌, ◌++◌, Option, None, Some, Result, Err, Ok, ap, bytes_eq, drop, if◌then◌else◌, inl, inr, map, refl, subst, sym}
+use Rattle.std.proofs.Common.{◌≡◌, ◌∙◌, ℕ, Bool, true, false, List, [], ◌∷◌, ◌++◌, Option, None, Some, Result, Err, Ok, ap, bytes_eq, drop, if◌then◌else◌, inl, inr, map, refl, subst, sym}
 use Rattle.std.specs.Prelude.{◌&&◌, ◌||◌, IsErrAnd, not}
 use Rattle.std.specs.List.{filter, flat_map, list_any}
 use Rattle.std.proofs.lemmas.Bool.{cases_Bool, true≢false}

@@ -1,12 +1,10 @@
 -- Which members and which library exports have that are given without a text, and when they have none.
-use Rattle.std.specs.Prelude.{◌≡◌, ℕ, [], true, false, List, None, Some, length, map}
+use Rattle.std.specs.Prelude.{◌≡◌, ℕ, [], true, false, List, None, Some, length}
 use Rattle.std.specs.List.{list_all}
 use Rattle.implib.specs.Definition.{DefinitionView, ExportView, empty_definition}
 use Rattle.implib.specs.Fault.{Cause, cause_of}
 use Rattle.implib.specs.Import.{is_empty_text}
-use Rattle.implib.specs.Members.Members.{AreMembersOf, refusal}
-use Rattle.implib.specs.Members.MemberSpec.{MemberView, member_of}
-use Rattle.implib.specs.Members.ReadBack.{ReadBack}
+use Rattle.implib.specs.Members.MemberSpec.{MemberView}
 use Rattle.implib.specs.Renaming.{renamed}
 use Rattle.implib_archive.specs.declared.error.Fault.{Fault as ArchiveFault}
 use Rattle.implib_archive.specs.Archive.{archive_of}

@@ -1,5 +1,5 @@
 -- Which bytes the library of a definition has, and when there is none.
-use Rattle.std.specs.Prelude.{◌≡◌, ℕ, IfErr, [], ◌∷◌, Bool, true, false, List, Option, None, Some, if◌then◌else◌, drop, length, map, nat_eq, nat_lt}
+use Rattle.std.specs.Prelude.{◌≡◌, ℕ, IfErr, [], ◌∷◌, Bool, true, false, List, Option, None, Some, if◌then◌else◌, drop, length, nat_eq, nat_lt}
 use Rattle.std.specs.List.{starts_with}
 use Rattle.std.specs.declared.result.Result.{Result}
 use Rattle.std.specs.Io.KnownBytes.{Appends}
@@ -12,9 +12,8 @@ use Rattle.implib.specs.declared.machine.MachineType.TheVariants.{AMD64}
 use Rattle.implib.specs.Definition.{DefinitionView}
 use Rattle.implib.specs.declared.def.position.Position.{Position}
 use Rattle.implib.specs.Fault.{Cause, cause_of, export_index}
-use Rattle.implib.specs.Members.Members.{AreMembersOf, refusal}
-use Rattle.implib.specs.Members.MemberSpec.{MemberView, member_of}
-use Rattle.implib.specs.Members.ReadBack.{ReadBack}
+use Rattle.implib.specs.Members.Members.{refusal}
+use Rattle.implib.specs.Members.MemberSpec.{MemberView}
 use Rattle.implib.specs.Renaming.{renamed}
 use Rattle.implib.specs.Text.Parses.{Parses, RefusesAt}
 use Rattle.implib.specs.Text.Position.{position_at}

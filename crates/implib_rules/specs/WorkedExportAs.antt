@@ -1,6 +1,6 @@
 -- Libraries with third texts worked by hand, their short imports byte by byte as llvm-dlltool 19 writes them; and what
 -- is read of such short imports.
-use Rattle.std.specs.Prelude.{◌≡◌, ℕ, ◌<◌, ◌≤◌, ◌^◌, ◌++◌, List, [], ◌∷◌, true, false, None, Some, codes, drop, map}
+use Rattle.std.specs.Prelude.{◌≡◌, ℕ, ◌<◌, ◌≤◌, ◌^◌, List, [], ◌∷◌, true, false, None, Some, codes, drop, map}
 use Rattle.implib.specs.declared.flavor.Flavor.TheVariants.{Msvc}
 use Rattle.implib.specs.declared.machine.MachineType.{MachineType}
 use Rattle.implib.specs.declared.machine.MachineType.TheVariants.{I386, AMD64}
@@ -11,7 +11,7 @@ use Rattle.implib.specs.Machine.{machine_number}
 use Rattle.implib.specs.Members.MemberSpec.{file_bytes}
 use Rattle.implib.specs.Members.NameRules.{definition_names_refusal}
 use Rattle.implib.specs.Members.Msvc.{short_import_bytes, short_import_size, short_import_symbol}
-use Rattle.implib_rules.specs.ExportAs.{ExportAsRead, definition_made, exported_name, export_as_import, export_as_in, refusal_made, specs_made}
+use Rattle.implib_rules.specs.ExportAs.{definition_made, exported_name, export_as_import, export_as_in, refusal_made, specs_made}
 use Rattle.implib_rules.specs.Linked.{NamingView, linked}
 use Rattle.implib_rules.specs.WorkedNames.{line}
 

@@ -108,9 +108,8 @@ fn export_as_size(symbol: &str, dll: &str, name: &str) -> Option<u32>
     ensures too_long { IfNone result (u32.MAX
         < HEADER_SIZE + (length symbol.now + (length dll.now + length name.now) + NULS)) }
 {
-    let texts = symbol
-        .len()
-        .checked_add(dll.len().checked_add(name.len())?)?;
+    let names = dll.len().checked_add(name.len())?;
+    let texts = symbol.len().checked_add(names)?;
     let size = texts.checked_add(HEADER_SIZE + NULS)?;
     u32::try_from(size).ok()
 }

@@ -1,5 +1,4 @@
 use Rattle.std.proofs.Common.{◌≡◌, ◌∙◌, true, ap, map, Some}
-use Rattle.std.specs.Prelude.{◌++◌}
 use Rattle.std.specs.List.{flat_map, list_any}
 use Rattle.implib.specs.declared.flavor.Flavor.TheVariants.{Msvc}
 use Rattle.implib.specs.Definition.{definition_view, export_view}
