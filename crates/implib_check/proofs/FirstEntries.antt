@@ -1,13 +1,12 @@
 -- The first entry of each symbol.
 use Rattle.std.proofs.Common.{◌≡◌, ◌∙◌, ℕ, Bool, true, false, not, ◌||◌, cond, List, [], ◌∷◌, ◌++◌, Option, None, Some, ap, append-nil, append_assoc, bytes_eq, fold, if◌then◌else◌, map, refl, subst, sym}
 use Rattle.std.proofs.Common.{Bor}
-use Rattle.std.specs.List.{AllByRecursion, cons_option, filter_map, list_any}
+use Rattle.std.specs.List.{AllByRecursion, cons_option, list_any}
 use Rattle.std.specs.Map.{lookup}
 use Rattle.std.proofs.lemmas.Bool.{eq-eqb, true≢false}
-use Rattle.std.proofs.lemmas.List.{map-append}
 use Rattle.std.proofs.lemmas.Slice.Eq.{bytes_eq-Decides}
 use Rattle.implib_read.specs.Indexes.{IndexEntry}
-use Rattle.implib_read.specs.Leads.{unless_at, wrong_entries, wrong_entry}
+use Rattle.implib_read.specs.Leads.{unless_at, wrong_entries}
 use Rattle.implib_check.specs.Working.{first_entries, with_first}
 
 -- a set of borrowed texts, and entries that have them as their symbols

@@ -1,8 +1,8 @@
 -- Entries of indexes and the first linker member, as this reader and that of `implib_archive` have them.
-use Rattle.std.proofs.Common.{◌≡◌, ◌∙◌, ℕ, zero, suc, ◌+◌, ◌*◌, ◌^◌, ◌<◌, ◌≤◌, Bool, true, false, not, List, [], ◌∷◌, ◌++◌, Option, None, Some, ap, append_assoc, arith, drop, flat_map, if◌then◌else◌, length, length-append, map, nat_eq, nat_le, refl, sym, take, take-take, take_while}
+use Rattle.std.proofs.Common.{◌≡◌, ◌∙◌, ℕ, zero, suc, ◌+◌, ◌*◌, ◌^◌, ◌<◌, ◌≤◌, Bool, true, false, not, List, [], ◌∷◌, ◌++◌, None, Some, ap, append_assoc, arith, drop, flat_map, if◌then◌else◌, length, length-append, map, nat_eq, refl, sym, take, take-take, take_while}
 use Rattle.std.specs.Int.{from_be_bytes, from_le_bytes, w16, w32}
 use Rattle.std.specs.Option.{option_and_then, option_map}
-use Rattle.std.proofs.lemmas.Bool.{le-leb, true≢false}
+use Rattle.std.proofs.lemmas.Bool.{le-leb}
 use Rattle.std.proofs.lemmas.List.{drop-take, drop_at, take_at}
 use Rattle.std.proofs.lemmas.List.Sums.{take_while-cons}
 use Rattle.std.proofs.lemmas.Nat.{from_be_bytes-to_be_bytes_4}

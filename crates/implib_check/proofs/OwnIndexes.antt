@@ -23,7 +23,7 @@ use Rattle.implib.proofs.Members.MemberReadings.{map_after}
 use Rattle.implib.proofs.Members.Renaming.{renamed_twice}
 use Rattle.implib_archive.specs.Archive.{archive_of, entries_from, entries_of, first_linker, first_place, long_names, name_field, names_bytes, places_of, second_linker, sorted_entries}
 use Rattle.implib_archive.specs.Leads.{first_lister, header_for, headers_among, headers_in, numbered, second_header_for, with_header}
-use Rattle.implib_archive.specs.Parts.{field, padding, signature}
+use Rattle.implib_archive.specs.Parts.{field, padding}
 use Rattle.implib_archive.specs.ReadBack.{padded, parts_of, read_view, stored, stored_linkers, stored_member, stored_names}
 use Rattle.implib_archive.specs.Reader.{Name, Linker, LongNames, LongAt, Short, Unknown, Read, Stored, first_in, linker_data, linker_in, members_among, name_in, second_in, stored_at, stored_in, trimmed}
 use Rattle.implib_archive.specs.Reader.{long_names_in as long_names_stored}
@@ -42,7 +42,7 @@ use Rattle.implib_read.specs.Archives.{Archive, Part, SameParts, StoredMember, a
 use Rattle.implib_read.specs.Archives.{archive_of as archive_of_parts}
 use Rattle.implib_read.specs.Files.{file_found}
 use Rattle.implib_read.specs.Indexes.{offset_numbered}
-use Rattle.implib_read.specs.Leads.{declared_by_found, first_declarer, offset_if_listed, wrong_entries}
+use Rattle.implib_read.specs.Leads.{declared_by_found, first_declarer, offset_if_listed}
 use Rattle.implib_read.specs.MemberNames.{MemberName, LinkerMember, LongNamesMember, NameAt, Named, Special, member_name}
 use Rattle.implib_read.proofs.OwnArchives.{bytes_as, bytes_by, found_by, is_known, same_bytes, step}
 use Rattle.implib_read.specs.Objects.{SameObjects}
@@ -51,11 +51,10 @@ use Rattle.implib_read.specs.ShortImports.{SameShortImports}
 use Rattle.implib_read.proofs.OwnGnuLibrary.{gnu_files_plain, gnu_files_read, own_gnu_files}
 use Rattle.implib_read.proofs.OwnMembers.{files_as, files_of_specs, found_of, is_plain}
 use Rattle.implib_read.proofs.OwnMsvc.{map_twice}
-use Rattle.implib_rules.specs.Library.{IsLibrary, kind_of}
-use Rattle.implib_rules.specs.Options.{LibraryOptionsView}
+use Rattle.implib_rules.specs.Library.{kind_of}
 use Rattle.implib_rules.specs.Order.{LibraryReads, library_specs, msvc_specs}
 use Rattle.implib_check.specs.OwnIndexes.{IndexesLead, OwnIndexesLead}
-use Rattle.implib_check.specs.Working.{first_entries, first_misleads, is_linker, linker_member, misleading, second_misleads, with_offset}
+use Rattle.implib_check.specs.Working.{is_linker, linker_member, misleading, second_misleads, with_offset}
 use Rattle.implib_check.proofs.FirstEntries.{none_misleads, pair_of}
 use Rattle.implib_check.proofs.IndexReadings.{index_there}
 use Rattle.implib_check.proofs.OwnLibraries.{files_plain, files_read, made_plainly}

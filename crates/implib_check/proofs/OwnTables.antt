@@ -1,6 +1,6 @@
 -- The import tables of the library of a definition: they are whole, and of one DLL.
-use Rattle.std.proofs.Common.{◌≡◌, ◌∙◌, ℕ, ◌+◌, ◌==◌, Bool, true, false, ◌&&◌, ◌||◌, inl, inr, ◌⊎◌, List, [], ◌∷◌, ◌++◌, Option, None, Some, ap, bytes_eq, codes, drop, fold, if◌then◌else◌, length, map, refl, reverse, subst, sym, take}
-use Rattle.std.specs.List.{AllByRecursion, cons_option, filter, filter_map, list_all, list_any}
+use Rattle.std.proofs.Common.{◌≡◌, ◌∙◌, ℕ, ◌+◌, Bool, true, false, ◌&&◌, ◌||◌, inl, inr, ◌⊎◌, List, [], ◌∷◌, ◌++◌, Option, None, Some, ap, codes, drop, fold, if◌then◌else◌, length, map, refl, reverse, subst, sym, take}
+use Rattle.std.specs.List.{AllByRecursion, cons_option, filter_map, list_any}
 use Rattle.std.specs.Option.{option_map, option_map_or}
 use Rattle.std.proofs.lemmas.Bool.{true≢false}
 use Rattle.std.proofs.lemmas.List.{reverse-reverse, take-append-drop}
@@ -21,7 +21,7 @@ use Rattle.implib.specs.Members.GnuReader.{externals_in, section_named, text_sec
 use Rattle.implib.specs.Members.Members.{AreMembersOf, member_specs}
 use Rattle.implib.specs.Members.MemberSpec.{MemberSpec, MemberView, member_of}
 use Rattle.implib.specs.Members.ReadBack.{GnuReadBack, ReadBack, file_of, import_among}
-use Rattle.implib.specs.Members.WeakExternal.{weak_object, weak_spec}
+use Rattle.implib.specs.Members.WeakExternal.{weak_spec}
 use Rattle.implib.specs.Renaming.{renamed}
 use Rattle.implib.proofs.Members.GnuLoop.{map-reverse}
 use Rattle.implib.proofs.Members.MemberReadings.{all_append}
@@ -30,7 +30,7 @@ use Rattle.implib_archive.specs.Archive.{archive_of}
 use Rattle.implib_archive.specs.Refusal.{refusal_of}
 use Rattle.implib_archive.specs.declared.kind.Kind.{Kind}
 use Rattle.implib_read.specs.Archives.{archive_in}
-use Rattle.implib_read.specs.Classes.{Class, AnImport, AnAlias, Descriptor, NullDescriptor, NullThunk, Head, Tail, DelayImport, Other, NotUnderstood, Imported, MemberRead, class_by_tables, class_of_file, class_of_sections, class_with, files_of, has_section, imported_by_object, is_empty, kind_of_code, library_in, members_read}
+use Rattle.implib_read.specs.Classes.{Class, AnImport, AnAlias, Descriptor, NullDescriptor, NullThunk, Head, Tail, DelayImport, Other, NotUnderstood, Imported, MemberRead, class_by_tables, class_of_file, class_of_sections, class_with, files_of, has_section, is_empty, kind_of_code, library_in, members_read}
 use Rattle.implib_read.specs.Files.{definer_among, file_found}
 use Rattle.implib_read.specs.Files.{ObjectFile as FoundObject}
 use Rattle.implib_read.specs.Following.{Place}
@@ -42,9 +42,7 @@ use Rattle.implib_read.proofs.OwnGnu.{reversed_all}
 use Rattle.implib_read.proofs.OwnGnuLibrary.{gnu_files_plain, gnu_files_read, own_gnu_files}
 use Rattle.implib_read.proofs.OwnMembers.{files_as, files_of_specs, found_of}
 use Rattle.implib_read.proofs.OwnMsvc.{archive_by, classes_read, map_twice}
-use Rattle.implib_rules.specs.Library.{IsLibrary}
-use Rattle.implib_rules.specs.Options.{LibraryOptionsView}
-use Rattle.implib_rules.specs.Order.{LibraryReads, library_specs, own_imports}
+use Rattle.implib_rules.specs.Order.{LibraryReads, library_specs}
 use Rattle.implib_check.specs.declared.working.Piece.{Piece}
 use Rattle.implib_check.specs.declared.working.Piece.TheVariants as piece
 use Rattle.implib_check.specs.declared.working.Working.TheVariants.{Works}
@@ -209,6 +207,7 @@ none_told defined (p ∷ specs) (m ∷ ms) objects same =
   where
     both_false : (a b : Bool) → a ≡ false → b ≡ false → (a || b) ≡ false
     both_false a b x y = ap (λ c. c || b) x ∙ y
+
     by : (f : File) → is_object f ≡ true → meaning_of_class (class_of_file defined (found_of f)) ≡ Some m → is_for_msvc (class_of_file defined (found_of f)) ≡ false
     by (ShortImportFile r) object means = absurd (true≢false (sym object))
     by (ObjectFile o) object means = object_untold defined o m means
@@ -287,13 +286,15 @@ header_gnu law kind d machine members meant back accepted there =
     let own = law kind d machine members back accepted in
     let cs = map (λ (m : MemberRead). m.class) meant in
     let same = same_Some _ _ (sym own.found ∙ ap (option_map (map (λ m. m.class))) there) in
-    let means = subst (IsGnuLibraryOf d machine) same own.means in
-    (reverse means.meanings, record {
-      first = means.header;
-      rest = sym (reverse-reverse (map meaning_of_class (drop 2 cs)))
-          ∙ ap reverse (sym (map-reverse meaning_of_class (drop 2 cs)) ∙ means.read)
-          ∙ sym (map-reverse Some means.meanings);
-    })
+    let means = subst (IsGnuLibraryOf d machine) same own.means in (
+      reverse means.meanings,
+      record {
+        first = means.header;
+        rest = sym (reverse-reverse (map meaning_of_class (drop 2 cs)))
+            ∙ ap reverse (sym (map-reverse meaning_of_class (drop 2 cs)) ∙ means.read)
+            ∙ sym (map-reverse Some means.meanings);
+      },
+    )
 
 flavor_gnu : OwnMembersFound → SameShortImports → SameObjects → (kind : Kind) (d : DefinitionView) (machine : MachineType) (members : List MemberView) (meant : List MemberRead) (ms : List Meaning)
     → GnuReadBack d machine members → refusal_of kind members ≡ None → library_in (archive_of kind members) ≡ Some meant → HasHeader 2 (Tail ∷ Head ∷ []) meant ms → flavor_of meant ≡ Gnu

@@ -1,5 +1,5 @@
 -- The second linker member, as this reader and that of `implib_archive` have it.
-use Rattle.std.proofs.Common.{◌≡◌, ◌∙◌, ℕ, zero, suc, ◌+◌, ◌-◌, ◌*◌, ◌^◌, ◌<◌, ◌≤◌, Bool, true, false, cond, not, List, [], ◌∷◌, ◌++◌, Option, None, Some, ap, append_assoc, arith, bytes_eq, drop, flat_map, if◌then◌else◌, length, length-append, map, nat_eq, nat_le, refl, sym, take, take-take, take_while, unwrap_or}
+use Rattle.std.proofs.Common.{◌≡◌, ◌∙◌, ℕ, zero, suc, ◌+◌, ◌-◌, ◌*◌, ◌^◌, ◌<◌, ◌≤◌, Bool, true, false, cond, List, [], ◌∷◌, ◌++◌, Option, Some, ap, append_assoc, arith, bytes_eq, drop, flat_map, length, length-append, map, refl, sym, take, take-take, unwrap_or}
 use Rattle.std.specs.Prelude.{slice_get}
 use Rattle.std.specs.Int.{from_le_bytes, w16, w32}
 use Rattle.std.specs.Map.{lookup}
@@ -7,7 +7,7 @@ use Rattle.std.specs.Option.{option_and_then, option_map}
 use Rattle.std.proofs.lemmas.List.{drop-drop, drop-take, drop_at, take_at}
 use Rattle.std.proofs.lemmas.Grind.{common_steps}
 use Rattle.std.proofs.lemmas.Nat.{from_le_bytes-to_le_bytes_2, from_le_bytes-to_le_bytes_4}
-use Rattle.implib.specs.Formats.Object.{bytes_at, u16_at, u32_at}
+use Rattle.implib.specs.Formats.Object.{bytes_at, u32_at}
 use Rattle.implib_archive.specs.Archive.{second_linker, strings_of}
 use Rattle.implib_archive.specs.Leads.{numbered}
 use Rattle.implib_archive.specs.Parts.{u16_le, u32_le}
@@ -141,10 +141,10 @@ second_there places sorted pad few few_entries each small =
           ∙ ap (λ k. option_and_then (second_index_with bytes (4 + 4 * k)) (bytes_at bytes 4 (4 * k))) again
           ∙ ap (option_and_then (second_index_with bytes (4 + 4 * m))) (there bytes 4 (4 * m) (omega (arith, long, size)))
           ∙ ap (option_and_then (λ c. option_map (λ entries. record { offsets = take (4 * m) (drop 4 bytes); entries = entries }) (entries_behind true (from_le_bytes w32 (take 4 c)) (4 + 4 * m + 4) bytes)))
-            (there bytes (4 + 4 * m) 4 (omega (arith, long, size)))
+          (there bytes (4 + 4 * m) 4 (omega (arith, long, size)))
           ∙ ap (λ k. option_map (λ entries. record { offsets = take (4 * m) (drop 4 bytes); entries = entries }) (entries_behind true k (4 + 4 * m + 4) bytes)) n_again
           ∙ ap (λ o. option_map (λ entries. record { offsets = take (4 * m) (drop 4 bytes); entries = entries }) (option_and_then (λ ps. entries_from true n ps (drop (4 + 4 * m + 4 + 2 * n) bytes)) o))
-            (there bytes (4 + 4 * m + 4) (2 * n) (omega (arith, long, size)))
+          (there bytes (4 + 4 * m + 4) (2 * n) (omega (arith, long, size)))
           ∙ ap (option_map (λ entries. record { offsets = take (4 * m) (drop 4 bytes); entries = entries })) found.is;
       same = found.same
           ∙ ap (paired (texts_in n (drop (4 + 4 * m + 4 + 2 * n) bytes))) (taken 2 (λ k. omega arith) (from_le_bytes w16) n (drop (4 + 4 * m + 4) bytes))
@@ -155,6 +155,6 @@ second_there places sorted pad few few_entries each small =
       leads = λ s. ap (λ d. option_and_then (numbered d) (lookup (bytes_eq s) (second_data bytes).1)) data_offsets
           ∙ ap (λ d. option_and_then (numbered (numbers_in (from_le_bytes w32) 4 m (drop 4 bytes))) (lookup (bytes_eq s) d)) data_entries
           ∙ found_one s (numbered (numbers_in (from_le_bytes w32) 4 m (drop 4 bytes))) (λ k. unwrap_or (offset_numbered (take (4 * m) (drop 4 bytes)) k) 0) (texts_in n behind) sorted
-            (each_weaker _ _ (λ k h. offset_there m k (drop 4 bytes) whole_offsets h.0 h.1) sorted each)
+          (each_weaker _ _ (λ k h. offset_there m k (drop 4 bytes) whole_offsets h.0 h.1) sorted each)
           ∙ sym (ap (λ d. option_map (λ k. unwrap_or (offset_numbered (take (4 * m) (drop 4 bytes)) k) 0) (lookup (bytes_eq s) d)) data_entries);
     }

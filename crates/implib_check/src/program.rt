@@ -18,8 +18,8 @@ use crate::task::{Task, task_named};
 use crate::text::{Listed, Place, Said, Shown, Source, doubt_of, fault_of};
 use crate::together::{Claim, add_claims, clashes};
 use crate::working::{
-    Piece, Working, both_work, first_misleads, has_one, has_whole_tables, linker_member, second_misleads,
-    working_status, works_of,
+    Piece, Working, both_work, first_misleads, has_one, has_whole_tables, linker_member,
+    second_misleads, working_status, works_of,
 };
 use implib::Flavor;
 use implib_read::{IndexEntry, Library, MemberRead};
@@ -356,7 +356,14 @@ fn run_check<R: Files + AllocGlobal, O: Write, E: Write>(
     doubt(faults, check.library, members, true);
     let paths = (check.library, check.definition);
     match check_definition(rt.alloc(), printer, paths, members, &definition, &options) {
-        Ok(verdict) => tell_checked(rt.alloc(), printer, faults, verdict, check.library, &library),
+        Ok(verdict) => tell_checked(
+            rt.alloc(),
+            printer,
+            faults,
+            verdict,
+            check.library,
+            &library,
+        ),
         Err(CheckError::Refused(refusal)) => refuse(faults, check.definition, &refusal),
         Err(CheckError::Failed(failure)) => status_of(faults, Err(failure), 3),
     }
