@@ -1,15 +1,19 @@
 -- Near misses of what links and loaders give, and of what is linked for given objects. A record `NearX` has those of `X`,
 -- each by the name of the field that refuses it.
+use Rattle.implib_link.specs.Gnu.Packed.{packed}
+use Rattle.implib_link.specs.Worked.Searched.{as_taken, searched_objects}
+use Rattle.implib_link.specs.Search.Search.{IsLinkedWith}
+use Rattle.implib_link.specs.Search.MsvcArchives.{first_null}
 use Rattle.std.specs.Prelude.{ℕ, List, [], ◌∷◌, codes}
 use Rattle.implib.specs.declared.flavor.Flavor.TheVariants.{Gnu}
 use Rattle.implib.specs.declared.machine.MachineType.TheVariants.{AMD64, ARM64, I386}
 use Rattle.implib.specs.Formats.Constants.{class_external}
 use Rattle.implib.specs.Formats.Object.{ASymbol, Object}
 use Rattle.implib.specs.Import.{Ask}
-use Rattle.implib.specs.LibraryName.{names_for}
+use Rattle.implib.specs.LibraryName.{names_for, own_names}
 use Rattle.implib.specs.Link.Image.{Range}
 use Rattle.implib.specs.Link.LinkedMembers.{chosen_exports}
-use Rattle.implib_link.specs.Flavors.Program.{FlavorsLink, InputImports}
+use Rattle.implib_link.specs.Flavors.Program.{FlavorsLink, InputImports, objects_taken}
 use Rattle.implib_link.specs.Gnu.Choices.{DefineOnce}
 use Rattle.implib_link.specs.Gnu.Fields.{LinkedCode}
 use Rattle.implib_link.specs.Gnu.Operands.{HasOffsetField, HasPageField, HasPointer, InstructionArrives, PairArrives}
@@ -100,17 +104,25 @@ pub record NearAreClosedForMsvc : Type 0 where
       [] → ⊥
   pub some : AreClosedForMsvc AMD64 [] [] [] [] [] → ⊥
 
--- without the given object, and without the null descriptor
+-- in an order of no libraries; without the given object; and without the null descriptor
 pub record NearAreLinkedFor : Type 0 where
+  pub order : AreLinkedFor AMD64 two_libraries [] [] [] touching_8 (null_descriptor ∷ []) → ⊥
   pub others : AreLinkedFor AMD64 [] (asking ∷ []) [] [] touching_8 (null_descriptor ∷ []) → ⊥
   pub tables : AreLinkedFor AMD64 [] [] [] [] touching_8 [] → ⊥
 
 pub record NearAreChosenFor : Type 0 where
+  pub order : AreChosenFor AMD64 two_libraries [] [] [] (null_descriptor ∷ []) → ⊥
   pub others : AreChosenFor AMD64 [] (asking ∷ []) [] [] (null_descriptor ∷ []) → ⊥
   pub tables : AreChosenFor AMD64 [] [] [] [] [] → ⊥
 
 pub record NearAreLinkedForMsvc : Type 0 where
+  pub order : AreLinkedForMsvc AMD64 two_msvc [] [] [] (objects_taken AMD64 (first_null AMD64 two_msvc)) → ⊥
   pub others : AreLinkedForMsvc AMD64 [] (asking ∷ []) [] [] [] → ⊥
+  pub tables : AreLinkedForMsvc AMD64 two_msvc [] [] two_msvc [] → ⊥
+
+-- no null descriptor
+pub record NearIsLinkedWith : Type 0 where
+  pub tables : IsLinkedWith AMD64 (own_names (codes "foo.dll")) (packed 1 searched_objects) as_taken [] → ⊥
 
 -- code that calls `open` by the pointer, and code that defines this pointer itself
 pub record NearDefineOnce : Type 0 where

@@ -31,7 +31,7 @@ ghost use Rattle.implib_link.specs.Worked.NearResults.{NearDefineOnce, NearFills
 ghost use Rattle.implib_link.specs.Worked.NearResults.{NearFlavorsLink, NearHasOffsetField};
 ghost use Rattle.implib_link.specs.Worked.NearResults.{NearHasPageField, NearHasPointer};
 ghost use Rattle.implib_link.specs.Worked.NearResults.{NearImportsBy, NearInputImports};
-ghost use Rattle.implib_link.specs.Worked.NearResults.{NearInstructionArrives, NearIsClosed};
+ghost use Rattle.implib_link.specs.Worked.NearResults.{NearInstructionArrives, NearIsClosed, NearIsLinkedWith};
 ghost use Rattle.implib_link.specs.Worked.NearResults.{NearLinksAmong, NearLinksBeside};
 ghost use Rattle.implib_link.specs.Worked.NearResults.{NearLinksClosed, NearLinksClosedForMsvc};
 ghost use Rattle.implib_link.specs.Worked.NearResults.{NearPageArrives, NearPairArrives};
@@ -168,6 +168,7 @@ pub fn near_misses_of_results()
     ensures input_imports { NearInputImports }
     ensures instruction_arrives { NearInstructionArrives }
     ensures is_closed { NearIsClosed }
+    ensures is_linked_with { NearIsLinkedWith }
     ensures links_among { NearLinksAmong }
     ensures links_beside { NearLinksBeside }
     ensures links_closed { NearLinksClosed }
