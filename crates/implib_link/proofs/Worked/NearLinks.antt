@@ -145,9 +145,6 @@ too_high n is below = omega arith
 far_too_high : (n : ℕ) → n ≡ 0x7FFF_FFF0 + 60 + 16 → n ≤ 2 ^ 31 → ⊥
 far_too_high n is below = omega arith
 
-too_far : (n : ℕ) → n ≡ 7 → n ≤ 6 → ⊥
-too_far n is below = omega arith
-
 over_tables : AreSections AMD64 touching_8 (calling_objects AMD64) (calling_at AMD64 0x78 ∷ []) → ⊥
 unfolding searched Among
 over_tables x =
@@ -161,7 +158,6 @@ near_are_sections = record {
   held = λ x. none_in _ x.held.0;
   sections = λ x. let none : None ≡ Some (calling_at AMD64 0x1000).code = x.sections.0 in cc;
   ends = λ x. too_high (0x7FFF_FFE2 + 15 + 16) refl x.ends.0;
-  fields = λ x. too_far 7 refl x.fields.0.0;
   apart = over_tables;
 }
 

@@ -26,7 +26,7 @@ use Rattle.implib_link.specs.Worked.Lld.{two_dlls}
 use Rattle.implib_link.specs.Worked.Loads.{written_8}
 use Rattle.implib_link.specs.Worked.MsvcArchives.{shorts_of_both, two_msvc}
 use Rattle.implib_link.specs.Worked.MsvcClosed.{msvc_bases, msvc_objects, msvc_zed_first}
-use Rattle.implib_link.specs.Worked.NearCode.{call_code, code_of, imp_f, left}
+use Rattle.implib_link.specs.Worked.NearCode.{left}
 use Rattle.implib_link.specs.Worked.NearSearches.{again, listing, zed_library, zed_short}
 use Rattle.implib_link.specs.Worked.Operands.{field, imp_open, passing_at, passing_code, passing_codes, passing_image, passing_placed, passing_targets, overlapping_at, open_on}
 use Rattle.implib_link.specs.Worked.Programs.{code_object, program_image, program_placed, symbol_of_class, touching_4, touching_8}
@@ -91,13 +91,12 @@ pub record NearCallReaches : Type 0 where
   pub located : CallReaches AMD64 0x1_4000_0000 (written_8 AMD64 ++ program_image AMD64 touching_8)
       (program_placed AMD64 touching_8) (codes "queue") (0x72 ∷ 0x7A ∷ []) → ⊥
 
--- code of an object that is not linked, and of a section that the object does not have; too high; a field that leads out
--- of its section; and code over the address tables
+-- code of an object that is not linked, and of a section that the object does not have; too high; and code over the
+-- address tables
 pub record NearAreSections : Type 0 where
   pub held : AreSections AMD64 touching_8 [] (calling_at AMD64 0x1000 ∷ []) → ⊥
   pub sections : AreSections AMD64 touching_8 (calling_objects AMD64) (record (calling_at AMD64 0x1000) { number = 2 } ∷ []) → ⊥
   pub ends : AreSections AMD64 touching_8 (calling_objects AMD64) (calling_at AMD64 0x7FFF_FFE2 ∷ []) → ⊥
-  pub fields : AreSections AMD64 touching_8 [] (code_of call_code (field 3 1 4 ∷ []) (left imp_f) ∷ []) → ⊥
   pub apart : AreSections AMD64 touching_8 (calling_objects AMD64) (calling_at AMD64 0x78 ∷ []) → ⊥
 
 -- of linked code, too
