@@ -34,7 +34,7 @@ use Rattle.implib_link.specs.Stub.{adrp_immediate, ldr_immediate, page, plus_sig
 use Rattle.implib_link.specs.Worked.Calls.{calling_at}
 use Rattle.implib_link.specs.Worked.Flavors.{flavor_bases_8, flavor_image, flavor_placed}
 use Rattle.implib_link.specs.Worked.NearCode.{code_of}
-use Rattle.implib_link.specs.Worked.NearResults.{NearAreChosenFor, NearAreClosedForMsvc, NearAreLinkedFor, NearAreLinkedForMsvc, NearDefineOnce, NearFillsBy, NearFlavorsLink, NearHasOffsetField, NearHasPageField, NearHasPointer, NearImportsBy, NearInputImports, NearInstructionArrives, NearIsClosed, NearLinksAmong, NearLinksBeside, NearLinksClosed, NearLinksClosedForMsvc, NearPageArrives, NearPairArrives, NearIsLinkedWith}
+use Rattle.implib_link.specs.Worked.NearResults.{NearAreChosenFor, NearAreClosedForMsvc, NearAreLinkedFor, NearAreLinkedForMsvc, NearDefineOnce, NearFillsBy, NearFlavorsLink, NearHasOffsetField, NearHasPageField, NearHasPointer, NearImportsBy, NearInputImports, NearInstructionArrives, NearIsClosed, NearLinksAmong, NearLinksBeside, NearLinksClosed, NearLinksClosedForMsvc, NearPageArrives, NearPairArrives, NearIsLinkedWith, NearBranchStays}
 use Rattle.implib_link.specs.Worked.NearSearches.{asking}
 use Rattle.implib_link.specs.Worked.Operands.{imp_open, field}
 use Rattle.implib_link.specs.Worked.Programs.{program_image, symbol_of_class, symbol_on, touching_8}
@@ -277,4 +277,13 @@ pub near_pair_arrives : NearPairArrives
 near_pair_arrives = record {
   adrp_there = λ x. absent (two_ranges 0x1010 (8 ∷ 0x41 ∷ 0x40 ∷ 0xF9 ∷ []) open_address) 0x100C 4 x.adrp refl (omega arith) x.adrp_there;
   load_there = λ x. absent (two_ranges 0x100C (0xE8 ∷ 0xFF ∷ 0xFF ∷ 0xF0 ∷ []) open_address) 0x1010 4 x.load refl (omega arith) x.load_there;
+}
+
+pub near_branch_stays : NearBranchStays
+near_branch_stays = record {
+  there = λ x. absent (two_ranges 0x1020 (9 ∷ 0 ∷ 0 ∷ 0x94 ∷ []) []) 0x101C 4 x.number refl (omega arith) x.there;
+  same = λ x.
+      let memory : List Range = two_ranges 0x101C (9 ∷ 0 ∷ 0 ∷ 0x14 ∷ []) [] in
+      let is : x.number ≡ 0x1400_0009 = number_once memory 4 0x101C x.number 0x1400_0009 x.there (number memory 4 0x101C 0x1400_0009 (9 ∷ 0 ∷ 0 ∷ 0x14 ∷ []) refl refl refl) in
+      differ 0x1400_0000 0x9400_0000 (sym (ap (with_bits 0 26 0) is) ∙ x.same) (omega arith);
 }

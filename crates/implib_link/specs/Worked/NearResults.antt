@@ -16,7 +16,7 @@ use Rattle.implib.specs.Link.LinkedMembers.{chosen_exports}
 use Rattle.implib_link.specs.Flavors.Program.{FlavorsLink, InputImports, objects_taken}
 use Rattle.implib_link.specs.Gnu.Choices.{DefineOnce}
 use Rattle.implib_link.specs.Gnu.Fields.{LinkedCode}
-use Rattle.implib_link.specs.Gnu.Operands.{HasOffsetField, HasPageField, HasPointer, InstructionArrives, PairArrives}
+use Rattle.implib_link.specs.Gnu.Operands.{BranchStays, HasOffsetField, HasPageField, HasPointer, InstructionArrives, PairArrives}
 use Rattle.implib_link.specs.Gnu.OtherLibraries.{LinksBeside}
 use Rattle.implib_link.specs.Gnu.Pages.{PageArrives}
 use Rattle.implib_link.specs.Gnu.Program.{ImportsBy, LinksAmong, null_descriptor}
@@ -177,3 +177,8 @@ pub record NearPairArrives : Type 0 where
   pub load_there : PairArrives 0x1_4000_0000 (passing_placed ARM64 touching_8)
       (two_ranges 0x100C (0xE8 ∷ 0xFF ∷ 0xFF ∷ 0xF0 ∷ []) open_address) 0x100C 0x1010 0x9000_0008 0xF940_0108
       (imp_open ARM64) open_address → ⊥
+
+-- ARM64's `bl` at 0x101C: nothing there, and `b` in its place
+pub record NearBranchStays : Type 0 where
+  pub there : BranchStays ARM64 (two_ranges 0x1020 (9 ∷ 0 ∷ 0 ∷ 0x94 ∷ []) []) 0x101C 0x9400_0000 → ⊥
+  pub same : BranchStays ARM64 (two_ranges 0x101C (9 ∷ 0 ∷ 0 ∷ 0x14 ∷ []) []) 0x101C 0x9400_0000 → ⊥

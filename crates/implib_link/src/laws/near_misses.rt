@@ -27,7 +27,7 @@ ghost use Rattle.implib_link.specs.Worked.NearPrograms.{NearIsImportable, NearIs
 ghost use Rattle.implib_link.specs.Worked.NearPrograms.{NearIsProgramBeside, NearLldLinks};
 ghost use Rattle.implib_link.specs.Worked.NearResults.{NearAreChosenFor, NearAreClosedForMsvc};
 ghost use Rattle.implib_link.specs.Worked.NearResults.{NearAreLinkedFor, NearAreLinkedForMsvc};
-ghost use Rattle.implib_link.specs.Worked.NearResults.{NearDefineOnce, NearFillsBy};
+ghost use Rattle.implib_link.specs.Worked.NearResults.{NearBranchStays, NearDefineOnce, NearFillsBy};
 ghost use Rattle.implib_link.specs.Worked.NearResults.{NearFlavorsLink, NearHasOffsetField};
 ghost use Rattle.implib_link.specs.Worked.NearResults.{NearHasPageField, NearHasPointer};
 ghost use Rattle.implib_link.specs.Worked.NearResults.{NearImportsBy, NearInputImports};
@@ -158,6 +158,7 @@ pub fn near_misses_of_results()
     ensures are_closed_for_msvc { NearAreClosedForMsvc }
     ensures are_linked_for { NearAreLinkedFor }
     ensures are_linked_for_msvc { NearAreLinkedForMsvc }
+    ensures branch_stays { NearBranchStays }
     ensures define_once { NearDefineOnce }
     ensures fills_by { NearFillsBy }
     ensures flavors_link { NearFlavorsLink }
