@@ -26,7 +26,6 @@ use Rattle.implib_link.specs.Worked.Lld.{two_dlls}
 use Rattle.implib_link.specs.Worked.Loads.{written_8}
 use Rattle.implib_link.specs.Worked.MsvcArchives.{shorts_of_both, two_msvc}
 use Rattle.implib_link.specs.Worked.MsvcClosed.{msvc_bases, msvc_objects, msvc_zed_first}
-use Rattle.implib_link.specs.Worked.NearCode.{left}
 use Rattle.implib_link.specs.Worked.NearSearches.{again, listing, zed_library, zed_short}
 use Rattle.implib_link.specs.Worked.Operands.{field, imp_open, passing_at, passing_code, passing_codes, passing_image, passing_placed, passing_targets, overlapping_at, open_on}
 use Rattle.implib_link.specs.Worked.Programs.{code_object, program_image, program_placed, symbol_of_class, touching_4, touching_8}
