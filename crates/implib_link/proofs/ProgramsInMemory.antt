@@ -13,11 +13,11 @@ use Rattle.implib.specs.Link.Placement.{Bases, placed_from}
 use Rattle.implib.specs.Members.ImportTables.{thunk_width}
 use Rattle.implib_link.specs.Flavors.Loaded.{AreLoaded}
 use Rattle.implib_link.specs.Flavors.Program.{FlavorInput, IsCode, IsFlavorProgram, IsMadeFor, ask_in, dll_of, exports_chosen, imported_in, symbol_in, thunks_of}
-use Rattle.implib_link.specs.Gnu.Fields.{DefinesIn, LinkedCode, placed_code}
+use Rattle.implib_link.specs.Gnu.Fields.{DefinesIn, LinkedCode, placed_code, field_at}
 use Rattle.implib_link.specs.Gnu.Loaded.{IsLoaded, Writes}
 use Rattle.implib_link.specs.Directory.{imported}
 use Rattle.implib_link.specs.Gnu.Moves.{AreInMemory}
-use Rattle.implib_link.specs.Gnu.Operands.{AllLead, AreKept, BranchArrives, HasBranch}
+use Rattle.implib_link.specs.Gnu.Operands.{AllLead, AreKept, BranchArrives, HasBranch, BranchStays}
 use Rattle.implib_link.specs.Gnu.Calls.{CanBranch, DirectCallArrives, HasDirectCall}
 use Rattle.implib_link.specs.Gnu.Program.{IsProgram, thunks_before}
 use Rattle.implib_link.specs.Gnu.Reading.{ReadsAndWrites}
@@ -31,7 +31,7 @@ use Rattle.implib_link.proofs.Gnu.Steady.{program_tables_none}
 use Rattle.implib_link.proofs.LoadedPrograms.{flavors_count, flavors_imports, flavors_loaded, gnu_count, gnu_imports, gnu_loaded}
 use Rattle.implib_link.proofs.Gnu.UsualCode.{AreReached}
 use Rattle.implib_link.proofs.PackedTables.{reads_further}
-use Rattle.implib_link.proofs.TablesInMemory.{code_from, code_section, entry_leads, entry_reached_by, entry_stub, tables_call_in_memory, written_read, tables_branch_in_memory, tables_end_in_memory, tables_keep_in_memory, tables_load_in_memory}
+use Rattle.implib_link.proofs.TablesInMemory.{code_from, code_section, entry_leads, entry_reached_by, entry_stub, tables_call_in_memory, written_read, tables_branch_in_memory, tables_end_in_memory, tables_keep_in_memory, tables_load_in_memory, tables_stay_in_memory}
 use Rattle.implib_link.proofs.TablesOfPrograms.{flavors_entry, flavors_tables, gnu_entry, gnu_tables}
 
 jumps_read : (machine : MachineType) (image_base : ℕ) (bases : Bases) → CanJump machine image_base bases → CanReadFrom machine image_base bases.addresses
@@ -79,6 +79,11 @@ module _ (machine : MachineType) (image_base : ℕ) (bases : Bases) (inputs : Li
       d.position + t.value < 2 ^ 31 → CanBranch machine (c.position + offset) (d.position + t.value) →
       BranchArrives machine image_base (written ++ memory) (c.position + offset) after (d.position + t.value)
   branches_in_memory n written c d offset after name t wide reads = tables_branch_in_memory machine image_base own codes targets memory gives tables steady at n written wide reads c d offset after name t
+
+  pub stays_in_memory : (n : ℕ) (written : List Range) (c d : LinkedCode) (offset after : ℕ) (name : List ℕ) (t : ObjectSymbol) → ((dll : List ℕ) (ask : Ask) → length (gives dll ask) ≡ thunk_width machine) →
+      ReadsAndWrites memory (thunk_width machine) gives n bases.descriptors written → Contains codes c → HasBranch machine c offset after name → Contains codes d → DefinesIn d t → t.name ≡ name →
+      CanBranch machine (c.position + offset) (d.position + t.value) → BranchStays machine (written ++ memory) (c.position + offset) (field_at c.code.bytes offset 4)
+  stays_in_memory n written c d offset after name t wide reads = tables_stay_in_memory machine image_base own codes targets memory gives tables steady at n written wide reads c d offset after name t
 
   pub kept_in_memory : (n : ℕ) (written : List Range) → ((dll : List ℕ) (ask : Ask) → length (gives dll ask) ≡ thunk_width machine) → ReadsAndWrites memory (thunk_width machine) gives n bases.descriptors written →
       AreKept machine codes (written ++ memory)

@@ -12,10 +12,10 @@ use Rattle.implib.specs.Link.Load.{BytesAt}
 use Rattle.implib.specs.Link.Resolution.{definitions_of}
 use Rattle.implib.specs.Members.ImportTables.{thunk_width}
 use Rattle.implib_link.specs.Gnu.Calls.{CanBranch, DirectCallArrives, HasDirectCall}
-use Rattle.implib_link.specs.Gnu.Fields.{DefinesIn, LinkedCode, placed_code}
+use Rattle.implib_link.specs.Gnu.Fields.{DefinesIn, LinkedCode, placed_code, field_at}
 use Rattle.implib_link.specs.Gnu.Loaded.{Writes}
 use Rattle.implib_link.specs.Gnu.Moves.{AreInMemory}
-use Rattle.implib_link.specs.Gnu.Operands.{AllLead, AreKept, BranchArrives, HasBranch}
+use Rattle.implib_link.specs.Gnu.Operands.{AllLead, AreKept, BranchArrives, HasBranch, BranchStays}
 use Rattle.implib_link.specs.Gnu.Reading.{ReadsAndWrites}
 use Rattle.implib_link.specs.Tables.{AreSteady, AreTables, AreTablesLoaded, CanReadFrom, Table, TableEntry, Tables, imported_by_table}
 use Rattle.implib_link.proofs.Gnu.CallReads.{CanReach}
@@ -24,7 +24,7 @@ use Rattle.implib_link.proofs.Gnu.CallsByName.{direct_arrives}
 use Rattle.implib_link.proofs.Gnu.UsualCode.{AreReached, usual_reached}
 use Rattle.implib_link.proofs.Gnu.Keeps.{bytes_kept, keeps_written, memory_can_be_read, memory_read, memory_reads}
 use Rattle.implib_link.proofs.Gnu.Memory.{Covers, byte_first, loaded_below, written_covers}
-use Rattle.implib_link.proofs.Gnu.Operands.{all_lead, branch_arrives}
+use Rattle.implib_link.proofs.Gnu.Operands.{all_lead, branch_arrives, branch_stays}
 use Rattle.implib_link.proofs.Gnu.Stubs.{same_address, wide_thunk}
 use Rattle.implib_link.proofs.Gnu.OperandStubs.{stub_arrives}
 use Rattle.implib_link.proofs.Gnu.PlacedStubs.{StubAt}
@@ -144,6 +144,10 @@ module _ (machine : MachineType) (image_base : ℕ) (t : Tables) (codes : List L
         d.position + s.value < 2 ^ 31 → CanBranch machine (c.position + offset) (d.position + s.value) →
         BranchArrives machine image_base (written ++ memory) (c.position + offset) after (d.position + s.value)
     tables_branch_in_memory = branch_arrives machine image_base t.image t.linked codes targets memory resting written covering
+
+    pub tables_stay_in_memory : (c d : LinkedCode) (offset after : ℕ) (name : List ℕ) (s : ObjectSymbol) → Contains codes c → HasBranch machine c offset after name → Contains codes d → DefinesIn d s → s.name ≡ name →
+        CanBranch machine (c.position + offset) (d.position + s.value) → BranchStays machine (written ++ memory) (c.position + offset) (field_at c.code.bytes offset 4)
+    tables_stay_in_memory = branch_stays machine image_base t.image t.linked codes targets memory resting written covering
 
     pub tables_keep_in_memory : AreKept machine codes (written ++ memory)
     tables_keep_in_memory c offset count held none =

@@ -19,7 +19,7 @@ use Rattle.implib.proofs.Link.LinkedMembers.{among_contains}
 use Rattle.implib.proofs.Link.Ranges.{Among, all_among}
 use Rattle.implib_link.specs.Gnu.Calls.{CanBranch, amd64_addr64, field_width}
 use Rattle.implib_link.specs.Gnu.Fields.{DefinesIn, FieldHolds, LinkedCode, MeetsAlone, field_at, meets}
-use Rattle.implib_link.specs.Gnu.Operands.{AllLead, AllLeadTo, BranchArrives, HasBranch, HasInstruction, HasOffsetField, HasOperand, HasPageField, HasPointer, InstructionArrives, IsBranch, IsOperand, IsPointer, Names, OperandArrives, PairArrives, PointerArrives, branch_leads, operand_leads}
+use Rattle.implib_link.specs.Gnu.Operands.{AllLead, AllLeadTo, BranchArrives, HasBranch, HasInstruction, HasOffsetField, HasOperand, HasPageField, HasPointer, InstructionArrives, IsBranch, IsOperand, IsPointer, Names, OperandArrives, PairArrives, PointerArrives, branch_leads, operand_leads, BranchStays, branch_rest}
 use Rattle.implib_link.specs.Gnu.Rebased.{absolute_width, amd64_addr32}
 use Rattle.implib_link.specs.Stub.{adrp_immediate, bits_of, ldr_immediate, page, plus_signed, with_bits}
 use Rattle.implib_link.proofs.Gnu.CallReads.{CanReach}
@@ -116,6 +116,13 @@ branch_by AMD64 type base position target after old new (further, (few, (is, end
 branch_by ARM64 type base position target after old new counts holds can near small =
     ap Some (words_lead base position target can.0 can.1 can.2 can.3 (bits_of 0 26 (new 4)) (holds.branch counts.0 counts.1 can.2 can.3).1)
 
+branch_rest_by : (machine : MachineType) (type base position target after : ℕ) (old new : ℕ → ℕ) → IsBranch machine type after (old 4) → FieldHolds machine type base position target old new → CanBranch machine position target →
+    branch_rest machine (new 4) ≡ branch_rest machine (old 4)
+branch_rest_by I386 type base position target after old new counts holds can = refl
+branch_rest_by ARMNT type base position target after old new counts holds can = absurd counts
+branch_rest_by AMD64 type base position target after old new counts holds can = refl
+branch_rest_by ARM64 type base position target after old new counts holds can = (holds.branch counts.0 counts.1 can.2 can.3).0
+
 pointer_by : (machine : MachineType) (type base position target : ℕ) (old new : ℕ → ℕ) → IsPointer machine type → old (thunk_width machine) ≡ 0 → FieldHolds machine type base position target old new →
     CanReach machine base target → base + 2 ^ 31 ≤ 2 ^ 64 → target < 2 ^ 31 → new (thunk_width machine) ≡ base + target
 pointer_by I386 type base position target old new stores empty holds can fits small = dir32_is (new 4) (old 4) base target (holds.dir32 stores) empty can small
@@ -182,6 +189,22 @@ module _ (machine : MachineType) (image_base : ℕ) (image : List Range) (linked
         there = subst (λ w. NumberAt (written ++ memory) w (c.position + offset) (found.0 w)) wide found.1.0;
         leads = branch_by machine has.type image_base (c.position + offset) (d.position + t.value) after (field_at c.code.bytes offset) found.0 has.counts
             (subst (λ n. FieldHolds machine has.type image_base (c.position + offset) n (field_at c.code.bytes offset) found.0) target found.1.1) can (omega arith) small;
+      }
+
+  -- and is, but for its distance, as it was
+  pub branch_stays : (c d : LinkedCode) (offset after : ℕ) (name : List ℕ) (t : ObjectSymbol) → Contains codes c → HasBranch machine c offset after name → Contains codes d → DefinesIn d t → t.name ≡ name →
+      CanBranch machine (c.position + offset) (d.position + t.value) → BranchStays machine (written ++ memory) (c.position + offset) (field_at c.code.bytes offset 4)
+  branch_stays c d offset after name t held has d_held defines named can =
+      let m : Among c codes = contains_among c codes held in
+      let names = has.field.names in
+      let target : targets c has.field.symbol ≡ d.position + t.value = at.beside.resolved.code c d has.field.symbol names.symbol t held d_held names.target names.undefined defines (named ∙ sym names.named) in
+      let found = steady_there machine image_base image linked codes targets memory at written covers_it c m offset has.type has.field.symbol has.field.alone has.field.inside
+      (branch_steady machine has.type after (field_at c.code.bytes offset 4) has.counts) in
+      record {
+        number = found.0 4;
+        there = subst (λ w. NumberAt (written ++ memory) w (c.position + offset) (found.0 w)) (branch_width machine has.type after (field_at c.code.bytes offset 4) has.counts) found.1.0;
+        same = branch_rest_by machine has.type image_base (c.position + offset) (d.position + t.value) after (field_at c.code.bytes offset) found.0 has.counts
+            (subst (λ n. FieldHolds machine has.type image_base (c.position + offset) n (field_at c.code.bytes offset) found.0) target found.1.1) can;
       }
 
   -- what leads to the only definition of a name, where these bytes are

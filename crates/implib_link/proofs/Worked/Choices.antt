@@ -87,7 +87,6 @@ sections = record {
   held = ((0, omega arith, refl), ((3, omega arith, refl), tt));
   sections = (refl, (refl, tt));
   ends = (omega arith, (omega arith, tt));
-  fields = ((omega arith, tt), ((omega arith, (omega arith, tt)), tt));
   apart = apart_as_they_rise (2 ^ 31) (image_of ARM64 touching_8 branching_placed ++ map plain_range branch_codes) refl;
 }
 

@@ -1,6 +1,4 @@
 -- Premises that are met a second time, by computing.
-use Rattle.implib_link.specs.Gnu.Fields.{placed_code}
-use Rattle.implib_link.specs.Worked.Operands.{passing_codes, passing_objects, passing_placed}
 use Rattle.implib_link.proofs.Worked.LinkedCode.{relocated_test}
 use Rattle.implib_link.proofs.Worked.Relocated.{beside_by, codes_tested}
 use Rattle.std.proofs.Common.{◌≡◌, ℕ, ◌+◌, ◌^◌, ◌≤◌, List, [], ◌∷◌, ◌++◌, codes, map, refl, sym, subst, inr, arith}
@@ -19,7 +17,7 @@ use Rattle.implib_link.specs.Flavors.LldImports.{imp_symbols_of, imports_of_lld}
 use Rattle.implib_link.specs.Flavors.LldTables.{IsAskable, built}
 use Rattle.implib_link.specs.Flavors.Program.{all_members, members_linked, symbols_listed}
 use Rattle.implib_link.specs.Gnu.Calls.{Defines}
-use Rattle.implib_link.specs.Gnu.Choices.{plain_range, AreSections}
+use Rattle.implib_link.specs.Gnu.Choices.{plain_range}
 use Rattle.implib_link.specs.Gnu.OtherLibraries.{AllTaken, DescriptorsAt, inputs_of_runs}
 use Rattle.implib_link.specs.Gnu.Program.{linked_symbols}
 use Rattle.implib_link.specs.Search.Archives.{symbols_of_library}
@@ -164,7 +162,6 @@ machine_instances = record {
     held = ((0, omega arith, refl), ((3, omega arith, refl), tt));
     sections = (refl, (refl, tt));
     ends = (omega arith, (omega arith, tt));
-    fields = ((omega arith, tt), ((omega arith, tt), tt));
     apart = apart_as_they_rise (2 ^ 31) (image_of I386 touching_4 (calling_placed I386 touching_4) ++ map plain_range (moving_codes I386 touching_4)) refl;
   };
 }
@@ -193,16 +190,6 @@ in_front =
     })
     refl
 
-fields_end : AreSections I386 touching_4 (passing_objects I386) (map placed_code (passing_codes I386 touching_4))
-unfolding searched
-fields_end = record {
-  held = ((0, omega arith, refl), ((3, omega arith, refl), tt));
-  sections = (refl, (refl, tt));
-  ends = (omega arith, (omega arith, tt));
-  fields = ((omega arith, (omega arith, (omega arith, (omega arith, (omega arith, (omega arith, (omega arith, tt))))))), ((omega arith, tt), tt));
-  apart = apart_as_they_rise (2 ^ 31) (image_of I386 touching_4 (passing_placed I386 touching_4) ++ map plain_range (map placed_code (passing_codes I386 touching_4))) refl;
-}
-
 first_f : Defines defines_twice (symbol_of_class (codes "f") 1 class_external)
 first_f = record { held = (0, omega arith, refl); external = refl; here = refl }
 
@@ -212,7 +199,6 @@ second_f = record { held = (1, omega arith, refl); external = refl; here = refl 
 pub code_instances : CodeInstances
 code_instances = record {
   in_front = in_front;
-  fields_end = fields_end;
   moved = movable_code.i386;
   twice = λ x. differ 0x1000 0x1008 (x.once defines_twice defines_twice (symbol_of_class (codes "f") 1 class_external) (record (symbol_of_class (codes "f") 1 class_external) { value = 8 }) (0, omega arith, refl) (0, omega arith, refl) first_f second_f refl) (omega arith);
 }

@@ -66,7 +66,6 @@ near_sections = record {
   held = ((0, omega arith, refl), ((3, omega arith, refl), tt));
   sections = (refl, (refl, tt));
   ends = (omega arith, (omega arith, tt));
-  fields = ((omega arith, tt), ((omega arith, tt), tt));
   apart = apart_as_they_rise (2 ^ 31) (image_of I386 touching_4 near_placed ++ map plain_range near_codes) refl;
 }
 

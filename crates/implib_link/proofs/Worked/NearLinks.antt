@@ -1,4 +1,10 @@
 -- Near misses of searches, of code beside the tables and of moved programs, by computing.
+use Rattle.std.specs.Prelude.{slice_get}
+use Rattle.std.specs.List.{Contains}
+use Rattle.implib_link.proofs.Gnu.PlacedStubs.{symbol_of_entry}
+use Rattle.implib_link.proofs.Search.Lists.{contains_among}
+use Rattle.implib_link.proofs.Worked.Calls.{one_of}
+use Rattle.implib_link.specs.Stub.{JumpsThrough, code_relocated, jump_reads}
 use Rattle.implib_link.specs.Gnu.Calls.{i386_rel32}
 use Rattle.implib.specs.declared.coff.object.Relocation.{Relocation}
 use Rattle.implib.proofs.Link.Ranges.{Among}
@@ -10,10 +16,10 @@ use Rattle.std.proofs.lemmas.Bool.{true≢false}
 use Rattle.implib.specs.declared.machine.MachineType.TheVariants.{I386, AMD64}
 use Rattle.implib.specs.Formats.Bytes.{u32_bytes}
 use Rattle.implib.specs.Formats.Constants.{class_external, i386_dir32}
-use Rattle.implib.specs.Formats.Object.{ASymbol, ObjectSymbol}
+use Rattle.implib.specs.Formats.Object.{ASymbol, ObjectSymbol, ObjectSection}
 use Rattle.implib.specs.Import.{imp_symbol}
 use Rattle.implib.specs.Link.Load.{BytesAt}
-use Rattle.implib.specs.Link.Placement.{Placed}
+use Rattle.implib.specs.Link.Placement.{Placed, Unplaced}
 use Rattle.implib.specs.Link.Resolution.{definitions_of, is_undefined_external}
 use Rattle.implib.proofs.Link.Loading.{number_once}
 use Rattle.implib_link.specs.Flavors.LldTables.{directory_built}
@@ -23,10 +29,10 @@ use Rattle.implib_link.specs.Search.Search.{IsTakenInTurn}
 use Rattle.implib_link.specs.Worked.Calls.{calling_at, calling_objects, calling_placed}
 use Rattle.implib_link.specs.Worked.Lld.{two_dlls}
 use Rattle.implib_link.specs.Worked.Loads.{written_8}
-use Rattle.implib_link.specs.Worked.NearLinks.{NearAreGiven, NearAreGivenForMsvc, NearAreLinkedBeside, NearAreMoved, NearArePiecesAt, NearAreSections, NearCallReaches, NearDefinesIn, NearFindsBy, NearHasBranch, NearHasField, NearHasOperand, NearIsClosedForMsvc, NearJumpsThrough, NearNames, NearResolves, NearTakes, NearTakesInto, NearTakesIntoFor, NearTakesSymbols, NearHasInstruction}
+use Rattle.implib_link.specs.Worked.NearLinks.{NearAreGiven, NearAreGivenForMsvc, NearAreLinkedBeside, NearAreMoved, NearArePiecesAt, NearAreSections, NearCallReaches, NearDefinesIn, NearFindsBy, NearHasBranch, NearHasField, NearHasOperand, NearIsClosedForMsvc, NearJumpsThrough, NearNames, NearResolves, NearTakes, NearTakesInto, NearTakesIntoFor, NearTakesSymbols, NearHasInstruction, jumping, jump_section}
 use Rattle.implib_link.specs.Worked.NearSearches.{again, listing}
 use Rattle.implib_link.specs.Worked.Operands.{field, imp_open, passing_at}
-use Rattle.implib_link.specs.Worked.Programs.{program_image, program_placed, symbol_of_class, symbol_on, touching_8}
+use Rattle.implib_link.specs.Worked.Programs.{program_image, program_placed, symbol_of_class, symbol_on, touching_8, code_object}
 use Rattle.implib_link.specs.Worked.Rules.{early_caller}
 use Rattle.implib_link.specs.Worked.Walks.{without_addresses, without_name}
 use Rattle.implib_link.proofs.Gnu.Stubs.{same_address}
@@ -75,8 +81,44 @@ queue_two : length (definitions_of (codes "queue") (again ∷ linked)) ≡ 2
 unfolding searched
 queue_two = refl
 
+abbrev jumping_one : ℕ → ℕ → List ObjectSection → Placed
+jumping_one number value sections = record {
+  object = record (code_object (record (symbol_of_class (codes "f") number class_external) { value = value } ∷ [])) { sections = sections };
+  section_addresses = Unplaced ∷ [];
+}
+
+-- the one object and its one symbol
+module _ (number value entry : ℕ) (sections : List ObjectSection) (x : JumpsThrough I386 0x40_0000 (jumping number value sections) (codes "f") entry) where
+  from_is : x.from ≡ jumping_one number value sections
+  from_is = one_of x.from (jumping_one number value sections) (contains_among x.from (jumping number value sections) x.held)
+
+  symbol_is : x.symbol ≡ record (symbol_of_class (codes "f") number class_external) { value = value }
+  symbol_is =
+      let own : ObjectSymbol = record (symbol_of_class (codes "f") number class_external) { value = value } in
+      symbol_of_entry x.symbol own
+      (one_of (ASymbol x.symbol) (ASymbol own)
+      (contains_among (ASymbol x.symbol) (ASymbol own ∷ []) (subst (λ (p : Placed). Contains p.object.entries (ASymbol x.symbol)) from_is x.defined)))
+
+  section_is : slice_get sections 0 ≡ Some x.code
+  section_is = subst (λ (p : Placed). slice_get p.object.sections 0 ≡ Some x.code) from_is x.here
+
+jump_code : (c : ObjectSection) → Some jump_section ≡ Some c → jump_section ≡ c
+jump_code c is = cc
+
+other_entry : (a b : ℕ) → a < b → Some a ≡ Some b → ⊥
+other_entry a b less is = differ a b (value a b is) less
+
 pub near_jumps_through : NearJumpsThrough
-near_jumps_through = record { once = λ x. twice (codes "queue") (again ∷ linked) queue_two x.once }
+near_jumps_through = record {
+  once = λ x. twice (codes "queue") (again ∷ linked) queue_two x.once;
+  first = λ x. differ 1 2 (sym (sym (ap (λ (s : ObjectSymbol). s.section) (symbol_is 2 0 0x60 (jump_section ∷ []) x)) ∙ x.first)) (omega arith);
+  begins = λ x. differ 0 8 (sym (sym (ap (λ (s : ObjectSymbol). s.value) (symbol_is 1 8 0x60 (jump_section ∷ []) x)) ∙ x.begins)) (omega arith);
+  here = λ x. let none : None ≡ Some x.code = section_is 1 0 0x60 [] x in cc;
+  jumps = λ x.
+      let code : jump_section ≡ x.code = jump_code x.code (section_is 1 0 0x64 (jump_section ∷ []) x) in
+      other_entry 0x40_0060 0x40_0064 (omega arith) (subst (λ (c : ObjectSection). jump_reads I386 0x40_1000 (code_relocated I386 0x40_0000 (jumping 1 0 (jump_section ∷ [])) x.from 0x1000 c.relocations c.bytes) ≡ Some 0x40_0064) (sym code)
+      (x.jumps 0x1000 (omega arith)));
+}
 
 no_hello : definitions_of (codes "__imp_hello") linked ≡ []
 unfolding searched
@@ -103,9 +145,6 @@ too_high n is below = omega arith
 far_too_high : (n : ℕ) → n ≡ 0x7FFF_FFF0 + 60 + 16 → n ≤ 2 ^ 31 → ⊥
 far_too_high n is below = omega arith
 
-too_far : (n : ℕ) → n ≡ 7 → n ≤ 6 → ⊥
-too_far n is below = omega arith
-
 over_tables : AreSections AMD64 touching_8 (calling_objects AMD64) (calling_at AMD64 0x78 ∷ []) → ⊥
 unfolding searched Among
 over_tables x =
@@ -119,7 +158,6 @@ near_are_sections = record {
   held = λ x. none_in _ x.held.0;
   sections = λ x. let none : None ≡ Some (calling_at AMD64 0x1000).code = x.sections.0 in cc;
   ends = λ x. too_high (0x7FFF_FFE2 + 15 + 16) refl x.ends.0;
-  fields = λ x. too_far 7 refl x.fields.0.0;
   apart = over_tables;
 }
 

@@ -1,7 +1,11 @@
 -- Near misses of programs, by computing.
+use Rattle.implib.specs.LibraryName.{linked_dll}
+use Rattle.implib_link.specs.Flavors.Expansion.{expanded_in}
+use Rattle.implib.specs.Members.MemberSpec.{MemberView}
+use Rattle.std.proofs.lemmas.List.Elements.{filter_map-append}
 use Rattle.std.proofs.Common.{◌≡◌, ℕ, ◌+◌, ◌*◌, true, false, List, [], ◌∷◌, ◌++◌, codes, length, Some, None, refl, ap, sym, ◌∙◌, subst, inl, inr, arith}
-use Rattle.std.specs.Prelude.{◌⊎◌, ◌≤◌, Bool, ◌%◌, ◌<◌, ◌^◌, bytes_eq, slice_index}
-use Rattle.std.specs.List.{Contains, list_any}
+use Rattle.std.specs.Prelude.{◌⊎◌, ◌≤◌, Bool, ◌%◌, ◌<◌, ◌^◌, bytes_eq, slice_index, Option}
+use Rattle.std.specs.List.{Contains, list_any, filter}
 use Rattle.std.proofs.lemmas.Bool.{true≢false}
 use Rattle.std.proofs.lemmas.List.{length-append}
 use Rattle.implib.specs.declared.flavor.Flavor.{Flavor}
@@ -19,12 +23,12 @@ use Rattle.implib.proofs.Link.Ranges.{all_among}
 use Rattle.implib_link.specs.Directory.{DirectoryAt}
 use Rattle.implib_link.specs.Flavors.LldImports.{IsImportedBy, imp_symbols_of, imports_of_lld}
 use Rattle.implib_link.specs.Flavors.LldTables.{IsAskable, addresses_at, directory_built}
-use Rattle.implib_link.specs.Flavors.Program.{FlavorInput, all_members, symbols_listed}
+use Rattle.implib_link.specs.Flavors.Program.{FlavorInput, all_members, symbols_listed, null_member, objects_taken}
 use Rattle.implib_link.specs.Gnu.OtherLibraries.{AllTaken, DescriptorsAt}
 use Rattle.implib_link.specs.Gnu.Packed.{group_end, sections_end}
-use Rattle.implib_link.specs.Gnu.Program.{ClaimsNone, claimed_names, linked_symbols, null_descriptor}
+use Rattle.implib_link.specs.Gnu.Program.{ClaimsNone, claimed_names, linked_symbols, null_descriptor, has_tables}
 use Rattle.implib_link.specs.Worked.Flavors.{both_inputs as flavor_inputs, flavor_objects, zed_input as zed_flavor}
-use Rattle.implib_link.specs.Worked.NearPrograms.{NearAreFlavorObjects, NearAreWhole, NearIsFlavorProgram, NearIsImportable, NearIsLldProgram, NearIsProgram, NearIsProgramBeside, NearLldLinks, defines_mid, lld_defines, lld_range, members_of_both, mid_alone, own_queue, short_of, table_object}
+use Rattle.implib_link.specs.Worked.NearPrograms.{NearAreFlavorObjects, NearAreWhole, NearIsFlavorProgram, NearIsImportable, NearIsLldProgram, NearIsProgram, NearIsProgramBeside, NearLldLinks, defines_mid, lld_defines, lld_range, members_of_both, mid_alone, own_queue, short_of, table_object, null_alone}
 use Rattle.implib_link.specs.Worked.Programs.{both_inputs, touching_8, zed_input}
 use Rattle.implib_link.proofs.Gnu.Memory.{byte_first}
 use Rattle.implib_link.proofs.Search.Lists.{any_among}
@@ -70,11 +74,40 @@ is_msvc Gnu = false
 abbrev flavor_symbols : List (List ℕ)
 flavor_symbols = null_descriptor_symbol ∷ symbols_listed (all_members AMD64 (flavor_inputs AMD64))
 
+all_taken : 2 ≤ length (objects_taken AMD64 (all_members AMD64 (flavor_inputs AMD64)))
+unfolding searched
+all_taken = omega arith
+
+one_alone : length (filter has_tables null_alone) ≡ 1
+unfolding searched
+one_alone = refl
+
+-- so few objects are not what all members are taken for
+too_few : (before behind members : List MemberView) (null : MemberView) (objects : List Object) → before ++ behind ≡ members → length objects < length (objects_taken AMD64 members) →
+    objects ≡ objects_taken AMD64 (before ++ null ∷ behind) → ⊥
+too_few before behind members null objects all few are =
+    let f : MemberView → Option Object = λ m. expanded_in AMD64 m.bytes in
+    let own : List Object = objects_taken AMD64 (null ∷ []) in
+    let first : length (objects_taken AMD64 members) ≡ length (objects_taken AMD64 before) + length (objects_taken AMD64 behind) =
+    ap (λ ms. length (objects_taken AMD64 ms)) (sym all) ∙ ap length (filter_map-append f before behind) ∙ length-append (objects_taken AMD64 before) (objects_taken AMD64 behind) in
+    let parts : objects ≡ objects_taken AMD64 before ++ (objects_taken AMD64 (null ∷ []) ++ objects_taken AMD64 behind) =
+    are ∙ filter_map-append f before (null ∷ behind) ∙ ap (λ os. objects_taken AMD64 before ++ os) (filter_map-append f (null ∷ []) behind) in
+    let second : length objects ≡ length (objects_taken AMD64 before) + length (objects_taken AMD64 (null ∷ []) ++ objects_taken AMD64 behind) =
+    ap length parts ∙ length-append (objects_taken AMD64 before) (objects_taken AMD64 (null ∷ []) ++ objects_taken AMD64 behind) in
+    let third : length (objects_taken AMD64 (null ∷ []) ++ objects_taken AMD64 behind) ≡ length (objects_taken AMD64 (null ∷ [])) + length (objects_taken AMD64 behind) =
+    length-append (objects_taken AMD64 (null ∷ [])) (objects_taken AMD64 behind) in
+    omega arith
+
+few_of : (objects : List Object) → length objects < 2 → length objects < length (objects_taken AMD64 (all_members AMD64 (flavor_inputs AMD64)))
+few_of objects few = let many = all_taken in omega arith
+
 pub near_are_flavor_objects : NearAreFlavorObjects
 unfolding searched
 near_are_flavor_objects = record {
   distinct = λ x. same_twice (null_descriptor_symbol ∷ symbols_listed (all_members AMD64 (flavor_inputs AMD64 ++ zed_flavor AMD64 ∷ []))) refl x.distinct;
   null_held_and_null_flavor = λ x. none_passes (λ (p : FlavorInput). is_msvc p.flavor) x.null_from (zed_flavor AMD64 ∷ []) refl x.null_held (ap is_msvc x.null_flavor);
+  members = λ x. too_few x.before x.behind (all_members AMD64 (flavor_inputs AMD64)) (null_member AMD64 (linked_dll x.null_from.input.definition)) (filter has_tables null_alone) x.members (few_of (filter has_tables null_alone) (omega (arith, one_alone))) x.tables;
+  tables = λ x. too_few x.before x.behind (all_members AMD64 (flavor_inputs AMD64)) (null_member AMD64 (linked_dll x.null_from.input.definition)) [] x.members (few_of [] (omega arith)) x.tables;
   others = λ x. claims (codes "queue") flavor_symbols own_queue refl refl x.others.0;
   found = λ x. let is : codes "__IMPORT_DESCRIPTOR_foo" ≡ codes "__IMPORT_DESCRIPTOR_foo.drv" = x.found.0 in differ 23 27 (ap length is) (omega arith);
 }

@@ -1,4 +1,13 @@
 -- Near misses of what links and loaders give, and of what is linked for given objects, by computing.
+use Rattle.implib_link.specs.Gnu.Program.{null_descriptor}
+use Rattle.implib.specs.Link.LinkedMembers.{objects_in}
+use Rattle.implib_link.specs.Flavors.Expansion.{expanded_in}
+use Rattle.implib.specs.Members.MemberSpec.{MemberView}
+use Rattle.std.specs.Prelude.{IsPermutation, Option}
+use Rattle.std.proofs.lemmas.List.Sorted.{sum_by-IsPermutation}
+use Rattle.std.proofs.lemmas.List.Elements.{filter_map-append}
+use Rattle.implib_link.specs.Search.MsvcArchives.{first_null}
+use Rattle.implib_link.specs.Flavors.Program.{objects_taken}
 use Rattle.implib_link.proofs.Worked.RefusedFields.{absent}
 use Rattle.implib_link.proofs.Worked.NearLinks.{kind_of}
 use Rattle.std.proofs.Common.{◌≡◌, ℕ, ◌+◌, ◌*◌, ◌<◌, List, [], ◌∷◌, ◌++◌, codes, length, Some, None, refl, ap, sym, ◌∙◌, subst, arith}
@@ -25,7 +34,7 @@ use Rattle.implib_link.specs.Stub.{adrp_immediate, ldr_immediate, page, plus_sig
 use Rattle.implib_link.specs.Worked.Calls.{calling_at}
 use Rattle.implib_link.specs.Worked.Flavors.{flavor_bases_8, flavor_image, flavor_placed}
 use Rattle.implib_link.specs.Worked.NearCode.{code_of}
-use Rattle.implib_link.specs.Worked.NearResults.{NearAreChosenFor, NearAreClosedForMsvc, NearAreLinkedFor, NearAreLinkedForMsvc, NearDefineOnce, NearFillsBy, NearFlavorsLink, NearHasOffsetField, NearHasPageField, NearHasPointer, NearImportsBy, NearInputImports, NearInstructionArrives, NearIsClosed, NearLinksAmong, NearLinksBeside, NearLinksClosed, NearLinksClosedForMsvc, NearPageArrives, NearPairArrives}
+use Rattle.implib_link.specs.Worked.NearResults.{NearAreChosenFor, NearAreClosedForMsvc, NearAreLinkedFor, NearAreLinkedForMsvc, NearDefineOnce, NearFillsBy, NearFlavorsLink, NearHasOffsetField, NearHasPageField, NearHasPointer, NearImportsBy, NearInputImports, NearInstructionArrives, NearIsClosed, NearLinksAmong, NearLinksBeside, NearLinksClosed, NearLinksClosedForMsvc, NearPageArrives, NearPairArrives, NearIsLinkedWith, NearBranchStays}
 use Rattle.implib_link.specs.Worked.NearSearches.{asking}
 use Rattle.implib_link.specs.Worked.Operands.{imp_open, field}
 use Rattle.implib_link.specs.Worked.Programs.{program_image, symbol_of_class, symbol_on, touching_8}
@@ -124,17 +133,56 @@ near_are_closed_for_msvc = record { names = λ x. true≢false x.names.0.null_de
 no_object : (o : Object) → [] ≡ o ∷ [] → ⊥
 no_object o is = cc
 
+-- two in an order of none
+no_order : {X : Type 0} (x y : X) → IsPermutation (x ∷ y ∷ []) [] → ⊥
+no_order x y order = differ 0 2 (sum_by-IsPermutation (λ z. 1) (x ∷ y ∷ []) [] order) (omega arith)
+
 pub near_are_linked_for : NearAreLinkedFor
 unfolding searched
-near_are_linked_for = record { others = λ x. none_in asking ((x.others asking).1 (0, omega arith, refl)); tables = λ x. no_object _ x.tables }
+near_are_linked_for = record {
+  order = λ x. no_order _ _ x.order;
+  others = λ x. none_in asking ((x.others asking).1 (0, omega arith, refl));
+  tables = λ x. no_object _ x.tables;
+}
 
 pub near_are_chosen_for : NearAreChosenFor
 unfolding searched
-near_are_chosen_for = record { others = λ x. none_in asking ((x.others asking).1 (0, omega arith, refl)); tables = λ x. no_object _ x.tables }
+near_are_chosen_for = record {
+  order = λ x. no_order _ _ x.order;
+  others = λ x. none_in asking ((x.others asking).1 (0, omega arith, refl));
+  tables = λ x. no_object _ x.tables;
+}
+
+-- what is taken for parts of a list of members
+none_taken : (before null behind : List MemberView) → length (objects_taken AMD64 null) ≡ 1 → [] ≡ objects_taken AMD64 (before ++ (null ++ behind)) → ⊥
+none_taken before null behind one none =
+    let f : MemberView → Option Object = λ m. expanded_in AMD64 m.bytes in
+    let all : [] ≡ objects_taken AMD64 before ++ (objects_taken AMD64 null ++ objects_taken AMD64 behind) =
+    none ∙ filter_map-append f before (null ++ behind) ∙ ap (λ os. objects_taken AMD64 before ++ os) (filter_map-append f null behind) in
+    let count : 0 ≡ length (objects_taken AMD64 before) + length (objects_taken AMD64 null ++ objects_taken AMD64 behind) =
+    ap length all ∙ length-append (objects_taken AMD64 before) (objects_taken AMD64 null ++ objects_taken AMD64 behind) in
+    let some : length (objects_taken AMD64 null ++ objects_taken AMD64 behind) ≡ length (objects_taken AMD64 null) + length (objects_taken AMD64 behind) =
+    length-append (objects_taken AMD64 null) (objects_taken AMD64 behind) in
+    omega arith
+
+one_null : length (objects_taken AMD64 (first_null AMD64 two_msvc)) ≡ 1
+unfolding searched
+one_null = refl
 
 pub near_are_linked_for_msvc : NearAreLinkedForMsvc
 unfolding searched
-near_are_linked_for_msvc = record { others = λ x. none_in asking ((x.others asking).1 (0, omega arith, refl)) }
+near_are_linked_for_msvc = record {
+  order = λ x. no_order _ _ x.order;
+  others = λ x. none_in asking ((x.others asking).1 (0, omega arith, refl));
+  tables = λ x. none_taken x.before (first_null AMD64 two_msvc) x.behind one_null x.tables;
+}
+
+no_last : (os : List Object) (o : Object) → [] ≡ os ++ o ∷ [] → ⊥
+no_last [] o none = cc
+no_last (x ∷ os) o none = cc
+
+pub near_is_linked_with : NearIsLinkedWith
+near_is_linked_with = record { tables = λ x. no_last (objects_in x.arranged) null_descriptor x.tables }
 
 -- Code.
 
@@ -229,4 +277,13 @@ pub near_pair_arrives : NearPairArrives
 near_pair_arrives = record {
   adrp_there = λ x. absent (two_ranges 0x1010 (8 ∷ 0x41 ∷ 0x40 ∷ 0xF9 ∷ []) open_address) 0x100C 4 x.adrp refl (omega arith) x.adrp_there;
   load_there = λ x. absent (two_ranges 0x100C (0xE8 ∷ 0xFF ∷ 0xFF ∷ 0xF0 ∷ []) open_address) 0x1010 4 x.load refl (omega arith) x.load_there;
+}
+
+pub near_branch_stays : NearBranchStays
+near_branch_stays = record {
+  there = λ x. absent (two_ranges 0x1020 (9 ∷ 0 ∷ 0 ∷ 0x94 ∷ []) []) 0x101C 4 x.number refl (omega arith) x.there;
+  same = λ x.
+      let memory : List Range = two_ranges 0x101C (9 ∷ 0 ∷ 0 ∷ 0x14 ∷ []) [] in
+      let is : x.number ≡ 0x1400_0009 = number_once memory 4 0x101C x.number 0x1400_0009 x.there (number memory 4 0x101C 0x1400_0009 (9 ∷ 0 ∷ 0 ∷ 0x14 ∷ []) refl refl refl) in
+      differ 0x1400_0000 0x9400_0000 (sym (ap (with_bits 0 26 0) is) ∙ x.same) (omega arith);
 }

@@ -28,7 +28,7 @@ use Rattle.implib_link.proofs.Gnu.Moved.{covered_bounds}
 use Rattle.implib_link.proofs.Gnu.MovedPrograms.{moved_memory_exists}
 use Rattle.implib_link.proofs.Gnu.Operands.{operand_width}
 use Rattle.implib_link.proofs.Gnu.Steady.{program_tables_none}
-use Rattle.implib_link.proofs.ProgramsInMemory.{branches_in_memory, ends_in_memory, kept_in_memory, leads_in_memory, stubs_in_memory}
+use Rattle.implib_link.proofs.ProgramsInMemory.{branches_in_memory, ends_in_memory, kept_in_memory, leads_in_memory, stays_in_memory, stubs_in_memory}
 use Rattle.implib_link.proofs.Worked.Calls.{open_export, wide}
 use Rattle.implib_link.proofs.Worked.LinkedCode.{all_needed, only_absolute, rebased_by, relocated_by, relocated_test, takes_by}
 use Rattle.implib_link.proofs.Worked.Programs.{claims_none_by, distinct_by, opened, worked_programs}
@@ -553,6 +553,9 @@ amd64_fields = record {
   branches = λ n written reads.
       branches_in_memory AMD64 0x1_4000_0000 touching_8 (both_inputs AMD64) (passing_objects AMD64) (passing_codes AMD64 touching_8) (passing_targets AMD64 touching_8) (passing_memory AMD64 touching_8) (given_on AMD64) worked_programs.amd64.made amd64_program amd64_at n written (passing_at AMD64) (stub_of_open AMD64 touching_8) 39 0 (open_on AMD64) (symbol_of_class (open_on AMD64) 1 class_external) (wide AMD64) reads
       (0, omega arith, refl) amd64_branch (1, omega arith, refl) (record { held = (1, omega arith, refl); external = refl; here = refl }) refl (omega arith) tt;
+  stays = λ n written reads.
+      stays_in_memory AMD64 0x1_4000_0000 touching_8 (both_inputs AMD64) (passing_objects AMD64) (passing_codes AMD64 touching_8) (passing_targets AMD64 touching_8) (passing_memory AMD64 touching_8) (given_on AMD64) worked_programs.amd64.made amd64_program amd64_at n written (passing_at AMD64) (stub_of_open AMD64 touching_8) 39 0 (open_on AMD64) (symbol_of_class (open_on AMD64) 1 class_external) (wide AMD64) reads
+      (0, omega arith, refl) amd64_branch (1, omega arith, refl) (record { held = (1, omega arith, refl); external = refl; here = refl }) refl tt;
   stub = λ n written reads.
       (stubs_in_memory AMD64 0x1_4000_0000 touching_8 (both_inputs AMD64) (passing_objects AMD64) (passing_codes AMD64 touching_8) (passing_targets AMD64 touching_8) (passing_memory AMD64 touching_8) (given_on AMD64) worked_programs.amd64.made amd64_program amd64_at n written 0 1 (foo_input AMD64) (open_export AMD64) (stub_of_open AMD64 touching_8) (symbol_of_class (open_on AMD64) 1 class_external) tt (wide AMD64) reads refl refl refl
       (1, omega arith, refl) (record { held = (1, omega arith, refl); external = refl; here = refl }) refl).1;
@@ -573,6 +576,9 @@ amd64_moved_fields = record {
   branches = λ n written reads.
       branches_in_memory AMD64 0x7FF6_1234_0000 touching_8 (both_inputs AMD64) (passing_objects AMD64) (passing_codes AMD64 touching_8) (passing_targets AMD64 touching_8) (moved_memory AMD64 touching_8) (given_on AMD64) worked_programs.amd64.made amd64_program amd64_moved_at n written (passing_at AMD64) (stub_of_open AMD64 touching_8) 39 0 (open_on AMD64) (symbol_of_class (open_on AMD64) 1 class_external) (wide AMD64) reads
       (0, omega arith, refl) amd64_branch (1, omega arith, refl) (record { held = (1, omega arith, refl); external = refl; here = refl }) refl (omega arith) tt;
+  stays = λ n written reads.
+      stays_in_memory AMD64 0x7FF6_1234_0000 touching_8 (both_inputs AMD64) (passing_objects AMD64) (passing_codes AMD64 touching_8) (passing_targets AMD64 touching_8) (moved_memory AMD64 touching_8) (given_on AMD64) worked_programs.amd64.made amd64_program amd64_moved_at n written (passing_at AMD64) (stub_of_open AMD64 touching_8) 39 0 (open_on AMD64) (symbol_of_class (open_on AMD64) 1 class_external) (wide AMD64) reads
+      (0, omega arith, refl) amd64_branch (1, omega arith, refl) (record { held = (1, omega arith, refl); external = refl; here = refl }) refl tt;
   stub = λ n written reads.
       (stubs_in_memory AMD64 0x7FF6_1234_0000 touching_8 (both_inputs AMD64) (passing_objects AMD64) (passing_codes AMD64 touching_8) (passing_targets AMD64 touching_8) (moved_memory AMD64 touching_8) (given_on AMD64) worked_programs.amd64.made amd64_program amd64_moved_at n written 0 1 (foo_input AMD64) (open_export AMD64) (stub_of_open AMD64 touching_8) (symbol_of_class (open_on AMD64) 1 class_external) tt (wide AMD64) reads refl refl refl
       (1, omega arith, refl) (record { held = (1, omega arith, refl); external = refl; here = refl }) refl).1;
@@ -593,6 +599,9 @@ i386_fields = record {
   branches = λ n written reads.
       branches_in_memory I386 0x40_0000 touching_4 (both_inputs I386) (passing_objects I386) (passing_codes I386 touching_4) (passing_targets I386 touching_4) (passing_memory I386 touching_4) (given_on I386) worked_programs.i386.made i386_program i386_at n written (passing_at I386) (stub_of_open I386 touching_4) 37 0 (open_on I386) (symbol_of_class (open_on I386) 1 class_external) (wide I386) reads
       (0, omega arith, refl) i386_branch (1, omega arith, refl) (record { held = (1, omega arith, refl); external = refl; here = refl }) refl (omega arith) tt;
+  stays = λ n written reads.
+      stays_in_memory I386 0x40_0000 touching_4 (both_inputs I386) (passing_objects I386) (passing_codes I386 touching_4) (passing_targets I386 touching_4) (passing_memory I386 touching_4) (given_on I386) worked_programs.i386.made i386_program i386_at n written (passing_at I386) (stub_of_open I386 touching_4) 37 0 (open_on I386) (symbol_of_class (open_on I386) 1 class_external) (wide I386) reads
+      (0, omega arith, refl) i386_branch (1, omega arith, refl) (record { held = (1, omega arith, refl); external = refl; here = refl }) refl tt;
   stub = λ n written reads.
       (stubs_in_memory I386 0x40_0000 touching_4 (both_inputs I386) (passing_objects I386) (passing_codes I386 touching_4) (passing_targets I386 touching_4) (passing_memory I386 touching_4) (given_on I386) worked_programs.i386.made i386_program i386_at n written 0 1 (foo_input I386) (open_export I386) (stub_of_open I386 touching_4) (symbol_of_class (open_on I386) 1 class_external) (omega arith) (wide I386) reads refl refl refl
       (1, omega arith, refl) (record { held = (1, omega arith, refl); external = refl; here = refl }) refl).1;
@@ -613,6 +622,9 @@ i386_moved_fields = record {
   branches = λ n written reads.
       branches_in_memory I386 0x1000_0000 touching_4 (both_inputs I386) (passing_objects I386) (passing_codes I386 touching_4) (passing_targets I386 touching_4) (moved_memory I386 touching_4) (given_on I386) worked_programs.i386.made i386_program i386_moved_at n written (passing_at I386) (stub_of_open I386 touching_4) 37 0 (open_on I386) (symbol_of_class (open_on I386) 1 class_external) (wide I386) reads
       (0, omega arith, refl) i386_branch (1, omega arith, refl) (record { held = (1, omega arith, refl); external = refl; here = refl }) refl (omega arith) tt;
+  stays = λ n written reads.
+      stays_in_memory I386 0x1000_0000 touching_4 (both_inputs I386) (passing_objects I386) (passing_codes I386 touching_4) (passing_targets I386 touching_4) (moved_memory I386 touching_4) (given_on I386) worked_programs.i386.made i386_program i386_moved_at n written (passing_at I386) (stub_of_open I386 touching_4) 37 0 (open_on I386) (symbol_of_class (open_on I386) 1 class_external) (wide I386) reads
+      (0, omega arith, refl) i386_branch (1, omega arith, refl) (record { held = (1, omega arith, refl); external = refl; here = refl }) refl tt;
   stub = λ n written reads.
       (stubs_in_memory I386 0x1000_0000 touching_4 (both_inputs I386) (passing_objects I386) (passing_codes I386 touching_4) (passing_targets I386 touching_4) (moved_memory I386 touching_4) (given_on I386) worked_programs.i386.made i386_program i386_moved_at n written 0 1 (foo_input I386) (open_export I386) (stub_of_open I386 touching_4) (symbol_of_class (open_on I386) 1 class_external) (omega arith) (wide I386) reads refl refl refl
       (1, omega arith, refl) (record { held = (1, omega arith, refl); external = refl; here = refl }) refl).1;
@@ -633,6 +645,9 @@ arm64_fields = record {
   branches = λ n written reads.
       branches_in_memory ARM64 0x1_4000_0000 touching_8 (both_inputs ARM64) (passing_objects ARM64) (passing_codes ARM64 touching_8) (passing_targets ARM64 touching_8) (passing_memory ARM64 touching_8) (given_on ARM64) worked_programs.arm64.made arm64_program arm64_at n written (passing_at ARM64) (stub_of_open ARM64 touching_8) 28 0 (open_on ARM64) (symbol_of_class (open_on ARM64) 1 class_external) (wide ARM64) reads
       (0, omega arith, refl) arm64_branch (1, omega arith, refl) (record { held = (1, omega arith, refl); external = refl; here = refl }) refl (omega arith) (refl, refl, omega arith, omega arith);
+  stays = λ n written reads.
+      stays_in_memory ARM64 0x1_4000_0000 touching_8 (both_inputs ARM64) (passing_objects ARM64) (passing_codes ARM64 touching_8) (passing_targets ARM64 touching_8) (passing_memory ARM64 touching_8) (given_on ARM64) worked_programs.arm64.made arm64_program arm64_at n written (passing_at ARM64) (stub_of_open ARM64 touching_8) 28 0 (open_on ARM64) (symbol_of_class (open_on ARM64) 1 class_external) (wide ARM64) reads
+      (0, omega arith, refl) arm64_branch (1, omega arith, refl) (record { held = (1, omega arith, refl); external = refl; here = refl }) refl (refl, refl, omega arith, omega arith);
   stub = λ n written reads.
       (stubs_in_memory ARM64 0x1_4000_0000 touching_8 (both_inputs ARM64) (passing_objects ARM64) (passing_codes ARM64 touching_8) (passing_targets ARM64 touching_8) (passing_memory ARM64 touching_8) (given_on ARM64) worked_programs.arm64.made arm64_program arm64_at n written 0 1 (foo_input ARM64) (open_export ARM64) (stub_of_open ARM64 touching_8) (symbol_of_class (open_on ARM64) 1 class_external) (refl, refl) (wide ARM64) reads refl refl refl
       (1, omega arith, refl) (record { held = (1, omega arith, refl); external = refl; here = refl }) refl).1;
@@ -653,6 +668,9 @@ arm64_moved_fields = record {
   branches = λ n written reads.
       branches_in_memory ARM64 0x4000_0000 touching_8 (both_inputs ARM64) (passing_objects ARM64) (passing_codes ARM64 touching_8) (passing_targets ARM64 touching_8) (moved_memory ARM64 touching_8) (given_on ARM64) worked_programs.arm64.made arm64_program arm64_moved_at n written (passing_at ARM64) (stub_of_open ARM64 touching_8) 28 0 (open_on ARM64) (symbol_of_class (open_on ARM64) 1 class_external) (wide ARM64) reads
       (0, omega arith, refl) arm64_branch (1, omega arith, refl) (record { held = (1, omega arith, refl); external = refl; here = refl }) refl (omega arith) (refl, refl, omega arith, omega arith);
+  stays = λ n written reads.
+      stays_in_memory ARM64 0x4000_0000 touching_8 (both_inputs ARM64) (passing_objects ARM64) (passing_codes ARM64 touching_8) (passing_targets ARM64 touching_8) (moved_memory ARM64 touching_8) (given_on ARM64) worked_programs.arm64.made arm64_program arm64_moved_at n written (passing_at ARM64) (stub_of_open ARM64 touching_8) 28 0 (open_on ARM64) (symbol_of_class (open_on ARM64) 1 class_external) (wide ARM64) reads
+      (0, omega arith, refl) arm64_branch (1, omega arith, refl) (record { held = (1, omega arith, refl); external = refl; here = refl }) refl (refl, refl, omega arith, omega arith);
   stub = λ n written reads.
       (stubs_in_memory ARM64 0x4000_0000 touching_8 (both_inputs ARM64) (passing_objects ARM64) (passing_codes ARM64 touching_8) (passing_targets ARM64 touching_8) (moved_memory ARM64 touching_8) (given_on ARM64) worked_programs.arm64.made arm64_program arm64_moved_at n written 0 1 (foo_input ARM64) (open_export ARM64) (stub_of_open ARM64 touching_8) (symbol_of_class (open_on ARM64) 1 class_external) (refl, refl) (wide ARM64) reads refl refl refl
       (1, omega arith, refl) (record { held = (1, omega arith, refl); external = refl; here = refl }) refl).1;

@@ -14,16 +14,13 @@ use Rattle.implib_link.specs.Gnu.Rebased.{Place, covers}
 abbrev pub plain_range : PlacedCode → Range
 plain_range c = record { start = c.position; bytes = c.code.bytes }
 
--- Sections of linked objects are placed beside the import tables, each ending 16 bytes below 2^31 at least:
--- their relocations' fields, of 4 bytes that are changed, are within them, and no address is in two ranges.
+-- Sections of linked objects are placed beside the import tables, each ending 16 bytes below 2^31 at least; no address
+-- is in two ranges.
 pub record AreSections (machine : MachineType) (bases : Bases) (objects : List Object) (codes : List PlacedCode)
     : Type 0 where
   pub held : AllByRecursion (λ c. Contains (placed_from bases objects) c.from) codes
   pub sections : AllByRecursion (λ c. section_numbered c.from.object.sections c.number ≡ Some c.code) codes
   pub ends : AllByRecursion (λ c. c.position + length c.code.bytes + 16 ≤ 2 ^ 31) codes
-  pub fields : AllByRecursion
-      (λ c. AllByRecursion (λ r. r.offset + 4 ≤ length c.code.bytes) c.code.relocations)
-      codes
   pub apart : AllApart (image_of machine bases (placed_from bases objects) ++ map plain_range codes)
 
 -- Placed code defines each name at one address (`once`), and none that an undefined symbol of placed code

@@ -202,3 +202,16 @@ pub record BranchArrives (machine : MachineType) (image_base : ℕ) (memory : Li
   pub number : ℕ
   pub there : NumberAt memory 4 address number
   pub leads : branch_leads machine (image_base + address) after number ≡ Some (image_base + target)
+
+-- what of a branch's four bytes is not its distance: of ARM64's `bl` and `b` the bits above it
+abbrev pub branch_rest : MachineType → ℕ → ℕ
+branch_rest I386 number = 0
+branch_rest ARMNT number = 0
+branch_rest AMD64 number = 0
+branch_rest ARM64 number = with_bits 0 26 0 number
+
+-- at an address of memory is the field of a branch that is, but for its distance, as this number
+pub record BranchStays (machine : MachineType) (memory : List Range) (address old : ℕ) : Type 0 where
+  pub number : ℕ
+  pub there : NumberAt memory 4 address number
+  pub same : branch_rest machine number ≡ branch_rest machine old

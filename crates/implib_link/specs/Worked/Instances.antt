@@ -22,7 +22,7 @@ use Rattle.implib_link.specs.Flavors.Program.{AreFlavorObjects, objects_taken}
 use Rattle.implib_link.specs.Gnu.Bounds.{HaveEvenHints}
 use Rattle.implib_link.specs.Gnu.Calls.{PlacedCode}
 use Rattle.implib_link.specs.Gnu.Choices.{AreSections, DefineOnce}
-use Rattle.implib_link.specs.Gnu.Fields.{Amd64Holds, Arm64Holds, I386Holds, placed_code}
+use Rattle.implib_link.specs.Gnu.Fields.{Amd64Holds, Arm64Holds, I386Holds}
 use Rattle.implib_link.specs.Gnu.OtherLibraries.{IsProgramBeside, keeps_fours}
 use Rattle.implib_link.specs.Search.Archives.{IsArchive, Library}
 use Rattle.implib_link.specs.Search.Given.{AreGiven}
@@ -34,7 +34,7 @@ use Rattle.implib_link.specs.Worked.Flavors.{foo_input as foo_flavor, zed_input 
 use Rattle.implib_link.specs.Worked.Jumps.{far_8}
 use Rattle.implib_link.specs.Worked.MsvcArchives.{null_named}
 use Rattle.implib_link.specs.Worked.NearPrograms.{members_of_both, run_with, short_of, table_object}
-use Rattle.implib_link.specs.Worked.Operands.{passing_codes, passing_objects}
+use Rattle.implib_link.specs.Worked.Operands.{passing_codes}
 use Rattle.implib_link.specs.Worked.Programs.{code_object, symbol_of_class, touching_4, touching_8, zed_input}
 use Rattle.implib_link.specs.Worked.Rebased.{moving_codes}
 use Rattle.implib_link.specs.Flavors.Program.{members_linked}
@@ -142,8 +142,6 @@ defines_twice = record {
 pub record CodeInstances : Type 0 where
   pub in_front : CodesBeside AMD64 0x1_4000_0000 far_8 (calling_objects AMD64) (calling_at AMD64 0x1000 ∷ [])
       (table_targets AMD64 far_8)
-  -- sections one of which ends with a field
-  pub fields_end : AreSections I386 touching_4 (passing_objects I386) (map placed_code (passing_codes I386 touching_4))
   -- six base relocations, five of them in one section
   pub moved : CanBeMoved I386 (passing_codes I386 touching_4)
   pub twice : DefineOnce [] (defines_twice ∷ []) → ⊥

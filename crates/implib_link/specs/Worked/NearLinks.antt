@@ -1,8 +1,11 @@
 -- Near misses of searches that are not over, of objects that may not be given, of code that is not beside the tables, and
 -- of programs that are not moved. A record `NearX` has those of `X`, each by the name of the field that refuses it.
-use Rattle.std.specs.Prelude.{ℕ, List, [], ◌∷◌, ◌++◌, codes}
+use Rattle.implib.specs.Link.Placement.{Placed, Unplaced}
+use Rattle.implib.specs.Members.Gnu.{section, text_name}
+use Rattle.implib.specs.Formats.Object.{ObjectSection}
+use Rattle.std.specs.Prelude.{ℕ, List, [], ◌∷◌, ◌++◌, codes, ◌+◌}
 use Rattle.implib.specs.declared.machine.MachineType.TheVariants.{I386, AMD64}
-use Rattle.implib.specs.Formats.Constants.{class_external, i386_dir32}
+use Rattle.implib.specs.Formats.Constants.{class_external, i386_dir32, align_4bytes, cnt_code, mem_execute_read}
 use Rattle.implib.specs.Link.Image.{Range}
 use Rattle.implib_link.specs.Directory.{FindsBy, Imported}
 use Rattle.implib_link.specs.Flavors.LldTables.{ArePiecesAt}
@@ -23,7 +26,6 @@ use Rattle.implib_link.specs.Worked.Lld.{two_dlls}
 use Rattle.implib_link.specs.Worked.Loads.{written_8}
 use Rattle.implib_link.specs.Worked.MsvcArchives.{shorts_of_both, two_msvc}
 use Rattle.implib_link.specs.Worked.MsvcClosed.{msvc_bases, msvc_objects, msvc_zed_first}
-use Rattle.implib_link.specs.Worked.NearCode.{call_code, code_of, imp_f, left}
 use Rattle.implib_link.specs.Worked.NearSearches.{again, listing, zed_library, zed_short}
 use Rattle.implib_link.specs.Worked.Operands.{field, imp_open, passing_at, passing_code, passing_codes, passing_image, passing_placed, passing_targets, overlapping_at, open_on}
 use Rattle.implib_link.specs.Worked.Programs.{code_object, program_image, program_placed, symbol_of_class, touching_4, touching_8}
@@ -58,23 +60,42 @@ pub record NearIsClosedForMsvc : Type 0 where
   pub addresses : IsClosedForMsvc AMD64 two_msvc (choosing ∷ []) shorts_of_both msvc_zed_first
       (record msvc_bases { addresses = 0x2044 }) msvc_objects → ⊥
 
--- a name that two objects define; one without an entry; and another first byte at the entry
+-- I386's `jmp [0x400060]`, in an object whose symbol `f` is at a value of a section
+abbrev pub jump_section : ObjectSection
+jump_section = section text_name (cnt_code + align_4bytes + mem_execute_read)
+    (0xFF ∷ 0x25 ∷ 0x60 ∷ 0 ∷ 0x40 ∷ 0 ∷ 0x90 ∷ 0x90 ∷ []) []
+
+abbrev pub jumping : ℕ → ℕ → List ObjectSection → List Placed
+jumping number value sections =
+    record {
+      object = record (code_object (record (symbol_of_class (codes "f") number class_external) { value = value } ∷ [])) {
+        sections = sections;
+      };
+      section_addresses = Unplaced ∷ [];
+    }
+    ∷ []
+
+-- a name that two objects define; in the second section; behind its beginning; without a section; and another entry
 pub record NearJumpsThrough : Type 0 where
   pub once : JumpsThrough AMD64 0x1_4000_0000 (again ∷ program_placed AMD64 touching_8) (codes "queue") 160 → ⊥
+  pub first : JumpsThrough I386 0x40_0000 (jumping 2 0 (jump_section ∷ [])) (codes "f") 0x60 → ⊥
+  pub begins : JumpsThrough I386 0x40_0000 (jumping 1 8 (jump_section ∷ [])) (codes "f") 0x60 → ⊥
+  pub here : JumpsThrough I386 0x40_0000 (jumping 1 0 []) (codes "f") 0x60 → ⊥
+  pub jumps : JumpsThrough I386 0x40_0000 (jumping 1 0 (jump_section ∷ [])) (codes "f") 0x64 → ⊥
 
+-- a name without an entry; and another first byte at the entry
 pub record NearCallReaches : Type 0 where
   pub once : CallReaches AMD64 0x1_4000_0000 (program_image AMD64 touching_8) (program_placed AMD64 touching_8)
       (codes "hello") [] → ⊥
   pub located : CallReaches AMD64 0x1_4000_0000 (written_8 AMD64 ++ program_image AMD64 touching_8)
       (program_placed AMD64 touching_8) (codes "queue") (0x72 ∷ 0x7A ∷ []) → ⊥
 
--- code of an object that is not linked, and of a section that the object does not have; too high; a field that leads out
--- of its section; and code over the address tables
+-- code of an object that is not linked, and of a section that the object does not have; too high; and code over the
+-- address tables
 pub record NearAreSections : Type 0 where
   pub held : AreSections AMD64 touching_8 [] (calling_at AMD64 0x1000 ∷ []) → ⊥
   pub sections : AreSections AMD64 touching_8 (calling_objects AMD64) (record (calling_at AMD64 0x1000) { number = 2 } ∷ []) → ⊥
   pub ends : AreSections AMD64 touching_8 (calling_objects AMD64) (calling_at AMD64 0x7FFF_FFE2 ∷ []) → ⊥
-  pub fields : AreSections AMD64 touching_8 [] (code_of call_code (field 3 1 4 ∷ []) (left imp_f) ∷ []) → ⊥
   pub apart : AreSections AMD64 touching_8 (calling_objects AMD64) (calling_at AMD64 0x78 ∷ []) → ⊥
 
 -- of linked code, too

@@ -1,5 +1,6 @@
 -- Near misses of programs: for GNU's linker, of both flavours, beside other libraries, and of lld. A record `NearX` has
 -- those of `X`, each by the name of the field that refuses it.
+use Rattle.implib.specs.LibraryName.{linked_dll}
 use Rattle.std.specs.Prelude.{ℕ, ◌^◌, List, [], ◌∷◌, ◌++◌, codes, map}
 use Rattle.implib.specs.declared.flavor.Flavor.TheVariants.{Msvc}
 use Rattle.implib.specs.declared.machine.MachineType.TheVariants.{AMD64}
@@ -20,10 +21,10 @@ use Rattle.implib.specs.Worked.Statements.{plain_export}
 use Rattle.implib_link.specs.Directory.{Imported}
 use Rattle.implib_link.specs.Flavors.LldImports.{IsLldProgram, LldLinks, imports_of_lld, placed_by_lld}
 use Rattle.implib_link.specs.Flavors.LldTables.{IsImportable, addresses_at, built}
-use Rattle.implib_link.specs.Flavors.Program.{AreFlavorObjects, FlavorInput, IsFlavorProgram}
+use Rattle.implib_link.specs.Flavors.Program.{AreFlavorObjects, FlavorInput, IsFlavorProgram, null_member, objects_taken}
 use Rattle.implib_link.specs.Gnu.OtherLibraries.{AreWhole, IsProgramBeside, Run}
 use Rattle.implib_link.specs.Gnu.Program.{IsProgram, null_descriptor}
-use Rattle.implib_link.specs.Worked.Flavors.{both_inputs as flavor_inputs, flavor_bases_8, flavor_objects, zed_input as zed_flavor}
+use Rattle.implib_link.specs.Worked.Flavors.{both_inputs as flavor_inputs, flavor_bases_8, flavor_objects, zed_input as zed_flavor, foo_input as foo_flavor}
 use Rattle.implib_link.specs.Worked.Programs.{both_inputs, code_object, foo_input, input_objects, program_objects, symbol_of_class, touching_8, zed_input}
 
 -- an object of the program that defines `queue`, which zed.dll exports
@@ -50,12 +51,18 @@ drv_input = record {
   input = record { definition = drv; members = map member_of (member_specs (renamed drv) AMD64 Msvc); chosen = 0 ∷ [] };
 }
 
+-- foo.dll's null descriptor for Microsoft's linker, and nothing else
+abbrev pub null_alone : List Object
+null_alone = objects_taken AMD64 (null_member AMD64 (linked_dll (foo_flavor AMD64).input.definition) ∷ [])
+
 -- zed.dll twice; without a library for Microsoft's linker; with nothing but the null descriptor; with a `queue` of the
 -- program's own; and with foo.drv
 pub record NearAreFlavorObjects : Type 0 where
   pub distinct : AreFlavorObjects AMD64 (flavor_inputs AMD64 ++ zed_flavor AMD64 ∷ [])
       (flavor_objects AMD64 0 ++ input_objects AMD64 (zed_input AMD64)) → ⊥
   pub null_held_and_null_flavor : AreFlavorObjects AMD64 (zed_flavor AMD64 ∷ []) (flavor_objects AMD64 0) → ⊥
+  pub members : AreFlavorObjects AMD64 (flavor_inputs AMD64) null_alone → ⊥
+  pub tables : AreFlavorObjects AMD64 (flavor_inputs AMD64) [] → ⊥
   pub others : AreFlavorObjects AMD64 (flavor_inputs AMD64) (own_queue ∷ flavor_objects AMD64 0) → ⊥
   pub found : AreFlavorObjects AMD64 (drv_input ∷ []) (flavor_objects AMD64 0) → ⊥
 

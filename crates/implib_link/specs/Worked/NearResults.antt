@@ -1,18 +1,22 @@
 -- Near misses of what links and loaders give, and of what is linked for given objects. A record `NearX` has those of `X`,
 -- each by the name of the field that refuses it.
+use Rattle.implib_link.specs.Gnu.Packed.{packed}
+use Rattle.implib_link.specs.Worked.Searched.{as_taken, searched_objects}
+use Rattle.implib_link.specs.Search.Search.{IsLinkedWith}
+use Rattle.implib_link.specs.Search.MsvcArchives.{first_null}
 use Rattle.std.specs.Prelude.{ℕ, List, [], ◌∷◌, codes}
 use Rattle.implib.specs.declared.flavor.Flavor.TheVariants.{Gnu}
 use Rattle.implib.specs.declared.machine.MachineType.TheVariants.{AMD64, ARM64, I386}
 use Rattle.implib.specs.Formats.Constants.{class_external}
 use Rattle.implib.specs.Formats.Object.{ASymbol, Object}
 use Rattle.implib.specs.Import.{Ask}
-use Rattle.implib.specs.LibraryName.{names_for}
+use Rattle.implib.specs.LibraryName.{names_for, own_names}
 use Rattle.implib.specs.Link.Image.{Range}
 use Rattle.implib.specs.Link.LinkedMembers.{chosen_exports}
-use Rattle.implib_link.specs.Flavors.Program.{FlavorsLink, InputImports}
+use Rattle.implib_link.specs.Flavors.Program.{FlavorsLink, InputImports, objects_taken}
 use Rattle.implib_link.specs.Gnu.Choices.{DefineOnce}
 use Rattle.implib_link.specs.Gnu.Fields.{LinkedCode}
-use Rattle.implib_link.specs.Gnu.Operands.{HasOffsetField, HasPageField, HasPointer, InstructionArrives, PairArrives}
+use Rattle.implib_link.specs.Gnu.Operands.{BranchStays, HasOffsetField, HasPageField, HasPointer, InstructionArrives, PairArrives}
 use Rattle.implib_link.specs.Gnu.OtherLibraries.{LinksBeside}
 use Rattle.implib_link.specs.Gnu.Pages.{PageArrives}
 use Rattle.implib_link.specs.Gnu.Program.{ImportsBy, LinksAmong, null_descriptor}
@@ -100,17 +104,25 @@ pub record NearAreClosedForMsvc : Type 0 where
       [] → ⊥
   pub some : AreClosedForMsvc AMD64 [] [] [] [] [] → ⊥
 
--- without the given object, and without the null descriptor
+-- in an order of no libraries; without the given object; and without the null descriptor
 pub record NearAreLinkedFor : Type 0 where
+  pub order : AreLinkedFor AMD64 two_libraries [] [] [] touching_8 (null_descriptor ∷ []) → ⊥
   pub others : AreLinkedFor AMD64 [] (asking ∷ []) [] [] touching_8 (null_descriptor ∷ []) → ⊥
   pub tables : AreLinkedFor AMD64 [] [] [] [] touching_8 [] → ⊥
 
 pub record NearAreChosenFor : Type 0 where
+  pub order : AreChosenFor AMD64 two_libraries [] [] [] (null_descriptor ∷ []) → ⊥
   pub others : AreChosenFor AMD64 [] (asking ∷ []) [] [] (null_descriptor ∷ []) → ⊥
   pub tables : AreChosenFor AMD64 [] [] [] [] [] → ⊥
 
 pub record NearAreLinkedForMsvc : Type 0 where
+  pub order : AreLinkedForMsvc AMD64 two_msvc [] [] [] (objects_taken AMD64 (first_null AMD64 two_msvc)) → ⊥
   pub others : AreLinkedForMsvc AMD64 [] (asking ∷ []) [] [] [] → ⊥
+  pub tables : AreLinkedForMsvc AMD64 two_msvc [] [] two_msvc [] → ⊥
+
+-- no null descriptor
+pub record NearIsLinkedWith : Type 0 where
+  pub tables : IsLinkedWith AMD64 (own_names (codes "foo.dll")) (packed 1 searched_objects) as_taken [] → ⊥
 
 -- code that calls `open` by the pointer, and code that defines this pointer itself
 pub record NearDefineOnce : Type 0 where
@@ -165,3 +177,8 @@ pub record NearPairArrives : Type 0 where
   pub load_there : PairArrives 0x1_4000_0000 (passing_placed ARM64 touching_8)
       (two_ranges 0x100C (0xE8 ∷ 0xFF ∷ 0xFF ∷ 0xF0 ∷ []) open_address) 0x100C 0x1010 0x9000_0008 0xF940_0108
       (imp_open ARM64) open_address → ⊥
+
+-- ARM64's `bl` at 0x101C: nothing there, and `b` in its place
+pub record NearBranchStays : Type 0 where
+  pub there : BranchStays ARM64 (two_ranges 0x1020 (9 ∷ 0 ∷ 0 ∷ 0x94 ∷ []) []) 0x101C 0x9400_0000 → ⊥
+  pub same : BranchStays ARM64 (two_ranges 0x101C (9 ∷ 0 ∷ 0 ∷ 0x14 ∷ []) []) 0x101C 0x9400_0000 → ⊥

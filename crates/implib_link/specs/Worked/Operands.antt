@@ -14,9 +14,9 @@ use Rattle.implib.specs.Members.Gnu.{section, stub_bytes, stub_relocations, text
 use Rattle.implib.specs.Members.ImportTables.{thunk_width}
 use Rattle.implib_link.specs.Flavors.Program.{IsFlavorProgram}
 use Rattle.implib_link.specs.Gnu.Calls.{HasCall, HasDirectCall, IsAside, amd64_addr64, arm64_addr64, arm64_branch26, i386_rel32}
-use Rattle.implib_link.specs.Gnu.Fields.{LinkedCode, placed_code, ranges_of_codes}
+use Rattle.implib_link.specs.Gnu.Fields.{LinkedCode, field_at, placed_code, ranges_of_codes}
 use Rattle.implib_link.specs.Gnu.Moves.{AreInMemory, CanBeMoved}
-use Rattle.implib_link.specs.Gnu.Operands.{AllLead, AreKept, BranchArrives, HasBranch, HasInstruction, HasOffsetField, HasOperand, HasPageField, HasPointer, InstructionArrives, IsOperand, branch_leads, operand_leads}
+use Rattle.implib_link.specs.Gnu.Operands.{AllLead, AreKept, BranchArrives, BranchStays, HasBranch, HasInstruction, HasOffsetField, HasOperand, HasPageField, HasPointer, InstructionArrives, IsOperand, branch_leads, operand_leads}
 use Rattle.implib_link.specs.Gnu.Pages.{HasPage, HasPageOffset}
 use Rattle.implib_link.specs.Gnu.Program.{IsProgram, null_descriptor}
 use Rattle.implib_link.specs.Gnu.Reading.{ReadsAndWrites}
@@ -291,6 +291,9 @@ pub record WorkedFields (machine : MachineType) (image_base : ℕ) (bases : Base
   pub branches : (n : ℕ) (written : List Range) →
       ReadsAndWrites memory (thunk_width machine) (given_on machine) n bases.descriptors written →
       BranchArrives machine image_base (written ++ memory) (0x1000 + call) 0 0x1040
+  pub stays : (n : ℕ) (written : List Range) →
+      ReadsAndWrites memory (thunk_width machine) (given_on machine) n bases.descriptors written →
+      BranchStays machine (written ++ memory) (0x1000 + call) (field_at (passing_bytes machine) call 4)
   pub stub : (n : ℕ) (written : List Range) →
       ReadsAndWrites memory (thunk_width machine) (given_on machine) n bases.descriptors written →
       StubArrives machine image_base (written ++ memory) 0x1040 address

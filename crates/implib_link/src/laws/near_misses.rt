@@ -27,11 +27,11 @@ ghost use Rattle.implib_link.specs.Worked.NearPrograms.{NearIsImportable, NearIs
 ghost use Rattle.implib_link.specs.Worked.NearPrograms.{NearIsProgramBeside, NearLldLinks};
 ghost use Rattle.implib_link.specs.Worked.NearResults.{NearAreChosenFor, NearAreClosedForMsvc};
 ghost use Rattle.implib_link.specs.Worked.NearResults.{NearAreLinkedFor, NearAreLinkedForMsvc};
-ghost use Rattle.implib_link.specs.Worked.NearResults.{NearDefineOnce, NearFillsBy};
+ghost use Rattle.implib_link.specs.Worked.NearResults.{NearBranchStays, NearDefineOnce, NearFillsBy};
 ghost use Rattle.implib_link.specs.Worked.NearResults.{NearFlavorsLink, NearHasOffsetField};
 ghost use Rattle.implib_link.specs.Worked.NearResults.{NearHasPageField, NearHasPointer};
 ghost use Rattle.implib_link.specs.Worked.NearResults.{NearImportsBy, NearInputImports};
-ghost use Rattle.implib_link.specs.Worked.NearResults.{NearInstructionArrives, NearIsClosed};
+ghost use Rattle.implib_link.specs.Worked.NearResults.{NearInstructionArrives, NearIsClosed, NearIsLinkedWith};
 ghost use Rattle.implib_link.specs.Worked.NearResults.{NearLinksAmong, NearLinksBeside};
 ghost use Rattle.implib_link.specs.Worked.NearResults.{NearLinksClosed, NearLinksClosedForMsvc};
 ghost use Rattle.implib_link.specs.Worked.NearResults.{NearPageArrives, NearPairArrives};
@@ -158,6 +158,7 @@ pub fn near_misses_of_results()
     ensures are_closed_for_msvc { NearAreClosedForMsvc }
     ensures are_linked_for { NearAreLinkedFor }
     ensures are_linked_for_msvc { NearAreLinkedForMsvc }
+    ensures branch_stays { NearBranchStays }
     ensures define_once { NearDefineOnce }
     ensures fills_by { NearFillsBy }
     ensures flavors_link { NearFlavorsLink }
@@ -168,6 +169,7 @@ pub fn near_misses_of_results()
     ensures input_imports { NearInputImports }
     ensures instruction_arrives { NearInstructionArrives }
     ensures is_closed { NearIsClosed }
+    ensures is_linked_with { NearIsLinkedWith }
     ensures links_among { NearLinksAmong }
     ensures links_beside { NearLinksBeside }
     ensures links_closed { NearLinksClosed }

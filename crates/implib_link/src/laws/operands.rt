@@ -16,11 +16,11 @@ ghost use Rattle.implib_link.specs.Flavors.Program.{ask_in, dll_of, exports_chos
 ghost use Rattle.implib_link.specs.Gnu.Calls.{CallArrives, CanBranch, HasCall, PlacedCode};
 ghost use Rattle.implib_link.specs.Gnu.Choices.{AreSections, DefineOnce};
 ghost use Rattle.implib_link.specs.Gnu.Fields.{AreLinkedBeside, DefinesIn, IsRelocated, LinkedCode};
-ghost use Rattle.implib_link.specs.Gnu.Fields.{placed_code};
+ghost use Rattle.implib_link.specs.Gnu.Fields.{field_at, placed_code};
 ghost use Rattle.implib_link.specs.Gnu.Loaded.{IsLoaded};
 ghost use Rattle.implib_link.specs.Gnu.Moves.{AreInMemory, ArePaged, CanBeMoved};
 ghost use Rattle.implib_link.specs.Gnu.Operands.{AllLead, AllLeadTo, AreKept};
-ghost use Rattle.implib_link.specs.Gnu.Operands.{BranchArrives, HasBranch};
+ghost use Rattle.implib_link.specs.Gnu.Operands.{BranchArrives, BranchStays, HasBranch};
 ghost use Rattle.implib_link.specs.Gnu.Pages.{HasPage, HasPageOffset, PageArrives};
 ghost use Rattle.implib_link.specs.Gnu.Pointers.{HasLoad, LoadArrives};
 ghost use Rattle.implib_link.specs.Gnu.Program.{IsProgram};
@@ -42,9 +42,9 @@ ghost use Rattle.std.specs.Prelude.{slice_get};
 /// it there loads its imports, and stops at the null descriptor. Every field of code against an
 /// export's `__imp_` symbol leads, by the processor's rule, to the export's own entry, where the
 /// loader wrote what the DLL gives for the export, whatever instruction holds the field; a branch
-/// to a name leads to where code defines it; other bytes of code are as they were; and code that
-/// defines the name of an export that is code is its stub, from its first byte on, which reads the
-/// address that the DLL gives.
+/// to a name leads to where code defines it, and but for its distance is as it was; other bytes of
+/// code are as they were; and code that defines the name of an export that is code is its stub,
+/// from its first byte on, which reads the address that the DLL gives.
 pub fn fields_lead_to_entries()
     ensures loads { (machine : MachineType) (image_base : ℕ) (bases : Bases)
         (inputs : List LinkInput) (objects : List Object)
@@ -105,6 +105,26 @@ pub fn fields_lead_to_entries()
         CanBranch machine (c.position + offset) (d.position + t.value) →
         BranchArrives machine image_base (written ++ memory) (c.position + offset) after
         (d.position + t.value) }
+    ensures stay { (machine : MachineType) (image_base : ℕ) (bases : Bases)
+        (inputs : List LinkInput) (objects : List Object)
+        (codes : List LinkedCode) (targets : LinkedCode → ℕ → ℕ) (memory : List Range)
+        (gives : List ℕ → Ask → List ℕ) →
+        AllByRecursion (IsMade machine) inputs →
+        IsProgram machine bases inputs objects →
+        AreInMemory machine image_base (image_of machine bases (placed_from bases objects))
+        (placed_from bases objects) codes targets memory →
+        (n : ℕ) (written : List Range)
+        (c d : LinkedCode) (offset after : ℕ) (name : List ℕ) (t : ObjectSymbol) →
+        ((dll : List ℕ) (ask : Ask) → length (gives dll ask) ≡ thunk_width machine) →
+        ReadsAndWrites memory (thunk_width machine) gives n bases.descriptors written →
+        Contains codes c →
+        HasBranch machine c offset after name →
+        Contains codes d →
+        DefinesIn d t →
+        t.name ≡ name →
+        CanBranch machine (c.position + offset) (d.position + t.value) →
+        BranchStays machine (written ++ memory) (c.position + offset)
+        (field_at c.code.bytes offset 4) }
     ensures kept { (machine : MachineType) (image_base : ℕ) (bases : Bases)
         (inputs : List LinkInput) (objects : List Object)
         (codes : List LinkedCode) (targets : LinkedCode → ℕ → ℕ) (memory : List Range)
@@ -201,6 +221,26 @@ pub fn fields_of_flavors_lead_to_entries()
         CanBranch machine (c.position + offset) (d.position + t.value) →
         BranchArrives machine image_base (written ++ memory) (c.position + offset) after
         (d.position + t.value) }
+    ensures stay { (machine : MachineType) (image_base : ℕ) (bases : Bases)
+        (inputs : List FlavorInput) (objects : List Object)
+        (codes : List LinkedCode) (targets : LinkedCode → ℕ → ℕ) (memory : List Range)
+        (gives : List ℕ → Ask → List ℕ) →
+        AllByRecursion (IsMadeFor machine) inputs →
+        IsFlavorProgram machine bases inputs objects →
+        AreInMemory machine image_base (image_of machine bases (placed_from bases objects))
+        (placed_from bases objects) codes targets memory →
+        (n : ℕ) (written : List Range)
+        (c d : LinkedCode) (offset after : ℕ) (name : List ℕ) (t : ObjectSymbol) →
+        ((dll : List ℕ) (ask : Ask) → length (gives dll ask) ≡ thunk_width machine) →
+        ReadsAndWrites memory (thunk_width machine) gives n bases.descriptors written →
+        Contains codes c →
+        HasBranch machine c offset after name →
+        Contains codes d →
+        DefinesIn d t →
+        t.name ≡ name →
+        CanBranch machine (c.position + offset) (d.position + t.value) →
+        BranchStays machine (written ++ memory) (c.position + offset)
+        (field_at c.code.bytes offset 4) }
     ensures kept { (machine : MachineType) (image_base : ℕ) (bases : Bases)
         (inputs : List FlavorInput) (objects : List Object)
         (codes : List LinkedCode) (targets : LinkedCode → ℕ → ℕ) (memory : List Range)

@@ -11,10 +11,11 @@ ghost use Rattle.implib.specs.declared.machine.MachineType.{MachineType};
 ghost use Rattle.implib_link.specs.Flavors.LldImports.{IsLldProgram, placed_by_lld};
 ghost use Rattle.implib_link.specs.Flavors.Program.{FlavorInput, IsFlavorProgram, IsMadeFor};
 ghost use Rattle.implib_link.specs.Gnu.Calls.{CanBranch};
-ghost use Rattle.implib_link.specs.Gnu.Fields.{DefinesIn, LinkedCode};
+ghost use Rattle.implib_link.specs.Gnu.Fields.{DefinesIn, LinkedCode, field_at};
 ghost use Rattle.implib_link.specs.Gnu.Loaded.{Writes};
 ghost use Rattle.implib_link.specs.Gnu.Moves.{AreInMemory};
-ghost use Rattle.implib_link.specs.Gnu.Operands.{AllLead, AreKept, BranchArrives, HasBranch};
+ghost use Rattle.implib_link.specs.Gnu.Operands.{AllLead, AreKept, BranchArrives, BranchStays};
+ghost use Rattle.implib_link.specs.Gnu.Operands.{HasBranch};
 ghost use Rattle.implib_link.specs.Gnu.Program.{IsProgram};
 ghost use Rattle.implib_link.specs.Gnu.Reading.{ReadsAndWrites};
 ghost use Rattle.implib_link.specs.Tables.{AreSteady, AreTables, AreTablesLoaded, CanReadFrom, Table};
@@ -78,7 +79,7 @@ pub fn any_tables_load()
 /// at another, which changes none of them. A loader that reads them there loads the same imports. Every field of code against
 /// the symbol of an entry leads, by the processor's rule, to the entry, where the loader wrote what
 /// the DLL gives, whatever instruction holds the field; a branch to a name leads to where code
-/// defines it; other bytes of code are as they were.
+/// defines it, and but for its distance is as it was; other bytes of code are as they were.
 pub fn fields_lead_to_any_tables()
     ensures loads { (machine : MachineType) (image_base : ℕ) (t : Tables)
         (codes : List LinkedCode) (targets : LinkedCode → ℕ → ℕ) (memory : List Range)
@@ -132,6 +133,24 @@ pub fn fields_lead_to_any_tables()
         CanBranch machine (c.position + offset) (d.position + s.value) →
         BranchArrives machine image_base (written ++ memory) (c.position + offset) after
         (d.position + s.value) }
+    ensures stay { (machine : MachineType) (image_base : ℕ) (t : Tables)
+        (codes : List LinkedCode) (targets : LinkedCode → ℕ → ℕ) (memory : List Range)
+        (gives : List ℕ → Ask → List ℕ) →
+        AreTables machine t →
+        AreSteady machine t.linked →
+        AreInMemory machine image_base t.image t.linked codes targets memory →
+        (n : ℕ) (written : List Range) →
+        ((dll : List ℕ) (ask : Ask) → length (gives dll ask) ≡ thunk_width machine) →
+        ReadsAndWrites memory (thunk_width machine) gives n t.directory written →
+        (c d : LinkedCode) (offset after : ℕ) (name : List ℕ) (s : ObjectSymbol) →
+        Contains codes c →
+        HasBranch machine c offset after name →
+        Contains codes d →
+        DefinesIn d s →
+        s.name ≡ name →
+        CanBranch machine (c.position + offset) (d.position + s.value) →
+        BranchStays machine (written ++ memory) (c.position + offset)
+        (field_at c.code.bytes offset 4) }
     ensures kept { (machine : MachineType) (image_base : ℕ) (t : Tables)
         (codes : List LinkedCode) (targets : LinkedCode → ℕ → ℕ) (memory : List Range)
         (gives : List ℕ → Ask → List ℕ) →

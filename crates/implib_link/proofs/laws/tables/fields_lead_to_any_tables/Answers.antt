@@ -1,4 +1,4 @@
-use Rattle.implib_link.proofs.TablesInMemory.{tables_branch_in_memory, tables_end_in_memory, tables_keep_in_memory, tables_lead_in_memory, tables_load_in_memory}
+use Rattle.implib_link.proofs.TablesInMemory.{tables_branch_in_memory, tables_end_in_memory, tables_keep_in_memory, tables_lead_in_memory, tables_load_in_memory, tables_stay_in_memory}
 use Rattle.implib_link.proofs.laws.tables.fields_lead_to_any_tables.Goals as goal
 
 pub returns : goal.returns
@@ -7,5 +7,6 @@ returns c = record {
   ends = tables_end_in_memory;
   leads = tables_lead_in_memory;
   branches = tables_branch_in_memory;
+  stay = tables_stay_in_memory;
   kept = tables_keep_in_memory;
 }
