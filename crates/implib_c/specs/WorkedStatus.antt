@@ -149,7 +149,7 @@ pub record WorkedArguments : Type 0 where
   pub export_as : naming_numbered 4 ≡ Some (record { is_plain = false; kills_at = false; exports_as = true })
   pub all_flags : naming_numbered 7 ≡ Some (record { is_plain = true; kills_at = true; exports_as = true })
   pub unknown_flag : naming_numbered 8 ≡ None
-  pub version_is : version ≡ 2
+  pub version_is : version ≡ 3
 
 -- all of them
 pub record WorkedStatuses : Type 0 where

@@ -554,7 +554,7 @@ fn offsets_have_lines_and_columns(rt: HostRuntime) -> Result<(), Fail> {
 
 #[test]
 fn the_version_is_that_of_the_header(rt: HostRuntime) -> Result<(), Fail> {
-    assert_eq!(rt; implib_version(), 2);
+    assert_eq!(rt; implib_version(), 3);
     Ok(())
 }
 
