@@ -128,7 +128,9 @@ fn paths_are_whole(rt: HostRuntime) -> Result<(), Fail> {
         said.push_str("folder/")?;
     }
     path.push_str("\n\u{85}a.def")?;
-    said.push_str("\\n\\u{85}a.def: no name of a DLL: expected LIBRARY or NAME with one, or the option -D\n")?;
+    said.push_str(
+        "\\n\\u{85}a.def: no name of a DLL: expected LIBRARY or NAME with one, or the option -D\n",
+    )?;
     let mut console = Console::new(rt.alloc(), Vec::new(rt.alloc()));
     console.refuse(path.as_str(), &Refusal::NoName);
     expect_lines(&rt, console, said.as_str());
