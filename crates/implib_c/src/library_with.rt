@@ -12,8 +12,8 @@ ghost use Rattle.std.specs.Option.{option_map};
 ghost use Rattle.std.specs.Prelude.{◌≡◌, ◌+◌, ◌<◌, ◌^◌, Err, IfErr, IfOk};
 
 use crate::outcome::{Failure, flavor_with, machine_with, pack_into};
-use implib_rules::library::{Refusal, kind_for, members_for};
 use implib_rules::additions::Additions;
+use implib_rules::library::{Refusal, kind_for, members_for};
 use implib_rules::linked::Naming;
 use implib_rules::options::LibraryOptions;
 use std::alloc::Global;

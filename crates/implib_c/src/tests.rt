@@ -9,8 +9,8 @@ use crate::exports::{
 };
 use implib::{Flavor, ImportLibrary, MachineType};
 use implib_archive::{Archive, Kind};
-use implib_rules::library::write_library;
 use implib_rules::additions::Additions;
+use implib_rules::library::write_library;
 use implib_rules::linked::Naming;
 use implib_rules::options::LibraryOptions;
 use std::alloc::{AllocError, Global};
@@ -371,8 +371,7 @@ fn written(
 }
 
 // A text whose names the flags change.
-const DECORATED: &[u8] =
-    b"LIBRARY zoo\nEXPORTS\nfeed@8\n@count@4\nnight == day\nday\ndusk == dawn";
+const DECORATED: &[u8] = b"LIBRARY zoo\nEXPORTS\nfeed@8\n@count@4\nnight == day\nday\ndusk == dawn";
 
 // Holds a call with options against the library that the program writes.
 fn expect_written(
