@@ -58,11 +58,14 @@ fn the_help_has_options_and_statuses(rt: HostRuntime) -> Result<(), Fail> {
         "\n      --no-leading-underscore\n",
         "\n                           on I386 take symbols as they are written\n",
         "\n      --leading-underscore on I386 undo it\n",
+        "\n  -p, --ext-prefix-alias P a further import of each export, by P and its symbol\n",
+        "\n  -U, --add-underscore     ask for each name with _ in front, but for fastcall's\n",
+        "\n      --export-as          for Microsoft's linker, and for lld from 18 on, write a\n",
         "\n  -v, --verbose            write warnings of FILE on standard error\n",
         "\n  -h, --help\n",
         "\n  -V, --version\n",
         "\nTaken and ignored: -S --as, -f --as-flags, -t --temp-prefix, each with a value;\n",
-        "\n-n --no-delete, --deterministic-libraries, --non-deterministic-libraries.\n",
+        "\n-n --no-delete, -A --add-stdcall-alias, --deterministic-libraries,\n",
         "\nStatus: 0 made; 1 FILE is refused; 2 wrong call; 3 a file or memory failed.\n",
     ] {
         assert!(rt; help.contains(part), "{part}");
