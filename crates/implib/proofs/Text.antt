@@ -31,3 +31,4 @@ pub mod OneReading
 pub mod RefusedWithin
 pub mod SymbolNames
 pub mod HeardNames
+pub mod Advanced

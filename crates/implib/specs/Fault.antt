@@ -45,7 +45,7 @@ cause_of (fault.EmptyAskedName index) = EmptyAskedName index
 cause_of (fault.NoNameType index) = NoNameType index
 cause_of fault.MemberTooLong = MemberTooLong
 
--- the index of the export that a cause tells, if it tells one
+-- the index of the export in a cause, if it has one
 abbrev pub export_index : Cause → Option ℕ
 export_index (EmptyName index) = Some index
 export_index (NulInExport index) = Some index

@@ -8,6 +8,7 @@ pub mod Fault
 pub mod Renaming
 pub mod Import
 pub mod Asked
+pub mod Beginning
 pub mod Library
 pub mod Text
 pub mod Formats

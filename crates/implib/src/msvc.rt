@@ -23,7 +23,8 @@ pub(crate) mod members;
 mod objects;
 mod short_import;
 
-pub use crate::msvc::members::MemberLists;
+pub use crate::msvc::members::{MemberLists, linked_dll};
+pub use crate::msvc::short_import::{ShortImport, import_symbols, import_type};
 
 /// The import library of a module definition for Microsoft's linker (docs/FORMATS.md, "Members for
 /// Microsoft's linker").

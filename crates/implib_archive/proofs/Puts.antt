@@ -1,6 +1,7 @@
 -- What a writer has after several calls.
 use Rattle.std.proofs.Common.{◌≡◌, ℕ, ◌+◌, ◌-◌, ◌<◌, List, [], ◌∷◌, ◌++◌, Option, Some, None, Result, Ok, Err, flat_map, get_or, length, take, drop, refl, sym, ap, subst, ◌∙◌, append-nil, append_assoc}
 use Rattle.std.specs.Io.KnownBytes.{Appends}
+use Rattle.implib.specs.Beginning.{AppendsBeginning}
 use Rattle.std.specs.Result.{IsErr}
 use Rattle.std.proofs.lemmas.Bool.{true≢false}
 use Rattle.std.proofs.lemmas.Grind.{flat_map-append}
@@ -9,7 +10,7 @@ use Rattle.implib.specs.Members.MemberSpec.{MemberView}
 use Rattle.implib_archive.specs.Archive.{member_part}
 use Rattle.implib_archive.specs.Parts.{padding, part_bytes}
 use Rattle.implib_archive.specs.Pushed.{header_of}
-use Rattle.implib_archive.specs.Written.{AppendsBeginning, AppendsUpTo, Writes}
+use Rattle.implib_archive.specs.Written.{AppendsUpTo, Writes}
 
 pub appends_then : (a b c : Option (List ℕ)) (x y : List ℕ) → Appends a b x → Appends b c y → Appends a c (x ++ y)
 appends_then None b c x y p q = tt

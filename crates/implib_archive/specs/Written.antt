@@ -2,13 +2,7 @@
 use Rattle.std.specs.Prelude.{◌≡◌, ℕ, List, ◌++◌, Option, MatchResult}
 use Rattle.std.specs.declared.result.Result.{Result}
 use Rattle.std.specs.Io.KnownBytes.{Appends}
-
--- the writer took a beginning of the bytes, perhaps none or all of them
-pub record AppendsBeginning (before after : Option (List ℕ)) (bytes : List ℕ) : Type 0 where
-  pub taken : List ℕ
-  pub left : List ℕ
-  pub whole : bytes ≡ taken ++ left
-  pub written : Appends before after taken
+use Rattle.implib.specs.Beginning.{AppendsBeginning}
 
 -- the writer took the bytes, or at an error a beginning of them
 abbrev pub Writes : {T E : Type 0} → Option (List ℕ) → Option (List ℕ) → List ℕ → Result T E → Type 0

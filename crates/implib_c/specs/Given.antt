@@ -63,7 +63,7 @@ abbrev pub status_given : Result ℕ Failure → Status
 status_given (Ok put) = status.Success
 status_given (Err failure) = failure_status failure
 
--- the length that an answer tells
+-- the length in an answer
 abbrev pub length_given : Result ℕ Failure → ℕ
 length_given (Ok put) = put
 length_given (Err (BufferTooSmall needed)) = needed
@@ -80,7 +80,7 @@ length_given (Err NoDllName) = 0
 length_given (Err (RefusedAt fault offset)) = 0
 length_given (Err (NoExport fault index)) = 0
 
--- the place that an answer tells
+-- the place in an answer
 abbrev pub place_given : Result ℕ Failure → ℕ
 place_given (Ok put) = 0
 place_given (Err (BufferTooSmall needed)) = 0

@@ -61,7 +61,7 @@ length_of (TooLong kind members) = length (archive_of kind members)
 length_of (Unpacked kind members cause) = 0
 length_of (Failed outcome) = 0
 
--- what is at fault in the text, as `implib_members` tells it; else 0
+-- what is at fault in the text, as `implib_members` answers it; else 0
 abbrev pub place_of : List ℕ → Ending → ℕ
 place_of text (Packed kind members) = 0
 place_of text (TooLong kind members) = 0

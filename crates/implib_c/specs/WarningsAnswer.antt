@@ -96,7 +96,7 @@ length_of (TooLong said) = length (encoded_warnings said)
 length_of (Refused why) = 0
 length_of (NoOptions fault) = 0
 
--- what is at fault in the text, as `implib_library_with` tells it; else 0
+-- what is at fault in the text, as `implib_library_with` answers it; else 0
 abbrev pub place_of : List ℕ → WarningsEnding → ℕ
 place_of text (Made said) = 0
 place_of text (TooLong said) = 0

@@ -7,12 +7,11 @@ ghost use Rattle.std.specs.Prelude.{◌≡◌, ◌-◌};
 
 use crate::library_with::mark_length;
 use implib::def::Position;
-use implib_rules::places::position_in;
 use implib_rules::text::without_mark;
 
 /// The position of an offset in a text, without its byte order mark.
 pub fn position_of(text: &[u8], offset: usize) -> Position
     ensures { result ≡ position_at (without_mark text.now) (offset - mark_length text.now) }
 {
-    position_in(without_mark(text), offset.saturating_sub(mark_length(text)))
+    Position::in_bytes(without_mark(text), offset.saturating_sub(mark_length(text)))
 }

@@ -1,5 +1,5 @@
 -- Where a relocated field of an object leads: to a section and an offset in it, in the object itself or in one
--- that defines the symbol. Addends and values of symbols count, and no name of a symbol tells what it is for.
+-- that defines the symbol. Addends and values of symbols count, and no name of a symbol says what it is for.
 use Rattle.std.specs.Prelude.{ℕ, ◌+◌, ◌%◌, ◌^◌, ◌==◌, List, [], ◌∷◌, Option, None, Some, bytes_eq, drop, if◌then◌else◌}
 use Rattle.std.specs.List.{find}
 use Rattle.std.specs.Option.{option_and_then, option_map, option_or}

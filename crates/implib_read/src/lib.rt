@@ -1,7 +1,7 @@
 //! A reader of import libraries, whoever made them: Microsoft's LIB, `llvm-lib` and `llvm-dlltool`, GNU dlltool and
 //! linker, winebuild, rustc, or the library `implib`.
 //!
-//! [`Library::read`] tells of each member of a library what it is for: an import with its DLL, its symbols and what
+//! [`Library::read`] says of each member of a library what it is for: an import with its DLL, its symbols and what
 //! it asks for, an alias, a part of the import tables, or another. A short import says so itself. An object for GNU's
 //! linker is followed as a linker does it: from its fields by relocations, to sections and offsets, through symbols
 //! that any member defines.

@@ -15,7 +15,6 @@ pub mod Made
 pub mod ExportedAs
 pub mod ExportAsRead
 pub mod OfExports
-pub mod Positions
 pub mod FirstExports
 pub mod Warned
 pub mod InOrder

@@ -26,7 +26,7 @@ use Rattle.implib_archive.specs.declared.kind.Kind.{Kind}
 use Rattle.implib_archive.specs.declared.kind.Kind.TheVariants.{Coff, Gnu as GnuKind}
 use Rattle.implib_archive.specs.Archive.{archive_of}
 use Rattle.implib_archive.specs.Refusal.{refusal_of}
-use Rattle.implib_archive.specs.Written.{AppendsBeginning}
+use Rattle.implib.specs.Beginning.{AppendsBeginning}
 use Rattle.implib_rules.specs.declared.library.LibraryError.{LibraryError}
 use Rattle.implib_rules.specs.declared.library.LibraryError.TheVariants.{Refused, Writing}
 use Rattle.implib_rules.specs.declared.library.Refusal.{Refusal}

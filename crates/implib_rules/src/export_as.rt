@@ -26,25 +26,14 @@ ghost use Rattle.std.specs.String.{string_bytes};
 ghost use Rattle.std.specs.Vec.Iter.{into_iter_items};
 
 use crate::linked::{makes, word_of};
-use implib::coff::Pass;
 use implib::def::ShortExport;
-use implib::{Error, Fault, MachineType, Member};
+use implib::msvc::{ShortImport, import_symbols, import_type};
+use implib::{Error, MachineType, Member};
 use std::alloc::{AllocError, Global};
 use std::vec::IntoIter;
 
-// The name type, and the import types.
+// The name type.
 const EXPORT_AS: u16 = 4;
-
-const IMPORT_CODE: u16 = 0;
-
-const IMPORT_DATA: u16 = 1;
-
-const IMPORT_CONST: u16 = 2;
-
-// The size in bytes of the header, and of the NULs of three texts.
-const HEADER_SIZE: usize = 20;
-
-const NULS: usize = 3;
 
 // The symbol of an export's short import.
 fn symbol_made(export: &ShortExport) -> &str
@@ -101,59 +90,13 @@ pub(crate) fn keep_exports(alloc: Global, exports: &mut Vec<ShortExport>) -> Res
     Ok(())
 }
 
-// The size in bytes of a short import with a third text, where a `u32` can hold it.
-fn export_as_size(symbol: &str, dll: &str, name: &str) -> Option<u32>
-    ensures fits { IfSome result (λ size. size
-        ≡ HEADER_SIZE + (length symbol.now + (length dll.now + length name.now) + NULS)) }
-    ensures too_long { IfNone result (u32.MAX
-        < HEADER_SIZE + (length symbol.now + (length dll.now + length name.now) + NULS)) }
-{
-    let names = dll.len().checked_add(name.len())?;
-    let texts = symbol.len().checked_add(names)?;
-    let size = texts.checked_add(HEADER_SIZE + NULS)?;
-    u32::try_from(size).ok()
-}
-
-fn import_type(export: &ShortExport) -> u16
-    ensures number { result ≡ import_type_of (export_view export.now) }
-    ensures at_most { result ≤ IMPORT_CONST }
-{
-    if export.is_data {
-        IMPORT_DATA
-    } else if export.constant {
-        IMPORT_CONST
-    } else {
-        IMPORT_CODE
-    }
-}
-
-// Puts the header of an export's short import; `data_size` is the size of its texts with their NULs.
-fn put_header(pass: &mut Pass, export: &ShortExport, machine: MachineType, data_size: u32)
-    requires room { HEADER_SIZE ≤ pass.old.left }
-    ensures puts { (dll name : List ℕ) →
-        data_size ≡ short_import_data_size (export_as_import machine dll
-        (renamed_export (export_view export.now)) name) →
-        Puts pass.old pass.new (short_import_header (export_as_import machine dll
-        (renamed_export (export_view export.now)) name)) }
-    ensures left { pass.new.left + HEADER_SIZE ≡ pass.old.left }
-{
-    pass.put_u16(0);
-    pass.put_u16(0xFFFF);
-    pass.put_u16(0);
-    pass.put_u16(machine.number());
-    pass.put_u32(0);
-    pass.put_u32(data_size);
-    pass.put_u16(export.ordinal);
-    pass.put_u16(import_type(export) + 4 * EXPORT_AS);
-}
-
 // The short import of an export, with this name as its third text.
-fn export_as_bytes(
+fn export_as_bytes<'a>(
     alloc: Global,
     machine: MachineType,
-    dll: &str,
-    export: &ShortExport,
-    name: &str,
+    dll: &'a str,
+    export: &'a ShortExport,
+    name: &'a str,
 ) -> Result<Vec<u8>, Error>
     ensures ok { IfOk result (λ bytes. bytes.items ≡ short_import_bytes
         (export_as_import machine dll.now (renamed_export (export_view export.now)) name.now)) }
@@ -164,34 +107,16 @@ fn export_as_bytes(
         < short_import_size
         (export_as_import machine dll.now (renamed_export (export_view export.now)) name.now))) }
 {
-    let symbol = symbol_made(export);
-    let Some(size) = export_as_size(symbol, dll, name) else {
-        return Err(Error::Invalid(Fault::MemberTooLong));
+    let import = ShortImport {
+        machine,
+        ordinal: export.ordinal,
+        import_type: import_type(export),
+        name_type: EXPORT_AS,
+        symbol: symbol_made(export),
+        dll,
+        third: Some(name),
     };
-    let mut pass = Pass::reserve(alloc, size)?;
-    put_header(&mut pass, export, machine, size - HEADER_SIZE as u32);
-    pass.put_bytes(symbol.as_bytes());
-    pass.put_bytes(b"\0");
-    pass.put_bytes(dll.as_bytes());
-    pass.put_bytes(b"\0");
-    pass.put_bytes(name.as_bytes());
-    pass.put_bytes(b"\0");
-    Ok(pass.finish())
-}
-
-// The archive symbols of an export's short import.
-fn symbols_of(alloc: Global, export: &ShortExport) -> Result<Vec<String>, AllocError>
-    ensures { IfOk result (λ symbols. map string_bytes symbols.items
-        ≡ short_import_symbols (renamed_export (export_view export.now))) }
-{
-    let symbol = symbol_made(export);
-    let mut address = String::from_str(alloc, "__imp_")?;
-    address.push_str(symbol)?;
-    if export.is_data {
-        return Ok(vec![in alloc; address]?);
-    }
-    let symbol = String::from_str(alloc, symbol)?;
-    Ok(vec![in alloc; address, symbol]?)
+    import.to_bytes(alloc)
 }
 
 // The short import of an export of a DLL, with this name as its third text, as a member under the
@@ -209,7 +134,7 @@ fn export_as_member(
         (renamed_export (export_view export.now)) name.now) result }
 {
     let bytes = export_as_bytes(alloc, machine, dll, export, name)?;
-    let symbols = symbols_of(alloc, export)?;
+    let symbols = import_symbols(alloc, export.is_data, symbol_made(export))?;
     let name = String::from_str(alloc, linked)?;
     Ok(Member {
         name,

@@ -23,7 +23,7 @@ ghost use Rattle.std.specs.Prelude.{◌≡◌, IfErr, IfOk, MatchOption, None, O
 use crate::additions::extend_exports;
 use crate::aliases::link_with_targets;
 use crate::export_as::{keep_exports, laters_of, place};
-use crate::library_name::{library_name_for, linked_dll};
+use crate::library_name::library_name_for;
 use crate::linked::Naming;
 use crate::name::{FirstHeading, dll_name, lacks_name};
 use crate::options::LibraryOptions;
@@ -32,7 +32,7 @@ use crate::repeats::leave_out_repeats;
 use crate::text::DefinitionText;
 use implib::def::{ModuleDef, Position};
 use implib::gnu::GnuImportLibrary;
-use implib::msvc::{MemberLists, MsvcImportLibrary};
+use implib::msvc::{MemberLists, MsvcImportLibrary, linked_dll};
 use implib::{Error, Fault, Flavor, MachineType, Member, ParseError};
 use implib_archive::{Archive, Kind, WriteError};
 use std::alloc::{AllocError, Global};

@@ -131,23 +131,3 @@ pub fn library_name_for(
         Flavor::Gnu => Ok(Some(gnu_library_name(alloc, def)?)),
     }
 }
-
-/// What the members for Microsoft's linker are named: the library's name with `.dll`, where there is
-/// one, or the DLL's.
-///
-/// # Errors
-///
-/// An allocation failed.
-pub(crate) fn linked_dll(alloc: Global, def: &ModuleDef) -> Result<String, AllocError>
-    ensures { IfOk result (λ name. string_bytes name ≡ linked_dll (definition_view def.now)) }
-{
-    let mut linked = String::new(alloc);
-    match &def.library_name {
-        Some(name) => {
-            linked.push_str(name.as_str())?;
-            linked.push_str(".dll")?;
-        }
-        None => linked.push_str(def.import_name.as_str())?,
-    }
-    Ok(linked)
-}

@@ -43,8 +43,8 @@ fn has_two_at_signs(word: &[u8]) -> bool
     false
 }
 
-// Whether a word is a symbol of I386 as it is: of fastcall, C++ or vectorcall.
-fn keeps_word(word: &[u8]) -> bool
+/// Whether a word is a symbol of I386 as it is: of fastcall, C++ or vectorcall.
+pub fn keeps_word(word: &[u8]) -> bool
     ensures { result ≡ keeps_word word.now }
 {
     word.first() == Some(&b'@') || word.first() == Some(&b'?') || has_two_at_signs(word)

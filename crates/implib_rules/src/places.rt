@@ -86,55 +86,15 @@ fn site_at(is_headed: bool, before: usize, line: usize, role: Role, kind: TokenK
     }
 }
 
-// The beginning of a text.
-const BEGINNING: Position = Position {
-    offset: 0,
-    line: 1,
-    column: 1,
-};
-
-// The position of an offset, from that of one that is not after it.
-fn position_from(text: &[u8], from: Position, offset: usize) -> Position
-    requires at { from ≡ position_at text.now from.offset }
-    requires order { from.offset ≤ offset }
-    ensures { result ≡ position_at text.now offset }
-{
-    let front = &text[..offset.min(text.len())];
-    let rest = &front[from.offset.min(front.len())..];
-    let mut line = from.line;
-    let mut column = from.column;
-    for byte in rest {
-        if *byte == b'\n' {
-            line += 1;
-            column = 1;
-        } else {
-            column += 1;
-        }
-    }
-    Position {
-        offset,
-        line,
-        column,
-    }
-}
-
-/// The position of an offset in bytes, in one pass over those before it: what `Position::at` is in a
-/// text.
-pub fn position_in(bytes: &[u8], offset: usize) -> Position
-    ensures { result ≡ position_at bytes.now offset }
-{
-    position_from(bytes, BEGINNING, offset)
-}
-
 // The position of an offset, from that of another.
 fn advanced(text: &[u8], from: Position, offset: usize) -> Position
     requires { from ≡ position_at text.now from.offset }
     ensures { result ≡ position_at text.now offset }
 {
     if offset < from.offset {
-        return position_in(text, offset);
+        return Position::in_bytes(text, offset);
     }
-    position_from(text, from, offset)
+    from.advanced(text, offset)
 }
 
 // Appends a place, if there is one, or keeps that an allocation failed.

@@ -5,7 +5,6 @@ ghost use Rattle.implib_rules.specs.Utf8.{IsNotUtf8At};
 ghost use Rattle.std.specs.Prelude.{◌≡◌, IfOk, MatchResult};
 ghost use Rattle.std.specs.Str.{IsUtf8};
 
-use crate::places::position_in;
 use crate::plain::{is_plain, plain_text};
 use implib::def::Position;
 use std::alloc::{AllocError, Global};
@@ -80,7 +79,7 @@ impl<'a> DefinitionText<'a> {
         };
         match str::from_utf8(bytes) {
             Ok(text) => Ok(text),
-            Err(error) => Err(position_in(bytes, error.valid_up_to())),
+            Err(error) => Err(Position::in_bytes(bytes, error.valid_up_to())),
         }
     }
 }

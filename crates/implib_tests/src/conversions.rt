@@ -1,4 +1,4 @@
-//! Names and numbers of machines and flavours, and what an error tells of its fault.
+//! Names and numbers of machines and flavours, and what an error says of its fault.
 
 use implib::{Error, Fault, Flavor, MachineType};
 use std::test::Fail;

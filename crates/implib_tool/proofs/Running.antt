@@ -10,7 +10,7 @@ use Rattle.implib.specs.Fault.{Cause, cause_of}
 use Rattle.implib.specs.Members.MemberSpec.{MemberView}
 use Rattle.implib_tool.specs.declared.run.RunError.{RunError}
 use Rattle.implib_tool.specs.declared.run.RunError.TheVariants.{Refused, NotUtf8, Read, Write, OutOfMemory}
-use Rattle.implib_tool.specs.Device.{AppendsBeginning}
+use Rattle.implib.specs.Beginning.{AppendsBeginning}
 use Rattle.implib_tool.specs.Documents.{Divides, IsUndivided}
 use Rattle.implib_tool.specs.Run.{Devices, FirstRefused, IsRefused, MembersOfDocument}
 use Rattle.implib_tool.specs.Views.{Buffered, MembersOfDocuments, OnDocumentFault, OnTextFault, DocumentsLeft, Passes, WrittenSoFar, buffered}

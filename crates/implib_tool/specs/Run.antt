@@ -21,7 +21,7 @@ use Rattle.implib.specs.Members.OfText.{HasNoMembers, MembersOf}
 use Rattle.implib.specs.Members.ReadBack.{alias_among, file_at, import_among}
 use Rattle.implib_tool.specs.declared.run.RunError.{RunError}
 use Rattle.implib_tool.specs.declared.run.RunError.TheVariants.{Refused, NotUtf8, Read, Write, OutOfMemory}
-use Rattle.implib_tool.specs.Device.{AppendsBeginning}
+use Rattle.implib.specs.Beginning.{AppendsBeginning}
 use Rattle.implib_tool.specs.Listing.{listing_of}
 use Rattle.implib_tool.specs.Documents.{Documents}
 

@@ -12,7 +12,7 @@ use Rattle.implib_tool.specs.declared.run.RunError.{RunError}
 use Rattle.implib_tool.specs.declared.run.RunError.TheVariants.{Refused, NotUtf8, Read, Write, OutOfMemory}
 use Rattle.implib.specs.Library.{member_view}
 use Rattle.implib.specs.declared.member.Member.{Member}
-use Rattle.implib_tool.specs.Device.{AppendsBeginning}
+use Rattle.implib.specs.Beginning.{AppendsBeginning}
 use Rattle.implib_tool.specs.Documents.{Documents}
 use Rattle.implib_tool.specs.Run.{EachMade, FirstRefused, IsRefused}
 
@@ -25,7 +25,7 @@ pub record IsLineAt (text : List ℕ) (start end next : ℕ) : Type 0 where
   pub ends : ((end ≡ length text) × (next ≡ end))
       ⊎ ((end < length text) × (slice_index text end ≡ 10) × (next ≡ end + 1))
 
--- a writer with the bytes that wait for it: what it has, where it tells that, and whether it has failed
+-- a writer with the bytes that wait for it: what it has, where that is known, and whether it has failed
 pub record Buffered : Type 0 where
   pub contents : Option (List ℕ)
   pub failed : Bool

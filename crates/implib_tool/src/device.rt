@@ -1,6 +1,6 @@
 //! What `run` reads from and writes to.
 
-ghost use Rattle.implib_tool.specs.Device.{AppendsBeginning};
+ghost use Rattle.implib.specs.Beginning.{AppendsBeginning};
 ghost use Rattle.std.specs.Io.KnownBytes.{Appends, Consumes, IsAtEnd, Keeps};
 ghost use Rattle.std.specs.Prelude.{◌≡◌, ◌<◌, ◌≤◌, ◌⊎◌, Bool, IfOk, List, Ok, OnErr, OnOk, Option, length, take, true, ℕ};
 

@@ -1,7 +1,8 @@
 -- The short import of an export, as a table (docs/FORMATS.md, "Short imports" and "Members for Microsoft's
 -- linker").
-use Rattle.std.specs.Prelude.{ℕ, ◌+◌, ◌*◌, ◌&&◌, not, List, [], ◌∷◌, ◌++◌, length, bytes_eq, if◌then◌else◌, is_some}
+use Rattle.std.specs.Prelude.{ℕ, ◌+◌, ◌*◌, ◌&&◌, not, List, [], ◌∷◌, ◌++◌, Option, None, Some, length, bytes_eq, if◌then◌else◌, is_some, option_map}
 use Rattle.implib.specs.declared.machine.MachineType.{MachineType}
+use Rattle.implib.specs.declared.msvc.short_import.ShortImport.{ShortImport as Written}
 use Rattle.implib.specs.Formats.Bytes.{u16_bytes, u32_bytes}
 use Rattle.implib.specs.Machine.{has_leading_underscore, machine_number}
 use Rattle.implib.specs.Definition.{ExportView, given_name}
@@ -82,6 +83,24 @@ short_import_header r =
 -- `00 00 ff ff 00 00 64 86 00 00 00 00 0c 00 00 00 00 00 04 00`, `bar`, NUL, `foo.dll` and NUL.
 abbrev pub short_import_bytes : ShortImport → List ℕ
 short_import_bytes r = short_import_header r ++ (r.symbol ++ 0 ∷ (r.dll ++ 0 ∷ []))
+
+-- the DLL's name and, where there is a third text, its NUL and that text
+abbrev pub dll_texts : List ℕ → Option (List ℕ) → List ℕ
+dll_texts dll None = dll
+dll_texts dll (Some name) = dll ++ 0 ∷ name
+
+-- the short import that the code writes
+abbrev pub short_import_view : Written → ShortImport
+short_import_view s = record {
+  version = 0;
+  machine = machine_number s.machine;
+  time = 0;
+  ordinal = s.ordinal;
+  import_type = s.import_type;
+  name_type = s.name_type;
+  symbol = s.symbol.now;
+  dll = dll_texts s.dll.now (option_map (λ name. name.now) s.third);
+}
 
 -- the archive symbols of a short import
 abbrev pub short_import_symbols : ExportView → List (List ℕ)

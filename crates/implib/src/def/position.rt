@@ -1,7 +1,7 @@
 //! Positions in a text: offsets, lines and columns.
 
-ghost use Rattle.implib.specs.Text.Position.{line_and_column, position_at};
-ghost use Rattle.std.specs.Prelude.{◌≡◌, length, take};
+ghost use Rattle.implib.specs.Text.Position.{position_at};
+ghost use Rattle.std.specs.Prelude.{◌≡◌, ◌≤◌};
 
 use std::fmt;
 
@@ -16,6 +16,13 @@ pub struct Position {
     pub column: usize,
 }
 
+// The beginning of a text.
+const BEGINNING: Position = Position {
+    offset: 0,
+    line: 1,
+    column: 1,
+};
+
 impl Position {
     /// The position of the byte at `offset` in the text, in one pass over the bytes before it.
     ///
@@ -23,11 +30,28 @@ impl Position {
     pub fn at(text: &str, offset: usize) -> Position
         ensures { result ≡ position_at text.now offset }
     {
-        let bytes = text.as_bytes();
+        Position::in_bytes(text.as_bytes(), offset)
+    }
+
+    /// The same in bytes that may be no text.
+    pub fn in_bytes(bytes: &[u8], offset: usize) -> Position
+        ensures { result ≡ position_at bytes.now offset }
+    {
+        BEGINNING.advanced(bytes, offset)
+    }
+
+    /// The position of a later offset in the bytes in which this is a position, in one pass over those
+    /// between them.
+    pub fn advanced(self, bytes: &[u8], offset: usize) -> Position
+        requires at { self ≡ position_at bytes.now self.offset }
+        requires order { self.offset ≤ offset }
+        ensures { result ≡ position_at bytes.now offset }
+    {
         let front = &bytes[..offset.min(bytes.len())];
-        let mut line = 1;
-        let mut column = 1;
-        for byte in front {
+        let rest = &front[self.offset.min(front.len())..];
+        let mut line = self.line;
+        let mut column = self.column;
+        for byte in rest {
             if *byte == b'\n' {
                 line += 1;
                 column = 1;

@@ -66,7 +66,7 @@ fn push_five_digits(out: &mut String, number: usize) -> Result<(), AllocError>
     write!(out, "{number:05}")
 }
 
-// The name of a member of the export of this number; the letter tells which member.
+// The name of a member of the export of this number; the letter is that of the member.
 #[tactic(auto, unfolding(crate::specs::Members::Gnu::numbered_name))]
 fn numbered_name(
     alloc: Global,

@@ -81,9 +81,13 @@ fn named_members(def: &ModuleDef, machine: MachineType) -> Result<Vec<Member>, E
     build(def, machine, library.as_str())
 }
 
-// The name that the members have and that their symbols are named after: the library's, with `.dll`, or
-// the DLL's.
-fn linked_dll(alloc: Global, def: &ModuleDef) -> Result<String, AllocError>
+/// The name that the members have and that their symbols are named after: the library's, with `.dll`,
+/// or the DLL's.
+///
+/// # Errors
+///
+/// An allocation failed.
+pub fn linked_dll(alloc: Global, def: &ModuleDef) -> Result<String, AllocError>
     ensures { IfOk result (λ name. string_bytes name ≡ linked_dll (definition_view def.now)) }
 {
     let mut linked = String::new(alloc);

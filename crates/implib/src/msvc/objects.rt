@@ -150,12 +150,10 @@ fn descriptor_object<'a>(
     library: &str,
     dll: &str,
     symbol: &'a str,
-    null_descriptor: &'a str,
     null_thunk: &'a str,
 ) -> Result<Vec<u8>, Error>
     requires library_text { holds 0 library.now ≡ false }
     requires symbol { symbol.now ≡ descriptor_symbol library.now }
-    requires null_descriptor { null_descriptor.now ≡ null_descriptor_symbol }
     requires null_thunk { null_thunk.now ≡ null_thunk_symbol library.now }
     ensures { EncodesObject
         (descriptor machine (record { linked = library.now; text = dll.now })) result }
@@ -169,7 +167,7 @@ fn descriptor_object<'a>(
             characteristics: descriptor_characteristics(machine),
             sections: &sections,
             symbols: &symbols,
-            strings: &[symbol, null_descriptor, null_thunk],
+            strings: &[symbol, NULL_DESCRIPTOR_SYMBOL, null_thunk],
         },
     )
 }
@@ -194,7 +192,6 @@ pub(crate) fn descriptor_member(
         library,
         dll,
         symbol.as_str(),
-        NULL_DESCRIPTOR_SYMBOL,
         thunk.as_str(),
     )?;
     Ok(object_member(alloc, library, bytes, symbol)?)

@@ -1,4 +1,4 @@
--- Single rules of linking, by examples that no larger one tells apart: each is true as it stands, and not so of the rule
+-- Single rules of linking, by examples that no larger one distinguishes: each is true as it stands, and not so of the rule
 -- with one thing changed.
 use Rattle.std.specs.Prelude.{◌≡◌, ℕ, true, false, List, [], ◌∷◌, ◌++◌, codes, drop, None}
 use Rattle.implib.specs.declared.machine.MachineType.TheVariants.{I386, AMD64, ARM64}

@@ -2,7 +2,7 @@ use Rattle.std.proofs.Common.{subst}
 use Rattle.std.specs.Io.KnownBytes.{Appends}
 use Rattle.implib.specs.Library.{member_view}
 use Rattle.implib_archive.specs.Pushed.{shown}
-use Rattle.implib_archive.specs.Written.{AppendsBeginning}
+use Rattle.implib.specs.Beginning.{AppendsBeginning}
 use Rattle.implib_archive.proofs.Puts.{member_whole, writes_err}
 use Rattle.implib_archive.proofs.writer.write_member.Goals as goal
 

@@ -6,7 +6,7 @@ use Rattle.implib.specs.Library.{member_view}
 use Rattle.implib.specs.declared.member.Member.{Member}
 use Rattle.implib_archive.specs.Archive.{member_part}
 use Rattle.implib_archive.specs.Pushed.{shown}
-use Rattle.implib_archive.specs.Written.{AppendsBeginning}
+use Rattle.implib.specs.Beginning.{AppendsBeginning}
 use Rattle.implib_archive.proofs.Puts.{appends_nothing, appends_part, begins_part, writes_err}
 use Rattle.implib_archive.proofs.writer.write_members.Goals as goal
 

@@ -3,27 +3,27 @@ use Rattle.std.specs.List.{fold}
 use Rattle.std.proofs.lemmas.List.{drop_min, take_min}
 use Rattle.implib.specs.declared.def.position.Position.{Position}
 use Rattle.implib.specs.Text.Position.{after_byte, line_and_column, position_at}
-use Rattle.implib_rules.proofs.Positions.{advanced_to, column_within, left, left_shorter, line_within, take_shorter, whole_rest}
-use Rattle.implib_rules.proofs.places.position_from.Goals as goal
+use Rattle.implib.proofs.Text.Advanced.{advanced_to, column_within, left, left_shorter, line_within, take_shorter, whole_rest}
+use Rattle.implib.proofs.def.position.Position.advanced.Goals as goal
 
 pub overflow_add-line : goal.overflow_add-line
 overflow_add-line c =
-    let at : c.args.from.line ≡ (position_at c.args.text.now c.args.from.offset).line = ap (λ p. p.line) c.requires.at in
-    let below = line_within c.args.text.now c.args.from.offset in
-    let front = take c.min.result c.args.text.now in
+    let at : c.args.self.line ≡ (position_at c.args.bytes.now c.args.self.offset).line = ap (λ p. p.line) c.requires.at in
+    let below = line_within c.args.bytes.now c.args.self.offset in
+    let front = take c.min.result c.args.bytes.now in
     let fewer = left_shorter front c.min-2.result in
-    let shorter = take_shorter c.min.result c.args.text.now in
+    let shorter = take_shorter c.min.result c.args.bytes.now in
     let here = c.loop-byte.invariant.lines in
     let test = c.loop-byte-test.true in
     omega (arith, at, below, fewer, shorter, here, test)
 
 pub overflow_add-column : goal.overflow_add-column
 overflow_add-column c =
-    let at : c.args.from.column ≡ (position_at c.args.text.now c.args.from.offset).column = ap (λ p. p.column) c.requires.at in
-    let below = column_within c.args.text.now c.args.from.offset in
-    let front = take c.min.result c.args.text.now in
+    let at : c.args.self.column ≡ (position_at c.args.bytes.now c.args.self.offset).column = ap (λ p. p.column) c.requires.at in
+    let below = column_within c.args.bytes.now c.args.self.offset in
+    let front = take c.min.result c.args.bytes.now in
     let fewer = left_shorter front c.min-2.result in
-    let shorter = take_shorter c.min.result c.args.text.now in
+    let shorter = take_shorter c.min.result c.args.bytes.now in
     let here = c.loop-byte.invariant.columns in
     let test = c.loop-byte-test.true in
     omega (arith, at, below, fewer, shorter, here, test)
@@ -33,8 +33,8 @@ position_of offset place = record { offset = offset; line = place.0; column = pl
 
 pub returns : goal.returns
 returns c =
-    let text = c.args.text.now in
-    let from = c.args.from in
+    let text = c.args.bytes.now in
+    let from = c.args.self in
     let front = take c.min.result text in
     let rest = take (length front - c.min-2.result) (drop c.min-2.result front) in
     let front_is : front ≡ take c.args.offset text = ap (λ n. take n text) c.min.ensures ∙ take_min c.args.offset text in
