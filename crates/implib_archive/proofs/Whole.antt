@@ -13,6 +13,7 @@ use Rattle.implib_archive.specs.declared.kind.Kind.{Kind}
 use Rattle.implib_archive.specs.declared.kind.Kind.TheVariants.{Coff, Gnu}
 use Rattle.implib_archive.specs.declared.error.Fault.{Fault}
 use Rattle.implib_archive.specs.declared.error.Fault.TheVariants.{ArchiveTooLong, MemberTooLong, TooManyMembers}
+use Rattle.implib_archive.proofs.Distinct.{distinct_if_coff}
 use Rattle.implib_archive.proofs.Named.{names_bytes-push}
 use Rattle.implib_archive.proofs.Numbered.{Each, all_from_each, each_entry, each_sorted, each_weaker, sorted_as_many}
 use Rattle.implib_archive.proofs.Placed.{first_too_far}
@@ -395,6 +396,7 @@ front_fits kind members accepted =
           all_from_each (λ i. i < 2 ^ 16) (sorted_entries entries) (each_sorted (λ i. i < 2 ^ 16) entries
           (each_weaker (λ i. (0 < i) × (i ≤ n)) (λ i. i < 2 ^ 16) (λ i h. omega (arith, h.1, small)) entries (each_entry kind members)));
       second_short = λ is. second_fits kind members is short.second;
+      distinct = distinct_if_coff kind members;
     }
 
 -- What the code measures before it knows that the members are not refused: sizes as far as they are told apart.

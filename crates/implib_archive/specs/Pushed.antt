@@ -1,7 +1,7 @@
 -- View: what the code's functions have appended and measured.
-use Rattle.std.specs.Prelude.{◌≡◌, ℕ, ◌+◌, ◌*◌, ◌^◌, ◌<◌, ◌≤◌, List, [], ◌++◌, Option, None, Some, codes, length, map}
+use Rattle.std.specs.Prelude.{◌≡◌, ℕ, ◌+◌, ◌*◌, ◌^◌, ◌<◌, ◌≤◌, List, [], ◌++◌, Option, None, Some, bytes_eq, codes, length, map}
 use Rattle.std.specs.Borrow.{Bor}
-use Rattle.std.specs.List.{All}
+use Rattle.std.specs.List.{All, IsDistinct}
 use Rattle.implib_archive.specs.Archive.{end_from, entries_of, first_place, long_names, member_label, names_bytes, places_of, sorted_entries, strings_of}
 use Rattle.implib_archive.specs.Refusal.{refusal_of}
 use Rattle.implib_archive.specs.declared.error.Error.{Error}
@@ -24,6 +24,10 @@ pub record Pushes (old new bytes : List ℕ) : Type 0 where
 -- entries or long names of borrowed texts
 abbrev pub shown : List (Bor (List ℕ) × ℕ) → List (List ℕ × ℕ)
 shown pairs = map (λ e. (e.0.now, e.1)) pairs
+
+-- no symbol has two entries
+abbrev pub AreDistinct : List (List ℕ × ℕ) → Type 0
+AreDistinct entries = IsDistinct bytes_eq (map (λ e. e.0) entries)
 
 -- the date of a header, and its user and group
 abbrev pub owner_of : Texts → List ℕ
@@ -61,13 +65,14 @@ abbrev pub IsRefusal : Option Fault → Error → Type 0
 IsRefusal refusal (Invalid fault) = refusal ≡ Some fault
 IsRefusal refusal (OutOfMemory failed) = Unit {0}
 
--- entries and offsets fit the fields of the linker members
+-- entries and offsets fit the fields of the linker members, and can be sorted
 pub record FrontFits (kind : Kind) (places : List ℕ) (entries : List (List ℕ × ℕ)) : Type 0 where
   pub numbered : All (λ e. (0 < e.1) × (e.1 ≤ length places)) entries
   pub short : 4 + 4 * length entries + length (strings_of entries) < 2 ^ 32
   pub numbers : kind ≡ Coff → All (λ e. e.1 < 2 ^ 16) (sorted_entries entries)
   pub second_short : kind ≡ Coff
       → 8 + 4 * length places + 2 * length (sorted_entries entries) + length (strings_of (sorted_entries entries)) < 2 ^ 32
+  pub distinct : kind ≡ Coff → AreDistinct entries
 
 -- members that have an archive, with what is kept of them to write it
 pub record IsMade (kind : Kind) (members : List MemberView) (entries offsets : List (List ℕ × ℕ)) (size : ℕ) (places : List ℕ) (end' : ℕ)

@@ -3,15 +3,15 @@
 ghost use Rattle.implib.specs.Library.{member_view};
 ghost use Rattle.implib_archive.specs.Archive.{entries_from, entries_of, sorted_entries};
 ghost use Rattle.implib_archive.specs.Archive.{with_first};
-ghost use Rattle.implib_archive.specs.Pushed.{shown};
+ghost use Rattle.implib_archive.specs.Pushed.{AreDistinct, shown};
 ghost use Rattle.std.specs.Prelude.{◌≡◌, ◌++◌, ◌-◌, ◌^◌, [], IfOk, OnOk, fold, length, map, min};
+ghost use Rattle.std.specs.List.Sorted.{IsPermutation};
 ghost use Rattle.std.specs.String.{string_bytes};
 
 use crate::kind::Kind;
 use implib::Member;
 use indexmap::IndexMap;
 use std::alloc::{AllocError, Global};
-use std::collections::BTreeMap;
 
 // The entries of the index: symbols, and the numbers of their members from 1.
 pub(crate) fn entries_of<'a>(
@@ -110,30 +110,36 @@ fn push_first<'a>(
     Ok(())
 }
 
-// The entries in the order of their symbols' bytes.
+// The entries in the order of their symbols' bytes. A sort is quick where parts are in order
+// already, as imports and the other symbols often are, each for themselves.
 pub(crate) fn sorted<'a>(
     alloc: Global,
     entries: &[(&'a str, usize)],
 ) -> Result<Vec<(&'a str, usize)>, AllocError>
+    requires { AreDistinct (shown entries.now) }
     ensures { IfOk result (λ sorted. shown sorted.items ≡ sorted_entries (shown entries.now)) }
 {
-    let mut sorted = BTreeMap::new(alloc);
-    for entry in entries {
-        sorted.insert(entry.0, entry.1)?;
-    }
-    listed(alloc, sorted)
+    let mut sorted = imports_first(alloc, entries)?;
+    sorted.sort()?;
+    Ok(sorted)
 }
 
-// The entries of a map, in its order.
-fn listed<'a>(
+// The entries, those of imports before the others.
+fn imports_first<'a>(
     alloc: Global,
-    sorted: BTreeMap<&'a str, usize>,
+    entries: &[(&'a str, usize)],
 ) -> Result<Vec<(&'a str, usize)>, AllocError>
-    ensures { IfOk result (λ entries. shown entries.items ≡ shown sorted.entry.entries) }
+    ensures { IfOk result (λ parted. IsPermutation entries.now parted.items) }
 {
-    let mut entries = Vec::with_capacity(alloc, sorted.len())?;
-    for entry in sorted {
-        entries.push(entry)?;
+    let mut parted = Vec::with_capacity(alloc, entries.len())?;
+    let mut others = Vec::with_capacity(alloc, entries.len() / 2)?;
+    for entry in entries {
+        if entry.0.as_bytes().starts_with(b"__imp_") {
+            parted.push(*entry)?;
+        } else {
+            others.push(*entry)?;
+        }
     }
-    Ok(entries)
+    parted.append(&mut others)?;
+    Ok(parted)
 }

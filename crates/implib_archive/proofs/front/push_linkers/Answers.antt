@@ -8,6 +8,9 @@ use Rattle.implib_archive.proofs.Appended.{on_as, on_then, pushes_as, pushes_not
 use Rattle.implib_archive.proofs.Sized.{linkers-coff, linkers-gnu, linkers-none}
 use Rattle.implib_archive.proofs.front.push_linkers.Goals as goal
 
+pub sorted-requires : goal.sorted-requires
+sorted-requires c = c.requires.distinct c.in-Coff.is
+
 pub returns-then-is_empty : goal.returns-then-is_empty
 returns-then-is_empty c =
     let entries = shown c.args.entries.now in
