@@ -1,14 +1,14 @@
 -- The entries of the COFF kind have distinct symbols.
-use Rattle.std.proofs.Common.{◌≡◌, ℕ, Bool, true, false, ◌||◌, List, [], ◌∷◌, ◌++◌, bytes_eq, fold, if◌then◌else◌, map, refl, sym, ap, subst, ◌∙◌}
-use Rattle.std.specs.List.{IsDistinct, list_any}
+use Rattle.std.proofs.Common.{◌≡◌, ℕ, Bool, true, false, ◌||◌, List, [], ◌∷◌, ◌++◌, bytes_eq, fold, if◌then◌else◌, map, refl, sym, ap, subst, ◌∙◌, append_assoc, append-nil}
+use Rattle.std.specs.List.{AllByRecursion, IsDistinct, list_any}
 use Rattle.std.proofs.lemmas.Cmp.{nat_list_eq_equiv}
 use Rattle.std.proofs.lemmas.List.{map-append}
 use Rattle.std.proofs.lemmas.Map.Keys.{IsDistinct-push}
 use Rattle.implib.specs.Members.MemberSpec.{MemberView}
 use Rattle.implib_archive.specs.Archive.{entries_from, entries_of, is_listed, with_first}
 use Rattle.implib_archive.specs.Pushed.{AreDistinct}
-use Rattle.implib_archive.specs.declared.kind.Kind.{Kind}
-use Rattle.implib_archive.specs.declared.kind.Kind.TheVariants.{Coff, Gnu}
+use Rattle.implib_archive.specs.declared.kind.Kind.TheVariants.{Coff}
+use Rattle.implib_archive.proofs.Listed.{with_first-new}
 
 listed_symbols : (entries : List (List ℕ × ℕ)) (symbol : List ℕ) → list_any (bytes_eq symbol) (map (λ e. e.0) entries) ≡ is_listed entries symbol
 listed_symbols [] symbol = refl
@@ -20,7 +20,7 @@ one_first false found e new distinct =
     subst (IsDistinct bytes_eq) (sym (map-append (λ (x : List ℕ × ℕ). x.0) found (e ∷ [])))
     (IsDistinct-push nat_list_eq_equiv (map (λ x. x.0) found) e.0 distinct (listed_symbols found e.0 ∙ new))
 
-firsts_distinct : (found entries : List (List ℕ × ℕ)) → AreDistinct found → AreDistinct (fold with_first found entries)
+pub firsts_distinct : (found entries : List (List ℕ × ℕ)) → AreDistinct found → AreDistinct (fold with_first found entries)
 unfolding with_first
 firsts_distinct found [] distinct = distinct
 firsts_distinct found (e ∷ entries) distinct = firsts_distinct (with_first found e) entries (one_first (is_listed found e.0) found e refl distinct)
@@ -30,6 +30,28 @@ pub distinct_of-coff : (members : List MemberView) → AreDistinct (entries_of C
 unfolding entries_of IsDistinct
 distinct_of-coff members = firsts_distinct [] (entries_from 1 members) tt
 
-pub distinct_if_coff : (kind : Kind) (members : List MemberView) → kind ≡ Coff → AreDistinct (entries_of kind members)
-distinct_if_coff Coff members is = distinct_of-coff members
-distinct_if_coff Gnu members is = absurd (cc)
+pub distinct_firsts : (entries : List (List ℕ × ℕ)) → AreDistinct (fold with_first [] entries)
+unfolding IsDistinct
+distinct_firsts entries = firsts_distinct [] entries tt
+
+-- a symbol is not listed among distinct ones before it
+not_before : (found : List (List ℕ × ℕ)) (e : List ℕ × ℕ) (entries : List (List ℕ × ℕ)) → AreDistinct (found ++ e ∷ entries) → is_listed found e.0 ≡ false
+unfolding IsDistinct
+not_before [] e entries distinct = refl
+not_before (f ∷ found) e entries distinct =
+    ap (λ b. b || is_listed found e.0) (nat_list_eq_equiv.symm e.0 f.0 ∙ other found distinct.0) ∙ not_before found e entries distinct.1
+  where
+    other : (xs : List (List ℕ × ℕ)) → AllByRecursion (λ y. bytes_eq f.0 y ≡ false) (map (λ x. x.0) (xs ++ e ∷ entries)) → bytes_eq f.0 e.0 ≡ false
+    other [] all = all.0
+    other (x ∷ xs) all = other xs all.1
+
+all_first : (found entries : List (List ℕ × ℕ)) → AreDistinct (found ++ entries) → found ++ entries ≡ fold with_first found entries
+all_first found [] distinct = append-nil found
+all_first found (e ∷ entries) distinct =
+    let whole = append_assoc found (e ∷ []) entries in
+    let more = with_first-new found e (not_before found e entries distinct) in
+    sym whole ∙ (ap (λ t. t ++ entries) more ∙ all_first (with_first found e) entries (subst (λ t. AreDistinct (t ++ entries)) more (subst AreDistinct (sym whole) distinct)))
+
+-- of distinct symbols each entry is the first
+pub distinct_all_first : (entries : List (List ℕ × ℕ)) → AreDistinct entries → entries ≡ fold with_first [] entries
+distinct_all_first entries distinct = all_first [] entries distinct

@@ -13,7 +13,6 @@ use Rattle.implib_archive.specs.declared.kind.Kind.{Kind}
 use Rattle.implib_archive.specs.declared.kind.Kind.TheVariants.{Coff, Gnu}
 use Rattle.implib_archive.specs.declared.error.Fault.{Fault}
 use Rattle.implib_archive.specs.declared.error.Fault.TheVariants.{ArchiveTooLong, MemberTooLong, TooManyMembers}
-use Rattle.implib_archive.proofs.Distinct.{distinct_if_coff}
 use Rattle.implib_archive.proofs.Named.{names_bytes-push}
 use Rattle.implib_archive.proofs.Numbered.{Each, all_from_each, each_entry, each_sorted, each_weaker, sorted_as_many}
 use Rattle.implib_archive.proofs.Placed.{first_too_far}
@@ -396,7 +395,6 @@ front_fits kind members accepted =
           all_from_each (λ i. i < 2 ^ 16) (sorted_entries entries) (each_sorted (λ i. i < 2 ^ 16) entries
           (each_weaker (λ i. (0 < i) × (i ≤ n)) (λ i. i < 2 ^ 16) (λ i h. omega (arith, h.1, small)) entries (each_entry kind members)));
       second_short = λ is. second_fits kind members is short.second;
-      distinct = distinct_if_coff kind members;
     }
 
 -- What the code measures before it knows that the members are not refused: sizes as far as they are told apart.
@@ -446,11 +444,14 @@ capped_names {kind} {names} {found} {size} m = by_test (nat_lt size (2 ^ 32)) re
     by_test false far = let f = ltb-false size (2 ^ 32) far in omega (arith, f, m.long f)
 
 -- Of an archive that was made, front and members are all its bytes.
-module _ {kind : Kind} {members : List MemberView} {listed offsets : List (List ℕ × ℕ)} {size : ℕ} {places : List ℕ} {end' : ℕ} (made : IsMade kind members listed offsets size places end') where
+module _ {kind : Kind} {members : List MemberView} {listed sorted offsets : List (List ℕ × ℕ)} {size : ℕ} {places : List ℕ} {end' : ℕ} (made : IsMade kind members listed sorted offsets size places end') where
   pub front_made : front kind places listed offsets ≡ front_of kind members
   unfolding front_of
   front_made = ap (λ p. front kind p listed offsets) made.placed
       ∙ (ap (λ e. front kind (places_of kind members) e offsets) made.listed ∙ ap (front kind (places_of kind members) (entries_of kind members)) made.named)
+
+  pub ordered_made : kind ≡ Coff → sorted ≡ sorted_entries listed
+  ordered_made is = made.ordered is ∙ ap sorted_entries (sym made.listed)
 
   pub archive_made : front_of kind members ++ flat_map (member_part offsets) members ≡ archive_of kind members
   unfolding archive_of

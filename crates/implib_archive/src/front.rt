@@ -2,10 +2,11 @@
 
 ghost use Rattle.implib_archive.specs.Archive.{first_linker, front, linker_label, linkers};
 ghost use Rattle.implib_archive.specs.Archive.{name_end, names_bytes, names_label, names_part};
-ghost use Rattle.implib_archive.specs.Archive.{place_of, second_linker, strings_of};
+ghost use Rattle.implib_archive.specs.Archive.{place_of, second_linker, sorted_entries, strings_of};
 ghost use Rattle.implib_archive.specs.Parts.{padded_part_bytes, u16_le, u32_be, u32_le};
 ghost use Rattle.implib_archive.specs.Pushed.{FrontFits, Pushes, label_view, shown};
 ghost use Rattle.implib_archive.specs.declared.kind.Kind.{Kind};
+ghost use Rattle.implib_archive.specs.declared.kind.Kind.TheVariants.{Coff};
 ghost use Rattle.std.specs.List.{All};
 ghost use Rattle.std.specs.Prelude.{◌≡◌, ◌++◌, ◌+◌, ◌*◌, ◌^◌, ◌<◌, ◌≤◌, ◌∷◌, [], OnOk, flat_map};
 ghost use Rattle.std.specs.Prelude.{length, ℕ};
@@ -13,21 +14,21 @@ ghost use Rattle.std.specs.Prelude.{length, ℕ};
 use crate::bytes::{
     Label, Texts, push_header, push_padding, push_u16_le, push_u32_be, push_u32_le,
 };
-use crate::entries::sorted;
 use crate::kind::Kind;
 use crate::long_names::LongNames;
 use crate::places::strings_size;
-use std::alloc::{AllocError, Global};
+use std::alloc::AllocError;
 
 // Appends the front of an archive with these entries, long names and member offsets.
 pub(crate) fn push_front(
     out: &mut Vec<u8>,
-    alloc: Global,
     kind: Kind,
     entries: &[(&str, usize)],
+    sorted: &[(&str, usize)],
     names: &LongNames,
     places: &[u32],
 ) -> Result<(), AllocError>
+    requires ordered { kind ≡ Coff → shown sorted.now ≡ sorted_entries (shown entries.now) }
     requires fits { FrontFits kind places.now (shown entries.now) }
     requires short { names.now.size < 2 ^ 32 }
     requires measured { names.now.size
@@ -36,27 +37,27 @@ pub(crate) fn push_front(
         (front kind places.now (shown entries.now) (shown names.now.offsets.entries))) }
 {
     out.extend_from_slice(b"!<arch>\n")?;
-    push_linkers(out, alloc, kind, entries, places)?;
+    push_linkers(out, kind, entries, sorted, places)?;
     push_names(out, kind, names)
 }
 
 // Appends the linker members.
 fn push_linkers(
     out: &mut Vec<u8>,
-    alloc: Global,
     kind: Kind,
     entries: &[(&str, usize)],
+    sorted: &[(&str, usize)],
     places: &[u32],
 ) -> Result<(), AllocError>
-    requires { FrontFits kind places.now (shown entries.now) }
+    requires ordered { kind ≡ Coff → shown sorted.now ≡ sorted_entries (shown entries.now) }
+    requires fits { FrontFits kind places.now (shown entries.now) }
     ensures { OnOk result
         (Pushes out.old.items out.new.items (linkers kind places.now (shown entries.now))) }
 {
     match kind {
         Kind::Coff => {
             push_first_linker(out, entries, places)?;
-            let sorted = sorted(alloc, entries)?;
-            push_second_linker(out, sorted.as_slice(), places)
+            push_second_linker(out, sorted, places)
         }
         Kind::Gnu => {
             if entries.is_empty() {

@@ -10,7 +10,7 @@ ghost use Rattle.implib_archive.specs.Written.{Writes};
 ghost use Rattle.std.specs.Prelude.{◌≡◌, ◌++◌, ◌^◌, IfErr, IfOk, None, OnOk, flat_map, length, map};
 ghost use Rattle.std.specs.Prelude.{min};
 
-use crate::entries::entries_of;
+use crate::entries::{Entries, entries_of};
 use crate::error::{Error, Fault, WriteError};
 use crate::front::push_front;
 use crate::kind::Kind;
@@ -28,7 +28,7 @@ use std::marker::Model;
 pub struct Archive<'a> {
     members: &'a [Member],
     kind: Kind,
-    entries: Vec<(&'a str, usize)>,
+    entries: Entries<'a>,
     names: LongNames<'a>,
     places: Places,
 }
@@ -43,8 +43,9 @@ impl<'a> Model for Archive<'a> {
 
     ghost view = { λ a. record { kind = a.kind; members = map member_view a.members.now } };
 
-    ghost invariant = { λ a. IsMade a.kind (map member_view a.members.now) (shown a.entries.items)
-        (shown a.names.offsets.entries) a.names.size a.places.offsets.items a.places.end };
+    ghost invariant = { λ a. IsMade a.kind (map member_view a.members.now)
+        (shown a.entries.listed.items) (shown a.entries.sorted.items) (shown a.names.offsets.entries)
+        a.names.size a.places.offsets.items a.places.end };
 }
 
 impl<'a> Archive<'a> {
@@ -67,7 +68,7 @@ impl<'a> Archive<'a> {
         }
         let entries = entries_of(alloc, members, kind)?;
         let names = LongNames::of(alloc, members, kind)?;
-        let first = first_place(kind, members, entries.as_slice(), &names);
+        let first = first_place(kind, members, entries.listed.as_slice(), &names);
         let places = place_members(alloc, first, members)?;
         Ok(Archive {
             members,
@@ -94,7 +95,7 @@ impl<'a> Archive<'a> {
         ensures { IfOk result (λ bytes. bytes.items ≡ archive_of self.now.kind self.now.members) }
     {
         let mut bytes = Vec::with_capacity(alloc, self.places.end as usize)?;
-        self.push_start(&mut bytes, alloc)?;
+        self.push_start(&mut bytes)?;
         push_members(&mut bytes, &self.names, self.members)?;
         Ok(bytes)
     }
@@ -113,18 +114,19 @@ impl<'a> Archive<'a> {
             (archive_of self.now.kind self.now.members) result }
     {
         let mut front = Vec::with_capacity(alloc, self.places.first as usize)?;
-        self.push_start(&mut front, alloc)?;
+        self.push_start(&mut front)?;
         write_parts(writer, alloc, front.as_slice(), &self.names, self.members)
     }
 
     // Appends the front.
-    fn push_start(&self, out: &mut Vec<u8>, alloc: Global) -> Result<(), AllocError>
+    fn push_start(&self, out: &mut Vec<u8>) -> Result<(), AllocError>
         ensures { OnOk result (Pushes out.old.items out.new.items
             (front_of self.now.kind self.now.members)) }
     {
-        let entries = self.entries.as_slice();
+        let entries = self.entries.listed.as_slice();
+        let sorted = self.entries.sorted.as_slice();
         let places = self.places.offsets.as_slice();
-        push_front(out, alloc, self.kind, entries, &self.names, places)
+        push_front(out, self.kind, entries, sorted, &self.names, places)
     }
 }
 
