@@ -20,6 +20,7 @@ use Rattle.implib_archive.specs.Refusal.{has_byte, has_short_places, member_refu
 use Rattle.implib_archive.specs.declared.error.Fault.TheVariants.{ArchiveTooLong, EmptySymbol, MemberTooLong, NulInSymbol}
 use Rattle.implib_archive.specs.declared.kind.Kind.{Kind}
 use Rattle.implib_archive.specs.declared.kind.Kind.TheVariants.{Coff, Gnu}
+use Rattle.implib_archive.proofs.Distinct.{distinct_of-coff}
 use Rattle.implib_archive.proofs.FoundIndex.{AreReadable, AreTexts, header_found, second_found}
 use Rattle.implib_archive.proofs.FoundMembers.{archive_named, first_none, members_found, members_read_back, some_none}
 use Rattle.implib_archive.proofs.FoundNames.{HasName, HaveNames, linker_named, long_names_named}
@@ -312,7 +313,7 @@ each_second_leads members accepted =
       headers = headers_found Coff members accepted;
       rises = entries_rise entries;
       same = λ symbol. second_there members symbol found
-          ∙ (ap (option_and_then (numbered places)) (sorted_lookup members symbol)
+          ∙ (ap (option_and_then (numbered places)) (sorted_lookup entries symbol (distinct_of-coff members))
           ∙ (numbers_lead places symbol entries within
           ∙ (sym (lookup_mapped symbol (place_of places) entries) ∙ sym (header_found Coff members symbol accepted r))));
     }

@@ -1,5 +1,6 @@
 pub mod Appended
 pub mod Chosen
+pub mod Distinct
 pub mod FoundIndex
 pub mod FoundMembers
 pub mod FoundNames

@@ -4,21 +4,23 @@ use Rattle.std.specs.declared.cmp.Ordering.{Ordering}
 use Rattle.std.specs.declared.cmp.Ordering.TheVariants.{Less, Equal, Greater}
 use Rattle.std.specs.BTreeMap.{insert_entry}
 use Rattle.std.specs.Cmp.Lexicographic.{slice_cmp}
-use Rattle.std.specs.List.{AllByRecursion, list_any}
+use Rattle.std.specs.List.{AllByRecursion, IsDistinct, list_any}
 use Rattle.std.specs.List.Sorted.{IsStrictlySortedBy}
 use Rattle.std.specs.Map.{lookup}
 use Rattle.std.specs.Option.{option_map}
 use Rattle.std.specs.Ordering.{is_eq, match_ordering, nat_cmp, ordering_reverse}
 use Rattle.std.proofs.lemmas.Bool.{true≢false}
-use Rattle.std.proofs.lemmas.Cmp.{nat_list_cmp_total}
+use Rattle.std.proofs.lemmas.Cmp.{nat_list_cmp_total, nat_list_eq_equiv}
+use Rattle.std.proofs.lemmas.Map.{lookup-none}
+use Rattle.std.proofs.lemmas.Map.Entries.{none_past_head}
 use Rattle.std.proofs.lemmas.Map.Text.{is_eq-slice_cmp}
 use Rattle.std.proofs.lemmas.Slice.Eq.{bytes_eq-Decides}
 use Rattle.implib.specs.Members.MemberSpec.{MemberView}
 use Rattle.implib_archive.specs.Archive.{entries_from, entries_of, is_listed, place_of, sorted_entries, with_first}
 use Rattle.implib_archive.specs.Leads.{first_lister, lists}
+use Rattle.implib_archive.specs.Pushed.{AreDistinct}
 use Rattle.implib_archive.specs.declared.kind.Kind.{Kind}
 use Rattle.implib_archive.specs.declared.kind.Kind.TheVariants.{Coff, Gnu}
-use Rattle.implib_archive.proofs.Numbered.{sorted_push}
 
 -- One list after another.
 
@@ -208,34 +210,31 @@ module _ (k : List ℕ) (v : ℕ) where
       by_place Equal is rest = rises
       by_place Greater is rest = (keys_above e.0 entries (nat_list_cmp_total.antisymm e.0 k ∙ ap ordering_reverse is) rises.0, rest)
 
--- sorting does not change what is found
-sorted_found : (found entries : List (List ℕ × ℕ)) (s : List ℕ) → ((t : List ℕ) → lookup (bytes_eq t) (sorted_entries found) ≡ lookup (bytes_eq t) found)
-    → lookup (bytes_eq s) (sorted_entries (fold with_first found entries)) ≡ lookup (bytes_eq s) (fold with_first found entries)
-unfolding with_first
-sorted_found found [] s same = same s
-sorted_found found (e ∷ entries) s same = sorted_found (with_first found e) entries s (λ t. one_more t (is_listed found e.0) refl)
+-- what is found among entries that were inserted one after another
+inserted_all : (sorted entries : List (List ℕ × ℕ)) (s : List ℕ) → AreDistinct entries
+    → lookup (bytes_eq s) (fold (λ x e. insert_entry (slice_cmp nat_cmp) x e.0 e.1) sorted entries) ≡ or_else (lookup (bytes_eq s) entries) (lookup (bytes_eq s) sorted)
+unfolding IsDistinct
+inserted_all sorted [] s distinct = refl
+inserted_all sorted (e ∷ entries) s distinct =
+    inserted_all (insert_entry (slice_cmp nat_cmp) sorted e.0 e.1) entries s distinct.1
+    ∙ (ap (or_else (lookup (bytes_eq s) entries)) (inserted_lookup e.0 e.1 s sorted) ∙ by_test (bytes_eq s e.0) (lookup (bytes_eq s) entries) (lookup (bytes_eq s) sorted) alone)
   where
-    last : (t : List ℕ) (r : Option ℕ) (b : Bool) → (b ≡ true → r ≡ None) → cond b (Some e.1) r ≡ or_else r (cond b (Some e.1) None)
-    last t (Some n) true none = absurd (let no : Some n ≡ None = none refl in cc)
-    last t (Some n) false none = refl
-    last t None b none = refl
+    by_test : (b : Bool) (r other : Option ℕ) → (b ≡ true → r ≡ None) → or_else r (cond b (Some e.1) other) ≡ or_else (cond b (Some e.1) r) other
+    by_test true (Some n) other none = absurd (let no : Some n ≡ None = none refl in cc)
+    by_test true None other none = refl
+    by_test false r other none = refl
 
-    absent : (t : List ℕ) (r : Option ℕ) → lookup (bytes_eq t) found ≡ r → is_listed found e.0 ≡ false → bytes_eq t e.0 ≡ true → r ≡ None
-    absent t None is new same = refl
-    absent t (Some n) is new same =
-        let some : is_some (lookup (bytes_eq t) found) ≡ true = ap is_some is in
-        absurd (true≢false (sym some ∙ (lookup_listed t found ∙ (ap (is_listed found) ((bytes_eq-Decides t e.0).0 same) ∙ new))))
+    alone : bytes_eq s e.0 ≡ true → lookup (bytes_eq s) entries ≡ None
+    alone same = lookup-none (bytes_eq s) entries (none_past_head nat_list_eq_equiv s e entries distinct same)
 
-    one_more : (t : List ℕ) (b : Bool) → is_listed found e.0 ≡ b → lookup (bytes_eq t) (sorted_entries (if b then found else found ++ e ∷ [])) ≡ lookup (bytes_eq t) (if b then found else found ++ e ∷ [])
-    one_more t true here = same t
-    one_more t false new =
-        ap (lookup (bytes_eq t)) (sorted_push found e) ∙ (inserted_lookup e.0 e.1 t (sorted_entries found)
-        ∙ (ap (cond (bytes_eq t e.0) (Some e.1)) (same t)
-        ∙ (last t (lookup (bytes_eq t) found) (bytes_eq t e.0) (absent t (lookup (bytes_eq t) found) refl new) ∙ sym (lookup_both t found (e ∷ [])))))
+or_none : (r : Option ℕ) → or_else r None ≡ r
+or_none (Some n) = refl
+or_none None = refl
 
-pub sorted_lookup : (members : List MemberView) (s : List ℕ) → lookup (bytes_eq s) (sorted_entries (entries_of Coff members)) ≡ lookup (bytes_eq s) (entries_of Coff members)
-unfolding entries_of sorted_entries
-sorted_lookup members s = sorted_found [] (entries_from 1 members) s (λ t. refl)
+-- sorting entries of distinct symbols does not change what is found
+pub sorted_lookup : (entries : List (List ℕ × ℕ)) (s : List ℕ) → AreDistinct entries → lookup (bytes_eq s) (sorted_entries entries) ≡ lookup (bytes_eq s) entries
+unfolding sorted_entries
+sorted_lookup entries s distinct = inserted_all [] entries s distinct ∙ or_none (lookup (bytes_eq s) entries)
 
 sorted_rise : (sorted entries : List (List ℕ × ℕ)) → IsStrictlySortedBy (slice_cmp nat_cmp) (map (λ e. e.0) sorted)
     → IsStrictlySortedBy (slice_cmp nat_cmp) (map (λ e. e.0) (fold (λ sorted e. insert_entry (slice_cmp nat_cmp) sorted e.0 e.1) sorted entries))

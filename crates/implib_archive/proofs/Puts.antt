@@ -9,7 +9,7 @@ use Rattle.std.proofs.lemmas.List.{take_more, take_rest, take-append-drop}
 use Rattle.implib.specs.Members.MemberSpec.{MemberView}
 use Rattle.implib_archive.specs.Archive.{member_part}
 use Rattle.implib_archive.specs.Parts.{padding, part_bytes}
-use Rattle.implib_archive.specs.Pushed.{header_of}
+use Rattle.implib_archive.specs.Pushed.{Pushes, header_of}
 use Rattle.implib_archive.specs.Written.{AppendsUpTo, Writes}
 
 pub appends_then : (a b c : Option (List ℕ)) (x y : List ℕ) → Appends a b x → Appends b c y → Appends a c (x ++ y)
@@ -56,6 +56,10 @@ writes_as r a b e q = subst (λ t. Writes a b t r) e q
 pub writes_err : {T E : Type 0} (r : Result T E) (a b : Option (List ℕ)) (x : List ℕ) → IsErr r → AppendsBeginning a b x → Writes a b x r
 writes_err (Ok u) a b x is q = absurd (true≢false (sym is))
 writes_err (Err e) a b x is q = q
+
+-- what an empty buffer has after bytes
+pub piece_is : {old new bytes slice : List ℕ} → slice ≡ new → Pushes old new bytes → old ≡ [] → slice ≡ bytes
+piece_is {old} {new} {bytes} {slice} same pushed empty = same ∙ (pushed.whole ∙ ap (λ t. t ++ bytes) empty)
 
 -- one write more
 pub up_to_more : (a b c : Option (List ℕ)) (bytes rest : List ℕ) (count : ℕ) → AppendsUpTo a b bytes rest → Appends b c (take count rest)

@@ -444,11 +444,14 @@ capped_names {kind} {names} {found} {size} m = by_test (nat_lt size (2 ^ 32)) re
     by_test false far = let f = ltb-false size (2 ^ 32) far in omega (arith, f, m.long f)
 
 -- Of an archive that was made, front and members are all its bytes.
-module _ {kind : Kind} {members : List MemberView} {listed offsets : List (List ℕ × ℕ)} {size : ℕ} {places : List ℕ} {end' : ℕ} (made : IsMade kind members listed offsets size places end') where
+module _ {kind : Kind} {members : List MemberView} {listed sorted offsets : List (List ℕ × ℕ)} {size : ℕ} {places : List ℕ} {end' : ℕ} (made : IsMade kind members listed sorted offsets size places end') where
   pub front_made : front kind places listed offsets ≡ front_of kind members
   unfolding front_of
   front_made = ap (λ p. front kind p listed offsets) made.placed
       ∙ (ap (λ e. front kind (places_of kind members) e offsets) made.listed ∙ ap (front kind (places_of kind members) (entries_of kind members)) made.named)
+
+  pub ordered_made : kind ≡ Coff → sorted ≡ sorted_entries listed
+  ordered_made is = made.ordered is ∙ ap sorted_entries (sym made.listed)
 
   pub archive_made : front_of kind members ++ flat_map (member_part offsets) members ≡ archive_of kind members
   unfolding archive_of

@@ -32,6 +32,8 @@ worked_archives = record {
   no_coff_symbols = refl;
   no_gnu_members = refl;
   no_coff_members = refl;
+  name_of_15_bytes = refl;
+  name_of_16_bytes = refl;
 }
 
 pub worked_readings : WorkedReadings

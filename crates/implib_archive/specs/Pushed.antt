@@ -1,7 +1,10 @@
 -- View: what the code's functions have appended and measured.
-use Rattle.std.specs.Prelude.{◌≡◌, ℕ, ◌+◌, ◌*◌, ◌^◌, ◌<◌, ◌≤◌, List, [], ◌++◌, Option, None, Some, codes, length, map}
+use Rattle.std.specs.Prelude.{◌≡◌, ℕ, ◌+◌, ◌*◌, ◌^◌, ◌<◌, ◌≤◌, List, [], ◌++◌, Option, None, Some, bytes_eq, codes, length, map}
 use Rattle.std.specs.Borrow.{Bor}
-use Rattle.std.specs.List.{All}
+use Rattle.std.specs.List.{All, IsDistinct}
+use Rattle.std.specs.Cmp.Lexicographic.{slice_cmp}
+use Rattle.std.specs.Ordering.{nat_cmp, ordering_then}
+use Rattle.std.specs.declared.cmp.Ordering.{Ordering}
 use Rattle.implib_archive.specs.Archive.{end_from, entries_of, first_place, long_names, member_label, names_bytes, places_of, sorted_entries, strings_of}
 use Rattle.implib_archive.specs.Refusal.{refusal_of}
 use Rattle.implib_archive.specs.declared.error.Error.{Error}
@@ -24,6 +27,14 @@ pub record Pushes (old new bytes : List ℕ) : Type 0 where
 -- entries or long names of borrowed texts
 abbrev pub shown : List (Bor (List ℕ) × ℕ) → List (List ℕ × ℕ)
 shown pairs = map (λ e. (e.0.now, e.1)) pairs
+
+-- no symbol has two entries
+abbrev pub AreDistinct : List (List ℕ × ℕ) → Type 0
+AreDistinct entries = IsDistinct bytes_eq (map (λ e. e.0) entries)
+
+-- the order of entries in the code: by symbols, and of one symbol by numbers
+abbrev pub entry_cmp : Bor (List ℕ) × ℕ → Bor (List ℕ) × ℕ → Ordering
+entry_cmp x y = ordering_then (slice_cmp nat_cmp x.0.now y.0.now) (nat_cmp x.1 y.1)
 
 -- the date of a header, and its user and group
 abbrev pub owner_of : Texts → List ℕ
@@ -69,11 +80,16 @@ pub record FrontFits (kind : Kind) (places : List ℕ) (entries : List (List ℕ
   pub second_short : kind ≡ Coff
       → 8 + 4 * length places + 2 * length (sorted_entries entries) + length (strings_of (sorted_entries entries)) < 2 ^ 32
 
+-- entries of members in the order of their symbols, of the COFF kind
+abbrev pub AreInOrder : Kind → List MemberView → List (List ℕ × ℕ) → Type 0
+AreInOrder kind members sorted = kind ≡ Coff → sorted ≡ sorted_entries (entries_of kind members)
+
 -- members that have an archive, with what is kept of them to write it
-pub record IsMade (kind : Kind) (members : List MemberView) (entries offsets : List (List ℕ × ℕ)) (size : ℕ) (places : List ℕ) (end' : ℕ)
-    : Type 0 where
+pub record IsMade (kind : Kind) (members : List MemberView) (entries sorted offsets : List (List ℕ × ℕ)) (size : ℕ) (places : List ℕ)
+    (end' : ℕ) : Type 0 where
   pub accepted : refusal_of kind members ≡ None
   pub listed : entries ≡ entries_of kind members
+  pub ordered : AreInOrder kind members sorted
   pub named : offsets ≡ long_names kind members
   pub sized : size ≡ length (names_bytes kind (long_names kind members))
   pub placed : places ≡ places_of kind members

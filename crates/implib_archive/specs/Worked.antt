@@ -1,12 +1,12 @@
 -- Whole archives of both kinds with every byte written out, worked by hand: a second statement of the tables
 -- and of the reader.
-use Rattle.std.specs.Prelude.{◌≡◌, ◌<◌, ◌≤◌, ◌^◌, ℕ, List, [], ◌∷◌, ◌++◌, None, Some, codes, drop, false, length, replicate, reverse}
+use Rattle.std.specs.Prelude.{◌≡◌, ◌<◌, ◌≤◌, ◌^◌, ℕ, List, [], ◌∷◌, ◌++◌, None, Some, codes, drop, false, length, replicate, reverse, true}
 use Rattle.std.specs.Cmp.Lexicographic.{slice_cmp}
 use Rattle.std.specs.List.Sorted.{IsStrictlySortedBy}
 use Rattle.std.specs.Ordering.{nat_cmp}
 use Rattle.implib.specs.Members.MemberSpec.{MemberView}
 use Rattle.implib.specs.Worked.Digits.{hex}
-use Rattle.implib_archive.specs.Archive.{archive_of}
+use Rattle.implib_archive.specs.Archive.{archive_of, is_long}
 use Rattle.implib_archive.specs.Leads.{IndexLeads, SecondLeads, header_for, headers_in, second_header_for}
 use Rattle.implib_archive.specs.ReadBack.{AreLaidOut, AreReadBack}
 use Rattle.implib_archive.specs.Reader.{Read, Stored, first_in, member_at, members_in, second_in, stored_at, stored_in}
@@ -87,7 +87,7 @@ worked_gnu =
     ++ hex "34 20 20 20 20 20 32 20 20 20 20 20 20 20 20 20 60 0a 04 05"
 
 -- The archives of the worked members, of the one with odd linker members, of the same without symbols, and of no
--- members, have these bytes.
+-- members, have these bytes. A header's field has room for a name of 15 bytes and the slash after it.
 pub record WorkedArchives : Type 0 where
   pub coff : archive_of Coff worked_members ≡ worked_coff
   pub gnu : archive_of Gnu worked_members ≡ worked_gnu
@@ -102,6 +102,8 @@ pub record WorkedArchives : Type 0 where
   pub no_coff_members : archive_of Coff []
       ≡ codes "!<arch>\n/               0           0     0     0       4         `\n" ++ replicate 4 0
       ++ codes "/               0           0     0     0       8         `\n" ++ replicate 8 0
+  pub name_of_15_bytes : is_long (codes "fifteen_bytes.o") ≡ false
+  pub name_of_16_bytes : is_long (codes "sixteen__bytes.o") ≡ true
 
 -- The bytes are read as the members, with these indexes, whose offsets lead to the members.
 pub record WorkedReadings : Type 0 where

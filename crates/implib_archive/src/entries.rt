@@ -3,29 +3,42 @@
 ghost use Rattle.implib.specs.Library.{member_view};
 ghost use Rattle.implib_archive.specs.Archive.{entries_from, entries_of, sorted_entries};
 ghost use Rattle.implib_archive.specs.Archive.{with_first};
-ghost use Rattle.implib_archive.specs.Pushed.{shown};
+ghost use Rattle.implib_archive.specs.Pushed.{AreDistinct, AreInOrder, entry_cmp, shown};
 ghost use Rattle.std.specs.Prelude.{◌≡◌, ◌++◌, ◌-◌, ◌^◌, [], IfOk, OnOk, fold, length, map, min};
+ghost use Rattle.std.specs.Bool.{MatchBool};
+ghost use Rattle.std.specs.List.Sorted.{IsPermutation, IsSorted};
 ghost use Rattle.std.specs.String.{string_bytes};
 
 use crate::kind::Kind;
 use implib::Member;
 use indexmap::IndexMap;
 use std::alloc::{AllocError, Global};
-use std::collections::BTreeMap;
+
+// The entries of the index, and of the COFF kind the same in the order of their symbols' bytes.
+#[derive(Drop)]
+pub(crate) struct Entries<'a> {
+    pub(crate) listed: Vec<(&'a str, usize)>,
+    pub(crate) sorted: Vec<(&'a str, usize)>,
+}
 
 // The entries of the index: symbols, and the numbers of their members from 1.
 pub(crate) fn entries_of<'a>(
     alloc: Global,
     members: &'a [Member],
     kind: Kind,
-) -> Result<Vec<(&'a str, usize)>, AllocError>
-    ensures { IfOk result (λ entries. shown entries.items
+) -> Result<Entries<'a>, AllocError>
+    ensures listed { IfOk result (λ entries. shown entries.listed.items
         ≡ entries_of kind (map member_view members.now)) }
+    ensures sorted { IfOk result (λ entries. AreInOrder kind (map member_view members.now)
+        (shown entries.sorted.items)) }
 {
-    let entries = all_entries(alloc, members)?;
+    let listed = all_entries(alloc, members)?;
     match kind {
-        Kind::Gnu => Ok(entries),
-        Kind::Coff => first_entries(alloc, &entries),
+        Kind::Gnu => {
+            let sorted = Vec::new(alloc);
+            Ok(Entries { listed, sorted })
+        }
+        Kind::Coff => first_entries(alloc, listed),
     }
 }
 
@@ -74,8 +87,31 @@ fn push_entries<'a>(
     Ok(())
 }
 
-// The first entry of each symbol.
+// The first entry of each symbol, also in the order of their symbols' bytes. Where sorted entries
+// repeat no symbol, each is the first.
 fn first_entries<'a>(
+    alloc: Global,
+    entries: Vec<(&'a str, usize)>,
+) -> Result<Entries<'a>, AllocError>
+    ensures listed { IfOk result (λ firsts. shown firsts.listed.items
+        ≡ fold with_first [] (shown entries.entry.items)) }
+    ensures sorted { IfOk result (λ firsts. shown firsts.sorted.items
+        ≡ sorted_entries (fold with_first [] (shown entries.entry.items))) }
+{
+    let sorted = in_order(alloc, entries.as_slice())?;
+    if are_distinct(sorted.as_slice()) {
+        return Ok(Entries {
+            listed: entries,
+            sorted,
+        });
+    }
+    let listed = first_of_each(alloc, entries.as_slice())?;
+    let sorted = in_order(alloc, listed.as_slice())?;
+    Ok(Entries { listed, sorted })
+}
+
+// The first entry of each symbol.
+fn first_of_each<'a>(
     alloc: Global,
     entries: &[(&'a str, usize)],
 ) -> Result<Vec<(&'a str, usize)>, AllocError>
@@ -110,30 +146,50 @@ fn push_first<'a>(
     Ok(())
 }
 
-// The entries in the order of their symbols' bytes.
-pub(crate) fn sorted<'a>(
+// The entries in the order of their symbols' bytes, and of one symbol in that of their numbers. A
+// sort is quick where parts are in order already, as imports and the other symbols often are, each
+// for themselves.
+fn in_order<'a>(
     alloc: Global,
     entries: &[(&'a str, usize)],
 ) -> Result<Vec<(&'a str, usize)>, AllocError>
-    ensures { IfOk result (λ sorted. shown sorted.items ≡ sorted_entries (shown entries.now)) }
+    ensures same { IfOk result (λ sorted. IsPermutation entries.now sorted.items) }
+    ensures order { IfOk result (λ sorted. IsSorted entry_cmp sorted.items) }
 {
-    let mut sorted = BTreeMap::new(alloc);
-    for entry in entries {
-        sorted.insert(entry.0, entry.1)?;
-    }
-    listed(alloc, sorted)
+    let mut sorted = imports_first(alloc, entries)?;
+    sorted.sort()?;
+    Ok(sorted)
 }
 
-// The entries of a map, in its order.
-fn listed<'a>(
-    alloc: Global,
-    sorted: BTreeMap<&'a str, usize>,
-) -> Result<Vec<(&'a str, usize)>, AllocError>
-    ensures { IfOk result (λ entries. shown entries.items ≡ shown sorted.entry.entries) }
+// Whether no symbol of sorted entries is repeated.
+fn are_distinct(sorted: &[(&str, usize)]) -> bool
+    requires { IsSorted entry_cmp sorted.now }
+    ensures { MatchBool result (AreDistinct (shown sorted.now)) (AreDistinct (shown sorted.now) → ⊥) }
 {
-    let mut entries = Vec::with_capacity(alloc, sorted.len())?;
-    for entry in sorted {
-        entries.push(entry)?;
+    for i in 1..sorted.len() {
+        if sorted[i - 1].0 == sorted[i].0 {
+            return false;
+        }
     }
-    Ok(entries)
+    true
+}
+
+// The entries, those of imports before the others.
+fn imports_first<'a>(
+    alloc: Global,
+    entries: &[(&'a str, usize)],
+) -> Result<Vec<(&'a str, usize)>, AllocError>
+    ensures { IfOk result (λ parted. IsPermutation entries.now parted.items) }
+{
+    let mut parted = Vec::with_capacity(alloc, entries.len())?;
+    let mut others = Vec::with_capacity(alloc, entries.len() / 2)?;
+    for entry in entries {
+        if entry.0.as_bytes().starts_with(b"__imp_") {
+            parted.push(*entry)?;
+        } else {
+            others.push(*entry)?;
+        }
+    }
+    parted.append(&mut others)?;
+    Ok(parted)
 }

@@ -2,10 +2,12 @@
 
 ghost use Rattle.implib_archive.specs.Archive.{first_linker, front, linker_label, linkers};
 ghost use Rattle.implib_archive.specs.Archive.{name_end, names_bytes, names_label, names_part};
-ghost use Rattle.implib_archive.specs.Archive.{place_of, second_linker, strings_of};
-ghost use Rattle.implib_archive.specs.Parts.{padded_part_bytes, u16_le, u32_be, u32_le};
+ghost use Rattle.implib_archive.specs.Archive.{place_of, second_linker, sorted_entries, strings_of};
+ghost use Rattle.implib_archive.specs.Parts.{padded_part_bytes, signature, u16_le, u32_be, u32_le};
 ghost use Rattle.implib_archive.specs.Pushed.{FrontFits, Pushes, label_view, shown};
+ghost use Rattle.implib_archive.specs.Written.{Writes};
 ghost use Rattle.implib_archive.specs.declared.kind.Kind.{Kind};
+ghost use Rattle.implib_archive.specs.declared.kind.Kind.TheVariants.{Coff};
 ghost use Rattle.std.specs.List.{All};
 ghost use Rattle.std.specs.Prelude.{◌≡◌, ◌++◌, ◌+◌, ◌*◌, ◌^◌, ◌<◌, ◌≤◌, ◌∷◌, [], OnOk, flat_map};
 ghost use Rattle.std.specs.Prelude.{length, ℕ};
@@ -13,21 +15,24 @@ ghost use Rattle.std.specs.Prelude.{length, ℕ};
 use crate::bytes::{
     Label, Texts, push_header, push_padding, push_u16_le, push_u32_be, push_u32_le,
 };
-use crate::entries::sorted;
+use crate::error::WriteError;
 use crate::kind::Kind;
 use crate::long_names::LongNames;
-use crate::places::strings_size;
-use std::alloc::{AllocError, Global};
+use crate::offsets::strings_size;
+use crate::output::put;
+use std::alloc::AllocError;
+use std::io;
 
 // Appends the front of an archive with these entries, long names and member offsets.
 pub(crate) fn push_front(
     out: &mut Vec<u8>,
-    alloc: Global,
     kind: Kind,
     entries: &[(&str, usize)],
+    sorted: &[(&str, usize)],
     names: &LongNames,
     places: &[u32],
 ) -> Result<(), AllocError>
+    requires ordered { kind ≡ Coff → shown sorted.now ≡ sorted_entries (shown entries.now) }
     requires fits { FrontFits kind places.now (shown entries.now) }
     requires short { names.now.size < 2 ^ 32 }
     requires measured { names.now.size
@@ -36,27 +41,122 @@ pub(crate) fn push_front(
         (front kind places.now (shown entries.now) (shown names.now.offsets.entries))) }
 {
     out.extend_from_slice(b"!<arch>\n")?;
-    push_linkers(out, alloc, kind, entries, places)?;
+    push_linkers(out, kind, entries, sorted, places)?;
     push_names(out, kind, names)
+}
+
+// Writes the front of an archive through an empty buffer, which has one linker member at a time.
+pub(crate) fn write_front<W: io::Write>(
+    writer: &mut W,
+    piece: &mut Vec<u8>,
+    kind: Kind,
+    entries: &[(&str, usize)],
+    sorted: &[(&str, usize)],
+    names: &LongNames,
+    places: &[u32],
+) -> Result<(), WriteError>
+    requires empty { piece.old.items ≡ [] }
+    requires ordered { kind ≡ Coff → shown sorted.now ≡ sorted_entries (shown entries.now) }
+    requires fits { FrontFits kind places.now (shown entries.now) }
+    requires short { names.now.size < 2 ^ 32 }
+    requires measured { names.now.size
+        ≡ length (names_bytes kind (shown names.now.offsets.entries)) }
+    ensures { Writes (W.contents writer.old) (W.contents writer.new)
+        (front kind places.now (shown entries.now) (shown names.now.offsets.entries)) result }
+{
+    write_linkers(writer, piece, kind, entries, sorted, places)?;
+    piece.clear();
+    push_names(piece, kind, names)?;
+    put(writer, piece.as_slice())?;
+    Ok(())
+}
+
+// Writes the signature and the linker members.
+fn write_linkers<W: io::Write>(
+    writer: &mut W,
+    piece: &mut Vec<u8>,
+    kind: Kind,
+    entries: &[(&str, usize)],
+    sorted: &[(&str, usize)],
+    places: &[u32],
+) -> Result<(), WriteError>
+    requires empty { piece.old.items ≡ [] }
+    requires ordered { kind ≡ Coff → shown sorted.now ≡ sorted_entries (shown entries.now) }
+    requires fits { FrontFits kind places.now (shown entries.now) }
+    ensures { Writes (W.contents writer.old) (W.contents writer.new)
+        (signature ++ linkers kind places.now (shown entries.now)) result }
+{
+    match kind {
+        Kind::Coff => write_both_linkers(writer, piece, entries, sorted, places),
+        Kind::Gnu => write_linkers_at_once(writer, piece, kind, entries, sorted, places),
+    }
+}
+
+// Writes the signature and the linker members together.
+fn write_linkers_at_once<W: io::Write>(
+    writer: &mut W,
+    piece: &mut Vec<u8>,
+    kind: Kind,
+    entries: &[(&str, usize)],
+    sorted: &[(&str, usize)],
+    places: &[u32],
+) -> Result<(), WriteError>
+    requires empty { piece.old.items ≡ [] }
+    requires ordered { kind ≡ Coff → shown sorted.now ≡ sorted_entries (shown entries.now) }
+    requires fits { FrontFits kind places.now (shown entries.now) }
+    ensures { Writes (W.contents writer.old) (W.contents writer.new)
+        (signature ++ linkers kind places.now (shown entries.now)) result }
+{
+    piece.extend_from_slice(b"!<arch>\n")?;
+    push_linkers(piece, kind, entries, sorted, places)?;
+    put(writer, piece.as_slice())?;
+    Ok(())
+}
+
+// Writes the signature and both linker members, one after the other.
+fn write_both_linkers<W: io::Write>(
+    writer: &mut W,
+    piece: &mut Vec<u8>,
+    entries: &[(&str, usize)],
+    sorted: &[(&str, usize)],
+    places: &[u32],
+) -> Result<(), WriteError>
+    requires empty { piece.old.items ≡ [] }
+    requires numbered { All (λ e. (0 < e.1) × (e.1 ≤ length places.now)) (shown entries.now) }
+    requires short { 4 + 4 * length entries.now + length (strings_of (shown entries.now)) < 2 ^ 32 }
+    requires numbers { All (λ e. e.1 < 2 ^ 16) (shown sorted.now) }
+    requires second_short { 8 + 4 * length places.now + 2 * length sorted.now
+        + length (strings_of (shown sorted.now)) < 2 ^ 32 }
+    ensures { Writes (W.contents writer.old) (W.contents writer.new) (signature
+        ++ padded_part_bytes linker_label 0 (first_linker places.now (shown entries.now))
+        ++ padded_part_bytes linker_label 0 (second_linker places.now (shown sorted.now))) result }
+{
+    piece.extend_from_slice(b"!<arch>\n")?;
+    push_first_linker(piece, entries, places)?;
+    put(writer, piece.as_slice())?;
+    piece.clear();
+    push_second_linker(piece, sorted, places)?;
+    put(writer, piece.as_slice())?;
+    Ok(())
 }
 
 // Appends the linker members.
 fn push_linkers(
     out: &mut Vec<u8>,
-    alloc: Global,
     kind: Kind,
     entries: &[(&str, usize)],
+    sorted: &[(&str, usize)],
     places: &[u32],
 ) -> Result<(), AllocError>
-    requires { FrontFits kind places.now (shown entries.now) }
+    requires ordered { kind ≡ Coff → shown sorted.now ≡ sorted_entries (shown entries.now) }
+    requires fits { FrontFits kind places.now (shown entries.now) }
     ensures { OnOk result
         (Pushes out.old.items out.new.items (linkers kind places.now (shown entries.now))) }
 {
     match kind {
         Kind::Coff => {
             push_first_linker(out, entries, places)?;
-            let sorted = sorted(alloc, entries)?;
-            push_second_linker(out, sorted.as_slice(), places)
+            push_second_linker(out, sorted, places)
         }
         Kind::Gnu => {
             if entries.is_empty() {

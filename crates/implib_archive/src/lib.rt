@@ -21,8 +21,8 @@ mod front;
 mod kind;
 pub mod laws;
 mod long_names;
+mod offsets;
 mod output;
-mod places;
 mod refusal;
 mod writer;
 

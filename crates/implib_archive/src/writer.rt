@@ -7,16 +7,16 @@ ghost use Rattle.implib_archive.specs.Pushed.{AreMeasured, IsHeaderOf, IsRefusal
 ghost use Rattle.implib_archive.specs.Pushed.{header_of, shown};
 ghost use Rattle.implib_archive.specs.Refusal.{has_too_many, refusal_of};
 ghost use Rattle.implib_archive.specs.Written.{Writes};
-ghost use Rattle.std.specs.Prelude.{◌≡◌, ◌++◌, ◌^◌, IfErr, IfOk, None, OnOk, flat_map, length, map};
+ghost use Rattle.std.specs.Prelude.{◌≡◌, ◌^◌, [], IfErr, IfOk, None, OnOk, flat_map, length, map};
 ghost use Rattle.std.specs.Prelude.{min};
 
-use crate::entries::entries_of;
+use crate::entries::{Entries, entries_of};
 use crate::error::{Error, Fault, WriteError};
-use crate::front::push_front;
+use crate::front::{push_front, write_front};
 use crate::kind::Kind;
 use crate::long_names::LongNames;
-use crate::output::{put, put_part};
-use crate::places::{Places, front_size, place_members, strings_size};
+use crate::offsets::{Places, front_size, place_members, strings_size};
+use crate::output::put_part;
 use crate::refusal::members_refusal;
 use implib::Member;
 use std::alloc::{AllocError, Global};
@@ -28,7 +28,7 @@ use std::marker::Model;
 pub struct Archive<'a> {
     members: &'a [Member],
     kind: Kind,
-    entries: Vec<(&'a str, usize)>,
+    entries: Entries<'a>,
     names: LongNames<'a>,
     places: Places,
 }
@@ -43,8 +43,9 @@ impl<'a> Model for Archive<'a> {
 
     ghost view = { λ a. record { kind = a.kind; members = map member_view a.members.now } };
 
-    ghost invariant = { λ a. IsMade a.kind (map member_view a.members.now) (shown a.entries.items)
-        (shown a.names.offsets.entries) a.names.size a.places.offsets.items a.places.end };
+    ghost invariant = { λ a. IsMade a.kind (map member_view a.members.now)
+        (shown a.entries.listed.items) (shown a.entries.sorted.items) (shown a.names.offsets.entries)
+        a.names.size a.places.offsets.items a.places.end };
 }
 
 impl<'a> Archive<'a> {
@@ -67,7 +68,7 @@ impl<'a> Archive<'a> {
         }
         let entries = entries_of(alloc, members, kind)?;
         let names = LongNames::of(alloc, members, kind)?;
-        let first = first_place(kind, members, entries.as_slice(), &names);
+        let first = first_place(kind, members, entries.listed.as_slice(), &names);
         let places = place_members(alloc, first, members)?;
         Ok(Archive {
             members,
@@ -94,14 +95,14 @@ impl<'a> Archive<'a> {
         ensures { IfOk result (λ bytes. bytes.items ≡ archive_of self.now.kind self.now.members) }
     {
         let mut bytes = Vec::with_capacity(alloc, self.places.end as usize)?;
-        self.push_start(&mut bytes, alloc)?;
+        self.push_start(&mut bytes)?;
         push_members(&mut bytes, &self.names, self.members)?;
         Ok(bytes)
     }
 
     /// Writes the archive, without a second copy of the members.
     ///
-    /// It calls `write` for the front, and two or three times for each member, so a writer to a
+    /// It calls `write` for each linker member, and two or three times for each member, so a writer to a
     /// file wants a `BufWriter` before it. It does not flush.
     ///
     /// # Errors
@@ -112,19 +113,44 @@ impl<'a> Archive<'a> {
         ensures { Writes (W.contents writer.old) (W.contents writer.new)
             (archive_of self.now.kind self.now.members) result }
     {
-        let mut front = Vec::with_capacity(alloc, self.places.first as usize)?;
-        self.push_start(&mut front, alloc)?;
-        write_parts(writer, alloc, front.as_slice(), &self.names, self.members)
+        let mut piece = Vec::with_capacity(alloc, self.places.first as usize)?;
+        self.write_start(writer, &mut piece)?;
+        write_members(writer, &mut piece, &self.names, self.members)
+    }
+
+    // Writes the front through an empty buffer.
+    fn write_start<W: io::Write>(
+        &self,
+        writer: &mut W,
+        piece: &mut Vec<u8>,
+    ) -> Result<(), WriteError>
+        requires { piece.old.items ≡ [] }
+        ensures { Writes (W.contents writer.old) (W.contents writer.new)
+            (front_of self.now.kind self.now.members) result }
+    {
+        let entries = self.entries.listed.as_slice();
+        let sorted = self.entries.sorted.as_slice();
+        let places = self.places.offsets.as_slice();
+        write_front(
+            writer,
+            piece,
+            self.kind,
+            entries,
+            sorted,
+            &self.names,
+            places,
+        )
     }
 
     // Appends the front.
-    fn push_start(&self, out: &mut Vec<u8>, alloc: Global) -> Result<(), AllocError>
+    fn push_start(&self, out: &mut Vec<u8>) -> Result<(), AllocError>
         ensures { OnOk result (Pushes out.old.items out.new.items
             (front_of self.now.kind self.now.members)) }
     {
-        let entries = self.entries.as_slice();
+        let entries = self.entries.listed.as_slice();
+        let sorted = self.entries.sorted.as_slice();
         let places = self.places.offsets.as_slice();
-        push_front(out, alloc, self.kind, entries, &self.names, places)
+        push_front(out, self.kind, entries, sorted, &self.names, places)
     }
 }
 
@@ -164,23 +190,6 @@ fn push_members(out: &mut Vec<u8>, names: &LongNames, members: &[Member]) -> Res
         names.push_member(out, member)?;
     }
     Ok(())
-}
-
-// Writes the front, and then the members.
-fn write_parts<W: io::Write>(
-    writer: &mut W,
-    alloc: Global,
-    front: &[u8],
-    names: &LongNames,
-    members: &[Member],
-) -> Result<(), WriteError>
-    ensures { Writes (W.contents writer.old) (W.contents writer.new)
-        (front.now ++ flat_map (member_part (shown names.now.offsets.entries))
-        (map member_view members.now)) result }
-{
-    let mut header = Vec::with_capacity(alloc, 60)?;
-    put(writer, front)?;
-    write_members(writer, &mut header, names, members)
 }
 
 // Makes a header that of a member. It keeps the header of the member before, where name and size are

@@ -15,12 +15,11 @@ returns-then-is_empty c =
     let none : length c.args.entries.now ≡ 0 = eqb-true _ 0 (sym c.is_empty.ensures ∙ c.if-is_empty.true) in
     pushes_as (linkers-none c.args.places.now entries c.in-Gnu.is (count ∙ none)) (pushes_nothing c.args.out.now.items)
 
-pub returns-in_ok-sorted-in-Coff : goal.returns-in_ok-sorted-in-Coff
-returns-in_ok-sorted-in-Coff c =
-    let sorted = ap shown c.as_slice.ensures.value ∙ c.in_ok-sorted-in-Coff.ensures in
+pub returns-in_ok-push_first_linker-in-Coff : goal.returns-in_ok-push_first_linker-in-Coff
+returns-in_ok-push_first_linker-in-Coff c =
     on_as _ _ _ (linkers-coff c.args.places.now (shown c.args.entries.now) c.in-Coff.is)
     (on_then _ _ _ c.in_ok-push_first_linker-in-Coff.ensures
-    (on_as _ _ _ (ap (λ t. padded_part_bytes linker_label 0 (second_linker c.args.places.now t)) sorted) c.push_second_linker.ensures))
+    (on_as _ _ _ (ap (λ t. padded_part_bytes linker_label 0 (second_linker c.args.places.now t)) (c.requires.ordered c.in-Coff.is)) c.push_second_linker.ensures))
 
 pub returns-else-is_empty : goal.returns-else-is_empty
 returns-else-is_empty c =

@@ -33,7 +33,8 @@ invariant_of-result c =
     let small = near_size c.in_ok-names.ensures (names_below kind ms accepted) in
     record {
       accepted = accepted;
-      listed = c.in_ok-entries.ensures;
+      listed = c.in_ok-entries.ensures.listed;
+      ordered = c.in_ok-entries.ensures.sorted;
       named = c.in_ok-names.ensures.same small;
       sized = sym (c.in_ok-names.ensures.exact small);
       placed = c.in_ok-places.ensures.offsets ∙ ap (λ p. places_from p ms) same;

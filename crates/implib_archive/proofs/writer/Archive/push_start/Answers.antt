@@ -1,9 +1,9 @@
 use Rattle.std.proofs.Common.{◌∙◌, ap, arith, map, subst, sym}
 use Rattle.implib.specs.Library.{member_view}
-use Rattle.implib_archive.specs.Archive.{front, front_of, places_of}
+use Rattle.implib_archive.specs.Archive.{front, front_of, places_of, sorted_entries}
 use Rattle.implib_archive.specs.Pushed.{FrontFits, shown}
 use Rattle.implib_archive.proofs.Appended.{on_as}
-use Rattle.implib_archive.proofs.Whole.{front_fits, front_made, names_below}
+use Rattle.implib_archive.proofs.Whole.{front_fits, front_made, names_below, ordered_made}
 use Rattle.implib_archive.proofs.writer.Archive.push_start.Goals as goal
 
 pub push_front-requires-clause-fits : goal.push_front-requires-clause-fits
@@ -15,6 +15,10 @@ push_front-requires-clause-fits c =
     let entries = ap shown c.as_slice-entries.ensures.value ∙ made.listed in
     subst (λ p. FrontFits a.kind p (shown c.as_slice-entries.result.now)) (sym places)
     (subst (λ e. FrontFits a.kind (places_of a.kind ms) e) (sym entries) (front_fits a.kind ms made.accepted))
+
+pub push_front-requires-clause-ordered : goal.push_front-requires-clause-ordered
+push_front-requires-clause-ordered c = λ is.
+    ap shown c.as_slice-sorted.ensures.value ∙ (ordered_made c.self.invariant is ∙ ap (λ e. sorted_entries (shown e)) (sym c.as_slice-entries.ensures.value))
 
 pub push_front-requires-clause-short : goal.push_front-requires-clause-short
 push_front-requires-clause-short c =

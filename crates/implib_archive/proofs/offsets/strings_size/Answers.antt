@@ -2,7 +2,7 @@ use Rattle.std.proofs.Common.{arith, refl}
 use Rattle.implib.proofs.Formats.Defaults.{no_text}
 use Rattle.implib_archive.specs.Archive.{strings_of}
 use Rattle.implib_archive.proofs.Placed.{strings_more}
-use Rattle.implib_archive.proofs.places.strings_size.Goals as goal
+use Rattle.implib_archive.proofs.offsets.strings_size.Goals as goal
 
 pub loop-entry-init : goal.loop-entry-init
 unfolding strings_of

@@ -2,7 +2,7 @@ use Rattle.std.proofs.Common.{◌≡◌, ◌^◌, ◌<◌, ◌++◌, drop, map, 
 use Rattle.std.specs.List.{list_all}
 use Rattle.implib.specs.Library.{member_view}
 use Rattle.implib_archive.specs.Archive.{end_from, places_from}
-use Rattle.implib_archive.proofs.places.place_members.Given as goal
+use Rattle.implib_archive.proofs.offsets.place_members.Given as goal
 
 -- the offsets so far, and those of the members that are left
 abbrev pub invariant-loop-member : goal.invariant-loop-member

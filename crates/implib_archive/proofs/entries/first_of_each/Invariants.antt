@@ -1,7 +1,7 @@
 use Rattle.std.proofs.Common.{◌≡◌, [], fold, take}
 use Rattle.implib_archive.specs.Archive.{with_first}
 use Rattle.implib_archive.specs.Pushed.{shown}
-use Rattle.implib_archive.proofs.entries.first_entries.Given as goal
+use Rattle.implib_archive.proofs.entries.first_of_each.Given as goal
 
 -- the first entries so far
 abbrev pub invariant-loop-entry : goal.invariant-loop-entry

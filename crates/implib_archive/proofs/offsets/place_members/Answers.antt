@@ -3,7 +3,7 @@ use Rattle.implib.specs.Library.{member_view}
 use Rattle.implib_archive.specs.Archive.{places_from}
 use Rattle.implib_archive.specs.Parts.{part_size}
 use Rattle.implib_archive.proofs.Placed.{are_short, end_all, end_more, first_too_far, long_here, none_too_far, places_all, places_more, short_more, some_too_far}
-use Rattle.implib_archive.proofs.places.place_members.Goals as goal
+use Rattle.implib_archive.proofs.offsets.place_members.Goals as goal
 
 pub returns-then-first-ge-TOO_LONG-clause-refused : goal.returns-then-first-ge-TOO_LONG-clause-refused
 returns-then-first-ge-TOO_LONG-clause-refused c = first_too_far c.args.first (map member_view c.args.members.now) c.if-first-ge-TOO_LONG.true
