@@ -1,4 +1,4 @@
-use Rattle.std.proofs.Common.{◌++◌, ap, subst}
+use Rattle.std.proofs.Common.{◌++◌, subst}
 use Rattle.std.specs.Io.KnownBytes.{Appends}
 use Rattle.implib_archive.specs.Archive.{first_linker, linker_label, second_linker}
 use Rattle.implib_archive.specs.Parts.{padded_part_bytes, signature}
