@@ -17,6 +17,7 @@ pub record PlainTextsWorked : Type 0 where
   pub stub : plain_text (codes "STUB:a.exe\nSTUB 'b.exe'") ≡ codes "          \n            "
   pub stub_as_a_name : plain_text (codes "EXPORTS\nSTUB\nb") ≡ codes "EXPORTS\nSTUB\nb"
   pub program_type : plain_text (codes "EXETYPE WINDOWS 3.1\nEXETYPE OS2") ≡ codes "                   \n           "
+  pub other_program_types : plain_text (codes "EXETYPE DOS4\nEXETYPE UNKNOWN\nEXETYPE DOS5") ≡ codes "            \n               \nEXETYPE DOS5"
   pub program_type_as_a_name : plain_text (codes "EXPORTS\nEXETYPE\nWINDOWS") ≡ codes "EXPORTS\nEXETYPE\nWINDOWS"
   pub sections : plain_text (codes "SECTIONS\n.text READ, WRITE\n;x\n.data,SHARED\nEXPORTS a READ") ≡ codes "        \n                 \n;x\n            \nEXPORTS a READ"
   pub sections_in_one_line : plain_text (codes "SECTIONS .a READ\na READ\nb") ≡ codes "                \n      \nb"

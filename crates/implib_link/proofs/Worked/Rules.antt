@@ -31,11 +31,15 @@ lld_rules = record {
   i386_lookups = refl;
   amd64_lookups = refl;
   other_machine = refl;
+  armnt_thunk = refl;
+  i386_base = omega arith;
 }
 
 pub moving_rules : MovingRules
 moving_rules = record {
   sections = refl;
+  amd64_words = refl;
+  arm64_words = refl;
   tables = refl;
   amd64_down = tt;
   arm64_down = ((refl, refl), refl);

@@ -1,7 +1,7 @@
 -- Single rules of linking, by examples that no larger one distinguishes: each is true as it stands, and not so of the rule
 -- with one thing changed.
 use Rattle.std.specs.Prelude.{◌≡◌, ℕ, true, false, List, [], ◌∷◌, ◌++◌, codes, drop, None}
-use Rattle.implib.specs.declared.machine.MachineType.TheVariants.{I386, AMD64, ARM64}
+use Rattle.implib.specs.declared.machine.MachineType.TheVariants.{I386, ARMNT, AMD64, ARM64}
 use Rattle.implib.specs.Formats.Constants.{class_external}
 use Rattle.implib.specs.Formats.Object.{ASymbol}
 use Rattle.implib.specs.Link.Placement.{Addresses, At, Unplaced}
@@ -10,18 +10,21 @@ use Rattle.implib.specs.Members.ImportTables.{zeros}
 use Rattle.implib_link.specs.Directory.{DirectoryAt}
 use Rattle.implib_link.specs.Flavors.LldImports.{comes_first, in_small, short_for}
 use Rattle.implib_link.specs.Flavors.LldTables.{lookups_at}
+use Rattle.implib_link.specs.Flavors.LldThunks.{thunk_relocations}
 use Rattle.implib_link.specs.Gnu.Calls.{CallArrives, DirectCallArrives, PlacedCode, Resolves, amd64_addr64}
 use Rattle.implib_link.specs.Gnu.Fields.{LinkedCode, TakesSymbols, placed_code}
 use Rattle.implib_link.specs.Gnu.Pages.{PageArrives}
 use Rattle.implib_link.specs.Gnu.Pointers.{LoadArrives}
 use Rattle.implib_link.specs.Gnu.Rebased.{CanMove, StubArrives, places_at, table_places_in}
+use Rattle.implib_link.specs.Tables.{CanReadFrom}
 use Rattle.implib_link.specs.Worked.Lld.{two_dlls, zeta_bytes}
 use Rattle.implib_link.specs.Worked.Operands.{field, passing, passing_code, x86_secrel}
 use Rattle.implib_link.specs.Worked.Programs.{symbol_of_class, touching_8}
 use Rattle.implib_link.specs.Worked.RefusedFields.{open_address, two_ranges}
 
 -- lld: names of DLLs are alike whatever the case of their letters, and of those alone; a prefix comes first; lookup
--- tables begin at a multiple of the machine's thunks; a short import is for its own machine
+-- tables begin at a multiple of the machine's thunks; a short import is for its own machine; ARMNT's thunk has one
+-- relocation, by MOV32T; I386 reads entries up to the base 2^31
 pub record LldRules : Type 0 where
   pub letters : in_small (codes "@AZ[`az{") ≡ codes "@az[`az{"
   pub prefix : comes_first (codes "bar") (codes "bar2") ≡ true
@@ -29,11 +32,16 @@ pub record LldRules : Type 0 where
   pub i386_lookups : lookups_at I386 0x2000 two_dlls ≡ 0x203C
   pub amd64_lookups : lookups_at AMD64 0x2000 two_dlls ≡ 0x2040
   pub other_machine : short_for I386 zeta_bytes ≡ None
+  pub armnt_thunk : thunk_relocations ARMNT 1 ≡ field 0 1 0x11 ∷ []
+  pub i386_base : CanReadFrom I386 0x8000_0000 0x2050
 
--- Base relocations: none for a section's number and an offset in a section; one in an address table whose entries
--- store addresses whole. A program moves down as well as up.
+-- Base relocations: none for a section's number, an offset in a section and what is relative to the image; one of 4
+-- bytes for an address of 32 bits; one in an address table whose entries store addresses whole. A program moves down as
+-- well as up.
 pub record MovingRules : Type 0 where
   pub sections : places_at AMD64 0x1000 (field 0 1 0xA ∷ field 4 1 x86_secrel ∷ []) ≡ []
+  pub amd64_words : places_at AMD64 0x1000 (field 0 1 2 ∷ field 4 1 3 ∷ []) ≡ record { address = 0x1000; width = 4 } ∷ []
+  pub arm64_words : places_at ARM64 0x1000 (field 0 1 1 ∷ field 4 1 2 ∷ field 8 1 8 ∷ []) ≡ record { address = 0x1000; width = 4 } ∷ []
   pub tables : table_places_in AMD64 (Unplaced ∷ At Addresses 0x2000 ∷ [])
       (section (codes ".text") 0 [] [] ∷ section (codes ".idata$5") 0 (zeros 8) (field 0 1 amd64_addr64 ∷ []) ∷ [])
       ≡ record { address = 0x2000; width = 8 } ∷ []

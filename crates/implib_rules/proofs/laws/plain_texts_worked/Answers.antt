@@ -19,6 +19,7 @@ worked = record {
   stub = refl;
   stub_as_a_name = refl;
   program_type = refl;
+  other_program_types = refl;
   program_type_as_a_name = refl;
   sections = refl;
   sections_in_one_line = refl;
