@@ -16,7 +16,7 @@ use Rattle.implib_c.specs.declared.outcome.Failure.TheVariants as failure
 use Rattle.implib_c.specs.Answer.{Answers, BufferReads, IsFailure, Outcome, Success, BufferTooSmall, OutOfMemory, NotUtf8, Refused, SyntaxError, UnknownFlavor, UnknownMachine, WithInput, buffer_of, flavor_numbered, length_of}
 use Rattle.implib_c.specs.Encoding.{encoded_members}
 use Rattle.implib_c.specs.Given.{FailsSo, HasMembers, OnTextFault, PacksInto, PutsInto, length_given, place_given, status_given}
-use Rattle.implib_c.specs.Library.{Failed, LibraryAnswers, Packed, Packs, TooLong, Unpacked, kind_for}
+use Rattle.implib_c.specs.Library.{Failed, LibraryAnswers, Packed, Packs, TooLong, Unpacked, kind_of_flavor}
 use Rattle.implib_c.specs.Status.{status_number}
 use Rattle.implib_c.proofs.ReadBack.{members_back}
 
@@ -189,16 +189,16 @@ module _ (text old : List ℕ) (machine flavor : ℕ) (f : Flavor) (members : Li
   answers_put new (Err (failure.NoExport fault index)) puts = absurd puts
 
   -- what their archive is refused for, if anything
-  packs : (kind : Kind) → kind ≡ kind_for f → (cause : _) → refusal_of kind members ≡ cause → MembersOf text has.machine_found has.flavor_found members
+  packs : (kind : Kind) → kind ≡ kind_of_flavor f → (cause : _) → refusal_of kind members ≡ cause → MembersOf text has.machine_found has.flavor_found members
       → Packs text has.machine_found has.flavor_found kind members cause
   packs kind kind_is cause cause_is made = record {
-    kind_is = kind_is ∙ ap kind_for (sym has.holds.0);
+    kind_is = kind_is ∙ ap kind_of_flavor (sym has.holds.0);
     members_are = made;
     cause_is = cause_is;
   }
 
   -- their archive is put into the buffer, or not
-  pub answers_packed : (kind : Kind) → kind ≡ kind_for f → (new : List ℕ) (result : Result ℕ Failure) → PacksInto kind members old new result
+  pub answers_packed : (kind : Kind) → kind ≡ kind_of_flavor f → (new : List ℕ) (result : Result ℕ Failure) → PacksInto kind members old new result
       → LibraryAnswers text machine flavor old new (length_given result) (place_given result) (status_number (status_given result))
   answers_packed kind kind_is new (Ok put) puts = record {
     ending = Packed kind members;

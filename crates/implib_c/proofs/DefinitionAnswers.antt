@@ -1,6 +1,7 @@
 -- The answers of a call for a definition, case by case.
-use Rattle.std.proofs.Common.{◌≡◌, ℕ, ◌<◌, ◌≤◌, ◌^◌, List, None, Some, Ok, Err, length, refl, ◌∙◌, ap, arith}
+use Rattle.std.proofs.Common.{◌≡◌, ℕ, ◌<◌, ◌≤◌, ◌^◌, List, None, Some, Ok, Err, length, refl, ◌∙◌, ap, arith, subst, sym}
 use Rattle.std.proofs.Common.{◌++◌, drop}
+use Rattle.std.specs.Prelude.{Result}
 use Rattle.std.specs.Str.{IsUtf8}
 use Rattle.std.specs.Str.Lossy.{utf8_valid_len}
 use Rattle.implib.specs.declared.error.ParseError.{ParseError}
@@ -10,12 +11,13 @@ use Rattle.implib.specs.Conversions.{machine_numbered}
 use Rattle.implib.specs.Definition.{DefinitionView}
 use Rattle.implib.specs.Fault.{cause_of}
 use Rattle.implib.specs.Text.RefusedAt.{IsRefusedAt}
+use Rattle.implib_c.specs.declared.outcome.Failure.{Failure}
 use Rattle.implib_c.specs.declared.outcome.Failure.TheVariants as failure
 use Rattle.implib_c.specs.Definition.{encoded_definition, stated}
 use Rattle.implib_c.specs.DefinitionAnswer.{BufferTooSmall, DefinitionAnswers, NotUtf8, OutOfMemory, States, Success, SyntaxError, UnknownMachine, WithMachine}
 use Rattle.implib_c.specs.DefinitionGiven.{HasDefinition, IsEncoding, LacksDefinition}
 use Rattle.implib_c.specs.Fill.{Fills}
-use Rattle.implib_c.specs.Given.{failure_of_parsing, length_given, place_given, status_given}
+use Rattle.implib_c.specs.Given.{PutsEncoding, failure_of_parsing, length_given, place_given, status_given}
 use Rattle.implib_c.specs.Status.{status_number}
 use Rattle.implib_c.proofs.Answer.{there}
 use Rattle.implib_c.proofs.DefinitionBack.{definition_back}
@@ -74,7 +76,7 @@ module _ (text old : List ℕ) (machine : ℕ) (definition : DefinitionView) (ha
 
   module _ (bytes : List ℕ) (encoding : IsEncoding (stated definition) bytes) where
     -- there is no room
-    pub answers_too_small : (needed : ℕ) → needed ≡ length bytes → length old < needed
+    answers_too_small : (needed : ℕ) → needed ≡ length bytes → length old < needed
         → DefinitionAnswers text machine old old (length_given (Err (failure.BufferTooSmall needed))) (place_given (Err (failure.BufferTooSmall needed)))
         (status_number (status_given (Err (failure.BufferTooSmall needed))))
     answers_too_small needed is short =
@@ -90,7 +92,7 @@ module _ (text old : List ℕ) (machine : ℕ) (definition : DefinitionView) (ha
         }
 
     -- there is room
-    pub answers_put_definition : (new : List ℕ) (put : ℕ) → length bytes ≤ length old → length bytes < 2 ^ 64 → Fills old new 0 put bytes
+    answers_put_definition : (new : List ℕ) (put : ℕ) → length bytes ≤ length old → length bytes < 2 ^ 64 → Fills old new 0 put bytes
         → DefinitionAnswers text machine old new (length_given (Ok put)) (place_given (Ok put)) (status_number (status_given (Ok put)))
     answers_put_definition new put room below fills =
         let written : _ = fills_front fills in
@@ -106,3 +108,25 @@ module _ (text old : List ℕ) (machine : ℕ) (definition : DefinitionView) (ha
           buffer_is = buffer;
           buffer_reads = rw buffer (definition_back (stated definition) (drop (length (encoded_definition (stated definition))) old) encoding.fit (omega (arith, long, below)));
         }
+
+    -- the encoding is put, where there is room
+    pub answers_encoded : (new : List ℕ) (result : Result ℕ Failure) → PutsEncoding bytes old new result
+        → DefinitionAnswers text machine old new (length_given result) (place_given result) (status_number (status_given result))
+    answers_encoded new (Ok put) puts = answers_put_definition new put puts.0 puts.1.0 puts.1.1
+    answers_encoded new (Err (failure.BufferTooSmall needed)) puts =
+        subst
+        (λ buffer. DefinitionAnswers text machine old buffer (length_given (Err (failure.BufferTooSmall needed))) (place_given (Err (failure.BufferTooSmall needed)))
+        (status_number (status_given (Err (failure.BufferTooSmall needed)))))
+        (sym puts.1.1) (answers_too_small needed puts.0 puts.1.0)
+    answers_encoded new (Err failure.OutOfMemory) puts = absurd puts
+    answers_encoded new (Err (failure.NotUtf8 offset)) puts = absurd puts
+    answers_encoded new (Err failure.UnknownMachine) puts = absurd puts
+    answers_encoded new (Err failure.UnknownFlavor) puts = absurd puts
+    answers_encoded new (Err (failure.SyntaxError fault offset)) puts = absurd puts
+    answers_encoded new (Err (failure.Refused fault)) puts = absurd puts
+    answers_encoded new (Err (failure.NoArchive fault)) puts = absurd puts
+    answers_encoded new (Err failure.UnknownFlags) puts = absurd puts
+    answers_encoded new (Err failure.DllNotUtf8) puts = absurd puts
+    answers_encoded new (Err failure.NoDllName) puts = absurd puts
+    answers_encoded new (Err (failure.RefusedAt fault offset)) puts = absurd puts
+    answers_encoded new (Err (failure.NoExport fault index)) puts = absurd puts

@@ -1,9 +1,10 @@
 -- The answers of a call for warnings, case by case.
-use Rattle.std.proofs.Common.{◌≡◌, ℕ, ◌<◌, ◌≤◌, ◌^◌, List, ◌++◌, Ok, Err, drop, length, refl, ◌∙◌, ap, arith}
+use Rattle.std.proofs.Common.{◌≡◌, ℕ, ◌<◌, ◌≤◌, ◌^◌, List, ◌++◌, Ok, Err, drop, length, refl, ◌∙◌, ap, arith, subst, sym}
+use Rattle.std.specs.Prelude.{Result}
 use Rattle.implib_c.specs.declared.outcome.Failure.{Failure}
 use Rattle.implib_c.specs.declared.outcome.Failure.TheVariants as failure
 use Rattle.implib_c.specs.Fill.{Fills}
-use Rattle.implib_c.specs.Given.{failure_status, length_given, place_given, status_given}
+use Rattle.implib_c.specs.Given.{PutsEncoding, failure_status, length_given, place_given, status_given}
 use Rattle.implib_c.specs.GivenWith.{IsNoOptions}
 use Rattle.implib_c.specs.LibraryWith.{AreOptions, GivenOptions, WithOptions, place_of_refusal, refusal_status}
 use Rattle.implib_c.specs.Status.{status_number}
@@ -61,7 +62,7 @@ module _ (text : List ℕ) (given : GivenOptions) (old : List ℕ) where
 
     module _ (bytes : List ℕ) (encodes : EncodesWarnings text options bytes) where
       -- there is no room
-      pub warns_too_small : (needed : ℕ) → needed ≡ length bytes → length old < needed
+      warns_too_small : (needed : ℕ) → needed ≡ length bytes → length old < needed
           → WarningsAnswers text given old old (length_given (Err (failure.BufferTooSmall needed))) (place_given (Err (failure.BufferTooSmall needed)))
           (status_number (status_given (Err (failure.BufferTooSmall needed))))
       warns_too_small needed is short =
@@ -77,7 +78,7 @@ module _ (text : List ℕ) (given : GivenOptions) (old : List ℕ) where
           }
 
       -- there is room
-      pub warns_put : (new : List ℕ) (put : ℕ) → length bytes ≤ length old → length bytes < 2 ^ 64 → Fills old new 0 put bytes
+      warns_put : (new : List ℕ) (put : ℕ) → length bytes ≤ length old → length bytes < 2 ^ 64 → Fills old new 0 put bytes
           → WarningsAnswers text given old new (length_given (Ok put)) (place_given (Ok put)) (status_number (status_given (Ok put)))
       warns_put new put room below fills =
           let written : _ = fills_front fills in
@@ -93,3 +94,25 @@ module _ (text : List ℕ) (given : GivenOptions) (old : List ℕ) where
             buffer_is = buffer;
             buffer_reads = rw buffer (warnings_back encodes.said (drop (length (encoded_warnings encodes.said)) old) encodes.fit (omega (arith, long, below)));
           }
+
+      -- the encoding is put, where there is room
+      pub warns_encoded : (new : List ℕ) (result : Result ℕ Failure) → PutsEncoding bytes old new result
+          → WarningsAnswers text given old new (length_given result) (place_given result) (status_number (status_given result))
+      warns_encoded new (Ok put) puts = warns_put new put puts.0 puts.1.0 puts.1.1
+      warns_encoded new (Err (failure.BufferTooSmall needed)) puts =
+          subst
+          (λ buffer. WarningsAnswers text given old buffer (length_given (Err (failure.BufferTooSmall needed))) (place_given (Err (failure.BufferTooSmall needed)))
+          (status_number (status_given (Err (failure.BufferTooSmall needed)))))
+          (sym puts.1.1) (warns_too_small needed puts.0 puts.1.0)
+      warns_encoded new (Err failure.OutOfMemory) puts = absurd puts
+      warns_encoded new (Err (failure.NotUtf8 offset)) puts = absurd puts
+      warns_encoded new (Err failure.UnknownMachine) puts = absurd puts
+      warns_encoded new (Err failure.UnknownFlavor) puts = absurd puts
+      warns_encoded new (Err (failure.SyntaxError fault offset)) puts = absurd puts
+      warns_encoded new (Err (failure.Refused fault)) puts = absurd puts
+      warns_encoded new (Err (failure.NoArchive fault)) puts = absurd puts
+      warns_encoded new (Err failure.UnknownFlags) puts = absurd puts
+      warns_encoded new (Err failure.DllNotUtf8) puts = absurd puts
+      warns_encoded new (Err failure.NoDllName) puts = absurd puts
+      warns_encoded new (Err (failure.RefusedAt fault offset)) puts = absurd puts
+      warns_encoded new (Err (failure.NoExport fault index)) puts = absurd puts

@@ -25,4 +25,7 @@ worked_warnings = record {
   stdcall = λ word. refl;
   not_exported = λ word. refl;
   second_heading = refl;
+  skipped = refl;
+  ends_early = refl;
+  stands_alone = λ word. refl;
 }

@@ -24,6 +24,7 @@ use Rattle.implib_c.specs.declared.status.Status.TheVariants as status
 use Rattle.implib.specs.Members.OfText.{HasNoMembers, MembersOf}
 use Rattle.implib_c.specs.Answer.{EndsSo, IsFailure, Outcome, WithInput, place_of, status_of}
 use Rattle.implib_c.specs.Encoding.{encoded_members}
+use Rattle.implib_c.specs.Fill.{Fills}
 use Rattle.implib_c.specs.LibraryOf.{export_status}
 use Rattle.implib_c.specs.Status.{archive_status, cause_status}
 
@@ -146,6 +147,23 @@ PutsInto members old new (Err DllNotUtf8) = ⊥
 PutsInto members old new (Err NoDllName) = ⊥
 PutsInto members old new (Err (RefusedAt fault offset)) = ⊥
 PutsInto members old new (Err (NoExport fault index)) = ⊥
+
+-- an encoding is put at the beginning of the buffer, where there is room; else nothing is
+abbrev pub PutsEncoding : List ℕ → List ℕ → List ℕ → Result ℕ Failure → Type 0
+PutsEncoding bytes old new (Ok put) = (length bytes ≤ length old) × (length bytes < 2 ^ 64) × Fills old new 0 put bytes
+PutsEncoding bytes old new (Err (BufferTooSmall needed)) = (needed ≡ length bytes) × (length old < needed) × (new ≡ old)
+PutsEncoding bytes old new (Err OutOfMemory) = ⊥
+PutsEncoding bytes old new (Err (NotUtf8 offset)) = ⊥
+PutsEncoding bytes old new (Err UnknownMachine) = ⊥
+PutsEncoding bytes old new (Err UnknownFlavor) = ⊥
+PutsEncoding bytes old new (Err (SyntaxError fault offset)) = ⊥
+PutsEncoding bytes old new (Err (Refused fault)) = ⊥
+PutsEncoding bytes old new (Err (NoArchive fault)) = ⊥
+PutsEncoding bytes old new (Err UnknownFlags) = ⊥
+PutsEncoding bytes old new (Err DllNotUtf8) = ⊥
+PutsEncoding bytes old new (Err NoDllName) = ⊥
+PutsEncoding bytes old new (Err (RefusedAt fault offset)) = ⊥
+PutsEncoding bytes old new (Err (NoExport fault index)) = ⊥
 
 -- the members' archive is put at the beginning of the buffer, where there is one and room for it; else nothing
 -- is

@@ -17,9 +17,9 @@ use Rattle.implib_c.specs.Answer as members
 use Rattle.implib_c.specs.Status.{archive_status, status_number}
 
 -- the kind of archive for a flavour: COFF for Microsoft's linker, GNU for GNU's
-abbrev pub kind_for : Flavor → Kind
-kind_for Msvc = Coff
-kind_for Gnu = GnuKind
+abbrev pub kind_of_flavor : Flavor → Kind
+kind_of_flavor Msvc = Coff
+kind_of_flavor Gnu = GnuKind
 
 -- How a call ends: with the archive of some members; with a buffer that is too small for it; with members
 -- that have no archive, and the cause; or, where there are none, as `implib_members` ends.
@@ -32,7 +32,7 @@ pub data Ending : Type 0 where
 -- the members are those of the text, and their archive of the flavour's kind is refused for this cause, if any
 pub record Packs (text : List ℕ) (machine : MachineType) (flavor : Flavor) (kind : Kind)
     (members : List MemberView) (cause : Option Fault) : Type 0 where
-  pub kind_is : kind ≡ kind_for flavor
+  pub kind_is : kind ≡ kind_of_flavor flavor
   pub members_are : MembersOf text machine flavor members
   pub cause_is : refusal_of kind members ≡ cause
 

@@ -13,6 +13,7 @@ use Rattle.implib_rules.specs.declared.library.Refusal.TheVariants as refusal
 use Rattle.implib_rules.specs.Library.{IsLibrary, IsRefusalOfBytes}
 use Rattle.implib_rules.specs.Linked.{NamingView}
 use Rattle.implib_rules.specs.Options.{LibraryOptionsView}
+use Rattle.implib_c.specs.declared.library_with.OptionsArguments.{OptionsArguments}
 use Rattle.implib_c.specs.declared.status.Status.{Status}
 use Rattle.implib_c.specs.declared.status.Status.TheVariants as status
 use Rattle.implib_c.specs.Answer.{flavor_numbered}
@@ -26,6 +27,10 @@ pub record GivenOptions : Type 0 where
   -- 0 where no name of the DLL is given
   pub has_dll : ℕ
   pub dll : List ℕ
+
+-- the view of options
+abbrev pub given_options : OptionsArguments → GivenOptions
+given_options o = record { machine = o.machine; flavor = o.flavor; flags = o.flags; has_dll = o.has_dll; dll = o.dll.now }
 
 -- how names are read, and asked for, with these flags: 1 is the option `-k`, 2 `--no-leading-underscore`, and 4
 -- `--export-as`
@@ -147,7 +152,7 @@ place_of_refusal text (refusal.Members fault position) =
 place_of_refusal text (refusal.Archive fault) = 0
 place_of_refusal text refusal.OutOfMemory = 0
 
--- the place that is told
+-- the place that is given
 abbrev pub place_with : List ℕ → EndingWith → ℕ
 place_with text (Made file) = 0
 place_with text (TooLong file) = 0

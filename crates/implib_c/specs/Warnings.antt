@@ -32,6 +32,7 @@ kind_number (rules.IsNotExported word) = 9
 kind_number rules.IsSecondHeading = 10
 kind_number rules.IsSkipped = 11
 kind_number rules.EndsEarly = 12
+kind_number (rules.StandsAlone word) = 13
 
 -- a warning of a text whose byte order mark has this length
 abbrev pub warned_of : ℕ → WarningView → Warned

@@ -1,12 +1,9 @@
 -- What `implib_warnings` answers: the warnings that the program `implib_dlltool` has of the text under these options
 -- (`implib_rules`).
-use Rattle.std.specs.Prelude.{◌≡◌, ◌⊎◌, ℕ, ◌<◌, ◌≤◌, Bool, true, false, List, ◌++◌, Some, length, drop}
+use Rattle.std.specs.Prelude.{◌≡◌, ℕ, ◌<◌, ◌≤◌, List, ◌++◌, Some, length, drop}
 use Rattle.std.specs.Str.{IsUtf8}
-use Rattle.implib.specs.declared.flavor.Flavor.{Flavor}
-use Rattle.implib.specs.declared.flavor.Flavor.TheVariants.{Msvc, Gnu}
 use Rattle.implib.specs.declared.machine.MachineType.TheVariants.{AMD64}
 use Rattle.implib.specs.Definition.{DefinitionView}
-use Rattle.implib.specs.Members.MemberSpec.{MemberView}
 use Rattle.implib.specs.Text.Parses.{Parses}
 use Rattle.implib_c.specs.declared.status.Status.{Status}
 use Rattle.implib_c.specs.declared.status.Status.TheVariants as status
@@ -16,34 +13,11 @@ use Rattle.implib_c.specs.Warnings.{AreSaid, Said, encoded_warnings, warnings_in
 use Rattle.implib_rules.specs.declared.library.Refusal.{Refusal}
 use Rattle.implib_rules.specs.declared.library.Refusal.TheVariants as refusal
 use Rattle.implib_rules.specs.declared.places.Place.{Place}
-use Rattle.implib_rules.specs.Library.{IsRefusalOfMembers, MembersFor, definition_text}
+use Rattle.implib_rules.specs.Library.{CountsMembers, IsRefusalOfMembers, definition_text}
 use Rattle.implib_rules.specs.Options.{LibraryOptionsView}
 use Rattle.implib_rules.specs.Places.{ArePlacesOf}
 use Rattle.implib_rules.specs.TextWarnings.{text_warnings}
 use Rattle.implib_rules.specs.Warnings.{warnings_of}
-
--- the library has this many members
-pub record HasMembers (text : List ℕ) (options : LibraryOptionsView) (count : ℕ) : Type 0 where
-  pub members : List MemberView
-  pub members_for : MembersFor text options members
-  pub are : count ≡ length members
-
--- whether memory was refused
-abbrev pub is_memory : Refusal → Bool
-is_memory refusal.OutOfMemory = true
-is_memory _ = false
-
--- there are no members, and not for want of memory
-pub record HasNoMembers (text : List ℕ) (options : LibraryOptionsView) (count : ℕ) : Type 0 where
-  pub why : Refusal
-  pub is_refused : IsRefusalOfMembers text options why
-  pub has_memory : is_memory why ≡ false
-  pub none : count ≡ 0
-
--- the number of members that the warnings are of; for GNU's linker none needs it
-abbrev pub CountsMembers : List ℕ → LibraryOptionsView → Flavor → ℕ → Type 0
-CountsMembers text options Gnu count = count ≡ 0
-CountsMembers text options Msvc count = HasMembers text options count ⊎ HasNoMembers text options count
 
 -- these are the warnings of the text, with its words as they are written: those of its form, and then the others
 pub record HasWarnings (text : List ℕ) (options : LibraryOptionsView) (said : List Said) : Type 0 where
@@ -89,7 +63,7 @@ status_of (TooLong said) = status.BufferTooSmall
 status_of (Refused why) = refusal_status why
 status_of (NoOptions fault) = option_status fault
 
--- the length of the encoding, where there are warnings or none to tell; else 0
+-- the length of the encoding, where the text is a definition; else 0
 abbrev pub length_of : WarningsEnding → ℕ
 length_of (Made said) = length (encoded_warnings said)
 length_of (TooLong said) = length (encoded_warnings said)

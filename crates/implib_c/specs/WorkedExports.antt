@@ -33,7 +33,7 @@ pub record WorkedFlags : Type 0 where
 abbrev pub number_of : EndingOf → ℕ
 number_of ending = status_number (status_of ending)
 
--- what the numbers of these calls are, and the places that they tell
+-- what the numbers of these calls are, and the places that they give
 pub record WorkedNumbersOf : Type 0 where
   pub made : (file : List ℕ) → number_of (Made file) ≡ 0
   pub too_long : (file : List ℕ) → number_of (TooLong file) ≡ 1

@@ -14,7 +14,7 @@ use Rattle.implib_archive.specs.declared.kind.Kind.TheVariants.{Coff, Gnu as Gnu
 use Rattle.implib_archive.specs.declared.error.Fault.TheVariants as archive
 use Rattle.implib_c.specs.Answer.{Outcome, Success, BufferTooSmall, OutOfMemory, NotUtf8, UnknownMachine}
 use Rattle.implib_c.specs.Answer.{UnknownFlavor, SyntaxError, Refused, flavor_numbered, status_of}
-use Rattle.implib_c.specs.Library.{Ending, Failed, Packed, TooLong, Unpacked, kind_for}
+use Rattle.implib_c.specs.Library.{Ending, Failed, Packed, TooLong, Unpacked, kind_of_flavor}
 use Rattle.implib_c.specs.Library as library
 use Rattle.implib_c.specs.LibraryWith.{EndingWith, naming_numbered, status_with}
 use Rattle.implib_c.specs.LibraryWith as options
@@ -140,8 +140,8 @@ pub record WorkedArguments : Type 0 where
   pub msvc : flavor_numbered 0 ≡ Some Msvc
   pub gnu : flavor_numbered 1 ≡ Some Gnu
   pub no_flavor : flavor_numbered 2 ≡ None
-  pub msvc_kind : kind_for Msvc ≡ Coff
-  pub gnu_kind : kind_for Gnu ≡ GnuKind
+  pub msvc_kind : kind_of_flavor Msvc ≡ Coff
+  pub gnu_kind : kind_of_flavor Gnu ≡ GnuKind
   pub no_flags : naming_numbered 0 ≡ Some (record { is_plain = false; kills_at = false; exports_as = false })
   pub kill_at : naming_numbered 1 ≡ Some (record { is_plain = false; kills_at = true; exports_as = false })
   pub no_leading_underscore : naming_numbered 2 ≡ Some (record { is_plain = true; kills_at = false; exports_as = false })

@@ -12,8 +12,7 @@ ghost use Rattle.std.specs.Option.{option_map};
 ghost use Rattle.std.specs.Prelude.{◌≡◌, ◌<◌, ◌^◌, ◌≤◌, All, IfErr, IfOk, OnOk, map};
 ghost use Rattle.std.specs.String.{string_bytes};
 
-use crate::encoding::put_bytes;
-use crate::outcome::{Failure, machine_with};
+use crate::outcome::{Failure, machine_with, put_encoding};
 use implib::def::{ModuleDef, ShortExport};
 use std::alloc::{AllocError, Global};
 
@@ -151,8 +150,5 @@ pub fn definition_into(
     let Ok(bytes) = encoding_of(alloc, &definition) else {
         return Err(Failure::OutOfMemory);
     };
-    if buffer.len() < bytes.len() {
-        return Err(Failure::BufferTooSmall(bytes.len()));
-    }
-    Ok(put_bytes(buffer, 0, bytes.as_slice()))
+    put_encoding(buffer, bytes.as_slice())
 }

@@ -20,7 +20,7 @@ ghost use Rattle.std.specs.Prelude.{◌<◌, ◌≡◌, length, map};
 use crate::definition::definition_into;
 use crate::export::Export;
 use crate::library_of::library_of_into;
-use crate::library_with::library_with_into;
+use crate::library_with::{OptionsArguments, library_with_into};
 use crate::outcome::{Failure, length_of, library_into, members_into, place_of, status_of};
 use crate::place::position_of;
 use crate::status::status_text;
@@ -30,7 +30,7 @@ use std::alloc::Global;
 // `IMPLIB_VERSION` of the header.
 const VERSION: u32 = 3;
 
-// Tells the length and the place of an answer. Gives its status.
+// Writes the length and the place of an answer. Gives its status.
 fn tell(answer: &Result<usize, Failure>, length: &mut usize, place: &mut usize) -> u32
     ensures length { length.new ≡ length_given answer.now }
     ensures place { place.new ≡ place_given answer.now }
@@ -121,7 +121,14 @@ pub extern "C" fn implib_library_with_nonnull(
         (record { machine = machine; flavor = flavor; flags = flags; has_dll = has_dll; dll = dll.now })
         buffer.old buffer.new length.new place.new result }
 {
-    let answer = library_with_into(alloc, text, dll, has_dll, machine, flavor, flags, buffer);
+    let arguments = OptionsArguments {
+        machine,
+        flavor,
+        flags,
+        has_dll,
+        dll,
+    };
+    let answer = library_with_into(alloc, text, arguments, buffer);
     tell(&answer, length, place)
 }
 
@@ -149,7 +156,14 @@ pub extern "C" fn implib_library_of_nonnull(
         (record { machine = machine; flavor = flavor; flags = flags; has_dll = has_dll; dll = dll.now })
         buffer.old buffer.new length.new place.new result }
 {
-    let answer = library_of_into(alloc, exports, dll, has_dll, machine, flavor, flags, buffer);
+    let arguments = OptionsArguments {
+        machine,
+        flavor,
+        flags,
+        has_dll,
+        dll,
+    };
+    let answer = library_of_into(alloc, exports, arguments, buffer);
     tell(&answer, length, place)
 }
 
@@ -203,7 +217,14 @@ pub extern "C" fn implib_warnings_nonnull(
         (record { machine = machine; flavor = flavor; flags = flags; has_dll = has_dll; dll = dll.now })
         buffer.old buffer.new length.new place.new result }
 {
-    let answer = warnings_into(alloc, text, dll, has_dll, machine, flavor, flags, buffer);
+    let arguments = OptionsArguments {
+        machine,
+        flavor,
+        flags,
+        has_dll,
+        dll,
+    };
+    let answer = warnings_into(alloc, text, arguments, buffer);
     tell(&answer, length, place)
 }
 

@@ -7,16 +7,16 @@ ghost use Rattle.implib_c.specs.Given.{failure_status, length_given, place_given
 ghost use Rattle.implib_c.specs.GivenOf.{AreGiven, OnExportFault, PutsLibraryOf};
 ghost use Rattle.implib_c.specs.LibraryOf.{LibraryOfAnswers, export_given, exports_status, given_export};
 ghost use Rattle.implib_c.specs.LibraryOf.{place_of_refusal};
+ghost use Rattle.implib_c.specs.LibraryWith.{given_options};
 ghost use Rattle.implib_c.specs.Status.{status_number};
 ghost use Rattle.implib_rules.specs.Options.{library_options_view};
 ghost use Rattle.std.specs.Prelude.{◌≡◌, ◌++◌, [], ◌∷◌, Err, IfErr, IfOk, OnOk, map};
 
 use crate::export::{Export, ExportFault, names_of, short_export};
-use crate::library_with::options_with;
-use crate::outcome::{Failure, pack_into};
+use crate::library_with::{OptionsArguments, options_with, pack_for};
+use crate::outcome::Failure;
 use implib::def::ShortExport;
 use implib_rules::exports::{ExportsRefusal, members_of_exports};
-use implib_rules::library::kind_for;
 use implib_rules::options::LibraryOptions;
 use std::alloc::{AllocError, Global};
 
@@ -113,10 +113,7 @@ fn put_library_of(
         Err(error) => return Err(Failure::from(error)),
     };
     match members_of_exports(alloc, given, options) {
-        Ok(members) => {
-            let kind = kind_for(options.flavor, members.len());
-            pack_into(alloc, buffer, members.as_slice(), kind)
-        }
+        Ok(members) => pack_for(alloc, buffer, members.as_slice(), options.flavor),
         Err(refusal) => Err(failure_of(refusal)),
     }
 }
@@ -132,19 +129,14 @@ fn put_library_of(
 pub fn library_of_into(
     alloc: Global,
     exports: &[Export<'_>],
-    dll: &[u8],
-    has_dll: u32,
-    machine: u16,
-    flavor: u32,
-    flags: u32,
+    arguments: OptionsArguments<'_>,
     buffer: &mut [u8],
 ) -> Result<usize, Failure>
-    ensures { LibraryOfAnswers (map given_export exports.now)
-        (record { machine = machine; flavor = flavor; flags = flags; has_dll = has_dll; dll = dll.now })
+    ensures { LibraryOfAnswers (map given_export exports.now) (given_options arguments)
         buffer.old buffer.new
         (length_given result) (place_given result) (status_number (status_given result)) }
 {
-    match options_with(dll, has_dll, machine, flavor, flags) {
+    match options_with(arguments) {
         Ok(options) => put_library_of(alloc, exports, &options, buffer),
         Err(failure) => Err(failure),
     }

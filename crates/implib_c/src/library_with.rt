@@ -1,17 +1,19 @@
 //! From a text and options to the library that the program makes of them, or to what is wrong.
 
 ghost use Rattle.implib.specs.Library.{member_view};
-ghost use Rattle.implib_c.specs.Given.{failure_status, length_given, place_given, status_given};
+ghost use Rattle.implib_c.specs.Given.{PacksInto, failure_status, length_given, place_given, status_given};
 ghost use Rattle.implib_c.specs.GivenWith.{IsNoOptions, IsWithin, PutsLibrary};
-ghost use Rattle.implib_c.specs.LibraryWith.{AreOptions, LibraryWithAnswers, mark_length, naming_numbered};
-ghost use Rattle.implib_c.specs.LibraryWith.{place_of_refusal, refusal_status};
+ghost use Rattle.implib_c.specs.LibraryWith.{AreOptions, LibraryWithAnswers, given_options, mark_length};
+ghost use Rattle.implib_c.specs.LibraryWith.{naming_numbered, place_of_refusal, refusal_status};
 ghost use Rattle.implib_c.specs.Status.{status_number};
+ghost use Rattle.implib_rules.specs.Library.{kind_of};
 ghost use Rattle.implib_rules.specs.Linked.{naming_view};
 ghost use Rattle.implib_rules.specs.Options.{library_options_view};
 ghost use Rattle.std.specs.Option.{option_map};
-ghost use Rattle.std.specs.Prelude.{◌≡◌, ◌+◌, ◌<◌, ◌^◌, Err, IfErr, IfOk};
+ghost use Rattle.std.specs.Prelude.{◌≡◌, ◌+◌, ◌<◌, ◌^◌, Err, IfErr, IfOk, map};
 
 use crate::outcome::{Failure, flavor_with, machine_with, pack_into};
+use implib::{Flavor, Member};
 use implib_rules::additions::Additions;
 use implib_rules::library::{Refusal, kind_for, members_for};
 use implib_rules::linked::Naming;
@@ -40,25 +42,38 @@ fn naming_with(flags: u32) -> Option<Naming>
     })
 }
 
-/// The options that are given as numbers, and as the bytes of a name; without one where `has_dll`
-/// is 0.
+/// The options as C passes them: numbers, and the bytes of a name.
+#[derive(Clone, Copy, Debug)]
+pub struct OptionsArguments<'a> {
+    /// The number of a machine.
+    pub machine: u16,
+    /// The number of a flavour.
+    pub flavor: u32,
+    /// A sum of the flags.
+    pub flags: u32,
+    /// 0 where no name of the DLL is given.
+    pub has_dll: u32,
+    /// The name of the DLL, where it is given.
+    pub dll: &'a [u8],
+}
+
+/// The options that are given.
 ///
 /// # Errors
 ///
 /// The first that applies: `UnknownMachine`, `UnknownFlavor`, `UnknownFlags`, `DllNotUtf8`.
-pub fn options_with<'a>(
-    dll: &'a [u8],
-    has_dll: u32,
-    machine: u16,
-    flavor: u32,
-    flags: u32,
-) -> Result<LibraryOptions<'a>, Failure>
-    ensures ok { IfOk result (λ options. AreOptions
-        (record { machine = machine; flavor = flavor; flags = flags; has_dll = has_dll; dll = dll.now })
+pub fn options_with<'a>(arguments: OptionsArguments<'a>) -> Result<LibraryOptions<'a>, Failure>
+    ensures ok { IfOk result (λ options. AreOptions (given_options arguments)
         (library_options_view options)) }
-    ensures fault { IfErr result (IsNoOptions
-        (record { machine = machine; flavor = flavor; flags = flags; has_dll = has_dll; dll = dll.now })) }
+    ensures fault { IfErr result (IsNoOptions (given_options arguments)) }
 {
+    let OptionsArguments {
+        machine,
+        flavor,
+        flags,
+        has_dll,
+        dll,
+    } = arguments;
     let Some(machine) = machine_with(machine) else {
         return Err(Failure::UnknownMachine);
     };
@@ -125,6 +140,24 @@ pub fn failure_in(text: &[u8], refusal: Refusal) -> Failure
     }
 }
 
+/// Puts the archive of members for a flavour at the beginning of the buffer, of the kind that the
+/// program makes, where there is room. Gives its length.
+///
+/// # Errors
+///
+/// `NoArchive`, `BufferTooSmall`, `OutOfMemory`.
+pub fn pack_for(
+    alloc: Global,
+    buffer: &mut [u8],
+    members: &[Member],
+    flavor: Flavor,
+) -> Result<usize, Failure>
+    ensures { PacksInto (kind_of flavor (map member_view members.now)) (map member_view members.now)
+        buffer.old buffer.new result }
+{
+    pack_into(alloc, buffer, members, kind_for(flavor, members.len()))
+}
+
 // Puts the library that the program makes of a text with these options at the beginning of the
 // buffer, where there is room. Gives its length.
 fn put_library(
@@ -137,10 +170,7 @@ fn put_library(
         (length_given result) (place_given result) (status_given result) }
 {
     match members_for(alloc, text, options) {
-        Ok(members) => {
-            let kind = kind_for(options.flavor, members.len());
-            pack_into(alloc, buffer, members.as_slice(), kind)
-        }
+        Ok(members) => pack_for(alloc, buffer, members.as_slice(), options.flavor),
         Err(refusal) => Err(failure_in(text, refusal)),
     }
 }
@@ -156,19 +186,13 @@ fn put_library(
 pub fn library_with_into(
     alloc: Global,
     text: &[u8],
-    dll: &[u8],
-    has_dll: u32,
-    machine: u16,
-    flavor: u32,
-    flags: u32,
+    arguments: OptionsArguments<'_>,
     buffer: &mut [u8],
 ) -> Result<usize, Failure>
-    ensures { LibraryWithAnswers text.now
-        (record { machine = machine; flavor = flavor; flags = flags; has_dll = has_dll; dll = dll.now })
-        buffer.old buffer.new
+    ensures { LibraryWithAnswers text.now (given_options arguments) buffer.old buffer.new
         (length_given result) (place_given result) (status_number (status_given result)) }
 {
-    match options_with(dll, has_dll, machine, flavor, flags) {
+    match options_with(arguments) {
         Ok(options) => put_library(alloc, text, &options, buffer),
         Err(failure) => Err(failure),
     }

@@ -4,8 +4,8 @@ ghost use Rattle.implib.specs.Conversions.{machine_numbered};
 ghost use Rattle.implib.specs.Library.{member_view};
 ghost use Rattle.implib.specs.Members.OfText.{MembersOf};
 ghost use Rattle.implib_c.specs.Answer.{Answers, flavor_numbered};
-ghost use Rattle.implib_c.specs.Given.{FailsSo, HasMembers, OnTextFault, PacksInto, PutsInto, failure_status, length_given, place_given, status_given};
-ghost use Rattle.implib_c.specs.Library.{LibraryAnswers, kind_for};
+ghost use Rattle.implib_c.specs.Given.{FailsSo, HasMembers, OnTextFault, PacksInto, PutsEncoding, PutsInto, failure_status, length_given, place_given, status_given};
+ghost use Rattle.implib_c.specs.Library.{LibraryAnswers, kind_of_flavor};
 ghost use Rattle.implib_c.specs.Status.{status_number};
 ghost use Rattle.std.specs.Prelude.{◌≡◌, IfErr, IfOk, map};
 
@@ -204,6 +204,20 @@ fn put_into(buffer: &mut [u8], members: &[Member]) -> Result<usize, Failure>
     Ok(put_members(buffer, members))
 }
 
+/// Puts an encoding at the beginning of the buffer, where there is room. Gives its length.
+///
+/// # Errors
+///
+/// `BufferTooSmall`.
+pub fn put_encoding(buffer: &mut [u8], bytes: &[u8]) -> Result<usize, Failure>
+    ensures { PutsEncoding bytes.now buffer.old buffer.new result }
+{
+    if buffer.len() < bytes.len() {
+        return Err(Failure::BufferTooSmall(bytes.len()));
+    }
+    Ok(put_bytes(buffer, 0, bytes))
+}
+
 /// Puts the members' archive at the beginning of the buffer, where there is room. Gives its length.
 ///
 /// The archive is made beside the buffer, which a failed allocation so leaves as it was.
@@ -229,8 +243,8 @@ pub fn pack_into(
 }
 
 // The kind of archive for a flavour.
-fn kind_for(flavor: Flavor) -> Kind
-    ensures { result ≡ kind_for flavor }
+fn kind_of_flavor(flavor: Flavor) -> Kind
+    ensures { result ≡ kind_of_flavor flavor }
 {
     match flavor {
         Flavor::Msvc => Kind::Coff,
@@ -307,7 +321,12 @@ pub fn library_into(
         (length_given result) (place_given result) (status_number (status_given result)) }
 {
     match read_members(alloc, text, machine, flavor) {
-        Ok((members, flavor)) => pack_into(alloc, buffer, members.as_slice(), kind_for(flavor)),
+        Ok((members, flavor)) => pack_into(
+            alloc,
+            buffer,
+            members.as_slice(),
+            kind_of_flavor(flavor),
+        ),
         Err(failure) => Err(failure),
     }
 }

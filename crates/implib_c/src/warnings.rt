@@ -2,21 +2,19 @@
 
 ghost use Rattle.implib_archive.specs.Pushed.{Pushes};
 ghost use Rattle.implib_c.specs.Given.{length_given, place_given, status_given};
-ghost use Rattle.implib_c.specs.LibraryWith.{mark_length};
+ghost use Rattle.implib_c.specs.LibraryWith.{given_options, mark_length};
 ghost use Rattle.implib_c.specs.Status.{status_number};
 ghost use Rattle.implib_c.specs.Warnings.{kind_number};
-ghost use Rattle.implib_c.specs.WarningsAnswer.{CountsMembers, HasMembers, HasNoMembers, HasNoWarnings, WarningsAnswers, is_memory};
+ghost use Rattle.implib_c.specs.WarningsAnswer.{HasNoWarnings, WarningsAnswers};
 ghost use Rattle.implib_c.specs.WarningsGiven.{EncodesWarnings, IsEncodingOf, PushesWarning};
 ghost use Rattle.implib_rules.specs.Options.{library_options_view};
 ghost use Rattle.implib_rules.specs.Warnings.{notice_view, warning_view};
-ghost use Rattle.std.specs.Prelude.{◌≡◌, ◌⊎◌, ◌<◌, ◌≤◌, IfErr, IfOk, OnOk, map};
+ghost use Rattle.std.specs.Prelude.{◌≡◌, ◌<◌, ◌≤◌, IfErr, IfOk, OnOk, map};
 
 use crate::definition::{push_number, push_text};
-use crate::encoding::put_bytes;
-use crate::library_with::{failure_in, mark_length, options_with};
-use crate::outcome::Failure;
-use implib::Flavor;
-use implib_rules::library::{Refusal, members_for};
+use crate::library_with::{OptionsArguments, failure_in, mark_length, options_with};
+use crate::outcome::{Failure, put_encoding};
+use implib_rules::library::{Refusal, member_count};
 use implib_rules::options::LibraryOptions;
 use implib_rules::places::{export_lines, read_with_places};
 use implib_rules::text::DefinitionText;
@@ -41,6 +39,7 @@ fn kind_number(notice: &Notice<'_>) -> u64
         Notice::SecondHeading => 10,
         Notice::Skipped => 11,
         Notice::EndsEarly => 12,
+        Notice::StandsAlone(_) => 13,
     }
 }
 
@@ -83,52 +82,6 @@ fn encoding_of(
         push_warning(alloc, &mut bytes, warning, lines, mark)?;
     }
     Ok(bytes)
-}
-
-// Whether memory was refused.
-fn is_memory(refusal: &Refusal) -> bool
-    ensures { result ≡ is_memory refusal.now }
-{
-    match refusal {
-        Refusal::OutOfMemory => true,
-        _ => false,
-    }
-}
-
-// The number of members, or 0 where there are none.
-fn count_members(
-    alloc: Global,
-    text: &[u8],
-    options: &LibraryOptions<'_>,
-) -> Result<usize, AllocError>
-    ensures { IfOk result (λ count. HasMembers text.now (library_options_view options.now) count
-        ⊎ HasNoMembers text.now (library_options_view options.now) count) }
-{
-    match members_for(alloc, text, options) {
-        Ok(members) => Ok(members.len()),
-        Err(refusal) => {
-            if is_memory(&refusal) {
-                Err(AllocError)
-            } else {
-                Ok(0)
-            }
-        }
-    }
-}
-
-// The number of members for Microsoft's linker; 0 for GNU's, where no warning needs it.
-fn member_count(
-    alloc: Global,
-    text: &[u8],
-    options: &LibraryOptions<'_>,
-) -> Result<usize, AllocError>
-    ensures { IfOk result (CountsMembers text.now (library_options_view options.now)
-        options.now.flavor) }
-{
-    match options.flavor {
-        Flavor::Gnu => Ok(0),
-        Flavor::Msvc => count_members(alloc, text, options),
-    }
 }
 
 // The warnings of a text for these options, encoded.
@@ -176,19 +129,13 @@ fn read_warnings(
 pub fn warnings_into(
     alloc: Global,
     text: &[u8],
-    dll: &[u8],
-    has_dll: u32,
-    machine: u16,
-    flavor: u32,
-    flags: u32,
+    arguments: OptionsArguments<'_>,
     buffer: &mut [u8],
 ) -> Result<usize, Failure>
-    ensures { WarningsAnswers text.now
-        (record { machine = machine; flavor = flavor; flags = flags; has_dll = has_dll; dll = dll.now })
-        buffer.old buffer.new
+    ensures { WarningsAnswers text.now (given_options arguments) buffer.old buffer.new
         (length_given result) (place_given result) (status_number (status_given result)) }
 {
-    let options = match options_with(dll, has_dll, machine, flavor, flags) {
+    let options = match options_with(arguments) {
         Ok(options) => options,
         Err(failure) => return Err(failure),
     };
@@ -196,8 +143,5 @@ pub fn warnings_into(
         Ok(bytes) => bytes,
         Err(refusal) => return Err(failure_in(text, refusal)),
     };
-    if buffer.len() < bytes.len() {
-        return Err(Failure::BufferTooSmall(bytes.len()));
-    }
-    Ok(put_bytes(buffer, 0, bytes.as_slice()))
+    put_encoding(buffer, bytes.as_slice())
 }

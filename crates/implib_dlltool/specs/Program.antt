@@ -4,12 +4,9 @@ use Rattle.std.specs.Io.KnownBytes.{Appends}
 use Rattle.std.specs.Str.{IsUtf8, bytes_eq}
 use Rattle.std.specs.declared.io.ErrorKind.{ErrorKind}
 use Rattle.std.specs.declared.io.ErrorKind.TheVariants.{InvalidData}
-use Rattle.implib.specs.declared.flavor.Flavor.{Flavor}
-use Rattle.implib.specs.declared.flavor.Flavor.TheVariants.{Msvc, Gnu}
 use Rattle.implib.specs.declared.machine.MachineType.TheVariants.{AMD64}
 use Rattle.implib.specs.Definition.{DefinitionView}
 use Rattle.implib.specs.Fault.{Cause}
-use Rattle.implib.specs.Members.MemberSpec.{MemberView}
 use Rattle.implib.specs.Text.Parses.{Parses, RefusesAt}
 use Rattle.implib_dlltool.specs.Arguments.{OccurrenceView, WordFaultView, read_words}
 use Rattle.implib_dlltool.specs.Disk.{DiskView}
@@ -21,8 +18,7 @@ use Rattle.implib_rules.specs.declared.library.LibraryError.TheVariants.{Refused
 use Rattle.implib_rules.specs.declared.library.Refusal.{Refusal}
 use Rattle.implib_rules.specs.declared.library.Refusal.TheVariants.{OutOfMemory}
 use Rattle.implib_rules.specs.declared.places.Place.{Place}
-use Rattle.implib_rules.specs.Library.{IsRefusalOfMembers, MembersFor, status_of, definition_text}
-use Rattle.implib_rules.specs.Options.{LibraryOptionsView}
+use Rattle.implib_rules.specs.Library.{CountsMembers, definition_text, status_of}
 use Rattle.implib_rules.specs.Places.{ArePlacesOf, export_lines}
 use Rattle.implib_rules.specs.TextWarnings.{text_warnings}
 use Rattle.implib_rules.specs.Warnings.{WarningView}
@@ -45,24 +41,6 @@ definition_in input disk path = if bytes_eq path (codes "-") then input else dis
 pub record KeepsFiles (before after : DiskView) : Type 0 where
   pub seen : after.seen ≡ before.seen
   pub left : after.left ≡ before.left
-
--- how many members the library has
-pub record HasMembers (bytes : List ℕ) (options : LibraryOptionsView) (count : ℕ) : Type 0 where
-  pub members : List MemberView
-  pub members_for : MembersFor bytes options members
-  pub are : count ≡ length members
-
--- there are no members, and not for want of memory
-pub record HasNoMembers (bytes : List ℕ) (options : LibraryOptionsView) (count : ℕ) : Type 0 where
-  pub refusal : Refusal
-  pub is_refused : IsRefusalOfMembers bytes options refusal
-  pub is_true : status_of refusal ≡ 1
-  pub none : count ≡ 0
-
--- the number of members for warnings: none of a flavour need it for GNU's linker
-abbrev pub CountsMembers : List ℕ → LibraryOptionsView → Flavor → ℕ → Type 0
-CountsMembers bytes options Gnu count = count ≡ 0
-CountsMembers bytes options Msvc count = HasMembers bytes options count ⊎ HasNoMembers bytes options count
 
 -- warnings of the definition of a path, as they are said
 abbrev pub warning_lines : List ℕ → List ℕ → List WarningView → List Line

@@ -1,9 +1,7 @@
 //! The program: its arguments, its run over files, and its exit status.
 
 ghost use Rattle.implib.specs.Definition.{definition_view};
-ghost use Rattle.implib_dlltool.specs.Arguments.{occurrence_view};
-ghost use Rattle.implib_dlltool.specs.Program.{CountsMembers, DoesOptions, DoesWords, Finishes};
-ghost use Rattle.implib_dlltool.specs.Program.{HasMembers, HasNoMembers};
+ghost use Rattle.implib_dlltool.specs.Program.{DoesWords, Finishes};
 ghost use Rattle.implib_dlltool.specs.Program.{IsUncalled, KeepsFiles, Makes, Prints, Runs};
 ghost use Rattle.implib_dlltool.specs.Program.{SaysWarnings, Warned, answer_status, definition_in};
 ghost use Rattle.implib_dlltool.specs.Program.{devices, own_name, texts};
@@ -11,23 +9,21 @@ ghost use Rattle.implib_dlltool.specs.Program.{verdict, warning_lines};
 ghost use Rattle.implib_dlltool.specs.Reports.{Complains, Says, complaint_view};
 ghost use Rattle.implib_dlltool.specs.Request.{request_view};
 ghost use Rattle.implib_rules.specs.Library.{status_of};
-ghost use Rattle.implib_rules.specs.Options.{library_options_view};
 ghost use Rattle.implib_rules.specs.Warnings.{warning_view};
 ghost use Rattle.std.specs.IoError.{error_kind};
-ghost use Rattle.std.specs.Prelude.{◌≡◌, ◌⊎◌, [], ◌∷◌, IfErr, IfOk, IfSome, None, OnErr, OnOk, map};
+ghost use Rattle.std.specs.Prelude.{◌≡◌, [], ◌∷◌, IfErr, IfOk, IfSome, None, OnErr, OnOk, map};
 ghost use Rattle.std.specs.String.{string_bytes};
 ghost use Rattle.std.specs.Vec.Iter.{into_iter_items};
 
-use crate::arguments::{Occurrence, ReadWordsError, read_words};
+use crate::arguments::{ReadWordsError, read_words};
 use crate::disk::Disk;
 use crate::placing::put;
 use crate::reporter::{Complaint, Reporter};
 use crate::request::{CallError, Request, Task, caller_of, task_of};
 use crate::verbose::warnings_for;
+use implib::ParseError;
 use implib::def::ModuleDef;
-use implib::{Flavor, ParseError};
-use implib_rules::library::{LibraryError, Refusal, members_for};
-use implib_rules::options::LibraryOptions;
+use implib_rules::library::{LibraryError, Refusal, member_count};
 use implib_rules::places::{Place, export_lines, read_with_places};
 use implib_rules::text::DefinitionText;
 use implib_rules::text_warnings::text_warnings;
@@ -106,42 +102,6 @@ fn refusal_status(refusal: &Refusal) -> u8
     match refusal {
         Refusal::OutOfMemory => 3,
         _ => 1,
-    }
-}
-
-// The number of members, or 0 where there are none.
-fn count_members(
-    alloc: Global,
-    bytes: &[u8],
-    options: &LibraryOptions<'_>,
-) -> Result<usize, AllocError>
-    ensures { IfOk result (λ count. HasMembers bytes.now (library_options_view options.now) count
-        ⊎ HasNoMembers bytes.now (library_options_view options.now) count) }
-{
-    match members_for(alloc, bytes, options) {
-        Ok(members) => Ok(members.len()),
-        Err(refusal) => {
-            if refusal_status(&refusal) == 1 {
-                Ok(0)
-            } else {
-                Err(AllocError)
-            }
-        }
-    }
-}
-
-// The number of members for Microsoft's linker; 0 for GNU's, where no warning needs it.
-fn member_count(
-    alloc: Global,
-    bytes: &[u8],
-    options: &LibraryOptions<'_>,
-) -> Result<usize, AllocError>
-    ensures { IfOk result (CountsMembers bytes.now (library_options_view options.now)
-        options.now.flavor) }
-{
-    match options.flavor {
-        Flavor::Gnu => Ok(0),
-        Flavor::Msvc => count_members(alloc, bytes, options),
     }
 }
 
@@ -314,56 +274,42 @@ fn complain<T: Reporter>(reporter: &mut T, complaint: Complaint<'_>, status: u8)
     status
 }
 
-// Does what options ask for, where the program is called so; gives the exit status.
-fn perform_options<D: Disk, I: Read, O: Write, T: Reporter>(
+// How the program is called: by this name, with these words after it.
+#[derive(Clone, Copy, Debug)]
+struct Call<'a> {
+    program: &'a str,
+    words: &'a [String],
+}
+
+// Does what a call asks for, and gives the exit status.
+fn perform_call<D: Disk, I: Read, O: Write, T: Reporter>(
     alloc: Global,
-    program: &str,
-    options: &[Occurrence<'_>],
+    call: Call<'_>,
     disk: &mut D,
     input: &mut I,
     printer: &mut O,
     reporter: &mut T,
 ) -> u8
     requires { (D.view disk.old).left ≡ None }
-    ensures { DoesOptions D.is_known (texts HELP.now VERSION.now) program.now
-        (map occurrence_view options.now)
+    ensures { DoesWords D.is_known (texts HELP.now VERSION.now) call.program.now
+        (map string_bytes call.words.now)
         (devices (I.remaining input.old) (D.view disk.old) (T.said reporter.old))
         (devices (I.remaining input.new) (D.view disk.new) (T.said reporter.new))
         (O.contents printer.old) (O.contents printer.new) result }
 {
-    match task_of(alloc, options, caller_of(program)) {
+    let options = match read_words(alloc, call.words) {
+        Ok(options) => options,
+        Err(ReadWordsError::Refused(fault)) => {
+            return complain(reporter, Complaint::Word(fault), 2);
+        }
+        Err(ReadWordsError::OutOfMemory) => return complain(reporter, Complaint::OutOfMemory, 3),
+    };
+    match task_of(alloc, options.as_slice(), caller_of(call.program)) {
         Ok(Task::Help) => print(printer, reporter, HELP),
         Ok(Task::Version) => print(printer, reporter, VERSION),
         Ok(Task::Make(request)) => make(alloc, disk, &request, input, reporter),
         Err(CallError::Refused(fault)) => complain(reporter, Complaint::Call(fault), 2),
         Err(CallError::OutOfMemory) => complain(reporter, Complaint::OutOfMemory, 3),
-    }
-}
-
-// Does what the words after the program's name ask for, and gives the exit status.
-fn perform_words<D: Disk, I: Read, O: Write, T: Reporter>(
-    alloc: Global,
-    program: &str,
-    words: &[String],
-    disk: &mut D,
-    input: &mut I,
-    printer: &mut O,
-    reporter: &mut T,
-) -> u8
-    requires { (D.view disk.old).left ≡ None }
-    ensures { DoesWords D.is_known (texts HELP.now VERSION.now) program.now
-        (map string_bytes words.now)
-        (devices (I.remaining input.old) (D.view disk.old) (T.said reporter.old))
-        (devices (I.remaining input.new) (D.view disk.new) (T.said reporter.new))
-        (O.contents printer.old) (O.contents printer.new) result }
-{
-    match read_words(alloc, words) {
-        Ok(options) => {
-            let options = options.as_slice();
-            perform_options(alloc, program, options, disk, input, printer, reporter)
-        }
-        Err(ReadWordsError::Refused(fault)) => complain(reporter, Complaint::Word(fault), 2),
-        Err(ReadWordsError::OutOfMemory) => complain(reporter, Complaint::OutOfMemory, 3),
     }
 }
 
@@ -385,10 +331,19 @@ pub fn run<D: Disk, I: Read, O: Write, T: Reporter>(
         (O.contents printer.old) (O.contents printer.new) result }
 {
     match arguments {
-        [] => perform_words(alloc, NAME, arguments, disk, input, printer, reporter),
+        [] => {
+            let call = Call {
+                program: NAME,
+                words: arguments,
+            };
+            perform_call(alloc, call, disk, input, printer, reporter)
+        }
         [program, words @ ..] => {
-            let program = program.as_str();
-            perform_words(alloc, program, words, disk, input, printer, reporter)
+            let call = Call {
+                program: program.as_str(),
+                words,
+            };
+            perform_call(alloc, call, disk, input, printer, reporter)
         }
     }
 }

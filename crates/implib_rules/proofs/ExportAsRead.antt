@@ -28,7 +28,7 @@ is_short r fits =
     eq-eqb (u32_at (short_import_bytes r) 12) (length (short_import_bytes r) - short_import_header_size) (omega (arith, size_read r fits, length-short_import_bytes r)) in
     rw (long, size) refl
 
--- the types' number tells data from what is none
+-- the types' number says what is data
 types_tell : (e : ExportView) (n : ℕ) → n ≡ import_type_of e + 4 * 4
     → ((n == 4 * 4 + import_data) ≡ e.is_data) × ((nat_le 16 n ≡ true) × (nat_le n 18 ≡ true))
 types_tell e n is = by e.is_data e.constant n is

@@ -11,6 +11,7 @@ pub mod BothFlavors
 pub mod OrderedReadings
 pub mod PlainNames
 pub mod PlainPlaces
+pub mod PlainStays
 pub mod Made
 pub mod ExportedAs
 pub mod ExportAsRead

@@ -1,5 +1,5 @@
 -- Which bytes the library of a definition has, and when there is none.
-use Rattle.std.specs.Prelude.{◌≡◌, ℕ, IfErr, [], ◌∷◌, Bool, true, false, List, Option, None, Some, if◌then◌else◌, drop, length, nat_eq, nat_lt}
+use Rattle.std.specs.Prelude.{◌≡◌, ◌⊎◌, ℕ, IfErr, [], ◌∷◌, Bool, true, false, List, Option, None, Some, if◌then◌else◌, drop, length, nat_eq, nat_lt}
 use Rattle.std.specs.List.{starts_with}
 use Rattle.std.specs.declared.result.Result.{Result}
 use Rattle.std.specs.Io.KnownBytes.{Appends}
@@ -129,6 +129,29 @@ IsRefusalOfMembers bytes options (Members fault position) =
     RefusesMembers bytes options (cause_of fault) × IsAtFault (definition_text bytes) (cause_of fault) position
 IsRefusalOfMembers bytes options (Archive fault) = ⊥
 IsRefusalOfMembers bytes options OutOfMemory = Unit {0}
+
+-- whether memory was refused
+abbrev pub is_out_of_memory : Refusal → Bool
+is_out_of_memory OutOfMemory = true
+is_out_of_memory _ = false
+
+-- the library has this many members
+pub record HasMembers (bytes : List ℕ) (options : LibraryOptionsView) (count : ℕ) : Type 0 where
+  pub members : List MemberView
+  pub members_for : MembersFor bytes options members
+  pub are : count ≡ length members
+
+-- there are no members, and not for want of memory
+pub record HasNoMembers (bytes : List ℕ) (options : LibraryOptionsView) (count : ℕ) : Type 0 where
+  pub why : Refusal
+  pub is_refused : IsRefusalOfMembers bytes options why
+  pub has_memory : is_out_of_memory why ≡ false
+  pub none : count ≡ 0
+
+-- the number of members that the warnings are of; for GNU's linker none needs it
+abbrev pub CountsMembers : List ℕ → LibraryOptionsView → Flavor → ℕ → Type 0
+CountsMembers bytes options Gnu count = count ≡ 0
+CountsMembers bytes options Msvc count = HasMembers bytes options count ⊎ HasNoMembers bytes options count
 
 -- The kind of archive for a number of members: Microsoft's for its linker, if the second linker member can
 -- number them; else GNU's, as llvm-dlltool writes it then.

@@ -14,7 +14,7 @@ use Rattle.implib.specs.Renaming.{name_to_link}
 use Rattle.std.specs.List.{after_first, before_first, find, list_any, position_or_len}
 use Rattle.implib_rules.specs.declared.linked.Naming.{Naming}
 
--- how names are read on I386, and how Microsoft's linker is told what to ask for
+-- how names are read on I386, and how a short import names what Microsoft's linker asks for
 pub record NamingView : Type 0 where
   -- symbols are as written
   pub is_plain : Bool

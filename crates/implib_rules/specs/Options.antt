@@ -12,7 +12,7 @@ pub record LibraryOptionsView : Type 0 where
   pub flavor : Flavor
   -- the DLL's name, before the definition's own
   pub dll : Option (List ℕ)
-  -- how names are read on I386, and how Microsoft's linker is told what to ask for
+  -- how names are read on I386, and how a short import names what Microsoft's linker asks for
   pub naming : NamingView
   -- what is added to the exports
   pub additions : AdditionsView

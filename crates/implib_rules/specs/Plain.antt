@@ -7,7 +7,7 @@ use Rattle.std.specs.List.{fold, starts_with}
 use Rattle.implib.specs.Ascii.{begins}
 use Rattle.implib.specs.Text.Token.{is_delimiter}
 use Rattle.implib_rules.specs.declared.plain.Before.{Before}
-use Rattle.implib_rules.specs.declared.plain.Before.TheVariants.{LineStart, SectionStart, Name, Sign, Number}
+use Rattle.implib_rules.specs.declared.plain.Before.TheVariants.{LineStart, SectionStart, Name, Sign, Number, AtSign}
 use Rattle.implib_rules.specs.declared.plain.Decimal.{Decimal}
 use Rattle.implib_rules.specs.declared.plain.Part.{Part}
 use Rattle.implib_rules.specs.declared.plain.Part.TheVariants.{Between, Word, Quotes, Apostrophes, Comment, Skipped, Ended, SecondSign, Blank, Digits}
@@ -156,6 +156,17 @@ abbrev pub is_after_number : Before → Bool
 is_after_number Number = true
 is_after_number _ = false
 
+-- a number may be next: one of a keyword's, or an ordinal after a lone `@`
+abbrev pub is_number_next : Before → Bool
+is_number_next Number = true
+is_number_next AtSign = true
+is_number_next _ = false
+
+-- after a number: after an ordinal what follows a name, and else further numbers
+abbrev pub after_number : Before → Before
+after_number AtSign = Name
+after_number _ = Number
+
 -- after a sign
 abbrev pub after_sign : Before → Before
 after_sign before = if is_after_number before then Number else Sign
@@ -173,8 +184,8 @@ abbrev pub after_this_word : Before → List ℕ → Before
 after_this_word before text =
     if wants_name text then Sign
     else if wants_number text then Number
-    else if is_after_name before && begins_word (codes "@") text then Number
-    else if is_after_number before && begins is_ascii_digit text then Number
+    else if is_after_name before && begins_word (codes "@") text then AtSign
+    else if is_number_next before && begins is_ascii_digit text then after_number before
     else Name
 
 -- ---- one byte
@@ -208,14 +219,14 @@ ordinal_step before b text (Some number) = put b (Digits number) Name
 -- a number, if it is a hexadecimal one
 abbrev pub number_step : Before → ℕ → List ℕ → Option Decimal → Step
 number_step before b text None = word_step before b text
-number_step before b text (Some number) = put (digit_of number) (Digits (after_digit number)) Number
+number_step before b text (Some number) = put (digit_of number) (Digits (after_digit number)) (after_number before)
 
 -- the first byte of a word that is no statement
 unfoldable pub name_step : Before → ℕ → List ℕ → List ℕ → Step
 name_step before b text rest =
     if is_after_name before && is_export_as text then put 61 SecondSign Sign
     else if is_after_name before && b == 64 then ordinal_step before b text (hex_number rest)
-    else if is_after_number before then number_step before b text (hex_number text)
+    else if is_number_next before then number_step before b text (hex_number text)
     else word_step before b text
 
 -- a statement of one line, at the beginning of a line

@@ -92,6 +92,8 @@ pub data NoticeView : Type 0 where
   IsSkipped : NoticeView
   -- a NUL ends the text, and something follows it
   EndsEarly : NoticeView
+  -- the word begins a statement elsewhere, or names what an export asks for, and is a name here
+  StandsAlone : List ℕ → NoticeView
 
 -- the view of a notice of the program
 abbrev pub notice_view : Notice → NoticeView
@@ -107,6 +109,7 @@ notice_view (notice.NotExported word) = IsNotExported word.now
 notice_view notice.SecondHeading = IsSecondHeading
 notice_view notice.Skipped = IsSkipped
 notice_view notice.EndsEarly = EndsEarly
+notice_view (notice.StandsAlone word) = StandsAlone word.now
 
 -- a warning: what it says, and where it is
 pub record WarningView : Type 0 where

@@ -1,6 +1,7 @@
 -- Texts of definitions, worked by hand.
-use Rattle.std.specs.Prelude.{◌≡◌, [], ◌∷◌, ◌++◌, codes}
+use Rattle.std.specs.Prelude.{◌≡◌, [], ◌∷◌, ◌++◌, codes, false, true}
 use Rattle.implib_rules.specs.Plain.{plain_text}
+use Rattle.implib_rules.specs.PlainLaws.{has_form}
 
 -- definitions as other tools write them, and what is read
 pub record PlainTextsWorked : Type 0 where
@@ -27,6 +28,8 @@ pub record PlainTextsWorked : Type 0 where
   pub exported_as_first : plain_text (codes "EXPORTS EXPORTAS b") ≡ codes "EXPORTS EXPORTAS b"
   pub exported_after_a_sign : plain_text (codes "a == EXPORTAS b") ≡ codes "a == EXPORTAS b"
   pub exported_as_nothing : plain_text (codes "a EXPORTAS ;b\nc EXPORTAS") ≡ codes "a EXPORTAS ;b\nc EXPORTAS"
+  pub exported_after_an_ordinal : plain_text (codes "a @ 1 EXPORTAS b\nc @ 0x2 EXPORTAS d\ne @3 EXPORTAS f") ≡ codes "a @ 1 ==       b\nc @ 002 ==       d\ne @3 ==       f"
+  pub exported_after_no_ordinal : plain_text (codes "a @ EXPORTAS b\nSTACKSIZE 1 EXPORTAS c") ≡ codes "a @ EXPORTAS b\nSTACKSIZE 1 EXPORTAS c"
   pub library_of_that_name : plain_text (codes "LIBRARY EXPORTAS BASE=1") ≡ codes "LIBRARY EXPORTAS BASE=1"
   pub apostrophes : plain_text (codes "LIBRARY 'a b.dll'") ≡ codes "LIBRARY " ++ (34 ∷ []) ++ codes "a b.dll" ++ (34 ∷ [])
   pub apostrophes_twice : plain_text (codes "'a''b'") ≡ (34 ∷ []) ++ codes "a" ++ (34 ∷ 34 ∷ []) ++ codes "b" ++ (34 ∷ [])
@@ -39,3 +42,13 @@ pub record PlainTextsWorked : Type 0 where
   pub no_numbers : plain_text (codes "EXPORTS\n0x10\n@0x10\na @0xG\nb @0x\nc = 0x10\nd == @0x10\nNAME 0x10") ≡ codes "EXPORTS\n0x10\n@0x10\na @0xG\nb @0x\nc = 0x10\nd == @0x10\nNAME 0x10"
   pub ended : plain_text (codes "a " ++ (0 ∷ 0xFF ∷ []) ++ codes "'b'") ≡ codes "a " ++ (0 ∷ []) ++ codes "?'b'"
   pub in_order : plain_text (codes "LIBRARY a\nHEAPSIZE 1,2 ; c\nEXPORTS\n  b @1 NONAME DATA\n c=d == e PRIVATE\n") ≡ codes "LIBRARY a\nHEAPSIZE 1,2 ; c\nEXPORTS\n  b @1 NONAME DATA\n c=d == e PRIVATE\n"
+
+-- texts that have no form, and texts that have one, worked by hand
+pub record FormsWorked : Type 0 where
+  pub statements : has_form (codes "LIBRARY a.dll BASE=4096\nHEAPSIZE 1,2 ; c\nEXPORTS\n  b @1 NONAME DATA\n c=d == e PRIVATE\n") ≡ false
+  pub longer_words : has_form ((34 ∷ []) ++ codes "a b" ++ (34 ∷ []) ++ codes " DESCRIPTIONS\nSTUBS @ 10\nx0_EXETYPES 0X1\n") ≡ false
+  pub keyword : has_form (codes "a EXPORTAS b") ≡ true
+  pub number : has_form (codes "a @0x10") ≡ true
+  pub apostrophes : has_form (codes "LIBRARY 'a'") ≡ true
+  pub path : has_form (codes "STUB:a") ≡ true
+  pub foreign_comment : has_form (codes ";" ++ 0xFC ∷ []) ≡ true

@@ -1,7 +1,7 @@
 -- Warnings of the form of a text, worked by hand.
 use Rattle.std.specs.Prelude.{◌≡◌, ℕ, [], ◌∷◌, ◌++◌, codes}
 use Rattle.implib_rules.specs.TextWarnings.{text_warnings}
-use Rattle.implib_rules.specs.Warnings.{EndsEarly, IsSkipped, NoticeView, WarningView}
+use Rattle.implib_rules.specs.Warnings.{EndsEarly, IsSkipped, NoticeView, StandsAlone, WarningView}
 use Rattle.implib_rules.specs.WorkedWarnings.{at_line}
 
 -- a warning at an offset, a line and a column
@@ -9,7 +9,12 @@ abbrev pub at : NoticeView → ℕ → ℕ → ℕ → WarningView
 at notice offset line column = record { notice = notice; position = at_line offset line column }
 
 pub record TextWarningsWorked : Type 0 where
-  pub none : text_warnings (codes "LIBRARY 'a' BASE=0x10 ;x\nEXPORTS\nDESCRIPTION\nb EXPORTAS c @0x10") ≡ []
+  pub none : text_warnings (codes "LIBRARY 'a' BASE=0x10 ;x\nEXPORTS\nb EXPORTAS c @0x10") ≡ []
+  pub alone : text_warnings (codes "EXPORTS\nDESCRIPTION\nSTUB\n EXETYPE\nSECTIONS\nEXPORTAS")
+      ≡ at (StandsAlone (codes "DESCRIPTION")) 8 2 1 ∷ at (StandsAlone (codes "STUB")) 20 3 1 ∷ at (StandsAlone (codes "EXETYPE")) 26 4 2
+      ∷ at (StandsAlone (codes "SECTIONS")) 34 5 1 ∷ at (StandsAlone (codes "EXPORTAS")) 43 6 1 ∷ []
+  pub exported_as_nothing : text_warnings (codes "EXPORTS\nf EXPORTAS\ng") ≡ at (StandsAlone (codes "EXPORTAS")) 10 2 3 ∷ []
+  pub not_alone : text_warnings (codes "EXPORTS\n" ++ (34 ∷ []) ++ codes "STUB" ++ (34 ∷ []) ++ codes "\nSTUBS\nEXPORTS SECTIONS") ≡ []
   pub description : text_warnings (codes "LIBRARY a\n DESCRIPTION 'b'\nEXPORTS c") ≡ at IsSkipped 11 2 2 ∷ []
   pub several : text_warnings (codes "STUB:a\nEXETYPE OS2\nEXPORTS c") ≡ at IsSkipped 0 1 1 ∷ at IsSkipped 7 2 1 ∷ []
   pub sections : text_warnings (codes "SECTIONS\n.a READ\n.b WRITE\nDESCRIPTION 'c'") ≡ at IsSkipped 0 1 1 ∷ at IsSkipped 26 4 1 ∷ []

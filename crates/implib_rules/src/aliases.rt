@@ -1,6 +1,6 @@
 //! The imports that the aliases of a definition lead to.
 
-ghost use Rattle.implib.specs.Definition.{ExportView, export_view};
+ghost use Rattle.implib.specs.Definition.{export_view};
 ghost use Rattle.implib.specs.declared.flavor.Flavor.TheVariants.{Msvc};
 ghost use Rattle.implib_rules.specs.Firsts.{AreFirstAsking, AreFirstDeclared};
 ghost use Rattle.implib_rules.specs.Linked.{adds_target, alias_symbol, has_target, is_among, is_taken};
@@ -9,7 +9,7 @@ ghost use Rattle.implib_rules.specs.Linked.{symbol_asking, target_import, target
 ghost use Rattle.implib_rules.specs.Linked.{targets_added, with_symbol, with_target};
 ghost use Rattle.implib_rules.specs.Views.{AreLinks};
 ghost use Rattle.std.specs.List.{list_any};
-ghost use Rattle.std.specs.Prelude.{◌≡◌, ◌++◌, IfOk, List, OnOk, map, not, option_map};
+ghost use Rattle.std.specs.Prelude.{◌≡◌, ◌++◌, IfOk, OnOk, map, not, option_map};
 ghost use Rattle.std.specs.String.{string_bytes};
 
 use crate::firsts::{first_asking, first_declared};
@@ -20,102 +20,91 @@ use indexmap::IndexSet;
 use std::alloc::{AllocError, Global};
 use std::collections::HashMap;
 
+// How words are looked up among exports.
+#[derive(Drop)]
+struct Lookups<'a> {
+    machine: MachineType,
+    naming: Naming,
+    exports: &'a [ShortExport],
+    // The first import by name that asks for each word.
+    asking: HashMap<&'a str, usize>,
+    // The export that declares each word.
+    declared: HashMap<&'a str, usize>,
+    ghost are_asking: { AreFirstAsking machine (naming_view naming) asking
+        (map export_view exports.now) },
+    ghost are_declared: { AreFirstDeclared declared (map export_view exports.now) },
+}
+
 // The symbol of the first import by name that asks for a word.
 fn symbol_asking(
     alloc: Global,
-    machine: MachineType,
-    naming: Naming,
-    exports: &[ShortExport],
-    asking: &HashMap<&str, usize>,
+    lookups: &Lookups<'_>,
     word: &str,
 ) -> Result<Option<String>, AllocError>
-    requires { AreFirstAsking machine (naming_view naming) asking.now (map export_view exports.now) }
     ensures { IfOk result (λ symbol. option_map string_bytes symbol
-        ≡ symbol_asking machine (naming_view naming) (map export_view exports.now) word.now) }
+        ≡ symbol_asking lookups.now.machine (naming_view lookups.now.naming)
+        (map export_view lookups.now.exports.now) word.now) }
 {
-    let Some(index) = asking.get(word).copied() else {
+    let Some(index) = lookups.asking.get(word).copied() else {
         return Ok(None);
     };
-    match exports.get(index) {
-        Some(export) => Ok(Some(symbol_linked(alloc, machine, naming, export)?)),
+    match lookups.exports.get(index) {
+        Some(export) => Ok(Some(symbol_linked(alloc, lookups.machine, lookups.naming, export)?)),
         None => Ok(None),
     }
 }
 
 // Whether a word that no import asks for has no import of its own.
-fn is_taken(naming: Naming, declared: &HashMap<&str, usize>, word: &str) -> bool
-    ensures { (exports : List ExportView) → AreFirstDeclared declared.now exports →
-        result ≡ is_taken (naming_view naming) exports word.now }
+fn is_taken(lookups: &Lookups<'_>, word: &str) -> bool
+    ensures { result ≡ is_taken (naming_view lookups.now.naming)
+        (map export_view lookups.now.exports.now) word.now }
 {
-    naming.exports_as || declared.contains_key(word)
+    lookups.naming.exports_as || lookups.declared.contains_key(word)
 }
 
 // The symbol by which the DLL is asked for a word, if there is one.
 fn target_symbol(
     alloc: Global,
-    machine: MachineType,
-    naming: Naming,
-    exports: &[ShortExport],
-    asking: &HashMap<&str, usize>,
-    declared: &HashMap<&str, usize>,
+    lookups: &Lookups<'_>,
     word: &str,
 ) -> Result<Option<String>, AllocError>
-    requires asking { AreFirstAsking machine (naming_view naming) asking.now
-        (map export_view exports.now) }
-    requires declared { AreFirstDeclared declared.now (map export_view exports.now) }
     ensures { IfOk result (λ symbol. option_map string_bytes symbol
-        ≡ target_symbol machine (naming_view naming) (map export_view exports.now) word.now) }
+        ≡ target_symbol lookups.now.machine (naming_view lookups.now.naming)
+        (map export_view lookups.now.exports.now) word.now) }
 {
-    match symbol_asking(alloc, machine, naming, exports, asking, word)? {
+    match symbol_asking(alloc, lookups, word)? {
         Some(symbol) => Ok(Some(symbol)),
-        None if is_taken(naming, declared, word) => Ok(None),
-        None => Ok(Some(symbol_of(alloc, machine, naming, word)?)),
+        None if is_taken(lookups, word) => Ok(None),
+        None => Ok(Some(symbol_of(alloc, lookups.machine, lookups.naming, word)?)),
     }
 }
 
 // The symbol that an export is weak for in Microsoft's flavour, if it is an alias.
 fn alias_symbol(
     alloc: Global,
-    machine: MachineType,
-    naming: Naming,
-    exports: &[ShortExport],
-    asking: &HashMap<&str, usize>,
-    declared: &HashMap<&str, usize>,
+    lookups: &Lookups<'_>,
     export: &ShortExport,
 ) -> Result<Option<String>, AllocError>
-    requires asking { AreFirstAsking machine (naming_view naming) asking.now
-        (map export_view exports.now) }
-    requires declared { AreFirstDeclared declared.now (map export_view exports.now) }
     ensures { IfOk result (λ symbol. option_map string_bytes symbol
-        ≡ alias_symbol machine (naming_view naming) Msvc (map export_view exports.now)
-        (export_view export.now)) }
+        ≡ alias_symbol lookups.now.machine (naming_view lookups.now.naming) Msvc
+        (map export_view lookups.now.exports.now) (export_view export.now)) }
 {
-    if !is_apart(alloc, machine, naming, export)? {
+    if !is_apart(alloc, lookups.machine, lookups.naming, export)? {
         return Ok(None);
     }
-    let word = export.alias_target.as_str();
-    target_symbol(alloc, machine, naming, exports, asking, declared, word)
+    target_symbol(alloc, lookups, export.alias_target.as_str())
 }
 
 // The symbols that the exports are weak for in Microsoft's flavour, one by one.
-fn alias_symbols(
-    alloc: Global,
-    machine: MachineType,
-    naming: Naming,
-    exports: &[ShortExport],
-    asking: &HashMap<&str, usize>,
-    declared: &HashMap<&str, usize>,
-) -> Result<Vec<Option<String>>, AllocError>
-    requires asking { AreFirstAsking machine (naming_view naming) asking.now
-        (map export_view exports.now) }
-    requires declared { AreFirstDeclared declared.now (map export_view exports.now) }
+fn alias_symbols(alloc: Global, lookups: &Lookups<'_>) -> Result<Vec<Option<String>>, AllocError>
     ensures { IfOk result (λ symbols. map (option_map string_bytes) symbols.items
-        ≡ map (alias_symbol machine (naming_view naming) Msvc (map export_view exports.now))
-        (map export_view exports.now)) }
+        ≡ map (alias_symbol lookups.now.machine (naming_view lookups.now.naming) Msvc
+        (map export_view lookups.now.exports.now)) (map export_view lookups.now.exports.now)) }
 {
+    let exports = lookups.exports;
     let mut symbols = Vec::with_capacity(alloc, exports.len())?;
     for export in exports {
-        symbols.push(alias_symbol(alloc, machine, naming, exports, asking, declared, export)?)?;
+        symbols.push(alias_symbol(alloc, lookups, export)?)?;
     }
     Ok(symbols)
 }
@@ -152,52 +141,43 @@ fn insert_symbol(symbols: &mut IndexSet<String>, symbol: String) -> Result<bool,
 // Whether an alias wants an import of its word after `==`.
 fn adds_target(
     alloc: Global,
-    machine: MachineType,
-    naming: Naming,
-    asking: &HashMap<&str, usize>,
-    declared: &HashMap<&str, usize>,
+    lookups: &Lookups<'_>,
     export: &ShortExport,
 ) -> Result<bool, AllocError>
-    ensures { (exports : List ExportView) →
-        AreFirstAsking machine (naming_view naming) asking.now exports →
-        AreFirstDeclared declared.now exports →
-        IfOk result (λ adds. adds
-        ≡ adds_target machine (naming_view naming) exports (export_view export.now)) }
+    ensures { IfOk result (λ adds. adds
+        ≡ adds_target lookups.now.machine (naming_view lookups.now.naming)
+        (map export_view lookups.now.exports.now) (export_view export.now)) }
 {
     let word = export.alias_target.as_str();
-    if asking.contains_key(word) || is_taken(naming, declared, word) {
+    if lookups.asking.contains_key(word) || is_taken(lookups, word) {
         return Ok(false);
     }
-    is_apart(alloc, machine, naming, export)
+    is_apart(alloc, lookups.machine, lookups.naming, export)
 }
 
 // Adds the import of an alias's target, if it is to be added and its symbol is not there.
 fn push_target(
     alloc: Global,
-    machine: MachineType,
-    naming: Naming,
-    asking: &HashMap<&str, usize>,
-    declared: &HashMap<&str, usize>,
+    lookups: &Lookups<'_>,
     export: &ShortExport,
     symbols: &mut IndexSet<String>,
     targets: &mut Vec<ShortExport>,
 ) -> Result<(), AllocError>
-    ensures symbols { (exports : List ExportView) →
-        AreFirstAsking machine (naming_view naming) asking.now exports →
-        AreFirstDeclared declared.now exports →
-        OnOk result (map string_bytes symbols.new.keys
-        ≡ with_target machine (naming_view naming) exports
-        (map string_bytes symbols.old.keys) (export_view export.now)) }
-    ensures targets { (exports : List ExportView) →
-        AreFirstAsking machine (naming_view naming) asking.now exports →
-        AreFirstDeclared declared.now exports →
-        OnOk result (map export_view targets.new.items
-        ≡ map export_view targets.old.items ++ new_target machine (naming_view naming) exports
-        (map string_bytes symbols.old.keys) (export_view export.now)) }
+    ensures symbols { OnOk result (map string_bytes symbols.new.keys
+        ≡ with_target lookups.now.machine (naming_view lookups.now.naming)
+        (map export_view lookups.now.exports.now) (map string_bytes symbols.old.keys)
+        (export_view export.now)) }
+    ensures targets { OnOk result (map export_view targets.new.items
+        ≡ map export_view targets.old.items
+        ++ new_target lookups.now.machine (naming_view lookups.now.naming)
+        (map export_view lookups.now.exports.now) (map string_bytes symbols.old.keys)
+        (export_view export.now)) }
 {
-    if !adds_target(alloc, machine, naming, asking, declared, export)? {
+    if !adds_target(alloc, lookups, export)? {
         return Ok(());
     }
+    let machine = lookups.machine;
+    let naming = lookups.naming;
     let symbol = symbol_of(alloc, machine, naming, export.alias_target.as_str())?;
     if insert_symbol(symbols, symbol)? {
         targets.push(target_import(alloc, machine, naming, export)?)?;
@@ -206,33 +186,16 @@ fn push_target(
 }
 
 // The imports that aliases add in Microsoft's flavour, in the order of their first use.
-fn msvc_targets(
-    alloc: Global,
-    machine: MachineType,
-    naming: Naming,
-    exports: &[ShortExport],
-    asking: &HashMap<&str, usize>,
-    declared: &HashMap<&str, usize>,
-) -> Result<Vec<ShortExport>, AllocError>
-    requires asking { AreFirstAsking machine (naming_view naming) asking.now
-        (map export_view exports.now) }
-    requires declared { AreFirstDeclared declared.now (map export_view exports.now) }
+fn msvc_targets(alloc: Global, lookups: &Lookups<'_>) -> Result<Vec<ShortExport>, AllocError>
     ensures { IfOk result (λ targets. map export_view targets.items
-        ≡ targets_added machine (naming_view naming) Msvc (map export_view exports.now)) }
+        ≡ targets_added lookups.now.machine (naming_view lookups.now.naming) Msvc
+        (map export_view lookups.now.exports.now)) }
 {
     let mut symbols = IndexSet::new(alloc);
     let mut targets = Vec::new(alloc);
+    let exports = lookups.exports;
     for export in exports {
-        push_target(
-            alloc,
-            machine,
-            naming,
-            asking,
-            declared,
-            export,
-            &mut symbols,
-            &mut targets,
-        )?;
+        push_target(alloc, lookups, export, &mut symbols, &mut targets)?;
     }
     Ok(targets)
 }
@@ -276,8 +239,15 @@ fn msvc_links(
     }
     let asking = first_asking(alloc, machine, naming, exports)?;
     let declared = first_declared(alloc, exports)?;
-    let symbols = alias_symbols(alloc, machine, naming, exports, &asking, &declared)?;
-    let added = msvc_targets(alloc, machine, naming, exports, &asking, &declared)?;
+    let lookups = Lookups {
+        machine,
+        naming,
+        exports,
+        asking,
+        declared,
+    };
+    let symbols = alias_symbols(alloc, &lookups)?;
+    let added = msvc_targets(alloc, &lookups)?;
     Ok(Links { symbols, added })
 }
 

@@ -18,9 +18,9 @@ ghost use Rattle.implib_rules.specs.WorkedAdditions.{AdditionsWorked};
 ghost use Rattle.implib_rules.specs.WorkedExportAs.{ExportAsReads, ExportAsWorked};
 ghost use Rattle.implib_rules.specs.WorkedNames.{AliasesLinked, DllsNamed};
 ghost use Rattle.implib_rules.specs.WorkedNames.{ExportsLinked, MembersInOrder};
-ghost use Rattle.implib_rules.specs.PlainLaws.{PlacesAreKept};
+ghost use Rattle.implib_rules.specs.PlainLaws.{PlacesAreKept, PlainTextsStay};
 ghost use Rattle.implib_rules.specs.Utf8.{TextsAreNotUtf8Once};
-ghost use Rattle.implib_rules.specs.WorkedPlain.{PlainTextsWorked};
+ghost use Rattle.implib_rules.specs.WorkedPlain.{FormsWorked, PlainTextsWorked};
 ghost use Rattle.implib_rules.specs.WorkedTextWarnings.{TextWarningsWorked};
 ghost use Rattle.implib_rules.specs.WorkedUtf8.{BytesFound};
 ghost use Rattle.implib_rules.specs.WorkedWarnings.{PlacesWorked, WarningsWorked, WordsJudged};
@@ -106,7 +106,7 @@ pub fn dlls_named()
     ensures { DllsNamed }
 {}
 
-/// Words that may be meant for something else are told from others as was worked by hand.
+/// Words that may be meant for something else are known from others as was worked by hand.
 pub fn words_judged()
     ensures { WordsJudged }
 {}
@@ -139,6 +139,16 @@ pub fn exports_at_words()
 /// The text of a definition has each line and each column where the bytes have them.
 pub fn places_are_kept()
     ensures { PlacesAreKept }
+{}
+
+/// The text of a definition that has none of the forms of other tools is the text as it is.
+pub fn plain_texts_stay()
+    ensures { PlainTextsStay }
+{}
+
+/// Texts have a form of other tools, or none, as was worked by hand.
+pub fn forms_worked()
+    ensures { FormsWorked }
 {}
 
 /// Definitions as other tools write them are read as was worked by hand.

@@ -10,15 +10,16 @@ ghost use Rattle.implib_archive.specs.Refusal.{refusal_of};
 ghost use Rattle.implib_rules.specs.ExportAs.{AreMadeFor, IsExportAsLibrary};
 ghost use Rattle.implib_rules.specs.ExportAs.{export_as_refusal, refusal_made};
 ghost use Rattle.implib_rules.specs.Linked.{naming_view};
-ghost use Rattle.implib_rules.specs.Library.{BreaksOff, DefinitionFor, IsRefusalOfArchive};
+ghost use Rattle.implib_rules.specs.Library.{BreaksOff, CountsMembers, DefinitionFor};
+ghost use Rattle.implib_rules.specs.Library.{HasMembers, HasNoMembers, IsRefusalOfArchive};
 ghost use Rattle.implib_rules.specs.Library.{IsRefusalOfBytes, IsRefusalOfMembers};
 ghost use Rattle.implib_rules.specs.Library.{IfBrokenOff, IfRefused, IsRefusalOfText};
 ghost use Rattle.implib_rules.specs.Library.{MembersFor, WritesLibrary};
-ghost use Rattle.implib_rules.specs.Library.{definition_for, kind_for, kind_of};
+ghost use Rattle.implib_rules.specs.Library.{definition_for, is_out_of_memory, kind_for, kind_of};
 ghost use Rattle.implib_rules.specs.Names.{lacks_name};
 ghost use Rattle.implib_rules.specs.Order.{AreInOrder};
 ghost use Rattle.implib_rules.specs.Options.{library_options_view};
-ghost use Rattle.std.specs.Prelude.{◌≡◌, IfErr, IfOk, MatchOption, None, OnOk, Some, false, length, map, true};
+ghost use Rattle.std.specs.Prelude.{◌≡◌, ◌⊎◌, IfErr, IfOk, MatchOption, None, OnOk, Some, false, length, map, true};
 
 use crate::additions::extend_exports;
 use crate::aliases::link_with_targets;
@@ -312,6 +313,57 @@ pub fn members_for(
             Err(Refusal::Members(fault, position))
         }
         Err(Error::OutOfMemory(_)) => Err(Refusal::OutOfMemory),
+    }
+}
+
+// Whether an allocation failed.
+fn is_out_of_memory(refusal: &Refusal) -> bool
+    ensures { result ≡ is_out_of_memory refusal.now }
+{
+    match refusal {
+        Refusal::OutOfMemory => true,
+        _ => false,
+    }
+}
+
+// The number of members, or 0 where there are none.
+fn count_members(
+    alloc: Global,
+    bytes: &[u8],
+    options: &LibraryOptions<'_>,
+) -> Result<usize, AllocError>
+    ensures { IfOk result (λ count. HasMembers bytes.now (library_options_view options.now) count
+        ⊎ HasNoMembers bytes.now (library_options_view options.now) count) }
+{
+    match members_for(alloc, bytes, options) {
+        Ok(members) => Ok(members.len()),
+        Err(refusal) => {
+            if is_out_of_memory(&refusal) {
+                Err(AllocError)
+            } else {
+                Ok(0)
+            }
+        }
+    }
+}
+
+/// The number of members of the library that is asked for, as its warnings count them: 0 where it has
+/// none, and for GNU's linker, where no warning needs it.
+///
+/// # Errors
+///
+/// An allocation failed.
+pub fn member_count(
+    alloc: Global,
+    bytes: &[u8],
+    options: &LibraryOptions<'_>,
+) -> Result<usize, AllocError>
+    ensures { IfOk result (CountsMembers bytes.now (library_options_view options.now)
+        options.now.flavor) }
+{
+    match options.flavor {
+        Flavor::Gnu => Ok(0),
+        Flavor::Msvc => count_members(alloc, bytes, options),
     }
 }
 

@@ -17,7 +17,7 @@ use implib::def::ShortExport;
 use std::alloc::{AllocError, Global};
 use std::slice::Iter;
 
-/// How names are read on I386, and how Microsoft's linker is told what to ask for.
+/// How names are read on I386, and how a short import names what Microsoft's linker asks for.
 #[derive(Clone, Copy, Debug, PartialEq, Eq)]
 pub struct Naming {
     /// Symbols are as written (`--no-leading-underscore`), without an underscore in front.

@@ -13,7 +13,7 @@ pub struct LibraryOptions<'a> {
     pub flavor: Flavor,
     /// The DLL's name, before the definition's own.
     pub dll: Option<&'a str>,
-    /// How names are read on I386, and how Microsoft's linker is told what to ask for.
+    /// How names are read on I386, and how a short import names what Microsoft's linker asks for.
     pub naming: Naming,
     /// What is added to the exports.
     pub additions: Additions<'a>,

@@ -86,6 +86,13 @@ fn site_at(is_headed: bool, before: usize, line: usize, role: Role, kind: TokenK
     }
 }
 
+// The beginning of a text.
+const BEGINNING: Position = Position {
+    offset: 0,
+    line: 1,
+    column: 1,
+};
+
 // The position of an offset, from that of another.
 fn advanced(text: &[u8], from: Position, offset: usize) -> Position
     requires { from ≡ position_at text.now from.offset }

@@ -3,14 +3,15 @@
 
 ghost use Rattle.implib.specs.Ascii.{begins};
 ghost use Rattle.implib.specs.Text.Token.{is_delimiter};
-ghost use Rattle.implib_rules.specs.Plain.{after_all, after_digit, after_sign, after_this_word};
+ghost use Rattle.implib_rules.specs.Plain.{after_all, after_digit, after_number, after_sign};
+ghost use Rattle.implib_rules.specs.Plain.{after_this_word};
 ghost use Rattle.implib_rules.specs.Plain.{begins_sections, begins_statement};
 ghost use Rattle.implib_rules.specs.Plain.{before_line, begins_word, beginning, between_step};
 ghost use Rattle.implib_rules.specs.Plain.{digit_of, ends_word, first_step, fitting, hex_digit};
 ghost use Rattle.implib_rules.specs.Plain.{hex_number, hex_on, ignored, is_after_name};
 ghost use Rattle.implib_rules.specs.Plain.{is_after_number, is_blank, is_blank_or_comma};
 ghost use Rattle.implib_rules.specs.Plain.{is_closed, is_export_as, is_general_space};
-ghost use Rattle.implib_rules.specs.Plain.{is_line_start, is_name_next, is_of_word};
+ghost use Rattle.implib_rules.specs.Plain.{is_line_start, is_name_next, is_number_next, is_of_word};
 ghost use Rattle.implib_rules.specs.Plain.{is_quoted_next, is_section_attribute};
 ghost use Rattle.implib_rules.specs.Plain.{is_section_line, is_section_start, is_sections};
 ghost use Rattle.implib_rules.specs.Plain.{is_space, is_statement, is_system, is_wide_space};
@@ -71,6 +72,8 @@ pub enum Before {
     Sign,
     /// A word that a number follows, or a number.
     Number,
+    /// An `@` of its own after a name, which the ordinal follows.
+    AtSign,
 }
 
 /// What is read at a byte.
@@ -198,7 +201,7 @@ fn after_word(text: &[u8]) -> &[u8]
 }
 
 // Whether a text begins with this word, and not with a longer one.
-fn begins_word(word: &[u8], text: &[u8]) -> bool
+pub(crate) fn begins_word(word: &[u8], text: &[u8]) -> bool
     ensures { result ≡ begins_word word.now text.now }
 {
     text.starts_with(word) && ends_word(&text[word.len()..])
@@ -400,12 +403,14 @@ fn before_line(before: Before) -> Before
 {
     match before {
         Before::SectionStart => Before::SectionStart,
-        Before::LineStart | Before::Name | Before::Sign | Before::Number => Before::LineStart,
+        Before::LineStart | Before::Name | Before::Sign | Before::Number | Before::AtSign => {
+            Before::LineStart
+        }
     }
 }
 
 // Whether no lexeme of the line is before a byte.
-fn is_line_start(before: Before) -> bool
+pub(crate) fn is_line_start(before: Before) -> bool
     ensures { result ≡ is_line_start before }
 {
     matches!(before, Before::LineStart | Before::SectionStart)
@@ -419,7 +424,7 @@ fn is_section_start(before: Before) -> bool
 }
 
 // Whether a name or an attribute is before a byte.
-fn is_after_name(before: Before) -> bool
+pub(crate) fn is_after_name(before: Before) -> bool
     ensures { result ≡ is_after_name before }
 {
     matches!(before, Before::Name)
@@ -430,6 +435,24 @@ fn is_after_number(before: Before) -> bool
     ensures { result ≡ is_after_number before }
 {
     matches!(before, Before::Number)
+}
+
+// Whether a number may be next.
+fn is_number_next(before: Before) -> bool
+    ensures { result ≡ is_number_next before }
+{
+    matches!(before, Before::Number | Before::AtSign)
+}
+
+// After a number: after an ordinal, what follows a name.
+fn after_number(before: Before) -> Before
+    ensures { result ≡ after_number before }
+{
+    if matches!(before, Before::AtSign) {
+        Before::Name
+    } else {
+        Before::Number
+    }
 }
 
 // After a sign.
@@ -478,10 +501,10 @@ fn after_this_word(before: Before, text: &[u8]) -> Before
         return Before::Number;
     }
     if is_after_name(before) && begins_word(b"@", text) {
-        return Before::Number;
+        return Before::AtSign;
     }
-    if is_after_number(before) && begins_digit(text) {
-        return Before::Number;
+    if is_number_next(before) && begins_digit(text) {
+        return after_number(before);
     }
     Before::Name
 }
@@ -552,7 +575,7 @@ fn number_step(before: Before, text: &[u8], byte: u8, number: Option<Decimal>) -
         Some(number) => put(
             digit_of(number),
             Part::Digits(after_digit(number)),
-            Before::Number,
+            after_number(before),
         ),
         None => word_step(before, text, byte),
     }
@@ -569,7 +592,7 @@ fn name_step(before: Before, text: &[u8], byte: u8, rest: &[u8]) -> Step
     if is_after_name(before) && byte == b'@' {
         return ordinal_step(before, text, byte, hex_number(rest));
     }
-    if is_after_number(before) {
+    if is_number_next(before) {
         return number_step(before, text, byte, hex_number(text));
     }
     word_step(before, text, byte)

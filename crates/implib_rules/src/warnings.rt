@@ -1,6 +1,6 @@
 //! What is doubtful in a definition.
 
-ghost use Rattle.implib.specs.Definition.{ExportView, export_view};
+ghost use Rattle.implib.specs.Definition.{export_view};
 ghost use Rattle.implib_rules.specs.Linked.{naming_view};
 ghost use Rattle.implib_rules.specs.Options.{library_options_view};
 ghost use Rattle.implib_rules.specs.Firsts.{AreFirstDeclared, AreFirstOrdinals, AreFirstWords};
@@ -13,7 +13,7 @@ ghost use Rattle.implib_rules.specs.Warnings.{repeat_notice, stdcall_notice, tar
 ghost use Rattle.implib_rules.specs.Warnings.{warned, warning_view, warnings_at};
 ghost use Rattle.implib_rules.specs.Warnings.{warnings_of, word_before};
 ghost use Rattle.std.specs.Option.{option_map};
-ghost use Rattle.std.specs.Prelude.{◌≡◌, ◌++◌, ◌-◌, ◌<◌, ◌^◌, IfOk, List, OnOk, map};
+ghost use Rattle.std.specs.Prelude.{◌≡◌, ◌++◌, ◌-◌, ◌<◌, ◌^◌, IfOk, OnOk, map};
 
 pub mod words;
 
@@ -56,6 +56,8 @@ pub enum Notice<'a> {
     Skipped,
     /// A NUL ends the text, and something follows it.
     EndsEarly,
+    /// The word begins a statement elsewhere, or names what an export asks for, and is a name here.
+    StandsAlone(&'a str),
 }
 
 /// A warning.
@@ -231,19 +233,34 @@ pub(crate) fn push_notice<'a>(
     Ok(())
 }
 
+// What is looked up in the exports of a definition.
+#[derive(Drop)]
+struct Firsts<'a> {
+    exports: &'a [ShortExport],
+    // The first export of each word.
+    words: HashMap<&'a str, usize>,
+    // The export that declares each word.
+    declared: HashMap<&'a str, usize>,
+    // The first export of each ordinal.
+    ordinals: HashMap<u16, usize>,
+    ghost are_words: { AreFirstWords words (map export_view exports.now) },
+    ghost are_declared: { AreFirstDeclared declared (map export_view exports.now) },
+    ghost are_ordinals: { AreFirstOrdinals ordinals (map export_view exports.now) },
+}
+
 // Appends the warnings of what an export asks for, unless it is left out.
 fn push_asked<'a>(
     warnings: &mut Vec<Warning<'a>>,
-    words: &HashMap<&'a str, usize>,
+    firsts: &Firsts<'a>,
     export: &'a ShortExport,
     options: &LibraryOptions<'_>,
     is_left_out: bool,
     position: Position,
 ) -> Result<(), AllocError>
-    ensures { (exports : List ExportView) → AreFirstWords words.now exports →
-        OnOk result (map warning_view warnings.new.items ≡ map warning_view warnings.old.items
-        ++ asked_warnings (library_options_view options.now) exports is_left_out position
-        (export_view export.now)) }
+    ensures { OnOk result (map warning_view warnings.new.items
+        ≡ map warning_view warnings.old.items
+        ++ asked_warnings (library_options_view options.now)
+        (map export_view firsts.now.exports.now) is_left_out position (export_view export.now)) }
 {
     if is_left_out {
         return Ok(());
@@ -253,7 +270,7 @@ fn push_asked<'a>(
         stdcall_notice(options.machine, options.naming, export),
         position,
     )?;
-    let first = words.get(export.alias_target.as_str()).copied();
+    let first = firsts.words.get(export.alias_target.as_str()).copied();
     push_notice(
         warnings,
         target_notice(options.flavor, export, first),
@@ -264,29 +281,24 @@ fn push_asked<'a>(
 // Appends the warnings of an export by its index.
 fn push_export<'a>(
     warnings: &mut Vec<Warning<'a>>,
-    words: &HashMap<&'a str, usize>,
-    declared: &HashMap<&'a str, usize>,
-    ordinals: &HashMap<u16, usize>,
-    exports: &'a [ShortExport],
+    firsts: &Firsts<'a>,
     options: &LibraryOptions<'_>,
     index: usize,
     position: Position,
 ) -> Result<(), AllocError>
-    requires words { AreFirstWords words.now (map export_view exports.now) }
-    requires declared { AreFirstDeclared declared.now (map export_view exports.now) }
-    requires ordinals { AreFirstOrdinals ordinals.now (map export_view exports.now) }
     ensures { OnOk result (map warning_view warnings.new.items
         ≡ map warning_view warnings.old.items
-        ++ export_notices (library_options_view options.now) (map export_view exports.now) index position) }
+        ++ export_notices (library_options_view options.now)
+        (map export_view firsts.now.exports.now) index position) }
 {
-    let Some(export) = exports.get(index) else {
+    let Some(export) = firsts.exports.get(index) else {
         return Ok(());
     };
     let word = word_of(export);
-    let first = declared.get(word).copied();
+    let first = firsts.declared.get(word).copied();
     let repeated = repeat_notice(export, first, index);
     push_notice(warnings, repeated, position)?;
-    let first = ordinals.get(&export.ordinal).copied();
+    let first = firsts.ordinals.get(&export.ordinal).copied();
     push_notice(
         warnings,
         ordinal_notice(export.ordinal, first, index),
@@ -296,7 +308,7 @@ fn push_export<'a>(
     push_notice(warnings, ordinal_like_notice(word), position)?;
     push_asked(
         warnings,
-        words,
+        firsts,
         export,
         options,
         repeated.is_some(),
@@ -321,34 +333,20 @@ fn word_before(exports: &[ShortExport], index: usize) -> &str
 // Appends the warnings at a place; `index` counts the exports before it.
 fn push_place<'a>(
     warnings: &mut Vec<Warning<'a>>,
-    words: &HashMap<&'a str, usize>,
-    declared: &HashMap<&'a str, usize>,
-    ordinals: &HashMap<u16, usize>,
-    exports: &'a [ShortExport],
+    firsts: &Firsts<'a>,
     options: &LibraryOptions<'_>,
     index: usize,
     place: Place,
 ) -> Result<(), AllocError>
-    requires words { AreFirstWords words.now (map export_view exports.now) }
-    requires declared { AreFirstDeclared declared.now (map export_view exports.now) }
-    requires ordinals { AreFirstOrdinals ordinals.now (map export_view exports.now) }
     ensures { OnOk result (map warning_view warnings.new.items
         ≡ map warning_view warnings.old.items
-        ++ warnings_at (library_options_view options.now) (map export_view exports.now) index place) }
+        ++ warnings_at (library_options_view options.now)
+        (map export_view firsts.now.exports.now) index place) }
 {
     match place.site {
-        Site::Export => push_export(
-            warnings,
-            words,
-            declared,
-            ordinals,
-            exports,
-            options,
-            index,
-            place.position,
-        ),
+        Site::Export => push_export(warnings, firsts, options, index, place.position),
         Site::Attribute(attribute) => {
-            let notice = Notice::OpensLine(attribute, word_before(exports, index));
+            let notice = Notice::OpensLine(attribute, word_before(firsts.exports, index));
             push_notice(warnings, Some(notice), place.position)
         }
         Site::Heading => push_notice(warnings, heading_notice(options.dll), place.position),
@@ -385,6 +383,12 @@ pub fn warnings_of<'a>(
     let words = first_words(alloc, exports)?;
     let declared = first_declared(alloc, exports)?;
     let ordinals = first_ordinals(alloc, exports)?;
+    let firsts = Firsts {
+        exports,
+        words,
+        declared,
+        ordinals,
+    };
     let mut warnings = Vec::new(alloc);
     push_notice(&mut warnings, no_export_notice(exports), WHOLE)?;
     push_notice(
@@ -394,16 +398,7 @@ pub fn warnings_of<'a>(
     )?;
     let mut index = 0;
     for place in places {
-        push_place(
-            &mut warnings,
-            &words,
-            &declared,
-            &ordinals,
-            exports,
-            options,
-            index,
-            *place,
-        )?;
+        push_place(&mut warnings, &firsts, options, index, *place)?;
         index = index_after(place.site, index);
     }
     Ok(warnings)
@@ -482,6 +477,11 @@ impl<'a> fmt::Display for NoticeMessage<'a> {
             Notice::EndsEarly => {
                 f.write_str("the definition ends here, at a null byte; what follows is not read")
             }
+            Notice::StandsAlone(word) => write!(
+                f,
+                "`{}` is an export's name here, not a keyword; quote it to name an export",
+                Shown(word)
+            ),
         }
     }
 }

@@ -1,8 +1,7 @@
-use Rattle.std.proofs.Common.{ap, map, subst, sym, ◌∙◌}
-use Rattle.std.proofs.lemmas.List.{length-map}
+use Rattle.std.proofs.Common.{map, refl, subst}
 use Rattle.implib.specs.Definition.{export_view}
 use Rattle.implib.specs.Library.{member_view}
-use Rattle.implib_rules.specs.Library.{kind_for}
+use Rattle.implib_rules.specs.Library.{kind_of}
 use Rattle.implib_rules.specs.Options.{library_options_view}
 use Rattle.implib_c.specs.Given.{PacksInto}
 use Rattle.implib_c.specs.LibraryOf.{given_export}
@@ -18,10 +17,10 @@ pub returns-in-Ok-members_of_exports : goal.returns-in-Ok-members_of_exports
 returns-in-Ok-members_of_exports c =
     let members = c.in-Ok-members_of_exports.members in
     puts_packed (map given_export c.args.exports.now) (library_options_view c.args.options.now) c.args.buffer.now (map export_view c.in-Ok.given.items) c.in-Ok.ensures.ok
-    (map member_view members.items) c.in-Ok-members_of_exports.ensures.made c.kind_for-kind.result
-    (c.kind_for-kind.ensures ∙ ap (kind_for c.args.options.now.flavor) (c.len.ensures ∙ members.ok.0 ∙ sym (length-map members.items member_view)))
-    c.pack_into.new.buffer c.pack_into.result
-    (subst (λ items. PacksInto c.kind_for-kind.result (map member_view items) c.args.buffer.now c.pack_into.new.buffer c.pack_into.result) c.as_slice.ensures.value c.pack_into.ensures)
+    (map member_view members.items) c.in-Ok-members_of_exports.ensures.made (kind_of c.args.options.now.flavor (map member_view members.items)) refl
+    c.pack_for.new.buffer c.pack_for.result
+    (subst (λ items. PacksInto (kind_of c.args.options.now.flavor (map member_view items)) (map member_view items) c.args.buffer.now c.pack_for.new.buffer c.pack_for.result)
+    c.as_slice.ensures.value c.pack_for.ensures)
 
 pub returns-in-Err-members_of_exports : goal.returns-in-Err-members_of_exports
 returns-in-Err-members_of_exports c =

@@ -1,7 +1,6 @@
-use Rattle.std.proofs.Common.{ap, map, subst, sym, ◌∙◌}
-use Rattle.std.proofs.lemmas.List.{length-map}
+use Rattle.std.proofs.Common.{map, refl, subst}
 use Rattle.implib.specs.Library.{member_view}
-use Rattle.implib_rules.specs.Library.{kind_for}
+use Rattle.implib_rules.specs.Library.{kind_of}
 use Rattle.implib_rules.specs.Options.{library_options_view}
 use Rattle.implib_c.specs.Given.{PacksInto}
 use Rattle.implib_c.proofs.AnswerWith.{puts_nothing, puts_packed}
@@ -14,10 +13,10 @@ failure_in-requires c = refusal_within c.args.text.now (library_options_view c.a
 pub returns-in-Ok : goal.returns-in-Ok
 returns-in-Ok c =
     puts_packed c.args.text.now (library_options_view c.args.options.now) c.args.buffer.now (map member_view c.in-Ok.members.items) c.in-Ok.ensures.made
-    c.kind_for-kind.result
-    (c.kind_for-kind.ensures ∙ ap (kind_for c.args.options.now.flavor) (c.len.ensures ∙ c.in-Ok.members.ok.0 ∙ sym (length-map c.in-Ok.members.items member_view)))
-    c.pack_into.new.buffer c.pack_into.result
-    (subst (λ items. PacksInto c.kind_for-kind.result (map member_view items) c.args.buffer.now c.pack_into.new.buffer c.pack_into.result) c.as_slice.ensures.value c.pack_into.ensures)
+    (kind_of c.args.options.now.flavor (map member_view c.in-Ok.members.items)) refl
+    c.pack_for.new.buffer c.pack_for.result
+    (subst (λ items. PacksInto (kind_of c.args.options.now.flavor (map member_view items)) (map member_view items) c.args.buffer.now c.pack_for.new.buffer c.pack_for.result)
+    c.as_slice.ensures.value c.pack_for.ensures)
 
 pub returns-in-Err : goal.returns-in-Err
 returns-in-Err c =

@@ -20,6 +20,7 @@ kind_fits (rules_of.IsNotExported word) = omega arith
 kind_fits rules_of.IsSecondHeading = omega arith
 kind_fits rules_of.IsSkipped = omega arith
 kind_fits rules_of.EndsEarly = omega arith
+kind_fits (rules_of.StandsAlone word) = omega arith
 
 pub returns : goal.returns
 unfolding encoded_said

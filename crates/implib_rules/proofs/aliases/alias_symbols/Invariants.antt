@@ -10,5 +10,5 @@ use Rattle.implib_rules.proofs.aliases.alias_symbols.Given as goal
 abbrev pub invariant-loop-export : goal.invariant-loop-export
 invariant-loop-export l =
     map (option_map string_bytes) l.symbols.items
-    ++ map (alias_symbol l.machine (naming_view l.naming) Msvc (map export_view l.exports)) (map export_view (drop l.export-index l.exports))
-    ≡ map (alias_symbol l.machine (naming_view l.naming) Msvc (map export_view l.exports)) (map export_view l.exports)
+    ++ map (alias_symbol l.lookups.machine (naming_view l.lookups.naming) Msvc (map export_view l.exports)) (map export_view (drop l.export-index l.exports))
+    ≡ map (alias_symbol l.lookups.machine (naming_view l.lookups.naming) Msvc (map export_view l.exports)) (map export_view l.exports)

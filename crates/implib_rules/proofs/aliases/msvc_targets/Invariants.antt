@@ -8,5 +8,5 @@ use Rattle.implib_rules.proofs.aliases.msvc_targets.Given as goal
 abbrev pub invariant-loop-export : goal.invariant-loop-export
 invariant-loop-export l =
     map export_view l.targets.items
-    ++ targets_beside l.machine (naming_view l.naming) (map export_view l.exports) (map string_bytes l.symbols.keys) (map export_view (drop l.export-index l.exports))
-    ≡ targets_beside l.machine (naming_view l.naming) (map export_view l.exports) [] (map export_view l.exports)
+    ++ targets_beside l.lookups.machine (naming_view l.lookups.naming) (map export_view l.exports) (map string_bytes l.symbols.keys) (map export_view (drop l.export-index l.exports))
+    ≡ targets_beside l.lookups.machine (naming_view l.lookups.naming) (map export_view l.exports) [] (map export_view l.exports)

@@ -1,13 +1,16 @@
 use Rattle.std.proofs.Common.{refl}
 use Rattle.implib_rules.specs.Plain.{begins_sections, begins_statement, first_step, is_system, name_step}
-use Rattle.implib_rules.specs.TextWarnings.{text_warnings_from}
+use Rattle.implib_rules.specs.TextWarnings.{alone_notice, keyword_of, text_warnings_from}
 use Rattle.implib_rules.specs.WorkedTextWarnings.{TextWarningsWorked}
 use Rattle.implib_rules.proofs.laws.text_warnings_worked.Goals as goal
 
 worked : TextWarningsWorked
-unfolding begins_sections begins_statement first_step is_system name_step text_warnings_from
+unfolding alone_notice begins_sections begins_statement first_step is_system keyword_of name_step text_warnings_from
 worked = record {
   none = refl;
+  alone = refl;
+  exported_as_nothing = refl;
+  not_alone = refl;
   description = refl;
   several = refl;
   sections = refl;

@@ -5,7 +5,7 @@ use Rattle.implib.specs.Definition.{export_view}
 use Rattle.implib_rules.specs.Views.{rise_from}
 use Rattle.implib_rules.proofs.repeats.words_rise.Given as goal
 
--- what is left tells it, after the last word
+-- what is left says it, after the last word
 abbrev pub invariant-loop-export : goal.invariant-loop-export
 invariant-loop-export l = record {
   text : shadow (Utf8 l.last);
