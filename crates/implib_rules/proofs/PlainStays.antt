@@ -1,18 +1,16 @@
 -- A text without a form of other tools is the text of its definition.
-use Rattle.std.proofs.Common.{◌≡◌, ◌∙◌, ℕ, ◌==◌, ◌&&◌, ◌||◌, Bool, true, false, List, [], ◌∷◌, Option, None, Some, nat_lt, not, refl, ap, subst, sym}
+use Rattle.std.proofs.Common.{◌≡◌, ◌∙◌, ℕ, ◌==◌, ◌&&◌, ◌||◌, Bool, true, false, List, [], ◌∷◌, None, Some, nat_lt, not, refl, ap, subst, sym}
 use Rattle.std.proofs.lemmas.Bool.{true≢false}
 use Rattle.std.specs.Prelude.{if◌then◌else◌, codes, drop, length, nat_eq, slice_index, take_while}
 use Rattle.std.specs.List.{fold, starts_with}
-use Rattle.implib.specs.Ascii.{begins}
 use Rattle.implib.specs.Text.Token.{is_delimiter}
 use Rattle.implib_rules.specs.declared.plain.Part.TheVariants.{Between, Word, Quotes, Apostrophes, Comment, Skipped, Ended, SecondSign, Blank, Digits}
 use Rattle.implib_rules.specs.declared.plain.Part.{Part}
 use Rattle.implib_rules.specs.declared.plain.Before.{Before}
 use Rattle.implib_rules.specs.declared.plain.Before.TheVariants.{AtSign, LineStart, Name, Number, SectionStart, Sign}
-use Rattle.implib_rules.specs.declared.plain.Decimal.{Decimal}
 use Rattle.implib_rules.specs.declared.plain.Reading.{Reading}
 use Rattle.implib_rules.specs.declared.plain.Step.{Step}
-use Rattle.implib_rules.specs.Plain.{after_all, after_number, after_sign, after_this_word, before_line, begins_sections, begins_statement, begins_word, beginning, between_step, first_step, fitting, hex_number, hex_on, ignored, is_after_name, is_blank, is_closed, is_export_as, is_line_start, is_name_next, is_number_next, is_of_word, is_program_type, is_quoted_after, is_quoted_next, is_section_line, is_section_start, is_sections, is_space, is_statement, is_system, is_wide_space, name_step, number_step, ordinal_step, plain_from, plain_text, put, step_in, step_of, wants_name, wants_number, word_step}
+use Rattle.implib_rules.specs.Plain.{after_all, after_number, after_sign, after_this_word, before_line, begins_sections, begins_statement, begins_word, beginning, between_step, first_step, fitting, hex_number, hex_on, ignored, is_after_name, is_blank, is_closed, is_export_as, is_line_start, is_name_next, is_number_next, is_of_word, is_program_type, is_quoted_after, is_quoted_next, is_section_line, is_section_start, is_sections, is_space, is_statement, is_system, is_wide_space, name_step, number_step, ordinal_step, plain_from, put, step_in, step_of, wants_name, wants_number, word_step}
 use Rattle.implib_rules.specs.PlainLaws.{PlainTextsStay, begins_form, begins_keyword, has_form}
 use Rattle.implib_rules.proofs.Targets.{neither}
 
