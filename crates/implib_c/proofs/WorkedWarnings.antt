@@ -25,4 +25,6 @@ worked_warnings = record {
   stdcall = λ word. refl;
   not_exported = λ word. refl;
   second_heading = refl;
+  skipped = refl;
+  ends_early = refl;
 }

@@ -48,3 +48,5 @@ pub record WorkedWarnings : Type 0 where
   pub stdcall : (word : List ℕ) → kind_number (rules.IsStdcall word) ≡ 8
   pub not_exported : (word : List ℕ) → kind_number (rules.IsNotExported word) ≡ 9
   pub second_heading : kind_number rules.IsSecondHeading ≡ 10
+  pub skipped : kind_number rules.IsSkipped ≡ 11
+  pub ends_early : kind_number rules.EndsEarly ≡ 12
