@@ -147,6 +147,8 @@ pub record WorkedArguments : Type 0 where
   pub no_leading_underscore : naming_numbered 2 ≡ Some (record { is_plain = true; kills_at = false; exports_as = false })
   pub both_flags : naming_numbered 3 ≡ Some (record { is_plain = true; kills_at = true; exports_as = false })
   pub export_as : naming_numbered 4 ≡ Some (record { is_plain = false; kills_at = false; exports_as = true })
+  pub kill_at_export_as : naming_numbered 5 ≡ Some (record { is_plain = false; kills_at = true; exports_as = true })
+  pub plain_export_as : naming_numbered 6 ≡ Some (record { is_plain = true; kills_at = false; exports_as = true })
   pub all_flags : naming_numbered 7 ≡ Some (record { is_plain = true; kills_at = true; exports_as = true })
   pub unknown_flag : naming_numbered 8 ≡ None
   pub version_is : version ≡ 3

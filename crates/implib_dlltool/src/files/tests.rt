@@ -2,7 +2,7 @@ use super::{Made, SystemDisk, settle};
 use crate::disk::Disk;
 use std::fs::{Metadata, OpenFile, Permissions};
 use std::io::{ErrorKind, Write};
-use std::os::unix::fs::PermissionsExt;
+use std::os::unix::fs::{PermissionsExt, symlink};
 use std::path::PathBuf;
 use std::test::Fail;
 use std::{env, fs, io};
@@ -20,7 +20,8 @@ fn a_stale_file_is_passed_over(rt: HostRuntime) -> Result<(), Fail> {
     let folder = folder(&rt, "implib_dlltool_stale")?;
     let file = folder.join(rt.alloc(), "zoo.a")?;
     let mut killed = SystemDisk::new(&rt, 7);
-    let _stale = killed.begin(file.as_str())?;
+    let mut stale = killed.begin(file.as_str())?;
+    stale.write_all(b"stale")?;
     let mut disk = SystemDisk::new(&rt, 7);
     let mut made = disk.begin(file.as_str())?;
     made.write_all(b"new")?;
@@ -29,6 +30,31 @@ fn a_stale_file_is_passed_over(rt: HostRuntime) -> Result<(), Fail> {
         fs::read(&rt, file.as_path())?.as_slice(),
         b"new".as_slice()
     );
+    let left = folder.join(rt.alloc(), ".implib_dlltool-7-0")?;
+    assert_eq!(rt;
+        fs::read(&rt, left.as_path())?.as_slice(),
+        b"stale".as_slice()
+    );
+    fs::remove_dir_all(&rt, folder.as_path())?;
+    Ok(())
+}
+
+// A relative symbolic link leads on from its own folder, and stays a link.
+#[test]
+fn a_link_is_followed_from_its_folder(rt: HostRuntime) -> Result<(), Fail> {
+    let folder = folder(&rt, "implib_dlltool_link")?;
+    let file = folder.join(rt.alloc(), "zoo.a")?;
+    let link = folder.join(rt.alloc(), "link.a")?;
+    symlink(&rt, "zoo.a", link.as_path())?;
+    let mut disk = SystemDisk::new(&rt, 9);
+    let mut made = disk.begin(link.as_str())?;
+    made.write_all(b"new")?;
+    disk.replace(made)?;
+    assert_eq!(rt;
+        fs::read(&rt, file.as_path())?.as_slice(),
+        b"new".as_slice()
+    );
+    assert!(rt; fs::symlink_metadata(&rt, link.as_path())?.is_symlink());
     fs::remove_dir_all(&rt, folder.as_path())?;
     Ok(())
 }

@@ -1,6 +1,7 @@
+use super::NAMES;
 use crate::console::Console;
 use crate::files::SystemDisk;
-use crate::options::Setting;
+use crate::options::{Meaning, Setting, option_named};
 use crate::program::run;
 use std::test::Fail;
 
@@ -24,27 +25,50 @@ fn options_are_told_by_their_names(rt: HostRuntime) -> Result<(), Fail> {
     Ok(())
 }
 
-// The help has the options' names, and the statuses.
-#[test]
-fn the_help_has_options_and_statuses(rt: HostRuntime) -> Result<(), Fail> {
+// Runs the program with one word; the status, and what it wrote on standard output.
+fn printed(rt: &HostRuntime, word: &str) -> Result<(u8, Vec<u8>), Fail> {
     let mut arguments = Vec::new(rt.alloc());
     arguments.push(String::from_str(rt.alloc(), "implib_dlltool")?)?;
-    arguments.push(String::from_str(rt.alloc(), "--help")?)?;
-    let mut disk = SystemDisk::new(&rt, 1);
+    arguments.push(String::from_str(rt.alloc(), word)?)?;
+    let mut disk = SystemDisk::new(rt, 1);
     let mut input = b"".as_slice();
     let mut printer = Vec::new(rt.alloc());
     let mut console = Console::new(rt.alloc(), Vec::new(rt.alloc()));
-    let arguments = arguments.as_slice();
     let status = run(
         rt.alloc(),
-        arguments,
+        arguments.as_slice(),
         &mut disk,
         &mut input,
         &mut printer,
         &mut console,
     );
+    Ok((status, printer))
+}
+
+// The version is the program's name and a number, and ends its line.
+#[test]
+fn the_version_is_a_line(rt: HostRuntime) -> Result<(), Fail> {
+    let (status, printed) = printed(&rt, "--version")?;
     assert_eq!(rt; status, 0);
-    let help = str::from_utf8(printer.as_slice()).unwrap_or("?");
+    assert_eq!(rt; printed.as_slice(), b"implib_dlltool 0.1.0\n".as_slice());
+    Ok(())
+}
+
+// Each name that a hint may tell is that of an option.
+#[test]
+fn hints_are_options(rt: HostRuntime) -> Result<(), Fail> {
+    for name in NAMES {
+        assert!(rt; option_named(name) != Meaning::Unknown, "{name}");
+    }
+    Ok(())
+}
+
+// The help has the options' names, and the statuses.
+#[test]
+fn the_help_has_options_and_statuses(rt: HostRuntime) -> Result<(), Fail> {
+    let (status, printed) = printed(&rt, "--help")?;
+    assert_eq!(rt; status, 0);
+    let help = str::from_utf8(printed.as_slice()).unwrap_or("?");
     for part in [
         "usage: implib_dlltool -d FILE [-l OUT] [-m MACHINE] [-D DLL] [--flavor FLAVOUR]\n",
         "\n  -d, --input-def FILE     the module definition; - is standard input; also --def\n",

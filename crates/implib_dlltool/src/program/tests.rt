@@ -57,6 +57,11 @@ fn definitions_are_checked(rt: HostRuntime) -> Result<(), Fail> {
             "-:1:18: expected `=`, not a name\n",
         ),
         (
+            "LIBRARY zoo\nEXPORTS\n a @ seven\n",
+            1,
+            "-:3:6: expected an ordinal from 0 to 65535, not `seven`\n",
+        ),
+        (
             "LIBRARY zoo\nEXPORTS\n\ta @ 1 NONAME\n\t\"\" @2\n",
             1,
             "-:4:3: the name of the export is empty\n",
