@@ -132,7 +132,7 @@ pub fn library_of_into(
     arguments: OptionsArguments<'_>,
     buffer: &mut [u8],
 ) -> Result<usize, Failure>
-    ensures { LibraryOfAnswers (map given_export exports.now) (given_options arguments)
+    ensures { LibraryOfAnswers (map given_export exports.now) (given_options arguments.entry)
         buffer.old buffer.new
         (length_given result) (place_given result) (status_number (status_given result)) }
 {

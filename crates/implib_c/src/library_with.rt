@@ -63,9 +63,9 @@ pub struct OptionsArguments<'a> {
 ///
 /// The first that applies: `UnknownMachine`, `UnknownFlavor`, `UnknownFlags`, `DllNotUtf8`.
 pub fn options_with<'a>(arguments: OptionsArguments<'a>) -> Result<LibraryOptions<'a>, Failure>
-    ensures ok { IfOk result (λ options. AreOptions (given_options arguments)
+    ensures ok { IfOk result (λ options. AreOptions (given_options arguments.entry)
         (library_options_view options)) }
-    ensures fault { IfErr result (IsNoOptions (given_options arguments)) }
+    ensures fault { IfErr result (IsNoOptions (given_options arguments.entry)) }
 {
     let OptionsArguments {
         machine,
@@ -189,7 +189,7 @@ pub fn library_with_into(
     arguments: OptionsArguments<'_>,
     buffer: &mut [u8],
 ) -> Result<usize, Failure>
-    ensures { LibraryWithAnswers text.now (given_options arguments) buffer.old buffer.new
+    ensures { LibraryWithAnswers text.now (given_options arguments.entry) buffer.old buffer.new
         (length_given result) (place_given result) (status_number (status_given result)) }
 {
     match options_with(arguments) {

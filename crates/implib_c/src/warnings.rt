@@ -132,7 +132,7 @@ pub fn warnings_into(
     arguments: OptionsArguments<'_>,
     buffer: &mut [u8],
 ) -> Result<usize, Failure>
-    ensures { WarningsAnswers text.now (given_options arguments) buffer.old buffer.new
+    ensures { WarningsAnswers text.now (given_options arguments.entry) buffer.old buffer.new
         (length_given result) (place_given result) (status_number (status_given result)) }
 {
     let options = match options_with(arguments) {

@@ -291,8 +291,8 @@ fn perform_call<D: Disk, I: Read, O: Write, T: Reporter>(
     reporter: &mut T,
 ) -> u8
     requires { (D.view disk.old).left ≡ None }
-    ensures { DoesWords D.is_known (texts HELP.now VERSION.now) call.program.now
-        (map string_bytes call.words.now)
+    ensures { DoesWords D.is_known (texts HELP.now VERSION.now) call.entry.program.now
+        (map string_bytes call.entry.words.now)
         (devices (I.remaining input.old) (D.view disk.old) (T.said reporter.old))
         (devices (I.remaining input.new) (D.view disk.new) (T.said reporter.new))
         (O.contents printer.old) (O.contents printer.new) result }
