@@ -9,7 +9,7 @@ ghost use Rattle.implib_check.specs.DefinitionText.{naming_text, untold_text, we
 ghost use Rattle.implib_read.specs.AliasViews.{alias_view};
 ghost use Rattle.implib_read.specs.ClassViews.{class_view, imported_view, member_read_view};
 ghost use Rattle.implib_read.specs.ImportViews.{ask_view, declared_view};
-ghost use Rattle.implib_rules.specs.Linked.{has_two_at_signs, keeps_word, naming_view};
+ghost use Rattle.implib_rules.specs.Linked.{naming_view};
 ghost use Rattle.implib_rules.specs.Options.{library_options_view};
 
 use crate::identity::dll_of;
@@ -18,7 +18,7 @@ use implib::{Flavor, MachineType};
 use implib_read::{
     AliasFound, AskFound, DeclaredFound, ImportFound, ImportKind, MemberClass, MemberRead,
 };
-use implib_rules::linked::Naming;
+use implib_rules::linked::{Naming, keeps_word};
 use implib_rules::options::LibraryOptions;
 use std::alloc::{AllocError, Global};
 
@@ -116,27 +116,6 @@ fn linked_symbol<'a>(declared: &DeclaredFound<'a>) -> &'a [u8]
             },
         },
     }
-}
-
-// Whether two `@` stand side by side.
-fn has_two_at_signs(word: &[u8]) -> bool
-    ensures { result ≡ has_two_at_signs word.now }
-{
-    let mut is_after = false;
-    for byte in word {
-        if is_after && *byte == b'@' {
-            return true;
-        }
-        is_after = *byte == b'@';
-    }
-    false
-}
-
-// Whether a word is a symbol of I386 as it is.
-fn keeps_word(word: &[u8]) -> bool
-    ensures { result ≡ keeps_word word.now }
-{
-    word.first() == Some(&b'@') || word.first() == Some(&b'?') || has_two_at_signs(word)
 }
 
 // A symbol without the underscore of C's names.
