@@ -112,12 +112,12 @@ module _ (text old : List ℕ) (machine : ℕ) (definition : DefinitionView) (ha
     -- the encoding is put, where there is room
     pub answers_encoded : (new : List ℕ) (result : Result ℕ Failure) → PutsEncoding bytes old new result
         → DefinitionAnswers text machine old new (length_given result) (place_given result) (status_number (status_given result))
-    answers_encoded new (Ok put) puts = answers_put_definition new put puts.0.0 puts.0.1 puts.1
+    answers_encoded new (Ok put) puts = answers_put_definition new put puts.0 puts.1 puts.2
     answers_encoded new (Err (failure.BufferTooSmall needed)) puts =
         subst
         (λ buffer. DefinitionAnswers text machine old buffer (length_given (Err (failure.BufferTooSmall needed))) (place_given (Err (failure.BufferTooSmall needed)))
         (status_number (status_given (Err (failure.BufferTooSmall needed)))))
-        (sym puts.1) (answers_too_small needed puts.0.0 puts.0.1)
+        (sym puts.2) (answers_too_small needed puts.0 puts.1)
     answers_encoded new (Err failure.OutOfMemory) puts = absurd puts
     answers_encoded new (Err (failure.NotUtf8 offset)) puts = absurd puts
     answers_encoded new (Err failure.UnknownMachine) puts = absurd puts

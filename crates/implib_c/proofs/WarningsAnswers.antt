@@ -98,12 +98,12 @@ module _ (text : List ℕ) (given : GivenOptions) (old : List ℕ) where
       -- the encoding is put, where there is room
       pub warns_encoded : (new : List ℕ) (result : Result ℕ Failure) → PutsEncoding bytes old new result
           → WarningsAnswers text given old new (length_given result) (place_given result) (status_number (status_given result))
-      warns_encoded new (Ok put) puts = warns_put new put puts.0.0 puts.0.1 puts.1
+      warns_encoded new (Ok put) puts = warns_put new put puts.0 puts.1 puts.2
       warns_encoded new (Err (failure.BufferTooSmall needed)) puts =
           subst
           (λ buffer. WarningsAnswers text given old buffer (length_given (Err (failure.BufferTooSmall needed))) (place_given (Err (failure.BufferTooSmall needed)))
           (status_number (status_given (Err (failure.BufferTooSmall needed)))))
-          (sym puts.1) (warns_too_small needed puts.0.0 puts.0.1)
+          (sym puts.2) (warns_too_small needed puts.0 puts.1)
       warns_encoded new (Err failure.OutOfMemory) puts = absurd puts
       warns_encoded new (Err (failure.NotUtf8 offset)) puts = absurd puts
       warns_encoded new (Err failure.UnknownMachine) puts = absurd puts
