@@ -4,10 +4,10 @@ use Rattle.std.specs.Prelude.{ℕ, ◌||◌, Bool, true, false, List, Option, So
 use Rattle.std.specs.Option.{is_some, option_and_then, option_map}
 use Rattle.implib.specs.declared.flavor.Flavor.{Flavor}
 use Rattle.implib.specs.declared.machine.MachineType.{MachineType}
-use Rattle.implib.specs.declared.machine.MachineType.TheVariants.{AMD64, ARM64, ARMNT, I386}
 use Rattle.implib.specs.Ascii.{begins_with}
 use Rattle.implib.specs.Conversions.{flavor_named}
 use Rattle.implib_rules.specs.Linked.{NamingView, naming_view}
+use Rattle.implib_rules.specs.Machines.{machine_called}
 use Rattle.implib_rules.specs.Names.{last_part}
 use Rattle.implib_check.specs.declared.call.Check.{Check}
 use Rattle.implib_check.specs.declared.call.Define.{Define}
@@ -85,21 +85,6 @@ unread_call = record {
   naming = record { is_plain = false; kills_at = false; exports_as = false };
   waiting = None;
 }
-
--- the machine with a name
-abbrev pub machine_called : List ℕ → Option MachineType
-machine_called name =
-    if bytes_eq name (codes "i386") then Some I386
-    else if bytes_eq name (codes "x86") then Some I386
-    else if bytes_eq name (codes "i386:x86-64") then Some AMD64
-    else if bytes_eq name (codes "amd64") then Some AMD64
-    else if bytes_eq name (codes "x64") then Some AMD64
-    else if bytes_eq name (codes "x86_64") then Some AMD64
-    else if bytes_eq name (codes "arm") then Some ARMNT
-    else if bytes_eq name (codes "armnt") then Some ARMNT
-    else if bytes_eq name (codes "arm64") then Some ARM64
-    else if bytes_eq name (codes "aarch64") then Some ARM64
-    else None
 
 -- after the value of an option; a name of a DLL is not empty, but for a directory
 abbrev pub with_value : Setting → List ℕ → ReadingView → Option ReadingView

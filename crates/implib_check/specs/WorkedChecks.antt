@@ -9,7 +9,8 @@ use Rattle.implib_read.specs.declared.import.ImportKind.{ImportKind}
 use Rattle.implib_read.specs.declared.import.ImportKind.TheVariants.{Code, CodeOrConst, Const, Data}
 use Rattle.implib_rules.specs.declared.library.Refusal.TheVariants.{NoName, NotUtf8, OutOfMemory}
 use Rattle.implib_rules.specs.Additions.{no_additions}
-use Rattle.implib_check.specs.Calls.{CheckView, check_called, machine_called, define_called}
+use Rattle.implib_rules.specs.Machines.{machine_called}
+use Rattle.implib_check.specs.Calls.{CheckView, check_called, define_called}
 use Rattle.implib_check.specs.Status.{refusal_status}
 use Rattle.implib_check.specs.Targets.{flavor_of, machine_of, options_for}
 use Rattle.implib_check.specs.Tasks.{Checks, Compares, task_named}

@@ -4,10 +4,11 @@ ghost use Rattle.std.specs.Prelude.{◌≡◌, map};
 ghost use Rattle.std.specs.Option.{option_and_then, option_map};
 ghost use Rattle.std.specs.String.{string_bytes};
 ghost use Rattle.implib_check.specs.Calls.{after_word, check_called, check_in, check_view, define_called, define_in, define_view};
-ghost use Rattle.implib_check.specs.Calls.{machine_called, reading_view, said_by, said_by_all, unread_call, with_file, with_option, with_value};
+ghost use Rattle.implib_check.specs.Calls.{reading_view, said_by, said_by_all, unread_call, with_file, with_option, with_value};
 
 use implib::{Flavor, MachineType};
 use implib_rules::linked::Naming;
+use implib_rules::machine::machine_called;
 use implib_rules::name::last_part;
 
 /// A library, and the definition that it is compared with.
@@ -77,19 +78,6 @@ fn unread_call<'a>() -> Reading<'a>
             exports_as: false,
         },
         waiting: None,
-    }
-}
-
-/// The machine of a name.
-pub fn machine_called(name: &str) -> Option<MachineType>
-    ensures { result ≡ machine_called name.now }
-{
-    match name {
-        "i386" | "x86" => Some(MachineType::I386),
-        "i386:x86-64" | "amd64" | "x64" | "x86_64" => Some(MachineType::AMD64),
-        "arm" | "armnt" => Some(MachineType::ARMNT),
-        "arm64" | "aarch64" => Some(MachineType::ARM64),
-        _ => None,
     }
 }
 

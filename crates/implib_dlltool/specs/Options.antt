@@ -1,8 +1,6 @@
 -- The names of options and machines on the command line (this project's choice, after GNU dlltool's).
-use Rattle.std.specs.Prelude.{ℕ, Bool, true, false, ◌==◌, List, Option, None, Some, codes, if◌then◌else◌}
+use Rattle.std.specs.Prelude.{ℕ, Bool, true, false, ◌==◌, List, codes, if◌then◌else◌}
 use Rattle.std.specs.Str.{byte, bytes_eq}
-use Rattle.implib.specs.declared.machine.MachineType.{MachineType}
-use Rattle.implib.specs.declared.machine.MachineType.TheVariants.{I386, ARMNT, AMD64, ARM64}
 use Rattle.implib_dlltool.specs.declared.options.Meaning.{Meaning}
 use Rattle.implib_dlltool.specs.declared.options.Meaning.TheVariants.{Takes, Switches, Unsupported, Unknown}
 use Rattle.implib_dlltool.specs.declared.options.Setting.{Setting}
@@ -87,21 +85,6 @@ option_lettered letter =
     else if letter == byte "a" then Unsupported
     else if letter == byte "C" then Unsupported
     else Unknown
-
--- the machine with a name, in small letters
-abbrev pub machine_called : List ℕ → Option MachineType
-machine_called name =
-    if bytes_eq name (codes "i386") then Some I386
-    else if bytes_eq name (codes "x86") then Some I386
-    else if bytes_eq name (codes "i386:x86-64") then Some AMD64
-    else if bytes_eq name (codes "amd64") then Some AMD64
-    else if bytes_eq name (codes "x64") then Some AMD64
-    else if bytes_eq name (codes "x86_64") then Some AMD64
-    else if bytes_eq name (codes "arm") then Some ARMNT
-    else if bytes_eq name (codes "armnt") then Some ARMNT
-    else if bytes_eq name (codes "arm64") then Some ARM64
-    else if bytes_eq name (codes "aarch64") then Some ARM64
-    else None
 
 -- the number of an option that takes a value; no two have one
 abbrev pub setting_number : Setting → ℕ

@@ -28,7 +28,7 @@ use Rattle.implib_rules.specs.Additions.{AdditionsView}
 use Rattle.implib_rules.specs.Linked.{NamingView}
 use Rattle.implib_rules.specs.Names.{last_part}
 use Rattle.implib_rules.specs.Options.{LibraryOptionsView, library_options_view}
-use Rattle.implib_dlltool.specs.Options.{machine_called}
+use Rattle.implib_rules.specs.Machines.{machine_called}
 
 -- the library that is asked for
 pub record RequestView : Type 0 where

@@ -24,7 +24,7 @@ impl fmt::Display for Setting {
 }
 
 // The long names of options.
-const NAMES: [&str; 36] = [
+const NAMES: [&str; 38] = [
     "input-def",
     "def",
     "output-lib",
@@ -49,6 +49,7 @@ const NAMES: [&str; 36] = [
     "output-delaylib",
     "base-file",
     "identify",
+    "identify-strict",
     "no-idata4",
     "no-idata5",
     "add-indirect",
@@ -61,6 +62,7 @@ const NAMES: [&str; 36] = [
     "no-export-all-symbols",
     "exclude-symbols",
     "no-default-excludes",
+    "use-nul-prefixed-import-tables",
 ];
 
 // The one long name that an option of a word begins, if there is one.

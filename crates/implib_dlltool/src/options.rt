@@ -1,12 +1,9 @@
 //! The names of options and machines on the command line.
 
 ghost use Rattle.implib_dlltool.specs.Options.{is_same_setting, is_same_switch, is_unsupported};
-ghost use Rattle.implib_dlltool.specs.Options.{machine_called};
 ghost use Rattle.implib_dlltool.specs.Options.{option_lettered, option_named, setting_number};
 ghost use Rattle.implib_dlltool.specs.Options.{switch_number};
 ghost use Rattle.std.specs.Prelude.{◌≡◌};
-
-use implib::MachineType;
 
 /// An option that takes a value.
 #[derive(Clone, Copy, Debug, PartialEq, Eq)]
@@ -201,18 +198,5 @@ pub fn option_lettered(letter: u8) -> Meaning
         b'e' | b'z' | b'y' | b'b' | b'I' | b'x' | b'c' => Meaning::Unsupported,
         b'a' | b'C' => Meaning::Unsupported,
         _ => Meaning::Unknown,
-    }
-}
-
-/// The machine of a name, which is given in small letters.
-pub fn machine_called(name: &str) -> Option<MachineType>
-    ensures { result ≡ machine_called name.now }
-{
-    match name {
-        "i386" | "x86" => Some(MachineType::I386),
-        "i386:x86-64" | "amd64" | "x64" | "x86_64" => Some(MachineType::AMD64),
-        "arm" | "armnt" => Some(MachineType::ARMNT),
-        "arm64" | "aarch64" => Some(MachineType::ARM64),
-        _ => None,
     }
 }

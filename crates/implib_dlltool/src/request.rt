@@ -17,10 +17,11 @@ ghost use Rattle.std.specs.Option.{option_map};
 ghost use Rattle.std.specs.Prelude.{◌≡◌, Err, IfErr, IfOk, Ok, map};
 
 use crate::arguments::{Occurrence, is_last, is_switched, last_given};
-use crate::options::{Setting, Switch, machine_called};
+use crate::options::{Setting, Switch};
 use implib::{Flavor, MachineType};
 use implib_rules::additions::Additions;
 use implib_rules::linked::Naming;
+use implib_rules::machine::machine_called;
 use implib_rules::name::last_part;
 use implib_rules::options::LibraryOptions;
 use std::alloc::{AllocError, Global};

@@ -1,4 +1,5 @@
 pub mod Options
+pub mod Machines
 pub mod Names
 pub mod Linked
 pub mod Additions

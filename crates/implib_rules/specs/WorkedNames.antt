@@ -11,6 +11,7 @@ use Rattle.implib.specs.Definition.{DefinitionView, ExportView, empty_definition
 use Rattle.implib.specs.Import.{name_asked}
 use Rattle.implib.specs.Text.Heard.{Heard}
 use Rattle.implib_rules.specs.Linked.{NamingView, linked, linked_export, linked_exports, symbol_linked}
+use Rattle.implib_rules.specs.Machines.{machine_called}
 use Rattle.implib_rules.specs.Names.{dll_name, is_program, lacks_name, own_name}
 use Rattle.implib_rules.specs.Order.{library_specs}
 
@@ -243,3 +244,20 @@ pub record DllsNamed : Type 0 where
   pub behind_an_empty_heading : own_name empty_heading ≡ codes "b"
   pub program_behind_an_empty_heading : is_program empty_heading ≡ true
   pub unheaded_text : own_name (heard KwExports (codes "EXPORTS") ∷ heard Identifier (codes "c") ∷ []) ≡ []
+
+-- which machine a name is of
+pub record MachinesNamed : Type 0 where
+  pub i386 : machine_called (codes "i386") ≡ Some I386
+  pub x86 : machine_called (codes "x86") ≡ Some I386
+  pub i386_64 : machine_called (codes "i386:x86-64") ≡ Some AMD64
+  pub amd64 : machine_called (codes "amd64") ≡ Some AMD64
+  pub x64 : machine_called (codes "x64") ≡ Some AMD64
+  pub x86_64 : machine_called (codes "x86_64") ≡ Some AMD64
+  pub arm : machine_called (codes "arm") ≡ Some ARMNT
+  pub armnt : machine_called (codes "armnt") ≡ Some ARMNT
+  pub arm64 : machine_called (codes "arm64") ≡ Some ARM64
+  pub aarch64 : machine_called (codes "aarch64") ≡ Some ARM64
+  -- others, as capitals, a longer one and none
+  pub capitals : machine_called (codes "X64") ≡ None
+  pub arm64ec : machine_called (codes "arm64ec") ≡ None
+  pub empty : machine_called [] ≡ None

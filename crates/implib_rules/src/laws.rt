@@ -16,8 +16,8 @@ ghost use Rattle.implib_rules.specs.WorkedExports.{ExportsWorked};
 ghost use Rattle.implib_rules.specs.WorkedLibraryNames.{LibrariesWorked};
 ghost use Rattle.implib_rules.specs.WorkedAdditions.{AdditionsWorked};
 ghost use Rattle.implib_rules.specs.WorkedExportAs.{ExportAsReads, ExportAsWorked};
-ghost use Rattle.implib_rules.specs.WorkedNames.{AliasesLinked, DllsNamed};
-ghost use Rattle.implib_rules.specs.WorkedNames.{ExportsLinked, MembersInOrder};
+ghost use Rattle.implib_rules.specs.WorkedNames.{AliasesLinked, DllsNamed, ExportsLinked};
+ghost use Rattle.implib_rules.specs.WorkedNames.{MachinesNamed, MembersInOrder};
 ghost use Rattle.implib_rules.specs.PlainLaws.{PlacesAreKept, PlainTextsStay};
 ghost use Rattle.implib_rules.specs.Utf8.{TextsAreNotUtf8Once};
 ghost use Rattle.implib_rules.specs.WorkedPlain.{FormsWorked, PlainTextsWorked};
@@ -104,6 +104,11 @@ pub fn members_in_order()
 /// DLLs have the names that were worked by hand.
 pub fn dlls_named()
     ensures { DllsNamed }
+{}
+
+/// Names are of the machines that were worked by hand.
+pub fn machines_named()
+    ensures { MachinesNamed }
 {}
 
 /// Words that may be meant for something else are known from others as was worked by hand.

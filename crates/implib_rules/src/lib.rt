@@ -17,6 +17,7 @@ pub mod laws;
 pub mod library;
 pub mod library_name;
 pub mod linked;
+pub mod machine;
 mod message;
 pub mod name;
 pub mod options;

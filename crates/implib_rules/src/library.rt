@@ -37,7 +37,7 @@ use implib::msvc::{MemberLists, MsvcImportLibrary, linked_dll};
 use implib::{Error, Fault, Flavor, MachineType, Member, ParseError};
 use implib_archive::{Archive, Kind, WriteError};
 use std::alloc::{AllocError, Global};
-use std::{io, mem};
+use std::io;
 
 /// Why a definition has no import library here.
 #[derive(Debug, Drop)]
@@ -139,8 +139,9 @@ impl From<io::Error> for LibraryError {
 }
 
 /// A definition by the rules of `dlltool`, under the name of the DLL that is given, or else its own:
-/// with what the options add to its exports, of the exports of one word the first alone, each as it is linked on the machine, and with the name
-/// of its library for the linker. There is none where neither name is one.
+/// with what the options add to its exports, of the exports of one word the first alone, each as it
+/// is linked on the machine, and with the name of its library for the linker. There is none where
+/// neither name is one.
 ///
 /// # Errors
 ///
@@ -427,8 +428,5 @@ pub fn write_library<W: io::Write>(
     let members = members_for(alloc, bytes, options)?;
     let archive = archive_for(alloc, members.as_slice(), options.flavor)?;
     archive.write_to(alloc, writer)?;
-    drop(archive);
-    // The program ends now. Freeing each name and symbol would take a fifth of its time.
-    mem::forget(members);
     Ok(())
 }
