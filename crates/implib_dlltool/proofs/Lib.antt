@@ -2,3 +2,4 @@ pub mod Reading
 pub mod Letters
 pub mod Saying
 pub mod Calls
+pub mod Finishing

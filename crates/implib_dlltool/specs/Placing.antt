@@ -1,11 +1,12 @@
 -- Where the library of a definition is put (this project's own).
 use Rattle.std.specs.Prelude.{◌≡◌, ◌⊎◌, ℕ, Bool, true, List, Option, None, Some, Result, Ok, Err}
+use Rattle.implib.specs.Members.MemberSpec.{MemberView}
 use Rattle.implib_dlltool.specs.Disk.{DiskView}
 use Rattle.implib_dlltool.specs.Request.{RequestView}
 use Rattle.implib_rules.specs.declared.library.LibraryError.{LibraryError}
 use Rattle.implib_rules.specs.declared.library.LibraryError.TheVariants.{Refused, Writing}
 use Rattle.implib_rules.specs.declared.library.Refusal.{Refusal}
-use Rattle.implib_rules.specs.Library.{IsLibrary, IsRefusalOfBytes}
+use Rattle.implib_rules.specs.Library.{IsLibrary, IsRefusalOfBytes, MembersFor}
 
 -- a file is in its place, and all of it, where bytes are known; nothing new is left, and no call failed
 pub record IsPlaced (known : Bool) (before after : DiskView) (path file : List ℕ) : Type 0 where
@@ -50,3 +51,8 @@ abbrev pub Answers : Bool → DiskView → DiskView → List ℕ → RequestView
 Answers known before after bytes request (Ok made) = Puts known before after bytes request
 Answers known before after bytes request (Err (Refused refusal)) = PutsNone before after bytes request refusal
 Answers known before after bytes request (Err (Writing cause)) = FailsToPut before after bytes request
+
+-- what an answer says of the library of any bytes that have these members, and of the disk
+abbrev pub AnswersWith : Bool → DiskView → DiskView → List MemberView → RequestView → Answer → Type 0
+AnswersWith known before after members request answer =
+    (bytes : List ℕ) → MembersFor bytes request.library members → Answers known before after bytes request answer

@@ -4,9 +4,12 @@ use Rattle.std.specs.Io.KnownBytes.{Appends}
 use Rattle.std.specs.Str.{IsUtf8, bytes_eq}
 use Rattle.std.specs.declared.io.ErrorKind.{ErrorKind}
 use Rattle.std.specs.declared.io.ErrorKind.TheVariants.{InvalidData}
+use Rattle.implib.specs.declared.flavor.Flavor.{Flavor}
+use Rattle.implib.specs.declared.flavor.Flavor.TheVariants.{Gnu, Msvc}
 use Rattle.implib.specs.declared.machine.MachineType.TheVariants.{AMD64}
 use Rattle.implib.specs.Definition.{DefinitionView}
 use Rattle.implib.specs.Fault.{Cause}
+use Rattle.implib.specs.Members.MemberSpec.{MemberView}
 use Rattle.implib.specs.Text.Parses.{Parses, RefusesAt}
 use Rattle.implib_dlltool.specs.Arguments.{OccurrenceView, WordFaultView, read_words}
 use Rattle.implib_dlltool.specs.Disk.{DiskView}
@@ -15,9 +18,10 @@ use Rattle.implib_dlltool.specs.Reports.{ComplaintView, Complains, Line, OfArgum
 use Rattle.implib_dlltool.specs.Request.{Asked, AsksHelp, AsksVersion, Asks, RequestView, TaskView, caller_of, task_of}
 use Rattle.implib_dlltool.specs.Verbose.{warnings_for}
 use Rattle.implib_rules.specs.declared.library.LibraryError.TheVariants.{Refused, Writing}
+use Rattle.implib_rules.specs.declared.library.Refusal.{Refusal}
 use Rattle.implib_rules.specs.declared.library.Refusal.TheVariants.{OutOfMemory}
 use Rattle.implib_rules.specs.declared.places.Place.{Place}
-use Rattle.implib_rules.specs.Library.{CountsMembers, definition_text, status_of}
+use Rattle.implib_rules.specs.Library.{CountsMembers, IsRefusalOfMembers, MembersFor, definition_text, status_of}
 use Rattle.implib_rules.specs.Places.{ArePlacesOf, export_lines}
 use Rattle.implib_rules.specs.TextWarnings.{text_warnings}
 use Rattle.implib_rules.specs.Warnings.{WarningView}
@@ -44,6 +48,11 @@ pub record KeepsFiles (before after : DiskView) : Type 0 where
 -- warnings of the definition of a path, as they are said
 abbrev pub warning_lines : List ℕ → List ℕ → List WarningView → List Line
 warning_lines path lines warnings = map (λ w. Warns path w lines) warnings
+
+-- how many of its members the warnings of a library are of: all, and for GNU's linker none
+abbrev pub members_counted : Flavor → ℕ → ℕ
+members_counted Msvc count = count
+members_counted Gnu count = 0
 
 -- the warnings of a definition with these places were said
 pub record SaysWarnings (bytes : List ℕ) (definition : DefinitionView) (places : List Place) (request : RequestView)
@@ -105,7 +114,7 @@ pub record IsAnswered (known : Bool) (bytes : List ℕ) (request : RequestView) 
   pub says : Says warned after (verdict request answer)
   pub is_status : status ≡ answer_status answer
 
--- memory for the warnings was refused
+-- memory was refused before a warning was said
 pub record IsUnwarned (request : RequestView) (disk put : DiskView) (before after : Option (List Line)) (status : ℕ) : Type 0 where
   pub same_disk : put ≡ disk
   pub says : Says before after (Refuses request.definition OutOfMemory ∷ [])
@@ -115,6 +124,17 @@ pub record IsUnwarned (request : RequestView) (disk put : DiskView) (before afte
 abbrev pub Finishes : Bool → List ℕ → RequestView → DiskView → DiskView → Option (List Line) → Option (List Line) → ℕ → Type 0
 Finishes known bytes request disk put before after status =
     IsAnswered known bytes request disk put before after status ⊎ IsUnwarned request disk put before after status
+
+-- what is done with the bytes of a definition that has these members
+abbrev pub FinishesWith : Bool → List ℕ → List MemberView → RequestView → DiskView → DiskView → Option (List Line) → Option (List Line) → ℕ → Type 0
+FinishesWith known bytes members request disk put before after status =
+    MembersFor bytes request.library members → Finishes known bytes request disk put before after status
+
+-- what is done with the bytes of a definition that has no members for this: nothing with any disk
+abbrev pub FinishesWithout : List ℕ → Refusal → RequestView → Option (List Line) → Option (List Line) → ℕ → Type 0
+FinishesWithout bytes refusal request before after status =
+    IsRefusalOfMembers bytes request.library refusal →
+    (known : Bool) (disk : DiskView) → Finishes known bytes request disk disk before after status
 
 -- the definition was read, and this was done with its bytes
 pub record IsRead (known : Bool) (request : RequestView) (before after : Devices) (status : ℕ) : Type 0 where

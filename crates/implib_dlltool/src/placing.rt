@@ -1,19 +1,20 @@
 //! The library of a definition, and its way to its place.
 
+ghost use Rattle.implib.specs.Library.{member_view};
 ghost use Rattle.implib_archive.specs.Archive.{archive_of};
-ghost use Rattle.implib_dlltool.specs.Placing.{Answers, IsPlaced, IsPut, IsUnplaced};
+ghost use Rattle.implib_dlltool.specs.Placing.{AnswersWith, IsPlaced, IsPut, IsUnplaced};
 ghost use Rattle.implib_dlltool.specs.Request.{request_view};
 ghost use Rattle.std.specs.Io.KnownBytes.{Appends};
 ghost use Rattle.std.specs.Option.{option_map};
-ghost use Rattle.std.specs.Prelude.{◌≡◌, IfOk, None, OnErr, OnOk};
+ghost use Rattle.std.specs.Prelude.{◌≡◌, IfOk, None, OnErr, OnOk, map};
 
 use crate::disk::Disk;
 use crate::request::Request;
+use implib::Member;
 use implib_archive::{Archive, WriteError};
-use implib_rules::library::{LibraryError, archive_for, members_for};
+use implib_rules::library::{LibraryError, archive_for};
 use std::alloc::Global;
 use std::io::{BufWriter, Write};
-use std::mem;
 
 // How many bytes are written to a file at once.
 const BUFFER: usize = 1 << 16;
@@ -78,31 +79,26 @@ fn place_if<D: Disk>(
     }
 }
 
-/// Puts a library into the place that is asked for, whole or not at all; or sees that there is one.
+/// Puts the library of these members into the place that is asked for, whole or not at all; or sees
+/// that there is one.
 ///
 /// # Errors
 ///
-/// `Refused`: there is none; nothing was written. `Writing`: it was not written, and no file is in
-/// another's place; the new one is removed.
+/// `Refused`: the archive's format cannot carry them; nothing was written. `Writing`: it was not
+/// written, and no file is in another's place; the new one is removed.
 pub fn put<D: Disk>(
     alloc: Global,
     disk: &mut D,
-    bytes: &[u8],
+    members: &[Member],
     request: &Request<'_>,
 ) -> Result<(), LibraryError>
     requires { (D.view disk.old).left ≡ None }
-    ensures { Answers D.is_known (D.view disk.old) (D.view disk.new) bytes.now
-        (request_view request.now) result }
+    ensures { AnswersWith D.is_known (D.view disk.old) (D.view disk.new)
+        (map member_view members.now) (request_view request.now) result }
 {
-    let members = members_for(alloc, bytes, &request.library)?;
-    let archive = archive_for(alloc, members.as_slice(), request.library.flavor)?;
+    let archive = archive_for(alloc, members, request.library.flavor)?;
     match place_if(alloc, disk, request.output, &archive) {
-        Ok(()) => {
-            drop(archive);
-            // The program ends now. Freeing each name and symbol would take a fifth of its time.
-            mem::forget(members);
-            Ok(())
-        }
+        Ok(()) => Ok(()),
         Err(cause) => Err(LibraryError::Writing(cause)),
     }
 }

@@ -1,14 +1,17 @@
 //! The program: its arguments, its run over files, and its exit status.
 
 ghost use Rattle.implib.specs.Definition.{definition_view};
-ghost use Rattle.implib_dlltool.specs.Program.{DoesWords, Finishes};
+ghost use Rattle.implib.specs.Library.{member_view};
+ghost use Rattle.implib_dlltool.specs.Program.{DoesWords, Finishes, FinishesWith};
+ghost use Rattle.implib_dlltool.specs.Program.{FinishesWithout, members_counted};
 ghost use Rattle.implib_dlltool.specs.Program.{IsUncalled, KeepsFiles, Makes, Prints, Runs};
 ghost use Rattle.implib_dlltool.specs.Program.{SaysWarnings, Warned, answer_status, definition_in};
 ghost use Rattle.implib_dlltool.specs.Program.{devices, own_name, texts};
 ghost use Rattle.implib_dlltool.specs.Program.{verdict, warning_lines};
-ghost use Rattle.implib_dlltool.specs.Reports.{Complains, Says, complaint_view};
+ghost use Rattle.implib_dlltool.specs.Reports.{Complains, Refuses, Says, complaint_view};
+ghost use Rattle.implib_rules.specs.declared.library.Refusal.TheVariants.{OutOfMemory};
 ghost use Rattle.implib_dlltool.specs.Request.{request_view};
-ghost use Rattle.implib_rules.specs.Library.{status_of};
+ghost use Rattle.implib_rules.specs.Library.{CountsMembers, status_of};
 ghost use Rattle.implib_rules.specs.Warnings.{warning_view};
 ghost use Rattle.std.specs.IoError.{error_kind};
 ghost use Rattle.std.specs.Prelude.{◌≡◌, [], ◌∷◌, IfErr, IfOk, IfSome, None, OnErr, OnOk, map};
@@ -21,17 +24,17 @@ use crate::placing::put;
 use crate::reporter::{Complaint, Reporter};
 use crate::request::{CallError, Request, Task, caller_of, task_of};
 use crate::verbose::warnings_for;
-use implib::ParseError;
 use implib::def::ModuleDef;
-use implib_rules::library::{LibraryError, Refusal, member_count};
+use implib::{Flavor, Member, ParseError};
+use implib_rules::library::{LibraryError, Refusal, members_for};
 use implib_rules::places::{Place, export_lines, read_with_places};
 use implib_rules::text::DefinitionText;
 use implib_rules::text_warnings::text_warnings;
 use implib_rules::warnings::Warning;
 use std::alloc::{AllocError, Global};
 use std::env::Args;
-use std::io;
 use std::io::{ErrorKind, Read, Write};
+use std::{io, mem};
 
 // What the program prints for `--help`.
 const HELP: &str = "\
@@ -120,23 +123,31 @@ fn say_warnings<T: Reporter>(
     }
 }
 
+// The bytes of a definition, and how many members its warnings are of.
+#[derive(Clone, Copy, Debug)]
+struct Counted<'a> {
+    bytes: &'a [u8],
+    members: usize,
+}
+
 // Says the warnings of a definition, of which these are the places.
 fn warn_of<T: Reporter>(
     alloc: Global,
-    bytes: &[u8],
+    counted: Counted<'_>,
     def: &ModuleDef,
     places: &[Place],
     request: &Request<'_>,
     reporter: &mut T,
 ) -> Result<(), AllocError>
-    ensures warned { OnOk result (SaysWarnings bytes.now (definition_view def.now) places.now
+    ensures warned { CountsMembers counted.entry.bytes.now (request_view request.now).library
+        (request_view request.now).library.flavor counted.entry.members
+        → OnOk result (SaysWarnings counted.entry.bytes.now (definition_view def.now) places.now
         (request_view request.now) (T.said reporter.old) (T.said reporter.new)) }
     ensures silent { OnErr result (T.said reporter.new ≡ T.said reporter.old) }
 {
-    let count = member_count(alloc, bytes, &request.library)?;
     let exports = def.exports.as_slice();
-    let mut warnings = text_warnings(alloc, bytes)?;
-    let mut others = warnings_for(alloc, exports, places, request, count)?;
+    let mut warnings = text_warnings(alloc, counted.bytes)?;
+    let mut others = warnings_for(alloc, exports, places, request, counted.members)?;
     warnings.append(&mut others)?;
     let lines = export_lines(alloc, places)?;
     say_warnings(
@@ -151,23 +162,25 @@ fn warn_of<T: Reporter>(
 // Says the warnings of a definition, where they are asked for. What is no definition has none.
 fn warn<T: Reporter>(
     alloc: Global,
-    bytes: &[u8],
+    counted: Counted<'_>,
     request: &Request<'_>,
     reporter: &mut T,
 ) -> Result<(), AllocError>
-    ensures warned { OnOk result (Warned request.now.is_verbose bytes.now
+    ensures warned { CountsMembers counted.entry.bytes.now (request_view request.now).library
+        (request_view request.now).library.flavor counted.entry.members
+        → OnOk result (Warned request.now.is_verbose counted.entry.bytes.now
         (request_view request.now) (T.said reporter.old) (T.said reporter.new)) }
     ensures silent { OnErr result (T.said reporter.new ≡ T.said reporter.old) }
 {
     if !request.is_verbose {
         return Ok(());
     }
-    let read = DefinitionText::new(alloc, bytes)?;
+    let read = DefinitionText::new(alloc, counted.bytes)?;
     let Ok(text) = read.text() else {
         return Ok(());
     };
     match read_with_places(alloc, text) {
-        Ok((def, places)) => warn_of(alloc, bytes, &def, places.as_slice(), request, reporter),
+        Ok((def, places)) => warn_of(alloc, counted, &def, places.as_slice(), request, reporter),
         Err(ParseError::Invalid(..)) => Ok(()),
         Err(ParseError::OutOfMemory(refused)) => Err(refused),
     }
@@ -218,6 +231,76 @@ fn conclude<T: Reporter>(
     }
 }
 
+// Says that memory was refused before a warning was said, and gives the exit status.
+fn give_up<T: Reporter>(reporter: &mut T, request: &Request<'_>) -> u8
+    ensures said { Says (T.said reporter.old) (T.said reporter.new)
+        (Refuses (request_view request.now).definition OutOfMemory ∷ []) }
+    ensures status { result ≡ 3 }
+{
+    reporter.refuse(request.definition, &Refusal::OutOfMemory);
+    3
+}
+
+// How many of its members the warnings of a library are of: for GNU's linker none needs it.
+fn members_counted(flavor: Flavor, members: usize) -> usize
+    ensures { result ≡ members_counted flavor members }
+{
+    match flavor {
+        Flavor::Msvc => members,
+        Flavor::Gnu => 0,
+    }
+}
+
+// Warns of a definition that has these members, and puts its library; gives the exit status.
+fn finish<D: Disk, T: Reporter>(
+    alloc: Global,
+    bytes: &[u8],
+    members: Vec<Member>,
+    disk: &mut D,
+    request: &Request<'_>,
+    reporter: &mut T,
+) -> u8
+    requires { (D.view disk.old).left ≡ None }
+    ensures { FinishesWith D.is_known bytes.now (map member_view members.items)
+        (request_view request.now) (D.view disk.old) (D.view disk.new)
+        (T.said reporter.old) (T.said reporter.new) result }
+{
+    let counted = Counted {
+        bytes,
+        members: members_counted(request.library.flavor, members.len()),
+    };
+    match warn(alloc, counted, request, reporter) {
+        Ok(()) => {
+            let put = put(alloc, disk, members.as_slice(), request);
+            // The program ends now. Freeing each name and symbol would take a fifth of its time.
+            mem::forget(members);
+            conclude(reporter, request, put)
+        }
+        Err(_) => give_up(reporter, request),
+    }
+}
+
+// Warns of a definition that has no members for this, and says it; gives the exit status.
+fn refuse<T: Reporter>(
+    alloc: Global,
+    bytes: &[u8],
+    refusal: Refusal,
+    request: &Request<'_>,
+    reporter: &mut T,
+) -> u8
+    ensures { FinishesWithout bytes.now refusal (request_view request.now)
+        (T.said reporter.old) (T.said reporter.new) result }
+{
+    if let Refusal::OutOfMemory = refusal {
+        return give_up(reporter, request);
+    }
+    let counted = Counted { bytes, members: 0 };
+    match warn(alloc, counted, request, reporter) {
+        Ok(()) => conclude(reporter, request, Err(LibraryError::Refused(refusal))),
+        Err(_) => give_up(reporter, request),
+    }
+}
+
 // Warns of a definition that is read, and puts its library; gives the exit status.
 fn answer<D: Disk, T: Reporter>(
     alloc: Global,
@@ -230,15 +313,9 @@ fn answer<D: Disk, T: Reporter>(
     ensures { Finishes D.is_known bytes.now (request_view request.now)
         (D.view disk.old) (D.view disk.new) (T.said reporter.old) (T.said reporter.new) result }
 {
-    match warn(alloc, bytes, request, reporter) {
-        Ok(()) => {
-            let put = put(alloc, disk, bytes, request);
-            conclude(reporter, request, put)
-        }
-        Err(_) => {
-            reporter.refuse(request.definition, &Refusal::OutOfMemory);
-            3
-        }
+    match members_for(alloc, bytes, &request.library) {
+        Ok(members) => finish(alloc, bytes, members, disk, request, reporter),
+        Err(refusal) => refuse(alloc, bytes, refusal, request, reporter),
     }
 }
 
