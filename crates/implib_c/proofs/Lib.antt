@@ -20,6 +20,7 @@ pub mod WarningsBack
 pub mod WarningsAnswers
 pub mod ImportsBack
 pub mod ImportsAnswers
+pub mod ImportsRead
 pub mod AnswerWith
 pub mod AnswerOf
 pub mod GivenExports

@@ -182,10 +182,11 @@ fn read_imports(alloc: Global, library: &[u8]) -> Result<Vec<u8>, Failure>
     ensures ok { IfOk result (λ bytes. EncodesImports library.now bytes.items) }
     ensures lacks { IfErr result (LacksImports library.now) }
 {
-    let library = match Library::read(alloc, library) {
-        Ok(Some(library)) => library,
-        Ok(None) => return Err(Failure::NotALibrary),
-        Err(_) => return Err(Failure::OutOfMemory),
+    let Ok(found) = Library::read(alloc, library) else {
+        return Err(Failure::OutOfMemory);
+    };
+    let Some(library) = found else {
+        return Err(Failure::NotALibrary);
     };
     match encoding_of(alloc, library.members.as_slice()) {
         Ok(bytes) => Ok(bytes),

@@ -1,4 +1,4 @@
-use Rattle.std.proofs.Common.{◌++◌, ◌∙◌, All, ap, map, rules, subst}
+use Rattle.std.proofs.Common.{◌++◌, ◌∙◌, ap, map}
 use Rattle.std.proofs.lemmas.List.Elements.{All-map}
 use Rattle.implib_c.specs.Imports.{Fits, encoded_rows}
 use Rattle.implib_c.specs.ImportsGiven.{row_of_found}

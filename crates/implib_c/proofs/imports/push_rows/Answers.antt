@@ -1,9 +1,9 @@
-use Rattle.std.proofs.Common.{◌∙◌, ap, length, subst}
+use Rattle.std.proofs.Common.{ap, length, subst}
 use Rattle.std.proofs.lemmas.List.Elements.{All-more}
 use Rattle.implib_archive.proofs.Appended.{pushes_as}
 use Rattle.implib_c.specs.Encoding.{encoded_number}
 use Rattle.implib_c.specs.Imports.{Fits, encoded_row}
-use Rattle.implib_c.specs.ImportsGiven.{row_of_found, row_view}
+use Rattle.implib_c.specs.ImportsGiven.{row_of_found}
 use Rattle.implib_c.proofs.Pushes.{pushes_item}
 use Rattle.implib_c.proofs.imports.push_rows.Goals as goal
 
