@@ -62,7 +62,7 @@ extern "C" {
 
 /* The version of this header, which grows with every change of what it declares or says. implib_version()
  * gives that of the library. */
-#define IMPLIB_VERSION 3
+#define IMPLIB_VERSION 4
 uint32_t implib_version(void);
 
 /* What a call answers. New statuses get new numbers. Those of faults of the input are 16 to 39. */
@@ -120,6 +120,9 @@ enum implib_status {
     IMPLIB_UNKNOWN_EXPORT_FLAGS = 43, /* an unknown flag of an export is set */
     IMPLIB_EXPORT_NOT_UTF8 = 44,      /* the name or the target of an export is not UTF-8 */
     IMPLIB_NULL_IN_EXPORT = 45,       /* the name or the target of an export is a null pointer */
+
+    /* Of implib_imports alone. */
+    IMPLIB_NOT_A_LIBRARY = 46, /* the bytes are no archive, or a thin one */
 
     /* Of implib_write alone; *place is 0. */
     IMPLIB_WRITE_FAILED = 47 /* the caller's function did not take a piece */
@@ -266,6 +269,42 @@ static inline uint32_t implib_warnings(const struct implib_options *options, con
 #define IMPLIB_WARNING_STANDS_ALONE 13u    /* a keyword of other tools is a name here */
 
 /*
+ * Puts what each member of a library is for, and imports, at the beginning of the buffer, and returns a status:
+ * IMPLIB_SUCCESS, IMPLIB_BUFFER_TOO_SMALL, IMPLIB_OUT_OF_MEMORY or IMPLIB_NOT_A_LIBRARY. The library may be of any
+ * maker: a short import says what it imports, and an object for GNU's linker is followed as a linker does it.
+ *
+ * bytes        the library: the file, whole
+ * length       gets the length of the encoding in bytes, where the status is IMPLIB_SUCCESS or
+ *              IMPLIB_BUFFER_TOO_SMALL; else 0
+ *
+ * The buffer is as of implib_library, with the encoding in the archive's place. It has numbers and texts as that of
+ * implib_members; the texts here are of any bytes. What a member does not say is 0 or empty.
+ *
+ *     number               how many members there are, and then of each, in their order
+ *       number             its kind, an IMPLIB_IMPORT_..; those up to 4 are imports
+ *       number             the offset of its header in the library
+ *       text               of an import, the name of the DLL
+ *       text               its symbol: of an import, that of its address without `__imp_`; of an alias, the alias
+ *       number             of an import, its machine, by its number in the PE/COFF specification
+ *       number             1 where a name is asked for, or a symbol by an alias; 0 where an ordinal is
+ *       text               this name, or the symbol that an alias stands for
+ *       number             the hint of the name, or the ordinal
+ */
+static inline uint32_t implib_imports(const uint8_t *bytes, size_t bytes_length, uint8_t *buffer,
+                                      size_t buffer_length, size_t *length);
+
+/* What a member of a library is for. New kinds get new numbers. */
+#define IMPLIB_IMPORT_CODE 1u
+#define IMPLIB_IMPORT_DATA 2u
+#define IMPLIB_IMPORT_CONSTANT 3u
+#define IMPLIB_IMPORT_CODE_OR_CONSTANT 4u /* objects for GNU's linker do not tell the two */
+#define IMPLIB_IMPORT_ALIAS 5u            /* a symbol that stands for another one */
+#define IMPLIB_IMPORT_TABLES 6u           /* a part of the import tables, as the descriptor of a DLL */
+#define IMPLIB_IMPORT_DELAYED 7u          /* a part of a library of delayed imports */
+#define IMPLIB_IMPORT_OTHER 8u            /* an object without import tables */
+#define IMPLIB_IMPORT_NOT_UNDERSTOOD 9u   /* neither, or import tables that lead nowhere */
+
+/*
  * Puts the import library of a definition at the beginning of the buffer, and returns a status: the archive of
  * the members that implib_members gives, of the COFF kind (as of LIB.EXE, a .lib) for Microsoft's linker, and
  * of the GNU kind (as of ar, a .a) for GNU's.
@@ -362,6 +401,8 @@ uint32_t implib_library_of_nonnull(const struct implib_export *exports, size_t c
 uint32_t implib_warnings_nonnull(const uint8_t *text, size_t text_length, const uint8_t *dll, size_t dll_length,
                                  uint32_t has_dll, uint16_t machine, uint32_t flavor, uint32_t flags,
                                  uint8_t *buffer, size_t buffer_length, size_t *length, size_t *place);
+uint32_t implib_imports_nonnull(const uint8_t *bytes, size_t bytes_length, uint8_t *buffer, size_t buffer_length,
+                                size_t *length);
 uint32_t implib_library_nonnull(const uint8_t *text, size_t text_length, uint16_t machine, uint32_t flavor,
                                 uint8_t *buffer, size_t buffer_length, size_t *length, size_t *place);
 uint32_t implib_members_nonnull(const uint8_t *text, size_t text_length, uint16_t machine, uint32_t flavor,
@@ -473,6 +514,16 @@ static inline uint32_t implib_warnings(const struct implib_options *options, con
                                    all.dll_length == 0 ? &no_dll : all.dll, all.dll_length, all.dll != NULL,
                                    all.machine, all.flavor, all.flags,
                                    buffer_length == 0 ? &no_buffer : buffer, buffer_length, own_length, own_place);
+}
+
+static inline uint32_t implib_imports(const uint8_t *bytes, size_t bytes_length, uint8_t *buffer,
+                                      size_t buffer_length, size_t *length)
+{
+    uint8_t no_bytes = 0, no_buffer = 0;
+    size_t no_length;
+    return implib_imports_nonnull(bytes_length == 0 ? &no_bytes : bytes, bytes_length,
+                                  buffer_length == 0 ? &no_buffer : buffer, buffer_length,
+                                  length == NULL ? &no_length : length);
 }
 
 static inline uint32_t implib_library(const uint8_t *text, size_t text_length, uint16_t machine,

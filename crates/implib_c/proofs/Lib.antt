@@ -5,6 +5,7 @@ pub mod ReadBack
 pub mod WorkedEncoding
 pub mod WorkedDefinition
 pub mod WorkedWarnings
+pub mod WorkedImports
 pub mod WorkedGaps
 pub mod WorkedStatus
 pub mod WorkedPlace
@@ -17,6 +18,9 @@ pub mod DefinitionAnswers
 pub mod WarningsSaid
 pub mod WarningsBack
 pub mod WarningsAnswers
+pub mod ImportsBack
+pub mod ImportsAnswers
+pub mod ImportsRead
 pub mod AnswerWith
 pub mod AnswerOf
 pub mod GivenExports

@@ -116,3 +116,4 @@ module _ (text : List ℕ) (given : GivenOptions) (old : List ℕ) where
       warns_encoded new (Err failure.NoDllName) puts = absurd puts
       warns_encoded new (Err (failure.RefusedAt fault offset)) puts = absurd puts
       warns_encoded new (Err (failure.NoExport fault index)) puts = absurd puts
+      warns_encoded new (Err failure.NotALibrary) puts = absurd puts

@@ -92,6 +92,7 @@ worked_statuses = record {
     text_43 = refl;
     text_44 = refl;
     text_45 = refl;
+    text_46 = refl;
     text_47 = refl;
     text_6 = refl;
     text_15 = refl;

@@ -9,6 +9,8 @@ pub mod Definition
 pub mod DefinitionAnswer
 pub mod Warnings
 pub mod WarningsAnswer
+pub mod Imports
+pub mod ImportsAnswer
 pub mod Place
 pub mod Version
 pub mod Given
@@ -16,9 +18,11 @@ pub mod GivenWith
 pub mod GivenOf
 pub mod DefinitionGiven
 pub mod WarningsGiven
+pub mod ImportsGiven
 pub mod WorkedEncoding
 pub mod WorkedDefinition
 pub mod WorkedWarnings
+pub mod WorkedImports
 pub mod WorkedGaps
 pub mod WorkedStatus
 pub mod WorkedExports

@@ -19,10 +19,10 @@ use Rattle.implib_c.specs.declared.status.Status.TheVariants.{TooManyMembers, Ar
 use Rattle.implib_c.specs.declared.status.Status.TheVariants.{EmptyLibraryName, LineEndInLibraryName, NulInLibraryName}
 use Rattle.implib_c.specs.declared.status.Status.TheVariants.{NoDllName, UnknownOptions, UnknownFlags, DllNotUtf8}
 use Rattle.implib_c.specs.declared.status.Status.TheVariants.{UnknownExportFlags, ExportNotUtf8, NullInExport}
-use Rattle.implib_c.specs.declared.status.Status.TheVariants.{WriteFailed}
+use Rattle.implib_c.specs.declared.status.Status.TheVariants.{NotALibrary, WriteFailed}
 
--- the number of a status: those of a call first, from 16 to 39 those of the input's faults, then those of options and
--- of exports
+-- the number of a status: those of a call first, from 16 to 39 those of the input's faults, then those of options, of
+-- exports and of bytes that are read
 abbrev pub status_number : Status → ℕ
 status_number Success = 0
 status_number BufferTooSmall = 1
@@ -60,6 +60,7 @@ status_number DllNotUtf8 = 42
 status_number UnknownExportFlags = 43
 status_number ExportNotUtf8 = 44
 status_number NullInExport = 45
+status_number NotALibrary = 46
 status_number WriteFailed = 47
 
 -- the status with a number
@@ -101,6 +102,7 @@ status_numbered number =
     else if number == 43 then Some UnknownExportFlags
     else if number == 44 then Some ExportNotUtf8
     else if number == 45 then Some NullInExport
+    else if number == 46 then Some NotALibrary
     else if number == 47 then Some WriteFailed
     else None
 
@@ -142,6 +144,7 @@ status_text DllNotUtf8 = codes "name of the DLL is not UTF-8"
 status_text UnknownExportFlags = codes "unknown flags of an export"
 status_text ExportNotUtf8 = codes "export name is not UTF-8"
 status_text NullInExport = codes "export has a null pointer"
+status_text NotALibrary = codes "not a library"
 status_text WriteFailed = codes "writing failed"
 
 -- the status of a fault of the input

@@ -126,6 +126,7 @@ pub record WorkedTexts : Type 0 where
   pub text_43 : text_for 43 ≡ codes "unknown flags of an export"
   pub text_44 : text_for 44 ≡ codes "export name is not UTF-8"
   pub text_45 : text_for 45 ≡ codes "export has a null pointer"
+  pub text_46 : text_for 46 ≡ codes "not a library"
   pub text_47 : text_for 47 ≡ codes "writing failed"
   pub text_6 : text_for 6 ≡ codes "unknown status"
   pub text_15 : text_for 15 ≡ codes "unknown status"
@@ -151,7 +152,7 @@ pub record WorkedArguments : Type 0 where
   pub plain_export_as : naming_numbered 6 ≡ Some (record { is_plain = true; kills_at = false; exports_as = true })
   pub all_flags : naming_numbered 7 ≡ Some (record { is_plain = true; kills_at = true; exports_as = true })
   pub unknown_flag : naming_numbered 8 ≡ None
-  pub version_is : version ≡ 3
+  pub version_is : version ≡ 4
 
 -- all of them
 pub record WorkedStatuses : Type 0 where

@@ -8,6 +8,7 @@ ghost use Rattle.implib.specs.Text.Position.{line_and_column};
 ghost use Rattle.implib_c.specs.Answer.{Answers};
 ghost use Rattle.implib_c.specs.DefinitionAnswer.{DefinitionAnswers};
 ghost use Rattle.implib_c.specs.Given.{length_given, place_given, status_given};
+ghost use Rattle.implib_c.specs.ImportsAnswer.{ImportsAnswers};
 ghost use Rattle.implib_c.specs.Library.{LibraryAnswers};
 ghost use Rattle.implib_c.specs.LibraryOf.{LibraryOfAnswers, given_export};
 ghost use Rattle.implib_c.specs.LibraryWith.{LibraryWithAnswers};
@@ -19,6 +20,7 @@ ghost use Rattle.std.specs.Prelude.{◌<◌, ◌≡◌, length, map};
 
 use crate::definition::definition_into;
 use crate::export::Export;
+use crate::imports::imports_into;
 use crate::library_of::library_of_into;
 use crate::library_with::{OptionsArguments, library_with_into};
 use crate::outcome::{Failure, length_of, library_into, members_into, place_of, status_of};
@@ -28,7 +30,7 @@ use crate::warnings::warnings_into;
 use std::alloc::Global;
 
 // `IMPLIB_VERSION` of the header.
-const VERSION: u32 = 3;
+const VERSION: u32 = 4;
 
 // Writes the length and the place of an answer. Gives its status.
 fn tell(answer: &Result<usize, Failure>, length: &mut usize, place: &mut usize) -> u32
@@ -226,6 +228,27 @@ pub extern "C" fn implib_warnings_nonnull(
     };
     let answer = warnings_into(alloc, text, arguments, buffer);
     tell(&answer, length, place)
+}
+
+/// Puts what the members of a library are for, and import, at the beginning of `buffer`, encoded as
+/// `specs/Imports.antt` says, and gives a status: 0 where it is done. The library may be of any
+/// maker.
+///
+/// `length` gets the length of the encoding in bytes, where the status is 0 or 1 (the buffer is too
+/// small), and otherwise 0. Where the status is not 0 the buffer is as it was, and where it is 0,
+/// what follows the encoding.
+#[unsafe(no_mangle)]
+pub extern "C" fn implib_imports_nonnull(
+    alloc: Global,
+    bytes: &[u8],
+    buffer: &mut [u8],
+    length: &mut usize,
+) -> u32
+    ensures { ImportsAnswers bytes.now buffer.old buffer.new length.new result }
+{
+    let answer = imports_into(alloc, bytes, buffer);
+    *length = length_of(&answer);
+    status_of(&answer).number()
 }
 
 /// Puts the line and the column of an offset in a text into `line` and `column`, both from 1. A line

@@ -4,6 +4,7 @@
 ghost use Rattle.implib.specs.Members.MemberSpec.{MemberView};
 ghost use Rattle.implib_c.specs.Definition.{ReadsDefinitionBack, StatedDefinition};
 ghost use Rattle.implib_c.specs.Encoding.{ReadsBack};
+ghost use Rattle.implib_c.specs.Imports.{ReadsRowsBack, Row};
 ghost use Rattle.implib_c.specs.LibraryOf.{GivenExport, exports_given};
 ghost use Rattle.implib_c.specs.Place.{PlacesAreOfRefusals};
 ghost use Rattle.implib_c.specs.Status.{NumbersReturn};
@@ -11,6 +12,7 @@ ghost use Rattle.implib_c.specs.Warnings.{ReadsWarningsBack, Said};
 ghost use Rattle.implib_c.specs.WorkedDefinition.{WorkedDefinitions};
 ghost use Rattle.implib_c.specs.WorkedEncoding.{WorkedEncodings};
 ghost use Rattle.implib_c.specs.WorkedExports.{WorkedExports};
+ghost use Rattle.implib_c.specs.WorkedImports.{WorkedImports};
 ghost use Rattle.implib_c.specs.WorkedPlace.{WorkedPlaces};
 ghost use Rattle.implib_c.specs.WorkedStatus.{WorkedStatuses};
 ghost use Rattle.implib_c.specs.WorkedWarnings.{WorkedWarnings};
@@ -48,6 +50,16 @@ pub fn warnings_read_back()
 /// numbers.
 pub fn worked_warnings()
     ensures { WorkedWarnings }
+{}
+
+/// An encoding of a library's rows reads back, whatever follows it.
+pub fn rows_read_back()
+    ensures { (rows : List Row) (rest : List ℕ) → ReadsRowsBack rows rest }
+{}
+
+/// Rows of libraries, worked by hand, are these, have these bytes, and are read so.
+pub fn worked_imports()
+    ensures { WorkedImports }
 {}
 
 /// Each number of a status leads back to it.

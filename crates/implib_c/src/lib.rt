@@ -8,6 +8,7 @@ mod encoding;
 mod export;
 mod exports;
 mod gaps;
+mod imports;
 mod laws;
 mod library_of;
 mod library_with;

@@ -46,6 +46,8 @@ pub enum Failure {
     RefusedAt(Fault, usize),
     /// An export is refused by itself: the fault, and its index.
     NoExport(ExportFault, usize),
+    /// The bytes are no archive, or a thin one.
+    NotALibrary,
 }
 
 impl From<ParseError> for Failure {
@@ -116,6 +118,7 @@ impl Failure {
             Failure::DllNotUtf8 => Status::DllNotUtf8,
             Failure::NoDllName => Status::NoDllName,
             Failure::NoExport(fault, _) => Status::of_export(*fault),
+            Failure::NotALibrary => Status::NotALibrary,
         }
     }
 }

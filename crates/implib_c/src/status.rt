@@ -83,6 +83,8 @@ pub enum Status {
     ExportNotUtf8,
     /// A pointer of an export is null. The header alone gives it.
     NullInExport,
+    /// The bytes are no archive, or a thin one.
+    NotALibrary,
     /// A function of the header's caller did not take a piece of a library.
     WriteFailed,
 }
@@ -129,6 +131,7 @@ impl Status {
             Status::UnknownExportFlags => 43,
             Status::ExportNotUtf8 => 44,
             Status::NullInExport => 45,
+            Status::NotALibrary => 46,
             Status::WriteFailed => 47,
         }
     }
@@ -174,6 +177,7 @@ impl Status {
             43 => Some(Status::UnknownExportFlags),
             44 => Some(Status::ExportNotUtf8),
             45 => Some(Status::NullInExport),
+            46 => Some(Status::NotALibrary),
             47 => Some(Status::WriteFailed),
             _ => None,
         }
@@ -222,6 +226,7 @@ impl Status {
             Status::UnknownExportFlags => "unknown flags of an export",
             Status::ExportNotUtf8 => "export name is not UTF-8",
             Status::NullInExport => "export has a null pointer",
+            Status::NotALibrary => "not a library",
             Status::WriteFailed => "writing failed",
         }
     }

@@ -3,9 +3,9 @@
 
 use crate::export::Export;
 use crate::exports::{
-    implib_definition_nonnull, implib_library_nonnull, implib_library_of_nonnull,
-    implib_library_with_nonnull, implib_members_nonnull, implib_position_nonnull,
-    implib_status_text_nonnull, implib_version, implib_warnings_nonnull,
+    implib_definition_nonnull, implib_imports_nonnull, implib_library_nonnull,
+    implib_library_of_nonnull, implib_library_with_nonnull, implib_members_nonnull,
+    implib_position_nonnull, implib_status_text_nonnull, implib_version, implib_warnings_nonnull,
 };
 use implib::{Flavor, ImportLibrary, MachineType};
 use implib_archive::{Archive, Kind};
@@ -553,12 +553,12 @@ fn offsets_have_lines_and_columns(rt: HostRuntime) -> Result<(), Fail> {
 
 #[test]
 fn the_version_is_that_of_the_header(rt: HostRuntime) -> Result<(), Fail> {
-    assert_eq!(rt; implib_version(), 3);
+    assert_eq!(rt; implib_version(), 4);
     Ok(())
 }
 
 // The statuses with their texts, and numbers that are none.
-const TEXTS: [(u32, &str); 41] = [
+const TEXTS: [(u32, &str); 42] = [
     (0, "success"),
     (1, "buffer too small"),
     (2, "out of memory"),
@@ -597,8 +597,9 @@ const TEXTS: [(u32, &str); 41] = [
     (43, "unknown flags of an export"),
     (44, "export name is not UTF-8"),
     (45, "export has a null pointer"),
-    (46, "unknown status"),
+    (46, "not a library"),
     (47, "writing failed"),
+    (48, "unknown status"),
     (0xFFFF_FFFF, "unknown status"),
 ];
 
@@ -695,5 +696,71 @@ fn a_warning_is_told_in_words(rt: HostRuntime) -> Result<(), Fail> {
     assert_eq!(rt; length, want.len());
     assert!(rt; buffer.starts_with(want.as_slice()));
     assert!(rt; is_untouched(buffer.get(length..).unwrap_or(&[])));
+    Ok(())
+}
+
+// A library of one short import, that of bar from foo.dll on AMD64: its header, and its file of 32 bytes.
+const SHORT_IMPORT: &[u8] = b"!<arch>\n\
+foo.dll/        0           0     0     644     32        `\n\
+\x00\x00\xFF\xFF\x00\x00\x64\x86\x00\x00\x00\x00\x0C\x00\x00\x00\x07\x00\x04\x00bar\x00foo.dll\x00";
+
+#[test]
+fn an_import_is_told(rt: HostRuntime) -> Result<(), Fail> {
+    let mut buffer = room(rt.alloc(), 200)?;
+    let mut length = 12_345;
+    let status = implib_imports_nonnull(
+        rt.alloc(),
+        SHORT_IMPORT,
+        buffer.as_mut_slice(),
+        &mut length,
+    );
+    let mut want = Vec::new(rt.alloc());
+    for number in [1_usize, 1, 8] {
+        want.extend_from_slice(&number.to_le_bytes())?;
+    }
+    push_text(&mut want, b"foo.dll")?;
+    push_text(&mut want, b"bar")?;
+    for number in [0x8664_usize, 1] {
+        want.extend_from_slice(&number.to_le_bytes())?;
+    }
+    push_text(&mut want, b"bar")?;
+    want.extend_from_slice(&7_usize.to_le_bytes())?;
+    assert_eq!(rt; (status, length), (0, want.len()));
+    assert!(rt; buffer.starts_with(want.as_slice()));
+    assert!(rt; is_untouched(buffer.get(length..).unwrap_or(&[])));
+    let mut short = room(rt.alloc(), length - 1)?;
+    let mut needed = 12_345;
+    let status = implib_imports_nonnull(
+        rt.alloc(),
+        SHORT_IMPORT,
+        short.as_mut_slice(),
+        &mut needed,
+    );
+    assert_eq!(rt; (status, needed), (1, length));
+    assert!(rt; is_untouched(short.as_slice()));
+    Ok(())
+}
+
+#[test]
+fn imports_of_made_libraries_are_told_and_of_no_library_none(rt: HostRuntime) -> Result<(), Fail> {
+    for (_, flavor, count) in FLAVORS {
+        let mut library = room(rt.alloc(), 8192)?;
+        let text = TWO.as_bytes();
+        let bytes = library.as_mut_slice();
+        let made = called(rt.alloc(), Call::Library, text, 0x8664, flavor, bytes);
+        let bytes = library.get(..made.1).unwrap_or(&[]);
+        let mut buffer = room(rt.alloc(), 1024)?;
+        let mut length = 12_345;
+        let status = implib_imports_nonnull(rt.alloc(), bytes, buffer.as_mut_slice(), &mut length);
+        assert_eq!(rt; (made.0, status), (0, 0));
+        assert_eq!(rt; buffer.first().copied(), Some(count));
+    }
+    for bytes in [b"".as_slice(), b"MZ", b"!<thin>\n", b"!<arch>\n/"] {
+        let mut buffer = room(rt.alloc(), 64)?;
+        let mut length = 12_345;
+        let status = implib_imports_nonnull(rt.alloc(), bytes, buffer.as_mut_slice(), &mut length);
+        assert_eq!(rt; (status, length), (46, 0));
+        assert!(rt; is_untouched(buffer.as_slice()));
+    }
     Ok(())
 }
