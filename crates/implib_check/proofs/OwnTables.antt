@@ -47,7 +47,7 @@ use Rattle.implib_check.specs.declared.working.Piece.{Piece}
 use Rattle.implib_check.specs.declared.working.Piece.TheVariants as piece
 use Rattle.implib_check.specs.declared.working.Working.TheVariants.{Works}
 use Rattle.implib_check.specs.Comparison.{has_unread}
-use Rattle.implib_check.specs.Identity.{dll_of, dlls_of, with_dll_of, with_name}
+use Rattle.implib_read.specs.Identity.{dll_of, dlls_of, with_dll_of, with_name}
 use Rattle.implib_check.specs.OwnLibraries.{MeantIsDefined, SaysWhatIsDefined, by_export, imports_meant, meanings_read}
 use Rattle.implib_check.specs.OwnTables.{OwnTablesAreWhole}
 use Rattle.implib_check.specs.Targets.{flavor_of, is_for_msvc, tells_code}

@@ -15,7 +15,7 @@ use Rattle.implib_read.specs.declared.import.ImportKind.TheVariants.{Code, CodeO
 use Rattle.implib_rules.specs.Linked.{NamingView, keeps_word}
 use Rattle.implib_rules.specs.Options.{LibraryOptionsView}
 use Rattle.implib_check.specs.Facts.{tells_constants}
-use Rattle.implib_check.specs.Identity.{dll_of}
+use Rattle.implib_read.specs.Identity.{dll_of}
 
 -- Words.
 

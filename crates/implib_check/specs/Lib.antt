@@ -1,7 +1,6 @@
 pub mod Facts
 pub mod Partners
 pub mod Comparison
-pub mod Identity
 pub mod Calls
 pub mod Targets
 pub mod Meant

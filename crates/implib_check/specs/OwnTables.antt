@@ -5,7 +5,7 @@ use Rattle.implib_rules.specs.Library.{IsLibrary}
 use Rattle.implib_rules.specs.Options.{LibraryOptionsView}
 use Rattle.implib_check.specs.declared.working.Working.TheVariants.{Works}
 use Rattle.implib_check.specs.Comparison.{has_unread}
-use Rattle.implib_check.specs.Identity.{dlls_of}
+use Rattle.implib_read.specs.Identity.{dlls_of}
 use Rattle.implib_check.specs.Targets.{flavor_of}
 use Rattle.implib_check.specs.Working.{has_whole_tables, works_of}
 

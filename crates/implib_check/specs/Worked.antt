@@ -5,7 +5,7 @@ use Rattle.implib_read.specs.Classes.{Class, AnImport, AnAlias, Descriptor, Null
 use Rattle.implib_read.specs.declared.import.ImportKind.{ImportKind}
 use Rattle.implib_read.specs.declared.import.ImportKind.TheVariants.{Code, CodeOrConst, Const, Data}
 use Rattle.implib_check.specs.Comparison.{differing, verdict}
-use Rattle.implib_check.specs.Identity.{dlls_of}
+use Rattle.implib_read.specs.Identity.{dlls_of}
 use Rattle.implib_check.specs.Status.{identity_status, list_status, verdict_status}
 use Rattle.implib_check.specs.Tasks.{Compares, Help, Identifies, Lists, Version, task_named}
 use Rattle.implib_check.specs.declared.compare.Verdict.TheVariants.{Different, NotDecided, Same}

@@ -12,12 +12,10 @@ ghost use Rattle.implib_read.specs.ImportViews.{ask_view, declared_view};
 ghost use Rattle.implib_rules.specs.Linked.{naming_view};
 ghost use Rattle.implib_rules.specs.Options.{library_options_view};
 
-use crate::identity::dll_of;
 use crate::keys::tells_constants;
 use implib::{Flavor, MachineType};
 use implib_read::{
-    AliasFound, AskFound, DeclaredFound, ImportFound, ImportKind, MemberClass, MemberRead,
-};
+    AliasFound, AskFound, DeclaredFound, ImportFound, ImportKind, MemberClass, MemberRead, dll_of};
 use implib_rules::linked::{Naming, keeps_word};
 use implib_rules::options::LibraryOptions;
 use std::alloc::{AllocError, Global};

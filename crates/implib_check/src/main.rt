@@ -3,7 +3,7 @@
 //!
 //! What the words of the command line ask for, which DLLs a library has, which members of two libraries differ, and
 //! whether a library means what a definition means, are decided by functions with contracts ([`task`], [`call`],
-//! [`identity`], [`keys`], [`partners`], [`compare`], [`target`], [`definition`]). What is then read and written are
+//! [`keys`], [`partners`], [`compare`], [`target`], [`definition`]). What is then read and written are
 //! files ([`program`]), with lines of text ([`text`], [`differences`], [`positions`]).
 #![tactic(auto)]
 
@@ -13,7 +13,6 @@ pub mod defining;
 pub mod definition;
 pub mod definition_text;
 mod differences;
-pub mod identity;
 pub mod keys;
 pub mod laws;
 pub mod partners;

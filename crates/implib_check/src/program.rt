@@ -8,7 +8,6 @@ use crate::compare::{Comparison, Verdict, compare, has_unread};
 use crate::defining::{Undefined, definition_of};
 use crate::definition::{CheckError, check_definition};
 use crate::differences::{BUFFER, Failure, Lines, flushed, tell_both};
-use crate::identity::dlls_of;
 use crate::status::{
     comparison_status, identity_status, list_status, refusal_status, together_status,
     undefined_status,
@@ -22,7 +21,7 @@ use crate::working::{
     second_misleads, working_status, works_of,
 };
 use implib::Flavor;
-use implib_read::{IndexEntry, Library, MemberRead};
+use implib_read::{IndexEntry, Library, MemberRead, dlls_of};
 use implib_rules::library::Refusal;
 use implib_rules::{ShownPlace, position_of};
 use indexmap::IndexSet;

@@ -1,5 +1,6 @@
 pub mod Options
 pub mod Arguments
+pub mod Identity
 pub mod Request
 pub mod Verbose
 pub mod Disk

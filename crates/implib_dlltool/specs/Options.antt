@@ -5,8 +5,8 @@ use Rattle.implib_dlltool.specs.declared.options.Meaning.{Meaning}
 use Rattle.implib_dlltool.specs.declared.options.Meaning.TheVariants.{Takes, Switches, Unsupported, Unknown}
 use Rattle.implib_dlltool.specs.declared.options.Setting.{Setting}
 use Rattle.implib_dlltool.specs.declared.options.Switch.{Switch}
-use Rattle.implib_dlltool.specs.declared.options.Setting.TheVariants.{Definition, Output, Machine, Dll, Flavor, Assembler, AssemblerFlags, TemporaryPrefix, FurtherPrefix}
-use Rattle.implib_dlltool.specs.declared.options.Switch.TheVariants.{KillAt, NoLeadingUnderscore, LeadingUnderscore, ExportAs, AddUnderscore, AddStdcallUnderscore, AddStdcallAlias, DeterministicLibraries, NonDeterministicLibraries, NoDelete, Verbose, Help, Version}
+use Rattle.implib_dlltool.specs.declared.options.Setting.TheVariants.{Definition, Output, Machine, Dll, Flavor, Assembler, AssemblerFlags, TemporaryPrefix, FurtherPrefix, Identify}
+use Rattle.implib_dlltool.specs.declared.options.Switch.TheVariants.{KillAt, NoLeadingUnderscore, LeadingUnderscore, ExportAs, AddUnderscore, AddStdcallUnderscore, AddStdcallAlias, DeterministicLibraries, NonDeterministicLibraries, NoDelete, IdentifyStrict, Verbose, Help, Version}
 
 -- the long names, without `--`, of GNU dlltool's options that have no meaning here
 abbrev pub is_unsupported : List ℕ → Bool
@@ -15,8 +15,6 @@ is_unsupported name =
     else if bytes_eq name (codes "output-def") then true
     else if bytes_eq name (codes "output-delaylib") then true
     else if bytes_eq name (codes "base-file") then true
-    else if bytes_eq name (codes "identify") then true
-    else if bytes_eq name (codes "identify-strict") then true
     else if bytes_eq name (codes "no-idata4") then true
     else if bytes_eq name (codes "no-idata5") then true
     else if bytes_eq name (codes "add-indirect") then true
@@ -41,6 +39,7 @@ option_named name =
     else if bytes_eq name (codes "as-flags") then Takes AssemblerFlags
     else if bytes_eq name (codes "temp-prefix") then Takes TemporaryPrefix
     else if bytes_eq name (codes "ext-prefix-alias") then Takes FurtherPrefix
+    else if bytes_eq name (codes "identify") then Takes Identify
     else if bytes_eq name (codes "kill-at") then Switches KillAt
     else if bytes_eq name (codes "no-leading-underscore") then Switches NoLeadingUnderscore
     else if bytes_eq name (codes "leading-underscore") then Switches LeadingUnderscore
@@ -51,6 +50,7 @@ option_named name =
     else if bytes_eq name (codes "deterministic-libraries") then Switches DeterministicLibraries
     else if bytes_eq name (codes "non-deterministic-libraries") then Switches NonDeterministicLibraries
     else if bytes_eq name (codes "no-delete") then Switches NoDelete
+    else if bytes_eq name (codes "identify-strict") then Switches IdentifyStrict
     else if bytes_eq name (codes "verbose") then Switches Verbose
     else if bytes_eq name (codes "help") then Switches Help
     else if bytes_eq name (codes "version") then Switches Version
@@ -68,6 +68,7 @@ option_lettered letter =
     else if letter == byte "f" then Takes AssemblerFlags
     else if letter == byte "t" then Takes TemporaryPrefix
     else if letter == byte "p" then Takes FurtherPrefix
+    else if letter == byte "I" then Takes Identify
     else if letter == byte "k" then Switches KillAt
     else if letter == byte "U" then Switches AddUnderscore
     else if letter == byte "A" then Switches AddStdcallAlias
@@ -79,7 +80,6 @@ option_lettered letter =
     else if letter == byte "z" then Unsupported
     else if letter == byte "y" then Unsupported
     else if letter == byte "b" then Unsupported
-    else if letter == byte "I" then Unsupported
     else if letter == byte "x" then Unsupported
     else if letter == byte "c" then Unsupported
     else if letter == byte "a" then Unsupported
@@ -97,6 +97,7 @@ setting_number Assembler = 5
 setting_number AssemblerFlags = 6
 setting_number TemporaryPrefix = 7
 setting_number FurtherPrefix = 8
+setting_number Identify = 9
 
 -- the number of an option without a value
 abbrev pub switch_number : Switch → ℕ
@@ -113,6 +114,7 @@ switch_number ExportAs = 9
 switch_number AddUnderscore = 10
 switch_number AddStdcallUnderscore = 11
 switch_number AddStdcallAlias = 12
+switch_number IdentifyStrict = 13
 
 -- whether two options that take values are one
 abbrev pub is_same_setting : Setting → Setting → Bool

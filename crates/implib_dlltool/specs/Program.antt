@@ -13,9 +13,11 @@ use Rattle.implib.specs.Members.MemberSpec.{MemberView}
 use Rattle.implib.specs.Text.Parses.{Parses, RefusesAt}
 use Rattle.implib_dlltool.specs.Arguments.{OccurrenceView, WordFaultView, read_words}
 use Rattle.implib_dlltool.specs.Disk.{DiskView}
+use Rattle.implib_dlltool.specs.declared.identity.NotIdentified.{NotIdentified}
+use Rattle.implib_dlltool.specs.Identity.{identified}
 use Rattle.implib_dlltool.specs.Placing.{Answer, Answers}
-use Rattle.implib_dlltool.specs.Reports.{ComplaintView, Complains, Line, OfArguments, OfCall, OfMemory, OfSystem, OfWord, OfWriting, Refuses, Says, Warns}
-use Rattle.implib_dlltool.specs.Request.{Asked, AsksHelp, AsksVersion, Asks, RequestView, TaskView, caller_of, task_of}
+use Rattle.implib_dlltool.specs.Reports.{ComplaintView, Complains, Line, OfArguments, OfCall, OfIdentity, OfMemory, OfSystem, OfWord, OfWriting, Refuses, Says, Warns}
+use Rattle.implib_dlltool.specs.Request.{Asked, AsksHelp, AsksIdentity, AsksVersion, Asks, RequestView, TaskView, caller_of, task_of}
 use Rattle.implib_dlltool.specs.Verbose.{warnings_for}
 use Rattle.implib_rules.specs.declared.library.LibraryError.TheVariants.{Refused, Writing}
 use Rattle.implib_rules.specs.declared.library.Refusal.{Refusal}
@@ -194,6 +196,43 @@ pub record OnlyMakes (known : Bool) (request : RequestView) (before after : Devi
   pub same_output : prints ≡ printed
   pub outcome : Makes known request before after status
 
+-- a complaint of a file was said, and nothing printed
+pub record OnlyComplains (path : List ℕ) (complaint : ComplaintView) (number : ℕ) (before after : Option (List Line))
+    (printed prints : Option (List ℕ)) (status : ℕ) : Type 0 where
+  pub same_output : prints ≡ printed
+  pub says : Says before after (Complains path complaint ∷ [])
+  pub is_status : status ≡ number
+
+-- the DLLs of a library were printed, or that there are none was said
+abbrev pub NamesDlls : List ℕ → Result (List ℕ) NotIdentified → Option (List Line) → Option (List Line) → Option (List ℕ) → Option (List ℕ) → ℕ → Type 0
+NamesDlls path (Ok lines) before after printed prints status = Prints lines before after printed prints status
+NamesDlls path (Err fault) before after printed prints status =
+    OnlyComplains path (OfIdentity fault) 1 before after printed prints status
+
+-- a library was read, and its DLLs named, unless memory was refused
+pub record IsIdentified (path : List ℕ) (is_strict : Bool) (before after : Devices) (printed prints : Option (List ℕ))
+    (status : ℕ) : Type 0 where
+  pub bytes : List ℕ
+  pub read : IfSome (before.disk.seen path) (λ file. bytes ≡ file)
+  pub same_disk : after.disk ≡ before.disk
+  pub outcome :
+      NamesDlls path (identified is_strict bytes) before.said after.said printed prints status
+      ⊎ OnlyComplains own_name OfMemory 3 before.said after.said printed prints status
+
+-- a library could not be read
+pub record IsUnidentified (path : List ℕ) (before after : Devices) (printed prints : Option (List ℕ)) (status : ℕ)
+    : Type 0 where
+  pub keeps : KeepsFiles before.disk after.disk
+  pub complains : OnlyComplains path OfSystem 3 before.said after.said printed prints status
+
+-- what is done for a library whose DLLs are asked for
+pub record Identifies (path : List ℕ) (is_strict : Bool) (before after : Devices) (printed prints : Option (List ℕ))
+    (status : ℕ) : Type 0 where
+  pub same_input : after.input ≡ before.input
+  pub outcome :
+      IsIdentified path is_strict before after printed prints status
+      ⊎ IsUnidentified path before after printed prints status
+
 -- the texts of the help and of the version
 pub record Texts : Type 0 where
   pub help : List ℕ
@@ -207,6 +246,8 @@ abbrev pub DoesTask : Bool → Texts → Asked TaskView → Devices → Devices 
 DoesTask known texts (Ok AsksHelp) before after printed prints status = OnlyPrints texts.help before after printed prints status
 DoesTask known texts (Ok AsksVersion) before after printed prints status =
     OnlyPrints texts.version before after printed prints status
+DoesTask known texts (Ok (AsksIdentity path is_strict)) before after printed prints status =
+    Identifies path is_strict before after printed prints status
 DoesTask known texts (Ok (Asks request)) before after printed prints status =
     OnlyMakes known request before after printed prints status
 DoesTask known texts (Err fault) before after printed prints status =

@@ -1,5 +1,6 @@
 -- What the program says on standard error, as what it says and of what; the words of a line are not stated.
 use Rattle.std.specs.Prelude.{◌≡◌, ℕ, List, ◌++◌, Option, None, Some}
+use Rattle.implib_dlltool.specs.declared.identity.NotIdentified.{NotIdentified}
 use Rattle.implib_dlltool.specs.declared.reporter.Complaint.{Complaint}
 use Rattle.implib_dlltool.specs.declared.reporter.Complaint.TheVariants as complaint
 use Rattle.implib_dlltool.specs.Arguments.{WordFaultView, word_fault_view}
@@ -21,6 +22,8 @@ pub data ComplaintView : Type 0 where
   OfSystem : ComplaintView
   -- a library that was not written whole
   OfWriting : ComplaintView
+  -- a library whose DLLs are not named
+  OfIdentity : NotIdentified → ComplaintView
 
 -- the view of a complaint of the program
 abbrev pub complaint_view : Complaint → ComplaintView
@@ -30,6 +33,7 @@ complaint_view complaint.NotUtf8 = OfArguments
 complaint_view complaint.OutOfMemory = OfMemory
 complaint_view (complaint.System cause) = OfSystem
 complaint_view (complaint.Writing cause) = OfWriting
+complaint_view (complaint.Identity fault) = OfIdentity fault
 
 -- what is said at once
 pub data Line : Type 0 where

@@ -8,8 +8,8 @@ use Rattle.implib.specs.declared.flavor.Flavor.{Flavor}
 use Rattle.implib.specs.declared.flavor.Flavor.TheVariants.{Msvc, Gnu}
 use Rattle.implib.specs.declared.machine.MachineType.{MachineType}
 use Rattle.implib.specs.declared.machine.MachineType.TheVariants.{I386, ARMNT, AMD64, ARM64}
-use Rattle.implib_dlltool.specs.declared.options.Setting.TheVariants.{Definition, Output, Machine, Dll, Flavor as FlavorSetting, Assembler, AssemblerFlags, TemporaryPrefix, FurtherPrefix}
-use Rattle.implib_dlltool.specs.declared.options.Switch.TheVariants.{Help, KillAt, LeadingUnderscore, NoLeadingUnderscore, Verbose, Version, ExportAs, AddUnderscore, AddStdcallUnderscore}
+use Rattle.implib_dlltool.specs.declared.options.Setting.TheVariants.{Definition, Output, Machine, Dll, Flavor as FlavorSetting, Assembler, AssemblerFlags, TemporaryPrefix, FurtherPrefix, Identify}
+use Rattle.implib_dlltool.specs.declared.options.Switch.TheVariants.{Help, IdentifyStrict, KillAt, LeadingUnderscore, NoLeadingUnderscore, Verbose, Version, ExportAs, AddUnderscore, AddStdcallUnderscore}
 use Rattle.implib_dlltool.specs.declared.request.CallError.{CallError}
 use Rattle.implib_dlltool.specs.declared.request.CallError.TheVariants as error
 use Rattle.implib_dlltool.specs.declared.request.CalledAs.{CalledAs}
@@ -54,12 +54,15 @@ request_view r = record {
 pub data TaskView : Type 0 where
   AsksHelp : TaskView
   AsksVersion : TaskView
+  -- the DLLs of the library in a file, which have to be one where that is strict
+  AsksIdentity : List ℕ → Bool → TaskView
   Asks : RequestView → TaskView
 
 -- the view of a task of the program
 abbrev pub task_view : Task → TaskView
 task_view task.Help = AsksHelp
 task_view task.Version = AsksVersion
+task_view (task.Identify wish) = AsksIdentity wish.library.now wish.is_strict
 task_view (task.Make request) = Asks (request_view request)
 
 -- why options ask for nothing that can be done
@@ -322,9 +325,14 @@ abbrev pub made : Asked RequestView → Asked TaskView
 made (Ok request) = Ok (Asks request)
 made (Err fault) = Err fault
 
+-- the DLLs of a library, where one is given
+abbrev pub identity_or : Asked TaskView → Bool → Option (List ℕ) → Asked TaskView
+identity_or task is_strict None = task
+identity_or task is_strict (Some library) = Ok (AsksIdentity library is_strict)
+
 -- what options ask for, where the program is called so
 abbrev pub task_of : Caller → List OccurrenceView → Asked TaskView
 task_of caller options =
     if is_switched Help options then Ok AsksHelp
     else if is_switched Version options then Ok AsksVersion
-    else made (request_in caller options)
+    else identity_or (made (request_in caller options)) (is_switched IdentifyStrict options) (last_given Identify options)

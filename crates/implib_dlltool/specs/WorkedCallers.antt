@@ -4,12 +4,14 @@ use Rattle.implib.specs.declared.flavor.Flavor.{Flavor}
 use Rattle.implib.specs.declared.flavor.Flavor.TheVariants.{Msvc, Gnu}
 use Rattle.implib.specs.declared.machine.MachineType.{MachineType}
 use Rattle.implib.specs.declared.machine.MachineType.TheVariants.{I386, ARMNT, AMD64, ARM64}
-use Rattle.implib_dlltool.specs.declared.options.Setting.TheVariants.{Assembler, AssemblerFlags, Definition, Dll, Flavor as FlavorSetting, Machine, Output, TemporaryPrefix, FurtherPrefix}
-use Rattle.implib_dlltool.specs.declared.options.Switch.TheVariants.{Help, LeadingUnderscore, NoLeadingUnderscore, Version, ExportAs, KillAt, AddUnderscore, AddStdcallUnderscore, AddStdcallAlias}
+use Rattle.implib_dlltool.specs.declared.options.Setting.TheVariants.{Assembler, AssemblerFlags, Definition, Dll, Flavor as FlavorSetting, Machine, Output, TemporaryPrefix, FurtherPrefix, Identify}
+use Rattle.implib_dlltool.specs.declared.options.Switch.TheVariants.{Help, IdentifyStrict, LeadingUnderscore, NoLeadingUnderscore, Version, ExportAs, KillAt, AddUnderscore, AddStdcallUnderscore, AddStdcallAlias}
 use Rattle.implib_dlltool.specs.declared.request.CalledAs.{CalledAs}
 use Rattle.implib_dlltool.specs.declared.request.CalledAs.TheVariants as called
 use Rattle.implib_dlltool.specs.Arguments.{Given, OccurrenceView, Switched}
-use Rattle.implib_dlltool.specs.Request.{Asked, AsksHelp, AsksVersion, GoesToStandard, HasEmptyDll, HasEmptyOutput, HasNoUnderscore, ReplacesDefinition, IsOtherArchitecture, IsUnknownFlavor, IsUnknownMachine, LacksDefinition, caller_of, default_flavor, flavor_in, machine_in, naming_in, additions_in, task_of}
+use Rattle.implib_dlltool.specs.declared.identity.NotIdentified.TheVariants.{NoDll, NoLibrary, SeveralDlls}
+use Rattle.implib_dlltool.specs.Identity.{fault_of, lines_unless, named_of}
+use Rattle.implib_dlltool.specs.Request.{Asked, AsksHelp, AsksIdentity, AsksVersion, GoesToStandard, HasEmptyDll, HasEmptyOutput, HasNoUnderscore, ReplacesDefinition, IsOtherArchitecture, IsUnknownFlavor, IsUnknownMachine, LacksDefinition, caller_of, default_flavor, flavor_in, machine_in, naming_in, additions_in, task_of}
 use Rattle.implib_dlltool.specs.WorkedCalls.{itself}
 use Rattle.implib_rules.specs.WorkedNames.{plain, usual}
 use Rattle.implib_rules.specs.Additions.{no_additions}
@@ -84,6 +86,17 @@ given = Given Definition (codes "a")
 pub record FaultsOrdered : Type 0 where
   pub help_first : task_of itself (Switched Version ∷ Switched Help ∷ []) ≡ Ok AsksHelp
   pub version_before_faults : task_of itself (Switched Version ∷ []) ≡ Ok AsksVersion
+  pub version_before_identity : task_of itself (Given Identify (codes "a") ∷ Switched Version ∷ []) ≡ Ok AsksVersion
+  pub identity_asked : task_of itself (Given Identify (codes "a") ∷ Given Identify (codes "b") ∷ []) ≡ Ok (AsksIdentity (codes "b") false)
+  pub identity_strict : task_of itself (Switched IdentifyStrict ∷ Given Identify (codes "b") ∷ []) ≡ Ok (AsksIdentity (codes "b") true)
+  pub identity_before_a_library : task_of itself (given ∷ Given Identify (codes "b") ∷ []) ≡ Ok (AsksIdentity (codes "b") false)
+  pub strict_alone : task_of itself (Switched IdentifyStrict ∷ []) ≡ Err LacksDefinition
+  pub two_dlls : lines_unless (codes "a.dll" ∷ codes "b.dll" ∷ []) (fault_of false 2)
+      ≡ Ok (0x61 ∷ 0x2E ∷ 0x64 ∷ 0x6C ∷ 0x6C ∷ 0x0A ∷ 0x62 ∷ 0x2E ∷ 0x64 ∷ 0x6C ∷ 0x6C ∷ 0x0A ∷ [])
+  pub two_dlls_strictly : lines_unless (codes "a.dll" ∷ codes "b.dll" ∷ []) (fault_of true 2) ≡ Err SeveralDlls
+  pub one_dll_strictly : lines_unless (codes "a" ∷ []) (fault_of true 1) ≡ Ok (0x61 ∷ 0x0A ∷ [])
+  pub no_dll : lines_unless [] (fault_of false 0) ≡ Err NoDll
+  pub no_library : named_of false None ≡ Err NoLibrary
   pub definition_first : task_of itself (Given Output (codes "-") ∷ []) ≡ Err LacksDefinition
   pub empty_output : task_of itself (given ∷ Given Output [] ∷ Given Machine (codes "mips") ∷ []) ≡ Err HasEmptyOutput
   pub definition_replaced : task_of itself (given ∷ Given Output (codes "a") ∷ []) ≡ Err ReplacesDefinition

@@ -2,9 +2,9 @@
 use Rattle.std.specs.Prelude.{◌≡◌, ℕ, Bool, true, false, List, [], ◌∷◌, None, Some, Ok, Err, codes, map}
 use Rattle.implib.specs.declared.flavor.Flavor.TheVariants.{Msvc, Gnu}
 use Rattle.implib.specs.declared.machine.MachineType.TheVariants.{I386, ARMNT, AMD64, ARM64}
-use Rattle.implib_dlltool.specs.declared.options.Setting.TheVariants.{Definition, Output, Machine, Dll, Flavor, Assembler, AssemblerFlags, TemporaryPrefix, FurtherPrefix}
+use Rattle.implib_dlltool.specs.declared.options.Setting.TheVariants.{Definition, Output, Machine, Dll, Flavor, Assembler, AssemblerFlags, TemporaryPrefix, FurtherPrefix, Identify}
 use Rattle.implib_dlltool.specs.declared.options.Switch.{Switch}
-use Rattle.implib_dlltool.specs.declared.options.Switch.TheVariants.{KillAt, NoLeadingUnderscore, LeadingUnderscore, DeterministicLibraries, NonDeterministicLibraries, NoDelete, Verbose, Help, Version, ExportAs, AddUnderscore, AddStdcallUnderscore, AddStdcallAlias}
+use Rattle.implib_dlltool.specs.declared.options.Switch.TheVariants.{KillAt, NoLeadingUnderscore, LeadingUnderscore, DeterministicLibraries, NonDeterministicLibraries, NoDelete, Verbose, Help, Version, ExportAs, AddUnderscore, AddStdcallUnderscore, AddStdcallAlias, IdentifyStrict}
 use Rattle.implib.specs.Conversions.{flavor_named}
 use Rattle.implib_dlltool.specs.Arguments.{OccurrenceView, Given, Switched, IsUnsupported, is_switched, last_given, read_words}
 use Rattle.implib_dlltool.specs.Request.{machine_named}
@@ -16,7 +16,8 @@ words_with_values =
     ∷ codes "-m" ∷ codes "e" ∷ codes "--machine" ∷ codes "f" ∷ codes "-D" ∷ codes "g" ∷ codes "--dllname" ∷ codes "h"
     ∷ codes "--flavor" ∷ codes "i" ∷ codes "-S" ∷ codes "j" ∷ codes "--as" ∷ codes "k" ∷ codes "-f" ∷ codes "l"
     ∷ codes "--as-flags" ∷ codes "m" ∷ codes "-t" ∷ codes "n" ∷ codes "--temp-prefix" ∷ codes "o"
-    ∷ codes "--def" ∷ codes "p" ∷ codes "-p" ∷ codes "q" ∷ codes "--ext-prefix-alias" ∷ codes "r" ∷ []
+    ∷ codes "--def" ∷ codes "p" ∷ codes "-p" ∷ codes "q" ∷ codes "--ext-prefix-alias" ∷ codes "r"
+    ∷ codes "-I" ∷ codes "s" ∷ codes "--identify" ∷ codes "t" ∷ []
 
 -- what they give
 abbrev pub given : List OccurrenceView
@@ -25,7 +26,8 @@ given =
     ∷ Given Machine (codes "e") ∷ Given Machine (codes "f") ∷ Given Dll (codes "g") ∷ Given Dll (codes "h")
     ∷ Given Flavor (codes "i") ∷ Given Assembler (codes "j") ∷ Given Assembler (codes "k") ∷ Given AssemblerFlags (codes "l")
     ∷ Given AssemblerFlags (codes "m") ∷ Given TemporaryPrefix (codes "n") ∷ Given TemporaryPrefix (codes "o")
-    ∷ Given Definition (codes "p") ∷ Given FurtherPrefix (codes "q") ∷ Given FurtherPrefix (codes "r") ∷ []
+    ∷ Given Definition (codes "p") ∷ Given FurtherPrefix (codes "q") ∷ Given FurtherPrefix (codes "r")
+    ∷ Given Identify (codes "s") ∷ Given Identify (codes "t") ∷ []
 
 -- each option without a value, by its letter, where it has one, and by its long name
 abbrev pub words_of_switches : List (List ℕ)
@@ -33,7 +35,8 @@ words_of_switches =
     codes "-k" ∷ codes "--kill-at" ∷ codes "--no-leading-underscore" ∷ codes "--deterministic-libraries" ∷ codes "-v"
     ∷ codes "--verbose" ∷ codes "-h" ∷ codes "--help" ∷ codes "-V" ∷ codes "--version" ∷ codes "--leading-underscore"
     ∷ codes "--non-deterministic-libraries" ∷ codes "-n" ∷ codes "--no-delete" ∷ codes "--export-as"
-    ∷ codes "-U" ∷ codes "--add-underscore" ∷ codes "--add-stdcall-underscore" ∷ codes "-A" ∷ codes "--add-stdcall-alias" ∷ []
+    ∷ codes "-U" ∷ codes "--add-underscore" ∷ codes "--add-stdcall-underscore" ∷ codes "-A" ∷ codes "--add-stdcall-alias"
+    ∷ codes "--identify-strict" ∷ []
 
 -- what they give
 abbrev pub switched : List OccurrenceView
@@ -42,14 +45,14 @@ switched =
     ∷ Switched Verbose ∷ Switched Help ∷ Switched Help ∷ Switched Version ∷ Switched Version ∷ Switched LeadingUnderscore
     ∷ Switched NonDeterministicLibraries ∷ Switched NoDelete ∷ Switched NoDelete ∷ Switched ExportAs
     ∷ Switched AddUnderscore ∷ Switched AddUnderscore ∷ Switched AddStdcallUnderscore ∷ Switched AddStdcallAlias
-    ∷ Switched AddStdcallAlias ∷ []
+    ∷ Switched AddStdcallAlias ∷ Switched IdentifyStrict ∷ []
 
 -- the options of GNU dlltool without a meaning here
 abbrev pub unsupported : List (List ℕ)
 unsupported =
-    codes "-e" ∷ codes "-z" ∷ codes "-y" ∷ codes "-b" ∷ codes "-I" ∷ codes "-x" ∷ codes "-c" ∷ codes "-a"
+    codes "-e" ∷ codes "-z" ∷ codes "-y" ∷ codes "-b" ∷ codes "-x" ∷ codes "-c" ∷ codes "-a"
     ∷ codes "-C" ∷ codes "--output-exp" ∷ codes "--output-def"
-    ∷ codes "--output-delaylib" ∷ codes "--base-file" ∷ codes "--identify" ∷ codes "--identify-strict"
+    ∷ codes "--output-delaylib" ∷ codes "--base-file"
     ∷ codes "--no-idata4" ∷ codes "--no-idata5" ∷ codes "--add-indirect"
     ∷ codes "--compat-implib"
     ∷ codes "--export-all-symbols" ∷ codes "--no-export-all-symbols"
@@ -59,7 +62,8 @@ unsupported =
 abbrev pub switches : List Switch
 switches =
     KillAt ∷ NoLeadingUnderscore ∷ DeterministicLibraries ∷ Verbose ∷ Help ∷ Version ∷ LeadingUnderscore
-    ∷ NonDeterministicLibraries ∷ NoDelete ∷ ExportAs ∷ AddUnderscore ∷ AddStdcallUnderscore ∷ AddStdcallAlias ∷ []
+    ∷ NonDeterministicLibraries ∷ NoDelete ∷ ExportAs ∷ AddUnderscore ∷ AddStdcallUnderscore ∷ AddStdcallAlias
+    ∷ IdentifyStrict ∷ []
 
 -- which of them is switched where this one alone stands
 abbrev pub told_of : Switch → List Bool
@@ -79,32 +83,35 @@ pub record OptionsNamed : Type 0 where
   pub flags : last_given AssemblerFlags given ≡ Some (codes "m")
   pub prefix : last_given TemporaryPrefix given ≡ Some (codes "o")
   pub further_prefix : last_given FurtherPrefix given ≡ Some (codes "r")
+  pub identify : last_given Identify given ≡ Some (codes "t")
   pub kill_at : told_of KillAt
-      ≡ true ∷ false ∷ false ∷ false ∷ false ∷ false ∷ false ∷ false ∷ false ∷ false ∷ false ∷ false ∷ false ∷ []
+      ≡ true ∷ false ∷ false ∷ false ∷ false ∷ false ∷ false ∷ false ∷ false ∷ false ∷ false ∷ false ∷ false ∷ false ∷ []
   pub no_leading_underscore : told_of NoLeadingUnderscore
-      ≡ false ∷ true ∷ false ∷ false ∷ false ∷ false ∷ false ∷ false ∷ false ∷ false ∷ false ∷ false ∷ false ∷ []
+      ≡ false ∷ true ∷ false ∷ false ∷ false ∷ false ∷ false ∷ false ∷ false ∷ false ∷ false ∷ false ∷ false ∷ false ∷ []
   pub deterministic : told_of DeterministicLibraries
-      ≡ false ∷ false ∷ true ∷ false ∷ false ∷ false ∷ false ∷ false ∷ false ∷ false ∷ false ∷ false ∷ false ∷ []
+      ≡ false ∷ false ∷ true ∷ false ∷ false ∷ false ∷ false ∷ false ∷ false ∷ false ∷ false ∷ false ∷ false ∷ false ∷ []
   pub verbose : told_of Verbose
-      ≡ false ∷ false ∷ false ∷ true ∷ false ∷ false ∷ false ∷ false ∷ false ∷ false ∷ false ∷ false ∷ false ∷ []
+      ≡ false ∷ false ∷ false ∷ true ∷ false ∷ false ∷ false ∷ false ∷ false ∷ false ∷ false ∷ false ∷ false ∷ false ∷ []
   pub help : told_of Help
-      ≡ false ∷ false ∷ false ∷ false ∷ true ∷ false ∷ false ∷ false ∷ false ∷ false ∷ false ∷ false ∷ false ∷ []
+      ≡ false ∷ false ∷ false ∷ false ∷ true ∷ false ∷ false ∷ false ∷ false ∷ false ∷ false ∷ false ∷ false ∷ false ∷ []
   pub version : told_of Version
-      ≡ false ∷ false ∷ false ∷ false ∷ false ∷ true ∷ false ∷ false ∷ false ∷ false ∷ false ∷ false ∷ false ∷ []
+      ≡ false ∷ false ∷ false ∷ false ∷ false ∷ true ∷ false ∷ false ∷ false ∷ false ∷ false ∷ false ∷ false ∷ false ∷ []
   pub leading_underscore : told_of LeadingUnderscore
-      ≡ false ∷ false ∷ false ∷ false ∷ false ∷ false ∷ true ∷ false ∷ false ∷ false ∷ false ∷ false ∷ false ∷ []
+      ≡ false ∷ false ∷ false ∷ false ∷ false ∷ false ∷ true ∷ false ∷ false ∷ false ∷ false ∷ false ∷ false ∷ false ∷ []
   pub non_deterministic : told_of NonDeterministicLibraries
-      ≡ false ∷ false ∷ false ∷ false ∷ false ∷ false ∷ false ∷ true ∷ false ∷ false ∷ false ∷ false ∷ false ∷ []
+      ≡ false ∷ false ∷ false ∷ false ∷ false ∷ false ∷ false ∷ true ∷ false ∷ false ∷ false ∷ false ∷ false ∷ false ∷ []
   pub no_delete : told_of NoDelete
-      ≡ false ∷ false ∷ false ∷ false ∷ false ∷ false ∷ false ∷ false ∷ true ∷ false ∷ false ∷ false ∷ false ∷ []
+      ≡ false ∷ false ∷ false ∷ false ∷ false ∷ false ∷ false ∷ false ∷ true ∷ false ∷ false ∷ false ∷ false ∷ false ∷ []
   pub export_as : told_of ExportAs
-      ≡ false ∷ false ∷ false ∷ false ∷ false ∷ false ∷ false ∷ false ∷ false ∷ true ∷ false ∷ false ∷ false ∷ []
+      ≡ false ∷ false ∷ false ∷ false ∷ false ∷ false ∷ false ∷ false ∷ false ∷ true ∷ false ∷ false ∷ false ∷ false ∷ []
   pub add_underscore : told_of AddUnderscore
-      ≡ false ∷ false ∷ false ∷ false ∷ false ∷ false ∷ false ∷ false ∷ false ∷ false ∷ true ∷ false ∷ false ∷ []
+      ≡ false ∷ false ∷ false ∷ false ∷ false ∷ false ∷ false ∷ false ∷ false ∷ false ∷ true ∷ false ∷ false ∷ false ∷ []
   pub add_stdcall_underscore : told_of AddStdcallUnderscore
-      ≡ false ∷ false ∷ false ∷ false ∷ false ∷ false ∷ false ∷ false ∷ false ∷ false ∷ false ∷ true ∷ false ∷ []
+      ≡ false ∷ false ∷ false ∷ false ∷ false ∷ false ∷ false ∷ false ∷ false ∷ false ∷ false ∷ true ∷ false ∷ false ∷ []
   pub add_stdcall_alias : told_of AddStdcallAlias
-      ≡ false ∷ false ∷ false ∷ false ∷ false ∷ false ∷ false ∷ false ∷ false ∷ false ∷ false ∷ false ∷ true ∷ []
+      ≡ false ∷ false ∷ false ∷ false ∷ false ∷ false ∷ false ∷ false ∷ false ∷ false ∷ false ∷ false ∷ true ∷ false ∷ []
+  pub identify_strict : told_of IdentifyStrict
+      ≡ false ∷ false ∷ false ∷ false ∷ false ∷ false ∷ false ∷ false ∷ false ∷ false ∷ false ∷ false ∷ false ∷ true ∷ []
   pub i386 : map machine_named (codes "i386" ∷ codes "I386" ∷ codes "x86" ∷ []) ≡ Some I386 ∷ Some I386 ∷ Some I386 ∷ []
   pub amd64 : map machine_named (codes "i386:x86-64" ∷ codes "AMD64" ∷ codes "x64" ∷ codes "x86_64" ∷ [])
       ≡ Some AMD64 ∷ Some AMD64 ∷ Some AMD64 ∷ Some AMD64 ∷ []

@@ -10,6 +10,7 @@ pub mod arguments;
 pub mod console;
 pub mod disk;
 pub mod files;
+pub mod identity;
 pub mod laws;
 mod message;
 pub mod options;

@@ -1,6 +1,7 @@
 //! What the program says of a call that it refuses, or that failed.
 
 use crate::arguments::WordFault;
+use crate::identity::NotIdentified;
 use crate::options::Setting;
 use crate::reporter::Complaint;
 use crate::request::CallFault;
@@ -19,6 +20,7 @@ impl fmt::Display for Setting {
             Setting::AssemblerFlags => "-f",
             Setting::TemporaryPrefix => "-t",
             Setting::FurtherPrefix => "-p",
+            Setting::Identify => "-I",
         })
     }
 }
@@ -149,6 +151,11 @@ impl<'a> fmt::Display for Complaint<'a> {
             Complaint::OutOfMemory => f.write_str("out of memory"),
             Complaint::System(cause) => write!(f, "{cause}"),
             Complaint::Writing(cause) => write!(f, "{cause}"),
+            Complaint::Identity(fault) => f.write_str(match fault {
+                NotIdentified::NoLibrary => "no archive, or a thin one",
+                NotIdentified::NoDll => "no import of a DLL is in it",
+                NotIdentified::SeveralDlls => "it imports from two DLLs or more",
+            }),
         }
     }
 }

@@ -24,6 +24,8 @@ pub enum Setting {
     AssemblerFlags,
     /// `-t`, `--temp-prefix`: a name for temporary files.
     TemporaryPrefix,
+    /// `-I`, `--identify`: an import library, whose DLLs are named.
+    Identify,
     /// `-p`, `--ext-prefix-alias`: a further export of each has this in front of its symbol.
     FurtherPrefix,
 }
@@ -52,6 +54,8 @@ pub enum Switch {
     NonDeterministicLibraries,
     /// `-n`, `--no-delete`: no temporary file is made that could be kept.
     NoDelete,
+    /// `--identify-strict`: a library that imports from several DLLs is refused.
+    IdentifyStrict,
     /// `-v`, `--verbose`: warnings are written.
     Verbose,
     /// `-h`, `--help`
@@ -75,6 +79,7 @@ impl Setting {
             Setting::AssemblerFlags => 6,
             Setting::TemporaryPrefix => 7,
             Setting::FurtherPrefix => 8,
+            Setting::Identify => 9,
         }
     }
 
@@ -105,6 +110,7 @@ impl Switch {
             Switch::AddUnderscore => 10,
             Switch::AddStdcallUnderscore => 11,
             Switch::AddStdcallAlias => 12,
+            Switch::IdentifyStrict => 13,
         }
     }
 
@@ -134,9 +140,8 @@ fn is_unsupported(name: &str) -> bool
     ensures { result ≡ is_unsupported name.now }
 {
     match name {
-        "output-exp" | "output-def" | "output-delaylib" | "base-file" | "identify" => true,
-        "identify-strict" | "no-idata4" | "no-idata5" | "add-indirect" => true,
-        "compat-implib" => true,
+        "output-exp" | "output-def" | "output-delaylib" | "base-file" => true,
+        "no-idata4" | "no-idata5" | "add-indirect" | "compat-implib" => true,
         "export-all-symbols" | "no-export-all-symbols" | "exclude-symbols" => true,
         "no-default-excludes" | "use-nul-prefixed-import-tables" => true,
         _ => false,
@@ -157,6 +162,7 @@ pub fn option_named(name: &str) -> Meaning
         "as-flags" => Meaning::Takes(Setting::AssemblerFlags),
         "temp-prefix" => Meaning::Takes(Setting::TemporaryPrefix),
         "ext-prefix-alias" => Meaning::Takes(Setting::FurtherPrefix),
+        "identify" => Meaning::Takes(Setting::Identify),
         "kill-at" => Meaning::Switches(Switch::KillAt),
         "no-leading-underscore" => Meaning::Switches(Switch::NoLeadingUnderscore),
         "leading-underscore" => Meaning::Switches(Switch::LeadingUnderscore),
@@ -167,6 +173,7 @@ pub fn option_named(name: &str) -> Meaning
         "deterministic-libraries" => Meaning::Switches(Switch::DeterministicLibraries),
         "non-deterministic-libraries" => Meaning::Switches(Switch::NonDeterministicLibraries),
         "no-delete" => Meaning::Switches(Switch::NoDelete),
+        "identify-strict" => Meaning::Switches(Switch::IdentifyStrict),
         "verbose" => Meaning::Switches(Switch::Verbose),
         "help" => Meaning::Switches(Switch::Help),
         "version" => Meaning::Switches(Switch::Version),
@@ -188,6 +195,7 @@ pub fn option_lettered(letter: u8) -> Meaning
         b'f' => Meaning::Takes(Setting::AssemblerFlags),
         b't' => Meaning::Takes(Setting::TemporaryPrefix),
         b'p' => Meaning::Takes(Setting::FurtherPrefix),
+        b'I' => Meaning::Takes(Setting::Identify),
         b'k' => Meaning::Switches(Switch::KillAt),
         b'U' => Meaning::Switches(Switch::AddUnderscore),
         b'A' => Meaning::Switches(Switch::AddStdcallAlias),
@@ -195,7 +203,7 @@ pub fn option_lettered(letter: u8) -> Meaning
         b'v' => Meaning::Switches(Switch::Verbose),
         b'h' => Meaning::Switches(Switch::Help),
         b'V' => Meaning::Switches(Switch::Version),
-        b'e' | b'z' | b'y' | b'b' | b'I' | b'x' | b'c' => Meaning::Unsupported,
+        b'e' | b'z' | b'y' | b'b' | b'x' | b'c' => Meaning::Unsupported,
         b'a' | b'C' => Meaning::Unsupported,
         _ => Meaning::Unknown,
     }

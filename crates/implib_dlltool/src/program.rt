@@ -4,25 +4,28 @@ ghost use Rattle.implib.specs.Definition.{definition_view};
 ghost use Rattle.implib.specs.Library.{member_view};
 ghost use Rattle.implib_dlltool.specs.Program.{DoesWords, Finishes, FinishesWith};
 ghost use Rattle.implib_dlltool.specs.Program.{FinishesWithout, members_counted};
-ghost use Rattle.implib_dlltool.specs.Program.{IsUncalled, KeepsFiles, Makes, Prints, Runs};
+ghost use Rattle.implib_dlltool.specs.Identity.{identified};
+ghost use Rattle.implib_dlltool.specs.Program.{Identifies, IsUncalled, KeepsFiles, Makes};
+ghost use Rattle.implib_dlltool.specs.Program.{NamesDlls, OnlyComplains, Prints, Runs};
 ghost use Rattle.implib_dlltool.specs.Program.{SaysWarnings, Warned, answer_status, definition_in};
 ghost use Rattle.implib_dlltool.specs.Program.{devices, own_name, texts};
 ghost use Rattle.implib_dlltool.specs.Program.{verdict, warning_lines};
-ghost use Rattle.implib_dlltool.specs.Reports.{Complains, Refuses, Says, complaint_view};
+ghost use Rattle.implib_dlltool.specs.Reports.{Complains, OfMemory, Refuses, Says, complaint_view};
 ghost use Rattle.implib_rules.specs.declared.library.Refusal.TheVariants.{OutOfMemory};
 ghost use Rattle.implib_dlltool.specs.Request.{request_view};
 ghost use Rattle.implib_rules.specs.Library.{CountsMembers, status_of};
 ghost use Rattle.implib_rules.specs.Warnings.{warning_view};
 ghost use Rattle.std.specs.IoError.{error_kind};
-ghost use Rattle.std.specs.Prelude.{◌≡◌, [], ◌∷◌, IfErr, IfOk, IfSome, None, OnErr, OnOk, map};
+ghost use Rattle.std.specs.Prelude.{◌≡◌, ◌⊎◌, [], ◌∷◌, IfErr, IfOk, IfSome, List, None, OnErr, OnOk, Option, map, ℕ};
 ghost use Rattle.std.specs.String.{string_bytes};
 ghost use Rattle.std.specs.Vec.Iter.{into_iter_items};
 
 use crate::arguments::{ReadWordsError, read_words};
 use crate::disk::Disk;
+use crate::identity::{IdentifyError, identify};
 use crate::placing::put;
 use crate::reporter::{Complaint, Reporter};
-use crate::request::{CallError, Request, Task, caller_of, task_of};
+use crate::request::{CallError, Identification, Request, Task, caller_of, task_of};
 use crate::verbose::warnings_for;
 use implib::def::ModuleDef;
 use implib::{Flavor, Member, ParseError};
@@ -65,6 +68,9 @@ Makes the import library of a module definition.
       --export-as          for Microsoft's linker, and for lld from 18 on, write a
                            name that is not made of its symbol beside it
   -v, --verbose            write warnings of FILE on standard error
+  -I, --identify LIB       print the names of the DLLs that LIB imports from, and
+                           make nothing
+      --identify-strict    refuse a LIB that imports from two DLLs or more
   -h, --help
   -V, --version
 
@@ -75,7 +81,7 @@ Taken and ignored: -S --as, -f --as-flags, -t --temp-prefix, each with a value;
 -n --no-delete, -A --add-stdcall-alias, --deterministic-libraries,
 --non-deterministic-libraries.
 
-Status: 0 made; 1 FILE is refused; 2 wrong call; 3 a file or memory failed.
+Status: 0 made; 1 FILE or LIB is refused; 2 wrong call; 3 a file or memory failed.
 ";
 
 // What the program prints for `--version`.
@@ -84,18 +90,26 @@ const VERSION: &str = "implib_dlltool 0.1.0\n";
 // The name of the program in what it says.
 const NAME: &str = "implib_dlltool";
 
-// Prints a text. A failure is status 3.
-fn print<O: Write, T: Reporter>(printer: &mut O, reporter: &mut T, text: &str) -> u8
-    ensures { Prints text.now (T.said reporter.old) (T.said reporter.new)
+// Prints bytes. A failure is status 3.
+fn print_bytes<O: Write, T: Reporter>(printer: &mut O, reporter: &mut T, bytes: &[u8]) -> u8
+    ensures { Prints bytes.now (T.said reporter.old) (T.said reporter.new)
         (O.contents printer.old) (O.contents printer.new) result }
 {
-    match printer.write_all(text.as_bytes()) {
+    match printer.write_all(bytes) {
         Ok(()) => 0,
         Err(error) => {
             reporter.complain(NAME, Complaint::System(error));
             3
         }
     }
+}
+
+// Prints a text. A failure is status 3.
+fn print<O: Write, T: Reporter>(printer: &mut O, reporter: &mut T, text: &str) -> u8
+    ensures { Prints text.now (T.said reporter.old) (T.said reporter.new)
+        (O.contents printer.old) (O.contents printer.new) result }
+{
+    print_bytes(printer, reporter, text.as_bytes())
 }
 
 // The exit status for a refusal.
@@ -351,6 +365,51 @@ fn complain<T: Reporter>(reporter: &mut T, complaint: Complaint<'_>, status: u8)
     status
 }
 
+// Names the DLLs in a library's bytes, and gives the exit status.
+fn name_dlls<O: Write, T: Reporter>(
+    alloc: Global,
+    bytes: &[u8],
+    wish: Identification<'_>,
+    printer: &mut O,
+    reporter: &mut T,
+) -> u8
+    ensures { NamesDlls wish.entry.library.now (identified wish.entry.is_strict bytes.now)
+        (T.said reporter.old) (T.said reporter.new) (O.contents printer.old) (O.contents printer.new) result
+        ⊎ OnlyComplains own_name OfMemory 3 (T.said reporter.old) (T.said reporter.new)
+        (O.contents printer.old) (O.contents printer.new) result }
+{
+    match identify(alloc, bytes, wish.is_strict) {
+        Ok(lines) => print_bytes(printer, reporter, lines.as_slice()),
+        Err(IdentifyError::Refused(fault)) => {
+            reporter.complain(wish.library, Complaint::Identity(fault));
+            1
+        }
+        Err(IdentifyError::OutOfMemory) => complain(reporter, Complaint::OutOfMemory, 3),
+    }
+}
+
+// Names the DLLs of a library, and gives the exit status.
+fn identify_library<D: Disk, O: Write, T: Reporter>(
+    alloc: Global,
+    disk: &mut D,
+    wish: Identification<'_>,
+    printer: &mut O,
+    reporter: &mut T,
+) -> u8
+    ensures { (input : Option (List ℕ)) → Identifies wish.entry.library.now wish.entry.is_strict
+        (devices input (D.view disk.old) (T.said reporter.old))
+        (devices input (D.view disk.new) (T.said reporter.new))
+        (O.contents printer.old) (O.contents printer.new) result }
+{
+    match disk.read(alloc, wish.library) {
+        Ok(bytes) => name_dlls(alloc, bytes.as_slice(), wish, printer, reporter),
+        Err(error) => {
+            reporter.complain(wish.library, Complaint::System(error));
+            3
+        }
+    }
+}
+
 // How the program is called: by this name, with these words after it.
 #[derive(Clone, Copy, Debug)]
 struct Call<'a> {
@@ -384,6 +443,7 @@ fn perform_call<D: Disk, I: Read, O: Write, T: Reporter>(
     match task_of(alloc, options.as_slice(), caller_of(call.program)) {
         Ok(Task::Help) => print(printer, reporter, HELP),
         Ok(Task::Version) => print(printer, reporter, VERSION),
+        Ok(Task::Identify(wish)) => identify_library(alloc, disk, wish, printer, reporter),
         Ok(Task::Make(request)) => make(alloc, disk, &request, input, reporter),
         Err(CallError::Refused(fault)) => complain(reporter, Complaint::Call(fault), 2),
         Err(CallError::OutOfMemory) => complain(reporter, Complaint::OutOfMemory, 3),

@@ -5,6 +5,7 @@ ghost use Rattle.implib_rules.specs.Warnings.{warning_view};
 ghost use Rattle.std.specs.Prelude.{[], ◌∷◌, List, Option};
 
 use crate::arguments::WordFault;
+use crate::identity::NotIdentified;
 use crate::request::CallFault;
 use implib_archive::WriteError;
 use implib_rules::library::Refusal;
@@ -26,6 +27,8 @@ pub enum Complaint<'a> {
     System(io::Error),
     /// A library was not written whole.
     Writing(WriteError),
+    /// The DLLs of a library are not named.
+    Identity(NotIdentified),
 }
 
 /// Who says what is wrong, each a line.

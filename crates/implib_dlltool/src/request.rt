@@ -40,6 +40,15 @@ pub struct Request<'a> {
     pub is_verbose: bool,
 }
 
+/// The library whose DLLs are to be named.
+#[derive(Clone, Copy, Debug)]
+pub struct Identification<'a> {
+    /// Its file.
+    pub library: &'a str,
+    /// Whether it has to import from one DLL alone.
+    pub is_strict: bool,
+}
+
 /// What a command line asks for.
 #[derive(Clone, Copy, Debug)]
 pub enum Task<'a> {
@@ -47,6 +56,8 @@ pub enum Task<'a> {
     Help,
     /// The version.
     Version,
+    /// The DLLs of a library.
+    Identify(Identification<'a>),
     /// A library.
     Make(Request<'a>),
 }
@@ -421,7 +432,8 @@ fn request_in<'a>(
     })
 }
 
-/// What the options ask for: the help or the version where one of them does, else a library.
+/// What the options ask for: the help or the version where one of them does, else the DLLs of a
+/// library, else a library.
 ///
 /// # Errors
 ///
@@ -445,6 +457,12 @@ pub fn task_of<'a>(
     }
     if is_switched(options, Switch::Version) {
         return Ok(Task::Version);
+    }
+    if let Some(library) = last_given(options, Setting::Identify) {
+        return Ok(Task::Identify(Identification {
+            library,
+            is_strict: is_switched(options, Switch::IdentifyStrict),
+        }));
     }
     Ok(Task::Make(request_in(alloc, options, caller)?))
 }

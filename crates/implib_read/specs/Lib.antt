@@ -4,6 +4,7 @@ pub mod Archives
 pub mod ArchiveViews
 pub mod Classes
 pub mod ClassViews
+pub mod Identity
 pub mod Files
 pub mod FileViews
 pub mod Following

@@ -18,6 +18,7 @@ fn options_are_told_by_their_names(rt: HostRuntime) -> Result<(), Fail> {
         (Setting::AssemblerFlags, "-f"),
         (Setting::TemporaryPrefix, "-t"),
         (Setting::FurtherPrefix, "-p"),
+        (Setting::Identify, "-I"),
     ] {
         let shown = format!(in rt.alloc(); "{setting}")?;
         assert_eq!(rt; shown.as_str(), name);
@@ -90,7 +91,9 @@ fn the_help_has_options_and_statuses(rt: HostRuntime) -> Result<(), Fail> {
         "\n  -V, --version\n",
         "\nTaken and ignored: -S --as, -f --as-flags, -t --temp-prefix, each with a value;\n",
         "\n-n --no-delete, -A --add-stdcall-alias, --deterministic-libraries,\n",
-        "\nStatus: 0 made; 1 FILE is refused; 2 wrong call; 3 a file or memory failed.\n",
+        "\n  -I, --identify LIB       print the names of the DLLs that LIB imports from, and\n",
+        "\n      --identify-strict    refuse a LIB that imports from two DLLs or more\n",
+        "\nStatus: 0 made; 1 FILE or LIB is refused; 2 wrong call; 3 a file or memory failed.\n",
     ] {
         assert!(rt; help.contains(part), "{part}");
     }

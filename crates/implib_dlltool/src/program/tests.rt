@@ -354,6 +354,13 @@ fn libraries_are_written(rt: HostRuntime) -> Result<(), Fail> {
             .starts_with(b"!<arch>\n/               0 ")
     );
     assert_eq!(rt; library.len(), 1412);
+    let (got, wrote) = ran(&rt, ["-I", file.as_str()].as_slice(), b"")?;
+    assert_eq!(rt; wrote.as_str(), "");
+    assert_eq!(rt; got, 0);
+    fs::write(&rt, file.as_path(), b"!<arch>\n")?;
+    let (got, wrote) = ran(&rt, ["-I", file.as_str()].as_slice(), b"")?;
+    assert!(rt; wrote.as_str().ends_with(": no import of a DLL is in it\n"));
+    assert_eq!(rt; got, 1);
     let words = ["-d", "-", "-l", folder.as_str()];
     let (got, wrote) = ran(&rt, words.as_slice(), text)?;
     assert!(rt;

@@ -8,6 +8,16 @@ unfolding part_after_last
 worked = record {
   help_first = refl;
   version_before_faults = refl;
+  version_before_identity = refl;
+  identity_asked = refl;
+  identity_strict = refl;
+  identity_before_a_library = refl;
+  strict_alone = refl;
+  two_dlls = refl;
+  two_dlls_strictly = refl;
+  one_dll_strictly = refl;
+  no_dll = refl;
+  no_library = refl;
   definition_first = refl;
   empty_output = refl;
   definition_replaced = refl;

@@ -2,10 +2,10 @@
 
 ghost use Rattle.std.specs.Prelude.{◌≡◌, map, IfOk, OnOk};
 ghost use Rattle.std.specs.Option.{option_map, option_map_or};
-ghost use Rattle.implib_check.specs.Identity.{dll_of, dlls_of, with_dll_of, with_name};
+ghost use Rattle.implib_read.specs.Identity.{dll_of, dlls_of, with_dll_of, with_name};
 ghost use Rattle.implib_read.specs.ClassViews.{class_view, member_read_view};
 
-use implib_read::{MemberClass, MemberRead};
+use crate::class::{MemberClass, MemberRead};
 use indexmap::IndexSet;
 use std::alloc::{AllocError, Global};
 

@@ -1,7 +1,7 @@
 use Rattle.std.proofs.Common.{◌∙◌, ap, map, refl}
 use Rattle.implib.specs.Formats.Writer.{with_name}
 use Rattle.implib.proofs.Formats.LongNames.{insert_key_text}
-use Rattle.implib_check.proofs.identity.add_name.Goals as goal
+use Rattle.implib_read.proofs.identity.add_name.Goals as goal
 
 pub returns : goal.returns
 unfolding with_name
