@@ -3,6 +3,7 @@ use Rattle.std.proofs.Common.{refl}
 use Rattle.implib_check.specs.Worked.{WorkedComparisons, WorkedIdentities, WorkedStatuses, WorkedTasks}
 use Rattle.implib_rules.specs.Names.{part_after_last}
 use Rattle.implib_check.specs.WorkedChecks.{WorkedChecks, WorkedTargets}
+use Rattle.implib_check.specs.WorkedJson.{WorkedJson}
 use Rattle.implib_check.specs.WorkedTogether.{WorkedTogether}
 use Rattle.implib_check.specs.WorkedWorking.{WorkedWorking}
 use Rattle.implib.specs.Formats.Object.{before_nul, bytes_at, u16_at, u32_at}
@@ -10,6 +11,9 @@ use Rattle.implib_read.specs.Indexes.{entries_from, first_index_in, second_index
 use Rattle.implib_read.specs.ShortImports.{short_import_found}
 use Rattle.implib_check.specs.WorkedDefinitions.{WorkedDefines, WorkedDefinitions}
 use Rattle.std.specs.Fmt.{digits}
+use Rattle.std.specs.Char.{encode_utf8}
+use Rattle.std.specs.Str.{chars, is_utf8}
+use Rattle.std.specs.Str.Lossy.{utf8_valid_len}
 
 pub worked_comparisons : WorkedComparisons
 worked_comparisons = record {
@@ -78,6 +82,18 @@ worked_tasks = record {
   two_libraries = refl;
   three_libraries = refl;
   unknown = refl;
+  json_first = refl;
+  json_last = refl;
+  json_among = refl;
+  json_twice = refl;
+  asked = refl;
+  not_asked = refl;
+  without_json = refl;
+  no_json_of_names = refl;
+  no_json_of_a_name = refl;
+  no_json_of_a_definition = refl;
+  no_json_of_help = refl;
+  json_is_no_library = refl;
 }
 
 pub worked_checks : WorkedChecks
@@ -91,6 +107,8 @@ worked_checks = record {
   task = refl;
   task_of_more = refl;
   same = refl;
+  json = refl;
+  json_is_no_value = refl;
   no_word = refl;
   no_definition = refl;
   three_files = refl;
@@ -231,4 +249,23 @@ worked_together = record {
   three = refl;
   one_alone = refl;
   no_library = refl;
+}
+
+pub worked_json : WorkedJson
+unfolding chars encode_utf8 is_utf8 utf8_valid_len
+worked_json = record {
+  listed = refl;
+  listed_alias = refl;
+  different = refl;
+  missing = refl;
+  clash = refl;
+  no_index = refl;
+  unreadable = refl;
+  misleading = refl;
+  no_head = refl;
+  several = refl;
+  utf8 = refl;
+  latin = refl;
+  cut_off = refl;
+  empty = refl;
 }

@@ -4,6 +4,7 @@ pub mod Counting
 pub mod Definitions
 pub mod FirstEntries
 pub mod IndexReadings
+pub mod JsonTexts
 pub mod KeyTexts
 pub mod Matching
 pub mod MeantLibraries

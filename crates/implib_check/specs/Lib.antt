@@ -11,10 +11,12 @@ pub mod Working
 pub mod OwnIndexes
 pub mod OwnTables
 pub mod Tasks
+pub mod Json
 pub mod Together
 pub mod Status
 pub mod Worked
 pub mod WorkedChecks
 pub mod WorkedDefinitions
+pub mod WorkedJson
 pub mod WorkedWorking
 pub mod WorkedTogether

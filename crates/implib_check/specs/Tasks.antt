@@ -1,6 +1,7 @@
 -- What the words of a command line ask for (this project's choice; `--identify` after GNU dlltool's).
-use Rattle.std.specs.Prelude.{ℕ, Bool, true, false, ◌||◌, List, [], ◌∷◌, Option, Some, None, bytes_eq, codes, if◌then◌else◌, map}
-use Rattle.std.specs.Option.{option_map, option_or}
+use Rattle.std.specs.Prelude.{ℕ, Bool, true, false, ◌&&◌, ◌||◌, not, List, [], ◌∷◌, Option, Some, None, bytes_eq, codes, filter, if◌then◌else◌, map}
+use Rattle.std.specs.List.{list_any}
+use Rattle.std.specs.Option.{option_and_then, option_map, option_or}
 use Rattle.std.specs.String.{string_bytes}
 use Rattle.implib_check.specs.Calls.{CheckView, DefineView, check_called, check_view, define_called, define_view}
 use Rattle.implib_check.specs.declared.task.Task.{Task}
@@ -83,3 +84,35 @@ with_files (first ∷ rest) =
 -- what the words after the program's name ask for
 abbrev pub task_named : List (List ℕ) → Option TaskView
 task_named words = option_or (task_by_name words) (with_files words)
+
+-- whether a word asks for JSON
+abbrev pub is_json_word : List ℕ → Bool
+is_json_word word = bytes_eq word (codes "--json")
+
+-- whether words ask for JSON
+abbrev pub asks_json : List (List ℕ) → Bool
+asks_json words = list_any is_json_word words
+
+-- the words that do not ask for JSON
+abbrev pub plain_words : List (List ℕ) → List (List ℕ)
+plain_words words = filter (λ word. not (is_json_word word)) words
+
+-- whether what a task writes has a form in JSON
+abbrev pub has_json_form : TaskView → Bool
+has_json_form Help = false
+has_json_form Version = false
+has_json_form (Lists path) = true
+has_json_form (Identifies path is_strict) = false
+has_json_form (WorksOf path) = true
+has_json_form (Compares left right) = true
+has_json_form (Joins paths) = true
+has_json_form (Checks check) = true
+has_json_form (Defines define) = false
+
+-- a task, if it has the form that is asked for
+abbrev pub in_form : Bool → TaskView → Option TaskView
+in_form is_json task = if is_json && not (has_json_form task) then None else Some task
+
+-- What the words of a command line ask for. `--json` stands anywhere among them.
+abbrev pub call_named : List (List ℕ) → Option TaskView
+call_named words = option_and_then (in_form (asks_json words)) (task_named (plain_words words))

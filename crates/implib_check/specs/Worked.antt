@@ -7,7 +7,7 @@ use Rattle.implib_read.specs.declared.import.ImportKind.TheVariants.{Code, CodeO
 use Rattle.implib_check.specs.Comparison.{differing, verdict}
 use Rattle.implib_read.specs.Identity.{dlls_of}
 use Rattle.implib_check.specs.Status.{identity_status, list_status, verdict_status}
-use Rattle.implib_check.specs.Tasks.{Compares, Help, Identifies, Lists, Version, task_named}
+use Rattle.implib_check.specs.Tasks.{Compares, Help, Identifies, Joins, Lists, Version, WorksOf, asks_json, call_named, task_named}
 use Rattle.implib_check.specs.declared.compare.Verdict.TheVariants.{Different, NotDecided, Same}
 
 -- a member
@@ -110,3 +110,16 @@ pub record WorkedTasks : Type 0 where
   pub two_libraries : task_named (codes "--list" ∷ codes "a.lib" ∷ codes "b.lib" ∷ []) ≡ None
   pub three_libraries : task_named (codes "--same" ∷ codes "a" ∷ codes "b" ∷ codes "c" ∷ []) ≡ None
   pub unknown : task_named (codes "--lists" ∷ codes "a.lib" ∷ []) ≡ None
+  -- `--json` before, among and behind the other words, twice, and where a call has no JSON
+  pub json_first : call_named (codes "--json" ∷ codes "--list" ∷ codes "a.lib" ∷ []) ≡ Some (Lists (codes "a.lib"))
+  pub json_last : call_named (codes "--works" ∷ codes "a.lib" ∷ codes "--json" ∷ []) ≡ Some (WorksOf (codes "a.lib"))
+  pub json_among : call_named (codes "--same" ∷ codes "a.lib" ∷ codes "--json" ∷ codes "b.lib" ∷ []) ≡ Some (Compares (codes "a.lib") (codes "b.lib"))
+  pub json_twice : call_named (codes "--together" ∷ codes "--json" ∷ codes "a" ∷ codes "b" ∷ codes "--json" ∷ []) ≡ Some (Joins (codes "a" ∷ codes "b" ∷ []))
+  pub asked : asks_json (codes "--list" ∷ codes "a.lib" ∷ codes "--json" ∷ []) ≡ true
+  pub not_asked : asks_json (codes "--list" ∷ codes "a.lib" ∷ codes "--jsonl" ∷ []) ≡ false
+  pub without_json : call_named (codes "--identify" ∷ codes "a.lib" ∷ []) ≡ Some (Identifies (codes "a.lib") false)
+  pub no_json_of_names : call_named (codes "--identify" ∷ codes "a.lib" ∷ codes "--json" ∷ []) ≡ None
+  pub no_json_of_a_name : call_named (codes "--identify-strict" ∷ codes "--json" ∷ codes "a.lib" ∷ []) ≡ None
+  pub no_json_of_a_definition : call_named (codes "--def" ∷ codes "a.lib" ∷ codes "--json" ∷ []) ≡ None
+  pub no_json_of_help : call_named (codes "--help" ∷ codes "--json" ∷ []) ≡ None
+  pub json_is_no_library : call_named (codes "--list" ∷ codes "--json" ∷ []) ≡ None

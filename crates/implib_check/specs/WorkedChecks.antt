@@ -13,7 +13,7 @@ use Rattle.implib_rules.specs.Machines.{machine_called}
 use Rattle.implib_check.specs.Calls.{CheckView, check_called, define_called}
 use Rattle.implib_check.specs.Status.{refusal_status}
 use Rattle.implib_check.specs.Targets.{flavor_of, machine_of, options_for}
-use Rattle.implib_check.specs.Tasks.{Checks, Compares, task_named}
+use Rattle.implib_check.specs.Tasks.{Checks, Compares, call_named, task_named}
 use Rattle.implib_check.specs.Worked.{alias, feed, member, of_dll}
 
 -- a library beside a definition, with no option
@@ -54,6 +54,9 @@ pub record WorkedChecks : Type 0 where
   pub task : task_named (codes "a.lib" ∷ codes "a.def" ∷ []) ≡ Some (Checks plain_check)
   pub task_of_more : task_named (codes "a.lib" ∷ codes "a.def" ∷ codes "--flavor" ∷ codes "msvc" ∷ []) ≡ Some (Checks (record plain_check { flavor = Some Msvc }))
   pub same : task_named (codes "--same" ∷ codes "a.lib" ∷ codes "b.lib" ∷ []) ≡ Some (Compares (codes "a.lib") (codes "b.lib"))
+  -- in JSON
+  pub json : call_named (codes "a.lib" ∷ codes "--json" ∷ codes "a.def" ∷ []) ≡ Some (Checks plain_check)
+  pub json_is_no_value : call_named (codes "a.lib" ∷ codes "a.def" ∷ codes "-D" ∷ codes "--json" ∷ []) ≡ None
   pub no_word : check_called [] ≡ None
   pub no_definition : check_called (codes "a.lib" ∷ codes "-k" ∷ []) ≡ None
   pub three_files : check_called (codes "a.lib" ∷ codes "a.def" ∷ codes "b.def" ∷ []) ≡ None

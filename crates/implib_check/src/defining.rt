@@ -9,12 +9,11 @@ ghost use Rattle.implib_rules.specs.Options.{library_options_view};
 use crate::compare::{Verdict, has_unread};
 use crate::definition::{CheckError, check_definition};
 use crate::definition_text::definition_text;
-use crate::differences::Failure;
 use crate::laws::meant_is_defined;
+use crate::report::{Failure, Form};
 use implib_read::MemberRead;
 use implib_rules::library::Refusal;
 use implib_rules::options::LibraryOptions;
-use std::alloc::Global;
 use std::io::Write;
 
 /// Why a library has no definition.
@@ -39,7 +38,7 @@ pub enum Undefined {
 /// or an allocation.
 #[tactic(auto, using(crate::proofs::Definitions::defines_same, crate::proofs::Definitions::defines_open))]
 pub fn definition_of<O: Write>(
-    alloc: Global,
+    form: Form,
     printer: &mut O,
     paths: (&str, &str),
     members: &[MemberRead],
@@ -54,10 +53,10 @@ pub fn definition_of<O: Write>(
     if has_unread(members) {
         return Err(Undefined::Unread);
     }
-    let Ok(text) = definition_text(alloc, options, members) else {
+    let Ok(text) = definition_text(form.alloc, options, members) else {
         return Err(Undefined::Failed(Failure::OutOfMemory));
     };
-    match check_definition(alloc, printer, paths, members, &text, options) {
+    match check_definition(form, printer, paths, members, &text, options) {
         Ok(Verdict::Different) => Err(Undefined::Different),
         Ok(Verdict::Same) => Ok(text),
         Ok(Verdict::NotDecided) => Ok(text),

@@ -8,9 +8,10 @@ ghost use Rattle.implib_rules.specs.Library.{IsLibrary, IsRefusalOfBytes};
 ghost use Rattle.implib_rules.specs.Options.{library_options_view};
 
 use crate::compare::{Verdict, compare};
-use crate::differences::{Failure, tell_both};
+use crate::differences::tell_both;
+use crate::finding::Source;
 use crate::positions::Positions;
-use crate::text::Source;
+use crate::report::{Failure, Form};
 use implib_read::laws::own_members_found;
 use implib_read::{Library, MemberRead};
 use implib_rules::library::{LibraryError, Refusal, write_library};
@@ -51,7 +52,7 @@ impl From<Failure> for CheckError {
 
 impl From<AllocError> for CheckError {
     ghost use Rattle.implib_check.specs.declared.definition.CheckError.TheVariants.{Failed};
-    ghost use Rattle.implib_check.specs.declared.differences.Failure.TheVariants.{OutOfMemory};
+    ghost use Rattle.implib_check.specs.declared.report.Failure.TheVariants.{OutOfMemory};
     ghost use Rattle.std.specs.Prelude.{◌≡◌};
 
     ghost from_gives = { λ _ error. error ≡ Failed OutOfMemory };
@@ -85,7 +86,7 @@ pub fn library_meant(
 ///
 /// `Refused`: the definition has no library. `Failed`: a write or an allocation.
 pub fn check_definition<O: Write>(
-    alloc: Global,
+    form: Form,
     printer: &mut O,
     paths: (&str, &str),
     members: &[MemberRead],
@@ -96,6 +97,7 @@ pub fn check_definition<O: Write>(
     ensures refused { IfErr result (IsRefusalOfCheck definition.now (library_options_view options.now)) }
 {
     own_members_found();
+    let alloc = form.alloc;
     let file = library_meant(alloc, definition, options)?;
     let Some(meant) = Library::read(alloc, &file)? else {
         unreachable!();
@@ -106,6 +108,6 @@ pub fn check_definition<O: Write>(
         Source::Library(paths.0),
         Source::Definition(paths.1, &positions),
     );
-    tell_both(alloc, printer, sources, members, &meant.members, &found)?;
+    tell_both(form, printer, sources, members, &meant.members, &found)?;
     Ok(found.verdict)
 }

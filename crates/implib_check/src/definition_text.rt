@@ -15,7 +15,8 @@ ghost use Rattle.implib_rules.specs.Options.{library_options_view};
 use crate::keys::tells_constants;
 use implib::{Flavor, MachineType};
 use implib_read::{
-    AliasFound, AskFound, DeclaredFound, ImportFound, ImportKind, MemberClass, MemberRead, dll_of};
+    AliasFound, AskFound, DeclaredFound, ImportFound, ImportKind, MemberClass, MemberRead, dll_of,
+};
 use implib_rules::linked::{Naming, keeps_word};
 use implib_rules::options::LibraryOptions;
 use std::alloc::{AllocError, Global};

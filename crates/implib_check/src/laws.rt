@@ -7,6 +7,7 @@ ghost use Rattle.implib_check.specs.OwnTables.{OwnTablesAreWhole};
 ghost use Rattle.implib_check.specs.Worked.{WorkedComparisons, WorkedIdentities, WorkedStatuses, WorkedTasks};
 ghost use Rattle.implib_check.specs.WorkedChecks.{WorkedChecks, WorkedTargets};
 ghost use Rattle.implib_check.specs.WorkedDefinitions.{WorkedDefines, WorkedDefinitions};
+ghost use Rattle.implib_check.specs.WorkedJson.{WorkedJson};
 ghost use Rattle.implib_check.specs.WorkedTogether.{WorkedTogether};
 ghost use Rattle.implib_check.specs.WorkedWorking.{WorkedWorking};
 
@@ -116,4 +117,9 @@ pub fn worked_working()
 /// What libraries do to each other in one link, worked by hand.
 pub fn worked_together()
     ensures { WorkedTogether }
+{}
+
+/// What JSON objects have, worked by hand.
+pub fn worked_json()
+    ensures { WorkedJson }
 {}

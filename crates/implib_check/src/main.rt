@@ -4,7 +4,8 @@
 //! What the words of the command line ask for, which DLLs a library has, which members of two libraries differ, and
 //! whether a library means what a definition means, are decided by functions with contracts ([`task`], [`call`],
 //! [`keys`], [`partners`], [`compare`], [`target`], [`definition`]). What is then read and written are
-//! files ([`program`]), with lines of text ([`text`], [`differences`], [`positions`]).
+//! files ([`program`]), with lines of text or of JSON ([`finding`], [`text`], [`json`], [`report`], [`differences`],
+//! [`positions`]).
 #![tactic(auto)]
 
 pub mod call;
@@ -13,11 +14,14 @@ pub mod defining;
 pub mod definition;
 pub mod definition_text;
 mod differences;
+mod finding;
+mod json;
 pub mod keys;
 pub mod laws;
 pub mod partners;
 mod positions;
 pub mod program;
+mod report;
 pub mod status;
 pub mod target;
 pub mod task;

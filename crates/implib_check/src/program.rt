@@ -7,14 +7,16 @@ use crate::call::{Check, Define};
 use crate::compare::{Comparison, Verdict, compare, has_unread};
 use crate::defining::{Undefined, definition_of};
 use crate::definition::{CheckError, check_definition};
-use crate::differences::{BUFFER, Failure, Lines, flushed, tell_both};
+use crate::differences::tell_both;
+use crate::finding::{Fault, Finding, Side, Source};
+use crate::report::{BUFFER, Failure, Form, Lines, flushed, tell};
 use crate::status::{
     comparison_status, identity_status, list_status, refusal_status, together_status,
     undefined_status,
 };
 use crate::target::{flavor_of, options_for, options_of};
-use crate::task::{Task, task_named};
-use crate::text::{Listed, Place, Said, Shown, Source, doubt_of, fault_of};
+use crate::task::{CommandLine, Task, call_named};
+use crate::text::{Place, Shown, Site, doubt_of, fault_of, is_listed};
 use crate::together::{Claim, add_claims, clashes};
 use crate::working::{
     Piece, Working, both_work, first_misleads, has_one, has_whole_tables, linker_member,
@@ -37,15 +39,15 @@ const NAME: &str = "implib_check";
 // What the program prints for `--help`.
 const HELP: &str = "\
 usage: implib_check LIB DEF [-m MACHINE] [-k] [--no-leading-underscore]
-                    [--export-as] [-D DLL] [--flavor FLAVOR]
+                    [--export-as] [-D DLL] [--flavor FLAVOR] [--json]
        implib_check --def LIB [-m MACHINE] [--no-leading-underscore]
                     [--flavor FLAVOR]
-       implib_check --list LIB
+       implib_check --list LIB [--json]
        implib_check --identify LIB
        implib_check --identify-strict LIB
-       implib_check --same LIB LIB
-       implib_check --works LIB
-       implib_check --together LIB LIB..
+       implib_check --same LIB LIB [--json]
+       implib_check --works LIB [--json]
+       implib_check --together LIB LIB.. [--json]
 
 Reads import libraries of any maker. With a library and a module definition:
 whether the library has the imports and aliases that implib_dlltool would give
@@ -70,6 +72,7 @@ one of the definition; the differences.
                      DLLs, or by different names, in one link
   --works            whether the indexes lead to what they name, and the parts
                      of the import tables are there once each
+  --json             a JSON object in place of each line
   -h, --help
   -V, --version
 
@@ -108,16 +111,26 @@ fn doubt<E: Write>(faults: &mut E, path: &str, members: &[MemberRead], others: b
     let mut lines = Lines { writer: faults };
     for member in members {
         if let Some(what) = doubt_of(&member.class, others) {
-            let _ = writeln!(lines, "{}: {what}", Place(Source::Library(path), member));
+            let _ = writeln!(lines, "{}: {what}", Place(Site::Library(path), member));
         }
     }
 }
 
-// Writes the rows of a library.
-fn list<O: Write>(printer: &mut O, members: &[MemberRead]) -> Result<(), Failure> {
-    let mut lines = Lines { writer: printer };
+// Writes the imports and aliases of a library.
+fn list<O: Write>(
+    form: Form,
+    printer: &mut O,
+    path: &str,
+    members: &[MemberRead],
+) -> Result<(), Failure> {
     for member in members {
-        write!(lines, "{}", Listed(member))?;
+        if is_listed(&member.class) {
+            tell(
+                form,
+                printer,
+                &Finding::Listed(Source::Library(path).side(member)),
+            )?;
+        }
     }
     Ok(())
 }
@@ -169,6 +182,7 @@ fn status_of<E: Write>(faults: &mut E, written: Result<(), Failure>, status: u8)
 // Lists a library, and gives the exit status.
 fn run_list<R: Files + AllocGlobal, O: Write, E: Write>(
     rt: &R,
+    form: Form,
     printer: &mut O,
     faults: &mut E,
     path: &str,
@@ -182,19 +196,20 @@ fn run_list<R: Files + AllocGlobal, O: Write, E: Write>(
         Err(status) => return status,
     };
     let members = library.members.as_slice();
-    let written = list_buffered(rt.alloc(), printer, members);
+    let written = list_buffered(form, printer, path, members);
     doubt(faults, path, members, false);
     status_of(faults, written, list_status(has_unread(members)))
 }
 
-// Writes the rows of a library through a buffer.
+// Writes the imports and aliases of a library through a buffer.
 fn list_buffered<O: Write>(
-    alloc: Global,
+    form: Form,
     printer: &mut O,
+    path: &str,
     members: &[MemberRead],
 ) -> Result<(), Failure> {
-    let mut buffered = BufWriter::with_capacity(alloc, BUFFER, printer)?;
-    let written = list(&mut buffered, members);
+    let mut buffered = BufWriter::with_capacity(form.alloc, BUFFER, printer)?;
+    let written = list(form, &mut buffered, path, members);
     flushed(&mut buffered, written)
 }
 
@@ -233,21 +248,21 @@ fn run_identify<R: Files + AllocGlobal, O: Write, E: Write>(
 
 // Writes why a library that is the same as another does not work, if it does not.
 fn tell_working_if_same<O: Write>(
-    alloc: Global,
+    form: Form,
     printer: &mut O,
     verdict: Verdict,
     path: &str,
     library: &Library,
 ) -> Result<Working, Failure> {
     match verdict {
-        Verdict::Same => tell_working(alloc, printer, path, library),
+        Verdict::Same => tell_working(form, printer, path, library),
         Verdict::Different | Verdict::NotDecided => Ok(Working::Works),
     }
 }
 
 // Writes in what two libraries differ, or why one does not work; and gives the exit status.
 fn tell_same<O: Write>(
-    alloc: Global,
+    form: Form,
     printer: &mut O,
     paths: (&str, &str),
     libraries: (&Library, &Library),
@@ -255,29 +270,22 @@ fn tell_same<O: Write>(
 ) -> Result<u8, Failure> {
     let sources = (Source::Library(paths.0), Source::Library(paths.1));
     let (left, right) = libraries;
-    tell_both(
-        alloc,
-        printer,
-        sources,
-        &left.members,
-        &right.members,
-        found,
-    )?;
-    let first = tell_working_if_same(alloc, printer, found.verdict, paths.0, left)?;
-    let second = tell_working_if_same(alloc, printer, found.verdict, paths.1, right)?;
+    tell_both(form, printer, sources, &left.members, &right.members, found)?;
+    let first = tell_working_if_same(form, printer, found.verdict, paths.0, left)?;
+    let second = tell_working_if_same(form, printer, found.verdict, paths.1, right)?;
     Ok(comparison_status(found.verdict, both_work(first, second)))
 }
 
 // Writes why a library that means what a definition means does not work, if it does not; and gives the exit status.
 fn tell_checked<O: Write, E: Write>(
-    alloc: Global,
+    form: Form,
     printer: &mut O,
     faults: &mut E,
     verdict: Verdict,
     path: &str,
     library: &Library,
 ) -> u8 {
-    match tell_working_if_same(alloc, printer, verdict, path, library) {
+    match tell_working_if_same(form, printer, verdict, path, library) {
         Ok(working) => comparison_status(verdict, working),
         Err(failure) => status_of(faults, Err(failure), 3),
     }
@@ -286,6 +294,7 @@ fn tell_checked<O: Write, E: Write>(
 // Compares two libraries, and gives the exit status.
 fn run_same<R: Files + AllocGlobal, O: Write, E: Write>(
     rt: &R,
+    form: Form,
     printer: &mut O,
     faults: &mut E,
     paths: (&str, &str),
@@ -312,7 +321,7 @@ fn run_same<R: Files + AllocGlobal, O: Write, E: Write>(
     };
     doubt(faults, paths.0, &left.members, true);
     doubt(faults, paths.1, &right.members, true);
-    match tell_same(rt.alloc(), printer, paths, (&left, &right), &found) {
+    match tell_same(form, printer, paths, (&left, &right), &found) {
         Ok(status) => status,
         Err(failure) => status_of(faults, Err(failure), 3),
     }
@@ -334,6 +343,7 @@ fn refuse<E: Write>(faults: &mut E, path: &str, refusal: &Refusal) -> u8
 // Compares a library with a definition, and gives the exit status.
 fn run_check<R: Files + AllocGlobal, O: Write, E: Write>(
     rt: &R,
+    form: Form,
     printer: &mut O,
     faults: &mut E,
     check: &Check,
@@ -354,15 +364,8 @@ fn run_check<R: Files + AllocGlobal, O: Write, E: Write>(
     let options = options_for(check, members);
     doubt(faults, check.library, members, true);
     let paths = (check.library, check.definition);
-    match check_definition(rt.alloc(), printer, paths, members, &definition, &options) {
-        Ok(verdict) => tell_checked(
-            rt.alloc(),
-            printer,
-            faults,
-            verdict,
-            check.library,
-            &library,
-        ),
+    match check_definition(form, printer, paths, members, &definition, &options) {
+        Ok(verdict) => tell_checked(form, printer, faults, verdict, check.library, &library),
         Err(CheckError::Refused(refusal)) => refuse(faults, check.definition, &refusal),
         Err(CheckError::Failed(failure)) => status_of(faults, Err(failure), 3),
     }
@@ -395,7 +398,7 @@ fn say_undefined<E: Write>(
             let mut is_named = false;
             for member in members {
                 if let Some(what) = fault_of(&member.class) {
-                    let _ = writeln!(lines, "{}: {what}", Place(Source::Library(path), member));
+                    let _ = writeln!(lines, "{}: {what}", Place(Site::Library(path), member));
                     is_named = true;
                 }
             }
@@ -449,7 +452,11 @@ fn run_define<R: Files + AllocGlobal, O: Write, E: Write>(
     if names.len() > 1 {
         return say_dlls(faults, path, &names);
     }
-    match definition_of(rt.alloc(), faults, (path, TRIED), members, &options) {
+    let form = Form {
+        alloc: rt.alloc(),
+        is_json: false,
+    };
+    match definition_of(form, faults, (path, TRIED), members, &options) {
         Ok(text) => match printer.write_all(&text) {
             Ok(()) => 0,
             Err(error) => complain(faults, NAME, error, 3),
@@ -460,21 +467,25 @@ fn run_define<R: Files + AllocGlobal, O: Write, E: Write>(
 
 // Writes the entries of an index that mislead, and whether the index does.
 fn tell_index<O: Write>(
-    lines: &mut Lines<O>,
+    form: Form,
+    printer: &mut O,
     path: &str,
-    name: &str,
+    number: u8,
     found: &Option<Vec<IndexEntry>>,
 ) -> Result<bool, Failure> {
     let Some(entries) = found else {
-        writeln!(lines, "{path}: {name} cannot be read")?;
+        tell(
+            form,
+            printer,
+            &Finding::Fault(path, Fault::UnreadableIndex(number)),
+        )?;
         return Ok(true);
     };
     for entry in entries {
-        let place = entry.place;
-        writeln!(
-            lines,
-            "{path}: {name} leads {} to 0x{place:x}, not to the first member that declares it",
-            Shown(entry.symbol)
+        tell(
+            form,
+            printer,
+            &Finding::Fault(path, Fault::MisleadingEntry(number, entry)),
         )?;
     }
     Ok(!entries.is_empty())
@@ -482,96 +493,83 @@ fn tell_index<O: Write>(
 
 // Writes what is wrong with the indexes of a library, and whether something is.
 fn tell_indexes<O: Write>(
-    alloc: Global,
+    form: Form,
     printer: &mut O,
     path: &str,
     library: &Library,
 ) -> Result<bool, Failure> {
     let parts = library.archive.parts.as_slice();
     let members = library.archive.members.as_slice();
-    let mut lines = Lines { writer: printer };
     let Some(contents) = linker_member(0, parts) else {
-        writeln!(lines, "{path}: no index")?;
+        tell(form, printer, &Finding::Fault(path, Fault::NoIndex))?;
         return Ok(true);
     };
-    let found = first_misleads(alloc, members, contents)?;
-    let first = tell_index(&mut lines, path, "the index", &found)?;
+    let found = first_misleads(form.alloc, members, contents)?;
+    let first = tell_index(form, printer, path, 1, &found)?;
     let Some(contents) = linker_member(1, parts) else {
         return Ok(first);
     };
-    let found = second_misleads(alloc, members, contents)?;
-    let second = tell_index(&mut lines, path, "the second index", &found)?;
+    let found = second_misleads(form.alloc, members, contents)?;
+    let second = tell_index(form, printer, path, 2, &found)?;
     Ok(first || second)
 }
 
 // Writes that a part of import tables is not there once, if it is not.
 fn tell_piece<O: Write>(
-    lines: &mut Lines<O>,
+    form: Form,
+    printer: &mut O,
     path: &str,
     members: &[MemberRead],
     piece: Piece,
-    name: &str,
 ) -> Result<(), Failure> {
     if !has_one(piece, members) {
-        writeln!(lines, "{path}: no {name}, or two or more")?;
+        tell(
+            form,
+            printer,
+            &Finding::Fault(path, Fault::NotOnePart(piece)),
+        )?;
     }
     Ok(())
 }
 
 // Writes which parts of import tables are not there once.
 fn tell_tables<O: Write>(
+    form: Form,
     printer: &mut O,
     path: &str,
     flavor: Flavor,
     members: &[MemberRead],
 ) -> Result<(), Failure> {
-    let mut lines = Lines { writer: printer };
     match flavor {
         Flavor::Msvc => {
-            tell_piece(
-                &mut lines,
-                path,
-                members,
-                Piece::OfDescriptor,
-                "import descriptor",
-            )?;
-            tell_piece(
-                &mut lines,
-                path,
-                members,
-                Piece::OfNullDescriptor,
-                "null descriptor",
-            )?;
-            tell_piece(&mut lines, path, members, Piece::OfNullThunk, "null thunk")
+            tell_piece(form, printer, path, members, Piece::OfDescriptor)?;
+            tell_piece(form, printer, path, members, Piece::OfNullDescriptor)?;
+            tell_piece(form, printer, path, members, Piece::OfNullThunk)
         }
         Flavor::Gnu => {
-            tell_piece(&mut lines, path, members, Piece::OfHead, "head")?;
-            tell_piece(&mut lines, path, members, Piece::OfTail, "tail")
+            tell_piece(form, printer, path, members, Piece::OfHead)?;
+            tell_piece(form, printer, path, members, Piece::OfTail)
         }
     }
 }
 
 // Writes why a library does not work, if it does not.
 fn tell_working<O: Write>(
-    alloc: Global,
+    form: Form,
     printer: &mut O,
     path: &str,
     library: &Library,
 ) -> Result<Working, Failure> {
     let members = library.members.as_slice();
     let flavor = flavor_of(members);
-    let misleads = tell_indexes(alloc, printer, path, library)?;
-    let dlls = dlls_of(alloc, members)?;
+    let misleads = tell_indexes(form, printer, path, library)?;
+    let dlls = dlls_of(form.alloc, members)?;
     let whole = has_whole_tables(flavor, members);
     if dlls.len() == 1 && !whole {
-        tell_tables(printer, path, flavor, members)?;
+        tell_tables(form, printer, path, flavor, members)?;
     }
     if dlls.len() > 1 {
-        let mut lines = Lines { writer: printer };
-        writeln!(
-            lines,
-            "{path}: imports from two or more DLLs, whose tables are not told apart"
-        )?;
+        tell(form, printer, &Finding::Fault(path, Fault::SeveralDlls))?;
     }
     Ok(works_of(misleads, has_unread(members), dlls.len(), whole))
 }
@@ -579,6 +577,7 @@ fn tell_working<O: Write>(
 // Says whether a library works, and gives the exit status.
 fn run_works<R: Files + AllocGlobal, O: Write, E: Write>(
     rt: &R,
+    form: Form,
     printer: &mut O,
     faults: &mut E,
     path: &str,
@@ -592,7 +591,7 @@ fn run_works<R: Files + AllocGlobal, O: Write, E: Write>(
         Err(status) => return status,
     };
     doubt(faults, path, &library.members, false);
-    match tell_working(rt.alloc(), printer, path, &library) {
+    match tell_working(form, printer, path, &library) {
         Ok(working) => working_status(working),
         Err(failure) => status_of(faults, Err(failure), 3),
     }
@@ -642,52 +641,44 @@ fn is_some_unread(libraries: &[Library]) -> bool {
     false
 }
 
-// Writes where a claim is made, and what is made of the symbol.
-fn tell_claim<O: Write>(
-    lines: &mut Lines<O>,
-    paths: &[String],
-    libraries: &[Library],
+// The import or the alias by which a claim is made.
+fn side_of_claim<'p, 'm, 'a>(
+    paths: &'p [String],
+    libraries: &'m [Library<'a>],
     claim: &Claim,
-) -> Result<(), Failure> {
-    let Some(path) = paths.get(claim.library) else {
-        return Ok(());
-    };
-    let Some(library) = libraries.get(claim.library) else {
-        return Ok(());
-    };
-    let Some(member) = library.members.get(claim.member) else {
-        return Ok(());
-    };
-    let place = Place(Source::Library(path), member);
-    write!(lines, "{place}: {}", Said(member))?;
-    Ok(())
+) -> Option<Side<'p, 'm, 'a>> {
+    let path = paths.get(claim.library)?;
+    let member = libraries.get(claim.library)?.members.get(claim.member)?;
+    Some(Source::Library(path).side(member))
 }
 
 // Writes a claim, and the first claim of its symbol, with which it clashes.
 fn tell_clash<O: Write>(
-    lines: &mut Lines<O>,
+    form: Form,
+    printer: &mut O,
     paths: &[String],
     libraries: &[Library],
     claim: &Claim,
     first: &Claim,
 ) -> Result<(), Failure> {
-    write!(lines, "{}: ", Shown(&claim.symbol))?;
-    tell_claim(lines, paths, libraries, first)?;
-    write!(lines, "; ")?;
-    tell_claim(lines, paths, libraries, claim)?;
-    writeln!(lines)?;
-    Ok(())
+    let Some(here) = side_of_claim(paths, libraries, first) else {
+        return Ok(());
+    };
+    let Some(there) = side_of_claim(paths, libraries, claim) else {
+        return Ok(());
+    };
+    tell(form, printer, &Finding::Clash(&claim.symbol, here, there))
 }
 
 // Writes which claims clash, and whether one does.
 fn tell_clashes<O: Write>(
+    form: Form,
     printer: &mut O,
     paths: &[String],
     libraries: &[Library],
     claims: &[Claim],
     found: &[Option<usize>],
 ) -> Result<bool, Failure> {
-    let mut lines = Lines { writer: printer };
     let mut is_told = false;
     for (claim, number) in claims.iter().zip(found) {
         let Some(number) = *number else {
@@ -696,7 +687,7 @@ fn tell_clashes<O: Write>(
         let Some(first) = claims.get(number) else {
             continue;
         };
-        tell_clash(&mut lines, paths, libraries, claim, first)?;
+        tell_clash(form, printer, paths, libraries, claim, first)?;
         is_told = true;
     }
     Ok(is_told)
@@ -713,19 +704,20 @@ fn all_claims(alloc: Global, libraries: &[Library]) -> Result<Vec<Claim>, AllocE
 
 // Writes what libraries do to each other, and whether two clash.
 fn tell_together<O: Write>(
-    alloc: Global,
+    form: Form,
     printer: &mut O,
     paths: &[String],
     libraries: &[Library],
 ) -> Result<bool, Failure> {
-    let claims = all_claims(alloc, libraries)?;
-    let found = clashes(alloc, &claims)?;
-    tell_clashes(printer, paths, libraries, &claims, &found)
+    let claims = all_claims(form.alloc, libraries)?;
+    let found = clashes(form.alloc, &claims)?;
+    tell_clashes(form, printer, paths, libraries, &claims, &found)
 }
 
 // Says what libraries of one link do to each other, and gives the exit status.
 fn run_together<R: Files + AllocGlobal, O: Write, E: Write>(
     rt: &R,
+    form: Form,
     printer: &mut O,
     faults: &mut E,
     paths: &[String],
@@ -738,28 +730,32 @@ fn run_together<R: Files + AllocGlobal, O: Write, E: Write>(
         Ok(libraries) => libraries,
         Err(status) => return status,
     };
-    match tell_together(rt.alloc(), printer, paths, &libraries) {
+    match tell_together(form, printer, paths, &libraries) {
         Ok(clash) => together_status(is_some_unread(&libraries), clash),
         Err(failure) => status_of(faults, Err(failure), 3),
     }
 }
 
-// Does what the words after the program's name ask for, and gives the exit status.
+// Does what a command line asks for, and gives the exit status.
 fn run<R: Files + AllocGlobal, O: Write, E: Write>(
     rt: &R,
-    words: &[String],
+    command_line: &CommandLine,
     printer: &mut O,
     faults: &mut E,
 ) -> u8 {
-    match task_named(words) {
+    let form = Form {
+        alloc: rt.alloc(),
+        is_json: command_line.is_json,
+    };
+    match call_named(command_line) {
         Some(Task::Help) => print(printer, faults, HELP),
         Some(Task::Version) => print(printer, faults, VERSION),
-        Some(Task::List(path)) => run_list(rt, printer, faults, path),
+        Some(Task::List(path)) => run_list(rt, form, printer, faults, path),
         Some(Task::Identify(path, is_strict)) => run_identify(rt, printer, faults, path, is_strict),
-        Some(Task::Works(path)) => run_works(rt, printer, faults, path),
-        Some(Task::Same(left, right)) => run_same(rt, printer, faults, (left, right)),
-        Some(Task::Together(paths)) => run_together(rt, printer, faults, paths),
-        Some(Task::Check(check)) => run_check(rt, printer, faults, &check),
+        Some(Task::Works(path)) => run_works(rt, form, printer, faults, path),
+        Some(Task::Same(left, right)) => run_same(rt, form, printer, faults, (left, right)),
+        Some(Task::Together(paths)) => run_together(rt, form, printer, faults, paths),
+        Some(Task::Check(check)) => run_check(rt, form, printer, faults, &check),
         Some(Task::Define(define)) => run_define(rt, printer, faults, &define),
         None => complain(faults, NAME, "wrong call; --help says how to call it", 2),
     }
@@ -778,8 +774,11 @@ pub fn perform<R: Files + Env + AllocGlobal, O: Write, E: Write>(
         Err(error) => return complain(faults, NAME, error, 3),
     };
     let arguments: Result<Vec<String>, AllocError> = command_line.skip(1).collect(rt.alloc());
-    match arguments {
-        Ok(arguments) => run(rt, arguments.as_slice(), printer, faults),
+    let Ok(arguments) = arguments else {
+        return complain(faults, NAME, "out of memory", 3);
+    };
+    match CommandLine::read(rt.alloc(), &arguments) {
+        Ok(command_line) => run(rt, &command_line, printer, faults),
         Err(_) => complain(faults, NAME, "out of memory", 3),
     }
 }

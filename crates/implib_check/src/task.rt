@@ -1,11 +1,13 @@
 //! What the words of a command line ask for.
 
-ghost use Rattle.std.specs.Prelude.{◌≡◌, map};
-ghost use Rattle.std.specs.Option.{option_map, option_or};
+ghost use Rattle.std.specs.Prelude.{◌≡◌, map, IfOk};
+ghost use Rattle.std.specs.Option.{option_and_then, option_map, option_or};
 ghost use Rattle.std.specs.String.{string_bytes};
-ghost use Rattle.implib_check.specs.Tasks.{alone, task_by_name, task_named, task_view, with_all, with_files, with_libraries, with_library};
+ghost use Rattle.implib_check.specs.Tasks.{alone, asks_json, has_json_form, in_form, is_json_word, plain_words, task_by_name, task_named};
+ghost use Rattle.implib_check.specs.Tasks.{task_view, with_all, with_files, with_libraries, with_library};
 
 use crate::call::{Check, Define, check_called, define_called};
+use std::alloc::{AllocError, Global};
 
 /// What is asked for.
 #[derive(Clone, Copy, Debug)]
@@ -120,5 +122,85 @@ pub fn task_named(words: &[String]) -> Option<Task<'_>>
     match task_by_name(words) {
         Some(task) => Some(task),
         None => with_files(words),
+    }
+}
+
+// Whether a word asks for JSON.
+fn is_json_word(word: &String) -> bool
+    ensures { result ≡ is_json_word (string_bytes word.now) }
+{
+    word.as_str() == "--json"
+}
+
+// Whether words ask for JSON.
+fn asks_json(words: &[String]) -> bool
+    ensures { result ≡ asks_json (map string_bytes words.now) }
+{
+    for word in words {
+        if is_json_word(word) {
+            return true;
+        }
+    }
+    false
+}
+
+// The words that do not ask for JSON.
+fn plain_words(alloc: Global, words: &[String]) -> Result<Vec<String>, AllocError>
+    ensures { IfOk result (λ plain. map string_bytes plain.items ≡ plain_words (map string_bytes words.now)) }
+{
+    let mut plain = Vec::new(alloc);
+    for word in words {
+        if !is_json_word(word) {
+            plain.push(word.clone()?)?;
+        }
+    }
+    Ok(plain)
+}
+
+/// The words of a command line, behind the program's name, and whether they ask for JSON.
+#[derive(Drop)]
+pub struct CommandLine {
+    /// Those that do not ask for JSON.
+    pub words: Vec<String>,
+    pub is_json: bool,
+}
+
+impl CommandLine {
+    /// The command line of words: `--json` stands anywhere among them.
+    pub fn read(alloc: Global, words: &[String]) -> Result<CommandLine, AllocError>
+        ensures words { IfOk result (λ line. map string_bytes line.words.items ≡ plain_words (map string_bytes words.now)) }
+        ensures is_json { IfOk result (λ line. line.is_json ≡ asks_json (map string_bytes words.now)) }
+    {
+        Ok(CommandLine {
+            words: plain_words(alloc, words)?,
+            is_json: asks_json(words),
+        })
+    }
+}
+
+// Whether what a task writes has a form in JSON.
+fn has_json_form(task: &Task) -> bool
+    ensures { result ≡ has_json_form (task_view task.now) }
+{
+    match task {
+        Task::List(_) | Task::Works(_) | Task::Same(_, _) | Task::Together(_) | Task::Check(_) => {
+            true
+        }
+        Task::Help | Task::Version | Task::Identify(_, _) | Task::Define(_) => false,
+    }
+}
+
+/// What a command line asks for, if it asks for something, and for JSON only where that has a form in it.
+pub fn call_named(line: &CommandLine) -> Option<Task<'_>>
+    ensures { option_map task_view result ≡ option_and_then (in_form line.now.is_json) (task_named (map string_bytes line.now.words.items)) }
+{
+    match task_named(&line.words) {
+        Some(task) => {
+            if line.is_json && !has_json_form(&task) {
+                return None;
+            }
+            Some(task)
+        }
+        None => None,
     }
 }

@@ -1,7 +1,9 @@
 //! The lines that are written.
 
+ghost use Rattle.std.specs.Prelude.{◌≡◌};
+ghost use Rattle.implib_check.specs.Json.{kind_word};
+
 use crate::compare::{is_other, is_unread};
-use crate::positions::Positions;
 use implib::def::Position;
 use implib_read::{AskFound, DeclaredFound, ImportFound, ImportKind, MemberClass, MemberRead};
 use std::fmt;
@@ -34,8 +36,10 @@ impl<'a> fmt::Display for Shown<'a> {
     }
 }
 
-// The word of a kind.
-fn kind_word(kind: ImportKind) -> &'static str {
+/// The word of a kind.
+pub fn kind_word(kind: ImportKind) -> &'static str
+    ensures { result.now ≡ kind_word kind }
+{
     match kind {
         ImportKind::Code => "code",
         ImportKind::Data => "data",
@@ -92,6 +96,14 @@ impl<'m, 'a> fmt::Display for Row<'m, 'a> {
     }
 }
 
+/// Whether a member is an import or an alias.
+pub fn is_listed(class: &MemberClass) -> bool {
+    match class {
+        MemberClass::Import(_) | MemberClass::Alias(_) => true,
+        _ => false,
+    }
+}
+
 /// The row of a member, if it is an import or an alias.
 #[derive(Clone, Copy)]
 pub struct Listed<'m, 'a>(pub &'m MemberRead<'a>);
@@ -100,8 +112,8 @@ impl<'m, 'a> fmt::Display for Listed<'m, 'a> {
     fn fmt<W: fmt::Write>(&self, f: &mut fmt::Formatter<W>) -> fmt::Result {
         let offset = self.0.offset;
         match &self.0.class {
-            MemberClass::Import(import) => writeln!(f, "0x{offset:x}\t{}", Row(import)),
-            MemberClass::Alias(alias) => writeln!(
+            MemberClass::Import(import) => write!(f, "0x{offset:x}\t{}", Row(import)),
+            MemberClass::Alias(alias) => write!(
                 f,
                 "0x{offset:x}\t\t{}\talias\tsymbol\t{}\t",
                 Shown(alias.weak),
@@ -138,20 +150,20 @@ impl<'m, 'a> fmt::Display for Said<'m, 'a> {
     }
 }
 
-/// What members are from.
+/// Where an import or an alias is.
 #[derive(Clone, Copy)]
-pub enum Source<'p> {
-    /// The file of a library.
+pub enum Site<'p> {
+    /// In the library of this file.
     Library(&'p str),
-    /// The file of a definition, and where its exports are.
-    Definition(&'p str, &'p Positions),
+    /// In the definition of this file, and there, if the definition writes it.
+    Definition(&'p str, Option<Position>),
 }
 
-impl<'p> Source<'p> {
+impl<'p> Site<'p> {
     /// The file.
     pub fn path(self) -> &'p str {
         match self {
-            Source::Library(path) | Source::Definition(path, _) => path,
+            Site::Library(path) | Site::Definition(path, _) => path,
         }
     }
 }
@@ -159,21 +171,19 @@ impl<'p> Source<'p> {
 /// Where a member is: the library, the member's name, and the offset of its header; or the definition, and the place
 /// of the export in it.
 #[derive(Clone, Copy)]
-pub struct Place<'p, 'm, 'a>(pub Source<'p>, pub &'m MemberRead<'a>);
+pub struct Place<'p, 'm, 'a>(pub Site<'p>, pub &'m MemberRead<'a>);
 
 impl<'p, 'm, 'a> fmt::Display for Place<'p, 'm, 'a> {
     fn fmt<W: fmt::Write>(&self, f: &mut fmt::Formatter<W>) -> fmt::Result {
         match self.0 {
-            Source::Library(path) => {
+            Site::Library(path) => {
                 let offset = self.1.offset;
                 write!(f, "{path}({}@0x{offset:x})", Shown(self.1.name))
             }
-            Source::Definition(path, positions) => {
-                match positions.at(symbol_of_member(self.1)) {
-                    Some(Position { line, column, .. }) => write!(f, "{path}:{line}:{column}"),
-                    None => f.write_str(path),
-                }
-            }
+            Site::Definition(path, position) => match position {
+                Some(Position { line, column, .. }) => write!(f, "{path}:{line}:{column}"),
+                None => f.write_str(path),
+            },
         }
     }
 }

@@ -50,6 +50,14 @@ fn made_by_alias(alloc: Global, alias: &AliasFound) -> Result<Vec<u8>, AllocErro
     Ok(made)
 }
 
+// What a member makes of its symbols, and the numbers of its library and of it, from 0.
+#[derive(Clone, Copy)]
+struct Making<'m> {
+    library: usize,
+    member: usize,
+    made: &'m [u8],
+}
+
 // Bytes that two texts are one after the other.
 fn joined(alloc: Global, front: &[u8], text: &[u8]) -> Result<Vec<u8>, AllocError>
     ensures { IfOk result (λ whole. whole.items ≡ front.now ++ text.now) }
@@ -64,21 +72,19 @@ fn joined(alloc: Global, front: &[u8], text: &[u8]) -> Result<Vec<u8>, AllocErro
 fn add_claim(
     alloc: Global,
     claims: &mut Vec<Claim>,
-    library: usize,
-    member: usize,
-    made: &[u8],
+    making: Making,
     front: &[u8],
     text: &[u8],
 ) -> Result<(), AllocError>
-    ensures { OnOk result (map claim_view claims.new.items ≡ map claim_view claims.old.items ++ claim_for library member made.now (front.now ++ text.now) ∷ []) }
+    ensures { OnOk result (map claim_view claims.new.items ≡ map claim_view claims.old.items ++ claim_for making.entry.library making.entry.member making.entry.made.now (front.now ++ text.now) ∷ []) }
 {
     let symbol = joined(alloc, front, text)?;
-    let made = joined(alloc, b"", made)?;
+    let made = joined(alloc, b"", making.made)?;
     claims.push(Claim {
         symbol,
         made,
-        library,
-        member,
+        library: making.library,
+        member: making.member,
     })?;
     Ok(())
 }
@@ -87,15 +93,13 @@ fn add_claim(
 fn add_texts(
     alloc: Global,
     claims: &mut Vec<Claim>,
-    library: usize,
-    member: usize,
-    made: &[u8],
+    making: Making,
     texts: &[&[u8]],
 ) -> Result<(), AllocError>
-    ensures { OnOk result (map claim_view claims.new.items ≡ map claim_view claims.old.items ++ map (claim_for library member made.now) (map (λ t. t.now) texts.now)) }
+    ensures { OnOk result (map claim_view claims.new.items ≡ map claim_view claims.old.items ++ map (claim_for making.entry.library making.entry.member making.entry.made.now) (map (λ t. t.now) texts.now)) }
 {
     for text in texts {
-        add_claim(alloc, claims, library, member, made, b"", text)?;
+        add_claim(alloc, claims, making, b"", text)?;
     }
     Ok(())
 }
@@ -104,19 +108,17 @@ fn add_texts(
 fn add_name(
     alloc: Global,
     claims: &mut Vec<Claim>,
-    library: usize,
-    member: usize,
-    made: &[u8],
+    making: Making,
     symbol: &[u8],
     is_data: bool,
 ) -> Result<(), AllocError>
-    ensures { OnOk result (map claim_view claims.new.items ≡ map claim_view claims.old.items ++ map (claim_for library member made.now) (import_symbols is_data symbol.now)) }
+    ensures { OnOk result (map claim_view claims.new.items ≡ map claim_view claims.old.items ++ map (claim_for making.entry.library making.entry.member making.entry.made.now) (import_symbols is_data symbol.now)) }
 {
-    add_claim(alloc, claims, library, member, made, b"__imp_", symbol)?;
+    add_claim(alloc, claims, making, b"__imp_", symbol)?;
     if is_data {
         return Ok(());
     }
-    add_claim(alloc, claims, library, member, made, b"", symbol)?;
+    add_claim(alloc, claims, making, b"", symbol)?;
     Ok(())
 }
 
@@ -124,20 +126,18 @@ fn add_name(
 fn add_declared(
     alloc: Global,
     claims: &mut Vec<Claim>,
-    library: usize,
-    member: usize,
-    made: &[u8],
+    making: Making,
     declared: &DeclaredFound,
 ) -> Result<(), AllocError>
-    ensures { OnOk result (map claim_view claims.new.items ≡ map claim_view claims.old.items ++ map (claim_for library member made.now) (declared_view declared.now)) }
+    ensures { OnOk result (map claim_view claims.new.items ≡ map claim_view claims.old.items ++ map (claim_for making.entry.library making.entry.member making.entry.made.now) (declared_view declared.now)) }
 {
     match declared {
         DeclaredFound::OfName(symbol, is_data) => {
-            add_name(alloc, claims, library, member, made, symbol, *is_data)
+            add_name(alloc, claims, making, symbol, *is_data)
         }
         DeclaredFound::OfObject(addresses, code) => {
-            add_texts(alloc, claims, library, member, made, addresses)?;
-            add_texts(alloc, claims, library, member, made, code)
+            add_texts(alloc, claims, making, addresses)?;
+            add_texts(alloc, claims, making, code)
         }
     }
 }
@@ -153,7 +153,12 @@ fn add_import(
     ensures { OnOk result (map claim_view claims.new.items ≡ map claim_view claims.old.items ++ claims_of library member (AnImport (imported_view import.now))) }
 {
     let made = made_by_import(alloc, import)?;
-    add_declared(alloc, claims, library, member, &made, &import.declared)
+    let making = Making {
+        library,
+        member,
+        made: &made,
+    };
+    add_declared(alloc, claims, making, &import.declared)
 }
 
 // Adds the claim of an alias.
@@ -167,7 +172,12 @@ fn add_alias(
     ensures { OnOk result (map claim_view claims.new.items ≡ map claim_view claims.old.items ++ claims_of library member (AnAlias (alias_view alias.now))) }
 {
     let made = made_by_alias(alloc, alias)?;
-    add_claim(alloc, claims, library, member, &made, b"", alias.weak)
+    let making = Making {
+        library,
+        member,
+        made: &made,
+    };
+    add_claim(alloc, claims, making, b"", alias.weak)
 }
 
 // Adds the claims of a member.

@@ -4,4 +4,4 @@ use Rattle.implib_check.proofs.together.add_texts.Given as goal
 
 abbrev pub invariant-loop-text : goal.invariant-loop-text
 invariant-loop-text l =
-    map claim_view l.claims.items ≡ map claim_view l.fn.claims.items ++ map (claim_for l.library l.member l.made) (map (λ t. t.now) (take l.text-index l.texts))
+    map claim_view l.claims.items ≡ map claim_view l.fn.claims.items ++ map (claim_for l.making.library l.making.member l.making.made.now) (map (λ t. t.now) (take l.text-index l.texts))

@@ -1,0 +1,126 @@
+-- What is found, as JSON objects worked by hand.
+use Rattle.std.specs.Prelude.{◌≡◌, ℕ, List, [], ◌∷◌, None, Some, codes}
+use Rattle.implib.specs.Import.{Name, Ordinal}
+use Rattle.implib_read.specs.Classes.{MemberRead}
+use Rattle.implib_read.specs.declared.import.ImportKind.TheVariants.{Code}
+use Rattle.serde_json.specs.Data.{Data, Members, member, no_members, number, object, string, unsigned}
+use Rattle.implib_check.specs.Json.{Clash, Different, FaultOf, InDefinition, InLibrary, Listed, Missing, MisleadingEntry, NoIndex, NotOnePart}
+use Rattle.implib_check.specs.Json.{SeveralDlls, SideView, UnreadableIndex, object_of, text_of}
+use Rattle.implib_check.specs.Worked.{alias, feed, of_dll}
+use Rattle.implib_check.specs.declared.working.Piece.TheVariants.{OfHead}
+
+-- a field that is a word, and one that is a number
+abbrev pub word : List ℕ → List ℕ → Members → Members
+word key text fields = member key (string text) fields
+
+abbrev pub numeral : List ℕ → ℕ → Members → Members
+numeral key n fields = member key (number (unsigned n)) fields
+
+-- feed by its name, by the ordinal 7, and an alias
+abbrev pub by_name : MemberRead
+by_name = of_dll (codes "zoo.dll") feed (Name (codes "feed") 5) Code 0x8664
+
+abbrev pub by_ordinal : MemberRead
+by_ordinal = of_dll (codes "zoo.dll") feed (Ordinal 7) Code 0x14C
+
+abbrev pub in_library : MemberRead → SideView
+in_library m = record { site = InLibrary (codes "a.lib"); symbol = codes "feed"; member = m }
+
+-- in a definition, at the third column of the fourth line
+abbrev pub in_definition : MemberRead → SideView
+in_definition m = record {
+  site = InDefinition (codes "a.def") (Some (record { offset = 40; line = 4; column = 3 }));
+  symbol = codes "feed";
+  member = m;
+}
+
+-- the objects of feed by its ordinal
+abbrev pub ordinal_object : Data
+ordinal_object = object
+    (word (codes "dll") (codes "zoo.dll")
+    (word (codes "kind") (codes "code")
+    (word (codes "library") (codes "a.lib")
+    (numeral (codes "machine") 0x14C
+    (word (codes "member") (codes "m")
+    (numeral (codes "offset") 8
+    (numeral (codes "ordinal") 7
+    (word (codes "symbol") (codes "feed") no_members))))))))
+
+abbrev pub defined_object : Data
+defined_object = object
+    (numeral (codes "column") 3
+    (word (codes "dll") (codes "zoo.dll")
+    (word (codes "file") (codes "a.def")
+    (word (codes "kind") (codes "code")
+    (numeral (codes "line") 4
+    (numeral (codes "machine") 0x14C
+    (numeral (codes "ordinal") 7
+    (word (codes "symbol") (codes "feed") no_members))))))))
+
+-- The objects.
+pub record WorkedJson : Type 0 where
+  pub listed : object_of (Listed (in_library by_name)) ≡ object
+      (word (codes "dll") (codes "zoo.dll")
+      (numeral (codes "hint") 5
+      (word (codes "kind") (codes "code")
+      (word (codes "library") (codes "a.lib")
+      (numeral (codes "machine") 0x8664
+      (word (codes "member") (codes "m")
+      (word (codes "name") (codes "feed")
+      (numeral (codes "offset") 8
+      (word (codes "symbol") (codes "feed")
+      (word (codes "what") (codes "import") no_members))))))))))
+  pub listed_alias : object_of (Listed (in_library (alias (codes "feed") (codes "eat")))) ≡ object
+      (word (codes "kind") (codes "alias")
+      (word (codes "library") (codes "a.lib")
+      (word (codes "member") (codes "m")
+      (numeral (codes "offset") 8
+      (word (codes "symbol") (codes "feed")
+      (word (codes "target") (codes "eat")
+      (word (codes "what") (codes "alias") no_members)))))))
+  pub different : object_of (Different (in_library by_ordinal) (in_definition by_ordinal)) ≡ object
+      (member (codes "here") ordinal_object
+      (word (codes "symbol") (codes "feed")
+      (member (codes "there") defined_object
+      (word (codes "what") (codes "difference") no_members))))
+  -- a symbol that the definition does not have
+  pub missing : object_of (Missing (in_library by_ordinal) (InDefinition (codes "a.def") None)) ≡ object
+      (member (codes "here") ordinal_object
+      (word (codes "symbol") (codes "feed")
+      (member (codes "there") (object (word (codes "file") (codes "a.def") no_members))
+      (word (codes "what") (codes "difference") no_members))))
+  pub clash : object_of (Clash (codes "__imp_feed") (in_library by_ordinal) (in_library by_ordinal)) ≡ object
+      (member (codes "here") ordinal_object
+      (word (codes "symbol") (codes "__imp_feed")
+      (member (codes "there") ordinal_object
+      (word (codes "what") (codes "clash") no_members))))
+  pub no_index : object_of (FaultOf (codes "a.lib") NoIndex) ≡ object
+      (word (codes "library") (codes "a.lib")
+      (word (codes "what") (codes "broken")
+      (word (codes "why") (codes "no index") no_members)))
+  pub unreadable : object_of (FaultOf (codes "a.lib") (UnreadableIndex 2)) ≡ object
+      (numeral (codes "index") 2
+      (word (codes "library") (codes "a.lib")
+      (word (codes "what") (codes "broken")
+      (word (codes "why") (codes "unreadable index") no_members))))
+  pub misleading : object_of (FaultOf (codes "a.lib") (MisleadingEntry 1 (record { symbol = codes "feed"; place = 128 }))) ≡ object
+      (numeral (codes "index") 1
+      (word (codes "library") (codes "a.lib")
+      (numeral (codes "offset") 128
+      (word (codes "symbol") (codes "feed")
+      (word (codes "what") (codes "broken")
+      (word (codes "why") (codes "entry misleads") no_members))))))
+  pub no_head : object_of (FaultOf (codes "a.lib") (NotOnePart OfHead)) ≡ object
+      (word (codes "library") (codes "a.lib")
+      (word (codes "part") (codes "head")
+      (word (codes "what") (codes "broken")
+      (word (codes "why") (codes "not one part") no_members))))
+  pub several : object_of (FaultOf (codes "a.lib") SeveralDlls) ≡ object
+      (word (codes "library") (codes "a.lib")
+      (word (codes "what") (codes "not decided")
+      (word (codes "why") (codes "several DLLs") no_members)))
+  -- names: UTF-8 stays, and each other byte becomes U+FFFD, those of a character that is cut off too
+  pub utf8 : text_of (0x66 ∷ 0xC3 ∷ 0xBC ∷ []) ≡ 0x66 ∷ 0xC3 ∷ 0xBC ∷ []
+  pub latin : text_of (0x66 ∷ 0xFC ∷ 0x72 ∷ []) ≡ 0x66 ∷ 0xEF ∷ 0xBF ∷ 0xBD ∷ 0x72 ∷ []
+  pub cut_off : text_of (0xE2 ∷ 0x82 ∷ 0x72 ∷ []) ≡ 0xEF ∷ 0xBF ∷ 0xBD ∷ 0xEF ∷ 0xBF ∷ 0xBD ∷ 0x72 ∷ []
+  pub empty : text_of [] ≡ []

@@ -1,0 +1,158 @@
+//! What is found in libraries, and the line of text that says it.
+
+ghost use Rattle.std.specs.Prelude.{◌≡◌};
+ghost use Rattle.implib_check.specs.Json.{piece_words};
+
+use crate::positions::Positions;
+use crate::text::{Listed, Place, Said, Shown, Site, symbol_of_member};
+use crate::working::Piece;
+use implib_read::{IndexEntry, MemberRead};
+use std::fmt;
+
+/// What members are from.
+#[derive(Clone, Copy)]
+pub enum Source<'p> {
+    /// The file of a library.
+    Library(&'p str),
+    /// The file of a definition, and where its exports are.
+    Definition(&'p str, &'p Positions),
+}
+
+impl<'p> Source<'p> {
+    /// The file.
+    pub fn file(self) -> Site<'p> {
+        match self {
+            Source::Library(path) => Site::Library(path),
+            Source::Definition(path, _) => Site::Definition(path, None),
+        }
+    }
+
+    /// An import or an alias that is from here.
+    pub fn side<'m, 'a>(self, member: &'m MemberRead<'a>) -> Side<'p, 'm, 'a> {
+        let symbol = symbol_of_member(member);
+        let site = match self {
+            Source::Library(path) => Site::Library(path),
+            Source::Definition(path, positions) => Site::Definition(path, positions.at(symbol)),
+        };
+        Side {
+            site,
+            symbol,
+            member,
+        }
+    }
+}
+
+/// An import or an alias, and where it is.
+#[derive(Clone, Copy)]
+pub struct Side<'p, 'm, 'a> {
+    pub site: Site<'p>,
+    pub symbol: &'a [u8],
+    pub member: &'m MemberRead<'a>,
+}
+
+/// Why a library does not work, or why that is not decided. An index is named by its number, 1 or 2.
+#[derive(Clone, Copy)]
+pub enum Fault<'e, 'a> {
+    NoIndex,
+    /// The counts of an index lead out of it.
+    UnreadableIndex(u8),
+    /// An entry of an index does not lead to the first member that declares its symbol.
+    MisleadingEntry(u8, &'e IndexEntry<'a>),
+    /// A part of import tables is not there, or twice.
+    NotOnePart(Piece),
+    /// The imports are of two or more DLLs.
+    SeveralDlls,
+}
+
+/// What is found.
+#[derive(Clone, Copy)]
+pub enum Finding<'p, 'q, 'm, 'a> {
+    /// An import or an alias of a library.
+    Listed(Side<'p, 'm, 'a>),
+    /// What two libraries have of one symbol, which differs.
+    Different(Side<'p, 'm, 'a>, Side<'q, 'm, 'a>),
+    /// What one library has of a symbol, and the other does not have.
+    Missing(Side<'p, 'm, 'a>, Site<'q>),
+    /// A symbol, what the first library in a link has of it, and what a later one has, which clashes.
+    Clash(&'q [u8], Side<'p, 'm, 'a>, Side<'p, 'm, 'a>),
+    /// The file of a library, and why that does not work.
+    Fault(&'p str, Fault<'m, 'a>),
+}
+
+/// The words for a part of import tables.
+pub fn piece_words(piece: Piece) -> &'static str
+    ensures { result.now ≡ piece_words piece }
+{
+    match piece {
+        Piece::OfDescriptor => "import descriptor",
+        Piece::OfNullDescriptor => "null descriptor",
+        Piece::OfNullThunk => "null thunk",
+        Piece::OfHead => "head",
+        Piece::OfTail => "tail",
+    }
+}
+
+// The words for an index.
+fn index_words(number: u8) -> &'static str {
+    if number == 1 {
+        "the index"
+    } else {
+        "the second index"
+    }
+}
+
+impl<'p, 'm, 'a> fmt::Display for Side<'p, 'm, 'a> {
+    fn fmt<W: fmt::Write>(&self, f: &mut fmt::Formatter<W>) -> fmt::Result {
+        write!(f, "{}", Place(self.site, self.member))
+    }
+}
+
+impl<'e, 'a> fmt::Display for Fault<'e, 'a> {
+    fn fmt<W: fmt::Write>(&self, f: &mut fmt::Formatter<W>) -> fmt::Result {
+        match self {
+            Fault::NoIndex => f.write_str("no index"),
+            Fault::UnreadableIndex(number) => {
+                write!(f, "{} cannot be read", index_words(*number))
+            }
+            Fault::MisleadingEntry(number, entry) => {
+                let index = index_words(*number);
+                let symbol = Shown(entry.symbol);
+                let place = entry.place;
+                write!(
+                    f,
+                    "{index} leads {symbol} to 0x{place:x}, not to the first member that declares it"
+                )
+            }
+            Fault::NotOnePart(piece) => write!(f, "no {}, or two or more", piece_words(*piece)),
+            Fault::SeveralDlls => {
+                f.write_str("imports from two or more DLLs, whose tables are not told apart")
+            }
+        }
+    }
+}
+
+impl<'p, 'q, 'm, 'a> fmt::Display for Finding<'p, 'q, 'm, 'a> {
+    fn fmt<W: fmt::Write>(&self, f: &mut fmt::Formatter<W>) -> fmt::Result {
+        match self {
+            Finding::Listed(side) => write!(f, "{}", Listed(side.member)),
+            Finding::Different(here, there) => {
+                let symbol = Shown(here.symbol);
+                let said = Said(here.member);
+                let other = Said(there.member);
+                write!(f, "{here}: {symbol}: {said}; {there}: {other}")
+            }
+            Finding::Missing(here, there) => {
+                let symbol = Shown(here.symbol);
+                let said = Said(here.member);
+                write!(f, "{here}: {symbol}: {said}; not so in {}", there.path())
+            }
+            Finding::Clash(symbol, first, later) => {
+                let symbol = Shown(symbol);
+                let said = Said(first.member);
+                let other = Said(later.member);
+                write!(f, "{symbol}: {first}: {said}; {later}: {other}")
+            }
+            Finding::Fault(path, fault) => write!(f, "{path}: {fault}"),
+        }
+    }
+}

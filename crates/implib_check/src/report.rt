@@ -1,0 +1,85 @@
+//! What is written of what is found: each finding on a line, as text or as JSON.
+
+use crate::finding::Finding;
+use crate::json::object_of;
+use std::alloc::{AllocError, Global};
+use std::fmt::Write as _;
+use std::io::{BufWriter, ErrorKind, Write};
+use std::{fmt, io};
+
+/// How many bytes are written at once.
+pub const BUFFER: usize = 1 << 16;
+
+/// A writer that text is written to.
+#[derive(Drop)]
+pub struct Lines<'a, E> {
+    pub writer: &'a mut E,
+}
+
+impl<'a, E: Write> fmt::Write for Lines<'a, E> {
+    fn write_str(&mut self, text: &str) -> fmt::Result {
+        self.writer
+            .write_all(text.as_bytes())
+            .map_err(|_| fmt::Error)
+    }
+}
+
+/// Why lines are not written.
+#[derive(Drop)]
+pub enum Failure {
+    /// A write failed.
+    Writing,
+    /// An allocation failed.
+    OutOfMemory,
+}
+
+impl From<AllocError> for Failure {
+    fn from(_refused: AllocError) -> Failure {
+        Failure::OutOfMemory
+    }
+}
+
+impl From<fmt::Error> for Failure {
+    fn from(_refused: fmt::Error) -> Failure {
+        Failure::Writing
+    }
+}
+
+impl From<io::Error> for Failure {
+    fn from(error: io::Error) -> Failure {
+        match error.kind() {
+            ErrorKind::OutOfMemory => Failure::OutOfMemory,
+            _ => Failure::Writing,
+        }
+    }
+}
+
+/// Writes the rest of a buffer.
+pub fn flushed<O: Write>(
+    printer: &mut BufWriter<&mut O>,
+    written: Result<(), Failure>,
+) -> Result<(), Failure> {
+    written?;
+    printer.flush()?;
+    Ok(())
+}
+
+/// In which form findings are written.
+#[derive(Clone, Copy)]
+pub struct Form {
+    pub alloc: Global,
+    /// Whether as JSON objects, else as text.
+    pub is_json: bool,
+}
+
+/// Writes a finding on a line of its own.
+pub fn tell<O: Write>(form: Form, printer: &mut O, finding: &Finding) -> Result<(), Failure> {
+    let mut lines = Lines { writer: printer };
+    if form.is_json {
+        let text = object_of(form.alloc, finding)?.to_string(form.alloc)?;
+        writeln!(lines, "{text}")?;
+    } else {
+        writeln!(lines, "{finding}")?;
+    }
+    Ok(())
+}
