@@ -1,5 +1,5 @@
 -- Lemmas on what is done with the bytes of a definition: how many members the warnings are of, and why there is no library.
-use Rattle.std.proofs.Common.{◌≡◌, ℕ, Bool, true, false, List, inl, inr, length, refl}
+use Rattle.std.proofs.Common.{◌≡◌, ℕ, false, List, inl, inr, length, refl}
 use Rattle.implib.specs.declared.flavor.Flavor.{Flavor}
 use Rattle.implib.specs.declared.flavor.Flavor.TheVariants.{Gnu, Msvc}
 use Rattle.implib.specs.Members.MemberSpec.{MemberView}
