@@ -41,6 +41,5 @@ pub worked_imports : WorkedImports
 worked_imports = record {
   rows = rows;
   kinds = record { code = refl; data_kind = refl; constant = refl; code_or_constant = refl };
-  symbols = record { code = refl; address = refl; other_name = refl; none = refl };
   bytes = bytes;
 }

@@ -6,6 +6,7 @@ use Rattle.implib.specs.Import.{Ask, Name, Ordinal}
 use Rattle.implib_read.specs.Classes.{AnAlias, AnImport, Class, DelayImport, Descriptor, Head, Imported, MemberRead, NotUnderstood, NullDescriptor, NullThunk, Other, Tail, library_in}
 use Rattle.implib_read.specs.declared.import.ImportKind.{ImportKind}
 use Rattle.implib_read.specs.declared.import.ImportKind.TheVariants.{Code, CodeOrConst, Const, Data}
+use Rattle.implib_read.specs.Symbols.{linked_symbol}
 use Rattle.implib_c.specs.Encoding.{encoded_list, encoded_number, encoded_text, list_in, number_in, text_in}
 
 -- A member of a library: what it is for, the offset of its header in the library, and what it imports. The rest is 0
@@ -26,15 +27,6 @@ kind_number Code = 1
 kind_number Data = 2
 kind_number Const = 3
 kind_number CodeOrConst = 4
-
--- a symbol without `__imp_`
-abbrev pub without_imp : List ℕ → List ℕ
-without_imp symbol = if bytes_eq (take 6 symbol) (codes "__imp_") then drop 6 symbol else symbol
-
--- the symbol by which an import is linked: the first that it declares, which is that of its address, without `__imp_`
-abbrev pub linked_symbol : List (List ℕ) → List ℕ
-linked_symbol [] = []
-linked_symbol (first ∷ more) = without_imp first
 
 -- 1 where a name is asked for, and 0 where an ordinal is
 abbrev pub by_name_of : Ask → ℕ

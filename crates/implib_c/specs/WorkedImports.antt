@@ -4,7 +4,7 @@ use Rattle.implib.specs.Worked.Digits.{hex}
 use Rattle.implib_read.specs.Classes.{AnAlias, DelayImport, NotUnderstood, Other}
 use Rattle.implib_read.specs.WorkedLibraries.{member, worked_ld, worked_llvm}
 use Rattle.implib_read.specs.declared.import.ImportKind.TheVariants.{Code, CodeOrConst, Const, Data}
-use Rattle.implib_c.specs.Imports.{Row, alias_row, encoded_row, encoded_rows, kind_number, linked_symbol, other_row, row_of, rows_in, rows_of}
+use Rattle.implib_c.specs.Imports.{Row, alias_row, encoded_row, encoded_rows, kind_number, other_row, row_of, rows_in, rows_of}
 
 -- a row of an import of foo.dll for AMD64
 abbrev pub row_of_foo : ℕ → ℕ → List ℕ → ℕ → List ℕ → ℕ → Row
@@ -86,13 +86,6 @@ pub record WorkedKinds : Type 0 where
   pub constant : kind_number Const ≡ 3
   pub code_or_constant : kind_number CodeOrConst ≡ 4
 
--- symbols by what is declared
-pub record WorkedSymbols : Type 0 where
-  pub code : linked_symbol (codes "__imp_bar" ∷ codes "bar" ∷ []) ≡ codes "bar"
-  pub address : linked_symbol (codes "__imp__baz@4" ∷ []) ≡ codes "_baz@4"
-  pub other_name : linked_symbol (codes "__bar" ∷ []) ≡ codes "__bar"
-  pub none : linked_symbol [] ≡ []
-
 -- the encodings, and what is read of bytes that are none
 pub record WorkedRowBytes : Type 0 where
   pub none : encoded_rows [] ≡ hex "00 00 00 00 00 00 00 00"
@@ -109,5 +102,4 @@ pub record WorkedRowBytes : Type 0 where
 pub record WorkedImports : Type 0 where
   pub rows : WorkedRows
   pub kinds : WorkedKinds
-  pub symbols : WorkedSymbols
   pub bytes : WorkedRowBytes

@@ -3,19 +3,18 @@
 ghost use Rattle.implib_archive.specs.Pushed.{Pushes};
 ghost use Rattle.implib_c.specs.Encoding.{encoded_list};
 ghost use Rattle.implib_c.specs.Given.{length_given, status_given};
-ghost use Rattle.implib_c.specs.Imports.{Fits, alias_row, encoded_row, import_row, kind_number, linked_symbol, other_row, without_imp};
+ghost use Rattle.implib_c.specs.Imports.{Fits, alias_row, encoded_row, import_row, kind_number, other_row};
 ghost use Rattle.implib_c.specs.ImportsAnswer.{ImportsAnswers};
 ghost use Rattle.implib_c.specs.ImportsGiven.{EncodesImports, EncodesRows, LacksImports, row_of_found, row_view};
 ghost use Rattle.implib_c.specs.Status.{status_number};
 ghost use Rattle.implib_read.specs.AliasViews.{alias_view};
 ghost use Rattle.implib_read.specs.ClassViews.{imported_view};
-ghost use Rattle.implib_read.specs.ImportViews.{declared_view};
 ghost use Rattle.std.specs.Prelude.{◌≡◌, All, IfErr, IfOk, OnOk, map};
 
 use crate::definition::{push_number, push_text};
 use crate::outcome::{Failure, put_encoding};
 use implib_read::{
-    AliasFound, AskFound, DeclaredFound, ImportFound, ImportKind, Library, MemberClass, MemberRead,
+    AliasFound, AskFound, ImportFound, ImportKind, Library, MemberClass, MemberRead, linked_symbol,
 };
 use std::alloc::{AllocError, Global};
 
@@ -41,32 +40,6 @@ fn kind_number(kind: ImportKind) -> u64
         ImportKind::Data => 2,
         ImportKind::Const => 3,
         ImportKind::CodeOrConst => 4,
-    }
-}
-
-// A symbol without `__imp_`.
-fn without_imp(symbol: &[u8]) -> &[u8]
-    ensures { result.now ≡ without_imp symbol.now }
-{
-    match symbol.strip_prefix(b"__imp_".as_slice()) {
-        Some(rest) => rest,
-        None => symbol,
-    }
-}
-
-// The symbol by which an import is linked.
-fn linked_symbol<'a>(declared: &DeclaredFound<'a>) -> &'a [u8]
-    ensures { result.now ≡ linked_symbol (declared_view declared.now) }
-{
-    match declared {
-        DeclaredFound::OfName(name, _) => name,
-        DeclaredFound::OfObject(addresses, code) => match addresses.first() {
-            Some(address) => without_imp(address),
-            None => match code.first() {
-                Some(symbol) => without_imp(symbol),
-                None => b"",
-            },
-        },
     }
 }
 

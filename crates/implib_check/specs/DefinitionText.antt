@@ -16,6 +16,7 @@ use Rattle.implib_rules.specs.Linked.{NamingView, keeps_word}
 use Rattle.implib_rules.specs.Options.{LibraryOptionsView}
 use Rattle.implib_check.specs.Facts.{tells_constants}
 use Rattle.implib_read.specs.Identity.{dll_of}
+use Rattle.implib_read.specs.Symbols.{linked_symbol, without_imp}
 
 -- Words.
 
@@ -44,18 +45,9 @@ is_plain_name name = list_all is_name_byte name && (list_any is_small_letter nam
 abbrev pub name_text : List ℕ → List ℕ
 name_text name = if is_plain_name name then name else 34 ∷ (name ++ 34 ∷ [])
 
--- a symbol without `__imp_`
-abbrev pub without_imp : List ℕ → List ℕ
-without_imp symbol = if bytes_eq (take 6 symbol) (codes "__imp_") then drop 6 symbol else symbol
-
 -- whether a symbol is that of an address
 abbrev pub is_address : List ℕ → Bool
 is_address symbol = bytes_eq (take 6 symbol) (codes "__imp_")
-
--- the symbol by which an import is linked: that of its address without `__imp_`
-abbrev pub linked_symbol : List (List ℕ) → List ℕ
-linked_symbol [] = []
-linked_symbol (first ∷ more) = without_imp first
 
 -- a symbol of I386 without the underscore of C's names, unless it is a word as it is
 abbrev pub without_underscore : List ℕ → List ℕ

@@ -4,18 +4,20 @@ ghost use Rattle.std.specs.Prelude.{◌≡◌, ◌++◌, [], decimal, map, IfOk,
 ghost use Rattle.std.specs.List.{list_all, list_any};
 ghost use Rattle.implib_check.specs.DefinitionText.{alias_text, asked_text, definition_text, export_text, first_dll, flavor_text, head_text};
 ghost use Rattle.implib_check.specs.DefinitionText.{hint_text, import_text, is_address, is_capital_or_digit, is_name_byte, is_name_sign, is_plain_name};
-ghost use Rattle.implib_check.specs.DefinitionText.{is_small_letter, kind_text, linked_symbol, machine_text, member_text, members_text, name_text};
-ghost use Rattle.implib_check.specs.DefinitionText.{naming_text, untold_text, weak_of, weak_text, without_imp, without_underscore, word_of_symbol};
+ghost use Rattle.implib_check.specs.DefinitionText.{is_small_letter, kind_text, machine_text, member_text, members_text, name_text};
+ghost use Rattle.implib_check.specs.DefinitionText.{naming_text, untold_text, weak_of, weak_text, without_underscore, word_of_symbol};
 ghost use Rattle.implib_read.specs.AliasViews.{alias_view};
 ghost use Rattle.implib_read.specs.ClassViews.{class_view, imported_view, member_read_view};
-ghost use Rattle.implib_read.specs.ImportViews.{ask_view, declared_view};
+ghost use Rattle.implib_read.specs.ImportViews.{ask_view};
+ghost use Rattle.implib_read.specs.Symbols.{linked_symbol, without_imp};
 ghost use Rattle.implib_rules.specs.Linked.{naming_view};
 ghost use Rattle.implib_rules.specs.Options.{library_options_view};
 
 use crate::keys::tells_constants;
 use implib::{Flavor, MachineType};
 use implib_read::{
-    AliasFound, AskFound, DeclaredFound, ImportFound, ImportKind, MemberClass, MemberRead, dll_of,
+    AliasFound, AskFound, ImportFound, ImportKind, MemberClass, MemberRead, dll_of, linked_symbol,
+    without_imp,
 };
 use implib_rules::linked::{Naming, keeps_word};
 use implib_rules::options::LibraryOptions;
@@ -89,32 +91,6 @@ fn is_address(symbol: &[u8]) -> bool
     ensures { result ≡ is_address symbol.now }
 {
     symbol.starts_with(b"__imp_")
-}
-
-// A symbol without `__imp_`.
-fn without_imp(symbol: &[u8]) -> &[u8]
-    ensures { result.now ≡ without_imp symbol.now }
-{
-    match symbol.strip_prefix(b"__imp_".as_slice()) {
-        Some(rest) => rest,
-        None => symbol,
-    }
-}
-
-// The symbol by which an import is linked.
-fn linked_symbol<'a>(declared: &DeclaredFound<'a>) -> &'a [u8]
-    ensures { result.now ≡ linked_symbol (declared_view declared.now) }
-{
-    match declared {
-        DeclaredFound::OfName(name, _) => name,
-        DeclaredFound::OfObject(addresses, code) => match addresses.first() {
-            Some(address) => without_imp(address),
-            None => match code.first() {
-                Some(symbol) => without_imp(symbol),
-                None => b"",
-            },
-        },
-    }
 }
 
 // A symbol without the underscore of C's names.

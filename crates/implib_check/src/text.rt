@@ -5,7 +5,7 @@ ghost use Rattle.implib_check.specs.Json.{kind_word};
 
 use crate::compare::{is_other, is_unread};
 use implib::def::Position;
-use implib_read::{AskFound, DeclaredFound, ImportFound, ImportKind, MemberClass, MemberRead};
+use implib_read::{AskFound, ImportFound, ImportKind, MemberClass, MemberRead, linked_symbol};
 use std::fmt;
 use std::fmt::Write as _;
 
@@ -48,31 +48,10 @@ pub fn kind_word(kind: ImportKind) -> &'static str
     }
 }
 
-// The symbol of an address without its prefix.
-fn without_imp<'a>(symbol: &'a [u8]) -> &'a [u8] {
-    symbol.strip_prefix(b"__imp_".as_slice()).unwrap_or(symbol)
-}
-
-/// The symbol of an import: that of its code, or else that of its address without `__imp_`.
-pub fn symbol_of<'a>(import: &ImportFound<'a>) -> &'a [u8] {
-    match &import.declared {
-        DeclaredFound::OfName(name, _) => name,
-        DeclaredFound::OfObject(addresses, code) => {
-            if let Some(symbol) = code.first() {
-                return symbol;
-            }
-            match addresses.first() {
-                Some(address) => without_imp(address),
-                None => b"",
-            }
-        }
-    }
-}
-
 /// The symbol of a member that is an import or an alias.
 pub fn symbol_of_member<'a>(member: &MemberRead<'a>) -> &'a [u8] {
     match &member.class {
-        MemberClass::Import(import) => symbol_of(import),
+        MemberClass::Import(import) => linked_symbol(&import.declared),
         MemberClass::Alias(alias) => alias.weak,
         _ => b"",
     }
@@ -86,7 +65,7 @@ impl<'m, 'a> fmt::Display for Row<'m, 'a> {
     fn fmt<W: fmt::Write>(&self, f: &mut fmt::Formatter<W>) -> fmt::Result {
         let import = self.0;
         let dll = Shown(import.dll);
-        let symbol = Shown(symbol_of(import));
+        let symbol = Shown(linked_symbol(&import.declared));
         let kind = kind_word(import.kind);
         write!(f, "{dll}\t{symbol}\t{kind}\t")?;
         match import.ask {
@@ -224,8 +203,8 @@ fn fault_of_name(name: &[u8]) -> Option<&'static str> {
 pub fn fault_of(class: &MemberClass) -> Option<&'static str> {
     let (first, second) = match class {
         MemberClass::Import(import) => match import.ask {
-            AskFound::Name(name, _) => (symbol_of(import), name),
-            AskFound::Ordinal(_) => (symbol_of(import), import.dll),
+            AskFound::Name(name, _) => (linked_symbol(&import.declared), name),
+            AskFound::Ordinal(_) => (linked_symbol(&import.declared), import.dll),
         },
         MemberClass::Alias(alias) => (alias.weak, alias.target),
         _ => return None,

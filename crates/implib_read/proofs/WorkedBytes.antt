@@ -11,6 +11,7 @@ use Rattle.implib_read.specs.Indexes.{entries_from, first_index_in, second_index
 use Rattle.implib_read.specs.MemberNames.{long_name_of, member_name, without_slash}
 use Rattle.implib_read.specs.Objects.{entries_found, entry_at, object_found, object_of_found, records_in}
 use Rattle.implib_read.specs.ShortImports.{short_import_found}
+use Rattle.implib_read.specs.Symbols.{WorkedSymbols}
 use Rattle.implib_read.specs.WorkedFiles.{WorkedChanges, WorkedIndexes, WorkedLeads, WorkedNames, WorkedParts, WorkedShortImports, worked_by_name, worked_exported, worked_first_index, worked_indexed, worked_no_slash, worked_second_index, worked_unpadded}
 use Rattle.implib_read.specs.WorkedLibraries.{WorkedLibraries, worked_dlltool, worked_ld, worked_llvm}
 
@@ -81,3 +82,14 @@ worked_indexes = record {
 pub worked_leads : WorkedLeads
 unfolding archive_data_at archive_in before_nul bytes_at bytes_of_digits data_at each_at entries_at entries_found entries_from first_index_in member_name name_of number_in object_found object_of_found parts_from parts_in relocation_at relocation_of section_at section_of short_import_found stored_at strings_at symbol_of trimmed u16_at u32_at up_to_nul without_slash worked_indexed
 worked_leads = record { right = refl; misled = refl }
+
+pub worked_symbols : WorkedSymbols
+worked_symbols = record {
+  code = refl;
+  address = refl;
+  other_name = refl;
+  first_of_several = refl;
+  prefix_alone = refl;
+  prefix_once = refl;
+  none = refl;
+}

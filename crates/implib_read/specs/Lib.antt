@@ -20,6 +20,7 @@ pub mod NameViews
 pub mod Objects
 pub mod ObjectViews
 pub mod ShortImports
+pub mod Symbols
 pub mod WorkedFiles
 pub mod WorkedLibraries
 pub mod OwnLibraries

@@ -4,6 +4,7 @@ ghost use Rattle.implib_read.specs.Archives.{SameParts};
 ghost use Rattle.implib_read.specs.Objects.{SameObjects};
 ghost use Rattle.implib_read.specs.OwnLibraries.{OwnGnuLibraries, OwnMembersFound, OwnMsvcLibraries};
 ghost use Rattle.implib_read.specs.ShortImports.{SameShortImports};
+ghost use Rattle.implib_read.specs.Symbols.{WorkedSymbols};
 ghost use Rattle.implib_read.specs.WorkedFiles.{WorkedChanges, WorkedIndexes, WorkedLeads, WorkedNames, WorkedParts, WorkedShortImports};
 ghost use Rattle.implib_read.specs.WorkedLibraries.{WorkedLibraries};
 ghost use Rattle.implib_read.specs.WorkedOwn.{WorkedOwnGnuLibraries, WorkedOwnLibraries};
@@ -42,6 +43,11 @@ pub fn worked_parts()
 /// What name fields and long names say.
 pub fn worked_names()
     ensures { WorkedNames }
+{}
+
+/// By which symbol an import is linked, by what it declares.
+pub fn worked_symbols()
+    ensures { WorkedSymbols }
 {}
 
 /// What an object means with changed bytes.

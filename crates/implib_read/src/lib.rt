@@ -34,6 +34,7 @@ mod names;
 mod object;
 mod short_import;
 mod short_meaning;
+mod symbol;
 
 pub use alias::AliasFound;
 pub use archive::{Archive, Part, StoredMember};
@@ -47,3 +48,4 @@ pub use library::Library;
 pub use names::MemberName;
 pub use object::{Entry, Object, Section, Symbol};
 pub use short_import::ShortImport;
+pub use symbol::{linked_symbol, without_imp};
