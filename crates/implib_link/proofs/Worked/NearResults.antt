@@ -9,8 +9,11 @@ use Rattle.std.proofs.lemmas.List.Elements.{filter_map-append}
 use Rattle.implib_link.specs.Search.MsvcArchives.{first_null}
 use Rattle.implib_link.specs.Flavors.Program.{objects_taken}
 use Rattle.implib_link.proofs.Worked.RefusedFields.{absent}
-use Rattle.implib_link.proofs.Worked.NearLinks.{kind_of}
-use Rattle.std.proofs.Common.{◌≡◌, ℕ, ◌+◌, ◌*◌, ◌<◌, List, [], ◌∷◌, ◌++◌, codes, length, Some, None, refl, ap, sym, ◌∙◌, subst, arith}
+use Rattle.implib_link.proofs.Worked.NearLinks.{five_there, kind_of, lookups_there}
+use Rattle.implib_link.specs.Flavors.Program.{SymbolsAt}
+use Rattle.implib_link.specs.Gnu.Writing.{FillsTable}
+use Rattle.implib_link.specs.Worked.NearLinks.{table_elsewhere}
+use Rattle.std.proofs.Common.{◌≡◌, ℕ, ◌+◌, ◌*◌, ◌<◌, List, [], ◌∷◌, ◌++◌, codes, length, Some, None, refl, ap, sym, ◌∙◌, subst, arith, inl}
 use Rattle.std.proofs.lemmas.Bool.{true≢false}
 use Rattle.std.proofs.lemmas.List.{length-append}
 use Rattle.implib.specs.declared.machine.MachineType.TheVariants.{AMD64}
@@ -55,9 +58,14 @@ no_definition d is = cc
 no_length : (n : ℕ) → 0 ≡ n → 0 < n → ⊥
 no_length n none some = omega arith
 
+nowhere : (address : ℕ) → None ≡ Some address → ⊥
+nowhere address is = cc
+
 pub near_links_among : NearLinksAmong
 unfolding searched
 near_links_among = record {
+  linked = λ x. none_in _ x.linked.0.from_members.0;
+  targets = λ x. nowhere x.targets.0.0.0.0 x.targets.0.0.0.1;
   listed = λ x. no_definition x.listed.0.0 x.listed.0.1;
   claimed = λ x. no_length _ (ap length x.claimed) (omega arith);
   defined = λ x. no_definition _ x.defined.0.1;
@@ -66,6 +74,7 @@ near_links_among = record {
 pub near_flavors_link : NearFlavorsLink
 unfolding searched
 near_flavors_link = record {
+  targets = λ x. nowhere x.targets.0.0.0.0 x.targets.0.0.0.1;
   null = λ x. no_definition _ x.null;
   ended = λ x. differ 48 52 (sym x.ended) (omega arith);
   listed = λ x. no_definition x.listed.0.0 x.listed.0.1;
@@ -75,7 +84,10 @@ near_flavors_link = record {
 
 pub near_links_beside : NearLinksBeside
 unfolding searched
-near_links_beside = record { listed = λ x. no_definition x.listed.0.0 x.listed.0.1 }
+near_links_beside = record {
+  linked = λ x. none_in _ x.linked.0.0.from_members.0;
+  listed = λ x. no_definition x.listed.0.0 x.listed.0.1;
+}
 
 foo_table : NumberAt (program_image AMD64 touching_8) 4 20 120
 unfolding searched
@@ -95,15 +107,17 @@ unfolding searched
 foo_top = refl
 
 pub near_input_imports : NearInputImports
-unfolding searched
+unfolding searched SymbolsAt
 near_input_imports = record {
   top = λ x. differ 8 28 (same_address (codes "__IMPORT_DESCRIPTOR_foo") 8 28 (definitions_of (codes "__IMPORT_DESCRIPTOR_foo") (flavor_placed AMD64 0 flavor_bases_8)) foo_top x.top) (omega arith);
+  entries_and_gets = λ x. no_definition _ x.entries.0;
   table_located = λ x. differ 128 136 (sym (number_once (flavor_image AMD64 0 flavor_bases_8) 4 24 x.loads.plain.addresses 128 x.loads.plain.addresses_field flavor_table) ∙ x.table_located) (omega arith);
 }
 
 pub near_fills_by : NearFillsBy
-unfolding u32_bytes
+unfolding u32_bytes FillsTable
 near_fills_by = record {
+  lookups_field_and_fills = λ gives after x. five_there x.lookups (inl (number_once table_elsewhere 4 0x1000 x.lookups 0x1028 x.lookups_field lookups_there)) x.fills.0;
   has_name = λ gives after x. no_name x.name x.has_name (number_once without_name 4 0x100C x.name 0 x.name_field (zero_4 without_name 0x100C refl));
   has_addresses = λ gives after x. no_name x.addresses x.has_addresses (number_once without_addresses 4 0x1010 x.addresses 0 x.addresses_field (zero_4 without_addresses 0x1010 refl));
 }
