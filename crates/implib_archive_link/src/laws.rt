@@ -12,6 +12,8 @@ ghost use Rattle.implib.specs.declared.machine.MachineType.{MachineType};
 ghost use Rattle.implib_archive.specs.declared.kind.Kind.{Kind};
 ghost use Rattle.implib_archive_link.specs.InBytes.{LinkerMember, asks_for, asks_on, asks_with};
 ghost use Rattle.implib_archive_link.specs.LldWay.{AreCalledAlike, LldArrives, asks_of_lld};
+ghost use Rattle.implib_archive_link.specs.NearMisses.{NearAreSearched, NearIsBuiltByLld};
+ghost use Rattle.implib_archive_link.specs.NearMisses.{NearIsWantedBy, NearLeadsToFirst, NearLldArrives};
 ghost use Rattle.implib_archive_link.specs.NearMisses.{NearHaveArchive, NearIsHeaderOf};
 ghost use Rattle.implib_archive_link.specs.NearMisses.{NearPullsInAt, WorkedIndexes, WorkedReads};
 ghost use Rattle.implib_archive_link.specs.Results.{AreFoundInBytes, AreSearched, HaveArchive};
@@ -194,4 +196,14 @@ pub fn near_misses_in_bytes()
     ensures archives { NearHaveArchive }
     ensures indexes { WorkedIndexes }
     ensures reads { WorkedReads }
+    ensures leads { NearLeadsToFirst }
+    ensures searched { NearAreSearched }
+{}
+
+/// Near misses of the way for lld: exports that are not wanted, images that lld did not write, and
+/// an export that was not taken.
+pub fn near_misses_of_lld()
+    ensures wanted { NearIsWantedBy }
+    ensures built { NearIsBuiltByLld }
+    ensures arrives { NearLldArrives }
 {}
