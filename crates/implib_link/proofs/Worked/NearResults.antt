@@ -11,6 +11,7 @@ use Rattle.implib_link.specs.Flavors.Program.{objects_taken}
 use Rattle.implib_link.proofs.Worked.RefusedFields.{absent}
 use Rattle.implib_link.proofs.Worked.NearLinks.{five_there, kind_of, lookups_there}
 use Rattle.implib_link.specs.Flavors.Program.{SymbolsAt}
+use Rattle.implib_link.specs.Gnu.OtherLibraries.{ends_behind, members_from, rows_before}
 use Rattle.implib_link.specs.Gnu.Writing.{FillsTable}
 use Rattle.implib_link.specs.Worked.NearLinks.{table_elsewhere}
 use Rattle.std.proofs.Common.{◌≡◌, ℕ, ◌+◌, ◌*◌, ◌<◌, List, [], ◌∷◌, ◌++◌, codes, length, Some, None, refl, ap, sym, ◌∙◌, subst, arith, inl}
@@ -37,7 +38,7 @@ use Rattle.implib_link.specs.Stub.{adrp_immediate, ldr_immediate, page, plus_sig
 use Rattle.implib_link.specs.Worked.Calls.{calling_at}
 use Rattle.implib_link.specs.Worked.Flavors.{flavor_bases_8, flavor_image, flavor_placed}
 use Rattle.implib_link.specs.Worked.NearCode.{code_of}
-use Rattle.implib_link.specs.Worked.NearResults.{NearAreChosenFor, NearAreClosedForMsvc, NearAreLinkedFor, NearAreLinkedForMsvc, NearDefineOnce, NearFillsBy, NearFlavorsLink, NearHasOffsetField, NearHasPageField, NearHasPointer, NearImportsBy, NearInputImports, NearInstructionArrives, NearIsClosed, NearLinksAmong, NearLinksBeside, NearLinksClosed, NearLinksClosedForMsvc, NearPageArrives, NearPairArrives, NearIsLinkedWith, NearBranchStays}
+use Rattle.implib_link.specs.Worked.NearResults.{NearAreChosenFor, NearAreClosedForMsvc, NearAreLinkedFor, NearAreLinkedForMsvc, NearDefineOnce, NearFillsBy, NearFlavorsLink, NearHasOffsetField, NearHasPageField, NearHasPointer, NearImportsBy, NearInputImports, NearInstructionArrives, NearIsClosed, NearLinksAmong, NearLinksBeside, NearLinksClosed, NearLinksClosedForMsvc, NearPageArrives, NearPairArrives, NearIsLinkedWith, NearBranchStays, four_before}
 use Rattle.implib_link.specs.Worked.NearSearches.{asking}
 use Rattle.implib_link.specs.Worked.Operands.{imp_open, field}
 use Rattle.implib_link.specs.Worked.Programs.{program_image, symbol_of_class, symbol_on, touching_8}
@@ -83,8 +84,9 @@ near_flavors_link = record {
 }
 
 pub near_links_beside : NearLinksBeside
-unfolding searched
+unfolding searched ends_behind members_from rows_before
 near_links_beside = record {
+  rows = λ x. differ 4 8 (sym (x.rows 0 four_before refl)) (omega arith);
   linked = λ x. none_in _ x.linked.0.0.from_members.0;
   listed = λ x. no_definition x.listed.0.0 x.listed.0.1;
 }

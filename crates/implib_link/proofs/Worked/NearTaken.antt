@@ -1,13 +1,16 @@
 -- Near misses of what is taken and linked, by computing.
 use Rattle.std.proofs.Common.{◌≡◌, ℕ, ◌+◌, ◌*◌, ◌<◌, Bool, List, [], ◌∷◌, ◌++◌, codes, length, zero, suc, Option, Some, None, refl, ap, sym, ◌∙◌, subst, arith}
-use Rattle.std.specs.Prelude.{bytes_eq, slice_get}
+use Rattle.std.specs.Prelude.{◌&&◌, ◌^◌, bytes_eq, false, nat_eq, slice_get, true}
 use Rattle.std.specs.List.{Contains, list_any}
 use Rattle.implib.specs.declared.flavor.Flavor.TheVariants.{Msvc}
 use Rattle.implib.specs.declared.machine.MachineType.TheVariants.{AMD64}
 use Rattle.implib.specs.LibraryName.{linked_dll}
 use Rattle.implib.specs.Formats.ShortImport.{ShortImport}
 use Rattle.implib.specs.Link.LinkedMembers.{linked_members}
+use Rattle.implib.specs.Link.Image.{Range, image_of}
 use Rattle.implib.specs.Link.Load.{NumberAt}
+use Rattle.implib.specs.Link.Placement.{placed_from}
+use Rattle.implib.specs.Worked.Statements.{plain_export}
 use Rattle.implib.specs.Link.Resolution.{SymbolDefinition}
 use Rattle.implib.specs.Members.MemberSpec.{MemberView}
 use Rattle.implib.proofs.Link.Loading.{number_once}
@@ -19,7 +22,8 @@ use Rattle.implib_link.specs.Flavors.Program.{members_linked, null_member}
 use Rattle.implib_link.specs.Search.Search.{ImportsWanted, IsLinkedOfWanted}
 use Rattle.implib_link.specs.Worked.Flavors.{foo_input as foo_flavor}
 use Rattle.implib_link.specs.Worked.NearPrograms.{lld_range, mid_alone}
-use Rattle.implib_link.specs.Worked.NearTaken.{NearImportsWanted, NearIsArranged, NearIsImportedBy, NearIsLinkedOfWanted, NearIsTaken, NearRunLinks, NearTakesOfLibraries, NearTakesOfShorts, foo_run}
+use Rattle.implib_link.specs.Worked.Programs.{touching_8, zed_input}
+use Rattle.implib_link.specs.Worked.NearTaken.{NearAreBounded, NearImportsWanted, NearIsArranged, NearIsImportedBy, NearIsLinkedOfWanted, NearIsTaken, NearRunLinks, NearTakesOfLibraries, NearTakesOfShorts, bare_tables, foo_run}
 use Rattle.implib_link.specs.Worked.Search.{members_of, three}
 use Rattle.implib_link.specs.Worked.Searched.{bar_member, by_name, head_member, qux_member, searched_objects, tail_member}
 use Rattle.implib_link.proofs.Worked.Lld.{lld_opened}
@@ -120,4 +124,27 @@ near_is_imported_by = record {
       let found : NumberAt (lld_range mid_alone ∷ []) 4 0x2010 x.loads.plain.addresses = subst (λ n. NumberAt (lld_range mid_alone ∷ []) 4 (0x2000 + 20 * n + 16) x.loads.plain.addresses) first x.loads.plain.addresses_field in
       let table : x.loads.plain.addresses ≡ 0x2040 = subst (λ n. x.loads.plain.addresses ≡ 0x2040 + 8 * thunks_until n (imports_of_lld mid_alone)) first x.its_table in
       differ 0x2038 0x2040 (sym (number_once (lld_range mid_alone ∷ []) 4 0x2010 x.loads.plain.addresses 0x2038 found mid_table) ∙ table) (omega arith);
+}
+
+-- a range of a size at an address
+at_with_size : ℕ → ℕ → Range → Bool
+at_with_size start size r = nat_eq r.start start && nat_eq (length r.bytes) size
+
+no_range : (image : List Range) (start size : ℕ) → nat_eq start start && nat_eq size size ≡ true → list_any (at_with_size start size) image ≡ false → (r : Range) → Contains image r → r.start ≡ start → length r.bytes ≡ size → ⊥
+unfolding at_with_size
+no_range image start size same none r held begins sized =
+    let both : at_with_size start size r ≡ true = ap (λ a. nat_eq a start && nat_eq (length r.bytes) size) begins ∙ ap (λ n. nat_eq start start && nat_eq n size) sized ∙ same in
+    none_passes (at_with_size start size) r image none held both
+
+far : (start length_is : ℕ) → start ≡ 2 ^ 31 → start + length_is < 2 ^ 31 → ⊥
+far start length_is is below = omega arith
+
+pub near_are_bounded : NearAreBounded
+unfolding searched at_with_size
+near_are_bounded = record {
+  size = λ x. no_range (image_of AMD64 touching_8 (placed_from touching_8 (bare_tables 4 (codes ".idata$2") 40))) 120 8 refl refl x.table x.held x.begins x.size;
+  directory_size = λ x. no_range (image_of AMD64 touching_8 (placed_from touching_8 (bare_tables 8 (codes ".idata$2") 20))) 4 40 refl refl x.directory x.directory_held x.directory_begins x.directory_size;
+  directory_begins = λ x. no_range (image_of AMD64 touching_8 (placed_from touching_8 (bare_tables 8 (codes ".idata$4") 40))) 4 40 refl refl x.directory x.directory_held x.directory_begins x.directory_size;
+  below = λ x. far x.table.start (length x.table.bytes) x.begins x.below;
+  entries = λ x. no_definition _ (x.entries 0 0 (zed_input AMD64) (plain_export (codes "queue")) refl refl).1.0;
 }

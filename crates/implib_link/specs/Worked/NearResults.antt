@@ -20,7 +20,7 @@ use Rattle.implib_link.specs.Flavors.Program.{FlavorsLink, InputImports, objects
 use Rattle.implib_link.specs.Gnu.Choices.{DefineOnce}
 use Rattle.implib_link.specs.Gnu.Fields.{LinkedCode}
 use Rattle.implib_link.specs.Gnu.Operands.{BranchStays, HasOffsetField, HasPageField, HasPointer, InstructionArrives, PairArrives}
-use Rattle.implib_link.specs.Gnu.OtherLibraries.{LinksBeside}
+use Rattle.implib_link.specs.Gnu.OtherLibraries.{LinksBeside, Run}
 use Rattle.implib_link.specs.Gnu.Pages.{PageArrives}
 use Rattle.implib_link.specs.Gnu.Program.{ImportsBy, LinksAmong, null_descriptor}
 use Rattle.implib_link.specs.Gnu.Writing.{FillsBy}
@@ -71,7 +71,12 @@ pub record NearFlavorsLink : Type 0 where
   pub claimed : FlavorsLink AMD64 flavor_bases_8 (flavor_inputs AMD64) [] → ⊥
   pub defined : FlavorsLink AMD64 flavor_bases_8 [] (losing ∷ []) → ⊥
 
+-- an object of another library with four bytes among the descriptors
+abbrev pub four_before : Run
+four_before = record { objects = table_object (codes ".idata$2") (zeros 4) [] ∷ []; imports = []; inputs = foo_input AMD64 ∷ [] }
+
 pub record NearLinksBeside : Type 0 where
+  pub rows : LinksBeside AMD64 touching_8 (four_before ∷ []) [] → ⊥
   pub linked : LinksBeside AMD64 touching_8
       (record { objects = []; imports = []; inputs = record (foo_input AMD64) { members = [] } ∷ [] } ∷ []) [] → ⊥
   pub listed : LinksBeside AMD64 touching_8 (run_with [] []) [] → ⊥

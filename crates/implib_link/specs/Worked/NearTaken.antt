@@ -1,13 +1,16 @@
 -- Near misses of what linkers take, and of what is linked of it. A record `NearX` has those of `X`, each by the name of
 -- the field that refuses it.
-use Rattle.std.specs.Prelude.{List, [], ◌∷◌, codes}
+use Rattle.std.specs.Prelude.{ℕ, ◌^◌, List, [], ◌∷◌, codes}
 use Rattle.implib.specs.declared.flavor.Flavor.TheVariants.{Msvc}
 use Rattle.implib.specs.declared.machine.MachineType.TheVariants.{AMD64}
+use Rattle.implib.specs.Formats.Object.{Object}
 use Rattle.implib.specs.Link.LinkedMembers.{LinkInput}
+use Rattle.implib.specs.Members.ImportTables.{zeros}
 use Rattle.implib.specs.LibraryName.{own_names}
 use Rattle.implib.specs.Members.MemberSpec.{MemberView}
 use Rattle.implib_link.specs.Flavors.LldImports.{IsImportedBy}
 use Rattle.implib_link.specs.Flavors.Program.{FlavorInput, IsTaken, members_linked}
+use Rattle.implib_link.specs.Gnu.Bounds.{AreBounded}
 use Rattle.implib_link.specs.Gnu.OtherLibraries.{Run, RunLinks}
 use Rattle.implib_link.specs.Gnu.Packed.{packed}
 use Rattle.implib_link.specs.Search.Archives.{TakesOfLibraries}
@@ -16,8 +19,8 @@ use Rattle.implib_link.specs.Search.Search.{ImportsWanted, IsArranged, IsLinkedO
 use Rattle.implib_link.specs.Worked.Archives.{both_wanted, two_libraries}
 use Rattle.implib_link.specs.Worked.Flavors.{foo_input as foo_flavor}
 use Rattle.implib_link.specs.Worked.MsvcArchives.{two_msvc}
-use Rattle.implib_link.specs.Worked.NearPrograms.{lld_defines, lld_range, mid_alone, short_of}
-use Rattle.implib_link.specs.Worked.Programs.{foo_input, program_image, touching_8}
+use Rattle.implib_link.specs.Worked.NearPrograms.{lld_defines, lld_range, mid_alone, short_of, table_object}
+use Rattle.implib_link.specs.Worked.Programs.{foo_input, program_image, touching_8, zed_input}
 use Rattle.implib_link.specs.Worked.Search.{members_of, three, wanted}
 use Rattle.implib_link.specs.Worked.Searched.{as_taken, bar_member, by_name, head_member, searched_objects, tail_member}
 
@@ -61,3 +64,23 @@ pub record NearRunLinks : Type 0 where
 pub record NearIsImportedBy : Type 0 where
   pub its_table : IsImportedBy AMD64 0x2000 0x2040 mid_alone (lld_range mid_alone ∷ []) (lld_defines mid_alone ∷ [])
       (short_of (codes "beta.dll") (codes "mid") 7) → ⊥
+
+-- a DLL of which nothing is chosen, and tables of some bytes, an address table and another one
+abbrev pub nothing_chosen : List LinkInput
+nothing_chosen = record (foo_input AMD64) { chosen = [] } ∷ []
+
+abbrev pub bare_tables : ℕ → List ℕ → ℕ → List Object
+bare_tables thunks name bytes =
+    table_object (codes ".idata$5") (zeros thunks) (codes ".idata$5" ∷ [])
+    ∷ table_object name (zeros bytes) []
+    ∷ []
+
+-- half a thunk; a directory of one descriptor, and none where it begins; tables that end after 2^31; and no symbols of
+-- the entries
+pub record NearAreBounded : Type 0 where
+  pub size : AreBounded AMD64 touching_8 nothing_chosen (bare_tables 4 (codes ".idata$2") 40) → ⊥
+  pub directory_size : AreBounded AMD64 touching_8 nothing_chosen (bare_tables 8 (codes ".idata$2") 20) → ⊥
+  pub directory_begins : AreBounded AMD64 touching_8 nothing_chosen (bare_tables 8 (codes ".idata$4") 40) → ⊥
+  pub below : AreBounded AMD64 (record touching_8 { addresses = 2 ^ 31 }) nothing_chosen
+      (bare_tables 8 (codes ".idata$2") 40) → ⊥
+  pub entries : AreBounded AMD64 touching_8 (zed_input AMD64 ∷ []) (bare_tables 16 (codes ".idata$2") 40) → ⊥

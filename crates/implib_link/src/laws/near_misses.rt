@@ -43,7 +43,7 @@ ghost use Rattle.implib_link.specs.Worked.NearSearches.{NearIsUsedShort, NearIsW
 ghost use Rattle.implib_link.specs.Worked.NearSearches.{NearIsWeakShort, NearIsWeakTaken};
 ghost use Rattle.implib_link.specs.Worked.NearSearches.{NearPullsIn, NearPullsInFor, NearPullsInto};
 ghost use Rattle.implib_link.specs.Worked.NearSearches.{NearPullsIntoFor};
-ghost use Rattle.implib_link.specs.Worked.NearTaken.{NearImportsWanted, NearIsArranged};
+ghost use Rattle.implib_link.specs.Worked.NearTaken.{NearAreBounded, NearImportsWanted, NearIsArranged};
 ghost use Rattle.implib_link.specs.Worked.NearTaken.{NearIsImportedBy, NearIsLinkedOfWanted, NearIsTaken};
 ghost use Rattle.implib_link.specs.Worked.NearTaken.{NearRunLinks, NearTakesOfLibraries, NearTakesOfShorts};
 ghost use Rattle.implib_link.specs.Worked.NearTables.{NearAreAlike, NearAreLoaded, NearBeginsWith};
@@ -123,6 +123,7 @@ pub fn near_misses_of_members()
     ensures taken { NearIsTaken }
     ensures run_links { NearRunLinks }
     ensures imported_by { NearIsImportedBy }
+    ensures bounded { NearAreBounded }
 {}
 
 /// Premises that are met a second time: by sections, types, programs, machines and code that differ
