@@ -1,5 +1,5 @@
 -- Near misses of searches, of code beside the tables and of moved programs, by computing.
-use Rattle.std.specs.Prelude.{◌==◌, ◌&&◌, ◌⊎◌, ◌%◌, Bool, bytes_eq, false, map, nat_eq, slice_get, true}
+use Rattle.std.specs.Prelude.{◌&&◌, ◌⊎◌, ◌%◌, Bool, bytes_eq, false, map, nat_eq, slice_get, true}
 use Rattle.std.specs.List.{Contains, list_any}
 use Rattle.implib_link.proofs.Gnu.PlacedStubs.{symbol_of_entry}
 use Rattle.implib_link.proofs.Search.Lists.{contains_among}

@@ -185,9 +185,23 @@ one_null : length (objects_taken AMD64 (first_null AMD64 two_msvc)) ≡ 1
 unfolding searched
 one_null = refl
 
+counted : (xs ys : List MemberView) → length (objects_taken AMD64 (xs ++ ys)) ≡ length (objects_taken AMD64 xs) + length (objects_taken AMD64 ys)
+counted xs ys =
+    let f : MemberView → Option Object = λ m. expanded_in AMD64 m.bytes in
+    ap length (filter_map-append f xs ys) ∙ length-append (objects_taken AMD64 xs) (objects_taken AMD64 ys)
+
+-- what is taken for more members than the null descriptor alone
+more_taken : (before null behind : List MemberView) (all : ℕ) → length (objects_taken AMD64 null) ≡ 1 → length (objects_taken AMD64 (before ++ behind)) ≡ all → 0 < all → 1 ≡ length (objects_taken AMD64 (before ++ (null ++ behind))) → ⊥
+more_taken before null behind all one there some is =
+    let first : length (objects_taken AMD64 (before ++ (null ++ behind))) ≡ length (objects_taken AMD64 before) + length (objects_taken AMD64 (null ++ behind)) = counted before (null ++ behind) in
+    let second : length (objects_taken AMD64 (null ++ behind)) ≡ length (objects_taken AMD64 null) + length (objects_taken AMD64 behind) = counted null behind in
+    let both : length (objects_taken AMD64 (before ++ behind)) ≡ length (objects_taken AMD64 before) + length (objects_taken AMD64 behind) = counted before behind in
+    omega arith
+
 pub near_are_linked_for_msvc : NearAreLinkedForMsvc
 unfolding searched
 near_are_linked_for_msvc = record {
+  members = λ x. more_taken x.before (first_null AMD64 two_msvc) x.behind _ one_null (ap (λ ms. length (objects_taken AMD64 ms)) x.members) (omega arith) (ap length x.tables);
   order = λ x. no_order _ _ x.order;
   others = λ x. none_in asking ((x.others asking).1 (0, omega arith, refl));
   tables = λ x. none_taken x.before (first_null AMD64 two_msvc) x.behind one_null x.tables;

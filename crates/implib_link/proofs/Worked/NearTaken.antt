@@ -1,10 +1,8 @@
 -- Near misses of what is taken and linked, by computing.
-use Rattle.std.proofs.Common.{◌≡◌, ℕ, ◌+◌, ◌*◌, ◌<◌, Bool, List, [], ◌∷◌, ◌++◌, codes, length, zero, suc, Option, Some, None, refl, ap, sym, ◌∙◌, subst, arith}
+use Rattle.std.proofs.Common.{◌≡◌, ℕ, ◌+◌, ◌*◌, ◌<◌, Bool, List, [], ◌∷◌, codes, length, zero, suc, Option, Some, None, refl, ap, sym, ◌∙◌, subst, arith}
 use Rattle.std.specs.Prelude.{◌&&◌, ◌^◌, bytes_eq, false, nat_eq, slice_get, true}
 use Rattle.std.specs.List.{Contains, list_any}
-use Rattle.implib.specs.declared.flavor.Flavor.TheVariants.{Msvc}
 use Rattle.implib.specs.declared.machine.MachineType.TheVariants.{AMD64}
-use Rattle.implib.specs.LibraryName.{linked_dll}
 use Rattle.implib.specs.Formats.ShortImport.{ShortImport}
 use Rattle.implib.specs.Link.LinkedMembers.{linked_members}
 use Rattle.implib.specs.Link.Image.{Range, image_of}
@@ -19,11 +17,10 @@ use Rattle.implib_link.specs.Flavors.LldTables.{thunks_until}
 use Rattle.implib_link.specs.Gnu.Packed.{packed}
 use Rattle.implib_link.specs.Gnu.Program.{LinksAmong, linked_symbols}
 use Rattle.implib_link.specs.Flavors.Program.{members_linked, null_member}
-use Rattle.implib_link.specs.Search.Search.{ImportsWanted, IsLinkedOfWanted}
 use Rattle.implib_link.specs.Worked.Flavors.{foo_input as foo_flavor}
 use Rattle.implib_link.specs.Worked.NearPrograms.{lld_range, mid_alone}
 use Rattle.implib_link.specs.Worked.Programs.{touching_8, zed_input}
-use Rattle.implib_link.specs.Worked.NearTaken.{NearAreBounded, NearImportsWanted, NearIsArranged, NearIsImportedBy, NearIsLinkedOfWanted, NearIsTaken, NearRunLinks, NearTakesOfLibraries, NearTakesOfShorts, bare_tables, foo_run}
+use Rattle.implib_link.specs.Worked.NearTaken.{NearAreBounded, NearImportsWanted, NearIsArranged, NearIsImportedBy, NearIsLinkedOfWanted, NearIsTaken, NearRunLinks, NearTakesOfLibraries, NearTakesOfShorts, bare_tables}
 use Rattle.implib_link.specs.Worked.Search.{members_of, three}
 use Rattle.implib_link.specs.Worked.Searched.{bar_member, by_name, head_member, qux_member, searched_objects, tail_member}
 use Rattle.implib_link.proofs.Worked.Lld.{lld_opened}

@@ -139,7 +139,7 @@ pub record NearAreClosedForMsvc : Type 0 where
       [] → ⊥
   pub some : AreClosedForMsvc AMD64 [] [] [] [] [] → ⊥
 
--- in an order of no libraries; without the given object; and without the null descriptor
+-- in an order of no libraries; without the given object; without the null descriptor; and with it alone
 pub record NearAreLinkedFor : Type 0 where
   pub order : AreLinkedFor AMD64 two_libraries [] [] [] touching_8 (null_descriptor ∷ []) → ⊥
   pub others : AreLinkedFor AMD64 [] (asking ∷ []) [] [] touching_8 (null_descriptor ∷ []) → ⊥
@@ -154,6 +154,8 @@ pub record NearAreLinkedForMsvc : Type 0 where
   pub order : AreLinkedForMsvc AMD64 two_msvc [] [] [] (objects_taken AMD64 (first_null AMD64 two_msvc)) → ⊥
   pub others : AreLinkedForMsvc AMD64 [] (asking ∷ []) [] [] [] → ⊥
   pub tables : AreLinkedForMsvc AMD64 two_msvc [] [] two_msvc [] → ⊥
+  pub members : AreLinkedForMsvc AMD64 two_msvc (asking ∷ []) [] two_msvc
+      (asking ∷ objects_taken AMD64 (first_null AMD64 two_msvc)) → ⊥
 
 -- no null descriptor
 pub record NearIsLinkedWith : Type 0 where
