@@ -21,7 +21,7 @@ use Rattle.implib_archive.specs.declared.kind.Kind.TheVariants.{Gnu}
 use Rattle.implib_archive_link.specs.InBytes.{Asks, AreTakenAt, First, Second, TakesAt, asks_for, asks_on, asks_with, header_by}
 use Rattle.implib_archive_link.specs.LldWay.{IsWantedBy, short_of_export}
 use Rattle.implib_archive_link.specs.Results.{AreHeadersOf}
-use Rattle.implib_archive_link.specs.NearMisses.{NearAreSearched, NearHaveArchive, NearIsBuiltByLld, NearIsHeaderOf, NearIsWantedBy, NearLeadsToFirst, NearLldArrives, NearPullsInAt, WorkedIndexes, WorkedReads, asking_stack, stack}
+use Rattle.implib_archive_link.specs.NearMisses.{NearAreSearched, NearCallsArrive, NearHaveArchive, NearIsBuiltByLld, NearIsHeaderOf, NearIsWantedBy, NearLeadsToFirst, NearLldArrives, NearPullsInAt, WorkedIndexes, WorkedReads, asking_stack, stack}
 use Rattle.implib_link.specs.Flavors.LldImports.{imports_of_lld}
 use Rattle.implib_link.specs.Flavors.LldTables.{addresses_at, directory_built}
 use Rattle.implib_link.specs.Search.Archives.{exports_of}
@@ -34,7 +34,8 @@ use Rattle.implib_link.specs.Worked.NearSearches.{asking, zed_short}
 use Rattle.implib_link.specs.Worked.Programs.{code_object, symbol_of_class}
 use Rattle.implib_link.specs.Worked.Search.{members_of, three, wanted}
 use Rattle.implib_link.proofs.Search.Lists.{contains_among}
-use Rattle.implib_link.proofs.Worked.Calls.{one_of}
+use Rattle.implib_link.proofs.Worked.Calls.{one_of, wide, worked_reading}
+use Rattle.implib_link.specs.Worked.Calls.{given_on}
 use Rattle.implib_link.proofs.Worked.Lld.{lld_opened}
 use Rattle.implib_link.proofs.Worked.NearPrograms.{directory_long, first_placed, mid_defined, none_below, nothing_placed, nothing_there, past_2_31, second_placed}
 use Rattle.implib_link.proofs.Worked.NearSearches.{none_in, searched}
@@ -181,3 +182,8 @@ near_is_built_by_lld = record {
 
 pub near_lld_arrives : NearLldArrives
 near_lld_arrives = record { shorts = λ x. none_in (short_of_export AMD64 msvc_zed stack) (x.shorts msvc_zed stack stack_wanted) }
+
+pub near_calls_arrive : NearCallsArrive
+near_calls_arrive = record {
+  ends = λ x. let read = worked_reading.amd64_ends in differ 0 2 (sym (x.ends (given_on AMD64) 2 read.0 (wide AMD64) read.1)) (omega arith);
+}

@@ -16,6 +16,7 @@ use Rattle.implib_archive.specs.Worked.{read, worked_coff, worked_gnu, worked_me
 use Rattle.implib_archive.specs.declared.kind.Kind.TheVariants.{Gnu}
 use Rattle.implib_archive_link.specs.InBytes.{First, PullsInAt, Second, TakesAt, asks_for, header_by}
 use Rattle.implib_archive_link.specs.LldWay.{IsBuiltByLld, IsWantedBy, LldArrives}
+use Rattle.implib_archive_link.specs.Way.{CallsArrive}
 use Rattle.implib_archive_link.specs.Results.{AreSearched, HaveArchive, IsHeaderOf, LeadsToFirst}
 use Rattle.implib_link.specs.Flavors.LldImports.{imports_of_lld}
 use Rattle.implib_link.specs.Flavors.LldTables.{addresses_at}
@@ -23,7 +24,7 @@ use Rattle.implib_link.specs.Search.Search.{Takes}
 use Rattle.implib_link.specs.Worked.MsvcArchives.{msvc_foo, msvc_zed}
 use Rattle.implib_link.specs.Worked.NearPrograms.{defines_mid, lld_defines, lld_range, mid_alone}
 use Rattle.implib_link.specs.Worked.NearSearches.{asking, zed_short}
-use Rattle.implib_link.specs.Worked.Programs.{code_object, symbol_of_class}
+use Rattle.implib_link.specs.Worked.Programs.{code_object, program_objects, symbol_of_class, touching_8}
 use Rattle.implib_link.specs.Worked.Search.{members_of, three, wanted}
 
 -- the archive of the COFF kind whose second linker member leads `f` to the second member
@@ -105,3 +106,7 @@ pub record NearIsBuiltByLld : Type 0 where
 -- nothing is taken for an object that leaves `stack` to others
 pub record NearLldArrives : Type 0 where
   pub shorts : LldArrives AMD64 (msvc_zed ∷ []) (asking_stack ∷ []) [] → ⊥
+
+-- no library, and a linked program that imports from two DLLs
+pub record NearCallsArrive : Type 0 where
+  pub ends : CallsArrive AMD64 [] [] [] [] touching_8 (program_objects AMD64) → ⊥

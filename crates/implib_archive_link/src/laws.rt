@@ -12,7 +12,7 @@ ghost use Rattle.implib.specs.declared.machine.MachineType.{MachineType};
 ghost use Rattle.implib_archive.specs.declared.kind.Kind.{Kind};
 ghost use Rattle.implib_archive_link.specs.InBytes.{LinkerMember, asks_for, asks_on, asks_with};
 ghost use Rattle.implib_archive_link.specs.LldWay.{AreCalledAlike, LldArrives, asks_of_lld};
-ghost use Rattle.implib_archive_link.specs.NearMisses.{NearAreSearched, NearIsBuiltByLld};
+ghost use Rattle.implib_archive_link.specs.NearMisses.{NearAreSearched, NearCallsArrive, NearIsBuiltByLld};
 ghost use Rattle.implib_archive_link.specs.NearMisses.{NearIsWantedBy, NearLeadsToFirst, NearLldArrives};
 ghost use Rattle.implib_archive_link.specs.NearMisses.{NearHaveArchive, NearIsHeaderOf};
 ghost use Rattle.implib_archive_link.specs.NearMisses.{NearPullsInAt, WorkedIndexes, WorkedReads};
@@ -200,10 +200,11 @@ pub fn near_misses_in_bytes()
     ensures searched { NearAreSearched }
 {}
 
-/// Near misses of the way for lld: exports that are not wanted, images that lld did not write, and
-/// an export that was not taken.
-pub fn near_misses_of_lld()
+/// Near misses of both ways: exports that are not wanted, images that lld did not write, an export
+/// that was not taken, and imports without a library.
+pub fn near_misses_of_ways()
     ensures wanted { NearIsWantedBy }
     ensures built { NearIsBuiltByLld }
     ensures arrives { NearLldArrives }
+    ensures calls { NearCallsArrive }
 {}
