@@ -5,6 +5,7 @@ pub mod Calls
 pub mod Targets
 pub mod Meant
 pub mod OwnLibraries
+pub mod OwnExportAs
 pub mod DefinitionText
 pub mod Defining
 pub mod Working
@@ -17,6 +18,7 @@ pub mod Status
 pub mod Worked
 pub mod WorkedChecks
 pub mod WorkedDefinitions
+pub mod WorkedExportAs
 pub mod WorkedJson
 pub mod WorkedWorking
 pub mod WorkedTogether
