@@ -1,13 +1,9 @@
-pub mod Facts
-pub mod Partners
-pub mod Comparison
 pub mod Calls
 pub mod Targets
-pub mod Meant
+pub mod Refused
 pub mod OwnLibraries
 pub mod DefinitionText
 pub mod Defining
-pub mod Working
 pub mod OwnIndexes
 pub mod OwnTables
 pub mod Tasks
@@ -18,5 +14,4 @@ pub mod Worked
 pub mod WorkedChecks
 pub mod WorkedDefinitions
 pub mod WorkedJson
-pub mod WorkedWorking
 pub mod WorkedTogether
