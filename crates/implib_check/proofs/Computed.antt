@@ -1,49 +1,15 @@
 -- What is worked by hand, computed.
 use Rattle.std.proofs.Common.{refl}
-use Rattle.implib_check.specs.Worked.{WorkedComparisons, WorkedIdentities, WorkedStatuses, WorkedTasks}
+use Rattle.implib_check.specs.Worked.{WorkedIdentities, WorkedStatuses, WorkedTasks}
 use Rattle.implib_rules.specs.Names.{part_after_last}
 use Rattle.implib_check.specs.WorkedChecks.{WorkedChecks, WorkedTargets}
 use Rattle.implib_check.specs.WorkedJson.{WorkedJson}
 use Rattle.implib_check.specs.WorkedTogether.{WorkedTogether}
-use Rattle.implib_check.specs.WorkedWorking.{WorkedWorking}
-use Rattle.implib.specs.Formats.Object.{before_nul, bytes_at, u16_at, u32_at}
-use Rattle.implib_read.specs.Indexes.{entries_from, first_index_in, second_index_in}
-use Rattle.implib_read.specs.ShortImports.{short_import_found}
 use Rattle.implib_check.specs.WorkedDefinitions.{WorkedDefines, WorkedDefinitions}
 use Rattle.std.specs.Fmt.{digits}
 use Rattle.std.specs.Char.{encode_utf8}
 use Rattle.std.specs.Str.{chars, is_utf8}
 use Rattle.std.specs.Str.Lossy.{utf8_valid_len}
-
-pub worked_comparisons : WorkedComparisons
-worked_comparisons = record {
-  itself = refl;
-  empty = refl;
-  order = refl;
-  capitals = refl;
-  hint = refl;
-  untold = refl;
-  untold_constant = refl;
-  constant = refl;
-  constant_data = refl;
-  untold_data = refl;
-  dll = refl;
-  symbols = refl;
-  name = refl;
-  by_ordinal = refl;
-  ordinal = refl;
-  machine = refl;
-  weak = refl;
-  target = refl;
-  parted = refl;
-  twice = refl;
-  none = refl;
-  other = refl;
-  other_differs = refl;
-  not_understood = refl;
-  delayed = refl;
-  flags = refl;
-}
 
 pub worked_identities : WorkedIdentities
 worked_identities = record {
@@ -57,6 +23,11 @@ worked_statuses = record {
   same = refl;
   different = refl;
   not_decided = refl;
+  same_works = refl;
+  same_broken = refl;
+  same_open = refl;
+  different_works = refl;
+  open_broken = refl;
   listed = refl;
   unread = refl;
   one_dll = refl;
@@ -72,6 +43,7 @@ worked_tasks = record {
   identify = refl;
   strictly = refl;
   same = refl;
+  works = refl;
   help = refl;
   long_help = refl;
   version = refl;
@@ -129,13 +101,6 @@ worked_checks = record {
 
 pub worked_targets : WorkedTargets
 worked_targets = record {
-  msvc = refl;
-  tables = refl;
-  code = refl;
-  constant = refl;
-  gnu = refl;
-  data_alone = refl;
-  none = refl;
   first = refl;
   known = refl;
   arm = refl;
@@ -183,51 +148,6 @@ worked_defines = record {
   named = refl;
   last = refl;
   told = refl;
-}
-
-pub worked_working : WorkedWorking
-unfolding before_nul bytes_at entries_from first_index_in second_index_in short_import_found u16_at u32_at
-worked_working = record {
-  first = refl;
-  second = refl;
-  third = refl;
-  leads = refl;
-  elsewhere = refl;
-  undeclared = refl;
-  too_short = refl;
-  numbered = refl;
-  misnumbered = refl;
-  passed_over = refl;
-  first_counts = refl;
-  other_symbol = refl;
-  second_passed_over = refl;
-  second_counts = refl;
-  msvc = refl;
-  no_thunk = refl;
-  two_descriptors = refl;
-  gnu = refl;
-  two_heads = refl;
-  no_tail = refl;
-  works = refl;
-  broken = refl;
-  misleads = refl;
-  unread = refl;
-  empty = refl;
-  two_dlls = refl;
-  done = refl;
-  fails = refl;
-  undecided = refl;
-  both_open = refl;
-  second_broken = refl;
-  first_broken = refl;
-  second_open = refl;
-  both_do = refl;
-  same_works = refl;
-  same_broken = refl;
-  same_open = refl;
-  different_works = refl;
-  open_broken = refl;
-  task = refl;
 }
 
 pub worked_together : WorkedTogether

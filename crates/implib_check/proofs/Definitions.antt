@@ -3,11 +3,11 @@ use Rattle.std.proofs.Common.{◌≡◌, ◌∙◌, ℕ, false, ◌||◌, List, 
 use Rattle.std.proofs.lemmas.Bool.{true≢false}
 use Rattle.implib_read.specs.Classes.{MemberRead}
 use Rattle.implib_rules.specs.Options.{LibraryOptionsView}
-use Rattle.implib_check.specs.declared.compare.Verdict.{Verdict}
-use Rattle.implib_check.specs.declared.compare.Verdict.TheVariants.{NotDecided, Same}
-use Rattle.implib_check.specs.Comparison.{Means, SayTheSame, has_unread}
+use Rattle.implib_compare.specs.declared.compare.Verdict.{Verdict}
+use Rattle.implib_compare.specs.declared.compare.Verdict.TheVariants.{NotDecided, Same}
+use Rattle.implib_compare.specs.Comparison.{Means, SayTheSame, has_unread}
 use Rattle.implib_check.specs.Defining.{Defines}
-use Rattle.implib_check.specs.Meant.{IsVerdictOn}
+use Rattle.implib_compare.specs.Meant.{IsVerdictOn}
 use Rattle.implib_check.specs.OwnLibraries.{MeantIsDefined}
 
 -- a text whose library has been read says what is defined, and nothing that leaves a comparison open

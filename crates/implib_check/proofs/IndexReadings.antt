@@ -14,7 +14,7 @@ use Rattle.implib_archive.specs.Reader.{numbers_in, paired, texts_in}
 use Rattle.implib_archive.proofs.FoundIndex.{first_data}
 use Rattle.implib_archive.proofs.Sized.{length-first_linker, length-u32_be, length_fours}
 use Rattle.implib_read.specs.Indexes.{IndexEntry, entries_behind, entries_from, first_index_in, place_in, place_size}
-use Rattle.implib_check.proofs.FirstEntries.{pair_of}
+use Rattle.implib_compare.proofs.FirstEntries.{pair_of}
 
 -- Texts that a NUL ends.
 

@@ -1,12 +1,8 @@
 pub mod Claims
 pub mod Computed
-pub mod Counting
 pub mod Definitions
-pub mod FirstEntries
 pub mod IndexReadings
 pub mod JsonTexts
-pub mod KeyTexts
-pub mod Matching
 pub mod MeantLibraries
 pub mod OwnIndexes
 pub mod OwnLibraries

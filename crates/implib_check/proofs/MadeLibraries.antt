@@ -42,7 +42,7 @@ use Rattle.implib_rules.specs.Order.{msvc_specs, own_aliases, own_imports}
 use Rattle.implib_rules.proofs.ExportedAs.{kept_renamed}
 use Rattle.implib_rules.proofs.OrderedReadings.{reads_in_order}
 use Rattle.implib_rules.proofs.PlainNames.{plain_of}
-use Rattle.implib_check.specs.Comparison.{has_other, has_unread, verdict}
+use Rattle.implib_compare.specs.Comparison.{has_other, has_unread, verdict}
 use Rattle.implib_check.specs.OwnExportAs.{IsMadeBy, MadeLibrariesAreTheSame, MeantIsMade, SameSaysTheMade, SaysWhatIsMade, has_third_text, imports_by_texts, imports_made}
 use Rattle.implib_check.specs.OwnLibraries.{MeantIsDefined, imports_meant, meanings_read}
 use Rattle.implib_check.proofs.LaterMeanings.{ThirdMeans, WeakForText, aliases_after, aliases_named, all_later, cut, first_imports, imports_then, kept_symbol_name, later_aliases, later_meanings, length_imports, means_alias, public_kept, text_imports}

@@ -54,8 +54,8 @@ use Rattle.implib_read.proofs.OwnMsvc.{map_twice}
 use Rattle.implib_rules.specs.Library.{kind_of}
 use Rattle.implib_rules.specs.Order.{LibraryReads, library_specs, msvc_specs}
 use Rattle.implib_check.specs.OwnIndexes.{IndexesLead, OwnIndexesLead}
-use Rattle.implib_check.specs.Working.{is_linker, linker_member, misleading, second_misleads, with_offset}
-use Rattle.implib_check.proofs.FirstEntries.{none_misleads, pair_of}
+use Rattle.implib_compare.specs.Working.{is_linker, linker_member, misleading, second_misleads, with_offset}
+use Rattle.implib_compare.proofs.FirstEntries.{none_misleads, pair_of}
 use Rattle.implib_check.proofs.IndexReadings.{index_there}
 use Rattle.implib_check.proofs.OwnLibraries.{files_plain, files_read, made_plainly}
 use Rattle.implib_check.proofs.SecondIndex.{second_there}

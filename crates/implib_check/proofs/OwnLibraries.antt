@@ -41,7 +41,7 @@ use Rattle.implib_rules.specs.Linked.{NamingView}
 use Rattle.implib_rules.proofs.Made.{made_is, specs_are}
 use Rattle.implib_rules.specs.Order.{LibraryReads, ReadsInOrder, library_specs, msvc_specs, own_aliases, own_imports}
 use Rattle.implib_rules.proofs.OrderedReadings.{shown_in_order}
-use Rattle.implib_check.specs.Comparison.{has_other, has_unread, is_other, is_unread}
+use Rattle.implib_compare.specs.Comparison.{has_other, has_unread, is_other, is_unread}
 use Rattle.implib_check.specs.OwnLibraries.{MeantIsDefined, SaysWhatIsDefined, meanings_read}
 
 -- What members mean.

@@ -43,15 +43,15 @@ use Rattle.implib_read.proofs.OwnGnuLibrary.{gnu_files_plain, gnu_files_read, ow
 use Rattle.implib_read.proofs.OwnMembers.{files_as, files_of_specs, found_of}
 use Rattle.implib_read.proofs.OwnMsvc.{archive_by, classes_read, map_twice}
 use Rattle.implib_rules.specs.Order.{LibraryReads, library_specs}
-use Rattle.implib_check.specs.declared.working.Piece.{Piece}
-use Rattle.implib_check.specs.declared.working.Piece.TheVariants as piece
-use Rattle.implib_check.specs.declared.working.Working.TheVariants.{Works}
-use Rattle.implib_check.specs.Comparison.{has_unread}
+use Rattle.implib_compare.specs.declared.working.Piece.{Piece}
+use Rattle.implib_compare.specs.declared.working.Piece.TheVariants as piece
+use Rattle.implib_compare.specs.declared.working.Working.TheVariants.{Works}
+use Rattle.implib_compare.specs.Comparison.{has_unread}
 use Rattle.implib_read.specs.Identity.{dll_of, dlls_of, with_dll_of, with_name}
 use Rattle.implib_check.specs.OwnLibraries.{MeantIsDefined, SaysWhatIsDefined, by_export, imports_meant, meanings_read}
 use Rattle.implib_check.specs.OwnTables.{OwnTablesAreWhole}
-use Rattle.implib_check.specs.Targets.{flavor_of, is_for_msvc, tells_code}
-use Rattle.implib_check.specs.Working.{has_one_from, has_whole_tables, is_piece, works_of}
+use Rattle.implib_compare.specs.Flavors.{flavor_of, is_for_msvc, tells_code}
+use Rattle.implib_compare.specs.Working.{has_one_from, has_whole_tables, is_piece, works_of}
 use Rattle.implib_check.proofs.OwnLibraries.{HasHeader, all_told, any_members, header_msvc, made_plainly}
 
 -- Parts of import tables.

@@ -2,11 +2,11 @@
 use Rattle.std.proofs.Common.{◌≡◌, ◌∙◌, Bool, true, false, ◌||◌, List, [], ◌∷◌, ap, refl, sym}
 use Rattle.std.proofs.lemmas.Option.{same_Some}
 use Rattle.implib_read.specs.Classes.{MemberRead, library_in}
-use Rattle.implib_check.specs.declared.compare.Verdict.TheVariants.{Same}
-use Rattle.implib_check.specs.Comparison.{Rearranged, differing, has_other, has_unread, is_some_set, verdict, verdict_of}
-use Rattle.implib_check.specs.Facts.{Fact, both_tell, facts_of}
+use Rattle.implib_compare.specs.declared.compare.Verdict.TheVariants.{Same}
+use Rattle.implib_compare.specs.Comparison.{Rearranged, differing, has_other, has_unread, is_some_set, verdict, verdict_of}
+use Rattle.implib_compare.specs.Facts.{Fact, both_tell, facts_of}
 use Rattle.implib_check.specs.OwnLibraries.{MeantIsDefined, OwnLibrariesAreTheSame, SameSaysTheDefined}
-use Rattle.implib_check.proofs.Matching.{left_differs}
+use Rattle.implib_compare.proofs.Matching.{left_differs}
 use Rattle.implib_check.proofs.MeantLibraries.{one_library}
 
 -- facts are themselves in another order

@@ -16,7 +16,7 @@ use Rattle.implib_archive.proofs.FoundIndex.{second_data}
 use Rattle.implib_archive.proofs.Numbered.{Each, each_weaker}
 use Rattle.implib_archive.proofs.Sized.{length-second_linker, length-u16_le, length-u32_le, length_fours, length_twos}
 use Rattle.implib_read.specs.Indexes.{SecondIndex, entries_behind, entries_from, offset_numbered, second_index_in, second_index_with}
-use Rattle.implib_check.proofs.FirstEntries.{pair_of}
+use Rattle.implib_compare.proofs.FirstEntries.{pair_of}
 use Rattle.implib_check.proofs.IndexReadings.{entries_there, nuls, strings_nuls, taken, there}
 
 -- Offsets by their numbers.

@@ -3,12 +3,12 @@ use Rattle.std.specs.Prelude.{◌≡◌, ℕ, true, false, List}
 use Rattle.implib_read.specs.Classes.{MemberRead}
 use Rattle.implib_rules.specs.Library.{IsRefusalOfBytes}
 use Rattle.implib_rules.specs.Options.{LibraryOptionsView}
-use Rattle.implib_check.specs.declared.compare.Verdict.TheVariants.{Different as TheyDiffer}
+use Rattle.implib_compare.specs.declared.compare.Verdict.TheVariants.{Different as TheyDiffer}
 use Rattle.implib_check.specs.declared.defining.Undefined.{Undefined}
 use Rattle.implib_check.specs.declared.defining.Undefined.TheVariants.{Different, Failed, Refused, Unread}
-use Rattle.implib_check.specs.Comparison.{SayTheSame, has_unread}
+use Rattle.implib_compare.specs.Comparison.{SayTheSame, has_unread}
 use Rattle.implib_check.specs.DefinitionText.{definition_text}
-use Rattle.implib_check.specs.Meant.{IsVerdictOn}
+use Rattle.implib_compare.specs.Meant.{IsVerdictOn}
 use Rattle.implib_check.specs.OwnLibraries.{IsDefinedBy}
 
 -- A text is a definition of a library under these options: by the grammar and by the rules of `implib_dlltool` it

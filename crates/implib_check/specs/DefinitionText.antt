@@ -14,7 +14,7 @@ use Rattle.implib_read.specs.declared.import.ImportKind.{ImportKind}
 use Rattle.implib_read.specs.declared.import.ImportKind.TheVariants.{Code, CodeOrConst, Const, Data}
 use Rattle.implib_rules.specs.Linked.{NamingView, keeps_word}
 use Rattle.implib_rules.specs.Options.{LibraryOptionsView}
-use Rattle.implib_check.specs.Facts.{tells_constants}
+use Rattle.implib_compare.specs.Facts.{tells_constants}
 use Rattle.implib_read.specs.Identity.{dll_of}
 use Rattle.implib_read.specs.Symbols.{linked_symbol, without_imp}
 

@@ -17,8 +17,8 @@ use Rattle.implib_check.specs.declared.finding.Finding.TheVariants as finding
 use Rattle.implib_check.specs.declared.finding.Side.{Side}
 use Rattle.implib_check.specs.declared.text.Site.{Site}
 use Rattle.implib_check.specs.declared.text.Site.TheVariants as site
-use Rattle.implib_check.specs.declared.working.Piece.{Piece}
-use Rattle.implib_check.specs.declared.working.Piece.TheVariants as piece
+use Rattle.implib_compare.specs.declared.working.Piece.{Piece}
+use Rattle.implib_compare.specs.declared.working.Piece.TheVariants as piece
 
 -- What is found.
 

@@ -1,14 +1,10 @@
-pub mod Facts
-pub mod Partners
-pub mod Comparison
 pub mod Calls
 pub mod Targets
-pub mod Meant
+pub mod Refused
 pub mod OwnLibraries
 pub mod OwnExportAs
 pub mod DefinitionText
 pub mod Defining
-pub mod Working
 pub mod OwnIndexes
 pub mod OwnTables
 pub mod Tasks
@@ -20,5 +16,4 @@ pub mod WorkedChecks
 pub mod WorkedDefinitions
 pub mod WorkedExportAs
 pub mod WorkedJson
-pub mod WorkedWorking
 pub mod WorkedTogether

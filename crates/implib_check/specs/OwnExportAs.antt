@@ -16,10 +16,10 @@ use Rattle.implib_rules.specs.Library.{DefinitionFor, IsLibrary, definition_text
 use Rattle.implib_rules.specs.Linked.{NamingView}
 use Rattle.implib_rules.specs.Options.{LibraryOptionsView}
 use Rattle.implib_rules.specs.Order.{own_imports}
-use Rattle.implib_check.specs.declared.compare.Verdict.{Verdict}
-use Rattle.implib_check.specs.declared.compare.Verdict.TheVariants.{Same}
-use Rattle.implib_check.specs.Comparison.{AreTheSame, has_other, has_unread}
-use Rattle.implib_check.specs.Meant.{IsVerdictOn}
+use Rattle.implib_compare.specs.declared.compare.Verdict.{Verdict}
+use Rattle.implib_compare.specs.declared.compare.Verdict.TheVariants.{Same}
+use Rattle.implib_compare.specs.Comparison.{AreTheSame, has_other, has_unread}
+use Rattle.implib_compare.specs.Meant.{IsVerdictOn}
 use Rattle.implib_check.specs.OwnLibraries.{aliases_meant, by_export, meanings_read}
 
 -- whether the short import of an export, as it is linked, has a third text

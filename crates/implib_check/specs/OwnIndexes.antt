@@ -3,7 +3,7 @@ use Rattle.std.specs.Prelude.{◌≡◌, ℕ, false, List, [], Some}
 use Rattle.implib_read.specs.Archives.{Archive, archive_in}
 use Rattle.implib_rules.specs.Library.{IsLibrary}
 use Rattle.implib_rules.specs.Options.{LibraryOptionsView}
-use Rattle.implib_check.specs.Working.{first_misleads, linker_member, second_misleads}
+use Rattle.implib_compare.specs.Working.{first_misleads, linker_member, second_misleads}
 
 -- An archive has a first linker member, and neither that nor a second one misleads a linker.
 pub record IndexesLead (a : Archive) : Type 0 where

@@ -14,10 +14,10 @@ use Rattle.implib_read.specs.OwnLibraries.{meaning_of_class}
 use Rattle.implib_rules.specs.Library.{DefinitionFor, IsLibrary, definition_text}
 use Rattle.implib_rules.specs.Options.{LibraryOptionsView}
 use Rattle.implib_rules.specs.Order.{own_aliases, own_imports}
-use Rattle.implib_check.specs.declared.compare.Verdict.{Verdict}
-use Rattle.implib_check.specs.declared.compare.Verdict.TheVariants.{Same}
-use Rattle.implib_check.specs.Comparison.{AreTheSame, has_other, has_unread}
-use Rattle.implib_check.specs.Meant.{IsVerdictOn}
+use Rattle.implib_compare.specs.declared.compare.Verdict.{Verdict}
+use Rattle.implib_compare.specs.declared.compare.Verdict.TheVariants.{Same}
+use Rattle.implib_compare.specs.Comparison.{AreTheSame, has_other, has_unread}
+use Rattle.implib_compare.specs.Meant.{IsVerdictOn}
 
 -- the imports and aliases of members, in order
 abbrev pub meanings_read : List MemberRead → List Meaning

@@ -3,11 +3,11 @@ use Rattle.std.specs.Prelude.{◌≡◌, ℕ, false, List, Some, length}
 use Rattle.implib_read.specs.Classes.{MemberRead, library_in}
 use Rattle.implib_rules.specs.Library.{IsLibrary}
 use Rattle.implib_rules.specs.Options.{LibraryOptionsView}
-use Rattle.implib_check.specs.declared.working.Working.TheVariants.{Works}
-use Rattle.implib_check.specs.Comparison.{has_unread}
+use Rattle.implib_compare.specs.declared.working.Working.TheVariants.{Works}
+use Rattle.implib_compare.specs.Comparison.{has_unread}
 use Rattle.implib_read.specs.Identity.{dlls_of}
-use Rattle.implib_check.specs.Targets.{flavor_of}
-use Rattle.implib_check.specs.Working.{has_whole_tables, works_of}
+use Rattle.implib_compare.specs.Flavors.{flavor_of}
+use Rattle.implib_compare.specs.Working.{has_whole_tables, works_of}
 
 -- The library of a definition, in which no short import has a third text, works where its indexes mislead no linker: each of its members is understood, its imports
 -- are of one DLL at most, and its import tables are whole, for the flavour that is told from its members.

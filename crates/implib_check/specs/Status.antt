@@ -1,11 +1,11 @@
 -- The exit status of the program (this project's choice).
 use Rattle.std.specs.Prelude.{ℕ, Bool, ◌==◌, ◌&&◌, ◌||◌, not, if◌then◌else◌}
-use Rattle.implib_check.specs.declared.compare.Verdict.{Verdict}
-use Rattle.implib_check.specs.declared.compare.Verdict.TheVariants.{Different, NotDecided, Same}
+use Rattle.implib_compare.specs.declared.compare.Verdict.{Verdict}
+use Rattle.implib_compare.specs.declared.compare.Verdict.TheVariants.{Different, NotDecided, Same}
 use Rattle.implib_check.specs.declared.defining.Undefined.{Undefined}
 use Rattle.implib_check.specs.declared.defining.Undefined.TheVariants as undefined
-use Rattle.implib_check.specs.declared.working.Working.{Working}
-use Rattle.implib_check.specs.Working.{working_status}
+use Rattle.implib_compare.specs.declared.working.Working.{Working}
+use Rattle.implib_compare.specs.Working.{working_status}
 use Rattle.implib_rules.specs.declared.library.Refusal.{Refusal}
 use Rattle.implib_rules.specs.Library.{status_of}
 

@@ -1,41 +1,13 @@
 -- For which machine and linker a definition is compared with a library (this project's choice).
-use Rattle.std.specs.Prelude.{Bool, true, false, List, [], ◌∷◌, Option, None, if◌then◌else◌, unwrap_or}
-use Rattle.std.specs.List.{list_any}
-use Rattle.implib.specs.declared.flavor.Flavor.{Flavor}
-use Rattle.implib.specs.declared.flavor.Flavor.TheVariants.{Gnu, Msvc}
+use Rattle.std.specs.Prelude.{false, List, [], ◌∷◌, Option, None, unwrap_or}
 use Rattle.implib.specs.declared.machine.MachineType.{MachineType}
 use Rattle.implib.specs.declared.machine.MachineType.TheVariants.{AMD64}
 use Rattle.implib.specs.Conversions.{machine_numbered}
 use Rattle.implib_read.specs.Classes.{Class, AnImport, AnAlias, Descriptor, NullDescriptor, NullThunk, Head, Tail, DelayImport, Other, NotUnderstood, MemberRead}
-use Rattle.implib_read.specs.declared.import.ImportKind.{ImportKind}
-use Rattle.implib_read.specs.declared.import.ImportKind.TheVariants.{Code, CodeOrConst, Const, Data}
 use Rattle.implib_rules.specs.Additions.{no_additions}
 use Rattle.implib_rules.specs.Options.{LibraryOptionsView}
+use Rattle.implib_compare.specs.Flavors.{flavor_of}
 use Rattle.implib_check.specs.Calls.{CheckView, DefineView}
-
--- whether a kind tells code from a constant, as those of short imports alone do
-abbrev pub tells_code : ImportKind → Bool
-tells_code Code = true
-tells_code Data = false
-tells_code Const = true
-tells_code CodeOrConst = false
-
--- whether a member is one for Microsoft's linker: of its import tables, or a short import that is no data
-abbrev pub is_for_msvc : Class → Bool
-is_for_msvc (AnImport i) = tells_code i.kind
-is_for_msvc (AnAlias a) = false
-is_for_msvc Descriptor = true
-is_for_msvc NullDescriptor = true
-is_for_msvc NullThunk = true
-is_for_msvc Head = false
-is_for_msvc Tail = false
-is_for_msvc DelayImport = false
-is_for_msvc Other = false
-is_for_msvc NotUnderstood = false
-
--- the flavour of a library
-abbrev pub flavor_of : List MemberRead → Flavor
-flavor_of members = if list_any (λ m. is_for_msvc m.class) members then Msvc else Gnu
 
 -- the machine of an import, if it is known
 abbrev pub machine_of_class : Class → Option MachineType

@@ -5,7 +5,7 @@ use Rattle.std.specs.Char.{to_ascii_lowercase}
 use Rattle.std.specs.Option.{option_and_then, option_or}
 use Rattle.implib_read.specs.Classes.{Class, AnImport, AnAlias, Descriptor, NullDescriptor, NullThunk, Head, Tail, DelayImport, Other, NotUnderstood, MemberRead}
 use Rattle.implib_check.specs.declared.together.Claim.{Claim}
-use Rattle.implib_check.specs.Facts.{asked_by, asked_key, text_key}
+use Rattle.implib_compare.specs.Facts.{asked_by, asked_key, text_key}
 
 -- the symbols that a member declares as an import or an alias
 abbrev pub symbols_of : Class → List (List ℕ)

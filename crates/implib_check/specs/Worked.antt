@@ -1,78 +1,15 @@
--- Comparisons, names of DLLs, statuses and command lines, worked by hand.
-use Rattle.std.specs.Prelude.{◌≡◌, ℕ, true, false, List, [], ◌∷◌, None, Some, codes}
-use Rattle.implib.specs.Import.{Ask, Name, Ordinal}
-use Rattle.implib_read.specs.Classes.{Class, AnImport, AnAlias, Descriptor, NullThunk, DelayImport, Other, NotUnderstood, MemberRead}
-use Rattle.implib_read.specs.declared.import.ImportKind.{ImportKind}
-use Rattle.implib_read.specs.declared.import.ImportKind.TheVariants.{Code, CodeOrConst, Const, Data}
-use Rattle.implib_check.specs.Comparison.{differing, verdict}
+-- Names of DLLs, statuses and command lines, worked by hand.
+use Rattle.std.specs.Prelude.{◌≡◌, true, false, [], ◌∷◌, None, Some, codes}
+use Rattle.implib.specs.Import.{Ordinal}
+use Rattle.implib_read.specs.Classes.{Descriptor}
+use Rattle.implib_read.specs.declared.import.ImportKind.TheVariants.{Code}
 use Rattle.implib_read.specs.Identity.{dlls_of}
-use Rattle.implib_check.specs.Status.{identity_status, list_status, verdict_status}
+use Rattle.implib_compare.specs.Worked.{alias, member, of_dll}
+use Rattle.implib_compare.specs.declared.compare.Verdict.TheVariants.{Different, Same}
+use Rattle.implib_compare.specs.declared.compare.Verdict.TheVariants.{NotDecided as Open}
+use Rattle.implib_compare.specs.declared.working.Working.TheVariants.{Broken, NotDecided, Works}
+use Rattle.implib_check.specs.Status.{comparison_status, identity_status, list_status, verdict_status}
 use Rattle.implib_check.specs.Tasks.{Compares, Help, Identifies, Joins, Lists, Version, WorksOf, asks_json, call_named, task_named}
-use Rattle.implib_check.specs.declared.compare.Verdict.TheVariants.{Different, NotDecided, Same}
-
--- a member
-abbrev pub member : Class → MemberRead
-member class = record { name = codes "m"; offset = 8; class = class }
-
--- an import of a DLL
-abbrev pub of_dll : List ℕ → List (List ℕ) → Ask → ImportKind → ℕ → MemberRead
-of_dll dll declared ask kind machine = member (AnImport (record {
-  imports = record { dll = dll; declared = declared; ask = ask };
-  kind = kind;
-  machine = machine;
-}))
-
--- the symbols of feed
-abbrev pub feed : List (List ℕ)
-feed = codes "__imp_feed" ∷ codes "feed" ∷ []
-
--- feed of zoo.dll on AMD64, by its name with the hint 0
-abbrev pub feed_of_zoo : ImportKind → MemberRead
-feed_of_zoo kind = of_dll (codes "zoo.dll") feed (Name (codes "feed") 0) kind 0x8664
-
--- an alias
-abbrev pub alias : List ℕ → List ℕ → MemberRead
-alias weak target = member (AnAlias (record { weak = weak; target = target }))
-
--- a library of an import and an alias
-abbrev pub zoo : List MemberRead
-zoo = member Descriptor ∷ feed_of_zoo Code ∷ alias (codes "nourish") (codes "feed") ∷ []
-
--- Which libraries are the same as `zoo`.
-pub record WorkedComparisons : Type 0 where
-  pub itself : verdict zoo zoo ≡ Same
-  pub empty : verdict [] [] ≡ Same
-  -- in another order, with other members of import tables
-  pub order : verdict zoo (alias (codes "nourish") (codes "feed") ∷ feed_of_zoo Code ∷ member NullThunk ∷ []) ≡ Same
-  -- with a DLL's name in capitals, and another hint
-  pub capitals : verdict (feed_of_zoo Code ∷ []) (of_dll (codes "ZOO.DLL") feed (Name (codes "feed") 0) Code 0x8664 ∷ []) ≡ Same
-  pub hint : verdict (feed_of_zoo Code ∷ []) (of_dll (codes "zoo.dll") feed (Name (codes "feed") 7) Code 0x8664 ∷ []) ≡ Same
-  -- code and a constant are as one that is not told
-  pub untold : verdict (feed_of_zoo Code ∷ []) (feed_of_zoo CodeOrConst ∷ []) ≡ Same
-  pub untold_constant : verdict (feed_of_zoo CodeOrConst ∷ []) (feed_of_zoo Const ∷ []) ≡ Same
-  pub constant : verdict (feed_of_zoo Code ∷ []) (feed_of_zoo Const ∷ []) ≡ Different
-  pub constant_data : verdict (feed_of_zoo Const ∷ []) (feed_of_zoo Data ∷ []) ≡ Different
-  pub untold_data : verdict (feed_of_zoo CodeOrConst ∷ []) (feed_of_zoo Data ∷ []) ≡ Different
-  -- another DLL, symbols, name, ordinal, machine
-  pub dll : verdict (feed_of_zoo Code ∷ []) (of_dll (codes "zoo.dl") feed (Name (codes "feed") 0) Code 0x8664 ∷ []) ≡ Different
-  pub symbols : verdict (feed_of_zoo Code ∷ []) (of_dll (codes "zoo.dll") (codes "__imp_feed" ∷ []) (Name (codes "feed") 0) Code 0x8664 ∷ []) ≡ Different
-  pub name : verdict (feed_of_zoo Code ∷ []) (of_dll (codes "zoo.dll") feed (Name (codes "Feed") 0) Code 0x8664 ∷ []) ≡ Different
-  pub by_ordinal : verdict (feed_of_zoo Code ∷ []) (of_dll (codes "zoo.dll") feed (Ordinal 0) Code 0x8664 ∷ []) ≡ Different
-  pub ordinal : verdict (of_dll (codes "zoo.dll") feed (Ordinal 7) Code 0x8664 ∷ []) (of_dll (codes "zoo.dll") feed (Ordinal 263) Code 0x8664 ∷ []) ≡ Different
-  pub machine : verdict (feed_of_zoo Code ∷ []) (of_dll (codes "zoo.dll") feed (Name (codes "feed") 0) Code 0x8665 ∷ []) ≡ Different
-  -- another alias, the same twice, none
-  pub weak : verdict (alias (codes "a") (codes "b") ∷ []) (alias (codes "c") (codes "b") ∷ []) ≡ Different
-  pub target : verdict (alias (codes "a") (codes "b") ∷ []) (alias (codes "a") (codes "c") ∷ []) ≡ Different
-  pub parted : verdict (alias (codes "ab") (codes "c") ∷ []) (alias (codes "a") (codes "bc") ∷ []) ≡ Different
-  pub twice : verdict zoo (feed_of_zoo Code ∷ zoo) ≡ Different
-  pub none : verdict zoo [] ≡ Different
-  -- another object leaves it open where the imports are the same, and one that is not understood always
-  pub other : verdict zoo (member Other ∷ zoo) ≡ NotDecided
-  pub other_differs : verdict (member Other ∷ []) zoo ≡ Different
-  pub not_understood : verdict zoo (member NotUnderstood ∷ zoo) ≡ NotDecided
-  pub delayed : verdict (member DelayImport ∷ []) zoo ≡ NotDecided
-  -- which members differ: of two that are equal the second, where the other library has one
-  pub flags : differing true (feed_of_zoo Code ∷ alias (codes "a") (codes "b") ∷ feed_of_zoo Code ∷ []) zoo ≡ false ∷ true ∷ true ∷ []
 
 -- Which DLLs a library has.
 pub record WorkedIdentities : Type 0 where
@@ -85,7 +22,13 @@ pub record WorkedIdentities : Type 0 where
 pub record WorkedStatuses : Type 0 where
   pub same : verdict_status Same ≡ 0
   pub different : verdict_status Different ≡ 1
-  pub not_decided : verdict_status NotDecided ≡ 4
+  pub not_decided : verdict_status Open ≡ 4
+  -- of those that are the same whether they work counts; what differs differs, whether it works or not
+  pub same_works : comparison_status Same Works ≡ 0
+  pub same_broken : comparison_status Same Broken ≡ 1
+  pub same_open : comparison_status Same NotDecided ≡ 4
+  pub different_works : comparison_status Different Works ≡ 1
+  pub open_broken : comparison_status Open Broken ≡ 4
   pub listed : list_status false ≡ 0
   pub unread : list_status true ≡ 4
   pub one_dll : identity_status false 1 true ≡ 0
@@ -100,6 +43,7 @@ pub record WorkedTasks : Type 0 where
   pub identify : task_named (codes "--identify" ∷ codes "a.lib" ∷ []) ≡ Some (Identifies (codes "a.lib") false)
   pub strictly : task_named (codes "--identify-strict" ∷ codes "a.lib" ∷ []) ≡ Some (Identifies (codes "a.lib") true)
   pub same : task_named (codes "--same" ∷ codes "a.lib" ∷ codes "b.lib" ∷ []) ≡ Some (Compares (codes "a.lib") (codes "b.lib"))
+  pub works : task_named (codes "--works" ∷ codes "a.lib" ∷ []) ≡ Some (WorksOf (codes "a.lib"))
   pub help : task_named (codes "-h" ∷ []) ≡ Some Help
   pub long_help : task_named (codes "--help" ∷ []) ≡ Some Help
   pub version : task_named (codes "-V" ∷ []) ≡ Some Version

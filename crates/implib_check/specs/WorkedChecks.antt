@@ -12,9 +12,9 @@ use Rattle.implib_rules.specs.Additions.{no_additions}
 use Rattle.implib_rules.specs.Machines.{machine_called}
 use Rattle.implib_check.specs.Calls.{CheckView, check_called, define_called}
 use Rattle.implib_check.specs.Status.{refusal_status}
-use Rattle.implib_check.specs.Targets.{flavor_of, machine_of, options_for}
+use Rattle.implib_check.specs.Targets.{machine_of, options_for}
 use Rattle.implib_check.specs.Tasks.{Checks, Compares, call_named, task_named}
-use Rattle.implib_check.specs.Worked.{alias, feed, member, of_dll}
+use Rattle.implib_compare.specs.Worked.{import_on, member}
 
 -- a library beside a definition, with no option
 abbrev pub plain_check : CheckView
@@ -76,19 +76,8 @@ pub record WorkedChecks : Type 0 where
   pub not_text : (position : Position) → refusal_status (NotUtf8 position) ≡ 1
   pub no_memory : refusal_status OutOfMemory ≡ 3
 
--- an import on a machine
-abbrev pub import_on : ImportKind → ℕ → MemberRead
-import_on kind machine = of_dll (codes "zoo.dll") feed (Ordinal 1) kind machine
-
--- The flavour and the machine of libraries, and what a definition's library is made for.
+-- The machine of libraries, and what a definition's library is made for.
 pub record WorkedTargets : Type 0 where
-  pub msvc : flavor_of (member Descriptor ∷ member NullDescriptor ∷ member NullThunk ∷ import_on Code 0x8664 ∷ []) ≡ Msvc
-  pub tables : flavor_of (member Descriptor ∷ import_on Data 0x8664 ∷ []) ≡ Msvc
-  pub code : flavor_of (import_on Code 0x8664 ∷ []) ≡ Msvc
-  pub constant : flavor_of (import_on Data 0x8664 ∷ import_on Const 0x8664 ∷ []) ≡ Msvc
-  pub gnu : flavor_of (member Tail ∷ member Head ∷ import_on CodeOrConst 0x8664 ∷ []) ≡ Gnu
-  pub data_alone : flavor_of (import_on Data 0x8664 ∷ alias (codes "a") (codes "b") ∷ member Other ∷ []) ≡ Gnu
-  pub none : flavor_of [] ≡ Gnu
   pub first : machine_of (member Descriptor ∷ import_on Code 0x14C ∷ import_on Code 0x8664 ∷ []) ≡ I386
   pub known : machine_of (import_on Code 0xA641 ∷ import_on Code 0xAA64 ∷ []) ≡ ARM64
   pub arm : machine_of (import_on Code 0x1C4 ∷ []) ≡ ARMNT

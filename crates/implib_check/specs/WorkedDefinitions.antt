@@ -14,7 +14,7 @@ use Rattle.implib_check.specs.Calls.{DefineView, define_called}
 use Rattle.implib_check.specs.DefinitionText.{definition_text, is_plain_name, name_text, word_of_symbol}
 use Rattle.implib_check.specs.Targets.{options_of}
 use Rattle.implib_check.specs.Tasks.{Defines, task_named}
-use Rattle.implib_check.specs.Worked.{alias, feed, member, of_dll, zoo}
+use Rattle.implib_compare.specs.Worked.{alias, feed, member, of_dll, zoo}
 
 -- for a machine and a flavour
 abbrev pub on : MachineType → Flavor → LibraryOptionsView

@@ -6,8 +6,8 @@ use Rattle.implib_read.specs.declared.import.ImportKind.TheVariants.{Code}
 use Rattle.serde_json.specs.Data.{Data, Members, member, no_members, number, object, string, unsigned}
 use Rattle.implib_check.specs.Json.{Clash, Different, FaultOf, InDefinition, InLibrary, Listed, Missing, MisleadingEntry, NoIndex, NotOnePart}
 use Rattle.implib_check.specs.Json.{SeveralDlls, SideView, UnreadableIndex, object_of, text_of}
-use Rattle.implib_check.specs.Worked.{alias, feed, of_dll}
-use Rattle.implib_check.specs.declared.working.Piece.TheVariants.{OfHead}
+use Rattle.implib_compare.specs.Worked.{alias, feed, of_dll}
+use Rattle.implib_compare.specs.declared.working.Piece.TheVariants.{OfHead}
 
 -- a field that is a word, and one that is a number
 abbrev pub word : List ℕ → List ℕ → Members → Members

@@ -6,7 +6,7 @@ use Rattle.implib_read.specs.declared.import.ImportKind.TheVariants.{Code, CodeO
 use Rattle.implib_check.specs.Status.{together_status}
 use Rattle.implib_check.specs.Tasks.{Joins, task_named}
 use Rattle.implib_check.specs.Together.{ClaimView, claims_from, clashes}
-use Rattle.implib_check.specs.Worked.{alias, feed, member, of_dll}
+use Rattle.implib_compare.specs.Worked.{alias, feed, member, of_dll}
 
 -- the claims of two libraries of one member each, in the order of their libraries
 abbrev pub both_claims : MemberRead → MemberRead → List ClaimView

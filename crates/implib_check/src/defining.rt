@@ -6,11 +6,11 @@ ghost use Rattle.implib_check.specs.DefinitionText.{definition_text};
 ghost use Rattle.implib_read.specs.ClassViews.{member_read_view};
 ghost use Rattle.implib_rules.specs.Options.{library_options_view};
 
-use crate::compare::{Verdict, has_unread};
 use crate::definition::{CheckError, check_definition};
 use crate::definition_text::definition_text;
 use crate::laws::meant_is_defined;
 use crate::report::{Failure, Form};
+use implib_compare::compare::{Verdict, has_unread};
 use implib_read::MemberRead;
 use implib_rules::library::Refusal;
 use implib_rules::options::LibraryOptions;

@@ -1,22 +1,24 @@
 //! Whether a library means what a definition means.
 
 ghost use Rattle.std.specs.Prelude.{◌≡◌, map, IfErr, IfOk, None, Some};
-ghost use Rattle.implib_check.specs.Meant.{IsRefusalOfCheck, IsVerdictOn};
+ghost use Rattle.implib_check.specs.Refused.{IsRefusalOfCheck};
+ghost use Rattle.implib_compare.specs.Meant.{IsVerdictOn};
 ghost use Rattle.implib_read.specs.Classes.{library_in};
 ghost use Rattle.implib_read.specs.ClassViews.{member_read_view};
-ghost use Rattle.implib_rules.specs.Library.{IsLibrary, IsRefusalOfBytes};
+ghost use Rattle.implib_rules.specs.Library.{IsRefusalOfBytes};
 ghost use Rattle.implib_rules.specs.Options.{library_options_view};
 
-use crate::compare::{Verdict, compare};
 use crate::differences::tell_both;
 use crate::finding::Source;
 use crate::positions::Positions;
 use crate::report::{Failure, Form};
+use implib_compare::compare::{Verdict, compare};
+use implib_compare::meant::library_meant;
 use implib_read::laws::own_members_found;
 use implib_read::{Library, MemberRead};
-use implib_rules::library::{LibraryError, Refusal, write_library};
+use implib_rules::library::Refusal;
 use implib_rules::options::LibraryOptions;
-use std::alloc::{AllocError, Global};
+use std::alloc::AllocError;
 use std::io::Write;
 
 /// Why a library is not compared with a definition.
@@ -59,23 +61,6 @@ impl From<AllocError> for CheckError {
 
     fn from(_refused: AllocError) -> CheckError {
         CheckError::Failed(Failure::OutOfMemory)
-    }
-}
-
-/// The library of a definition, which is what the definition means.
-pub fn library_meant(
-    alloc: Global,
-    definition: &[u8],
-    options: &LibraryOptions,
-) -> Result<Vec<u8>, Refusal>
-    ensures library { IfOk result (λ file. IsLibrary definition.now (library_options_view options.now) file.items) }
-    ensures refused { IfErr result (IsRefusalOfBytes definition.now (library_options_view options.now)) }
-{
-    let mut file = Vec::new(alloc);
-    match write_library(alloc, definition, options, &mut file) {
-        Ok(()) => Ok(file),
-        Err(LibraryError::Refused(refusal)) => Err(refusal),
-        Err(LibraryError::Writing(_)) => Err(Refusal::OutOfMemory),
     }
 }
 

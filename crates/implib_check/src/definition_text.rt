@@ -13,8 +13,8 @@ ghost use Rattle.implib_read.specs.Symbols.{linked_symbol, without_imp};
 ghost use Rattle.implib_rules.specs.Linked.{naming_view};
 ghost use Rattle.implib_rules.specs.Options.{library_options_view};
 
-use crate::keys::tells_constants;
 use implib::{Flavor, MachineType};
+use implib_compare::keys::tells_constants;
 use implib_read::{
     AliasFound, AskFound, ImportFound, ImportKind, MemberClass, MemberRead, dll_of, linked_symbol,
     without_imp,

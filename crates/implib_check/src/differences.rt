@@ -1,9 +1,9 @@
 //! The differences of two libraries.
 
-use crate::compare::Comparison;
 use crate::finding::{Finding, Source};
 use crate::report::{BUFFER, Failure, Form, flushed, tell};
 use crate::text::symbol_of_member;
+use implib_compare::compare::Comparison;
 use implib_read::MemberRead;
 use std::alloc::{AllocError, Global};
 use std::collections::HashMap;

@@ -5,7 +5,7 @@ ghost use Rattle.implib_check.specs.Json.{piece_words};
 
 use crate::positions::Positions;
 use crate::text::{Listed, Place, Said, Shown, Site, symbol_of_member};
-use crate::working::Piece;
+use implib_compare::working::Piece;
 use implib_read::{IndexEntry, MemberRead};
 use std::fmt;
 

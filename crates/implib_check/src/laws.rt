@@ -1,26 +1,19 @@
 //! Laws of the definitions. The functions do nothing: their contracts are the laws.
 
-ghost use Rattle.implib_check.specs.Facts.{KeysTellFacts};
 ghost use Rattle.implib_check.specs.OwnExportAs.{MadeLibrariesAreTheSame, MeantIsMade, SameSaysTheMade};
 ghost use Rattle.implib_check.specs.OwnIndexes.{OwnIndexesLead};
 ghost use Rattle.implib_check.specs.OwnLibraries.{MeantIsDefined, OwnLibrariesAreTheSame, SameSaysTheDefined};
 ghost use Rattle.implib_check.specs.OwnTables.{OwnTablesAreWhole};
-ghost use Rattle.implib_check.specs.Worked.{WorkedComparisons, WorkedIdentities, WorkedStatuses, WorkedTasks};
+ghost use Rattle.implib_check.specs.Worked.{WorkedIdentities, WorkedStatuses, WorkedTasks};
 ghost use Rattle.implib_check.specs.WorkedChecks.{WorkedChecks, WorkedTargets};
 ghost use Rattle.implib_check.specs.WorkedDefinitions.{WorkedDefines, WorkedDefinitions};
 ghost use Rattle.implib_check.specs.WorkedExportAs.{WorkedExportAs};
 ghost use Rattle.implib_check.specs.WorkedJson.{WorkedJson};
 ghost use Rattle.implib_check.specs.WorkedTogether.{WorkedTogether};
-ghost use Rattle.implib_check.specs.WorkedWorking.{WorkedWorking};
 
 use implib_read::laws::{
     own_gnu_libraries, own_members_found, same_objects, same_parts, same_short_imports,
 };
-
-/// Two imports or aliases with one key are the same.
-pub fn keys_tell_facts()
-    ensures { KeysTellFacts }
-{}
 
 /// What is read of the library of a definition is what the definition says: its imports and its aliases, in the order of
 /// its exports, and parts of import tables.
@@ -71,11 +64,6 @@ pub fn own_tables_are_whole()
     meant_is_defined();
 }
 
-/// Which libraries are the same, and which differ in what, worked by hand.
-pub fn worked_comparisons()
-    ensures { WorkedComparisons }
-{}
-
 /// Which DLLs libraries have, worked by hand.
 pub fn worked_identities()
     ensures { WorkedIdentities }
@@ -109,11 +97,6 @@ pub fn worked_definitions()
 /// What calls ask for a definition, and some that do not.
 pub fn worked_defines()
     ensures { WorkedDefines }
-{}
-
-/// Where indexes mislead, and which libraries work, worked by hand.
-pub fn worked_working()
-    ensures { WorkedWorking }
 {}
 
 /// What libraries do to each other in one link, worked by hand.

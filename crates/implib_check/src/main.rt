@@ -1,24 +1,20 @@
 //! Reads import libraries of any maker: lists their imports, names their DLLs, and compares them with one another and
 //! with definitions.
 //!
-//! What the words of the command line ask for, which DLLs a library has, which members of two libraries differ, and
-//! whether a library means what a definition means, are decided by functions with contracts ([`task`], [`call`],
-//! [`keys`], [`partners`], [`compare`], [`target`], [`definition`]). What is then read and written are
-//! files ([`program`]), with lines of text or of JSON ([`finding`], [`text`], [`json`], [`report`], [`differences`],
-//! [`positions`]).
+//! What the words of the command line ask for, and whether a library means what a definition means, are decided by
+//! functions with contracts ([`task`], [`call`], [`target`], [`definition`]), and which members of two libraries differ,
+//! and whether a library works, by those of `implib_compare`. What is then read and written are files ([`program`]),
+//! with lines of text or of JSON ([`finding`], [`text`], [`json`], [`report`], [`differences`], [`positions`]).
 #![tactic(auto)]
 
 pub mod call;
-pub mod compare;
 pub mod defining;
 pub mod definition;
 pub mod definition_text;
 mod differences;
 mod finding;
 mod json;
-pub mod keys;
 pub mod laws;
-pub mod partners;
 mod positions;
 pub mod program;
 mod report;
@@ -27,7 +23,6 @@ pub mod target;
 pub mod task;
 mod text;
 pub mod together;
-pub mod working;
 
 use crate::program::perform;
 use std::process::ExitCode;

@@ -4,7 +4,6 @@ ghost use Rattle.std.specs.Prelude.{◌≡◌};
 ghost use Rattle.implib_check.specs.Status.{refusal_status, undefined_status};
 
 use crate::call::{Check, Define};
-use crate::compare::{Comparison, Verdict, compare, has_unread};
 use crate::defining::{Undefined, definition_of};
 use crate::definition::{CheckError, check_definition};
 use crate::differences::tell_both;
@@ -14,16 +13,16 @@ use crate::status::{
     comparison_status, identity_status, list_status, refusal_status, together_status,
     undefined_status,
 };
-use crate::target::{flavor_of, options_for, options_of};
+use crate::target::{options_for, options_of};
 use crate::task::{CommandLine, Task, call_named};
 use crate::text::{Place, Shown, Site, doubt_of, fault_of, is_listed};
 use crate::together::{Claim, add_claims, clashes};
-use crate::working::{
-    Piece, Working, both_work, first_misleads, has_one, has_whole_tables, linker_member,
-    second_misleads, working_status, works_of,
-};
 use implib::Flavor;
-use implib_read::{IndexEntry, Library, MemberRead, dlls_of};
+use implib_compare::compare::{Comparison, Verdict, compare, has_unread};
+use implib_compare::working::{
+    Examined, IndexFound, Piece, Working, both_work, examine, has_one, working_status,
+};
+use implib_read::{Library, MemberRead, dlls_of};
 use implib_rules::library::Refusal;
 use implib_rules::{ShownPlace, position_of};
 use indexmap::IndexSet;
@@ -465,21 +464,20 @@ fn run_define<R: Files + AllocGlobal, O: Write, E: Write>(
     }
 }
 
-// Writes the entries of an index that mislead, and whether the index does.
+// Writes the entries of an index that mislead.
 fn tell_index<O: Write>(
     form: Form,
     printer: &mut O,
     path: &str,
     number: u8,
-    found: &Option<Vec<IndexEntry>>,
-) -> Result<bool, Failure> {
+    found: &IndexFound,
+) -> Result<(), Failure> {
     let Some(entries) = found else {
-        tell(
+        return tell(
             form,
             printer,
             &Finding::Fault(path, Fault::UnreadableIndex(number)),
-        )?;
-        return Ok(true);
+        );
     };
     for entry in entries {
         tell(
@@ -488,30 +486,24 @@ fn tell_index<O: Write>(
             &Finding::Fault(path, Fault::MisleadingEntry(number, entry)),
         )?;
     }
-    Ok(!entries.is_empty())
+    Ok(())
 }
 
-// Writes what is wrong with the indexes of a library, and whether something is.
+// Writes what is wrong with the indexes of a library.
 fn tell_indexes<O: Write>(
     form: Form,
     printer: &mut O,
     path: &str,
-    library: &Library,
-) -> Result<bool, Failure> {
-    let parts = library.archive.parts.as_slice();
-    let members = library.archive.members.as_slice();
-    let Some(contents) = linker_member(0, parts) else {
-        tell(form, printer, &Finding::Fault(path, Fault::NoIndex))?;
-        return Ok(true);
-    };
-    let found = first_misleads(form.alloc, members, contents)?;
-    let first = tell_index(form, printer, path, 1, &found)?;
-    let Some(contents) = linker_member(1, parts) else {
-        return Ok(first);
-    };
-    let found = second_misleads(form.alloc, members, contents)?;
-    let second = tell_index(form, printer, path, 2, &found)?;
-    Ok(first || second)
+    examined: &Examined,
+) -> Result<(), Failure> {
+    match &examined.first {
+        Some(found) => tell_index(form, printer, path, 1, found)?,
+        None => tell(form, printer, &Finding::Fault(path, Fault::NoIndex))?,
+    }
+    match &examined.second {
+        Some(found) => tell_index(form, printer, path, 2, found),
+        None => Ok(()),
+    }
 }
 
 // Writes that a part of import tables is not there once, if it is not.
@@ -560,18 +552,15 @@ fn tell_working<O: Write>(
     path: &str,
     library: &Library,
 ) -> Result<Working, Failure> {
-    let members = library.members.as_slice();
-    let flavor = flavor_of(members);
-    let misleads = tell_indexes(form, printer, path, library)?;
-    let dlls = dlls_of(form.alloc, members)?;
-    let whole = has_whole_tables(flavor, members);
-    if dlls.len() == 1 && !whole {
-        tell_tables(form, printer, path, flavor, members)?;
+    let examined = examine(form.alloc, library)?;
+    tell_indexes(form, printer, path, &examined)?;
+    if examined.dlls == 1 && !examined.is_whole {
+        tell_tables(form, printer, path, examined.flavor, &library.members)?;
     }
-    if dlls.len() > 1 {
+    if examined.dlls > 1 {
         tell(form, printer, &Finding::Fault(path, Fault::SeveralDlls))?;
     }
-    Ok(works_of(misleads, has_unread(members), dlls.len(), whole))
+    Ok(examined.working)
 }
 
 // Says whether a library works, and gives the exit status.

@@ -3,9 +3,9 @@
 ghost use Rattle.std.specs.Prelude.{◌≡◌};
 ghost use Rattle.implib_check.specs.Status.{comparison_status, identity_status, list_status, refusal_status, together_status, undefined_status, verdict_status};
 
-use crate::compare::Verdict;
 use crate::defining::Undefined;
-use crate::working::{Working, working_status};
+use implib_compare::compare::Verdict;
+use implib_compare::working::{Working, working_status};
 use implib_rules::library::Refusal;
 
 /// The exit status of a comparison.

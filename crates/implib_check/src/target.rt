@@ -2,49 +2,18 @@
 
 ghost use Rattle.std.specs.Prelude.{◌≡◌, map, unwrap_or};
 ghost use Rattle.implib_check.specs.Calls.{check_view, define_view};
-ghost use Rattle.implib_check.specs.Targets.{flavor_of, is_for_msvc, machine_of, machine_of_class, options_for, options_of, tells_code};
+ghost use Rattle.implib_check.specs.Targets.{machine_of, machine_of_class, options_for, options_of};
+ghost use Rattle.implib_compare.specs.Flavors.{flavor_of};
 ghost use Rattle.implib_read.specs.ClassViews.{class_view, member_read_view};
 ghost use Rattle.implib_rules.specs.Options.{library_options_view};
 
 use crate::call::{Check, Define};
 use implib::{Flavor, MachineType};
-use implib_read::{ImportKind, MemberClass, MemberRead};
+use implib_compare::flavor::flavor_of;
+use implib_read::{MemberClass, MemberRead};
 use implib_rules::additions::Additions;
 use implib_rules::linked::Naming;
 use implib_rules::options::LibraryOptions;
-
-// Whether a kind tells code from a constant.
-fn tells_code(kind: ImportKind) -> bool
-    ensures { result ≡ tells_code kind }
-{
-    match kind {
-        ImportKind::Code | ImportKind::Const => true,
-        ImportKind::Data | ImportKind::CodeOrConst => false,
-    }
-}
-
-// Whether a member is one for Microsoft's linker.
-fn is_for_msvc(class: &MemberClass) -> bool
-    ensures { result ≡ is_for_msvc (class_view class.now) }
-{
-    match class {
-        MemberClass::Descriptor | MemberClass::NullDescriptor | MemberClass::NullThunk => true,
-        MemberClass::Import(import) => tells_code(import.kind),
-        _ => false,
-    }
-}
-
-/// The flavour of a library: Microsoft's where a member is for its linker, else GNU's.
-pub fn flavor_of(members: &[MemberRead]) -> Flavor
-    ensures { result ≡ flavor_of (map member_read_view members.now) }
-{
-    for member in members {
-        if is_for_msvc(&member.class) {
-            return Flavor::Msvc;
-        }
-    }
-    Flavor::Gnu
-}
 
 // The machine of an import, if it is known.
 fn machine_of_class(class: &MemberClass) -> Option<MachineType>

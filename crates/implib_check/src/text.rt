@@ -3,8 +3,8 @@
 ghost use Rattle.std.specs.Prelude.{◌≡◌};
 ghost use Rattle.implib_check.specs.Json.{kind_word};
 
-use crate::compare::{is_other, is_unread};
 use implib::def::Position;
+use implib_compare::compare::{is_other, is_unread};
 use implib_read::{AskFound, ImportFound, ImportKind, MemberClass, MemberRead, linked_symbol};
 use std::fmt;
 use std::fmt::Write as _;

@@ -5,14 +5,14 @@ ghost use Rattle.std.specs.Char.{to_ascii_lowercase};
 ghost use Rattle.std.specs.HashMap.{get_by};
 ghost use Rattle.std.specs.Option.{option_or};
 ghost use Rattle.implib.specs.Import.{import_symbols};
-ghost use Rattle.implib_check.specs.Facts.{asked_by, asked_key, text_key};
+ghost use Rattle.implib_compare.specs.Facts.{asked_by, asked_key, text_key};
 ghost use Rattle.implib_check.specs.Together.{apart, claim_for, claim_view, claims_from, claims_of, clash_of, clashes, first_of, made_of, symbols_of};
 ghost use Rattle.implib_read.specs.AliasViews.{alias_view};
 ghost use Rattle.implib_read.specs.Classes.{AnAlias, AnImport};
 ghost use Rattle.implib_read.specs.ClassViews.{class_view, imported_view, member_read_view};
 ghost use Rattle.implib_read.specs.ImportViews.{ask_view, declared_view};
 
-use crate::keys::{push_asked, push_dll, push_text};
+use implib_compare::keys::{push_asked, push_dll, push_text};
 use implib_read::{AliasFound, DeclaredFound, ImportFound, MemberClass, MemberRead};
 use std::alloc::{AllocError, Global};
 use std::collections::HashMap;

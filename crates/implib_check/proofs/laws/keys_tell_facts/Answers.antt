@@ -1,5 +1,0 @@
-use Rattle.implib_check.proofs.KeyTexts.{keys_tell_facts}
-use Rattle.implib_check.proofs.laws.keys_tell_facts.Goals as goal
-
-pub returns : goal.returns
-returns c = keys_tell_facts

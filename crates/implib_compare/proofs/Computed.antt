@@ -1,0 +1,87 @@
+-- What is worked by hand, computed.
+use Rattle.std.proofs.Common.{refl}
+use Rattle.implib.specs.Formats.Object.{before_nul, bytes_at, u16_at, u32_at}
+use Rattle.implib_read.specs.Indexes.{entries_from, first_index_in, second_index_in}
+use Rattle.implib_read.specs.ShortImports.{short_import_found}
+use Rattle.implib_compare.specs.Worked.{WorkedComparisons, WorkedFlavors}
+use Rattle.implib_compare.specs.WorkedWorking.{WorkedWorking}
+
+pub worked_comparisons : WorkedComparisons
+worked_comparisons = record {
+  itself = refl;
+  empty = refl;
+  order = refl;
+  capitals = refl;
+  hint = refl;
+  untold = refl;
+  untold_constant = refl;
+  constant = refl;
+  constant_data = refl;
+  untold_data = refl;
+  dll = refl;
+  symbols = refl;
+  name = refl;
+  by_ordinal = refl;
+  ordinal = refl;
+  machine = refl;
+  weak = refl;
+  target = refl;
+  parted = refl;
+  twice = refl;
+  none = refl;
+  other = refl;
+  other_differs = refl;
+  not_understood = refl;
+  delayed = refl;
+  flags = refl;
+}
+
+pub worked_flavors : WorkedFlavors
+worked_flavors = record {
+  msvc = refl;
+  tables = refl;
+  code = refl;
+  constant = refl;
+  gnu = refl;
+  data_alone = refl;
+  none = refl;
+}
+
+pub worked_working : WorkedWorking
+unfolding before_nul bytes_at entries_from first_index_in second_index_in short_import_found u16_at u32_at
+worked_working = record {
+  first = refl;
+  second = refl;
+  third = refl;
+  leads = refl;
+  elsewhere = refl;
+  undeclared = refl;
+  too_short = refl;
+  numbered = refl;
+  misnumbered = refl;
+  passed_over = refl;
+  first_counts = refl;
+  other_symbol = refl;
+  second_passed_over = refl;
+  second_counts = refl;
+  msvc = refl;
+  no_thunk = refl;
+  two_descriptors = refl;
+  gnu = refl;
+  two_heads = refl;
+  no_tail = refl;
+  works = refl;
+  broken = refl;
+  misleads = refl;
+  unread = refl;
+  empty = refl;
+  two_dlls = refl;
+  done = refl;
+  fails = refl;
+  undecided = refl;
+  both_open = refl;
+  second_broken = refl;
+  first_broken = refl;
+  second_open = refl;
+  both_do = refl;
+}

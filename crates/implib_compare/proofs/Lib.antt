@@ -1,0 +1,5 @@
+pub mod Computed
+pub mod Counting
+pub mod FirstEntries
+pub mod KeyTexts
+pub mod Matching
