@@ -257,8 +257,9 @@ static int take(void *context, const uint8_t *bytes, size_t count)
     demand(count > 0 && count <= IMPLIB_PIECE_SIZE, "a piece is empty, or too long");
     demand(taken->length + count <= taken->library.length, "more is written than the library");
     demand(memcmp(taken->library.buffer + taken->length, bytes, count) == 0, "another library is written");
+    /* Any number but 0 ends the call. */
     if (taken->pieces == taken->refused)
-        return -1;
+        return taken->pieces % 2 == 0 ? 1 : -1;
     taken->pieces++;
     taken->length += count;
     return 0;

@@ -18,6 +18,7 @@ worked_long_names = record {
   tables = refl;
   beyond = refl;
   no_digit = refl;
+  colon = refl;
   letter = refl;
   no_offset = refl;
   no_nul = refl;

@@ -16,7 +16,7 @@ use Rattle.implib_link.specs.Gnu.Pointers.{load_reads}
 use Rattle.implib_link.specs.Stub.{adrp_immediate, jump_reads, ldr_immediate, page, plus_signed, word_at}
 use Rattle.implib_link.specs.Worked.Programs.{symbol_of_class}
 use Rattle.implib_link.specs.Worked.RefusedFields.{open_address, two_ranges}
-use Rattle.implib_link.specs.Worked.Rules.{ArrivalRules, LldRules, MovingRules, SymbolRules, early_caller, late_open, other_address}
+use Rattle.implib_link.specs.Worked.Rules.{ArrivalRules, FieldRules, LldRules, MovingRules, SymbolRules, early_caller, late_open, other_address}
 use Rattle.implib_link.proofs.Gnu.Fields.{located_each}
 use Rattle.implib_link.proofs.Worked.Programs.{opened}
 use Rattle.implib_link.proofs.Worked.RefusedFields.{other_byte, value}
@@ -32,7 +32,9 @@ lld_rules = record {
   amd64_lookups = refl;
   other_machine = refl;
   armnt_thunk = refl;
+  armnt_code = refl;
   i386_base = omega arith;
+  arm64_base = (refl, refl);
 }
 
 pub moving_rules : MovingRules
@@ -43,6 +45,16 @@ moving_rules = record {
   tables = refl;
   amd64_down = tt;
   arm64_down = ((refl, refl), refl);
+}
+
+pub field_rules : FieldRules
+field_rules = record {
+  farthest_back = refl;
+  nearest_back = refl;
+  last_byte = refl;
+  behind = refl;
+  undefined = refl;
+  defined = refl;
 }
 
 pub symbol_rules : SymbolRules

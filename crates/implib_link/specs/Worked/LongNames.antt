@@ -43,6 +43,7 @@ pub record WorkedLongNames : Type 0 where
       ≡ Some true
   pub beyond : names_in (codes "/20" ++ zeros 5) two_texts ≡ None
   pub no_digit : names_in (codes "/1:" ++ zeros 5) two_texts ≡ None
+  pub colon : names_in (codes "/0:" ++ zeros 5) two_texts ≡ None
   pub letter : names_in (codes "/A" ++ zeros 6) two_texts ≡ None
   pub no_offset : names_in (codes "/" ++ zeros 7) two_texts ≡ None
   pub no_nul : names_in (codes "/10" ++ zeros 5) (codes "debug" ++ 0 ∷ codes ".idata$23") ≡ None

@@ -13,7 +13,7 @@ ghost use Rattle.implib_link.specs.Worked.Packed.{WorkedPackings};
 ghost use Rattle.implib_link.specs.Worked.Programs.{WorkedPrograms, WorkedStubs};
 ghost use Rattle.implib_link.specs.Worked.Readings.{WorkedReadings};
 ghost use Rattle.implib_link.specs.Worked.RefusedTexts.{RefusedTexts};
-ghost use Rattle.implib_link.specs.Worked.Rules.{ArrivalRules, LldRules, MovingRules};
+ghost use Rattle.implib_link.specs.Worked.Rules.{ArrivalRules, FieldRules, LldRules, MovingRules};
 ghost use Rattle.implib_link.specs.Worked.Rules.{SymbolRules};
 ghost use Rattle.implib_link.specs.Worked.Searched.{WorkedLibraries, WorkedSearched};
 ghost use Rattle.implib_link.specs.Worked.Sources.{WorkedSources};
@@ -119,11 +119,12 @@ pub fn worked_claims()
 {}
 
 /// Single rules: how lld compares names and where its tables begin, which fields need base
-/// relocations, where a symbol is in code, and that what arrives does so at the bytes that are
-/// said.
+/// relocations, which bytes a field meets and how far back a number leads, which symbols stand for
+/// sections, where a symbol is in code, and that what arrives does so at the bytes that are said.
 pub fn worked_rules()
     ensures lld { LldRules }
     ensures moving { MovingRules }
+    ensures fields { FieldRules }
     ensures symbols { SymbolRules }
     ensures arrivals { ArrivalRules }
 {}
