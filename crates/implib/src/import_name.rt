@@ -2,13 +2,11 @@
 //! "Members for GNU's linker").
 
 ghost use Rattle.implib.specs.Definition.{export_view, given_name};
-ghost use Rattle.implib.specs.Import.{at_sign, name_asked};
+ghost use Rattle.implib.specs.Import.{name_asked};
 ghost use Rattle.implib.specs.Ascii.{begins_with};
 ghost use Rattle.implib.specs.Members.Msvc.{asked_by_short_import, name_type_of};
 ghost use Rattle.implib.specs.Members.Msvc.{name_type_asking, short_import_symbol};
 ghost use Rattle.implib.specs.Members.NameRules.{asked_in, asks_another, name_to_ask};
-ghost use Rattle.implib.specs.Formats.ShortImport.{before_at_sign, without_prefix};
-ghost use Rattle.std.specs.List.{position};
 ghost use Rattle.std.specs.Prelude.{◌==◌, ◌≡◌, ◌≤◌};
 
 use crate::ascii::begins_with;
@@ -18,6 +16,7 @@ use crate::coff::constants::import_name_type::{
 use crate::def::definition::ShortExport;
 use crate::flavor::Flavor;
 use crate::machine::MachineType;
+use crate::msvc::name_type::{asked_by_name_type, without_prefix};
 use crate::underscore::{begins_with_underscore, without_underscore};
 
 /// The name that the export asks the DLL for.
@@ -109,44 +108,12 @@ fn name_type_asking(symbol: &[u8], name: &[u8]) -> u16
     }
 }
 
-// The symbol without its first byte, where that is `?`, `@` or `_`.
-fn without_prefix(symbol: &[u8]) -> &[u8]
-    ensures { result.now ≡ without_prefix symbol.now }
-{
-    match symbol {
-        [b'?' | b'@' | b'_', rest @ ..] => rest,
-        _ => symbol,
-    }
-}
-
-// The symbol up to its first `@`.
-#[tactic(auto, using(crate::proofs::Members::AskedName::take_to_position))]
-fn before_at_sign(symbol: &[u8]) -> &[u8]
-    ensures { result.now ≡ before_at_sign symbol.now }
-{
-    match position_of_at_sign(symbol) {
-        Some(end) => &symbol[..end],
-        None => symbol,
-    }
-}
-
-// The position of the first `@` of a symbol.
-fn position_of_at_sign(symbol: &[u8]) -> Option<usize>
-    ensures { result ≡ position (λ byte. byte == at_sign) symbol.now }
-{
-    symbol.iter().position(|byte| *byte == b'@')
-}
-
 // The name that the export's short import asks the DLL for.
 fn asked_by_short_import(export: &ShortExport, machine: MachineType) -> &[u8]
     ensures { result.now ≡ asked_by_short_import machine (export_view export.now) }
 {
     let symbol = short_import_symbol(export).as_bytes();
-    match name_type(export, machine) {
-        IMPORT_NAME => symbol,
-        IMPORT_NAME_NOPREFIX => without_prefix(symbol),
-        _ => before_at_sign(without_prefix(symbol)),
-    }
+    asked_by_name_type(name_type(export, machine), symbol)
 }
 
 /// The name in the export's hint/name table entry.

@@ -20,6 +20,7 @@ use crate::member::Member;
 use std::marker::Model;
 
 pub(crate) mod members;
+pub mod name_type;
 mod objects;
 mod short_import;
 

@@ -12,6 +12,8 @@ ghost use Rattle.implib.specs.declared.machine.MachineType.{MachineType};
 ghost use Rattle.implib_archive.specs.declared.kind.Kind.{Kind};
 ghost use Rattle.implib_archive_link.specs.InBytes.{LinkerMember, asks_for, asks_on, asks_with};
 ghost use Rattle.implib_archive_link.specs.LldWay.{AreCalledAlike, LldArrives, asks_of_lld};
+ghost use Rattle.implib_archive_link.specs.NearMisses.{NearAreSearched, NearCallsArrive, NearIsBuiltByLld};
+ghost use Rattle.implib_archive_link.specs.NearMisses.{NearIsWantedBy, NearLeadsToFirst, NearLldArrives};
 ghost use Rattle.implib_archive_link.specs.NearMisses.{NearHaveArchive, NearIsHeaderOf};
 ghost use Rattle.implib_archive_link.specs.NearMisses.{NearPullsInAt, WorkedIndexes, WorkedReads};
 ghost use Rattle.implib_archive_link.specs.Results.{AreFoundInBytes, AreSearched, HaveArchive};
@@ -194,4 +196,15 @@ pub fn near_misses_in_bytes()
     ensures archives { NearHaveArchive }
     ensures indexes { WorkedIndexes }
     ensures reads { WorkedReads }
+    ensures leads { NearLeadsToFirst }
+    ensures searched { NearAreSearched }
+{}
+
+/// Near misses of both ways: exports that are not wanted, images that lld did not write, an export
+/// that was not taken, and imports without a library.
+pub fn near_misses_of_ways()
+    ensures wanted { NearIsWantedBy }
+    ensures built { NearIsBuiltByLld }
+    ensures arrives { NearLldArrives }
+    ensures calls { NearCallsArrive }
 {}

@@ -9,3 +9,7 @@ pub mod OwnLibraries
 pub mod OwnTables
 pub mod SameLibraries
 pub mod SecondIndex
+pub mod LaterMeanings
+pub mod MadeLibraries
+pub mod ThirdTexts
+pub mod WorkedTexts

@@ -87,10 +87,10 @@ all_told test import alias (c ∷ cs) (m ∷ ms) same =
     ap (λ b. b || list_any test cs) (told test import alias c m first) ∙ all_told test import alias cs ms rest
 
 -- what is read of members: these imports and aliases, and nothing that leaves a comparison open
-record AreRead (members : List MemberRead) (ms : List Meaning) : Type 0 where
-  meanings : meanings_read members ≡ ms
-  read : has_unread members ≡ false
-  alone : has_other members ≡ false
+pub record AreRead (members : List MemberRead) (ms : List Meaning) : Type 0 where
+  pub meanings : meanings_read members ≡ ms
+  pub read : has_unread members ≡ false
+  pub alone : has_other members ≡ false
 
 -- after the first members
 none_after : (n : ℕ) (test : Class → Bool) (cs : List Class) → list_any test (take n cs) ≡ false → list_any test (drop n cs) ≡ false → list_any test cs ≡ false
@@ -100,7 +100,7 @@ none_after n test cs first second =
     ∙ ap (λ b. b || list_any test (drop n cs)) first
     ∙ second
 
-after_header : (n : ℕ) (header : List Class) (members : List MemberRead) (ms : List Meaning)
+pub after_header : (n : ℕ) (header : List Class) (members : List MemberRead) (ms : List Meaning)
     → list_any is_unread header ≡ false → list_any is_other header ≡ false → filter_map meaning_of_class header ≡ []
     → take n (map (λ m. m.class) members) ≡ header → map meaning_of_class (drop n (map (λ m. m.class) members)) ≡ map Some ms → AreRead members ms
 after_header n header members ms unread other none is means =
@@ -149,7 +149,7 @@ says_gnu law kind d machine members meant back accepted there =
 
 -- Libraries for Microsoft's linker.
 
-no_imports : (aliases : List Alias) → filter_map import_among (map MeansAlias aliases) ≡ []
+pub no_imports : (aliases : List Alias) → filter_map import_among (map MeansAlias aliases) ≡ []
 no_imports [] = refl
 no_imports (a ∷ aliases) = no_imports aliases
 
@@ -157,7 +157,7 @@ imports_first : (imports : List Import) (aliases : List Alias) → filter_map im
 imports_first [] aliases = no_imports aliases
 imports_first (i ∷ imports) aliases = ap (λ is. i ∷ is) (imports_first imports aliases)
 
-all_aliases : (aliases : List Alias) → filter_map alias_among (map MeansAlias aliases) ≡ aliases
+pub all_aliases : (aliases : List Alias) → filter_map alias_among (map MeansAlias aliases) ≡ aliases
 all_aliases [] = refl
 all_aliases (a ∷ aliases) = ap (λ rest. a ∷ rest) (all_aliases aliases)
 
@@ -226,7 +226,7 @@ files_read machine d all made reads once =
     ∙ reads.files
     ∙ ap (λ (x : DefinitionView). map (λ (p : MemberSpec). Some (file_of p.contents)) (member_specs x machine Msvc)) once)
 
-header_read : (defined : List ℕ → Option Place) (machine : MachineType) (d : DefinitionView)
+pub header_read : (defined : List ℕ → Option Place) (machine : MachineType) (d : DefinitionView)
     → take 3 (map (class_of_file defined) (map found_of (files_of_specs (msvc_specs machine d)))) ≡ Descriptor ∷ NullDescriptor ∷ NullThunk ∷ []
 unfolding header_specs
 header_read defined machine d = header_classes defined d machine
@@ -290,7 +290,7 @@ says_msvc own imports objects kind d machine all members meant made back once is
 
 -- Libraries of either flavour.
 
-says : OwnMembersFound → SameShortImports → SameObjects → OwnGnuLibraries → (kind : Kind) (d : DefinitionView) (machine : MachineType) (flavor : Flavor) (all members : List MemberView) (meant : List MemberRead)
+pub says : OwnMembersFound → SameShortImports → SameObjects → OwnGnuLibraries → (kind : Kind) (d : DefinitionView) (machine : MachineType) (flavor : Flavor) (all members : List MemberView) (meant : List MemberRead)
     → AreMembersOf (renamed d) machine flavor all → ReadBack (renamed d) machine flavor all → members ≡ map member_of (library_specs (renamed d) machine flavor)
     → LibraryReads (renamed d) machine flavor members → refusal_of kind members ≡ None → library_in (archive_of kind members) ≡ Some meant
     → SaysWhatIsDefined (renamed d) machine flavor meant

@@ -1,6 +1,6 @@
 -- The text of the definition that `--def` writes of a library: a line for each import and alias, in the order of the
 -- library (this project's choice; docs/CHECK.md, "The definition of a library").
-use Rattle.std.specs.Prelude.{ℕ, ◌==◌, Bool, not, ◌&&◌, ◌||◌, List, [], ◌∷◌, ◌++◌, bytes_eq, codes, decimal, drop, if◌then◌else◌, nat_le, take, unwrap_or}
+use Rattle.std.specs.Prelude.{ℕ, ◌==◌, Bool, not, ◌&&◌, ◌||◌, List, [], ◌∷◌, ◌++◌, bytes_eq, codes, decimal, if◌then◌else◌, nat_le, take, unwrap_or}
 use Rattle.std.specs.List.{list_all, list_any}
 use Rattle.implib.specs.declared.flavor.Flavor.{Flavor}
 use Rattle.implib.specs.declared.flavor.Flavor.TheVariants.{Gnu, Msvc}

@@ -2,6 +2,7 @@ pub mod Calls
 pub mod Targets
 pub mod Refused
 pub mod OwnLibraries
+pub mod OwnExportAs
 pub mod DefinitionText
 pub mod Defining
 pub mod OwnIndexes
@@ -13,5 +14,6 @@ pub mod Status
 pub mod Worked
 pub mod WorkedChecks
 pub mod WorkedDefinitions
+pub mod WorkedExportAs
 pub mod WorkedJson
 pub mod WorkedTogether

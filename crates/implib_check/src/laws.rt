@@ -1,11 +1,13 @@
 //! Laws of the definitions. The functions do nothing: their contracts are the laws.
 
+ghost use Rattle.implib_check.specs.OwnExportAs.{MadeLibrariesAreTheSame, MeantIsMade, SameSaysTheMade};
 ghost use Rattle.implib_check.specs.OwnIndexes.{OwnIndexesLead};
 ghost use Rattle.implib_check.specs.OwnLibraries.{MeantIsDefined, OwnLibrariesAreTheSame, SameSaysTheDefined};
 ghost use Rattle.implib_check.specs.OwnTables.{OwnTablesAreWhole};
 ghost use Rattle.implib_check.specs.Worked.{WorkedIdentities, WorkedStatuses, WorkedTasks};
 ghost use Rattle.implib_check.specs.WorkedChecks.{WorkedChecks, WorkedTargets};
 ghost use Rattle.implib_check.specs.WorkedDefinitions.{WorkedDefines, WorkedDefinitions};
+ghost use Rattle.implib_check.specs.WorkedExportAs.{WorkedExportAs};
 ghost use Rattle.implib_check.specs.WorkedJson.{WorkedJson};
 ghost use Rattle.implib_check.specs.WorkedTogether.{WorkedTogether};
 
@@ -105,4 +107,35 @@ pub fn worked_together()
 /// What JSON objects have, worked by hand.
 pub fn worked_json()
     ensures { WorkedJson }
+{}
+
+/// What is read of the library of a definition is what the definition says, also where short imports have a third text.
+pub fn meant_is_made()
+    ensures { MeantIsMade }
+{
+    own_members_found();
+    same_short_imports();
+    same_objects();
+    own_gnu_libraries();
+    meant_is_defined();
+}
+
+/// The library of a definition is told to be the same as the definition, also where short imports have a third text.
+pub fn made_libraries_are_the_same()
+    ensures { MadeLibrariesAreTheSame }
+{
+    meant_is_made();
+}
+
+/// A library is told to be the same as a definition only where it has the imports and aliases that the definition
+/// means, also where short imports have a third text.
+pub fn same_says_the_made()
+    ensures { SameSaysTheMade }
+{
+    meant_is_made();
+}
+
+/// What definitions mean where short imports have a third text, worked by hand.
+pub fn worked_export_as()
+    ensures { WorkedExportAs }
 {}

@@ -1,6 +1,7 @@
 -- Lemmas on command lines.
 use Rattle.std.proofs.Common.{◌≡◌, ℕ, ◌<◌, Bool, List, [], ◌∷◌, Option, Ok, inl, length, map, arith, subst, sym}
-use Rattle.implib_dlltool.specs.Arguments.{OccurrenceView, read_words}
+use Rattle.implib_dlltool.specs.Arguments.{OccurrenceView}
+use Rattle.implib_dlltool.specs.LibWords.{words_read}
 use Rattle.implib_dlltool.specs.Program.{Devices, DoesOptions, DoesRead, DoesTask, DoesWords, Runs, Texts, own_name}
 use Rattle.implib_dlltool.specs.Request.{Asked, TaskView, caller_of, task_of}
 
@@ -12,7 +13,7 @@ pub runs_without : {A : Type 0} (view : A → List ℕ) (arguments : List A) (kn
 runs_without view [] known texts before after printed prints status none does = does
 runs_without view (argument ∷ arguments) known texts before after printed prints status none does = absurd (omega arith)
 
-module _ (known : Bool) (texts : Texts) (program : List ℕ) (words : List (List ℕ)) (options : List OccurrenceView) (are : read_words words ≡ Ok options)
+module _ (known : Bool) (texts : Texts) (program : List ℕ) (words : List (List ℕ)) (options : List OccurrenceView) (are : words_read program words ≡ Ok options)
     (before after : Devices) (printed prints : Option (List ℕ)) (status : ℕ) where
   -- what is done for options is done for the words that they are read of
   pub does_options : DoesOptions known texts program options before after printed prints status → DoesWords known texts program words before after printed prints status

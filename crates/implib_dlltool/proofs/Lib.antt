@@ -1,5 +1,6 @@
 pub mod Reading
 pub mod Letters
+pub mod LibReading
 pub mod Saying
 pub mod Calls
 pub mod Finishing

@@ -151,6 +151,14 @@ pub data WordFaultView : Type 0 where
   IsFile : List ℕ → WordFaultView
   -- the last word is an option that lacks its value
   LacksValue : Setting → WordFaultView
+  -- the option of the word lacks its colon or its value
+  LacksValueIn : List ℕ → WordFaultView
+  -- the word names no machine
+  NamesNoMachine : List ℕ → WordFaultView
+  -- there is no definition
+  WantsDefinition : WordFaultView
+  -- there is no file for the library
+  WantsOutput : WordFaultView
 
 -- the view of a fault of the program
 abbrev pub word_fault_view : WordFault → WordFaultView
@@ -158,6 +166,10 @@ word_fault_view (fault.Unsupported word) = IsUnsupported word.now
 word_fault_view (fault.Unknown word) = IsUnknown word.now
 word_fault_view (fault.File word) = IsFile word.now
 word_fault_view (fault.NoValue setting) = LacksValue setting
+word_fault_view (fault.NoValueIn word) = LacksValueIn word.now
+word_fault_view (fault.NoMachine word) = NamesNoMachine word.now
+word_fault_view fault.NoDefinition = WantsDefinition
+word_fault_view fault.NoOutput = WantsOutput
 
 -- what a word is for
 pub data StepView : Type 0 where
@@ -225,10 +237,10 @@ read_after past (word ∷ words) = with_front (front past word) (stepped (step p
 abbrev pub read_words : List (List ℕ) → Reading
 read_words words = read_after before.Whole words
 
--- the words are refused for this, or memory was
-abbrev pub IsRefusalOf : List (List ℕ) → ReadWordsError → Type 0
-IsRefusalOf words (error.Refused fault) = read_words words ≡ Err (word_fault_view fault)
-IsRefusalOf words error.OutOfMemory = Unit {0}
+-- words that are read so are refused for this, or memory was
+abbrev pub IsRefusalOf : Reading → ReadWordsError → Type 0
+IsRefusalOf reading (error.Refused fault) = reading ≡ Err (word_fault_view fault)
+IsRefusalOf reading error.OutOfMemory = Unit {0}
 
 -- the value, if the option is this one
 abbrev pub value_of : Setting → OccurrenceView → Option (List ℕ)

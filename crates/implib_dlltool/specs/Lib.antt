@@ -2,6 +2,7 @@ pub mod Options
 pub mod Arguments
 pub mod Identity
 pub mod Request
+pub mod LibWords
 pub mod Verbose
 pub mod Disk
 pub mod Reports
@@ -11,3 +12,4 @@ pub mod Worked
 pub mod WorkedCallers
 pub mod WorkedOptions
 pub mod WorkedCalls
+pub mod WorkedLibWords

@@ -11,12 +11,13 @@ use Rattle.implib.specs.Definition.{DefinitionView}
 use Rattle.implib.specs.Fault.{Cause}
 use Rattle.implib.specs.Members.MemberSpec.{MemberView}
 use Rattle.implib.specs.Text.Parses.{Parses, RefusesAt}
-use Rattle.implib_dlltool.specs.Arguments.{OccurrenceView, WordFaultView, read_words}
+use Rattle.implib_dlltool.specs.Arguments.{OccurrenceView, WordFaultView}
 use Rattle.implib_dlltool.specs.Disk.{DiskView}
 use Rattle.implib_dlltool.specs.declared.identity.NotIdentified.{NotIdentified}
 use Rattle.implib_dlltool.specs.Identity.{identified}
 use Rattle.implib_dlltool.specs.Placing.{Answer, Answers}
 use Rattle.implib_dlltool.specs.Reports.{ComplaintView, Complains, Line, OfArguments, OfCall, OfIdentity, OfMemory, OfSystem, OfWord, OfWriting, Refuses, Says, Warns}
+use Rattle.implib_dlltool.specs.LibWords.{words_read}
 use Rattle.implib_dlltool.specs.Request.{Asked, AsksHelp, AsksIdentity, AsksVersion, Asks, RequestView, TaskView, caller_of, task_of}
 use Rattle.implib_dlltool.specs.Verbose.{warnings_for}
 use Rattle.implib_rules.specs.declared.library.LibraryError.TheVariants.{Refused, Writing}
@@ -269,7 +270,7 @@ DoesRead known texts program (Err fault) before after printed prints status =
 -- what is done for words, where the program is called so, unless memory is refused
 abbrev pub DoesWords : Bool → Texts → List ℕ → List (List ℕ) → Devices → Devices → Option (List ℕ) → Option (List ℕ) → ℕ → Type 0
 DoesWords known texts program words before after printed prints status =
-    DoesRead known texts program (read_words words) before after printed prints status
+    DoesRead known texts program (words_read program words) before after printed prints status
     ⊎ Complained OfMemory 3 before after printed prints status
 
 -- the name that the program is called by: the first argument

@@ -153,6 +153,14 @@ pub enum WordFault<'a> {
     File(&'a str),
     /// The last word is an option that lacks its value.
     NoValue(Setting),
+    /// The option of the word lacks its colon or its value.
+    NoValueIn(&'a str),
+    /// The word names no machine.
+    NoMachine(&'a str),
+    /// There is no definition.
+    NoDefinition,
+    /// There is no file for the library.
+    NoOutput,
 }
 
 /// Why words are not read.
@@ -262,7 +270,7 @@ pub fn read_words<'a>(
 ) -> Result<Vec<Occurrence<'a>>, ReadWordsError<'a>>
     ensures ok { IfOk result
         (λ read. read_words (map string_bytes words.now) ≡ Ok (map occurrence_view read.items)) }
-    ensures refused { IfErr result (IsRefusalOf (map string_bytes words.now)) }
+    ensures refused { IfErr result (IsRefusalOf (read_words (map string_bytes words.now))) }
 {
     let mut read = Vec::new(alloc);
     let mut before = Before::Whole;

@@ -3,6 +3,7 @@
 ghost use Rattle.implib_dlltool.specs.Worked.{CallsRead};
 ghost use Rattle.implib_dlltool.specs.WorkedCallers.{CallersNamed, FaultsOrdered, FlavorsChosen};
 ghost use Rattle.implib_dlltool.specs.WorkedCalls.{AnswersTold, CallsAnswered};
+ghost use Rattle.implib_dlltool.specs.WorkedLibWords.{LibWordsRead};
 ghost use Rattle.implib_dlltool.specs.WorkedOptions.{OptionsNamed};
 
 /// Command lines as rustc and mingw-w64 write them, and wrong ones, are read as was worked by hand.
@@ -40,4 +41,10 @@ pub fn flavors_chosen()
 /// Of two options the right one counts, and of two faults the right one comes first.
 pub fn faults_ordered()
     ensures { FaultsOrdered }
+{}
+
+/// LIB's words, options and machines are read as was worked by hand, and near misses are refused; so
+/// are the names by which the program is called as LIB is, and without either all is read as before.
+pub fn lib_words_read()
+    ensures { LibWordsRead }
 {}

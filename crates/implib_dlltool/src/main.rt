@@ -12,6 +12,7 @@ pub mod disk;
 pub mod files;
 pub mod identity;
 pub mod laws;
+pub mod lib_words;
 mod message;
 pub mod options;
 pub mod placing;

@@ -103,6 +103,21 @@ impl<'a> fmt::Display for WordFault<'a> {
                 write!(f, "{}: no option; objects are not supported", Shown(word))
             }
             WordFault::NoValue(setting) => write!(f, "the option {setting} lacks its value"),
+            WordFault::NoValueIn(word) => {
+                write!(f, "{}: expected a colon and a value", Shown(word))
+            }
+            WordFault::NoMachine(word) => write!(
+                f,
+                "{}: no such machine: expected x86, x64, arm or arm64",
+                Shown(word)
+            ),
+            WordFault::NoDefinition => f.write_str(
+                "no definition: expected the option /def\n\
+                 usage: implib_dlltool --lib /def:FILE /out:OUT [/machine:MACHINE] [/name:DLL]",
+            ),
+            WordFault::NoOutput => f.write_str(
+                "no name for the library's file: expected the option /out",
+            ),
         }
     }
 }
@@ -122,15 +137,14 @@ impl<'a> fmt::Display for CallFault<'a> {
             CallFault::UnknownFlavor(name) => {
                 write!(f, "{}: no such flavour: expected msvc or gnu", Shown(name))
             }
-            CallFault::EmptyDll => f.write_str("the name of the DLL after -D is empty"),
+            CallFault::EmptyDll => f.write_str("the name of the DLL that is given is empty"),
             CallFault::OutputToStandard => {
                 f.write_str("the library cannot go to standard output")
             }
-            CallFault::EmptyOutput => f.write_str(
-                "the name of the library's file after -l is empty",
-            ),
+            CallFault::EmptyOutput => f.write_str("the name of the library's file is empty"),
             CallFault::OtherArchitecture => f.write_str(
-                "the program's name is of a machine that is not supported: expected the option -m",
+                "the program's name is of a machine that is not supported: expected the option -m, or \
+                 /machine after --lib",
             ),
             CallFault::OutputIsDefinition => {
                 f.write_str("the library would take the place of the definition")

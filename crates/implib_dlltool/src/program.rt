@@ -20,9 +20,10 @@ ghost use Rattle.std.specs.Prelude.{◌≡◌, ◌⊎◌, [], ◌∷◌, IfErr, 
 ghost use Rattle.std.specs.String.{string_bytes};
 ghost use Rattle.std.specs.Vec.Iter.{into_iter_items};
 
-use crate::arguments::{ReadWordsError, read_words};
+use crate::arguments::ReadWordsError;
 use crate::disk::Disk;
 use crate::identity::{IdentifyError, identify};
+use crate::lib_words::words_read;
 use crate::placing::put;
 use crate::reporter::{Complaint, Reporter};
 use crate::request::{CallError, Identification, Request, Task, caller_of, task_of};
@@ -80,6 +81,19 @@ there is no option.
 Taken and ignored: -S --as, -f --as-flags, -t --temp-prefix, each with a value;
 -n --no-delete, -A --add-stdcall-alias, --deterministic-libraries,
 --non-deterministic-libraries.
+
+Called as LIB is, by a name that is lib or ends in -lib, or with a first word
+--lib:
+
+  /def:FILE /out:OUT       the definition and the library
+  /machine:MACHINE         x86, x64, arm or arm64
+  /name:DLL                the name of the DLL, before that of FILE
+  /verbose                 as -v
+  /nologo                  taken and ignored
+  /help, /?
+
+Each with / or -, in letters of any case. The library is for Microsoft's linker,
+with --export-as.
 
 Status: 0 made; 1 FILE or LIB is refused; 2 wrong call; 3 a file or memory failed.
 ";
@@ -433,7 +447,7 @@ fn perform_call<D: Disk, I: Read, O: Write, T: Reporter>(
         (devices (I.remaining input.new) (D.view disk.new) (T.said reporter.new))
         (O.contents printer.old) (O.contents printer.new) result }
 {
-    let options = match read_words(alloc, call.words) {
+    let options = match words_read(alloc, call.program, call.words) {
         Ok(options) => options,
         Err(ReadWordsError::Refused(fault)) => {
             return complain(reporter, Complaint::Word(fault), 2);

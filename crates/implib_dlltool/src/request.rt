@@ -202,8 +202,8 @@ fn machine_of_name(name: &str) -> Option<MachineType>
     }
 }
 
-// Whether a text is within another.
-fn holds_text(name: &[u8], text: &[u8]) -> bool
+/// Whether a text is within another.
+pub fn holds_text(name: &[u8], text: &[u8]) -> bool
     ensures { result ≡ holds_text name.now text.now }
 {
     for start in 0..name.len() {

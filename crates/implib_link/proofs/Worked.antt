@@ -53,3 +53,4 @@ pub mod Instances
 pub mod MoreCalls
 pub mod NearLinks
 pub mod NearResults
+pub mod NearTaken

@@ -50,3 +50,4 @@ pub mod Instances
 pub mod MoreCalls
 pub mod NearLinks
 pub mod NearResults
+pub mod NearTaken

@@ -1,8 +1,7 @@
 //! What a short import imports.
 
-ghost use Rattle.std.specs.Prelude.{◌≡◌, ◌==◌, not, length, take_while};
+ghost use Rattle.std.specs.Prelude.{◌≡◌};
 ghost use Rattle.std.specs.Option.{option_map};
-ghost use Rattle.implib.specs.Formats.ShortImport.{asked_by_name_type, ask_of_short_import, before_at_sign, without_prefix};
 ghost use Rattle.implib_read.specs.Classes.{imported_by_short_import, kind_of_type};
 ghost use Rattle.implib_read.specs.ClassViews.{imported_view};
 ghost use Rattle.implib_read.specs.ImportViews.{ask_view};
@@ -10,52 +9,10 @@ ghost use Rattle.implib_read.specs.ShortImports.{ask_of_found, short_import_view
 
 use crate::import::{AskFound, DeclaredFound, ImportFound, ImportKind};
 use crate::short_import::ShortImport;
+use implib::msvc::name_type::asked_by_name_type;
 
 /// The machine of code for ARM64 that calls code for AMD64. Its short imports declare symbols that are not read here.
 const ARM64EC: u16 = 0xA641;
-
-/// A symbol without its first byte, where that is `?`, `@` or `_`.
-fn without_prefix(symbol: &[u8]) -> &[u8]
-    ensures { result.now ≡ without_prefix symbol.now }
-{
-    match symbol {
-        [first, rest @ ..] => {
-            if *first == b'?' || *first == b'@' || *first == b'_' {
-                rest
-            } else {
-                symbol
-            }
-        }
-        [] => symbol,
-    }
-}
-
-/// How many bytes are before the first `@`.
-fn at_sign_or_len(symbol: &[u8]) -> usize
-    ensures { result ≡ length (take_while (λ byte. not (byte == 64)) symbol.now) }
-{
-    symbol.iter().take_while(|byte| **byte != b'@').count()
-}
-
-/// A symbol up to its first `@`.
-fn before_at_sign(symbol: &[u8]) -> &[u8]
-    ensures { result.now ≡ before_at_sign symbol.now }
-{
-    &symbol[..at_sign_or_len(symbol)]
-}
-
-/// The name that a short import asks for, by its name type.
-fn asked_by_name_type(name_type: u16, symbol: &[u8]) -> &[u8]
-    ensures { result.now ≡ asked_by_name_type name_type symbol.now }
-{
-    if name_type == 1 {
-        symbol
-    } else if name_type == 2 {
-        without_prefix(symbol)
-    } else {
-        before_at_sign(without_prefix(symbol))
-    }
-}
 
 /// What a short import asks for.
 fn ask_of_found<'a>(import: &ShortImport<'a>) -> Option<AskFound<'a>>

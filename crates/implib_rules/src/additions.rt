@@ -41,12 +41,7 @@ impl<'a> Additions<'a> {
 fn has_at_sign(word: &[u8]) -> bool
     ensures { result ≡ list_any is_at_sign word.now }
 {
-    for byte in word {
-        if *byte == b'@' {
-            return true;
-        }
-    }
-    false
+    word.contains(&b'@')
 }
 
 // Whether the name asked for a word gets an underscore.

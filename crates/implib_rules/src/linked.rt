@@ -1,19 +1,17 @@
 //! By which symbols exports are linked, and what they ask the DLL for: the rules of `dlltool`.
 
-ghost use Rattle.implib.specs.Ascii.{at_sign};
 ghost use Rattle.implib.specs.Definition.{export_view};
-ghost use Rattle.implib.specs.Formats.ShortImport.{before_at_sign, without_prefix};
 ghost use Rattle.implib_rules.specs.Linked.{asked_of, asks_apart, has_two_at_signs, keeps_word};
 ghost use Rattle.implib_rules.specs.Linked.{is_apart, is_named_import, killed, linked_alias, linked_import, linked_to, makes};
 ghost use Rattle.implib_rules.specs.Linked.{name_given, naming_view, symbol_linked, symbol_of};
 ghost use Rattle.implib_rules.specs.Linked.{word_asked, word_of};
 ghost use Rattle.implib_rules.specs.Views.{first_symbol, is_linked, linked_by};
-ghost use Rattle.std.specs.List.{position};
 ghost use Rattle.std.specs.Prelude.{◌==◌, ◌≡◌, IfOk, OnOk, drop, map, option_map};
 ghost use Rattle.std.specs.String.{string_bytes};
 
 use implib::MachineType;
 use implib::def::ShortExport;
+use implib::msvc::name_type::{before_at_sign, without_prefix};
 use std::alloc::{AllocError, Global};
 use std::slice::Iter;
 
@@ -138,33 +136,6 @@ pub fn symbol_linked(
         ≡ symbol_linked machine (naming_view naming) (export_view export.now)) }
 {
     symbol_of(alloc, machine, naming, word_of(export))
-}
-
-// A symbol without its first byte, where that is `?`, `@` or `_`.
-fn without_prefix(symbol: &[u8]) -> &[u8]
-    ensures { result.now ≡ without_prefix symbol.now }
-{
-    match symbol {
-        [b'?' | b'@' | b'_', rest @ ..] => rest,
-        _ => symbol,
-    }
-}
-
-// The position of the first `@` of a symbol.
-fn position_of_at_sign(symbol: &[u8]) -> Option<usize>
-    ensures { result ≡ position (λ byte. byte == at_sign) symbol.now }
-{
-    symbol.iter().position(|byte| *byte == b'@')
-}
-
-// A symbol up to its first `@`.
-fn before_at_sign(symbol: &[u8]) -> &[u8]
-    ensures { result.now ≡ before_at_sign symbol.now }
-{
-    match position_of_at_sign(symbol) {
-        Some(end) => &symbol[..end],
-        None => symbol,
-    }
 }
 
 // Whether a name type makes a name of the symbol.

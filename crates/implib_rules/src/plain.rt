@@ -2,7 +2,6 @@
 //! grammar lacks, in its words, byte for byte in place.
 
 ghost use Rattle.implib.specs.Ascii.{begins};
-ghost use Rattle.implib.specs.Text.Token.{is_delimiter};
 ghost use Rattle.implib_rules.specs.Plain.{after_all, after_digit, after_number, after_sign};
 ghost use Rattle.implib_rules.specs.Plain.{after_this_word};
 ghost use Rattle.implib_rules.specs.Plain.{begins_sections, begins_statement};
@@ -23,6 +22,7 @@ ghost use Rattle.std.specs.Char.{is_ascii_digit};
 ghost use Rattle.std.specs.List.{fold};
 ghost use Rattle.std.specs.Prelude.{◌≡◌, ◌<◌, IfOk, IfSome, Some, length, slice_index, take_while, true};
 
+use implib::def::lexer::is_delimiter;
 use std::alloc::{AllocError, Global};
 
 /// A decimal number whose digits are written one after another.
@@ -113,16 +113,6 @@ fn is_space(byte: u8) -> bool
     ensures { result ≡ is_space byte }
 {
     matches!(byte, b' ' | b'\t' | b'\n' | 0x0B | 0x0C | b'\r')
-}
-
-// Whether a byte ends a word.
-fn is_delimiter(byte: u8) -> bool
-    ensures { result ≡ is_delimiter byte }
-{
-    matches!(
-        byte,
-        b'=' | b',' | b';' | b'\r' | b'\n' | b' ' | b'\t' | 0x0B
-    )
 }
 
 // Whether a byte is one of a word.

@@ -136,8 +136,8 @@ pub fn word_end(bytes: &[u8], from: usize) -> usize
     end
 }
 
-// Whether the byte ends a word.
-fn is_delimiter(byte: u8) -> bool
+/// Whether the byte ends a word: `=`, `,`, `;`, `\r`, `\n`, space, `\t` or `\x0B`.
+pub fn is_delimiter(byte: u8) -> bool
     ensures { result ≡ is_delimiter byte }
 {
     matches!(

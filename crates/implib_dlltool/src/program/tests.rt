@@ -131,7 +131,7 @@ fn wrong_calls_are_told(rt: HostRuntime) -> Result<(), Fail> {
         ),
         (
             ["-d", "-", "-l", ""].as_slice(),
-            "implib_dlltool: the name of the library's file after -l is empty\n",
+            "implib_dlltool: the name of the library's file is empty\n",
         ),
         (
             ["-d", "-", "--leading-underscore"].as_slice(),
@@ -160,11 +160,36 @@ fn wrong_calls_are_told(rt: HostRuntime) -> Result<(), Fail> {
         ),
         (
             ["-d", "-", "-D", "a/"].as_slice(),
-            "implib_dlltool: the name of the DLL after -D is empty\n",
+            "implib_dlltool: the name of the DLL that is given is empty\n",
         ),
         (
             ["-d", "-", "-l", "-"].as_slice(),
             "implib_dlltool: the library cannot go to standard output\n",
+        ),
+        (
+            ["--lib"].as_slice(),
+            "implib_dlltool: no definition: expected the option /def\n\
+             usage: implib_dlltool --lib /def:FILE /out:OUT [/machine:MACHINE] [/name:DLL]\n",
+        ),
+        (
+            ["--lib", "/def:-"].as_slice(),
+            "implib_dlltool: no name for the library's file: expected the option /out\n",
+        ),
+        (
+            ["--lib", "/def:-", "/out"].as_slice(),
+            "implib_dlltool: /out: expected a colon and a value\n",
+        ),
+        (
+            ["--lib", "/machine:x"].as_slice(),
+            "implib_dlltool: /machine:x: no such machine: expected x86, x64, arm or arm64\n",
+        ),
+        (
+            ["--lib", "/LIST"].as_slice(),
+            "implib_dlltool: /LIST: not supported\n",
+        ),
+        (
+            ["--lib", "/outx:a"].as_slice(),
+            "implib_dlltool: /outx:a: no such option\n",
         ),
     ] {
         let (got, wrote) = ran(&rt, words, b"LIBRARY a")?;
@@ -245,6 +270,38 @@ fn aliases_are_weak_externals(rt: HostRuntime) -> Result<(), Fail> {
         words.as_slice(),
         b"LIBRARY zoo\nEXPORTS\n a == b\n b\n c == d\n d\n",
     )?;
+    assert_eq!(rt; got, 0);
+    assert!(rt; fs::read(&rt, file.as_path())?.as_slice() == library.as_slice());
+    fs::remove_file(&rt, file.as_path())?;
+    Ok(())
+}
+
+// LIB's words ask for the library that those of dlltool do.
+#[test]
+fn words_of_lib_make_a_library(rt: HostRuntime) -> Result<(), Fail> {
+    let file = env::temp_dir(&rt)?.join(rt.alloc(), "implib_dlltool_words.a")?;
+    let text = b"LIBRARY zoo\nEXPORTS\n feed\n a == b\n".as_slice();
+    let out = format!(in rt.alloc(); "/out:{}", file.as_str())?;
+    let (got, wrote) = ran(
+        &rt,
+        ["--lib", "/DEF:-", "-machine:X86", out.as_str(), "/nologo"].as_slice(),
+        text,
+    )?;
+    assert_eq!(rt; wrote.as_str(), "");
+    assert_eq!(rt; got, 0);
+    let library = fs::read(&rt, file.as_path())?;
+    let words = [
+        "-d",
+        "-",
+        "-m",
+        "i386",
+        "--flavor",
+        "msvc",
+        "--export-as",
+        "-l",
+        file.as_str(),
+    ];
+    let (got, _) = ran(&rt, words.as_slice(), text)?;
     assert_eq!(rt; got, 0);
     assert!(rt; fs::read(&rt, file.as_path())?.as_slice() == library.as_slice());
     fs::remove_file(&rt, file.as_path())?;

@@ -1,6 +1,6 @@
 -- Near misses of searches, of code beside the tables and of moved programs, by computing.
-use Rattle.std.specs.Prelude.{slice_get}
-use Rattle.std.specs.List.{Contains}
+use Rattle.std.specs.Prelude.{◌&&◌, ◌⊎◌, ◌%◌, Bool, bytes_eq, false, map, nat_eq, slice_get, true}
+use Rattle.std.specs.List.{Contains, list_any}
 use Rattle.implib_link.proofs.Gnu.PlacedStubs.{symbol_of_entry}
 use Rattle.implib_link.proofs.Search.Lists.{contains_among}
 use Rattle.implib_link.proofs.Worked.Calls.{one_of}
@@ -11,14 +11,14 @@ use Rattle.implib.proofs.Link.Ranges.{Among}
 use Rattle.implib_link.proofs.Gnu.Memory.{holder, not_in_both}
 use Rattle.implib.specs.Link.Image.{Range, image_of}
 use Rattle.implib_link.specs.Gnu.Choices.{AreSections, plain_range}
-use Rattle.std.proofs.Common.{◌≡◌, ℕ, ◌+◌, ◌<◌, ◌≤◌, ◌^◌, List, [], ◌∷◌, ◌++◌, codes, length, Some, None, refl, ap, sym, ◌∙◌, subst, arith, inl}
+use Rattle.std.proofs.Common.{◌≡◌, ℕ, ◌+◌, ◌<◌, ◌≤◌, ◌^◌, List, [], ◌∷◌, ◌++◌, codes, length, Some, None, refl, ap, sym, ◌∙◌, subst, arith, inl, inr}
 use Rattle.std.proofs.lemmas.Bool.{true≢false}
 use Rattle.implib.specs.declared.machine.MachineType.TheVariants.{I386, AMD64}
 use Rattle.implib.specs.Formats.Bytes.{u32_bytes}
-use Rattle.implib.specs.Formats.Constants.{class_external, i386_dir32}
-use Rattle.implib.specs.Formats.Object.{ASymbol, ObjectSymbol, ObjectSection}
-use Rattle.implib.specs.Import.{imp_symbol}
-use Rattle.implib.specs.Link.Load.{BytesAt}
+use Rattle.implib.specs.Formats.Constants.{class_external, class_static, i386_dir32}
+use Rattle.implib.specs.Formats.Object.{ASymbol, Auxiliary, Entry, ObjectSymbol, ObjectSection}
+use Rattle.implib.specs.Import.{Ordinal, imp_symbol}
+use Rattle.implib.specs.Link.Load.{BytesAt, NumberAt, TableAt, ThunkAsksFor, ThunkAt}
 use Rattle.implib.specs.Link.Placement.{Placed, Unplaced}
 use Rattle.implib.specs.Link.Resolution.{definitions_of, is_undefined_external}
 use Rattle.implib.proofs.Link.Loading.{number_once}
@@ -29,7 +29,7 @@ use Rattle.implib_link.specs.Search.Search.{IsTakenInTurn}
 use Rattle.implib_link.specs.Worked.Calls.{calling_at, calling_objects, calling_placed}
 use Rattle.implib_link.specs.Worked.Lld.{two_dlls}
 use Rattle.implib_link.specs.Worked.Loads.{written_8}
-use Rattle.implib_link.specs.Worked.NearLinks.{NearAreGiven, NearAreGivenForMsvc, NearAreLinkedBeside, NearAreMoved, NearArePiecesAt, NearAreSections, NearCallReaches, NearDefinesIn, NearFindsBy, NearHasBranch, NearHasField, NearHasOperand, NearIsClosedForMsvc, NearJumpsThrough, NearNames, NearResolves, NearTakes, NearTakesInto, NearTakesIntoFor, NearTakesSymbols, NearHasInstruction, jumping, jump_section}
+use Rattle.implib_link.specs.Worked.NearLinks.{NearAreGiven, NearAreGivenForMsvc, NearAreLinkedBeside, NearAreMoved, NearArePiecesAt, NearAreSections, NearCallReaches, NearDefinesIn, NearFindsBy, NearHasBranch, NearHasField, NearHasOperand, NearIsClosedForMsvc, NearJumpsThrough, NearNames, NearResolves, NearTakes, NearTakesInto, NearTakesIntoFor, NearTakesSymbols, NearHasInstruction, jumping, jump_section, jumping_as, late_f, table_elsewhere}
 use Rattle.implib_link.specs.Worked.NearSearches.{again, listing}
 use Rattle.implib_link.specs.Worked.Operands.{field, imp_open, passing_at}
 use Rattle.implib_link.specs.Worked.Programs.{program_image, program_placed, symbol_of_class, symbol_on, touching_8, code_object}
@@ -43,7 +43,8 @@ use Rattle.implib_link.proofs.Worked.NearPrograms.{no_eights, no_name, nothing_t
 use Rattle.implib_link.proofs.Worked.NearSearches.{none_in, searched, twice}
 use Rattle.implib_link.proofs.Worked.NearTables.{queue_at}
 use Rattle.implib_link.proofs.Worked.RefusedFields.{value}
-use Rattle.implib_link.proofs.Worked.RefusedLinks.{differ, zero_4}
+use Rattle.implib_link.proofs.Worked.RefusedLinks.{differ, number, zero_4}
+use Rattle.implib_link.specs.Worked.RefusedLinks.{ordinal_8}
 use Rattle.implib_link.proofs.Worked.Rules.{symbol_rules}
 
 pub near_takes : NearTakes
@@ -108,7 +109,25 @@ jump_code c is = cc
 other_entry : (a b : ℕ) → a < b → Some a ≡ Some b → ⊥
 other_entry a b less is = differ a b (value a b is) less
 
+is_early_f : Entry → Bool
+is_early_f (ASymbol s) = bytes_eq s.name (codes "f") && (nat_eq s.class class_external && nat_eq s.value 0)
+is_early_f (Auxiliary bytes) = false
+
+early : (s : ObjectSymbol) → s.name ≡ codes "f" → s.class ≡ class_external → s.value ≡ 0 → is_early_f (ASymbol s) ≡ true
+unfolding is_early_f
+early s named shared begins =
+    ap (λ n. bytes_eq n (codes "f") && (nat_eq s.class class_external && nat_eq s.value 0)) named
+    ∙ ap (λ c. bytes_eq (codes "f") (codes "f") && (nat_eq c class_external && nat_eq s.value 0)) shared
+    ∙ ap (λ v. bytes_eq (codes "f") (codes "f") && (nat_eq class_external class_external && nat_eq v 0)) begins
+
+no_early_f : (symbols : List ObjectSymbol) → list_any is_early_f (map ASymbol symbols) ≡ false → JumpsThrough I386 0x40_0000 (jumping_as symbols) (codes "f") 0x60 → ⊥
+no_early_f symbols none x =
+    let own : Placed = record { object = record (code_object symbols) { sections = jump_section ∷ [] }; section_addresses = Unplaced ∷ [] } in
+    let from_is : x.from ≡ own = one_of x.from own (contains_among x.from (jumping_as symbols) x.held) in
+    none_passes is_early_f (ASymbol x.symbol) (map ASymbol symbols) none (subst (λ (p : Placed). Contains p.object.entries (ASymbol x.symbol)) from_is x.defined) (early x.symbol x.named x.shared x.begins)
+
 pub near_jumps_through : NearJumpsThrough
+unfolding is_early_f
 near_jumps_through = record {
   once = λ x. twice (codes "queue") (again ∷ linked) queue_two x.once;
   first = λ x. differ 1 2 (sym (sym (ap (λ (s : ObjectSymbol). s.section) (symbol_is 2 0 0x60 (jump_section ∷ []) x)) ∙ x.first)) (omega arith);
@@ -118,6 +137,8 @@ near_jumps_through = record {
       let code : jump_section ≡ x.code = jump_code x.code (section_is 1 0 0x64 (jump_section ∷ []) x) in
       other_entry 0x40_0060 0x40_0064 (omega arith) (subst (λ (c : ObjectSection). jump_reads I386 0x40_1000 (code_relocated I386 0x40_0000 (jumping 1 0 (jump_section ∷ [])) x.from 0x1000 c.relocations c.bytes) ≡ Some 0x40_0064) (sym code)
       (x.jumps 0x1000 (omega arith)));
+  named = λ x. no_early_f (late_f ∷ symbol_of_class (codes "g") 1 class_external ∷ []) refl x;
+  shared = λ x. no_early_f (late_f ∷ symbol_of_class (codes "f") 1 class_static ∷ []) refl x;
 }
 
 no_hello : definitions_of (codes "__imp_hello") linked ≡ []
@@ -253,9 +274,35 @@ near_are_pieces_at = record {
       nothing_there (directory_built AMD64 0x2040 0x209E 0x2068 two_dlls) 0x2000 directory_long x.directory;
 }
 
-pub near_finds_by : NearFindsBy
+-- at both tables to which fields lead is ordinal 5
+pub five_there : (table : ℕ) → (table ≡ 0x1028) ⊎ (table ≡ 0x1040) → ThunkAt table_elsewhere 8 table (Ordinal 7) → ⊥
+unfolding u32_bytes ThunkAsksFor
+five_there table (inl is) x =
+    let five : NumberAt table_elsewhere 8 0x1028 0x8000_0000_0000_0005 = number table_elsewhere 8 0x1028 0x8000_0000_0000_0005 (ordinal_8 5) refl refl refl in
+    let same : x.thunk ≡ 0x8000_0000_0000_0005 = number_once table_elsewhere 8 0x1028 x.thunk 0x8000_0000_0000_0005 (subst (λ a. NumberAt table_elsewhere 8 a x.thunk) is x.located) five in
+    differ 5 7 (sym (ap (λ t. t % 2 ^ 16) same) ∙ x.asks.1) (omega arith)
+five_there table (inr is) x =
+    let five : NumberAt table_elsewhere 8 0x1040 0x8000_0000_0000_0005 = number table_elsewhere 8 0x1040 0x8000_0000_0000_0005 (ordinal_8 5) refl refl refl in
+    let same : x.thunk ≡ 0x8000_0000_0000_0005 = number_once table_elsewhere 8 0x1040 x.thunk 0x8000_0000_0000_0005 (subst (λ a. NumberAt table_elsewhere 8 a x.thunk) is x.located) five in
+    differ 5 7 (sym (ap (λ t. t % 2 ^ 16) same) ∙ x.asks.1) (omega arith)
+
+-- the fields of the descriptor lead to these
+pub lookups_there : NumberAt table_elsewhere 4 0x1000 0x1028
 unfolding u32_bytes
+lookups_there = number table_elsewhere 4 0x1000 0x1028 (0x28 ∷ 0x10 ∷ 0 ∷ 0 ∷ []) refl refl refl
+
+addresses_there : NumberAt table_elsewhere 4 0x1010 0x1040
+unfolding u32_bytes
+addresses_there = number table_elsewhere 4 0x1010 0x1040 (0x40 ∷ 0x10 ∷ 0 ∷ 0 ∷ []) refl refl refl
+
+led_to : (table : ℕ) → NumberAt table_elsewhere 4 0x1000 table ⊎ NumberAt table_elsewhere 4 0x1010 table → (table ≡ 0x1028) ⊎ (table ≡ 0x1040)
+led_to table (inl by) = inl (number_once table_elsewhere 4 0x1000 table 0x1028 by lookups_there)
+led_to table (inr by) = inr (number_once table_elsewhere 4 0x1010 table 0x1040 by addresses_there)
+
+pub near_finds_by : NearFindsBy
+unfolding u32_bytes TableAt
 near_finds_by = record {
+  table_field_and_thunks = λ x. five_there x.table (led_to x.table x.table_field) x.thunks.0;
   has_name = λ x. no_name x.name x.has_name (number_once without_name 4 0x100C x.name 0 x.name_field (zero_4 without_name 0x100C refl));
   has_addresses = λ x. no_name x.addresses x.has_addresses (number_once without_addresses 4 0x1010 x.addresses 0 x.addresses_field (zero_4 without_addresses 0x1010 refl));
 }

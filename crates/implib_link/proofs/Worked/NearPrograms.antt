@@ -176,12 +176,12 @@ near_are_whole = record {
 not_askable : (n : ℕ) → n ≡ 65536 → n < 2 ^ 16 → ⊥
 not_askable n is less = omega arith
 
-nothing_placed : (before behind : List Placed) (p : Placed) → [] ≡ before ++ p ∷ behind → ⊥
+pub nothing_placed : (before behind : List Placed) (p : Placed) → [] ≡ before ++ p ∷ behind → ⊥
 nothing_placed [] behind p is = cc
 nothing_placed (q ∷ before) behind p is = cc
 
 -- of two, the second is the one that is placed, by the number of their symbols
-second_placed : (a b p : Placed) (before behind : List Placed) → a ∷ b ∷ [] ≡ before ++ p ∷ behind → length a.object.entries ≡ 2 → length p.object.entries ≡ 1 → before ≡ a ∷ []
+pub second_placed : (a b p : Placed) (before behind : List Placed) → a ∷ b ∷ [] ≡ before ++ p ∷ behind → length a.object.entries ≡ 2 → length p.object.entries ≡ 1 → before ≡ a ∷ []
 second_placed a b p [] behind is two one =
     let same : a ≡ p = cc in
     let count : length a.object.entries ≡ length p.object.entries = ap (λ (q : Placed). length q.object.entries) same in
@@ -190,7 +190,7 @@ second_placed a b p (x ∷ []) behind is two one = let same : a ≡ x = cc in ap
 second_placed a b p (x ∷ y ∷ before) behind is two one = absurd (nothing_placed before behind p cc)
 
 -- or the first
-first_placed : (a b p : Placed) (before behind : List Placed) → a ∷ b ∷ [] ≡ before ++ p ∷ behind → length b.object.entries ≡ 2 → length p.object.entries ≡ 1 → behind ≡ b ∷ []
+pub first_placed : (a b p : Placed) (before behind : List Placed) → a ∷ b ∷ [] ≡ before ++ p ∷ behind → length b.object.entries ≡ 2 → length p.object.entries ≡ 1 → behind ≡ b ∷ []
 first_placed a b p [] behind is two one = cc
 first_placed a b p (x ∷ []) behind is two one =
     let same : b ≡ p = cc in
@@ -198,10 +198,10 @@ first_placed a b p (x ∷ []) behind is two one =
     absurd (omega arith)
 first_placed a b p (x ∷ y ∷ before) behind is two one = absurd (nothing_placed before behind p cc)
 
-mid_defined : definitions_of (codes "__imp_mid") (defines_mid ∷ []) ≡ [] → ⊥
+pub mid_defined : definitions_of (codes "__imp_mid") (defines_mid ∷ []) ≡ [] → ⊥
 mid_defined none = differ 0 1 (sym (ap length none)) (omega arith)
 
-directory_long : (lookups names addresses : ℕ) → 0 < length (directory_built AMD64 lookups names addresses (imports_of_lld mid_alone))
+pub directory_long : (lookups names addresses : ℕ) → 0 < length (directory_built AMD64 lookups names addresses (imports_of_lld mid_alone))
 unfolding lld_opened
 directory_long lookups names addresses = omega arith
 
@@ -211,10 +211,10 @@ nothing_there bytes a long located = let first = byte_first [] bytes a located l
 two_cases : codes "Beta.dll" ≡ codes "beta.dll" → ⊥
 two_cases is = differ 66 98 (ap (λ (text : List ℕ). slice_index text 0) is) (omega arith)
 
-none_below : (n : ℕ) → 0 < n → n ≡ 0 → ⊥
+pub none_below : (n : ℕ) → 0 < n → n ≡ 0 → ⊥
 none_below n some none = omega arith
 
-past_2_31 : (n : ℕ) → n < 2 ^ 31 → n ≡ 2 ^ 31 → ⊥
+pub past_2_31 : (n : ℕ) → n < 2 ^ 31 → n ≡ 2 ^ 31 → ⊥
 past_2_31 n less is = omega arith
 
 no_number : (width a n : ℕ) → 0 < width → NumberAt [] width a n → ⊥

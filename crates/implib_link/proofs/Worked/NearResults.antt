@@ -9,8 +9,12 @@ use Rattle.std.proofs.lemmas.List.Elements.{filter_map-append}
 use Rattle.implib_link.specs.Search.MsvcArchives.{first_null}
 use Rattle.implib_link.specs.Flavors.Program.{objects_taken}
 use Rattle.implib_link.proofs.Worked.RefusedFields.{absent}
-use Rattle.implib_link.proofs.Worked.NearLinks.{kind_of}
-use Rattle.std.proofs.Common.{◌≡◌, ℕ, ◌+◌, ◌*◌, ◌<◌, List, [], ◌∷◌, ◌++◌, codes, length, Some, None, refl, ap, sym, ◌∙◌, subst, arith}
+use Rattle.implib_link.proofs.Worked.NearLinks.{five_there, kind_of, lookups_there}
+use Rattle.implib_link.specs.Flavors.Program.{SymbolsAt}
+use Rattle.implib_link.specs.Gnu.OtherLibraries.{ends_behind, members_from, rows_before}
+use Rattle.implib_link.specs.Gnu.Writing.{FillsTable}
+use Rattle.implib_link.specs.Worked.NearLinks.{table_elsewhere}
+use Rattle.std.proofs.Common.{◌≡◌, ℕ, ◌+◌, ◌*◌, ◌<◌, List, [], ◌∷◌, ◌++◌, codes, length, Some, None, refl, ap, sym, ◌∙◌, subst, arith, inl}
 use Rattle.std.proofs.lemmas.Bool.{true≢false}
 use Rattle.std.proofs.lemmas.List.{length-append}
 use Rattle.implib.specs.declared.machine.MachineType.TheVariants.{AMD64}
@@ -34,7 +38,7 @@ use Rattle.implib_link.specs.Stub.{adrp_immediate, ldr_immediate, page, plus_sig
 use Rattle.implib_link.specs.Worked.Calls.{calling_at}
 use Rattle.implib_link.specs.Worked.Flavors.{flavor_bases_8, flavor_image, flavor_placed}
 use Rattle.implib_link.specs.Worked.NearCode.{code_of}
-use Rattle.implib_link.specs.Worked.NearResults.{NearAreChosenFor, NearAreClosedForMsvc, NearAreLinkedFor, NearAreLinkedForMsvc, NearDefineOnce, NearFillsBy, NearFlavorsLink, NearHasOffsetField, NearHasPageField, NearHasPointer, NearImportsBy, NearInputImports, NearInstructionArrives, NearIsClosed, NearLinksAmong, NearLinksBeside, NearLinksClosed, NearLinksClosedForMsvc, NearPageArrives, NearPairArrives, NearIsLinkedWith, NearBranchStays}
+use Rattle.implib_link.specs.Worked.NearResults.{NearAreChosenFor, NearAreClosedForMsvc, NearAreLinkedFor, NearAreLinkedForMsvc, NearDefineOnce, NearFillsBy, NearFlavorsLink, NearHasOffsetField, NearHasPageField, NearHasPointer, NearImportsBy, NearInputImports, NearInstructionArrives, NearIsClosed, NearLinksAmong, NearLinksBeside, NearLinksClosed, NearLinksClosedForMsvc, NearPageArrives, NearPairArrives, NearIsLinkedWith, NearBranchStays, four_before}
 use Rattle.implib_link.specs.Worked.NearSearches.{asking}
 use Rattle.implib_link.specs.Worked.Operands.{imp_open, field}
 use Rattle.implib_link.specs.Worked.Programs.{program_image, symbol_of_class, symbol_on, touching_8}
@@ -55,9 +59,14 @@ no_definition d is = cc
 no_length : (n : ℕ) → 0 ≡ n → 0 < n → ⊥
 no_length n none some = omega arith
 
+nowhere : (address : ℕ) → None ≡ Some address → ⊥
+nowhere address is = cc
+
 pub near_links_among : NearLinksAmong
 unfolding searched
 near_links_among = record {
+  linked = λ x. none_in _ x.linked.0.from_members.0;
+  targets = λ x. nowhere x.targets.0.0.0.0 x.targets.0.0.0.1;
   listed = λ x. no_definition x.listed.0.0 x.listed.0.1;
   claimed = λ x. no_length _ (ap length x.claimed) (omega arith);
   defined = λ x. no_definition _ x.defined.0.1;
@@ -66,6 +75,7 @@ near_links_among = record {
 pub near_flavors_link : NearFlavorsLink
 unfolding searched
 near_flavors_link = record {
+  targets = λ x. nowhere x.targets.0.0.0.0 x.targets.0.0.0.1;
   null = λ x. no_definition _ x.null;
   ended = λ x. differ 48 52 (sym x.ended) (omega arith);
   listed = λ x. no_definition x.listed.0.0 x.listed.0.1;
@@ -74,8 +84,12 @@ near_flavors_link = record {
 }
 
 pub near_links_beside : NearLinksBeside
-unfolding searched
-near_links_beside = record { listed = λ x. no_definition x.listed.0.0 x.listed.0.1 }
+unfolding searched ends_behind members_from rows_before
+near_links_beside = record {
+  rows = λ x. differ 4 8 (sym (x.rows 0 four_before refl)) (omega arith);
+  linked = λ x. none_in _ x.linked.0.0.from_members.0;
+  listed = λ x. no_definition x.listed.0.0 x.listed.0.1;
+}
 
 foo_table : NumberAt (program_image AMD64 touching_8) 4 20 120
 unfolding searched
@@ -95,15 +109,17 @@ unfolding searched
 foo_top = refl
 
 pub near_input_imports : NearInputImports
-unfolding searched
+unfolding searched SymbolsAt
 near_input_imports = record {
   top = λ x. differ 8 28 (same_address (codes "__IMPORT_DESCRIPTOR_foo") 8 28 (definitions_of (codes "__IMPORT_DESCRIPTOR_foo") (flavor_placed AMD64 0 flavor_bases_8)) foo_top x.top) (omega arith);
+  entries_and_gets = λ x. no_definition _ x.entries.0;
   table_located = λ x. differ 128 136 (sym (number_once (flavor_image AMD64 0 flavor_bases_8) 4 24 x.loads.plain.addresses 128 x.loads.plain.addresses_field flavor_table) ∙ x.table_located) (omega arith);
 }
 
 pub near_fills_by : NearFillsBy
-unfolding u32_bytes
+unfolding u32_bytes FillsTable
 near_fills_by = record {
+  lookups_field_and_fills = λ gives after x. five_there x.lookups (inl (number_once table_elsewhere 4 0x1000 x.lookups 0x1028 x.lookups_field lookups_there)) x.fills.0;
   has_name = λ gives after x. no_name x.name x.has_name (number_once without_name 4 0x100C x.name 0 x.name_field (zero_4 without_name 0x100C refl));
   has_addresses = λ gives after x. no_name x.addresses x.has_addresses (number_once without_addresses 4 0x1010 x.addresses 0 x.addresses_field (zero_4 without_addresses 0x1010 refl));
 }
@@ -169,9 +185,23 @@ one_null : length (objects_taken AMD64 (first_null AMD64 two_msvc)) ≡ 1
 unfolding searched
 one_null = refl
 
+counted : (xs ys : List MemberView) → length (objects_taken AMD64 (xs ++ ys)) ≡ length (objects_taken AMD64 xs) + length (objects_taken AMD64 ys)
+counted xs ys =
+    let f : MemberView → Option Object = λ m. expanded_in AMD64 m.bytes in
+    ap length (filter_map-append f xs ys) ∙ length-append (objects_taken AMD64 xs) (objects_taken AMD64 ys)
+
+-- what is taken for more members than the null descriptor alone
+more_taken : (before null behind : List MemberView) (all : ℕ) → length (objects_taken AMD64 null) ≡ 1 → length (objects_taken AMD64 (before ++ behind)) ≡ all → 0 < all → 1 ≡ length (objects_taken AMD64 (before ++ (null ++ behind))) → ⊥
+more_taken before null behind all one there some is =
+    let first : length (objects_taken AMD64 (before ++ (null ++ behind))) ≡ length (objects_taken AMD64 before) + length (objects_taken AMD64 (null ++ behind)) = counted before (null ++ behind) in
+    let second : length (objects_taken AMD64 (null ++ behind)) ≡ length (objects_taken AMD64 null) + length (objects_taken AMD64 behind) = counted null behind in
+    let both : length (objects_taken AMD64 (before ++ behind)) ≡ length (objects_taken AMD64 before) + length (objects_taken AMD64 behind) = counted before behind in
+    omega arith
+
 pub near_are_linked_for_msvc : NearAreLinkedForMsvc
 unfolding searched
 near_are_linked_for_msvc = record {
+  members = λ x. more_taken x.before (first_null AMD64 two_msvc) x.behind _ one_null (ap (λ ms. length (objects_taken AMD64 ms)) x.members) (omega arith) (ap length x.tables);
   order = λ x. no_order _ _ x.order;
   others = λ x. none_in asking ((x.others asking).1 (0, omega arith, refl));
   tables = λ x. none_taken x.before (first_null AMD64 two_msvc) x.behind one_null x.tables;

@@ -2,10 +2,12 @@
 -- of programs that are not moved. A record `NearX` has those of `X`, each by the name of the field that refuses it.
 use Rattle.implib.specs.Link.Placement.{Placed, Unplaced}
 use Rattle.implib.specs.Members.Gnu.{section, text_name}
-use Rattle.implib.specs.Formats.Object.{ObjectSection}
+use Rattle.implib.specs.Formats.Object.{ObjectSection, ObjectSymbol}
+use Rattle.implib.specs.Import.{Ordinal}
+use Rattle.implib.specs.Members.ImportTables.{zeros}
 use Rattle.std.specs.Prelude.{ℕ, List, [], ◌∷◌, ◌++◌, codes, ◌+◌}
 use Rattle.implib.specs.declared.machine.MachineType.TheVariants.{I386, AMD64}
-use Rattle.implib.specs.Formats.Constants.{class_external, i386_dir32, align_4bytes, cnt_code, mem_execute_read}
+use Rattle.implib.specs.Formats.Constants.{class_external, class_static, i386_dir32, align_4bytes, cnt_code, mem_execute_read}
 use Rattle.implib.specs.Link.Image.{Range}
 use Rattle.implib_link.specs.Directory.{FindsBy, Imported}
 use Rattle.implib_link.specs.Flavors.LldTables.{ArePiecesAt}
@@ -29,7 +31,7 @@ use Rattle.implib_link.specs.Worked.MsvcClosed.{msvc_bases, msvc_objects, msvc_z
 use Rattle.implib_link.specs.Worked.NearSearches.{again, listing, zed_library, zed_short}
 use Rattle.implib_link.specs.Worked.Operands.{field, imp_open, passing_at, passing_code, passing_codes, passing_image, passing_placed, passing_targets, overlapping_at, open_on}
 use Rattle.implib_link.specs.Worked.Programs.{code_object, program_image, program_placed, symbol_of_class, touching_4, touching_8}
-use Rattle.implib_link.specs.Worked.RefusedLinks.{five_and_six, foo}
+use Rattle.implib_link.specs.Worked.RefusedLinks.{five_and_six, foo, ordinal_8, right_image}
 use Rattle.implib_link.specs.Worked.Rules.{early_caller, late_open}
 use Rattle.implib_link.specs.Worked.Walks.{without_addresses, without_name}
 
@@ -75,13 +77,29 @@ jumping number value sections =
     }
     ∷ []
 
--- a name that two objects define; in the second section; behind its beginning; without a section; and another entry
+-- the same code with more symbols
+abbrev pub jumping_as : List ObjectSymbol → List Placed
+jumping_as symbols =
+    record {
+      object = record (code_object symbols) { sections = jump_section ∷ [] };
+      section_addresses = Unplaced ∷ [];
+    }
+    ∷ []
+
+-- the symbol `f` after the beginning of the code, for other objects
+abbrev pub late_f : ObjectSymbol
+late_f = record (symbol_of_class (codes "f") 1 class_external) { value = 8 }
+
+-- a name that two objects define; in the second section; after its beginning; without a section; another entry; and
+-- at the beginning another name, or the name for the object alone
 pub record NearJumpsThrough : Type 0 where
   pub once : JumpsThrough AMD64 0x1_4000_0000 (again ∷ program_placed AMD64 touching_8) (codes "queue") 160 → ⊥
   pub first : JumpsThrough I386 0x40_0000 (jumping 2 0 (jump_section ∷ [])) (codes "f") 0x60 → ⊥
   pub begins : JumpsThrough I386 0x40_0000 (jumping 1 8 (jump_section ∷ [])) (codes "f") 0x60 → ⊥
   pub here : JumpsThrough I386 0x40_0000 (jumping 1 0 []) (codes "f") 0x60 → ⊥
   pub jumps : JumpsThrough I386 0x40_0000 (jumping 1 0 (jump_section ∷ [])) (codes "f") 0x64 → ⊥
+  pub named : JumpsThrough I386 0x40_0000 (jumping_as (late_f ∷ symbol_of_class (codes "g") 1 class_external ∷ [])) (codes "f") 0x60 → ⊥
+  pub shared : JumpsThrough I386 0x40_0000 (jumping_as (late_f ∷ symbol_of_class (codes "f") 1 class_static ∷ [])) (codes "f") 0x60 → ⊥
 
 -- a name without an entry; and another first byte at the entry
 pub record NearCallReaches : Type 0 where
@@ -152,13 +170,21 @@ pub record NearArePiecesAt : Type 0 where
   pub directory_and_lookup_tables_and_address_tables_and_hint_names_and_dll_names :
       ArePiecesAt AMD64 [] 0x2000 0x2040 0x2068 0x2090 0x209E two_dlls → ⊥
 
--- descriptors without the DLL's name, and without an address table
+-- a right image with one more table, to which no field leads
+abbrev pub table_elsewhere : List Range
+table_elsewhere = right_image ++ record { start = 0x2000; bytes = ordinal_8 7 ++ zeros 8 } ∷ []
+
+-- descriptors without the DLL's name, and without an address table; and the table to which no field leads
 abbrev pub found_there : Imported
 found_there = record { dll = foo; asks = five_and_six }
+
+abbrev pub found_elsewhere : Imported
+found_elsewhere = record { dll = foo; asks = Ordinal 7 ∷ [] }
 
 pub record NearFindsBy : Type 0 where
   pub has_name : FindsBy without_name 8 0x1000 found_there → ⊥
   pub has_addresses : FindsBy without_addresses 8 0x1000 found_there → ⊥
+  pub table_field_and_thunks : FindsBy table_elsewhere 8 0x1000 found_elsewhere → ⊥
 
 -- I386's code with an address that leads out of its section
 abbrev pub leading_out : LinkedCode

@@ -7,17 +7,20 @@ use Rattle.implib_link.specs.Search.MsvcArchives.{first_null}
 use Rattle.std.specs.Prelude.{ℕ, List, [], ◌∷◌, codes}
 use Rattle.implib.specs.declared.flavor.Flavor.TheVariants.{Gnu}
 use Rattle.implib.specs.declared.machine.MachineType.TheVariants.{AMD64, ARM64, I386}
-use Rattle.implib.specs.Formats.Constants.{class_external}
+use Rattle.implib.specs.Formats.Constants.{amd64_rel32, class_external}
 use Rattle.implib.specs.Formats.Object.{ASymbol, Object}
 use Rattle.implib.specs.Import.{Ask}
 use Rattle.implib.specs.LibraryName.{names_for, own_names}
 use Rattle.implib.specs.Link.Image.{Range}
 use Rattle.implib.specs.Link.LinkedMembers.{chosen_exports}
+use Rattle.implib.specs.Link.Placement.{At, Descriptors, Placed}
+use Rattle.implib.specs.Members.Gnu.{section}
+use Rattle.implib.specs.Members.ImportTables.{table_flags, zeros}
 use Rattle.implib_link.specs.Flavors.Program.{FlavorsLink, InputImports, objects_taken}
 use Rattle.implib_link.specs.Gnu.Choices.{DefineOnce}
 use Rattle.implib_link.specs.Gnu.Fields.{LinkedCode}
 use Rattle.implib_link.specs.Gnu.Operands.{BranchStays, HasOffsetField, HasPageField, HasPointer, InstructionArrives, PairArrives}
-use Rattle.implib_link.specs.Gnu.OtherLibraries.{LinksBeside}
+use Rattle.implib_link.specs.Gnu.OtherLibraries.{LinksBeside, Run}
 use Rattle.implib_link.specs.Gnu.Pages.{PageArrives}
 use Rattle.implib_link.specs.Gnu.Program.{ImportsBy, LinksAmong, null_descriptor}
 use Rattle.implib_link.specs.Gnu.Writing.{FillsBy}
@@ -31,10 +34,10 @@ use Rattle.implib_link.specs.Worked.Flavors.{both_inputs as flavor_inputs, flavo
 use Rattle.implib_link.specs.Worked.MsvcArchives.{two_msvc}
 use Rattle.implib_link.specs.Worked.MsvcClosed.{msvc_bases, msvc_zed_first}
 use Rattle.implib_link.specs.Worked.NearCode.{code_of}
-use Rattle.implib_link.specs.Worked.NearLinks.{found_there}
+use Rattle.implib_link.specs.Worked.NearLinks.{found_elsewhere, found_there, table_elsewhere}
 use Rattle.implib_link.specs.Worked.NearPrograms.{run_with, table_object}
 use Rattle.implib_link.specs.Worked.NearSearches.{asking, zed_library, zed_short}
-use Rattle.implib_link.specs.Worked.Operands.{imp_open, passing_at, passing_code, open_on, passing_placed}
+use Rattle.implib_link.specs.Worked.Operands.{field, imp_open, passing_at, passing_code, open_on, passing_placed}
 use Rattle.implib_link.specs.Worked.Programs.{both_inputs, code_object, foo_input, program_image, program_placed, symbol_of_class, touching_8}
 use Rattle.implib_link.specs.Worked.RefusedFields.{linked_on_amd64, open_address, two_ranges, with_byte}
 use Rattle.implib_link.specs.Worked.Walks.{without_addresses, without_name}
@@ -45,20 +48,37 @@ losing = record (table_object (codes ".idata$9") [] []) {
   entries = ASymbol (symbol_of_class (codes "lost") 0 class_external) ∷ [];
 }
 
--- nothing is linked: no symbol is defined, and none claimed; or a table's object is, whose symbol nothing defines
+-- an object with a table, whose relocation is to a symbol that it does not have
+abbrev pub leading_nowhere : Object
+leading_nowhere = record (table_object (codes ".idata$9") [] []) {
+  sections = section (codes ".idata$9") table_flags (zeros 4) (field 0 7 amd64_rel32 ∷ []) ∷ [];
+}
+
+-- nothing is linked: no symbol is defined, and none claimed; no members; or a table's object is linked, whose symbol
+-- nothing defines, or whose relocation leads nowhere
 pub record NearLinksAmong : Type 0 where
+  pub linked : LinksAmong AMD64 touching_8 (record (foo_input AMD64) { members = [] } ∷ []) [] → ⊥
+  pub targets : LinksAmong AMD64 touching_8 [] (leading_nowhere ∷ []) → ⊥
   pub listed : LinksAmong AMD64 touching_8 (both_inputs AMD64) [] → ⊥
   pub claimed : LinksAmong AMD64 touching_8 (both_inputs AMD64) [] → ⊥
   pub defined : LinksAmong AMD64 touching_8 [] (losing ∷ []) → ⊥
 
 pub record NearFlavorsLink : Type 0 where
+  pub targets : FlavorsLink AMD64 flavor_bases_8 [] (leading_nowhere ∷ []) → ⊥
   pub null : FlavorsLink AMD64 flavor_bases_8 (flavor_inputs AMD64) [] → ⊥
   pub ended : FlavorsLink AMD64 (record flavor_bases_8 { directory_ends = 52 }) (flavor_inputs AMD64) [] → ⊥
   pub listed : FlavorsLink AMD64 flavor_bases_8 (flavor_inputs AMD64) [] → ⊥
   pub claimed : FlavorsLink AMD64 flavor_bases_8 (flavor_inputs AMD64) [] → ⊥
   pub defined : FlavorsLink AMD64 flavor_bases_8 [] (losing ∷ []) → ⊥
 
+-- an object of another library with four bytes among the descriptors
+abbrev pub four_before : Run
+four_before = record { objects = table_object (codes ".idata$2") (zeros 4) [] ∷ []; imports = []; inputs = foo_input AMD64 ∷ [] }
+
 pub record NearLinksBeside : Type 0 where
+  pub rows : LinksBeside AMD64 touching_8 (four_before ∷ []) [] → ⊥
+  pub linked : LinksBeside AMD64 touching_8
+      (record { objects = []; imports = []; inputs = record (foo_input AMD64) { members = [] } ∷ [] } ∷ []) [] → ⊥
   pub listed : LinksBeside AMD64 touching_8 (run_with [] []) [] → ⊥
 
 -- foo.dll's address table 8 bytes on
@@ -67,19 +87,34 @@ pub record NearImportsBy : Type 0 where
       (names_for Gnu (foo_input AMD64).definition)
       (chosen_exports (foo_input AMD64).definition (foo_input AMD64).chosen) → ⊥
 
--- the second descriptor for the first; and the address table 8 bytes on
+-- an object that defines the descriptor of foo.dll, and leaves the address of its second export to others
+abbrev pub only_naming : Placed
+only_naming = record {
+  object = record (table_object (codes ".idata$2") (zeros 20) (codes "__IMPORT_DESCRIPTOR_foo" ∷ [])) {
+    entries = ASymbol (symbol_of_class (codes "__IMPORT_DESCRIPTOR_foo") 1 class_external)
+        ∷ ASymbol (symbol_of_class (codes "__imp_nine") 0 class_external)
+        ∷ [];
+  };
+  section_addresses = At Descriptors 8 ∷ [];
+}
+
+-- the second descriptor for the first; the address table 8 bytes on; and no object that defines the entries
 pub record NearInputImports : Type 0 where
   pub top : InputImports AMD64 (flavor_image AMD64 0 flavor_bases_8) (flavor_placed AMD64 0 flavor_bases_8) 28 128
       (foo_flavor AMD64) → ⊥
   pub table_located : InputImports AMD64 (flavor_image AMD64 0 flavor_bases_8) (flavor_placed AMD64 0 flavor_bases_8) 8 136
       (foo_flavor AMD64) → ⊥
+  pub entries_and_gets : InputImports AMD64 (flavor_image AMD64 0 flavor_bases_8) (only_naming ∷ []) 8 128
+      (foo_flavor AMD64) → ⊥
 
--- descriptors without the DLL's name, and without an address table
+-- descriptors without the DLL's name, and without an address table; and a table to which no field leads
 pub record NearFillsBy : Type 0 where
   pub has_name : (gives : List ℕ → Ask → List ℕ) (after : List Range) →
       FillsBy 8 gives 0x1000 without_name found_there after → ⊥
   pub has_addresses : (gives : List ℕ → Ask → List ℕ) (after : List Range) →
       FillsBy 8 gives 0x1000 without_addresses found_there after → ⊥
+  pub lookups_field_and_fills : (gives : List ℕ → Ask → List ℕ) (after : List Range) →
+      FillsBy 8 gives 0x1000 table_elsewhere found_elsewhere after → ⊥
 
 -- an object whose `queue` is left, though the libraries list it
 pub record NearLinksClosed : Type 0 where
@@ -104,7 +139,7 @@ pub record NearAreClosedForMsvc : Type 0 where
       [] → ⊥
   pub some : AreClosedForMsvc AMD64 [] [] [] [] [] → ⊥
 
--- in an order of no libraries; without the given object; and without the null descriptor
+-- in an order of no libraries; without the given object; without the null descriptor; and with it alone
 pub record NearAreLinkedFor : Type 0 where
   pub order : AreLinkedFor AMD64 two_libraries [] [] [] touching_8 (null_descriptor ∷ []) → ⊥
   pub others : AreLinkedFor AMD64 [] (asking ∷ []) [] [] touching_8 (null_descriptor ∷ []) → ⊥
@@ -119,6 +154,8 @@ pub record NearAreLinkedForMsvc : Type 0 where
   pub order : AreLinkedForMsvc AMD64 two_msvc [] [] [] (objects_taken AMD64 (first_null AMD64 two_msvc)) → ⊥
   pub others : AreLinkedForMsvc AMD64 [] (asking ∷ []) [] [] [] → ⊥
   pub tables : AreLinkedForMsvc AMD64 two_msvc [] [] two_msvc [] → ⊥
+  pub members : AreLinkedForMsvc AMD64 two_msvc (asking ∷ []) [] two_msvc
+      (asking ∷ objects_taken AMD64 (first_null AMD64 two_msvc)) → ⊥
 
 -- no null descriptor
 pub record NearIsLinkedWith : Type 0 where

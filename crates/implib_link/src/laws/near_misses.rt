@@ -43,6 +43,9 @@ ghost use Rattle.implib_link.specs.Worked.NearSearches.{NearIsUsedShort, NearIsW
 ghost use Rattle.implib_link.specs.Worked.NearSearches.{NearIsWeakShort, NearIsWeakTaken};
 ghost use Rattle.implib_link.specs.Worked.NearSearches.{NearPullsIn, NearPullsInFor, NearPullsInto};
 ghost use Rattle.implib_link.specs.Worked.NearSearches.{NearPullsIntoFor};
+ghost use Rattle.implib_link.specs.Worked.NearTaken.{NearAreBounded, NearImportsWanted, NearIsArranged};
+ghost use Rattle.implib_link.specs.Worked.NearTaken.{NearIsImportedBy, NearIsLinkedOfWanted, NearIsTaken};
+ghost use Rattle.implib_link.specs.Worked.NearTaken.{NearRunLinks, NearTakesOfLibraries, NearTakesOfShorts};
 ghost use Rattle.implib_link.specs.Worked.NearTables.{NearAreAlike, NearAreLoaded, NearBeginsWith};
 ghost use Rattle.implib_link.specs.Worked.NearTables.{NearGetsAddress, NearHoldsAt, NearIsInEntry};
 ghost use Rattle.implib_link.specs.Worked.NearTables.{NearIsLoaded, NearLieWithin};
@@ -108,6 +111,19 @@ pub fn near_misses_of_code()
     ensures stub_arrives { NearStubArrives }
     ensures load_arrives { NearLoadArrives }
     ensures direct_call_arrives { NearDirectCallArrives }
+{}
+
+/// What is not taken or linked of archives, and what is not imported by lld's tables.
+pub fn near_misses_of_members()
+    ensures arranged { NearIsArranged }
+    ensures linked_of_wanted { NearIsLinkedOfWanted }
+    ensures imports_wanted { NearImportsWanted }
+    ensures takes_of_libraries { NearTakesOfLibraries }
+    ensures takes_of_shorts { NearTakesOfShorts }
+    ensures taken { NearIsTaken }
+    ensures run_links { NearRunLinks }
+    ensures imported_by { NearIsImportedBy }
+    ensures bounded { NearAreBounded }
 {}
 
 /// Premises that are met a second time: by sections, types, programs, machines and code that differ

@@ -1,0 +1,25 @@
+//! Libraries of further makers as worked instances of the reader [`implib_read`]: of Microsoft's linker, winebuild and
+//! rustc. The functions do nothing: their contracts are the instances.
+#![tactic(auto)]
+
+ghost use Rattle.implib_read_cases.specs.MoreLibraries.{WorkedDelayed, WorkedMicrosoft, WorkedRustc, WorkedWinebuild};
+
+/// What a library of Microsoft's linker means, worked by hand.
+pub fn worked_microsoft()
+    ensures { WorkedMicrosoft }
+{}
+
+/// What a library of winebuild means, worked by hand.
+pub fn worked_winebuild()
+    ensures { WorkedWinebuild }
+{}
+
+/// What a library of winebuild for a delayed DLL means, worked by hand.
+pub fn worked_delayed()
+    ensures { WorkedDelayed }
+{}
+
+/// What the import library in a crate of rustc means, worked by hand.
+pub fn worked_rustc()
+    ensures { WorkedRustc }
+{}
