@@ -8,7 +8,7 @@ use Rattle.implib_compare.specs.declared.compare.Verdict.TheVariants.{Different,
 use Rattle.implib_compare.specs.declared.working.Working.{Working}
 use Rattle.implib_compare.specs.declared.working.Working.TheVariants as working
 use Rattle.implib_c.specs.declared.imports.Row.{Row as FoundRow}
-use Rattle.implib_c.specs.Check.{Told, encoded_told, verdict_number, working_number}
+use Rattle.implib_c.specs.Check.{encoded_told, verdict_number, working_number}
 use Rattle.implib_c.specs.CheckGiven.{EncodesTold}
 use Rattle.implib_c.specs.Encoding.{encoded_list, encoded_number}
 use Rattle.implib_c.specs.Imports.{Fits, Row, encoded_row, encoded_rows}

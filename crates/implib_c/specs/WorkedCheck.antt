@@ -2,7 +2,7 @@
 use Rattle.std.specs.Prelude.{◌≡◌, ℕ, false, true, List, [], ◌∷◌, ◌++◌, None, Some, codes, length}
 use Rattle.implib.specs.Import.{Name, Ordinal}
 use Rattle.implib.specs.Worked.Digits.{hex}
-use Rattle.implib_compare.specs.Worked.{alias, feed, feed_of_zoo, member, of_dll, zoo}
+use Rattle.implib_compare.specs.Worked.{feed, feed_of_zoo, member, of_dll, zoo}
 use Rattle.implib_compare.specs.declared.compare.Verdict.TheVariants.{Different, NotDecided, Same}
 use Rattle.implib_compare.specs.declared.working.Working.TheVariants as working
 use Rattle.implib_read.specs.Archives.{Archive}

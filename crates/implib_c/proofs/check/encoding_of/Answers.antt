@@ -8,7 +8,7 @@ use Rattle.implib_read.specs.Classes.{MemberRead}
 use Rattle.implib_read.specs.ClassViews.{member_read_view}
 use Rattle.implib_c.specs.Check.{flagged, verdict_number, working_number}
 use Rattle.implib_c.specs.Encoding.{encoded_number}
-use Rattle.implib_c.specs.Imports.{Row, row_of}
+use Rattle.implib_c.specs.Imports.{row_of}
 use Rattle.implib_c.specs.ImportsGiven.{row_of_found, row_view}
 use Rattle.implib_c.proofs.Flagged.{flagged_as}
 use Rattle.implib_c.proofs.RowsPushed.{appended, told_appended}

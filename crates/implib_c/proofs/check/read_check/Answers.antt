@@ -1,9 +1,8 @@
-use Rattle.std.proofs.Common.{map, subst}
+use Rattle.std.proofs.Common.{◌≡◌, Some, map, subst}
 use Rattle.implib_read.specs.ArchiveViews.{archive_view}
 use Rattle.implib_read.specs.Classes.{library_in}
 use Rattle.implib_read.specs.ClassViews.{member_read_view}
 use Rattle.implib_rules.specs.Options.{library_options_view}
-use Rattle.std.proofs.Common.{◌≡◌, Some}
 use Rattle.implib_c.specs.Check.{told_of}
 use Rattle.implib_c.specs.CheckGiven.{EncodesTold}
 use Rattle.implib_c.proofs.CheckAnswers.{encodes_check}

@@ -1,4 +1,4 @@
-use Rattle.std.proofs.Common.{◌+◌, [], length}
+use Rattle.std.proofs.Common.{[], length}
 use Rattle.std.proofs.lemmas.List.{get_or_default}
 use Rattle.std.proofs.lemmas.List.Elements.{All-more}
 use Rattle.implib_c.specs.declared.imports.Row.{Row as FoundRow}
