@@ -12,7 +12,8 @@
  * text. With the argument `with` it calls implib_library_with in the same way, and implib_write, whose pieces have to be the same
  * library; then a case begins with four numbers more, the size of the options, the flags, whether a name of the DLL
  * is given, and its length, and the name is before the text. With `warnings` it calls implib_warnings so, and what
- * follows is the encoding. With `of` it calls implib_library_of: then the last number is that of exports, and in the
+ * follows is the encoding; with `check` implib_check_library, where the length of a library and the library are after
+ * the name. With `of` it calls implib_library_of: then the last number is that of exports, and in the
  * place of the text is of each the length of its name and the name, the same of its target, its ordinal and its flags;
  * a length of 2^64 - 1 is a null pointer. With the argument `texts` it writes a line with the text of each status from
  * 0 to 99 instead.
@@ -87,10 +88,12 @@ typedef uint32_t callee(const uint8_t *text, size_t text_length, uint16_t machin
 typedef uint32_t callee_with(const struct implib_options *options, const uint8_t *text, size_t text_length,
                              uint8_t *buffer, size_t buffer_length, size_t *length, size_t *place);
 
-/* A call of the function, or, where this is null, of one with options, or, for exports, of implib_library_of. */
+/* A call of the function, or, where this is null, of one with options, or, where this is null too, of
+ * implib_check_library; or, for exports, of implib_library_of. */
 struct call {
     callee *function;
     callee_with *with;
+    struct slice library;
     struct slice text;
     struct implib_options options;
     int is_of_exports;
@@ -131,6 +134,9 @@ static uint32_t status_of(struct call call, const uint8_t *text, uint8_t *buffer
     if (call.is_of_exports)
         return implib_library_of(&call.options, call.count == 0 ? NULL : call.exports, call.count, buffer, room, length,
                                  place);
+    if (call.function == NULL && call.with == NULL)
+        return implib_check_library(call.library.length == 0 ? NULL : call.library.bytes, call.library.length, text,
+                                    call.text.length, &call.options, buffer, room, length, place);
     if (call.function == NULL)
         return call.with(&call.options, text, call.text.length, buffer, room, length, place);
     return call.function(text, call.text.length, call.options.machine, call.options.flavor, buffer, room, length,
@@ -463,15 +469,19 @@ static int run_next(callee *function, callee_with *with, int is_of_exports)
     if (!number_read(&machine) || !number_read(&flavor) || !number_read(&refuses) || !number_read(&length))
         return 0;
     uint8_t *dll = has_dll ? bytes_read(dll_length) : NULL;
+    size_t library_length = 0;
+    demand(function != NULL || with != NULL || number_read(&library_length), "a library is cut short");
+    uint8_t *library = bytes_read(library_length);
     size_t text_length = is_of_exports ? 0 : length, count = is_of_exports ? length : 0;
     uint8_t *text = bytes_read(text_length);
     struct implib_export *exports = exports_read(count);
     struct call call = {
-        function, with, {text, text_length},
+        function, with, {library, library_length}, {text, text_length},
         {size, (uint16_t)machine, (uint32_t)flavor, (uint32_t)flags, dll, dll_length}, is_of_exports, exports, count};
     run(call, refuses != 0);
     exports_freed(exports, count);
     free(text);
+    free(library);
     free(dll);
     return 1;
 }
@@ -512,9 +522,11 @@ int main(int count, char *arguments[])
         function = imports;
     int is_of_exports = count == 2 && strcmp(arguments[1], "of") == 0;
     int is_of_warnings = count == 2 && strcmp(arguments[1], "warnings") == 0;
-    if (is_of_exports || is_of_warnings || (count == 2 && strcmp(arguments[1], "with") == 0))
+    int is_of_checks = count == 2 && strcmp(arguments[1], "check") == 0;
+    if (is_of_exports || is_of_warnings || is_of_checks || (count == 2 && strcmp(arguments[1], "with") == 0))
         function = NULL;
-    while (run_next(function, is_of_warnings ? implib_warnings : implib_library_with, is_of_exports))
+    callee_with *with = is_of_warnings ? implib_warnings : is_of_checks ? NULL : implib_library_with;
+    while (run_next(function, with, is_of_exports))
         ;
     return 0;
 }

@@ -88,6 +88,20 @@ uint32_t implib_warnings_nonnull(const uint8_t *text, size_t text_length, const 
                                        buffer_length, length, place);
 }
 
+/* The library that a call passed on beside. */
+static const uint8_t *passed_bytes;
+
+uint32_t implib_check_library_nonnull(const uint8_t *bytes, size_t bytes_length, const uint8_t *text,
+                                      size_t text_length, const uint8_t *dll, size_t dll_length, uint32_t has_dll,
+                                      uint16_t machine, uint32_t flavor, uint32_t flags, uint8_t *buffer,
+                                      size_t buffer_length, size_t *length, size_t *place)
+{
+    hold(bytes != NULL && bytes_length <= 2, "a null pointer or another length is passed on for a library");
+    passed_bytes = bytes;
+    return implib_library_with_nonnull(text, text_length, dll, dll_length, has_dll, machine, flavor, flags, buffer,
+                                       buffer_length, length, place);
+}
+
 uint32_t implib_definition_nonnull(const uint8_t *text, size_t text_length, uint16_t machine, uint8_t *buffer,
                                    size_t buffer_length, size_t *length, size_t *place)
 {
@@ -158,6 +172,19 @@ static void hold_options(callee_with *own, const uint8_t *text, size_t text_leng
     }
     hold(own(NULL, text, text_length, buffer, buffer_length, first, second) == IMPLIB_UNKNOWN_OPTIONS,
          "null options are taken");
+}
+
+/* implib_check_library, of this library. */
+static const uint8_t *checked;
+
+static uint32_t check(const struct implib_options *options, const uint8_t *text, size_t text_length, uint8_t *buffer,
+                      size_t buffer_length, size_t *length, size_t *place)
+{
+    passed_bytes = NULL;
+    uint32_t status = implib_check_library(checked, checked == NULL ? 0 : 2, text, text_length, options, buffer,
+                                           buffer_length, length, place);
+    hold(status == IMPLIB_UNKNOWN_OPTIONS || checked == NULL || passed_bytes == checked, "another library is passed on");
+    return status;
 }
 
 /* Calls with exports, of which one may have a null pointer, and with options of each size. */
@@ -232,6 +259,9 @@ int main(void)
 
         hold_options(implib_library_with, some_text, text_length, some_buffer, buffer_length, some_first, some_second);
         hold_options(implib_warnings, some_text, text_length, some_buffer, buffer_length, some_first, some_second);
+        checked = some_text;
+        hold_options(check, text, 2, some_buffer, buffer_length, some_first, some_second);
+        hold_options(check, some_text, text_length, some_buffer, buffer_length, some_first, some_second);
         hold_exports(some_buffer, buffer_length, some_first, some_second);
 
         first = second = 0;

@@ -62,7 +62,7 @@ extern "C" {
 
 /* The version of this header, which grows with every change of what it declares or says. implib_version()
  * gives that of the library. */
-#define IMPLIB_VERSION 4
+#define IMPLIB_VERSION 5
 uint32_t implib_version(void);
 
 /* What a call answers. New statuses get new numbers. Those of faults of the input are 16 to 39. */
@@ -121,7 +121,7 @@ enum implib_status {
     IMPLIB_EXPORT_NOT_UTF8 = 44,      /* the name or the target of an export is not UTF-8 */
     IMPLIB_NULL_IN_EXPORT = 45,       /* the name or the target of an export is a null pointer */
 
-    /* Of implib_imports alone. */
+    /* Of implib_imports and implib_check_library; *place is 0. */
     IMPLIB_NOT_A_LIBRARY = 46, /* the bytes are no archive, or a thin one */
 
     /* Of implib_write alone; *place is 0. */
@@ -305,6 +305,44 @@ static inline uint32_t implib_imports(const uint8_t *bytes, size_t bytes_length,
 #define IMPLIB_IMPORT_NOT_UNDERSTOOD 9u   /* neither, or import tables that lead nowhere */
 
 /*
+ * Puts how a library compares with what a definition means under these options at the beginning of the buffer, and
+ * returns a status, which is IMPLIB_SUCCESS whatever the verdict. The library may be of any maker. It is compared as the
+ * program implib_check does it (docs/CHECK.md): with the library that implib_library_with makes, by their imports and
+ * aliases, in any order, as many times each. The case of letters in the DLL's name and the hint do not count, nor does
+ * whether an import is of code or of a constant, where one of the libraries does not tell it.
+ *
+ * bytes        the library: the file, whole
+ * options      as of implib_library_with; the machine and the flavour are those of the definition's library
+ * length       gets the length of the encoding in bytes, where the status is IMPLIB_SUCCESS or
+ *              IMPLIB_BUFFER_TOO_SMALL; else 0
+ *
+ * The text, the place and the buffer are as of implib_library_with, with the encoding in the library's place. Options
+ * are refused first, then bytes that are no archive (IMPLIB_NOT_A_LIBRARY), and then the text.
+ *
+ *     number               the verdict: IMPLIB_CHECK_SAME, IMPLIB_CHECK_DIFFERENT or IMPLIB_CHECK_NOT_DECIDED
+ *     number               whether the library works: IMPLIB_CHECK_WORKS, IMPLIB_CHECK_BROKEN or
+ *                          IMPLIB_CHECK_NOT_DECIDED
+ *     number               how many members of the library have an import or an alias that the definition's lacks, and
+ *                          then of each a row as of implib_imports
+ *     number               how many members of the definition's library have one that the library lacks, and then of
+ *                          each such a row; the offset in it is of no file that the caller has
+ *
+ * The verdict is not decided where a member of the library is not understood or is of delayed imports, whatever else
+ * differs, and where no import or alias differs, but another object may define one.
+ */
+static inline uint32_t implib_check_library(const uint8_t *bytes, size_t bytes_length, const uint8_t *text,
+                                            size_t text_length, const struct implib_options *options,
+                                            uint8_t *buffer, size_t buffer_length, size_t *length, size_t *place);
+
+/* What implib_check_library finds. A library works where its indexes lead to the first members that declare their
+ * symbols, and each part of its import tables is there once; of two or more DLLs that is not decided. */
+#define IMPLIB_CHECK_SAME 1u
+#define IMPLIB_CHECK_DIFFERENT 2u
+#define IMPLIB_CHECK_NOT_DECIDED 3u
+#define IMPLIB_CHECK_WORKS 1u
+#define IMPLIB_CHECK_BROKEN 2u
+
+/*
  * Puts the import library of a definition at the beginning of the buffer, and returns a status: the archive of
  * the members that implib_members gives, of the COFF kind (as of LIB.EXE, a .lib) for Microsoft's linker, and
  * of the GNU kind (as of ar, a .a) for GNU's.
@@ -403,6 +441,10 @@ uint32_t implib_warnings_nonnull(const uint8_t *text, size_t text_length, const 
                                  uint8_t *buffer, size_t buffer_length, size_t *length, size_t *place);
 uint32_t implib_imports_nonnull(const uint8_t *bytes, size_t bytes_length, uint8_t *buffer, size_t buffer_length,
                                 size_t *length);
+uint32_t implib_check_library_nonnull(const uint8_t *bytes, size_t bytes_length, const uint8_t *text,
+                                      size_t text_length, const uint8_t *dll, size_t dll_length, uint32_t has_dll,
+                                      uint16_t machine, uint32_t flavor, uint32_t flags, uint8_t *buffer,
+                                      size_t buffer_length, size_t *length, size_t *place);
 uint32_t implib_library_nonnull(const uint8_t *text, size_t text_length, uint16_t machine, uint32_t flavor,
                                 uint8_t *buffer, size_t buffer_length, size_t *length, size_t *place);
 uint32_t implib_members_nonnull(const uint8_t *text, size_t text_length, uint16_t machine, uint32_t flavor,
@@ -524,6 +566,25 @@ static inline uint32_t implib_imports(const uint8_t *bytes, size_t bytes_length,
     return implib_imports_nonnull(bytes_length == 0 ? &no_bytes : bytes, bytes_length,
                                   buffer_length == 0 ? &no_buffer : buffer, buffer_length,
                                   length == NULL ? &no_length : length);
+}
+
+static inline uint32_t implib_check_library(const uint8_t *bytes, size_t bytes_length, const uint8_t *text,
+                                            size_t text_length, const struct implib_options *options,
+                                            uint8_t *buffer, size_t buffer_length, size_t *length, size_t *place)
+{
+    uint8_t no_bytes = 0, no_text = 0, no_dll = 0, no_buffer = 0;
+    size_t no_length, no_place;
+    size_t *own_length = length == NULL ? &no_length : length, *own_place = place == NULL ? &no_place : place;
+    struct implib_options all;
+    *own_length = *own_place = 0;
+    if (!implib_private_options(options, &all))
+        return IMPLIB_UNKNOWN_OPTIONS;
+    return implib_check_library_nonnull(bytes_length == 0 ? &no_bytes : bytes, bytes_length,
+                                        text_length == 0 ? &no_text : text, text_length,
+                                        all.dll_length == 0 ? &no_dll : all.dll, all.dll_length, all.dll != NULL,
+                                        all.machine, all.flavor, all.flags,
+                                        buffer_length == 0 ? &no_buffer : buffer, buffer_length, own_length,
+                                        own_place);
 }
 
 static inline uint32_t implib_library(const uint8_t *text, size_t text_length, uint16_t machine,

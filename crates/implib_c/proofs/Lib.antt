@@ -6,6 +6,7 @@ pub mod WorkedEncoding
 pub mod WorkedDefinition
 pub mod WorkedWarnings
 pub mod WorkedImports
+pub mod WorkedCheck
 pub mod WorkedGaps
 pub mod WorkedStatus
 pub mod WorkedPlace
@@ -21,6 +22,10 @@ pub mod WarningsAnswers
 pub mod ImportsBack
 pub mod ImportsAnswers
 pub mod ImportsRead
+pub mod RowsPushed
+pub mod Flagged
+pub mod ToldBack
+pub mod CheckAnswers
 pub mod AnswerWith
 pub mod AnswerOf
 pub mod GivenExports

@@ -11,6 +11,8 @@ pub mod Warnings
 pub mod WarningsAnswer
 pub mod Imports
 pub mod ImportsAnswer
+pub mod Check
+pub mod CheckAnswer
 pub mod Place
 pub mod Version
 pub mod Given
@@ -19,10 +21,12 @@ pub mod GivenOf
 pub mod DefinitionGiven
 pub mod WarningsGiven
 pub mod ImportsGiven
+pub mod CheckGiven
 pub mod WorkedEncoding
 pub mod WorkedDefinition
 pub mod WorkedWarnings
 pub mod WorkedImports
+pub mod WorkedCheck
 pub mod WorkedGaps
 pub mod WorkedStatus
 pub mod WorkedExports

@@ -152,7 +152,7 @@ pub record WorkedArguments : Type 0 where
   pub plain_export_as : naming_numbered 6 ≡ Some (record { is_plain = true; kills_at = false; exports_as = true })
   pub all_flags : naming_numbered 7 ≡ Some (record { is_plain = true; kills_at = true; exports_as = true })
   pub unknown_flag : naming_numbered 8 ≡ None
-  pub version_is : version ≡ 4
+  pub version_is : version ≡ 5
 
 -- all of them
 pub record WorkedStatuses : Type 0 where

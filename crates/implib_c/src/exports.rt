@@ -6,6 +6,7 @@
 
 ghost use Rattle.implib.specs.Text.Position.{line_and_column};
 ghost use Rattle.implib_c.specs.Answer.{Answers};
+ghost use Rattle.implib_c.specs.CheckAnswer.{CheckAnswers};
 ghost use Rattle.implib_c.specs.DefinitionAnswer.{DefinitionAnswers};
 ghost use Rattle.implib_c.specs.Given.{length_given, place_given, status_given};
 ghost use Rattle.implib_c.specs.ImportsAnswer.{ImportsAnswers};
@@ -18,6 +19,7 @@ ghost use Rattle.implib_c.specs.Version.{version};
 ghost use Rattle.implib_c.specs.WarningsAnswer.{WarningsAnswers};
 ghost use Rattle.std.specs.Prelude.{◌<◌, ◌≡◌, length, map};
 
+use crate::check::check_into;
 use crate::definition::definition_into;
 use crate::export::Export;
 use crate::imports::imports_into;
@@ -30,7 +32,7 @@ use crate::warnings::warnings_into;
 use std::alloc::Global;
 
 // `IMPLIB_VERSION` of the header.
-const VERSION: u32 = 4;
+const VERSION: u32 = 5;
 
 // Writes the length and the place of an answer. Gives its status.
 fn tell(answer: &Result<usize, Failure>, length: &mut usize, place: &mut usize) -> u32
@@ -249,6 +251,47 @@ pub extern "C" fn implib_imports_nonnull(
     let answer = imports_into(alloc, bytes, buffer);
     *length = length_of(&answer);
     status_of(&answer).number()
+}
+
+/// Puts how a library, of any maker, compares with what a text means under these options at the
+/// beginning of `buffer`, encoded as `specs/Check.antt` says, and gives a status: 0 where it is done,
+/// whatever the verdict. The library is compared as the program `implib_check` does it with these
+/// options: with the library that the program `implib_dlltool` makes of the text.
+///
+/// `bytes` is the library; the other arguments are those of `implib_library_with_nonnull`. The
+/// options are refused first, then bytes that are no archive, and then the text.
+///
+/// `length` gets the length of the encoding in bytes, where the status is 0 or 1 (the buffer is too
+/// small), and otherwise 0. `place` gets an offset in the text, as `implib_library_with_nonnull` says
+/// of it. Where the status is not 0 the buffer is as it was, and where it is 0, what follows the
+/// encoding.
+#[unsafe(no_mangle)]
+pub extern "C" fn implib_check_library_nonnull(
+    alloc: Global,
+    bytes: &[u8],
+    text: &[u8],
+    dll: &[u8],
+    has_dll: u32,
+    machine: u16,
+    flavor: u32,
+    flags: u32,
+    buffer: &mut [u8],
+    length: &mut usize,
+    place: &mut usize,
+) -> u32
+    ensures { CheckAnswers bytes.now text.now
+        (record { machine = machine; flavor = flavor; flags = flags; has_dll = has_dll; dll = dll.now })
+        buffer.old buffer.new length.new place.new result }
+{
+    let arguments = OptionsArguments {
+        machine,
+        flavor,
+        flags,
+        has_dll,
+        dll,
+    };
+    let answer = check_into(alloc, bytes, text, arguments, buffer);
+    tell(&answer, length, place)
 }
 
 /// Puts the line and the column of an offset in a text into `line` and `column`, both from 1. A line

@@ -18,9 +18,9 @@ use implib_read::{
 };
 use std::alloc::{AllocError, Global};
 
-// A member of a library, as C gets it.
+/// A member of a library, as C gets it.
 #[derive(Clone, Copy)]
-struct Row<'a> {
+pub struct Row<'a> {
     kind: u64,
     offset: usize,
     dll: &'a [u8],
@@ -95,8 +95,8 @@ fn other_row<'a>(kind: u64, offset: usize) -> Row<'a>
     }
 }
 
-// The row of a member.
-fn row_of<'a>(member: &MemberRead<'a>) -> Row<'a>
+/// The row of a member.
+pub fn row_of<'a>(member: &MemberRead<'a>) -> Row<'a>
     ensures { row_view result ≡ row_of_found member.now }
 {
     match &member.class {
@@ -128,25 +128,37 @@ fn push_row(bytes: &mut Vec<u8>, row: Row<'_>) -> Result<(), AllocError>
     push_number(bytes, u64::from(row.number))
 }
 
-// Appends the rows of members.
-fn push_rows(bytes: &mut Vec<u8>, members: &[MemberRead<'_>]) -> Result<(), AllocError>
+/// Appends rows: their number, and each of them.
+pub fn push_rows(bytes: &mut Vec<u8>, rows: &[Row<'_>]) -> Result<(), AllocError>
     ensures appended { OnOk result (Pushes bytes.old.items bytes.new.items
-        (encoded_list encoded_row (map row_of_found members.now))) }
-    ensures fit { OnOk result (All (λ m. Fits (row_of_found m)) members.now) }
+        (encoded_list encoded_row (map row_view rows.now))) }
+    ensures fit { OnOk result (All (λ r. Fits (row_view r)) rows.now) }
 {
-    push_number(bytes, members.len() as u64)?;
-    for member in members {
-        push_row(bytes, row_of(member))?;
+    push_number(bytes, rows.len() as u64)?;
+    for row in rows {
+        push_row(bytes, *row)?;
     }
     Ok(())
+}
+
+// The rows of members, in order.
+fn rows_of<'a>(alloc: Global, members: &[MemberRead<'a>]) -> Result<Vec<Row<'a>>, AllocError>
+    ensures { IfOk result (λ rows. map row_view rows.items ≡ map row_of_found members.now) }
+{
+    let mut rows = Vec::with_capacity(alloc, members.len())?;
+    for member in members {
+        rows.push(row_of(member))?;
+    }
+    Ok(rows)
 }
 
 // The rows of members, encoded.
 fn encoding_of(alloc: Global, members: &[MemberRead<'_>]) -> Result<Vec<u8>, AllocError>
     ensures { IfOk result (λ bytes. EncodesRows (map row_of_found members.now) bytes.items) }
 {
+    let rows = rows_of(alloc, members)?;
     let mut bytes = Vec::new(alloc);
-    push_rows(&mut bytes, members)?;
+    push_rows(&mut bytes, &rows)?;
     Ok(bytes)
 }
 

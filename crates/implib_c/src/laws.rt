@@ -2,6 +2,7 @@
 //! contract is a law.
 
 ghost use Rattle.implib.specs.Members.MemberSpec.{MemberView};
+ghost use Rattle.implib_c.specs.Check.{ReadsToldBack, Told};
 ghost use Rattle.implib_c.specs.Definition.{ReadsDefinitionBack, StatedDefinition};
 ghost use Rattle.implib_c.specs.Encoding.{ReadsBack};
 ghost use Rattle.implib_c.specs.Imports.{ReadsRowsBack, Row};
@@ -9,6 +10,7 @@ ghost use Rattle.implib_c.specs.LibraryOf.{GivenExport, exports_given};
 ghost use Rattle.implib_c.specs.Place.{PlacesAreOfRefusals};
 ghost use Rattle.implib_c.specs.Status.{NumbersReturn};
 ghost use Rattle.implib_c.specs.Warnings.{ReadsWarningsBack, Said};
+ghost use Rattle.implib_c.specs.WorkedCheck.{WorkedChecks};
 ghost use Rattle.implib_c.specs.WorkedDefinition.{WorkedDefinitions};
 ghost use Rattle.implib_c.specs.WorkedEncoding.{WorkedEncodings};
 ghost use Rattle.implib_c.specs.WorkedExports.{WorkedExports};
@@ -60,6 +62,16 @@ pub fn rows_read_back()
 /// Rows of libraries, worked by hand, are these, have these bytes, and are read so.
 pub fn worked_imports()
     ensures { WorkedImports }
+{}
+
+/// An encoding of what is told of a library beside a definition's reads back, whatever follows it.
+pub fn checks_read_back()
+    ensures { (told : Told) (rest : List ℕ) → ReadsToldBack told rest }
+{}
+
+/// What is told of libraries, worked by hand, is this, has these bytes, and is read so.
+pub fn worked_checks()
+    ensures { WorkedChecks }
 {}
 
 /// Each number of a status leads back to it.

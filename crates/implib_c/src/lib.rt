@@ -3,6 +3,7 @@
 //! The exports take slices and numbers, and give numbers. They keep nothing between calls.
 #![tactic(auto)]
 
+mod check;
 mod definition;
 mod encoding;
 mod export;

@@ -3,9 +3,10 @@
 
 use crate::export::Export;
 use crate::exports::{
-    implib_definition_nonnull, implib_imports_nonnull, implib_library_nonnull,
-    implib_library_of_nonnull, implib_library_with_nonnull, implib_members_nonnull,
-    implib_position_nonnull, implib_status_text_nonnull, implib_version, implib_warnings_nonnull,
+    implib_check_library_nonnull, implib_definition_nonnull, implib_imports_nonnull,
+    implib_library_nonnull, implib_library_of_nonnull, implib_library_with_nonnull,
+    implib_members_nonnull, implib_position_nonnull, implib_status_text_nonnull, implib_version,
+    implib_warnings_nonnull,
 };
 use implib::{Flavor, ImportLibrary, MachineType};
 use implib_archive::{Archive, Kind};
@@ -553,7 +554,7 @@ fn offsets_have_lines_and_columns(rt: HostRuntime) -> Result<(), Fail> {
 
 #[test]
 fn the_version_is_that_of_the_header(rt: HostRuntime) -> Result<(), Fail> {
-    assert_eq!(rt; implib_version(), 4);
+    assert_eq!(rt; implib_version(), 5);
     Ok(())
 }
 
@@ -762,5 +763,91 @@ fn imports_of_made_libraries_are_told_and_of_no_library_none(rt: HostRuntime) ->
         assert_eq!(rt; (status, length), (46, 0));
         assert!(rt; is_untouched(buffer.as_slice()));
     }
+    Ok(())
+}
+
+// The status, the length and the place of a call that compares a library with a text for Microsoft's
+// linker on AMD64.
+fn checked(alloc: Global, library: &[u8], text: &[u8], buffer: &mut [u8]) -> (u32, usize, usize) {
+    let mut length = 12_345;
+    let mut place = 67_890;
+    let status = implib_check_library_nonnull(
+        alloc,
+        library,
+        text,
+        b"",
+        0,
+        0x8664,
+        0,
+        0,
+        buffer,
+        &mut length,
+        &mut place,
+    );
+    (status, length, place)
+}
+
+// The low bytes of the first four numbers of a buffer.
+fn first_numbers(buffer: &[u8]) -> [u8; 4] {
+    let byte = |place: usize| buffer.get(place).copied().unwrap_or(PATTERN);
+    [byte(0), byte(8), byte(16), byte(24)]
+}
+
+// Texts, with the status, the length and the place of a call that compares the library of `TWO`, and
+// the first four numbers that it puts: the same; the ordinal of baz changed, so that there is a row of
+// 74 bytes for each, whose kind is the fourth number; a syntax error.
+const CHECKED: &[(&[u8], (u32, usize, usize), [u8; 4])] = &[
+    (
+        b"LIBRARY foo.dll\nEXPORTS\nbaz @5 NONAME\nbar",
+        (0, 32, 0),
+        [1, 1, 0, 0],
+    ),
+    (
+        b"LIBRARY foo.dll\nEXPORTS\nbar\nbaz @6 NONAME",
+        (0, 180, 0),
+        [2, 1, 1, 1],
+    ),
+    (b"LIBRARY foo.dll\nOTHER", (16, 0, 16), [PATTERN; 4]),
+];
+
+#[test]
+fn a_library_is_compared_with_definitions(rt: HostRuntime) -> Result<(), Fail> {
+    let mut library = room(rt.alloc(), 4096)?;
+    let mut made = 12_345;
+    let mut place = 67_890;
+    let status = implib_library_with_nonnull(
+        rt.alloc(),
+        TWO.as_bytes(),
+        b"",
+        0,
+        0x8664,
+        0,
+        0,
+        library.as_mut_slice(),
+        &mut made,
+        &mut place,
+    );
+    assert_eq!(rt; status, 0);
+    let library = library.get(..made).unwrap_or(&[]);
+    for (text, answer, numbers) in CHECKED {
+        let mut buffer = room(rt.alloc(), 256)?;
+        let found = checked(rt.alloc(), library, text, buffer.as_mut_slice());
+        assert_eq!(rt; (found, first_numbers(&buffer)), (*answer, *numbers));
+        assert!(rt; is_untouched(buffer.get(found.1..).unwrap_or(&[])));
+    }
+    Ok(())
+}
+
+#[test]
+fn a_library_without_an_index_is_the_same_and_does_not_work(rt: HostRuntime) -> Result<(), Fail> {
+    let mut buffer = room(rt.alloc(), 40)?;
+    let text = b"LIBRARY foo.dll\nEXPORTS\nbar";
+    let found = checked(rt.alloc(), SHORT_IMPORT, text, buffer.as_mut_slice());
+    assert_eq!(rt; (found, first_numbers(&buffer)), ((0, 32, 0), [1, 2, 0, 0]));
+    let mut short = room(rt.alloc(), 31)?;
+    let found = checked(rt.alloc(), SHORT_IMPORT, text, short.as_mut_slice());
+    assert_eq!(rt; (found, is_untouched(&short)), ((1, 32, 0), true));
+    let found = checked(rt.alloc(), b"MZ", text, short.as_mut_slice());
+    assert_eq!(rt; (found, is_untouched(&short)), ((46, 0, 0), true));
     Ok(())
 }

@@ -1,16 +1,29 @@
-use Rattle.std.proofs.Common.{ap, length, subst}
+use Rattle.std.proofs.Common.{[], length}
+use Rattle.std.proofs.lemmas.List.{get_or_default}
 use Rattle.std.proofs.lemmas.List.Elements.{All-more}
-use Rattle.implib_archive.proofs.Appended.{pushes_as}
+use Rattle.implib_c.specs.declared.imports.Row.{Row as FoundRow}
 use Rattle.implib_c.specs.Encoding.{encoded_number}
 use Rattle.implib_c.specs.Imports.{Fits, encoded_row}
-use Rattle.implib_c.specs.ImportsGiven.{row_of_found}
+use Rattle.implib_c.specs.ImportsGiven.{row_view}
 use Rattle.implib_c.proofs.Pushes.{pushes_item}
 use Rattle.implib_c.proofs.imports.push_rows.Goals as goal
 
-pub loop-member-preserved : goal.loop-member-preserved
-loop-member-preserved c = (
-  pushes_item encoded_row row_of_found c.args.members.now c.loop-member.member-index (encoded_number (length c.args.members.now)) c.loop-member.invariant.0
-      c.member-item.result c.loop-member-test.true c.member-item.is (pushes_as (ap encoded_row c.row_of.ensures) c.in_ok-push_row.ensures.appended),
-  All-more (λ m. Fits (row_of_found m)) c.args.members.now c.loop-member.member-index c.member-item.result c.loop-member-test.true c.loop-member.invariant.1
-      (subst (λ m. Fits (row_of_found m)) c.member-item.is (subst Fits c.row_of.ensures c.push_row.ensures.fit)),
+-- the row that a read past the end would have
+abbrev no_row : FoundRow
+no_row = record {
+  kind = 0;
+  offset = 0;
+  dll = record { ref_ptr = (0, 0); now = [] };
+  symbol = record { ref_ptr = (0, 0); now = [] };
+  machine = 0;
+  by_name = 0;
+  asked = record { ref_ptr = (0, 0); now = [] };
+  number = 0;
+}
+
+pub loop-row-preserved : goal.loop-row-preserved
+loop-row-preserved c = (
+  pushes_item encoded_row row_view c.args.rows.now c.loop-row.row-index (encoded_number (length c.args.rows.now)) c.loop-row.invariant.0
+      _ c.loop-row-test.true (get_or_default c.args.rows.now c.loop-row.row-index no_row _ c.loop-row-test.true) c.in_ok-push_row.ensures.appended,
+  All-more (λ r. Fits (row_view r)) c.args.rows.now c.loop-row.row-index no_row c.loop-row-test.true c.loop-row.invariant.1 c.push_row.ensures.fit,
 )
