@@ -1,6 +1,6 @@
 -- What a library of any maker imports, row by row, how the rows are encoded for C, and how an encoding is read (this
 -- project's choice). What the members of a library are for is `implib_read`'s `library_in`.
-use Rattle.std.specs.Prelude.{◌≡◌, ℕ, ◌<◌, ◌^◌, All, List, [], ◌∷◌, ◌++◌, Option, Some, bytes_eq, codes, drop, if◌then◌else◌, length, map, take}
+use Rattle.std.specs.Prelude.{◌≡◌, ℕ, ◌<◌, ◌^◌, All, List, [], ◌++◌, Option, Some, length, map}
 use Rattle.std.specs.Option.{option_and_then, option_map}
 use Rattle.implib.specs.Import.{Ask, Name, Ordinal}
 use Rattle.implib_read.specs.Classes.{AnAlias, AnImport, Class, DelayImport, Descriptor, Head, Imported, MemberRead, NotUnderstood, NullDescriptor, NullThunk, Other, Tail, library_in}
