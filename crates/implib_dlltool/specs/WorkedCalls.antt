@@ -11,6 +11,7 @@ use Rattle.implib_dlltool.specs.declared.request.Caller.{Caller}
 use Rattle.implib_dlltool.specs.Arguments.{Given, Switched}
 use Rattle.implib_dlltool.specs.Disk.{DiskView}
 use Rattle.std.specs.declared.io.ErrorKind.TheVariants.{InvalidData, NotFound}
+use Rattle.implib_dlltool.specs.Placing.{IsUnplaced}
 use Rattle.implib_dlltool.specs.Program.{Devices, IsUncalled, IsUnread, answer_status, definition_in, verdict}
 use Rattle.implib_dlltool.specs.Reports.{Complains, OfWriting, Refuses}
 use Rattle.implib_dlltool.specs.Request.{Asks, AsksHelp, GoesToStandard, HasEmptyDll, IsUnknownFlavor, IsUnknownMachine, LacksDefinition, RequestView, task_of}
@@ -105,4 +106,5 @@ pub record AnswersTold : Type 0 where
   pub no_arguments : (before after : Devices) (printed prints : Option (List ℕ)) (status : ℕ)
       → IsUncalled NotFound before after printed prints status → status ≡ 3
   pub unread : (before after : Devices) (status : ℕ) → IsUnread (asked_for None) before after status → status ≡ 3
+  pub nothing_left : (before after : DiskView) → IsUnplaced before after → after.is_stuck ≡ false → after.left ≡ None
   pub failure_of_none_said : (cause : WriteError) → verdict (asked_for None) (Err (Writing cause)) ≡ Complains (codes "-") OfWriting ∷ []

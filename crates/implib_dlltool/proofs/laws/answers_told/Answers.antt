@@ -1,6 +1,16 @@
-use Rattle.std.proofs.Common.{refl}
+use Rattle.std.proofs.Common.{◌≡◌, ◌⊎◌, ◌∙◌, None, false, inl, inr, refl, sym, true}
+use Rattle.std.proofs.lemmas.Bool.{true≢false}
+use Rattle.implib_dlltool.specs.Disk.{DiskView}
+use Rattle.implib_dlltool.specs.Placing.{IsUnplaced}
 use Rattle.implib_dlltool.specs.WorkedCalls.{AnswersTold}
 use Rattle.implib_dlltool.proofs.laws.answers_told.Goals as goal
+
+-- what is new can be left only where its removal failed
+none_left : (before after : DiskView) → IsUnplaced before after → after.is_stuck ≡ false → after.left ≡ None
+none_left before after unplaced removed = by_case unplaced.none_left where
+  by_case : (after.left ≡ None) ⊎ (after.is_stuck ≡ true) → after.left ≡ None
+  by_case (inl none) = none
+  by_case (inr stuck) = absurd (true≢false (sym stuck ∙ removed))
 
 worked : AnswersTold
 worked = record {
@@ -17,6 +27,7 @@ worked = record {
   no_text = λ before after printed prints status called. called.is_status;
   no_arguments = λ before after printed prints status called. called.is_status;
   unread = λ before after status read. read.is_status;
+  nothing_left = none_left;
   failure_of_none_said = λ cause. refl;
 }
 
