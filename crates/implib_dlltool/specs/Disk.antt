@@ -1,45 +1,11 @@
--- What is known of where definitions are read from and libraries go (this project's own).
-use Rattle.std.specs.Prelude.{◌≡◌, ℕ, Bool, true, List, Option, None, Some, IfSome}
+-- What is known of the system's disk (this project's own).
+use Rattle.std.specs.Prelude.{None}
 use Rattle.std.specs.Option.{option_map}
 use Rattle.std.specs.String.{string_bytes}
+use Rattle.implib_driver.specs.Disk.{DiskView}
 use Rattle.implib_dlltool.specs.declared.files.State.{State}
 
--- what is known of a disk
-pub record DiskView : Type 0 where
-  -- the bytes of the file that a path leads to, where they are known
-  pub seen : List ℕ → Option (List ℕ)
-  -- the path whose file a new one is to replace, while the new one is there
-  pub left : Option (List ℕ)
-  -- whether a call has failed, other than a removal
-  pub has_failed : Bool
-  -- whether a removal has failed
-  pub is_stuck : Bool
-
--- after a call that failed: all else is as it was
-abbrev pub failing : DiskView → DiskView
-failing disk = record disk { has_failed = true }
-
--- with a new file for a path
-abbrev pub beginning : List ℕ → DiskView → DiskView
-beginning path disk = record disk { left = Some path }
-
--- without the new file
-abbrev pub removed : DiskView → DiskView
-removed disk = record disk { left = None }
-
--- after a removal that failed
-abbrev pub stuck : DiskView → DiskView
-stuck disk = record disk { is_stuck = true }
-
--- A new file took the place of the one that its path leads to, where bytes are known. Of other paths nothing is said:
--- links may lead there.
-pub record Replaces (known : Bool) (before after : DiskView) (file : Option (List ℕ)) : Type 0 where
-  pub at_path : known ≡ true → IfSome before.left (λ path. after.seen path ≡ file)
-  pub none_left : after.left ≡ None
-  pub same_failures : after.has_failed ≡ before.has_failed
-  pub same_removals : after.is_stuck ≡ before.is_stuck
-
--- what is known of the system's disk: of its bytes nothing
+-- of its bytes nothing is known
 abbrev pub state_view : State → DiskView
 state_view state = record {
   seen = λ path. None;

@@ -1,15 +1,1 @@
-pub mod Options
-pub mod Arguments
-pub mod Identity
-pub mod Request
-pub mod LibWords
-pub mod Verbose
 pub mod Disk
-pub mod Reports
-pub mod Placing
-pub mod Program
-pub mod Worked
-pub mod WorkedCallers
-pub mod WorkedOptions
-pub mod WorkedCalls
-pub mod WorkedLibWords

@@ -2,8 +2,8 @@
 
 ghost use Rattle.std.specs.Prelude.{None};
 
-use crate::reporter::{Complaint, Reporter};
 use implib::def::Position;
+use implib_driver::reporter::{Complaint, Reporter};
 use implib_rules::library::Refusal;
 use implib_rules::warnings::{Notice, NoticeMessage, Warning};
 use implib_rules::{ShownPath, ShownPlace, position_of};

@@ -4,7 +4,7 @@ ghost use Rattle.implib_dlltool.specs.Disk.{state_view};
 ghost use Rattle.std.specs.Prelude.{◌≡◌, IfOk, None, false};
 ghost use Rattle.std.specs.String.{string_bytes};
 
-use crate::disk::Disk;
+use implib_driver::disk::Disk;
 use std::alloc::Global;
 use std::fs::{Files, OpenFile, OpenOptions, Permissions};
 use std::io::ErrorKind;

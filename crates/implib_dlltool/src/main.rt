@@ -1,29 +1,17 @@
 //! Makes the import library of a module definition: a program in place of `dlltool`.
 //!
-//! What the words of the command line ask for is decided here ([`arguments`], [`request`]), which
-//! bytes a library has, or why there is none, by the crate `implib_rules`. [`program`] and
-//! [`placing`] do that over a [`disk`] and a [`reporter`], which [`files`] and [`console`] are of the
-//! system.
+//! What it does is in the crate `implib_driver`; [`files`] is the system's disk, and [`console`] says
+//! on standard error what there is to say.
 #![tactic(auto)]
 
-pub mod arguments;
 pub mod console;
-pub mod disk;
 pub mod files;
-pub mod identity;
-pub mod laws;
-pub mod lib_words;
-mod message;
-pub mod options;
-pub mod placing;
-pub mod program;
-pub mod reporter;
-pub mod request;
-pub mod verbose;
+#[cfg(test)]
+mod tests;
 
 use crate::console::Console;
 use crate::files::SystemDisk;
-use crate::program::perform;
+use implib_driver::program::perform;
 use std::process::ExitCode;
 use std::{env, process};
 

@@ -1,8 +1,8 @@
 use super::Console;
-use crate::reporter::Reporter;
 use implib::Fault;
 use implib::def::Position;
 use implib::def::lexer::TokenKind;
+use implib_driver::reporter::Reporter;
 use implib_rules::library::Refusal;
 use implib_rules::warnings::{Notice, Warning};
 use std::process::Abort;

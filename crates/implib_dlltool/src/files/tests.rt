@@ -1,5 +1,5 @@
 use super::{Made, SystemDisk, settle};
-use crate::disk::Disk;
+use implib_driver::disk::Disk;
 use std::fs::{Metadata, OpenFile, Permissions};
 use std::io::{ErrorKind, Write};
 use std::os::unix::fs::{PermissionsExt, symlink};

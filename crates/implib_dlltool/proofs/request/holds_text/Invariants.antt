@@ -1,6 +1,0 @@
-use Rattle.std.proofs.Common.{◌≡◌, drop}
-use Rattle.implib_dlltool.specs.Request.{holds_text}
-use Rattle.implib_dlltool.proofs.request.holds_text.Given as goal
-
-abbrev pub invariant-loop-start : goal.invariant-loop-start
-invariant-loop-start l = holds_text l.name l.text ≡ holds_text (drop l.start l.name) l.text

@@ -1,0 +1,31 @@
+use Rattle.std.proofs.Common.{refl}
+use Rattle.implib_driver.specs.Arguments.{read_after, switches_in}
+use Rattle.implib_driver.specs.Worked.{CallsRead}
+use Rattle.implib_driver.proofs.laws.calls_read.Goals as goal
+
+calls : CallsRead
+unfolding read_after switches_in
+calls = record {
+  rustc = refl;
+  mingw = refl;
+  last = refl;
+  lacks_value = refl;
+  unsupported = refl;
+  unknown = refl;
+  file = refl;
+  minus = refl;
+  empty_value = refl;
+  value_as_option = refl;
+  bundle = refl;
+  bundle_lacks_value = refl;
+  bundle_unsupported = refl;
+  bundle_unknown = refl;
+  bundle_not_ascii = refl;
+  not_ascii = refl;
+  ended = refl;
+  option_after_the_end = refl;
+  end_as_value = refl;
+}
+
+pub returns : goal.returns
+returns c = calls

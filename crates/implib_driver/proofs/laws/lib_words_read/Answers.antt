@@ -1,0 +1,53 @@
+use Rattle.std.proofs.Common.{[], ◌∷◌, ◌∙◌, ap, refl, if◌then◌else◌}
+use Rattle.implib.specs.declared.machine.MachineType.{MachineType}
+use Rattle.implib.specs.declared.machine.MachineType.TheVariants.{I386, ARMNT, AMD64, ARM64}
+use Rattle.implib_rules.specs.Names.{part_after_last}
+use Rattle.implib_driver.specs.Arguments.{read_after, read_words, switches_in}
+use Rattle.implib_driver.specs.LibWords.{machine_text, read_by_name, read_each, read_lib_words}
+use Rattle.implib_driver.specs.Request.{machine_named}
+use Rattle.implib_driver.specs.WorkedLibWords.{LibWordsRead}
+use Rattle.implib_driver.proofs.laws.lib_words_read.Goals as goal
+use Rattle.std.specs.Prelude.{◌≡◌, Some}
+
+named : (machine : MachineType) → machine_named (machine_text machine) ≡ Some machine
+named I386 = refl
+named ARMNT = refl
+named AMD64 = refl
+named ARM64 = refl
+
+worked : LibWordsRead
+unfolding part_after_last read_after read_each switches_in
+worked = record {
+  options = refl;
+  machines = refl;
+  machines_are_named = named;
+  ignored = refl;
+  refused = refl;
+  near_misses = refl;
+  without_values = refl;
+  without_machines = refl;
+  no_options = refl;
+  usual = refl;
+  first_fault = refl;
+  fault_before_help = refl;
+  no_words = refl;
+  no_definition = refl;
+  no_output = refl;
+  help_lacks_nothing = refl;
+  asked = refl;
+  by_name = refl;
+  called = refl;
+  not_called = refl;
+  after_the_word = refl;
+  word_and_name = refl;
+  word_later = refl;
+  word_in_capitals = refl;
+  lib_has_no_letters = refl;
+  as_before = λ program word words named first.
+      ap (λ is. if is then read_lib_words words else read_by_name program (word ∷ words)) first
+      ∙ ap (λ is. if is then read_lib_words (word ∷ words) else read_words (word ∷ words)) named;
+  as_before_without_words = λ program named. ap (λ is. if is then read_lib_words [] else read_words []) named;
+}
+
+pub returns : goal.returns
+returns c = worked

@@ -1,0 +1,10 @@
+use Rattle.std.proofs.Common.{refl}
+use Rattle.std.proofs.lemmas.Iterator.{items_from_collect}
+use Rattle.std.proofs.lemmas.Iterator.Adapters.{YieldsList-from_vec}
+use Rattle.std.specs.Vec.Iter.{into_iter_items}
+use Rattle.implib_driver.proofs.program.arguments_in.Goals as goal
+
+pub returns : goal.returns
+returns c =
+    items_from_collect c.collect.result c.collect.ensures.ran
+    (YieldsList-from_vec {s = c.args.list} (into_iter_items c.args.list) refl c.args.list.rest.ok.0)

@@ -1,0 +1,39 @@
+-- The DLLs of a library, as `-I` names them (GNU dlltool's option). What a library imports is said by `implib_read`.
+use Rattle.std.specs.Prelude.{◌≡◌, ℕ, ◌==◌, ◌&&◌, Bool, List, [], ◌∷◌, ◌++◌, Option, None, Some, Result, Ok, Err, if◌then◌else◌, length, nat_lt}
+use Rattle.std.specs.List.{flat_map}
+use Rattle.implib_read.specs.Classes.{MemberRead, library_in}
+use Rattle.implib_read.specs.Identity.{dlls_of}
+use Rattle.implib_driver.specs.declared.identity.IdentifyError.{IdentifyError}
+use Rattle.implib_driver.specs.declared.identity.IdentifyError.TheVariants as error
+use Rattle.implib_driver.specs.declared.identity.NotIdentified.{NotIdentified}
+use Rattle.implib_driver.specs.declared.identity.NotIdentified.TheVariants.{NoDll, NoLibrary, SeveralDlls}
+
+-- what is wrong with a number of DLLs
+abbrev pub fault_of : Bool → ℕ → Option NotIdentified
+fault_of is_strict count =
+    if count == 0 then Some NoDll
+    else if is_strict && nat_lt 1 count then Some SeveralDlls
+    else None
+
+-- names, each in a line
+abbrev pub lines_of : List (List ℕ) → List ℕ
+lines_of names = flat_map (λ name. name ++ 10 ∷ []) names
+
+-- names in lines, unless something is wrong with their number
+abbrev pub lines_unless : List (List ℕ) → Option NotIdentified → Result (List ℕ) NotIdentified
+lines_unless names None = Ok (lines_of names)
+lines_unless names (Some fault) = Err fault
+
+-- the DLLs of the members of a library
+abbrev pub named_of : Bool → Option (List MemberRead) → Result (List ℕ) NotIdentified
+named_of is_strict None = Err NoLibrary
+named_of is_strict (Some members) = lines_unless (dlls_of members) (fault_of is_strict (length (dlls_of members)))
+
+-- what is written of the bytes of a file
+abbrev pub identified : Bool → List ℕ → Result (List ℕ) NotIdentified
+identified is_strict bytes = named_of is_strict (library_in bytes)
+
+-- an answer is refused for this, or for want of memory
+abbrev pub IsRefusedSo : Result (List ℕ) NotIdentified → IdentifyError → Type 0
+IsRefusedSo answer (error.Refused fault) = answer ≡ Err fault
+IsRefusedSo answer error.OutOfMemory = Unit {0}

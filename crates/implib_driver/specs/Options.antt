@@ -1,0 +1,125 @@
+-- The names of options and machines on the command line (this project's choice, after GNU dlltool's).
+use Rattle.std.specs.Prelude.{ℕ, Bool, true, false, ◌==◌, List, codes, if◌then◌else◌}
+use Rattle.std.specs.Str.{byte, bytes_eq}
+use Rattle.implib_driver.specs.declared.options.Meaning.{Meaning}
+use Rattle.implib_driver.specs.declared.options.Meaning.TheVariants.{Takes, Switches, Unsupported, Unknown}
+use Rattle.implib_driver.specs.declared.options.Setting.{Setting}
+use Rattle.implib_driver.specs.declared.options.Switch.{Switch}
+use Rattle.implib_driver.specs.declared.options.Setting.TheVariants.{Definition, Output, Machine, Dll, Flavor, Assembler, AssemblerFlags, TemporaryPrefix, FurtherPrefix, Identify}
+use Rattle.implib_driver.specs.declared.options.Switch.TheVariants.{KillAt, NoLeadingUnderscore, LeadingUnderscore, ExportAs, AddUnderscore, AddStdcallUnderscore, AddStdcallAlias, DeterministicLibraries, NonDeterministicLibraries, NoDelete, IdentifyStrict, Verbose, Help, Version}
+
+-- the long names, without `--`, of GNU dlltool's options that have no meaning here
+abbrev pub is_unsupported : List ℕ → Bool
+is_unsupported name =
+    if bytes_eq name (codes "output-exp") then true
+    else if bytes_eq name (codes "output-def") then true
+    else if bytes_eq name (codes "output-delaylib") then true
+    else if bytes_eq name (codes "base-file") then true
+    else if bytes_eq name (codes "no-idata4") then true
+    else if bytes_eq name (codes "no-idata5") then true
+    else if bytes_eq name (codes "add-indirect") then true
+    else if bytes_eq name (codes "compat-implib") then true
+    else if bytes_eq name (codes "export-all-symbols") then true
+    else if bytes_eq name (codes "no-export-all-symbols") then true
+    else if bytes_eq name (codes "exclude-symbols") then true
+    else if bytes_eq name (codes "no-default-excludes") then true
+    else if bytes_eq name (codes "use-nul-prefixed-import-tables") then true
+    else false
+
+-- what a long name, without its `--`, stands for
+abbrev pub option_named : List ℕ → Meaning
+option_named name =
+    if bytes_eq name (codes "input-def") then Takes Definition
+    else if bytes_eq name (codes "def") then Takes Definition
+    else if bytes_eq name (codes "output-lib") then Takes Output
+    else if bytes_eq name (codes "machine") then Takes Machine
+    else if bytes_eq name (codes "dllname") then Takes Dll
+    else if bytes_eq name (codes "flavor") then Takes Flavor
+    else if bytes_eq name (codes "as") then Takes Assembler
+    else if bytes_eq name (codes "as-flags") then Takes AssemblerFlags
+    else if bytes_eq name (codes "temp-prefix") then Takes TemporaryPrefix
+    else if bytes_eq name (codes "ext-prefix-alias") then Takes FurtherPrefix
+    else if bytes_eq name (codes "identify") then Takes Identify
+    else if bytes_eq name (codes "kill-at") then Switches KillAt
+    else if bytes_eq name (codes "no-leading-underscore") then Switches NoLeadingUnderscore
+    else if bytes_eq name (codes "leading-underscore") then Switches LeadingUnderscore
+    else if bytes_eq name (codes "export-as") then Switches ExportAs
+    else if bytes_eq name (codes "add-underscore") then Switches AddUnderscore
+    else if bytes_eq name (codes "add-stdcall-underscore") then Switches AddStdcallUnderscore
+    else if bytes_eq name (codes "add-stdcall-alias") then Switches AddStdcallAlias
+    else if bytes_eq name (codes "deterministic-libraries") then Switches DeterministicLibraries
+    else if bytes_eq name (codes "non-deterministic-libraries") then Switches NonDeterministicLibraries
+    else if bytes_eq name (codes "no-delete") then Switches NoDelete
+    else if bytes_eq name (codes "identify-strict") then Switches IdentifyStrict
+    else if bytes_eq name (codes "verbose") then Switches Verbose
+    else if bytes_eq name (codes "help") then Switches Help
+    else if bytes_eq name (codes "version") then Switches Version
+    else if is_unsupported name then Unsupported
+    else Unknown
+
+-- what a letter stands for
+abbrev pub option_lettered : ℕ → Meaning
+option_lettered letter =
+    if letter == byte "d" then Takes Definition
+    else if letter == byte "l" then Takes Output
+    else if letter == byte "m" then Takes Machine
+    else if letter == byte "D" then Takes Dll
+    else if letter == byte "S" then Takes Assembler
+    else if letter == byte "f" then Takes AssemblerFlags
+    else if letter == byte "t" then Takes TemporaryPrefix
+    else if letter == byte "p" then Takes FurtherPrefix
+    else if letter == byte "I" then Takes Identify
+    else if letter == byte "k" then Switches KillAt
+    else if letter == byte "U" then Switches AddUnderscore
+    else if letter == byte "A" then Switches AddStdcallAlias
+    else if letter == byte "n" then Switches NoDelete
+    else if letter == byte "v" then Switches Verbose
+    else if letter == byte "h" then Switches Help
+    else if letter == byte "V" then Switches Version
+    else if letter == byte "e" then Unsupported
+    else if letter == byte "z" then Unsupported
+    else if letter == byte "y" then Unsupported
+    else if letter == byte "b" then Unsupported
+    else if letter == byte "x" then Unsupported
+    else if letter == byte "c" then Unsupported
+    else if letter == byte "a" then Unsupported
+    else if letter == byte "C" then Unsupported
+    else Unknown
+
+-- the number of an option that takes a value; no two have one
+abbrev pub setting_number : Setting → ℕ
+setting_number Definition = 0
+setting_number Output = 1
+setting_number Machine = 2
+setting_number Dll = 3
+setting_number Flavor = 4
+setting_number Assembler = 5
+setting_number AssemblerFlags = 6
+setting_number TemporaryPrefix = 7
+setting_number FurtherPrefix = 8
+setting_number Identify = 9
+
+-- the number of an option without a value
+abbrev pub switch_number : Switch → ℕ
+switch_number KillAt = 0
+switch_number NoLeadingUnderscore = 1
+switch_number DeterministicLibraries = 2
+switch_number Verbose = 3
+switch_number Help = 4
+switch_number Version = 5
+switch_number LeadingUnderscore = 6
+switch_number NonDeterministicLibraries = 7
+switch_number NoDelete = 8
+switch_number ExportAs = 9
+switch_number AddUnderscore = 10
+switch_number AddStdcallUnderscore = 11
+switch_number AddStdcallAlias = 12
+switch_number IdentifyStrict = 13
+
+-- whether two options that take values are one
+abbrev pub is_same_setting : Setting → Setting → Bool
+is_same_setting setting other = setting_number setting == setting_number other
+
+-- whether two options without values are one
+abbrev pub is_same_switch : Switch → Switch → Bool
+is_same_switch switch other = switch_number switch == switch_number other

@@ -1,0 +1,289 @@
+-- What a run of the program does (this project's own).
+use Rattle.std.specs.Prelude.{◌≡◌, ◌⊎◌, ℕ, Bool, true, false, List, [], ◌∷◌, ◌++◌, Option, None, Some, Result, Ok, Err, IfSome, codes, drop, map, if◌then◌else◌}
+use Rattle.std.specs.Io.KnownBytes.{Appends}
+use Rattle.std.specs.Str.{IsUtf8, bytes_eq}
+use Rattle.std.specs.declared.io.ErrorKind.{ErrorKind}
+use Rattle.std.specs.declared.io.ErrorKind.TheVariants.{InvalidData}
+use Rattle.implib.specs.declared.flavor.Flavor.{Flavor}
+use Rattle.implib.specs.declared.flavor.Flavor.TheVariants.{Gnu, Msvc}
+use Rattle.implib.specs.declared.machine.MachineType.TheVariants.{AMD64}
+use Rattle.implib.specs.Definition.{DefinitionView}
+use Rattle.implib.specs.Fault.{Cause}
+use Rattle.implib.specs.Members.MemberSpec.{MemberView}
+use Rattle.implib.specs.Text.Parses.{Parses, RefusesAt}
+use Rattle.implib_driver.specs.Arguments.{OccurrenceView, WordFaultView}
+use Rattle.implib_driver.specs.Disk.{DiskView}
+use Rattle.implib_driver.specs.declared.identity.NotIdentified.{NotIdentified}
+use Rattle.implib_driver.specs.Identity.{identified}
+use Rattle.implib_driver.specs.Placing.{Answer, Answers}
+use Rattle.implib_driver.specs.Reports.{ComplaintView, Complains, Line, OfArguments, OfCall, OfIdentity, OfMemory, OfSystem, OfWord, OfWriting, Refuses, Says, Warns}
+use Rattle.implib_driver.specs.LibWords.{words_read}
+use Rattle.implib_driver.specs.Request.{Asked, AsksHelp, AsksIdentity, AsksVersion, Asks, RequestView, TaskView, caller_of, task_of}
+use Rattle.implib_driver.specs.Verbose.{warnings_for}
+use Rattle.implib_rules.specs.declared.library.LibraryError.TheVariants.{Refused, Writing}
+use Rattle.implib_rules.specs.declared.library.Refusal.{Refusal}
+use Rattle.implib_rules.specs.declared.library.Refusal.TheVariants.{OutOfMemory}
+use Rattle.implib_rules.specs.declared.places.Place.{Place}
+use Rattle.implib_rules.specs.Library.{CountsMembers, IsRefusalOfMembers, MembersFor, definition_text, status_of}
+use Rattle.implib_rules.specs.Places.{ArePlacesOf, export_lines}
+use Rattle.implib_rules.specs.TextWarnings.{text_warnings}
+use Rattle.implib_rules.specs.Warnings.{WarningView}
+
+-- what is known of all that a run uses but standard output: the bytes that standard input has left, the disk, and
+-- what was said
+pub record Devices : Type 0 where
+  pub input : Option (List ℕ)
+  pub disk : DiskView
+  pub said : Option (List Line)
+
+abbrev pub devices : Option (List ℕ) → DiskView → Option (List Line) → Devices
+devices input disk said = record { input = input; disk = disk; said = said }
+
+-- the bytes of the definition: for `-` those that standard input has left, else those of the file
+abbrev pub definition_in : Option (List ℕ) → DiskView → List ℕ → Option (List ℕ)
+definition_in input disk path = if bytes_eq path (codes "-") then input else disk.seen path
+
+-- all files are as they were, and nothing new is left
+pub record KeepsFiles (before after : DiskView) : Type 0 where
+  pub seen : after.seen ≡ before.seen
+  pub left : after.left ≡ before.left
+
+-- warnings of the definition of a path, as they are said
+abbrev pub warning_lines : List ℕ → List ℕ → List WarningView → List Line
+warning_lines path lines warnings = map (λ w. Warns path w lines) warnings
+
+-- how many of its members the warnings of a library are of: all, and for GNU's linker none
+abbrev pub members_counted : Flavor → ℕ → ℕ
+members_counted Msvc count = count
+members_counted Gnu count = 0
+
+-- the warnings of a definition with these places were said
+pub record SaysWarnings (bytes : List ℕ) (definition : DefinitionView) (places : List Place) (request : RequestView)
+    (before after : Option (List Line)) : Type 0 where
+  pub count : ℕ
+  pub counts : CountsMembers bytes request.library request.library.flavor count
+  pub says : Says before after
+      (warning_lines request.definition (export_lines places) (text_warnings bytes ++ warnings_for request definition.exports places count))
+
+-- the bytes are a definition, and its warnings were said
+pub record WarnsOf (bytes : List ℕ) (request : RequestView) (before after : Option (List Line)) : Type 0 where
+  pub utf8 : IsUtf8 (definition_text bytes)
+  pub definition : DefinitionView
+  pub parses : Parses (definition_text bytes) AMD64 definition
+  pub places : List Place
+  pub are_places : ArePlacesOf (definition_text bytes) places
+  pub warns : SaysWarnings bytes definition places request before after
+
+-- the text is no definition
+pub record HasSyntaxError (text : List ℕ) : Type 0 where
+  pub cause : Cause
+  pub offset : ℕ
+  pub refused : RefusesAt text cause offset
+
+-- the bytes are no definition, and nothing was said
+pub record IsNoDefinition (bytes : List ℕ) (before after : Option (List Line)) : Type 0 where
+  pub refused : (¬ (IsUtf8 (definition_text bytes))) ⊎ HasSyntaxError (definition_text bytes)
+  pub silent : after ≡ before
+
+-- the warnings of bytes were said, if they are asked for
+abbrev pub Warned : Bool → List ℕ → RequestView → Option (List Line) → Option (List Line) → Type 0
+Warned false bytes request before after = after ≡ before
+Warned true bytes request before after = WarnsOf bytes request before after ⊎ IsNoDefinition bytes before after
+
+-- the path that the library was to go to
+abbrev pub output_or_none : Option (List ℕ) → List ℕ
+output_or_none None = codes "-"
+output_or_none (Some path) = path
+
+-- what is said of an answer
+abbrev pub verdict : RequestView → Answer → List Line
+verdict request (Ok made) = []
+verdict request (Err (Refused refusal)) = Refuses request.definition refusal ∷ []
+verdict request (Err (Writing cause)) = Complains (output_or_none request.output) OfWriting ∷ []
+
+-- the exit status of an answer
+abbrev pub answer_status : Answer → ℕ
+answer_status (Ok made) = 0
+answer_status (Err (Refused refusal)) = status_of refusal
+answer_status (Err (Writing cause)) = 3
+
+-- the warnings that are asked for were said, the library was put, and then the answer was said
+pub record IsAnswered (known : Bool) (bytes : List ℕ) (request : RequestView) (disk put : DiskView)
+    (before after : Option (List Line)) (status : ℕ) : Type 0 where
+  pub warned : Option (List Line)
+  pub warns : Warned request.is_verbose bytes request before warned
+  pub answer : Answer
+  pub answers : Answers known disk put bytes request answer
+  pub says : Says warned after (verdict request answer)
+  pub is_status : status ≡ answer_status answer
+
+-- memory was refused before a warning was said
+pub record IsUnwarned (request : RequestView) (disk put : DiskView) (before after : Option (List Line)) (status : ℕ) : Type 0 where
+  pub same_disk : put ≡ disk
+  pub says : Says before after (Refuses request.definition OutOfMemory ∷ [])
+  pub is_status : status ≡ 3
+
+-- what is done with the bytes of a definition
+abbrev pub Finishes : Bool → List ℕ → RequestView → DiskView → DiskView → Option (List Line) → Option (List Line) → ℕ → Type 0
+Finishes known bytes request disk put before after status =
+    IsAnswered known bytes request disk put before after status ⊎ IsUnwarned request disk put before after status
+
+-- what is done with the bytes of a definition that has these members
+abbrev pub FinishesWith : Bool → List ℕ → List MemberView → RequestView → DiskView → DiskView → Option (List Line) → Option (List Line) → ℕ → Type 0
+FinishesWith known bytes members request disk put before after status =
+    MembersFor bytes request.library members → Finishes known bytes request disk put before after status
+
+-- what is done with the bytes of a definition that has no members for this: nothing with any disk
+abbrev pub FinishesWithout : List ℕ → Refusal → RequestView → Option (List Line) → Option (List Line) → ℕ → Type 0
+FinishesWithout bytes refusal request before after status =
+    IsRefusalOfMembers bytes request.library refusal →
+    (known : Bool) (disk : DiskView) → Finishes known bytes request disk disk before after status
+
+-- the definition was read, and this was done with its bytes
+pub record IsRead (known : Bool) (request : RequestView) (before after : Devices) (status : ℕ) : Type 0 where
+  pub bytes : List ℕ
+  pub read : IfSome (definition_in before.input before.disk request.definition) (λ file. bytes ≡ file)
+  pub finishes : Finishes known bytes request before.disk after.disk before.said after.said status
+
+-- the definition could not be read
+pub record IsUnread (request : RequestView) (before after : Devices) (status : ℕ) : Type 0 where
+  pub keeps : KeepsFiles before.disk after.disk
+  pub says : Says before.said after.said (Complains request.definition OfSystem ∷ [])
+  pub is_status : status ≡ 3
+
+-- what is done for a library that is asked for
+abbrev pub Makes : Bool → RequestView → Devices → Devices → ℕ → Type 0
+Makes known request before after status = IsRead known request before after status ⊎ IsUnread request before after status
+
+-- the name of the program in what it says
+abbrev pub own_name : List ℕ
+own_name = codes "implib_dlltool"
+
+-- one complaint was said, and nothing else was done
+pub record Complained (complaint : ComplaintView) (number : ℕ) (before after : Devices) (printed prints : Option (List ℕ))
+    (status : ℕ) : Type 0 where
+  pub same_disk : after.disk ≡ before.disk
+  pub same_input : after.input ≡ before.input
+  pub same_output : prints ≡ printed
+  pub says : Says before.said after.said (Complains own_name complaint ∷ [])
+  pub is_status : status ≡ number
+
+-- the text is on standard output, and nothing was said
+pub record IsPrinted (text : List ℕ) (before after : Option (List Line)) (printed prints : Option (List ℕ)) (status : ℕ)
+    : Type 0 where
+  pub appends : Appends printed prints text
+  pub silent : after ≡ before
+  pub is_status : status ≡ 0
+
+-- writing the text failed
+pub record IsUnprinted (before after : Option (List Line)) (status : ℕ) : Type 0 where
+  pub says : Says before after (Complains own_name OfSystem ∷ [])
+  pub is_status : status ≡ 3
+
+-- what is done for a text that is asked for
+abbrev pub Prints : List ℕ → Option (List Line) → Option (List Line) → Option (List ℕ) → Option (List ℕ) → ℕ → Type 0
+Prints text before after printed prints status =
+    IsPrinted text before after printed prints status ⊎ IsUnprinted before after status
+
+-- a text was printed, or that failed, and nothing else was done
+pub record OnlyPrints (text : List ℕ) (before after : Devices) (printed prints : Option (List ℕ)) (status : ℕ) : Type 0 where
+  pub same_disk : after.disk ≡ before.disk
+  pub same_input : after.input ≡ before.input
+  pub outcome : Prints text before.said after.said printed prints status
+
+-- what was asked for was made, and nothing printed
+pub record OnlyMakes (known : Bool) (request : RequestView) (before after : Devices) (printed prints : Option (List ℕ))
+    (status : ℕ) : Type 0 where
+  pub same_output : prints ≡ printed
+  pub outcome : Makes known request before after status
+
+-- a complaint of a file was said, and nothing printed
+pub record OnlyComplains (path : List ℕ) (complaint : ComplaintView) (number : ℕ) (before after : Option (List Line))
+    (printed prints : Option (List ℕ)) (status : ℕ) : Type 0 where
+  pub same_output : prints ≡ printed
+  pub says : Says before after (Complains path complaint ∷ [])
+  pub is_status : status ≡ number
+
+-- the DLLs of a library were printed, or that there are none was said
+abbrev pub NamesDlls : List ℕ → Result (List ℕ) NotIdentified → Option (List Line) → Option (List Line) → Option (List ℕ) → Option (List ℕ) → ℕ → Type 0
+NamesDlls path (Ok lines) before after printed prints status = Prints lines before after printed prints status
+NamesDlls path (Err fault) before after printed prints status =
+    OnlyComplains path (OfIdentity fault) 1 before after printed prints status
+
+-- a library was read, and its DLLs named, unless memory was refused
+pub record IsIdentified (path : List ℕ) (is_strict : Bool) (before after : Devices) (printed prints : Option (List ℕ))
+    (status : ℕ) : Type 0 where
+  pub bytes : List ℕ
+  pub read : IfSome (before.disk.seen path) (λ file. bytes ≡ file)
+  pub same_disk : after.disk ≡ before.disk
+  pub outcome :
+      NamesDlls path (identified is_strict bytes) before.said after.said printed prints status
+      ⊎ OnlyComplains own_name OfMemory 3 before.said after.said printed prints status
+
+-- a library could not be read
+pub record IsUnidentified (path : List ℕ) (before after : Devices) (printed prints : Option (List ℕ)) (status : ℕ)
+    : Type 0 where
+  pub keeps : KeepsFiles before.disk after.disk
+  pub complains : OnlyComplains path OfSystem 3 before.said after.said printed prints status
+
+-- what is done for a library whose DLLs are asked for
+pub record Identifies (path : List ℕ) (is_strict : Bool) (before after : Devices) (printed prints : Option (List ℕ))
+    (status : ℕ) : Type 0 where
+  pub same_input : after.input ≡ before.input
+  pub outcome :
+      IsIdentified path is_strict before after printed prints status
+      ⊎ IsUnidentified path before after printed prints status
+
+-- the texts of the help and of the version
+pub record Texts : Type 0 where
+  pub help : List ℕ
+  pub version : List ℕ
+
+abbrev pub texts : List ℕ → List ℕ → Texts
+texts help version = record { help = help; version = version }
+
+-- what is done for what options ask for
+abbrev pub DoesTask : Bool → Texts → Asked TaskView → Devices → Devices → Option (List ℕ) → Option (List ℕ) → ℕ → Type 0
+DoesTask known texts (Ok AsksHelp) before after printed prints status = OnlyPrints texts.help before after printed prints status
+DoesTask known texts (Ok AsksVersion) before after printed prints status =
+    OnlyPrints texts.version before after printed prints status
+DoesTask known texts (Ok (AsksIdentity path is_strict)) before after printed prints status =
+    Identifies path is_strict before after printed prints status
+DoesTask known texts (Ok (Asks request)) before after printed prints status =
+    OnlyMakes known request before after printed prints status
+DoesTask known texts (Err fault) before after printed prints status =
+    Complained (OfCall fault) 2 before after printed prints status
+
+-- what is done for options, where the program is called so, unless memory is refused
+abbrev pub DoesOptions : Bool → Texts → List ℕ → List OccurrenceView → Devices → Devices → Option (List ℕ) → Option (List ℕ) → ℕ → Type 0
+DoesOptions known texts program options before after printed prints status =
+    DoesTask known texts (task_of (caller_of program) options) before after printed prints status
+    ⊎ Complained OfMemory 3 before after printed prints status
+
+-- what is done for words that are read so
+abbrev pub DoesRead : Bool → Texts → List ℕ → Result (List OccurrenceView) WordFaultView → Devices → Devices → Option (List ℕ) → Option (List ℕ) → ℕ → Type 0
+DoesRead known texts program (Ok options) before after printed prints status =
+    DoesOptions known texts program options before after printed prints status
+DoesRead known texts program (Err fault) before after printed prints status =
+    Complained (OfWord fault) 2 before after printed prints status
+
+-- what is done for words, where the program is called so, unless memory is refused
+abbrev pub DoesWords : Bool → Texts → List ℕ → List (List ℕ) → Devices → Devices → Option (List ℕ) → Option (List ℕ) → ℕ → Type 0
+DoesWords known texts program words before after printed prints status =
+    DoesRead known texts program (words_read program words) before after printed prints status
+    ⊎ Complained OfMemory 3 before after printed prints status
+
+-- the name that the program is called by: the first argument
+abbrev pub called_by : List (List ℕ) → List ℕ
+called_by [] = own_name
+called_by (program ∷ words) = program
+
+-- what a run does for a command line
+abbrev pub Runs : Bool → Texts → List (List ℕ) → Devices → Devices → Option (List ℕ) → Option (List ℕ) → ℕ → Type 0
+Runs known texts arguments before after printed prints status =
+    DoesWords known texts (called_by arguments) (drop 1 arguments) before after printed prints status
+
+-- the command line cannot be read: it is not UTF-8, or the system failed
+abbrev pub IsUncalled : ErrorKind → Devices → Devices → Option (List ℕ) → Option (List ℕ) → ℕ → Type 0
+IsUncalled InvalidData before after printed prints status = Complained OfArguments 2 before after printed prints status
+IsUncalled _ before after printed prints status = Complained OfSystem 3 before after printed prints status

@@ -1,0 +1,51 @@
+-- What the program says on standard error, as what it says and of what; the words of a line are not stated.
+use Rattle.std.specs.Prelude.{◌≡◌, ℕ, List, ◌++◌, Option, None, Some}
+use Rattle.implib_driver.specs.declared.identity.NotIdentified.{NotIdentified}
+use Rattle.implib_driver.specs.declared.reporter.Complaint.{Complaint}
+use Rattle.implib_driver.specs.declared.reporter.Complaint.TheVariants as complaint
+use Rattle.implib_driver.specs.Arguments.{WordFaultView, word_fault_view}
+use Rattle.implib_driver.specs.Request.{CallFaultView, call_fault_view}
+use Rattle.implib_rules.specs.declared.library.Refusal.{Refusal}
+use Rattle.implib_rules.specs.Warnings.{WarningView}
+
+-- what the program complains of
+pub data ComplaintView : Type 0 where
+  -- a word of the command line
+  OfWord : WordFaultView → ComplaintView
+  -- what the options ask for
+  OfCall : CallFaultView → ComplaintView
+  -- arguments that are not UTF-8
+  OfArguments : ComplaintView
+  -- want of memory
+  OfMemory : ComplaintView
+  -- a failed call of the system
+  OfSystem : ComplaintView
+  -- a library that was not written whole
+  OfWriting : ComplaintView
+  -- a library whose DLLs are not named
+  OfIdentity : NotIdentified → ComplaintView
+
+-- the view of a complaint of the program
+abbrev pub complaint_view : Complaint → ComplaintView
+complaint_view (complaint.Word fault) = OfWord (word_fault_view fault)
+complaint_view (complaint.Call fault) = OfCall (call_fault_view fault)
+complaint_view complaint.NotUtf8 = OfArguments
+complaint_view complaint.OutOfMemory = OfMemory
+complaint_view (complaint.System cause) = OfSystem
+complaint_view (complaint.Writing cause) = OfWriting
+complaint_view (complaint.Identity fault) = OfIdentity fault
+
+-- what is said at once
+pub data Line : Type 0 where
+  -- a warning of the definition of a path, whose exports are in these lines
+  Warns : List ℕ → WarningView → List ℕ → Line
+  -- the refusal of the definition of a path
+  Refuses : List ℕ → Refusal → Line
+  -- a complaint, of a path or of the program
+  Complains : List ℕ → ComplaintView → Line
+
+-- these lines were said after what was said before, if that is known
+abbrev pub Says : Option (List Line) → Option (List Line) → List Line → Type 0
+Says None after lines = Unit {0}
+Says (Some said) None lines = ⊥
+Says (Some said) (Some more) lines = more ≡ said ++ lines

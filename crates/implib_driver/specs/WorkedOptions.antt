@@ -1,0 +1,121 @@
+-- Every option, machine and flavour by each of its names, written out by hand.
+use Rattle.std.specs.Prelude.{◌≡◌, ℕ, Bool, true, false, List, [], ◌∷◌, None, Some, Ok, Err, codes, map}
+use Rattle.implib.specs.declared.flavor.Flavor.TheVariants.{Msvc, Gnu}
+use Rattle.implib.specs.declared.machine.MachineType.TheVariants.{I386, ARMNT, AMD64, ARM64}
+use Rattle.implib_driver.specs.declared.options.Setting.TheVariants.{Definition, Output, Machine, Dll, Flavor, Assembler, AssemblerFlags, TemporaryPrefix, FurtherPrefix, Identify}
+use Rattle.implib_driver.specs.declared.options.Switch.{Switch}
+use Rattle.implib_driver.specs.declared.options.Switch.TheVariants.{KillAt, NoLeadingUnderscore, LeadingUnderscore, DeterministicLibraries, NonDeterministicLibraries, NoDelete, Verbose, Help, Version, ExportAs, AddUnderscore, AddStdcallUnderscore, AddStdcallAlias, IdentifyStrict}
+use Rattle.implib.specs.Conversions.{flavor_named}
+use Rattle.implib_driver.specs.Arguments.{OccurrenceView, Given, Switched, IsUnsupported, is_switched, last_given, read_words}
+use Rattle.implib_driver.specs.Request.{machine_named}
+
+-- each option with a value, by its letter and by its long name
+abbrev pub words_with_values : List (List ℕ)
+words_with_values =
+    codes "-d" ∷ codes "a" ∷ codes "--input-def" ∷ codes "b" ∷ codes "-l" ∷ codes "c" ∷ codes "--output-lib" ∷ codes "d"
+    ∷ codes "-m" ∷ codes "e" ∷ codes "--machine" ∷ codes "f" ∷ codes "-D" ∷ codes "g" ∷ codes "--dllname" ∷ codes "h"
+    ∷ codes "--flavor" ∷ codes "i" ∷ codes "-S" ∷ codes "j" ∷ codes "--as" ∷ codes "k" ∷ codes "-f" ∷ codes "l"
+    ∷ codes "--as-flags" ∷ codes "m" ∷ codes "-t" ∷ codes "n" ∷ codes "--temp-prefix" ∷ codes "o"
+    ∷ codes "--def" ∷ codes "p" ∷ codes "-p" ∷ codes "q" ∷ codes "--ext-prefix-alias" ∷ codes "r"
+    ∷ codes "-I" ∷ codes "s" ∷ codes "--identify" ∷ codes "t" ∷ []
+
+-- what they give
+abbrev pub given : List OccurrenceView
+given =
+    Given Definition (codes "a") ∷ Given Definition (codes "b") ∷ Given Output (codes "c") ∷ Given Output (codes "d")
+    ∷ Given Machine (codes "e") ∷ Given Machine (codes "f") ∷ Given Dll (codes "g") ∷ Given Dll (codes "h")
+    ∷ Given Flavor (codes "i") ∷ Given Assembler (codes "j") ∷ Given Assembler (codes "k") ∷ Given AssemblerFlags (codes "l")
+    ∷ Given AssemblerFlags (codes "m") ∷ Given TemporaryPrefix (codes "n") ∷ Given TemporaryPrefix (codes "o")
+    ∷ Given Definition (codes "p") ∷ Given FurtherPrefix (codes "q") ∷ Given FurtherPrefix (codes "r")
+    ∷ Given Identify (codes "s") ∷ Given Identify (codes "t") ∷ []
+
+-- each option without a value, by its letter, where it has one, and by its long name
+abbrev pub words_of_switches : List (List ℕ)
+words_of_switches =
+    codes "-k" ∷ codes "--kill-at" ∷ codes "--no-leading-underscore" ∷ codes "--deterministic-libraries" ∷ codes "-v"
+    ∷ codes "--verbose" ∷ codes "-h" ∷ codes "--help" ∷ codes "-V" ∷ codes "--version" ∷ codes "--leading-underscore"
+    ∷ codes "--non-deterministic-libraries" ∷ codes "-n" ∷ codes "--no-delete" ∷ codes "--export-as"
+    ∷ codes "-U" ∷ codes "--add-underscore" ∷ codes "--add-stdcall-underscore" ∷ codes "-A" ∷ codes "--add-stdcall-alias"
+    ∷ codes "--identify-strict" ∷ []
+
+-- what they give
+abbrev pub switched : List OccurrenceView
+switched =
+    Switched KillAt ∷ Switched KillAt ∷ Switched NoLeadingUnderscore ∷ Switched DeterministicLibraries ∷ Switched Verbose
+    ∷ Switched Verbose ∷ Switched Help ∷ Switched Help ∷ Switched Version ∷ Switched Version ∷ Switched LeadingUnderscore
+    ∷ Switched NonDeterministicLibraries ∷ Switched NoDelete ∷ Switched NoDelete ∷ Switched ExportAs
+    ∷ Switched AddUnderscore ∷ Switched AddUnderscore ∷ Switched AddStdcallUnderscore ∷ Switched AddStdcallAlias
+    ∷ Switched AddStdcallAlias ∷ Switched IdentifyStrict ∷ []
+
+-- the options of GNU dlltool without a meaning here
+abbrev pub unsupported : List (List ℕ)
+unsupported =
+    codes "-e" ∷ codes "-z" ∷ codes "-y" ∷ codes "-b" ∷ codes "-x" ∷ codes "-c" ∷ codes "-a"
+    ∷ codes "-C" ∷ codes "--output-exp" ∷ codes "--output-def"
+    ∷ codes "--output-delaylib" ∷ codes "--base-file"
+    ∷ codes "--no-idata4" ∷ codes "--no-idata5" ∷ codes "--add-indirect"
+    ∷ codes "--compat-implib"
+    ∷ codes "--export-all-symbols" ∷ codes "--no-export-all-symbols"
+    ∷ codes "--exclude-symbols" ∷ codes "--no-default-excludes" ∷ codes "--use-nul-prefixed-import-tables" ∷ []
+
+-- the options without a value
+abbrev pub switches : List Switch
+switches =
+    KillAt ∷ NoLeadingUnderscore ∷ DeterministicLibraries ∷ Verbose ∷ Help ∷ Version ∷ LeadingUnderscore
+    ∷ NonDeterministicLibraries ∷ NoDelete ∷ ExportAs ∷ AddUnderscore ∷ AddStdcallUnderscore ∷ AddStdcallAlias
+    ∷ IdentifyStrict ∷ []
+
+-- which of them is switched where this one alone stands
+abbrev pub told_of : Switch → List Bool
+told_of switch = map (λ s. is_switched s (Switched switch ∷ [])) switches
+
+-- the names of options, machines and flavours; and that no two options are equal
+pub record OptionsNamed : Type 0 where
+  pub values : read_words words_with_values ≡ Ok given
+  pub no_values : read_words words_of_switches ≡ Ok switched
+  pub refused : map (λ word. read_words (word ∷ [])) unsupported ≡ map (λ word. Err (IsUnsupported word)) unsupported
+  pub definition : last_given Definition given ≡ Some (codes "p")
+  pub output : last_given Output given ≡ Some (codes "d")
+  pub machine : last_given Machine given ≡ Some (codes "f")
+  pub dll : last_given Dll given ≡ Some (codes "h")
+  pub flavor : last_given Flavor given ≡ Some (codes "i")
+  pub assembler : last_given Assembler given ≡ Some (codes "k")
+  pub flags : last_given AssemblerFlags given ≡ Some (codes "m")
+  pub prefix : last_given TemporaryPrefix given ≡ Some (codes "o")
+  pub further_prefix : last_given FurtherPrefix given ≡ Some (codes "r")
+  pub identify : last_given Identify given ≡ Some (codes "t")
+  pub kill_at : told_of KillAt
+      ≡ true ∷ false ∷ false ∷ false ∷ false ∷ false ∷ false ∷ false ∷ false ∷ false ∷ false ∷ false ∷ false ∷ false ∷ []
+  pub no_leading_underscore : told_of NoLeadingUnderscore
+      ≡ false ∷ true ∷ false ∷ false ∷ false ∷ false ∷ false ∷ false ∷ false ∷ false ∷ false ∷ false ∷ false ∷ false ∷ []
+  pub deterministic : told_of DeterministicLibraries
+      ≡ false ∷ false ∷ true ∷ false ∷ false ∷ false ∷ false ∷ false ∷ false ∷ false ∷ false ∷ false ∷ false ∷ false ∷ []
+  pub verbose : told_of Verbose
+      ≡ false ∷ false ∷ false ∷ true ∷ false ∷ false ∷ false ∷ false ∷ false ∷ false ∷ false ∷ false ∷ false ∷ false ∷ []
+  pub help : told_of Help
+      ≡ false ∷ false ∷ false ∷ false ∷ true ∷ false ∷ false ∷ false ∷ false ∷ false ∷ false ∷ false ∷ false ∷ false ∷ []
+  pub version : told_of Version
+      ≡ false ∷ false ∷ false ∷ false ∷ false ∷ true ∷ false ∷ false ∷ false ∷ false ∷ false ∷ false ∷ false ∷ false ∷ []
+  pub leading_underscore : told_of LeadingUnderscore
+      ≡ false ∷ false ∷ false ∷ false ∷ false ∷ false ∷ true ∷ false ∷ false ∷ false ∷ false ∷ false ∷ false ∷ false ∷ []
+  pub non_deterministic : told_of NonDeterministicLibraries
+      ≡ false ∷ false ∷ false ∷ false ∷ false ∷ false ∷ false ∷ true ∷ false ∷ false ∷ false ∷ false ∷ false ∷ false ∷ []
+  pub no_delete : told_of NoDelete
+      ≡ false ∷ false ∷ false ∷ false ∷ false ∷ false ∷ false ∷ false ∷ true ∷ false ∷ false ∷ false ∷ false ∷ false ∷ []
+  pub export_as : told_of ExportAs
+      ≡ false ∷ false ∷ false ∷ false ∷ false ∷ false ∷ false ∷ false ∷ false ∷ true ∷ false ∷ false ∷ false ∷ false ∷ []
+  pub add_underscore : told_of AddUnderscore
+      ≡ false ∷ false ∷ false ∷ false ∷ false ∷ false ∷ false ∷ false ∷ false ∷ false ∷ true ∷ false ∷ false ∷ false ∷ []
+  pub add_stdcall_underscore : told_of AddStdcallUnderscore
+      ≡ false ∷ false ∷ false ∷ false ∷ false ∷ false ∷ false ∷ false ∷ false ∷ false ∷ false ∷ true ∷ false ∷ false ∷ []
+  pub add_stdcall_alias : told_of AddStdcallAlias
+      ≡ false ∷ false ∷ false ∷ false ∷ false ∷ false ∷ false ∷ false ∷ false ∷ false ∷ false ∷ false ∷ true ∷ false ∷ []
+  pub identify_strict : told_of IdentifyStrict
+      ≡ false ∷ false ∷ false ∷ false ∷ false ∷ false ∷ false ∷ false ∷ false ∷ false ∷ false ∷ false ∷ false ∷ true ∷ []
+  pub i386 : map machine_named (codes "i386" ∷ codes "I386" ∷ codes "x86" ∷ []) ≡ Some I386 ∷ Some I386 ∷ Some I386 ∷ []
+  pub amd64 : map machine_named (codes "i386:x86-64" ∷ codes "AMD64" ∷ codes "x64" ∷ codes "x86_64" ∷ [])
+      ≡ Some AMD64 ∷ Some AMD64 ∷ Some AMD64 ∷ Some AMD64 ∷ []
+  pub armnt : map machine_named (codes "arm" ∷ codes "ArmNT" ∷ []) ≡ Some ARMNT ∷ Some ARMNT ∷ []
+  pub arm64 : map machine_named (codes "arm64" ∷ codes "AArch64" ∷ []) ≡ Some ARM64 ∷ Some ARM64 ∷ []
+  pub no_machine : map machine_named (codes "i686" ∷ codes "arm64ec" ∷ []) ≡ None ∷ None ∷ []
+  pub flavors : map flavor_named (codes "msvc" ∷ codes "gnu" ∷ codes "GNU" ∷ []) ≡ Some Msvc ∷ Some Gnu ∷ None ∷ []

@@ -1,0 +1,50 @@
+//! Laws: what is proved of the definitions.
+
+ghost use Rattle.implib_driver.specs.Worked.{CallsRead};
+ghost use Rattle.implib_driver.specs.WorkedCallers.{CallersNamed, FaultsOrdered, FlavorsChosen};
+ghost use Rattle.implib_driver.specs.WorkedCalls.{AnswersTold, CallsAnswered};
+ghost use Rattle.implib_driver.specs.WorkedLibWords.{LibWordsRead};
+ghost use Rattle.implib_driver.specs.WorkedOptions.{OptionsNamed};
+
+/// Command lines as rustc and mingw-w64 write them, and wrong ones, are read as was worked by hand.
+pub fn calls_read()
+    ensures { CallsRead }
+{}
+
+/// Every option, machine and flavour has the names that were worked by hand, and equals no other.
+pub fn options_named()
+    ensures { OptionsNamed }
+{}
+
+/// Command lines ask for what was worked by hand: the library, its flavour and its names, or they
+/// are refused.
+pub fn calls_answered()
+    ensures { CallsAnswered }
+{}
+
+/// The right bytes are read, the right lines counted, and of each answer the right thing is said, with
+/// its exit status.
+pub fn answers_told()
+    ensures { AnswersTold }
+{}
+
+/// Programs' names ask for the machines and the ways that were worked by hand.
+pub fn callers_named()
+    ensures { CallersNamed }
+{}
+
+/// The flavours where none is given, and where one is.
+pub fn flavors_chosen()
+    ensures { FlavorsChosen }
+{}
+
+/// Of two options the right one counts, and of two faults the right one comes first.
+pub fn faults_ordered()
+    ensures { FaultsOrdered }
+{}
+
+/// LIB's words, options and machines are read as was worked by hand, and near misses are refused; so
+/// are the names by which the program is called as LIB is, and without either all is read as before.
+pub fn lib_words_read()
+    ensures { LibWordsRead }
+{}

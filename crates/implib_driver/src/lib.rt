@@ -1,0 +1,19 @@
+//! What the program `implib_dlltool` does, over any disk and any reporter: a program in place of `dlltool`.
+//!
+//! What the words of the command line ask for is decided here ([`arguments`], [`request`]), which
+//! bytes a library has, or why there is none, by the crate `implib_rules`. [`program`] and
+//! [`placing`] do that over a [`disk`] and a [`reporter`]; those of the system are the program's.
+#![tactic(auto)]
+
+pub mod arguments;
+pub mod disk;
+pub mod identity;
+pub mod laws;
+pub mod lib_words;
+pub mod message;
+pub mod options;
+pub mod placing;
+pub mod program;
+pub mod reporter;
+pub mod request;
+pub mod verbose;

@@ -1,0 +1,175 @@
+//! What the program says of a call that it refuses, or that failed.
+
+use crate::arguments::WordFault;
+use crate::identity::NotIdentified;
+use crate::options::Setting;
+use crate::reporter::Complaint;
+use crate::request::CallFault;
+use implib_rules::Shown;
+use std::fmt;
+
+impl fmt::Display for Setting {
+    fn fmt<W: fmt::Write>(&self, f: &mut fmt::Formatter<W>) -> fmt::Result {
+        f.write_str(match self {
+            Setting::Definition => "-d",
+            Setting::Output => "-l",
+            Setting::Machine => "-m",
+            Setting::Dll => "-D",
+            Setting::Flavor => "--flavor",
+            Setting::Assembler => "-S",
+            Setting::AssemblerFlags => "-f",
+            Setting::TemporaryPrefix => "-t",
+            Setting::FurtherPrefix => "-p",
+            Setting::Identify => "-I",
+        })
+    }
+}
+
+/// The long names of options, one of which a message may tell in full.
+pub const NAMES: [&str; 38] = [
+    "input-def",
+    "def",
+    "output-lib",
+    "machine",
+    "dllname",
+    "flavor",
+    "as",
+    "as-flags",
+    "temp-prefix",
+    "kill-at",
+    "no-leading-underscore",
+    "leading-underscore",
+    "export-as",
+    "deterministic-libraries",
+    "non-deterministic-libraries",
+    "no-delete",
+    "verbose",
+    "help",
+    "version",
+    "output-exp",
+    "output-def",
+    "output-delaylib",
+    "base-file",
+    "identify",
+    "identify-strict",
+    "no-idata4",
+    "no-idata5",
+    "add-indirect",
+    "ext-prefix-alias",
+    "add-underscore",
+    "add-stdcall-underscore",
+    "add-stdcall-alias",
+    "compat-implib",
+    "export-all-symbols",
+    "no-export-all-symbols",
+    "exclude-symbols",
+    "no-default-excludes",
+    "use-nul-prefixed-import-tables",
+];
+
+// The one long name that an option of a word begins, if there is one.
+fn whole_name(word: &str) -> Option<&'static str> {
+    let name = match word.split_once('=') {
+        Some((name, _)) => name,
+        None => word,
+    };
+    let name = name.strip_prefix("--")?.as_bytes();
+    let mut found = None;
+    for whole in NAMES {
+        if !name.is_empty() && whole.as_bytes().starts_with(name) {
+            if found.is_some() {
+                return None;
+            }
+            found = Some(whole);
+        }
+    }
+    found
+}
+
+impl<'a> fmt::Display for WordFault<'a> {
+    fn fmt<W: fmt::Write>(&self, f: &mut fmt::Formatter<W>) -> fmt::Result {
+        match self {
+            WordFault::Unsupported(word) => write!(f, "{}: not supported", Shown(word)),
+            WordFault::Unknown(word) => match whole_name(word) {
+                Some(name) => {
+                    write!(f, "{}: no such option; write --{name} in full", Shown(word))
+                }
+                None => write!(f, "{}: no such option", Shown(word)),
+            },
+            WordFault::File(word) if word.as_bytes().starts_with(b"@") => {
+                write!(f, "{}: files of options are not supported", Shown(word))
+            }
+            WordFault::File(word) => {
+                write!(f, "{}: no option; objects are not supported", Shown(word))
+            }
+            WordFault::NoValue(setting) => write!(f, "the option {setting} lacks its value"),
+            WordFault::NoValueIn(word) => {
+                write!(f, "{}: expected a colon and a value", Shown(word))
+            }
+            WordFault::NoMachine(word) => write!(
+                f,
+                "{}: no such machine: expected x86, x64, arm or arm64",
+                Shown(word)
+            ),
+            WordFault::NoDefinition => f.write_str(
+                "no definition: expected the option /def\n\
+                 usage: implib_dlltool --lib /def:FILE /out:OUT [/machine:MACHINE] [/name:DLL]",
+            ),
+            WordFault::NoOutput => f.write_str(
+                "no name for the library's file: expected the option /out",
+            ),
+        }
+    }
+}
+
+impl<'a> fmt::Display for CallFault<'a> {
+    fn fmt<W: fmt::Write>(&self, f: &mut fmt::Formatter<W>) -> fmt::Result {
+        match self {
+            CallFault::NoDefinition => f.write_str(
+                "no definition: expected the option -d\n\
+                 usage: implib_dlltool -d FILE [-l OUT] [-m MACHINE] [-D DLL] [--flavor FLAVOUR]",
+            ),
+            CallFault::UnknownMachine(name) => write!(
+                f,
+                "{}: no such machine: expected i386, i386:x86-64, arm or arm64",
+                Shown(name)
+            ),
+            CallFault::UnknownFlavor(name) => {
+                write!(f, "{}: no such flavour: expected msvc or gnu", Shown(name))
+            }
+            CallFault::EmptyDll => f.write_str("the name of the DLL that is given is empty"),
+            CallFault::OutputToStandard => {
+                f.write_str("the library cannot go to standard output")
+            }
+            CallFault::EmptyOutput => f.write_str("the name of the library's file is empty"),
+            CallFault::OtherArchitecture => f.write_str(
+                "the program's name is of a machine that is not supported: expected the option -m, or \
+                 /machine after --lib",
+            ),
+            CallFault::OutputIsDefinition => {
+                f.write_str("the library would take the place of the definition")
+            }
+            CallFault::NoUnderscore => {
+                f.write_str("--leading-underscore: C's symbols have one on i386 alone")
+            }
+        }
+    }
+}
+
+impl<'a> fmt::Display for Complaint<'a> {
+    fn fmt<W: fmt::Write>(&self, f: &mut fmt::Formatter<W>) -> fmt::Result {
+        match self {
+            Complaint::Word(fault) => write!(f, "{fault}"),
+            Complaint::Call(fault) => write!(f, "{fault}"),
+            Complaint::NotUtf8 => f.write_str("an argument is not UTF-8"),
+            Complaint::OutOfMemory => f.write_str("out of memory"),
+            Complaint::System(cause) => write!(f, "{cause}"),
+            Complaint::Writing(cause) => write!(f, "{cause}"),
+            Complaint::Identity(fault) => f.write_str(match fault {
+                NotIdentified::NoLibrary => "no archive, or a thin one",
+                NotIdentified::NoDll => "no import of a DLL is in it",
+                NotIdentified::SeveralDlls => "it imports from two DLLs or more",
+            }),
+        }
+    }
+}

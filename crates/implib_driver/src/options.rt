@@ -1,0 +1,210 @@
+//! The names of options and machines on the command line.
+
+ghost use Rattle.implib_driver.specs.Options.{is_same_setting, is_same_switch, is_unsupported};
+ghost use Rattle.implib_driver.specs.Options.{option_lettered, option_named, setting_number};
+ghost use Rattle.implib_driver.specs.Options.{switch_number};
+ghost use Rattle.std.specs.Prelude.{◌≡◌};
+
+/// An option that takes a value.
+#[derive(Clone, Copy, Debug, PartialEq, Eq)]
+pub enum Setting {
+    /// `-d`, `--input-def`, `--def`: the module definition.
+    Definition,
+    /// `-l`, `--output-lib`: the import library.
+    Output,
+    /// `-m`, `--machine`
+    Machine,
+    /// `-D`, `--dllname`: the DLL's name, before the definition's own.
+    Dll,
+    /// `--flavor`
+    Flavor,
+    /// `-S`, `--as`: an assembler. None is needed.
+    Assembler,
+    /// `-f`, `--as-flags`: options for an assembler.
+    AssemblerFlags,
+    /// `-t`, `--temp-prefix`: a name for temporary files.
+    TemporaryPrefix,
+    /// `-I`, `--identify`: an import library, whose DLLs are named.
+    Identify,
+    /// `-p`, `--ext-prefix-alias`: a further export of each has this in front of its symbol.
+    FurtherPrefix,
+}
+
+/// An option without a value.
+#[derive(Clone, Copy, Debug, PartialEq, Eq)]
+pub enum Switch {
+    /// `-k`, `--kill-at`
+    KillAt,
+    /// `--no-leading-underscore`
+    NoLeadingUnderscore,
+    /// `--leading-underscore`: on I386 it undoes the option before it, and is the default.
+    LeadingUnderscore,
+    /// `--export-as`: a name that no other name type makes of its symbol is the third text of a short
+    /// import.
+    ExportAs,
+    /// `-U`, `--add-underscore`: each name that the DLL is asked for gets an underscore.
+    AddUnderscore,
+    /// `--add-stdcall-underscore`: each with an `@` in it gets one.
+    AddStdcallUnderscore,
+    /// `-A`, `--add-stdcall-alias`: it is about exports that objects have, and without an effect.
+    AddStdcallAlias,
+    /// `--deterministic-libraries`: they are so in any case.
+    DeterministicLibraries,
+    /// `--non-deterministic-libraries`: without an effect.
+    NonDeterministicLibraries,
+    /// `-n`, `--no-delete`: no temporary file is made that could be kept.
+    NoDelete,
+    /// `--identify-strict`: a library that imports from several DLLs is refused.
+    IdentifyStrict,
+    /// `-v`, `--verbose`: warnings are written.
+    Verbose,
+    /// `-h`, `--help`
+    Help,
+    /// `-V`, `--version`
+    Version,
+}
+
+impl Setting {
+    // The option's number; no two options have one.
+    fn number(self) -> u8
+        ensures { result ≡ setting_number self }
+    {
+        match self {
+            Setting::Definition => 0,
+            Setting::Output => 1,
+            Setting::Machine => 2,
+            Setting::Dll => 3,
+            Setting::Flavor => 4,
+            Setting::Assembler => 5,
+            Setting::AssemblerFlags => 6,
+            Setting::TemporaryPrefix => 7,
+            Setting::FurtherPrefix => 8,
+            Setting::Identify => 9,
+        }
+    }
+
+    /// Whether this is the other option.
+    pub fn is(self, other: Setting) -> bool
+        ensures { result ≡ is_same_setting self other }
+    {
+        self.number() == other.number()
+    }
+}
+
+impl Switch {
+    // The option's number; no two options have one.
+    fn number(self) -> u8
+        ensures { result ≡ switch_number self }
+    {
+        match self {
+            Switch::KillAt => 0,
+            Switch::NoLeadingUnderscore => 1,
+            Switch::DeterministicLibraries => 2,
+            Switch::Verbose => 3,
+            Switch::Help => 4,
+            Switch::Version => 5,
+            Switch::LeadingUnderscore => 6,
+            Switch::NonDeterministicLibraries => 7,
+            Switch::NoDelete => 8,
+            Switch::ExportAs => 9,
+            Switch::AddUnderscore => 10,
+            Switch::AddStdcallUnderscore => 11,
+            Switch::AddStdcallAlias => 12,
+            Switch::IdentifyStrict => 13,
+        }
+    }
+
+    /// Whether this is the other option.
+    pub fn is(self, other: Switch) -> bool
+        ensures { result ≡ is_same_switch self other }
+    {
+        self.number() == other.number()
+    }
+}
+
+/// What a name of an option stands for.
+#[derive(Clone, Copy, Debug, PartialEq, Eq)]
+pub enum Meaning {
+    /// An option that takes a value.
+    Takes(Setting),
+    /// An option without a value.
+    Switches(Switch),
+    /// An option of GNU dlltool that has a meaning there, and none here.
+    Unsupported,
+    /// No option.
+    Unknown,
+}
+
+// Whether GNU dlltool has an option of this long name that has no meaning here.
+fn is_unsupported(name: &str) -> bool
+    ensures { result ≡ is_unsupported name.now }
+{
+    match name {
+        "output-exp" | "output-def" | "output-delaylib" | "base-file" => true,
+        "no-idata4" | "no-idata5" | "add-indirect" | "compat-implib" => true,
+        "export-all-symbols" | "no-export-all-symbols" | "exclude-symbols" => true,
+        "no-default-excludes" | "use-nul-prefixed-import-tables" => true,
+        _ => false,
+    }
+}
+
+/// The option of a long name, which is given without its `--`.
+pub fn option_named(name: &str) -> Meaning
+    ensures { result ≡ option_named name.now }
+{
+    match name {
+        "input-def" | "def" => Meaning::Takes(Setting::Definition),
+        "output-lib" => Meaning::Takes(Setting::Output),
+        "machine" => Meaning::Takes(Setting::Machine),
+        "dllname" => Meaning::Takes(Setting::Dll),
+        "flavor" => Meaning::Takes(Setting::Flavor),
+        "as" => Meaning::Takes(Setting::Assembler),
+        "as-flags" => Meaning::Takes(Setting::AssemblerFlags),
+        "temp-prefix" => Meaning::Takes(Setting::TemporaryPrefix),
+        "ext-prefix-alias" => Meaning::Takes(Setting::FurtherPrefix),
+        "identify" => Meaning::Takes(Setting::Identify),
+        "kill-at" => Meaning::Switches(Switch::KillAt),
+        "no-leading-underscore" => Meaning::Switches(Switch::NoLeadingUnderscore),
+        "leading-underscore" => Meaning::Switches(Switch::LeadingUnderscore),
+        "export-as" => Meaning::Switches(Switch::ExportAs),
+        "add-underscore" => Meaning::Switches(Switch::AddUnderscore),
+        "add-stdcall-underscore" => Meaning::Switches(Switch::AddStdcallUnderscore),
+        "add-stdcall-alias" => Meaning::Switches(Switch::AddStdcallAlias),
+        "deterministic-libraries" => Meaning::Switches(Switch::DeterministicLibraries),
+        "non-deterministic-libraries" => Meaning::Switches(Switch::NonDeterministicLibraries),
+        "no-delete" => Meaning::Switches(Switch::NoDelete),
+        "identify-strict" => Meaning::Switches(Switch::IdentifyStrict),
+        "verbose" => Meaning::Switches(Switch::Verbose),
+        "help" => Meaning::Switches(Switch::Help),
+        "version" => Meaning::Switches(Switch::Version),
+        _ if is_unsupported(name) => Meaning::Unsupported,
+        _ => Meaning::Unknown,
+    }
+}
+
+/// The option of a letter.
+pub fn option_lettered(letter: u8) -> Meaning
+    ensures { result ≡ option_lettered letter }
+{
+    match letter {
+        b'd' => Meaning::Takes(Setting::Definition),
+        b'l' => Meaning::Takes(Setting::Output),
+        b'm' => Meaning::Takes(Setting::Machine),
+        b'D' => Meaning::Takes(Setting::Dll),
+        b'S' => Meaning::Takes(Setting::Assembler),
+        b'f' => Meaning::Takes(Setting::AssemblerFlags),
+        b't' => Meaning::Takes(Setting::TemporaryPrefix),
+        b'p' => Meaning::Takes(Setting::FurtherPrefix),
+        b'I' => Meaning::Takes(Setting::Identify),
+        b'k' => Meaning::Switches(Switch::KillAt),
+        b'U' => Meaning::Switches(Switch::AddUnderscore),
+        b'A' => Meaning::Switches(Switch::AddStdcallAlias),
+        b'n' => Meaning::Switches(Switch::NoDelete),
+        b'v' => Meaning::Switches(Switch::Verbose),
+        b'h' => Meaning::Switches(Switch::Help),
+        b'V' => Meaning::Switches(Switch::Version),
+        b'e' | b'z' | b'y' | b'b' | b'x' | b'c' => Meaning::Unsupported,
+        b'a' | b'C' => Meaning::Unsupported,
+        _ => Meaning::Unknown,
+    }
+}

@@ -1,0 +1,104 @@
+//! The library of a definition, and its way to its place.
+
+ghost use Rattle.implib.specs.Library.{member_view};
+ghost use Rattle.implib_archive.specs.Archive.{archive_of};
+ghost use Rattle.implib_driver.specs.Placing.{AnswersWith, IsPlaced, IsPut, IsUnplaced};
+ghost use Rattle.implib_driver.specs.Request.{request_view};
+ghost use Rattle.std.specs.Io.KnownBytes.{Appends};
+ghost use Rattle.std.specs.Option.{option_map};
+ghost use Rattle.std.specs.Prelude.{◌≡◌, IfOk, None, OnErr, OnOk, map};
+
+use crate::disk::Disk;
+use crate::request::Request;
+use implib::Member;
+use implib_archive::{Archive, WriteError};
+use implib_rules::library::{LibraryError, archive_for};
+use std::alloc::Global;
+use std::io::{BufWriter, Write};
+
+// How many bytes are written to a file at once.
+const BUFFER: usize = 1 << 16;
+
+// Writes an archive to a file that is empty, and gives the file.
+fn fill<W: Write + Drop>(alloc: Global, file: W, archive: &Archive<'_>) -> Result<W, WriteError>
+    ensures { IfOk result (λ filled. Appends (W.contents file) (W.contents filled)
+        (archive_of archive.now.kind archive.now.members)) }
+{
+    let mut writer = BufWriter::with_capacity(alloc, BUFFER, file)?;
+    let written = match archive.write_to(alloc, &mut writer) {
+        Ok(()) => writer.flush().map_err(WriteError::from),
+        failed => failed,
+    };
+    // What a failed write left in the buffer is not written again.
+    let (file, _) = writer.into_parts();
+    match written {
+        Ok(()) => Ok(file),
+        Err(cause) => Err(cause),
+    }
+}
+
+// Writes an archive to a new file, and puts that into its place; or removes it.
+fn place<D: Disk>(
+    alloc: Global,
+    disk: &mut D,
+    path: &str,
+    archive: &Archive<'_>,
+) -> Result<(), WriteError>
+    requires { (D.view disk.old).left ≡ None }
+    ensures placed { OnOk result (IsPlaced D.is_known (D.view disk.old) (D.view disk.new) path.now
+        (archive_of archive.now.kind archive.now.members)) }
+    ensures unplaced { OnErr result (IsUnplaced (D.view disk.old) (D.view disk.new)) }
+{
+    let file = disk.begin(path)?;
+    let placed = match fill(alloc, file, archive) {
+        Ok(file) => disk.replace(file).map_err(WriteError::from),
+        Err(cause) => Err(cause),
+    };
+    if placed.is_err() {
+        let _ = disk.remove();
+    }
+    placed
+}
+
+// Puts an archive into the place that is asked for, if one is.
+fn place_if<D: Disk>(
+    alloc: Global,
+    disk: &mut D,
+    output: Option<&str>,
+    archive: &Archive<'_>,
+) -> Result<(), WriteError>
+    requires { (D.view disk.old).left ≡ None }
+    ensures put { OnOk result (IsPut D.is_known (D.view disk.old) (D.view disk.new)
+        (option_map (λ path. path.now) output.entry)
+        (archive_of archive.now.kind archive.now.members)) }
+    ensures unplaced { OnErr result (IsUnplaced (D.view disk.old) (D.view disk.new)) }
+{
+    match output {
+        Some(path) => place(alloc, disk, path, archive),
+        None => Ok(()),
+    }
+}
+
+/// Puts the library of these members into the place that is asked for, whole or not at all; or sees
+/// that there is one.
+///
+/// # Errors
+///
+/// `Refused`: the archive's format cannot carry them; nothing was written. `Writing`: it was not
+/// written, and no file is in another's place; the new one is removed.
+pub fn put<D: Disk>(
+    alloc: Global,
+    disk: &mut D,
+    members: &[Member],
+    request: &Request<'_>,
+) -> Result<(), LibraryError>
+    requires { (D.view disk.old).left ≡ None }
+    ensures { AnswersWith D.is_known (D.view disk.old) (D.view disk.new)
+        (map member_view members.now) (request_view request.now) result }
+{
+    let archive = archive_for(alloc, members, request.library.flavor)?;
+    match place_if(alloc, disk, request.output, &archive) {
+        Ok(()) => Ok(()),
+        Err(cause) => Err(LibraryError::Writing(cause)),
+    }
+}

@@ -1,0 +1,561 @@
+//! The program: its arguments, its run over files, and its exit status.
+
+ghost use Rattle.implib.specs.Definition.{definition_view};
+ghost use Rattle.implib.specs.Library.{member_view};
+ghost use Rattle.implib_driver.specs.Program.{DoesWords, Finishes, FinishesWith};
+ghost use Rattle.implib_driver.specs.Program.{FinishesWithout, members_counted};
+ghost use Rattle.implib_driver.specs.Identity.{identified};
+ghost use Rattle.implib_driver.specs.Program.{Identifies, IsUncalled, KeepsFiles, Makes};
+ghost use Rattle.implib_driver.specs.Program.{NamesDlls, OnlyComplains, Prints, Runs};
+ghost use Rattle.implib_driver.specs.Program.{SaysWarnings, Warned, answer_status, definition_in};
+ghost use Rattle.implib_driver.specs.Program.{devices, own_name, texts};
+ghost use Rattle.implib_driver.specs.Program.{verdict, warning_lines};
+ghost use Rattle.implib_driver.specs.Reports.{Complains, OfMemory, Refuses, Says, complaint_view};
+ghost use Rattle.implib_rules.specs.declared.library.Refusal.TheVariants.{OutOfMemory};
+ghost use Rattle.implib_driver.specs.Request.{request_view};
+ghost use Rattle.implib_rules.specs.Library.{CountsMembers, status_of};
+ghost use Rattle.implib_rules.specs.Warnings.{warning_view};
+ghost use Rattle.std.specs.IoError.{error_kind};
+ghost use Rattle.std.specs.Prelude.{◌≡◌, ◌⊎◌, [], ◌∷◌, IfErr, IfOk, IfSome, List, None, OnErr, OnOk, Option, map, ℕ};
+ghost use Rattle.std.specs.String.{string_bytes};
+ghost use Rattle.std.specs.Vec.Iter.{into_iter_items};
+
+use crate::arguments::ReadWordsError;
+use crate::disk::Disk;
+use crate::identity::{IdentifyError, identify};
+use crate::lib_words::words_read;
+use crate::placing::put;
+use crate::reporter::{Complaint, Reporter};
+use crate::request::{CallError, Identification, Request, Task, caller_of, task_of};
+use crate::verbose::warnings_for;
+use implib::def::ModuleDef;
+use implib::{Flavor, Member, ParseError};
+use implib_rules::library::{LibraryError, Refusal, members_for};
+use implib_rules::places::{Place, export_lines, read_with_places};
+use implib_rules::text::DefinitionText;
+use implib_rules::text_warnings::text_warnings;
+use implib_rules::warnings::Warning;
+use std::alloc::{AllocError, Global};
+use std::env::Args;
+use std::io::{ErrorKind, Read, Write};
+use std::{io, mem};
+
+// What the program prints for `--help`.
+const HELP: &str = "\
+usage: implib_dlltool -d FILE [-l OUT] [-m MACHINE] [-D DLL] [--flavor FLAVOUR]
+
+Makes the import library of a module definition.
+
+  -d, --input-def FILE     the module definition; - is standard input; also --def
+  -l, --output-lib OUT     the import library; without it FILE is checked
+  -m, --machine MACHINE    i386 or x86; i386:x86-64, amd64, x64 or x86_64; arm or
+                           armnt; arm64 or aarch64; by default the one that the
+                           program's name begins with, as i686-w64-mingw32-dlltool,
+                           and else i386:x86-64
+  -D, --dllname DLL        the name of the DLL, before that of FILE
+      --flavor FLAVOUR     msvc or gnu: whose linker the library is for; by
+                           default msvc for arm and arm64 and for OUT in .lib,
+                           unless -S, -f or -t is given, and else gnu; called
+                           as llvm-dlltool msvc, and called as another dlltool
+                           gnu but for arm and arm64
+  -k, --kill-at            on I386 ask for names without @ and what follows it
+      --no-leading-underscore
+                           on I386 take symbols as they are written
+      --leading-underscore on I386 undo it
+  -p, --ext-prefix-alias P a further import of each export, by P and its symbol
+  -U, --add-underscore     ask for each name with _ in front, but for fastcall's
+      --add-stdcall-underscore
+                           the same of names with @
+      --export-as          for Microsoft's linker, and for lld from 18 on, write a
+                           name that is not made of its symbol beside it
+  -v, --verbose            write warnings of FILE on standard error
+  -I, --identify LIB       print the names of the DLLs that LIB imports from, and
+                           make nothing
+      --identify-strict    refuse a LIB that imports from two DLLs or more
+  -h, --help
+  -V, --version
+
+Options of one letter without a value may share a word, as in -kd FILE; after --
+there is no option.
+
+Taken and ignored: -S --as, -f --as-flags, -t --temp-prefix, each with a value;
+-n --no-delete, -A --add-stdcall-alias, --deterministic-libraries,
+--non-deterministic-libraries.
+
+Called as LIB is, by a name that is lib or ends in -lib, or with a first word
+--lib:
+
+  /def:FILE /out:OUT       the definition and the library
+  /machine:MACHINE         x86, x64, arm or arm64
+  /name:DLL                the name of the DLL, before that of FILE
+  /verbose                 as -v
+  /nologo                  taken and ignored
+  /help, /?
+
+Each with / or -, in letters of any case. The library is for Microsoft's linker,
+with --export-as.
+
+Status: 0 made; 1 FILE or LIB is refused; 2 wrong call; 3 a file or memory failed.
+";
+
+// What the program prints for `--version`.
+const VERSION: &str = "implib_dlltool 0.1.0\n";
+
+// The name of the program in what it says.
+const NAME: &str = "implib_dlltool";
+
+// Prints bytes. A failure is status 3.
+fn print_bytes<O: Write, T: Reporter>(printer: &mut O, reporter: &mut T, bytes: &[u8]) -> u8
+    ensures { Prints bytes.now (T.said reporter.old) (T.said reporter.new)
+        (O.contents printer.old) (O.contents printer.new) result }
+{
+    match printer.write_all(bytes) {
+        Ok(()) => 0,
+        Err(error) => {
+            reporter.complain(NAME, Complaint::System(error));
+            3
+        }
+    }
+}
+
+// Prints a text. A failure is status 3.
+fn print<O: Write, T: Reporter>(printer: &mut O, reporter: &mut T, text: &str) -> u8
+    ensures { Prints text.now (T.said reporter.old) (T.said reporter.new)
+        (O.contents printer.old) (O.contents printer.new) result }
+{
+    print_bytes(printer, reporter, text.as_bytes())
+}
+
+// The exit status for a refusal.
+fn refusal_status(refusal: &Refusal) -> u8
+    ensures { result ≡ status_of refusal.now }
+{
+    match refusal {
+        Refusal::OutOfMemory => 3,
+        _ => 1,
+    }
+}
+
+// Says warnings of the definition of a path, whose exports are in these lines.
+fn say_warnings<T: Reporter>(
+    reporter: &mut T,
+    path: &str,
+    warnings: &[Warning<'_>],
+    lines: &[usize],
+)
+    ensures { Says (T.said reporter.old) (T.said reporter.new)
+        (warning_lines path.now lines.now (map warning_view warnings.now)) }
+{
+    for warning in warnings {
+        reporter.warn(path, warning, lines);
+    }
+}
+
+// The bytes of a definition, and how many members its warnings are of.
+#[derive(Clone, Copy, Debug)]
+struct Counted<'a> {
+    bytes: &'a [u8],
+    members: usize,
+}
+
+// Says the warnings of a definition, of which these are the places.
+fn warn_of<T: Reporter>(
+    alloc: Global,
+    counted: Counted<'_>,
+    def: &ModuleDef,
+    places: &[Place],
+    request: &Request<'_>,
+    reporter: &mut T,
+) -> Result<(), AllocError>
+    ensures warned { CountsMembers counted.entry.bytes.now (request_view request.now).library
+        (request_view request.now).library.flavor counted.entry.members
+        → OnOk result (SaysWarnings counted.entry.bytes.now (definition_view def.now) places.now
+        (request_view request.now) (T.said reporter.old) (T.said reporter.new)) }
+    ensures silent { OnErr result (T.said reporter.new ≡ T.said reporter.old) }
+{
+    let exports = def.exports.as_slice();
+    let mut warnings = text_warnings(alloc, counted.bytes)?;
+    let mut others = warnings_for(alloc, exports, places, request, counted.members)?;
+    warnings.append(&mut others)?;
+    let lines = export_lines(alloc, places)?;
+    say_warnings(
+        reporter,
+        request.definition,
+        warnings.as_slice(),
+        lines.as_slice(),
+    );
+    Ok(())
+}
+
+// Says the warnings of a definition, where they are asked for. What is no definition has none.
+fn warn<T: Reporter>(
+    alloc: Global,
+    counted: Counted<'_>,
+    request: &Request<'_>,
+    reporter: &mut T,
+) -> Result<(), AllocError>
+    ensures warned { CountsMembers counted.entry.bytes.now (request_view request.now).library
+        (request_view request.now).library.flavor counted.entry.members
+        → OnOk result (Warned request.now.is_verbose counted.entry.bytes.now
+        (request_view request.now) (T.said reporter.old) (T.said reporter.new)) }
+    ensures silent { OnErr result (T.said reporter.new ≡ T.said reporter.old) }
+{
+    if !request.is_verbose {
+        return Ok(());
+    }
+    let read = DefinitionText::new(alloc, counted.bytes)?;
+    let Ok(text) = read.text() else {
+        return Ok(());
+    };
+    match read_with_places(alloc, text) {
+        Ok((def, places)) => warn_of(alloc, counted, &def, places.as_slice(), request, reporter),
+        Err(ParseError::Invalid(..)) => Ok(()),
+        Err(ParseError::OutOfMemory(refused)) => Err(refused),
+    }
+}
+
+// The bytes of the definition.
+fn bytes_of<D: Disk, I: Read>(
+    alloc: Global,
+    disk: &mut D,
+    input: &mut I,
+    path: &str,
+) -> io::Result<Vec<u8>>
+    ensures bytes { IfOk result (λ bytes.
+        IfSome (definition_in (I.remaining input.old) (D.view disk.old) path.now)
+        (λ file. bytes.items ≡ file)) }
+    ensures same { OnOk result (D.view disk.new ≡ D.view disk.old) }
+    ensures failed { OnErr result (KeepsFiles (D.view disk.old) (D.view disk.new)) }
+{
+    if path != "-" {
+        return disk.read(alloc, path);
+    }
+    let mut bytes = Vec::new(alloc);
+    input.read_to_end(&mut bytes)?;
+    Ok(bytes)
+}
+
+// Says what came of a definition, and gives the exit status.
+fn conclude<T: Reporter>(
+    reporter: &mut T,
+    request: &Request<'_>,
+    answer: Result<(), LibraryError>,
+) -> u8
+    ensures said { Says (T.said reporter.old) (T.said reporter.new)
+        (verdict (request_view request.now) answer) }
+    ensures status { result ≡ answer_status answer }
+{
+    match answer {
+        Ok(()) => 0,
+        Err(LibraryError::Refused(refusal)) => {
+            reporter.refuse(request.definition, &refusal);
+            refusal_status(&refusal)
+        }
+        Err(LibraryError::Writing(cause)) => {
+            let path = request.output.unwrap_or("-");
+            reporter.complain(path, Complaint::Writing(cause));
+            3
+        }
+    }
+}
+
+// Says that memory was refused before a warning was said, and gives the exit status.
+fn give_up<T: Reporter>(reporter: &mut T, request: &Request<'_>) -> u8
+    ensures said { Says (T.said reporter.old) (T.said reporter.new)
+        (Refuses (request_view request.now).definition OutOfMemory ∷ []) }
+    ensures status { result ≡ 3 }
+{
+    reporter.refuse(request.definition, &Refusal::OutOfMemory);
+    3
+}
+
+// How many of its members the warnings of a library are of: for GNU's linker none needs it.
+fn members_counted(flavor: Flavor, members: usize) -> usize
+    ensures { result ≡ members_counted flavor members }
+{
+    match flavor {
+        Flavor::Msvc => members,
+        Flavor::Gnu => 0,
+    }
+}
+
+// Warns of a definition that has these members, and puts its library; gives the exit status.
+fn finish<D: Disk, T: Reporter>(
+    alloc: Global,
+    bytes: &[u8],
+    members: Vec<Member>,
+    disk: &mut D,
+    request: &Request<'_>,
+    reporter: &mut T,
+) -> u8
+    requires { (D.view disk.old).left ≡ None }
+    ensures { FinishesWith D.is_known bytes.now (map member_view members.items)
+        (request_view request.now) (D.view disk.old) (D.view disk.new)
+        (T.said reporter.old) (T.said reporter.new) result }
+{
+    let counted = Counted {
+        bytes,
+        members: members_counted(request.library.flavor, members.len()),
+    };
+    match warn(alloc, counted, request, reporter) {
+        Ok(()) => {
+            let put = put(alloc, disk, members.as_slice(), request);
+            // The program ends now. Freeing each name and symbol would take a fifth of its time.
+            mem::forget(members);
+            conclude(reporter, request, put)
+        }
+        Err(_) => give_up(reporter, request),
+    }
+}
+
+// Warns of a definition that has no members for this, and says it; gives the exit status.
+fn refuse<T: Reporter>(
+    alloc: Global,
+    bytes: &[u8],
+    refusal: Refusal,
+    request: &Request<'_>,
+    reporter: &mut T,
+) -> u8
+    ensures { FinishesWithout bytes.now refusal (request_view request.now)
+        (T.said reporter.old) (T.said reporter.new) result }
+{
+    if let Refusal::OutOfMemory = refusal {
+        return give_up(reporter, request);
+    }
+    let counted = Counted { bytes, members: 0 };
+    match warn(alloc, counted, request, reporter) {
+        Ok(()) => conclude(reporter, request, Err(LibraryError::Refused(refusal))),
+        Err(_) => give_up(reporter, request),
+    }
+}
+
+// Warns of a definition that is read, and puts its library; gives the exit status.
+fn answer<D: Disk, T: Reporter>(
+    alloc: Global,
+    bytes: &[u8],
+    disk: &mut D,
+    request: &Request<'_>,
+    reporter: &mut T,
+) -> u8
+    requires { (D.view disk.old).left ≡ None }
+    ensures { Finishes D.is_known bytes.now (request_view request.now)
+        (D.view disk.old) (D.view disk.new) (T.said reporter.old) (T.said reporter.new) result }
+{
+    match members_for(alloc, bytes, &request.library) {
+        Ok(members) => finish(alloc, bytes, members, disk, request, reporter),
+        Err(refusal) => refuse(alloc, bytes, refusal, request, reporter),
+    }
+}
+
+// Makes a library, and gives the exit status.
+fn make<D: Disk, I: Read, T: Reporter>(
+    alloc: Global,
+    disk: &mut D,
+    request: &Request<'_>,
+    input: &mut I,
+    reporter: &mut T,
+) -> u8
+    requires { (D.view disk.old).left ≡ None }
+    ensures { Makes D.is_known (request_view request.now)
+        (devices (I.remaining input.old) (D.view disk.old) (T.said reporter.old))
+        (devices (I.remaining input.new) (D.view disk.new) (T.said reporter.new)) result }
+{
+    match bytes_of(alloc, disk, input, request.definition) {
+        Ok(bytes) => answer(alloc, bytes.as_slice(), disk, request, reporter),
+        Err(error) => {
+            reporter.complain(request.definition, Complaint::System(error));
+            3
+        }
+    }
+}
+
+// Says a complaint of the command line, and gives the exit status.
+fn complain<T: Reporter>(reporter: &mut T, complaint: Complaint<'_>, status: u8) -> u8
+    ensures said { Says (T.said reporter.old) (T.said reporter.new)
+        (Complains own_name (complaint_view complaint.entry) ∷ []) }
+    ensures status { result ≡ status }
+{
+    reporter.complain(NAME, complaint);
+    status
+}
+
+// Names the DLLs in a library's bytes, and gives the exit status.
+fn name_dlls<O: Write, T: Reporter>(
+    alloc: Global,
+    bytes: &[u8],
+    wish: Identification<'_>,
+    printer: &mut O,
+    reporter: &mut T,
+) -> u8
+    ensures { NamesDlls wish.entry.library.now (identified wish.entry.is_strict bytes.now)
+        (T.said reporter.old) (T.said reporter.new) (O.contents printer.old) (O.contents printer.new) result
+        ⊎ OnlyComplains own_name OfMemory 3 (T.said reporter.old) (T.said reporter.new)
+        (O.contents printer.old) (O.contents printer.new) result }
+{
+    match identify(alloc, bytes, wish.is_strict) {
+        Ok(lines) => print_bytes(printer, reporter, lines.as_slice()),
+        Err(IdentifyError::Refused(fault)) => {
+            reporter.complain(wish.library, Complaint::Identity(fault));
+            1
+        }
+        Err(IdentifyError::OutOfMemory) => complain(reporter, Complaint::OutOfMemory, 3),
+    }
+}
+
+// Names the DLLs of a library, and gives the exit status.
+fn identify_library<D: Disk, O: Write, T: Reporter>(
+    alloc: Global,
+    disk: &mut D,
+    wish: Identification<'_>,
+    printer: &mut O,
+    reporter: &mut T,
+) -> u8
+    ensures { (input : Option (List ℕ)) → Identifies wish.entry.library.now wish.entry.is_strict
+        (devices input (D.view disk.old) (T.said reporter.old))
+        (devices input (D.view disk.new) (T.said reporter.new))
+        (O.contents printer.old) (O.contents printer.new) result }
+{
+    match disk.read(alloc, wish.library) {
+        Ok(bytes) => name_dlls(alloc, bytes.as_slice(), wish, printer, reporter),
+        Err(error) => {
+            reporter.complain(wish.library, Complaint::System(error));
+            3
+        }
+    }
+}
+
+// How the program is called: by this name, with these words after it.
+#[derive(Clone, Copy, Debug)]
+struct Call<'a> {
+    program: &'a str,
+    words: &'a [String],
+}
+
+// Does what a call asks for, and gives the exit status.
+fn perform_call<D: Disk, I: Read, O: Write, T: Reporter>(
+    alloc: Global,
+    call: Call<'_>,
+    disk: &mut D,
+    input: &mut I,
+    printer: &mut O,
+    reporter: &mut T,
+) -> u8
+    requires { (D.view disk.old).left ≡ None }
+    ensures { DoesWords D.is_known (texts HELP.now VERSION.now) call.entry.program.now
+        (map string_bytes call.entry.words.now)
+        (devices (I.remaining input.old) (D.view disk.old) (T.said reporter.old))
+        (devices (I.remaining input.new) (D.view disk.new) (T.said reporter.new))
+        (O.contents printer.old) (O.contents printer.new) result }
+{
+    let options = match words_read(alloc, call.program, call.words) {
+        Ok(options) => options,
+        Err(ReadWordsError::Refused(fault)) => {
+            return complain(reporter, Complaint::Word(fault), 2);
+        }
+        Err(ReadWordsError::OutOfMemory) => return complain(reporter, Complaint::OutOfMemory, 3),
+    };
+    match task_of(alloc, options.as_slice(), caller_of(call.program)) {
+        Ok(Task::Help) => print(printer, reporter, HELP),
+        Ok(Task::Version) => print(printer, reporter, VERSION),
+        Ok(Task::Identify(wish)) => identify_library(alloc, disk, wish, printer, reporter),
+        Ok(Task::Make(request)) => make(alloc, disk, &request, input, reporter),
+        Err(CallError::Refused(fault)) => complain(reporter, Complaint::Call(fault), 2),
+        Err(CallError::OutOfMemory) => complain(reporter, Complaint::OutOfMemory, 3),
+    }
+}
+
+/// Does what a command line asks for, and gives the exit status: 0 where that is done, 1 where the
+/// definition is refused, 2 where the call is, and 3 where a file or an allocation failed. The
+/// first argument is the name that the program is called by.
+pub fn run<D: Disk, I: Read, O: Write, T: Reporter>(
+    alloc: Global,
+    arguments: &[String],
+    disk: &mut D,
+    input: &mut I,
+    printer: &mut O,
+    reporter: &mut T,
+) -> u8
+    requires { (D.view disk.old).left ≡ None }
+    ensures { Runs D.is_known (texts HELP.now VERSION.now) (map string_bytes arguments.now)
+        (devices (I.remaining input.old) (D.view disk.old) (T.said reporter.old))
+        (devices (I.remaining input.new) (D.view disk.new) (T.said reporter.new))
+        (O.contents printer.old) (O.contents printer.new) result }
+{
+    match arguments {
+        [] => {
+            let call = Call {
+                program: NAME,
+                words: arguments,
+            };
+            perform_call(alloc, call, disk, input, printer, reporter)
+        }
+        [program, words @ ..] => {
+            let call = Call {
+                program: program.as_str(),
+                words,
+            };
+            perform_call(alloc, call, disk, input, printer, reporter)
+        }
+    }
+}
+
+// The arguments of a command line.
+fn arguments_in(alloc: Global, list: Args) -> Result<Vec<String>, AllocError>
+    ensures { IfOk result (λ arguments. arguments.items ≡ into_iter_items list) }
+{
+    list.collect(alloc)
+}
+
+// Runs the program with the arguments of a command line.
+fn perform_list<D: Disk, I: Read, O: Write, T: Reporter>(
+    alloc: Global,
+    list: Args,
+    disk: &mut D,
+    input: &mut I,
+    printer: &mut O,
+    reporter: &mut T,
+) -> u8
+    requires { (D.view disk.old).left ≡ None }
+    ensures { Runs D.is_known (texts HELP.now VERSION.now) (map string_bytes (into_iter_items list))
+        (devices (I.remaining input.old) (D.view disk.old) (T.said reporter.old))
+        (devices (I.remaining input.new) (D.view disk.new) (T.said reporter.new))
+        (O.contents printer.old) (O.contents printer.new) result }
+{
+    match arguments_in(alloc, list) {
+        Ok(arguments) => {
+            let arguments = arguments.as_slice();
+            run(alloc, arguments, disk, input, printer, reporter)
+        }
+        Err(_) => complain(reporter, Complaint::OutOfMemory, 3),
+    }
+}
+
+/// Runs the program with a command line, as [`run`] does. Arguments that are not UTF-8 are a wrong
+/// call, and others that cannot be read a failure.
+pub fn perform<D: Disk, I: Read, O: Write, T: Reporter>(
+    alloc: Global,
+    command_line: io::Result<Args>,
+    disk: &mut D,
+    input: &mut I,
+    printer: &mut O,
+    reporter: &mut T,
+) -> u8
+    requires { (D.view disk.old).left ≡ None }
+    ensures runs { IfOk command_line (λ list. Runs D.is_known (texts HELP.now VERSION.now)
+        (map string_bytes (into_iter_items list))
+        (devices (I.remaining input.old) (D.view disk.old) (T.said reporter.old))
+        (devices (I.remaining input.new) (D.view disk.new) (T.said reporter.new))
+        (O.contents printer.old) (O.contents printer.new) result) }
+    ensures unread { IfErr command_line (λ cause. IsUncalled (error_kind cause)
+        (devices (I.remaining input.old) (D.view disk.old) (T.said reporter.old))
+        (devices (I.remaining input.new) (D.view disk.new) (T.said reporter.new))
+        (O.contents printer.old) (O.contents printer.new) result) }
+{
+    match command_line {
+        Ok(list) => perform_list(alloc, list, disk, input, printer, reporter),
+        Err(error) => match error.kind() {
+            ErrorKind::InvalidData => complain(reporter, Complaint::NotUtf8, 2),
+            _ => complain(reporter, Complaint::System(error), 3),
+        },
+    }
+}

@@ -1,0 +1,52 @@
+//! What the program says of a definition, and of a call.
+
+ghost use Rattle.implib_driver.specs.Reports.{Complains, Line, Refuses, Says, Warns, complaint_view};
+ghost use Rattle.implib_rules.specs.Warnings.{warning_view};
+ghost use Rattle.std.specs.Prelude.{[], ◌∷◌, List, Option};
+
+use crate::arguments::WordFault;
+use crate::identity::NotIdentified;
+use crate::request::CallFault;
+use implib_archive::WriteError;
+use implib_rules::library::Refusal;
+use implib_rules::warnings::Warning;
+use std::io;
+
+/// What the program complains of.
+#[derive(Debug, Drop)]
+pub enum Complaint<'a> {
+    /// A word of the command line is refused.
+    Word(WordFault<'a>),
+    /// What the options ask for is refused.
+    Call(CallFault<'a>),
+    /// An argument is not UTF-8.
+    NotUtf8,
+    /// An allocation failed.
+    OutOfMemory,
+    /// A call of the system failed.
+    System(io::Error),
+    /// A library was not written whole.
+    Writing(WriteError),
+    /// The DLLs of a library are not named.
+    Identity(NotIdentified),
+}
+
+/// Who says what is wrong, each a line.
+pub trait Reporter {
+    // What was said so far, if it is known.
+    ghost said: { Self → Option (List Line) };
+
+    /// Says a warning of the definition of a path, whose exports are in these lines.
+    fn warn(&mut self, path: &str, warning: &Warning<'_>, lines: &[usize])
+        ensures { Says (said self.old) (said self.new)
+            (Warns path.now (warning_view warning.now) lines.now ∷ []) };
+
+    /// Says why the definition of a path is refused.
+    fn refuse(&mut self, path: &str, refusal: &Refusal)
+        ensures { Says (said self.old) (said self.new) (Refuses path.now refusal.now ∷ []) };
+
+    /// Says a complaint of a path, or of the program by its name.
+    fn complain(&mut self, subject: &str, complaint: Complaint<'_>)
+        ensures { Says (said self.old) (said self.new)
+            (Complains subject.now (complaint_view complaint.entry) ∷ []) };
+}

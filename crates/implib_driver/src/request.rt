@@ -1,0 +1,468 @@
+//! What the options of a command line ask for.
+
+ghost use Rattle.implib_driver.specs.Arguments.{occurrence_view};
+ghost use Rattle.implib_rules.specs.Additions.{additions_view};
+ghost use Rattle.implib_rules.specs.Linked.{naming_view};
+ghost use Rattle.implib_driver.specs.Request.{additions_in};
+ghost use Rattle.implib_driver.specs.Request.{IsCallRefusal, architecture_named, call_fault_view, called_as};
+ghost use Rattle.implib_driver.specs.Request.{caller_of};
+ghost use Rattle.implib_driver.specs.Request.{default_flavor, dll_in, flavor_by_ending};
+ghost use Rattle.implib_driver.specs.Request.{flavor_in};
+ghost use Rattle.implib_driver.specs.Request.{has_gnu_habits, holds_text, is_other_architecture};
+ghost use Rattle.implib_driver.specs.Request.{machine_in, machine_named, machine_of_architecture};
+ghost use Rattle.implib_driver.specs.Request.{machine_of_name};
+ghost use Rattle.implib_driver.specs.Request.{naming_in, output_in, request_in, request_view};
+ghost use Rattle.implib_driver.specs.Request.{task_of, task_view};
+ghost use Rattle.std.specs.Option.{option_map};
+ghost use Rattle.std.specs.Prelude.{◌≡◌, Err, IfErr, IfOk, Ok, map};
+
+use crate::arguments::{Occurrence, is_last, is_switched, last_given};
+use crate::options::{Setting, Switch};
+use implib::{Flavor, MachineType};
+use implib_rules::additions::Additions;
+use implib_rules::linked::Naming;
+use implib_rules::machine::machine_called;
+use implib_rules::name::last_part;
+use implib_rules::options::LibraryOptions;
+use std::alloc::{AllocError, Global};
+use std::str::FromStr;
+
+/// What is to be made.
+#[derive(Clone, Copy, Debug)]
+pub struct Request<'a> {
+    /// The file of the definition; `-` is standard input.
+    pub definition: &'a str,
+    /// The file of the import library; none is written without it.
+    pub output: Option<&'a str>,
+    /// What the library is made for.
+    pub library: LibraryOptions<'a>,
+    /// Whether warnings are written (`-v`).
+    pub is_verbose: bool,
+}
+
+/// The library whose DLLs are to be named.
+#[derive(Clone, Copy, Debug)]
+pub struct Identification<'a> {
+    /// Its file.
+    pub library: &'a str,
+    /// Whether it has to import from one DLL alone.
+    pub is_strict: bool,
+}
+
+/// What a command line asks for.
+#[derive(Clone, Copy, Debug)]
+pub enum Task<'a> {
+    /// The help.
+    Help,
+    /// The version.
+    Version,
+    /// The DLLs of a library.
+    Identify(Identification<'a>),
+    /// A library.
+    Make(Request<'a>),
+}
+
+/// Why options ask for nothing that can be done.
+#[derive(Clone, Copy, Debug, PartialEq, Eq)]
+pub enum CallFault<'a> {
+    /// There is no definition.
+    NoDefinition,
+    /// There is no such machine.
+    UnknownMachine(&'a str),
+    /// There is no such flavour.
+    UnknownFlavor(&'a str),
+    /// The DLL's name that is given is empty, or a directory.
+    EmptyDll,
+    /// The library cannot go to standard output.
+    OutputToStandard,
+    /// The name of the library's file is empty.
+    EmptyOutput,
+    /// No machine is named, and the program's name begins with an architecture that is not
+    /// supported.
+    OtherArchitecture,
+    /// `--leading-underscore` where C's symbols have none.
+    NoUnderscore,
+    /// The library would take the definition's place.
+    OutputIsDefinition,
+}
+
+/// Whose ways a program's name asks for.
+#[derive(Clone, Copy, Debug, PartialEq, Eq)]
+pub enum CalledAs {
+    /// The program's own: the library's name decides.
+    Itself,
+    /// Those of `llvm-dlltool`, which makes libraries for Microsoft's linker.
+    Llvm,
+    /// Those of GNU dlltool.
+    Gnu,
+}
+
+/// What the name that a program is called by says.
+#[derive(Clone, Copy, Debug, PartialEq, Eq)]
+pub struct Caller {
+    /// The machine where none is named; none where the name is of another architecture.
+    pub machine: Option<MachineType>,
+    /// Whose ways it asks for.
+    pub called_as: CalledAs,
+}
+
+/// Why options ask for nothing that can be done, or want of memory.
+#[derive(Debug, Drop)]
+pub enum CallError<'a> {
+    /// The options are refused.
+    Refused(CallFault<'a>),
+    /// An allocation failed.
+    OutOfMemory,
+}
+
+impl<'a> From<AllocError> for CallError<'a> {
+    ghost use Rattle.implib_driver.specs.declared.request.CallError.TheVariants.{OutOfMemory};
+    ghost use Rattle.std.specs.Prelude.{◌≡◌};
+
+    ghost from_gives = { λ _ error. error ≡ OutOfMemory };
+
+    fn from(_refused: AllocError) -> CallError<'a> {
+        CallError::OutOfMemory
+    }
+}
+
+impl<'a> From<CallFault<'a>> for CallError<'a> {
+    ghost use Rattle.implib_driver.specs.declared.request.CallError.TheVariants.{Refused};
+    ghost use Rattle.std.specs.Prelude.{◌≡◌};
+
+    ghost from_gives = { λ fault error. error ≡ Refused fault };
+
+    fn from(fault: CallFault<'a>) -> CallError<'a> {
+        CallError::Refused(fault)
+    }
+}
+
+/// The machine of a name, in letters of any case.
+///
+/// # Errors
+///
+/// An allocation failed.
+pub fn machine_named(alloc: Global, name: &str) -> Result<Option<MachineType>, AllocError>
+    ensures { IfOk result (λ machine. machine ≡ machine_named name.now) }
+{
+    Ok(machine_called(name.to_ascii_lowercase(alloc)?.as_str()))
+}
+
+// Whether a text is the name of an architecture that is not supported.
+fn is_other_architecture(name: &str) -> bool
+    ensures { result ≡ is_other_architecture name.now }
+{
+    match name {
+        "arm64ec" | "arm64e" | "aarch64_be" | "armeb" | "thumb" | "thumbeb" => true,
+        "riscv32" | "riscv64" | "loongarch32" | "loongarch64" | "ia64" | "alpha" => true,
+        "mips" | "mipsel" | "mips64" | "mips64el" | "sh3" | "sh4" | "sparc" | "sparc64" => true,
+        "powerpc" | "powerpc64" | "powerpc64le" | "ppc" | "ppc64" | "ppc64le" => true,
+        "s390x" | "wasm32" | "wasm64" | "mcore" => true,
+        _ => false,
+    }
+}
+
+// The machine of an architecture that has this name.
+fn architecture_named(name: &str) -> Option<MachineType>
+    ensures { result ≡ architecture_named name.now }
+{
+    match name {
+        "i386" | "i486" | "i586" | "i686" | "i786" | "i886" | "i986" => Some(MachineType::I386),
+        "arm" => Some(MachineType::ARMNT),
+        "aarch64" | "arm64" => Some(MachineType::ARM64),
+        _ => None,
+    }
+}
+
+// The machine of an architecture, as the first part of a target's name; AMD64 for what is none, and
+// none for an architecture that is not supported.
+fn machine_of_architecture(name: &str) -> Option<MachineType>
+    ensures { result ≡ machine_of_architecture name.now }
+{
+    let named = architecture_named(name);
+    if named.is_some() {
+        return named;
+    }
+    if name.as_bytes().starts_with(b"armv7") {
+        return Some(MachineType::ARMNT);
+    }
+    if is_other_architecture(name) {
+        return None;
+    }
+    Some(MachineType::AMD64)
+}
+
+// The machine of a program's name, by what is before its first `-`; AMD64 without one.
+fn machine_of_name(name: &str) -> Option<MachineType>
+    ensures { result ≡ machine_of_name name.now }
+{
+    match name.split_once('-') {
+        Some((architecture, _)) => machine_of_architecture(architecture),
+        None => Some(MachineType::AMD64),
+    }
+}
+
+/// Whether a text is within another.
+pub fn holds_text(name: &[u8], text: &[u8]) -> bool
+    ensures { result ≡ holds_text name.now text.now }
+{
+    for start in 0..name.len() {
+        if name[start..].starts_with(text) {
+            return true;
+        }
+    }
+    false
+}
+
+// Whose ways a program's name asks for.
+fn called_as(name: &str) -> CalledAs
+    ensures { result ≡ called_as name.now }
+{
+    let name = name.as_bytes();
+    if holds_text(name, b"llvm-dlltool") {
+        return CalledAs::Llvm;
+    }
+    if holds_text(name, b"dlltool") && !holds_text(name, b"implib_dlltool") {
+        return CalledAs::Gnu;
+    }
+    CalledAs::Itself
+}
+
+/// What the name that the program is called by says, without its directory.
+pub fn caller_of(program: &str) -> Caller
+    ensures { result ≡ caller_of program.now }
+{
+    let name = last_part(program);
+    Caller {
+        machine: machine_of_name(name),
+        called_as: called_as(name),
+    }
+}
+
+// Whether an option is given that only GNU dlltool has a use for.
+fn has_gnu_habits(options: &[Occurrence<'_>]) -> bool
+    ensures { result ≡ has_gnu_habits (map occurrence_view options.now) }
+{
+    last_given(options, Setting::Assembler).is_some()
+        || last_given(options, Setting::AssemblerFlags).is_some()
+        || last_given(options, Setting::TemporaryPrefix).is_some()
+}
+
+// The flavour by the ending of a file's name.
+fn flavor_by_ending(output: Option<&str>) -> Flavor
+    ensures { result ≡ flavor_by_ending (option_map (λ text. text.now) output.entry) }
+{
+    match output {
+        Some(path) if path.as_bytes().ends_with(b".lib") => Flavor::Msvc,
+        Some(path) if path.as_bytes().ends_with(b".LIB") => Flavor::Msvc,
+        _ => Flavor::Gnu,
+    }
+}
+
+// The flavour where none is given.
+fn default_flavor(
+    called_as: CalledAs,
+    machine: MachineType,
+    has_gnu_habits: bool,
+    output: Option<&str>,
+) -> Flavor
+    ensures { result ≡ default_flavor called_as machine has_gnu_habits
+        (option_map (λ text. text.now) output.entry) }
+{
+    match called_as {
+        CalledAs::Llvm => Flavor::Msvc,
+        CalledAs::Gnu | CalledAs::Itself => match machine {
+            MachineType::ARMNT | MachineType::ARM64 => Flavor::Msvc,
+            MachineType::I386 | MachineType::AMD64 => match called_as {
+                CalledAs::Itself if !has_gnu_habits => flavor_by_ending(output),
+                _ => Flavor::Gnu,
+            },
+        },
+    }
+}
+
+// The machine that the options name, or that of the program's name.
+fn machine_in<'a>(
+    alloc: Global,
+    options: &[Occurrence<'a>],
+    unnamed: Option<MachineType>,
+) -> Result<MachineType, CallError<'a>>
+    ensures ok { IfOk result
+        (λ machine. machine_in unnamed (map occurrence_view options.now) ≡ Ok machine) }
+    ensures refused { IfErr result
+        (IsCallRefusal (machine_in unnamed (map occurrence_view options.now))) }
+{
+    let Some(name) = last_given(options, Setting::Machine) else {
+        return match unnamed {
+            Some(machine) => Ok(machine),
+            None => Err(CallError::Refused(CallFault::OtherArchitecture)),
+        };
+    };
+    match machine_named(alloc, name)? {
+        Some(machine) => Ok(machine),
+        None => Err(CallError::Refused(CallFault::UnknownMachine(name))),
+    }
+}
+
+// The flavour that the options name, or the default.
+fn flavor_in<'a>(
+    options: &[Occurrence<'a>],
+    called_as: CalledAs,
+    machine: MachineType,
+    output: Option<&str>,
+) -> Result<Flavor, CallFault<'a>>
+    ensures ok { IfOk result (λ flavor.
+        flavor_in called_as machine (option_map (λ text. text.now) output.entry)
+        (map occurrence_view options.now) ≡ Ok flavor) }
+    ensures refused { IfErr result (λ fault.
+        flavor_in called_as machine (option_map (λ text. text.now) output.entry)
+        (map occurrence_view options.now) ≡ Err (call_fault_view fault)) }
+{
+    let Some(name) = last_given(options, Setting::Flavor) else {
+        return Ok(default_flavor(called_as, machine, has_gnu_habits(options), output));
+    };
+    match Flavor::from_str(name) {
+        Ok(flavor) => Ok(flavor),
+        Err(_) => Err(CallFault::UnknownFlavor(name)),
+    }
+}
+
+// The name of the DLL that the options give.
+fn dll_in<'a>(options: &[Occurrence<'a>]) -> Result<Option<&'a str>, CallFault<'a>>
+    ensures ok { IfOk result (λ dll.
+        dll_in (map occurrence_view options.now) ≡ Ok (option_map (λ text. text.now) dll)) }
+    ensures refused { IfErr result (λ fault.
+        dll_in (map occurrence_view options.now) ≡ Err (call_fault_view fault)) }
+{
+    let Some(name) = last_given(options, Setting::Dll) else {
+        return Ok(None);
+    };
+    if last_part(name).is_empty() {
+        return Err(CallFault::EmptyDll);
+    }
+    Ok(Some(name))
+}
+
+// The file of the library that the options give, which is not the definition's.
+fn output_in<'a>(
+    options: &[Occurrence<'a>],
+    definition: &str,
+) -> Result<Option<&'a str>, CallFault<'a>>
+    ensures ok { IfOk result (λ output. output_in definition.now (map occurrence_view options.now)
+        ≡ Ok (option_map (λ text. text.now) output)) }
+    ensures refused { IfErr result (λ fault.
+        output_in definition.now (map occurrence_view options.now) ≡ Err (call_fault_view fault)) }
+{
+    match last_given(options, Setting::Output) {
+        Some("-") => Err(CallFault::OutputToStandard),
+        Some("") => Err(CallFault::EmptyOutput),
+        Some(path) if path == definition => Err(CallFault::OutputIsDefinition),
+        output => Ok(output),
+    }
+}
+
+// How the options want names to be read.
+fn naming_in<'a>(options: &[Occurrence<'a>], machine: MachineType) -> Result<Naming, CallFault<'a>>
+    ensures ok { IfOk result (λ naming.
+        naming_in machine (map occurrence_view options.now) ≡ Ok (naming_view naming)) }
+    ensures refused { IfErr result (λ fault.
+        naming_in machine (map occurrence_view options.now) ≡ Err (call_fault_view fault)) }
+{
+    let has_underscore = is_last(
+        options,
+        Switch::LeadingUnderscore,
+        Switch::NoLeadingUnderscore,
+    );
+    if has_underscore && !machine.has_leading_underscore() {
+        return Err(CallFault::NoUnderscore);
+    }
+    Ok(Naming {
+        is_plain: is_last(
+            options,
+            Switch::NoLeadingUnderscore,
+            Switch::LeadingUnderscore,
+        ),
+        kills_at: is_switched(options, Switch::KillAt),
+        exports_as: is_switched(options, Switch::ExportAs),
+    })
+}
+
+// What the options add to the exports.
+fn additions_in<'a>(options: &[Occurrence<'a>]) -> Additions<'a>
+    ensures { additions_view result ≡ additions_in (map occurrence_view options.now) }
+{
+    Additions {
+        prefix: last_given(options, Setting::FurtherPrefix),
+        underscore: is_switched(options, Switch::AddUnderscore),
+        stdcall_underscore: is_switched(options, Switch::AddStdcallUnderscore),
+    }
+}
+
+// The library that the options ask for.
+fn request_in<'a>(
+    alloc: Global,
+    options: &[Occurrence<'a>],
+    caller: Caller,
+) -> Result<Request<'a>, CallError<'a>>
+    ensures ok { IfOk result (λ request.
+        request_in caller (map occurrence_view options.now) ≡ Ok (request_view request)) }
+    ensures refused { IfErr result
+        (IsCallRefusal (request_in caller (map occurrence_view options.now))) }
+{
+    let Some(definition) = last_given(options, Setting::Definition) else {
+        return Err(CallError::Refused(CallFault::NoDefinition));
+    };
+    let output = output_in(options, definition)?;
+    let machine = machine_in(alloc, options, caller.machine)?;
+    let flavor = flavor_in(options, caller.called_as, machine, output)?;
+    let dll = dll_in(options)?;
+    let naming = naming_in(options, machine)?;
+    let additions = additions_in(options);
+    Ok(Request {
+        definition,
+        output,
+        library: LibraryOptions {
+            machine,
+            flavor,
+            dll,
+            naming,
+            additions,
+        },
+        is_verbose: is_switched(options, Switch::Verbose),
+    })
+}
+
+/// What the options ask for: the help or the version where one of them does, else the DLLs of a
+/// library, else a library.
+///
+/// # Errors
+///
+/// What is wrong first: no definition; the library to standard output, to a file without a name or
+/// to the definition's;
+/// an unknown machine, or none where the program's name is of another architecture; an unknown
+/// flavour; an empty name of the DLL; an underscore where C's symbols have none. `OutOfMemory` may
+/// come before the last four.
+pub fn task_of<'a>(
+    alloc: Global,
+    options: &[Occurrence<'a>],
+    caller: Caller,
+) -> Result<Task<'a>, CallError<'a>>
+    ensures ok { IfOk result (λ task.
+        task_of caller (map occurrence_view options.now) ≡ Ok (task_view task)) }
+    ensures refused { IfErr result
+        (IsCallRefusal (task_of caller (map occurrence_view options.now))) }
+{
+    if is_switched(options, Switch::Help) {
+        return Ok(Task::Help);
+    }
+    if is_switched(options, Switch::Version) {
+        return Ok(Task::Version);
+    }
+    if let Some(library) = last_given(options, Setting::Identify) {
+        return Ok(Task::Identify(Identification {
+            library,
+            is_strict: is_switched(options, Switch::IdentifyStrict),
+        }));
+    }
+    Ok(Task::Make(request_in(alloc, options, caller)?))
+}
