@@ -36,14 +36,14 @@ given_options o = record { machine = o.machine; flavor = o.flavor; flags = o.fla
 -- `--export-as`
 abbrev pub naming_numbered : ℕ → Option NamingView
 naming_numbered flags =
-    if flags == 0 then Some (record { is_plain = false; kills_at = false; exports_as = false })
-    else if flags == 1 then Some (record { is_plain = false; kills_at = true; exports_as = false })
-    else if flags == 2 then Some (record { is_plain = true; kills_at = false; exports_as = false })
-    else if flags == 3 then Some (record { is_plain = true; kills_at = true; exports_as = false })
-    else if flags == 4 then Some (record { is_plain = false; kills_at = false; exports_as = true })
-    else if flags == 5 then Some (record { is_plain = false; kills_at = true; exports_as = true })
-    else if flags == 6 then Some (record { is_plain = true; kills_at = false; exports_as = true })
-    else if flags == 7 then Some (record { is_plain = true; kills_at = true; exports_as = true })
+    if flags == 0 then Some (record { is_plain = false; kills_at = false; exports_as = false; keeps_decorated = false })
+    else if flags == 1 then Some (record { is_plain = false; kills_at = true; exports_as = false; keeps_decorated = false })
+    else if flags == 2 then Some (record { is_plain = true; kills_at = false; exports_as = false; keeps_decorated = false })
+    else if flags == 3 then Some (record { is_plain = true; kills_at = true; exports_as = false; keeps_decorated = false })
+    else if flags == 4 then Some (record { is_plain = false; kills_at = false; exports_as = true; keeps_decorated = false })
+    else if flags == 5 then Some (record { is_plain = false; kills_at = true; exports_as = true; keeps_decorated = false })
+    else if flags == 6 then Some (record { is_plain = true; kills_at = false; exports_as = true; keeps_decorated = false })
+    else if flags == 7 then Some (record { is_plain = true; kills_at = true; exports_as = true; keeps_decorated = false })
     else None
 
 -- the DLL's name, where one is given

@@ -143,14 +143,14 @@ pub record WorkedArguments : Type 0 where
   pub no_flavor : flavor_numbered 2 ≡ None
   pub msvc_kind : kind_of_flavor Msvc ≡ Coff
   pub gnu_kind : kind_of_flavor Gnu ≡ GnuKind
-  pub no_flags : naming_numbered 0 ≡ Some (record { is_plain = false; kills_at = false; exports_as = false })
-  pub kill_at : naming_numbered 1 ≡ Some (record { is_plain = false; kills_at = true; exports_as = false })
-  pub no_leading_underscore : naming_numbered 2 ≡ Some (record { is_plain = true; kills_at = false; exports_as = false })
-  pub both_flags : naming_numbered 3 ≡ Some (record { is_plain = true; kills_at = true; exports_as = false })
-  pub export_as : naming_numbered 4 ≡ Some (record { is_plain = false; kills_at = false; exports_as = true })
-  pub kill_at_export_as : naming_numbered 5 ≡ Some (record { is_plain = false; kills_at = true; exports_as = true })
-  pub plain_export_as : naming_numbered 6 ≡ Some (record { is_plain = true; kills_at = false; exports_as = true })
-  pub all_flags : naming_numbered 7 ≡ Some (record { is_plain = true; kills_at = true; exports_as = true })
+  pub no_flags : naming_numbered 0 ≡ Some (record { is_plain = false; kills_at = false; exports_as = false; keeps_decorated = false })
+  pub kill_at : naming_numbered 1 ≡ Some (record { is_plain = false; kills_at = true; exports_as = false; keeps_decorated = false })
+  pub no_leading_underscore : naming_numbered 2 ≡ Some (record { is_plain = true; kills_at = false; exports_as = false; keeps_decorated = false })
+  pub both_flags : naming_numbered 3 ≡ Some (record { is_plain = true; kills_at = true; exports_as = false; keeps_decorated = false })
+  pub export_as : naming_numbered 4 ≡ Some (record { is_plain = false; kills_at = false; exports_as = true; keeps_decorated = false })
+  pub kill_at_export_as : naming_numbered 5 ≡ Some (record { is_plain = false; kills_at = true; exports_as = true; keeps_decorated = false })
+  pub plain_export_as : naming_numbered 6 ≡ Some (record { is_plain = true; kills_at = false; exports_as = true; keeps_decorated = false })
+  pub all_flags : naming_numbered 7 ≡ Some (record { is_plain = true; kills_at = true; exports_as = true; keeps_decorated = false })
   pub unknown_flag : naming_numbered 8 ≡ None
   pub version_is : version ≡ 5
 

@@ -39,6 +39,7 @@ fn naming_with(flags: u32) -> Option<Naming>
         is_plain,
         kills_at,
         exports_as,
+        keeps_decorated: false,
     })
 }
 

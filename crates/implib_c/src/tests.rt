@@ -416,6 +416,7 @@ fn a_call_with_options_puts_the_library_that_the_program_writes(
         is_plain: false,
         kills_at: false,
         exports_as: false,
+        keeps_decorated: false,
     };
     for (flavor, number, _) in FLAVORS {
         let flavor = (flavor, number);
@@ -430,6 +431,7 @@ fn a_call_with_options_puts_the_library_that_the_program_writes(
                     is_plain,
                     kills_at,
                     exports_as,
+                    keeps_decorated: false,
                 };
                 expect_written(&rt, alloc, DECORATED, machine, flavor, (flags, naming))?;
             }
@@ -464,6 +466,7 @@ fn a_call_with_exports_puts_the_library_of_a_text_that_says_the_same(
         is_plain: false,
         kills_at: false,
         exports_as: false,
+        keeps_decorated: false,
     };
     let text = b"LIBRARY zoo\nEXPORTS\nfeed@8\nshut @5 NONAME DATA == feed@8";
     for (machine, number) in MACHINES {

@@ -82,7 +82,7 @@ unread_call = record {
   machine = None;
   flavor = None;
   dll = None;
-  naming = record { is_plain = false; kills_at = false; exports_as = false };
+  naming = record { is_plain = false; kills_at = false; exports_as = false; keeps_decorated = false };
   waiting = None;
 }
 

@@ -50,15 +50,15 @@ abbrev pub is_address : List ℕ → Bool
 is_address symbol = bytes_eq (take 6 symbol) (codes "__imp_")
 
 -- a symbol of I386 without the underscore of C's names, unless it is a word as it is
-abbrev pub without_underscore : List ℕ → List ℕ
-without_underscore [] = []
-without_underscore (b ∷ rest) = if b == underscore && not (keeps_word rest) then rest else b ∷ rest
+abbrev pub without_underscore : NamingView → List ℕ → List ℕ
+without_underscore naming [] = []
+without_underscore naming (b ∷ rest) = if b == underscore && not (keeps_word naming rest) then rest else b ∷ rest
 
 -- The word that names a symbol, where one does. For example, on I386 that of `_f@8` is `f@8`, and that of `@f@8`
 -- itself.
 abbrev pub word_of_symbol : MachineType → NamingView → List ℕ → List ℕ
 word_of_symbol machine naming symbol =
-    if has_leading_underscore machine && not naming.is_plain then without_underscore symbol else symbol
+    if has_leading_underscore machine && not naming.is_plain then without_underscore naming symbol else symbol
 
 -- Lines.
 

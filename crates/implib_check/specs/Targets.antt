@@ -45,6 +45,6 @@ options_of define members = record {
   machine = unwrap_or define.machine (machine_of members);
   flavor = unwrap_or define.flavor (flavor_of members);
   dll = None;
-  naming = record { is_plain = define.is_plain; kills_at = false; exports_as = false };
+  naming = record { is_plain = define.is_plain; kills_at = false; exports_as = false; keeps_decorated = false };
   additions = no_additions;
 }

@@ -22,7 +22,7 @@ plain_check = record {
   machine = None;
   flavor = None;
   dll = None;
-  naming = record { is_plain = false; kills_at = false; exports_as = false };
+  naming = record { is_plain = false; kills_at = false; exports_as = false; keeps_decorated = false };
 }
 
 -- with each option
@@ -33,7 +33,7 @@ full_check = record {
   machine = Some I386;
   flavor = Some Gnu;
   dll = Some (codes "d/zoo.dll");
-  naming = record { is_plain = true; kills_at = true; exports_as = false };
+  naming = record { is_plain = true; kills_at = true; exports_as = false; keeps_decorated = false };
 }
 
 -- What calls say, and some that say nothing.
@@ -47,7 +47,7 @@ pub record WorkedChecks : Type 0 where
       (codes "--machine" ∷ codes "arm64" ∷ codes "a.lib" ∷ codes "--kill-at" ∷ codes "--dllname" ∷ codes "d/zoo.dll" ∷ codes "a.def" ∷ codes "--no-leading-underscore"
       ∷ codes "--flavor" ∷ codes "gnu" ∷ codes "--machine" ∷ codes "x86" ∷ []) ≡ Some full_check
   pub export_as : check_called (codes "a.lib" ∷ codes "--export-as" ∷ codes "a.def" ∷ [])
-      ≡ Some (record plain_check { naming = record { is_plain = false; kills_at = false; exports_as = true } })
+      ≡ Some (record plain_check { naming = record { is_plain = false; kills_at = false; exports_as = true; keeps_decorated = false } })
   pub no_definition_of_export_as : define_called (codes "a.lib" ∷ codes "--export-as" ∷ []) ≡ None
   pub task : task_named (codes "a.lib" ∷ codes "a.def" ∷ []) ≡ Some (Checks plain_check)
   pub task_of_more : task_named (codes "a.lib" ∷ codes "a.def" ∷ codes "--flavor" ∷ codes "msvc" ∷ []) ≡ Some (Checks (record plain_check { flavor = Some Msvc }))
@@ -84,13 +84,13 @@ pub record WorkedTargets : Type 0 where
     machine = ARM64;
     flavor = Msvc;
     dll = None;
-    naming = record { is_plain = false; kills_at = false; exports_as = false };
+    naming = record { is_plain = false; kills_at = false; exports_as = false; keeps_decorated = false };
     additions = no_additions;
   }
   pub named : options_for full_check (import_on Code 0xAA64 ∷ []) ≡ record {
     machine = I386;
     flavor = Gnu;
     dll = Some (codes "d/zoo.dll");
-    naming = record { is_plain = true; kills_at = true; exports_as = false };
+    naming = record { is_plain = true; kills_at = true; exports_as = false; keeps_decorated = false };
     additions = no_additions;
   }

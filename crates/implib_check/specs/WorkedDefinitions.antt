@@ -22,16 +22,16 @@ on machine flavor = record {
   machine = machine;
   flavor = flavor;
   dll = None;
-  naming = record { is_plain = false; kills_at = false; exports_as = false };
+  naming = record { is_plain = false; kills_at = false; exports_as = false; keeps_decorated = false };
   additions = no_additions;
 }
 
 -- how names are read, by default and under `--no-leading-underscore`
 abbrev pub by_default : NamingView
-by_default = record { is_plain = false; kills_at = false; exports_as = false }
+by_default = record { is_plain = false; kills_at = false; exports_as = false; keeps_decorated = false }
 
 abbrev pub as_written : NamingView
-as_written = record { is_plain = true; kills_at = false; exports_as = false }
+as_written = record { is_plain = true; kills_at = false; exports_as = false; keeps_decorated = false }
 
 -- the definition of a.lib is asked for, with no option
 abbrev pub plain_define : DefineView

@@ -76,6 +76,7 @@ fn unread_call<'a>() -> Reading<'a>
             is_plain: false,
             kills_at: false,
             exports_as: false,
+            keeps_decorated: false,
         },
         waiting: None,
     }

@@ -94,12 +94,12 @@ fn is_address(symbol: &[u8]) -> bool
 }
 
 // A symbol without the underscore of C's names.
-fn without_underscore(symbol: &[u8]) -> &[u8]
-    ensures { result.now ≡ without_underscore symbol.now }
+fn without_underscore(naming: Naming, symbol: &[u8]) -> &[u8]
+    ensures { result.now ≡ without_underscore (naming_view naming) symbol.now }
 {
     match symbol {
         [first, rest @ ..] => {
-            if *first == b'_' && !keeps_word(rest) {
+            if *first == b'_' && !keeps_word(naming, rest) {
                 rest
             } else {
                 symbol
@@ -114,7 +114,7 @@ fn word_of_symbol(machine: MachineType, naming: Naming, symbol: &[u8]) -> &[u8]
     ensures { result.now ≡ word_of_symbol machine (naming_view naming) symbol.now }
 {
     if machine.has_leading_underscore() && !naming.is_plain {
-        without_underscore(symbol)
+        without_underscore(naming, symbol)
     } else {
         symbol
     }

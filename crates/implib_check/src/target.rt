@@ -82,6 +82,7 @@ pub fn options_of<'a>(define: &Define<'a>, members: &[MemberRead]) -> LibraryOpt
             is_plain: define.is_plain,
             kills_at: false,
             exports_as: false,
+            keeps_decorated: false,
         },
         additions: Additions::none(),
     }

@@ -12,7 +12,7 @@ use Rattle.implib_driver.specs.declared.lib_words.LibMeaning.TheVariants as mean
 use Rattle.implib_driver.specs.declared.lib_words.LibWord.{LibWord}
 use Rattle.implib_driver.specs.declared.lib_words.LibWord.TheVariants as word
 use Rattle.implib_driver.specs.declared.options.Setting.TheVariants.{Definition, Output, Machine, Dll, Flavor}
-use Rattle.implib_driver.specs.declared.options.Switch.TheVariants.{ExportAs, Help, Verbose}
+use Rattle.implib_driver.specs.declared.options.Switch.TheVariants.{ExportAs, Help, KeepsDecorated, Verbose}
 use Rattle.implib_driver.specs.Arguments.{Given, IsFile, IsUnknown, IsUnsupported, LacksValueIn, NamesNoMachine, OccurrenceView, Reading, Switched, WantsDefinition, WantsOutput, WordFaultView, is_switched, last_given, occurrence_view, read_words, with_front, word_fault_view}
 use Rattle.implib_driver.specs.Request.{holds_text}
 use Rattle.implib_rules.specs.Names.{last_part}
@@ -181,10 +181,10 @@ unfoldable pub read_each : List (List ℕ) → Reading
 read_each [] = Ok []
 read_each (word ∷ words) = lib_stepped (lib_word_of word) (read_each words)
 
--- what each library that is asked for in these words is made with: Microsoft's flavour, and third texts, as by LIB
--- for EXPORTAS and by llvm-lib for `==`
+-- What each library that is asked for in these words is made with: Microsoft's flavour; third texts, as by LIB for
+-- EXPORTAS and by llvm-lib for `==`; and on I386 decorated words as they are, as `_f@8`.
 abbrev pub lib_ways : List OccurrenceView
-lib_ways = Given Flavor (codes "msvc") ∷ Switched ExportAs ∷ []
+lib_ways = Given Flavor (codes "msvc") ∷ Switched ExportAs ∷ Switched KeepsDecorated ∷ []
 
 -- what words are read as, after these
 abbrev pub options_of_lib : List (List ℕ) → Reading

@@ -6,7 +6,7 @@ use Rattle.implib_driver.specs.declared.options.Meaning.TheVariants.{Takes, Swit
 use Rattle.implib_driver.specs.declared.options.Setting.{Setting}
 use Rattle.implib_driver.specs.declared.options.Switch.{Switch}
 use Rattle.implib_driver.specs.declared.options.Setting.TheVariants.{Definition, Output, Machine, Dll, Flavor, Assembler, AssemblerFlags, TemporaryPrefix, FurtherPrefix, Identify}
-use Rattle.implib_driver.specs.declared.options.Switch.TheVariants.{KillAt, NoLeadingUnderscore, LeadingUnderscore, ExportAs, AddUnderscore, AddStdcallUnderscore, AddStdcallAlias, DeterministicLibraries, NonDeterministicLibraries, NoDelete, IdentifyStrict, Verbose, Help, Version}
+use Rattle.implib_driver.specs.declared.options.Switch.TheVariants.{KillAt, NoLeadingUnderscore, LeadingUnderscore, ExportAs, AddUnderscore, AddStdcallUnderscore, AddStdcallAlias, DeterministicLibraries, NonDeterministicLibraries, NoDelete, IdentifyStrict, KeepsDecorated, Verbose, Help, Version}
 
 -- the long names, without `--`, of GNU dlltool's options that have no meaning here
 abbrev pub is_unsupported : List ℕ → Bool
@@ -115,6 +115,7 @@ switch_number AddUnderscore = 10
 switch_number AddStdcallUnderscore = 11
 switch_number AddStdcallAlias = 12
 switch_number IdentifyStrict = 13
+switch_number KeepsDecorated = 14
 
 -- whether two options that take values are one
 abbrev pub is_same_setting : Setting → Setting → Bool

@@ -9,7 +9,7 @@ use Rattle.implib.specs.declared.flavor.Flavor.TheVariants.{Msvc, Gnu}
 use Rattle.implib.specs.declared.machine.MachineType.{MachineType}
 use Rattle.implib.specs.declared.machine.MachineType.TheVariants.{I386, ARMNT, AMD64, ARM64}
 use Rattle.implib_driver.specs.declared.options.Setting.TheVariants.{Definition, Output, Machine, Dll, Flavor as FlavorSetting, Assembler, AssemblerFlags, TemporaryPrefix, FurtherPrefix, Identify}
-use Rattle.implib_driver.specs.declared.options.Switch.TheVariants.{Help, IdentifyStrict, KillAt, LeadingUnderscore, NoLeadingUnderscore, Verbose, Version, ExportAs, AddUnderscore, AddStdcallUnderscore}
+use Rattle.implib_driver.specs.declared.options.Switch.TheVariants.{Help, IdentifyStrict, KeepsDecorated, KillAt, LeadingUnderscore, NoLeadingUnderscore, Verbose, Version, ExportAs, AddUnderscore, AddStdcallUnderscore}
 use Rattle.implib_driver.specs.declared.request.CallError.{CallError}
 use Rattle.implib_driver.specs.declared.request.CallError.TheVariants as error
 use Rattle.implib_driver.specs.declared.request.CalledAs.{CalledAs}
@@ -290,6 +290,7 @@ naming_in machine options =
       is_plain = is_last NoLeadingUnderscore LeadingUnderscore options;
       kills_at = is_switched KillAt options;
       exports_as = is_switched ExportAs options;
+      keeps_decorated = is_switched KeepsDecorated options;
     })
 
 -- what options add to the exports

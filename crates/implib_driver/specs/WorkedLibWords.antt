@@ -5,12 +5,12 @@ use Rattle.implib.specs.declared.flavor.Flavor.TheVariants.{Msvc}
 use Rattle.implib.specs.declared.machine.MachineType.{MachineType}
 use Rattle.implib.specs.declared.machine.MachineType.TheVariants.{I386, ARMNT, AMD64, ARM64}
 use Rattle.implib_driver.specs.declared.options.Setting.TheVariants.{Definition, Output, Machine, Dll, Flavor as FlavorSetting}
-use Rattle.implib_driver.specs.declared.options.Switch.TheVariants.{ExportAs, Help, Verbose}
+use Rattle.implib_driver.specs.declared.options.Switch.TheVariants.{ExportAs, Help, KeepsDecorated, Verbose}
 use Rattle.implib_driver.specs.Arguments.{Given, IsFile, IsUnknown, IsUnsupported, LacksValueIn, NamesNoMachine, OccurrenceView, Reading, Switched, WantsDefinition, WantsOutput, read_words}
 use Rattle.implib_driver.specs.LibWords.{Adds, LibWordView, Nothing, Refuses, is_lib_name, lib_word_of, machine_text, read_lib_words, words_read}
 use Rattle.implib_driver.specs.Request.{Asked, Asks, AsksHelp, TaskView, caller_of, machine_named, task_of}
 use Rattle.implib_rules.specs.Additions.{no_additions}
-use Rattle.implib_rules.specs.WorkedExportAs.{exporting}
+use Rattle.implib_rules.specs.WorkedNames.{decorated}
 
 -- each option, with either mark and in letters of any case
 abbrev pub said : List (List ℕ)
@@ -76,7 +76,7 @@ usual_words = codes "/NOLOGO" ∷ codes "/def:a.def" ∷ codes "-machine:X86" �
 -- what they are read as
 abbrev pub usual_options : List OccurrenceView
 usual_options =
-    Given FlavorSetting (codes "msvc") ∷ Switched ExportAs ∷ Given Definition (codes "a.def") ∷ Given Machine (codes "i386") ∷ Given Output (codes "b.a")
+    Given FlavorSetting (codes "msvc") ∷ Switched ExportAs ∷ Switched KeepsDecorated ∷ Given Definition (codes "a.def") ∷ Given Machine (codes "i386") ∷ Given Output (codes "b.a")
     ∷ Given Dll (codes "zoo.dll") ∷ []
 
 -- what is asked for by words that are read so, where the program is called so
@@ -118,14 +118,14 @@ pub record LibWordsRead : Type 0 where
   pub asked : asked_by (codes "implib_dlltool") (read_lib_words usual_words) ≡ Ok (Asks (record {
     definition = codes "a.def";
     output = Some (codes "b.a");
-    library = record { machine = I386; flavor = Msvc; dll = Some (codes "zoo.dll"); naming = exporting; additions = no_additions };
+    library = record { machine = I386; flavor = Msvc; dll = Some (codes "zoo.dll"); naming = decorated; additions = no_additions };
     is_verbose = false;
   }))
   -- without a machine it is that of the program's name
   pub by_name : asked_by (codes "aarch64-pc-windows-msvc-lib") (words_read (codes "aarch64-pc-windows-msvc-lib") (codes "/def:a" ∷ codes "/out:b" ∷ codes "/verbose" ∷ [])) ≡ Ok (Asks (record {
     definition = codes "a";
     output = Some (codes "b");
-    library = record { machine = ARM64; flavor = Msvc; dll = None; naming = exporting; additions = no_additions };
+    library = record { machine = ARM64; flavor = Msvc; dll = None; naming = decorated; additions = no_additions };
     is_verbose = true;
   }))
   pub called : map is_lib_name lib_names ≡ map (λ name. true) lib_names

@@ -240,8 +240,8 @@ fn lack_of(options: &[Occurrence<'_>]) -> Option<WordFault<'static>>
     None
 }
 
-// What each library in LIB's words is made with, Microsoft's flavour and third texts, and the options
-// of the words, in order.
+// What each library in LIB's words is made with, Microsoft's flavour, third texts and decorated words,
+// and the options of the words, in order.
 fn options_of_lib<'a>(
     alloc: Global,
     words: &'a [String],
@@ -253,6 +253,7 @@ fn options_of_lib<'a>(
     let mut read = Vec::new(alloc);
     read.push(Occurrence::Given(Setting::Flavor, "msvc"))?;
     read.push(Occurrence::Switched(Switch::ExportAs))?;
+    read.push(Occurrence::Switched(Switch::KeepsDecorated))?;
     for word in words {
         let said = lib_word_of(alloc, word.as_str())?;
         match said {
@@ -264,8 +265,8 @@ fn options_of_lib<'a>(
     Ok(read)
 }
 
-/// The options of a command line in LIB's words, in order, after Microsoft's flavour and
-/// `--export-as`.
+/// The options of a command line in LIB's words, in order, after Microsoft's flavour, `--export-as`
+/// and that decorated words are symbols as they are.
 ///
 /// # Errors
 ///

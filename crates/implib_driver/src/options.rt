@@ -56,6 +56,8 @@ pub enum Switch {
     NoDelete,
     /// `--identify-strict`: a library that imports from several DLLs is refused.
     IdentifyStrict,
+    /// Of LIB's words, and of no option: on I386 a word with an `@` is a symbol as it is.
+    KeepsDecorated,
     /// `-v`, `--verbose`: warnings are written.
     Verbose,
     /// `-h`, `--help`
@@ -111,6 +113,7 @@ impl Switch {
             Switch::AddStdcallUnderscore => 11,
             Switch::AddStdcallAlias => 12,
             Switch::IdentifyStrict => 13,
+            Switch::KeepsDecorated => 14,
         }
     }
 

@@ -384,6 +384,7 @@ fn naming_in<'a>(options: &[Occurrence<'a>], machine: MachineType) -> Result<Nam
         ),
         kills_at: is_switched(options, Switch::KillAt),
         exports_as: is_switched(options, Switch::ExportAs),
+        keeps_decorated: is_switched(options, Switch::KeepsDecorated),
     })
 }
 

@@ -22,10 +22,12 @@ pub record NamingView : Type 0 where
   pub kills_at : Bool
   -- a name that no other name type makes of its symbol is the third text of a short import (ExportAs)
   pub exports_as : Bool
+  -- a word with an `@` is a symbol as it is (LIB)
+  pub keeps_decorated : Bool
 
 -- the view of the rules of the program
 abbrev pub naming_view : Naming → NamingView
-naming_view n = record { is_plain = n.is_plain; kills_at = n.kills_at; exports_as = n.exports_as }
+naming_view n = record { is_plain = n.is_plain; kills_at = n.kills_at; exports_as = n.exports_as; keeps_decorated = n.keeps_decorated }
 
 -- whether two `@` stand side by side in a word, before which one may stand
 abbrev pub two_at_signs : Bool → List ℕ → Bool
@@ -36,21 +38,24 @@ two_at_signs before (b ∷ rest) = if before && b == at_sign then true else two_
 abbrev pub has_two_at_signs : List ℕ → Bool
 has_two_at_signs word = two_at_signs false word
 
--- whether a word is a symbol of I386 as it is: of fastcall (`@f@8`), C++ (`?f@@YAXXZ`) or vectorcall (`f@@8`)
-abbrev pub keeps_word : List ℕ → Bool
-keeps_word word = begins_with at_sign word || begins_with question_mark word || has_two_at_signs word
+-- the byte is `@`
+abbrev pub is_at_sign : ℕ → Bool
+is_at_sign b = b == at_sign
+
+-- Whether a word is a symbol of I386 as it is: of fastcall (`@f@8`), C++ (`?f@@YAXXZ`) or vectorcall (`f@@8`); and for
+-- LIB each with an `@`, as `_f@8`.
+abbrev pub keeps_word : NamingView → List ℕ → Bool
+keeps_word naming word =
+    begins_with at_sign word || begins_with question_mark word || has_two_at_signs word
+    || (naming.keeps_decorated && list_any is_at_sign word)
 
 -- whether a word gets the underscore of I386's C symbols
 abbrev pub gets_underscore : MachineType → NamingView → List ℕ → Bool
-gets_underscore machine naming word = has_leading_underscore machine && not naming.is_plain && not (keeps_word word)
+gets_underscore machine naming word = has_leading_underscore machine && not naming.is_plain && not (keeps_word naming word)
 
 -- The symbol that a word names. For example, on I386 `f` names `_f`, `f@8` `_f@8`, and `@g@8` itself.
 abbrev pub symbol_of : MachineType → NamingView → List ℕ → List ℕ
 symbol_of machine naming word = if gets_underscore machine naming word then underscore ∷ word else word
-
--- the byte is `@`
-abbrev pub is_at_sign : ℕ → Bool
-is_at_sign b = b == at_sign
 
 -- whether a word has an `@`
 abbrev pub has_at_sign : List ℕ → Bool

@@ -17,11 +17,11 @@ use Rattle.implib_rules.specs.WorkedNames.{line}
 
 -- the rules of `--export-as`
 abbrev pub exporting : NamingView
-exporting = record { is_plain = false; kills_at = false; exports_as = true }
+exporting = record { is_plain = false; kills_at = false; exports_as = true; keeps_decorated = false }
 
 -- the rules of both `-k` and `--export-as`
 abbrev pub killing_and_exporting : NamingView
-killing_and_exporting = record { is_plain = false; kills_at = true; exports_as = true }
+killing_and_exporting = record { is_plain = false; kills_at = true; exports_as = true; keeps_decorated = false }
 
 -- `bar`, `a == b`, `c == bar`, `d == e DATA`, `f @7 == g` and `p == q PRIVATE` of foo.dll
 abbrev pub with_names : DefinitionView

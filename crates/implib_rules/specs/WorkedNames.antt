@@ -17,19 +17,23 @@ use Rattle.implib_rules.specs.Order.{library_specs}
 
 -- the rules without an option
 abbrev pub usual : NamingView
-usual = record { is_plain = false; kills_at = false; exports_as = false }
+usual = record { is_plain = false; kills_at = false; exports_as = false; keeps_decorated = false }
 
 -- the rules of `-k`
 abbrev pub killing : NamingView
-killing = record { is_plain = false; kills_at = true; exports_as = false }
+killing = record { is_plain = false; kills_at = true; exports_as = false; keeps_decorated = false }
 
 -- the rules of `--no-leading-underscore`
 abbrev pub plain : NamingView
-plain = record { is_plain = true; kills_at = false; exports_as = false }
+plain = record { is_plain = true; kills_at = false; exports_as = false; keeps_decorated = false }
 
 -- the rules of both
 abbrev pub plain_and_killing : NamingView
-plain_and_killing = record { is_plain = true; kills_at = true; exports_as = false }
+plain_and_killing = record { is_plain = true; kills_at = true; exports_as = false; keeps_decorated = false }
+
+-- the rules of LIB
+abbrev pub decorated : NamingView
+decorated = record { is_plain = false; kills_at = false; exports_as = true; keeps_decorated = true }
 
 -- the export of a word, with another after `==` or with an empty one
 abbrev pub line : List ℕ → List ℕ → ExportView
@@ -51,6 +55,11 @@ pub record ExportsLinked : Type 0 where
   pub c : Links I386 usual (codes "f") [] (codes "_f") (codes "f")
   pub stdcall : Links I386 usual (codes "F@8") [] (codes "_F@8") (codes "F@8")
   pub stdcall_killed : Links I386 killing (codes "F@8") [] (codes "_F@8") (codes "F")
+  pub c_of_lib : Links I386 decorated (codes "f") [] (codes "_f") (codes "f")
+  pub stdcall_of_lib : Links I386 decorated (codes "_F@8") [] (codes "_F@8") (codes "_F@8")
+  pub bare_stdcall_of_lib : Links I386 decorated (codes "F@8") [] (codes "F@8") (codes "F@8")
+  pub last_at_sign_of_lib : Links I386 decorated (codes "F@") [] (codes "F@") (codes "F@")
+  pub asked_of_lib : Links I386 decorated (codes "f") (codes "g@4") (codes "_f") (codes "g@4")
   pub fastcall : Links I386 usual (codes "@G@8") [] (codes "@G@8") (codes "@G@8")
   pub fastcall_killed : Links I386 killing (codes "@G@8") [] (codes "@G@8") (codes "G")
   pub vectorcall : Links I386 usual (codes "N@@8") [] (codes "N@@8") (codes "N@@8")

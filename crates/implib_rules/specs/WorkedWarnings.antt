@@ -163,10 +163,10 @@ twice_places =
 
 -- a library for Microsoft's linker on I386, with symbols as they are written, and one for GNU's, on AMD64
 abbrev pub asked_plain : LibraryOptionsView
-asked_plain = record { machine = I386; flavor = Msvc; dll = None; naming = record { is_plain = true; kills_at = false; exports_as = false }; additions = no_additions }
+asked_plain = record { machine = I386; flavor = Msvc; dll = None; naming = record { is_plain = true; kills_at = false; exports_as = false; keeps_decorated = false }; additions = no_additions }
 
 abbrev pub asked_gnu : LibraryOptionsView
-asked_gnu = record { machine = AMD64; flavor = Gnu; dll = None; naming = record { is_plain = false; kills_at = false; exports_as = false }; additions = no_additions }
+asked_gnu = record { machine = AMD64; flavor = Gnu; dll = None; naming = record { is_plain = false; kills_at = false; exports_as = false; keeps_decorated = false }; additions = no_additions }
 
 -- a library for Microsoft's linker on I386
 abbrev pub asked : Bool → Option (List ℕ) → LibraryOptionsView
@@ -174,7 +174,7 @@ asked kills_at dll = record {
   machine = I386;
   flavor = Msvc;
   dll = dll;
-  naming = record { is_plain = false; kills_at = kills_at; exports_as = false };
+  naming = record { is_plain = false; kills_at = kills_at; exports_as = false; keeps_decorated = false };
   additions = no_additions;
 }
 

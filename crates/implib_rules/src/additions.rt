@@ -4,11 +4,10 @@ ghost use Rattle.implib.specs.Definition.{export_view};
 ghost use Rattle.implib_rules.specs.Additions.{additions_view, all_prefixed, extended_exports};
 ghost use Rattle.implib_rules.specs.Additions.{no_additions};
 ghost use Rattle.implib_rules.specs.Additions.{gets_one, prefixed, underscored};
-ghost use Rattle.implib_rules.specs.Linked.{is_at_sign, naming_view};
-ghost use Rattle.std.specs.List.{list_any};
+ghost use Rattle.implib_rules.specs.Linked.{naming_view};
 ghost use Rattle.std.specs.Prelude.{◌≡◌, IfOk, OnOk, Some, map};
 
-use crate::linked::{Naming, asked_of, symbol_linked, word_asked, word_of};
+use crate::linked::{Naming, asked_of, has_at_sign, symbol_linked, word_asked, word_of};
 use implib::MachineType;
 use implib::def::ShortExport;
 use std::alloc::{AllocError, Global};
@@ -35,13 +34,6 @@ impl<'a> Additions<'a> {
             stdcall_underscore: false,
         }
     }
-}
-
-// Whether a word has an `@`.
-fn has_at_sign(word: &[u8]) -> bool
-    ensures { result ≡ list_any is_at_sign word.now }
-{
-    word.contains(&b'@')
 }
 
 // Whether the name asked for a word gets an underscore.

@@ -1,12 +1,13 @@
 //! By which symbols exports are linked, and what they ask the DLL for: the rules of `dlltool`.
 
 ghost use Rattle.implib.specs.Definition.{export_view};
-ghost use Rattle.implib_rules.specs.Linked.{asked_of, asks_apart, has_two_at_signs, keeps_word};
+ghost use Rattle.implib_rules.specs.Linked.{asked_of, asks_apart, has_two_at_signs, is_at_sign, keeps_word};
 ghost use Rattle.implib_rules.specs.Linked.{is_apart, is_named_import, killed, linked_alias, linked_import, linked_to, makes};
 ghost use Rattle.implib_rules.specs.Linked.{name_given, naming_view, symbol_linked, symbol_of};
 ghost use Rattle.implib_rules.specs.Linked.{word_asked, word_of};
 ghost use Rattle.implib_rules.specs.Views.{first_symbol, is_linked, linked_by};
 ghost use Rattle.std.specs.Prelude.{◌==◌, ◌≡◌, IfOk, OnOk, drop, map, option_map};
+ghost use Rattle.std.specs.List.{list_any};
 ghost use Rattle.std.specs.String.{string_bytes};
 
 use implib::MachineType;
@@ -25,6 +26,8 @@ pub struct Naming {
     /// A name that no other name type makes of its symbol is the third text of a short import, of
     /// name type 4 (`--export-as`), for linkers that know it.
     pub exports_as: bool,
+    /// A word with an `@` is a symbol as it is (LIB), and gets no underscore.
+    pub keeps_decorated: bool,
 }
 
 // Whether two `@` stand side by side, as in a vectorcall name.
@@ -41,11 +44,21 @@ fn has_two_at_signs(word: &[u8]) -> bool
     false
 }
 
-/// Whether a word is a symbol of I386 as it is: of fastcall, C++ or vectorcall.
-pub fn keeps_word(word: &[u8]) -> bool
-    ensures { result ≡ keeps_word word.now }
+// Whether a word has an `@`.
+pub(crate) fn has_at_sign(word: &[u8]) -> bool
+    ensures { result ≡ list_any is_at_sign word.now }
 {
-    word.first() == Some(&b'@') || word.first() == Some(&b'?') || has_two_at_signs(word)
+    word.contains(&b'@')
+}
+
+/// Whether a word is a symbol of I386 as it is: of fastcall, C++ or vectorcall, and for LIB of stdcall.
+pub fn keeps_word(naming: Naming, word: &[u8]) -> bool
+    ensures { result ≡ keeps_word (naming_view naming) word.now }
+{
+    word.first() == Some(&b'@')
+        || word.first() == Some(&b'?')
+        || has_two_at_signs(word)
+        || (naming.keeps_decorated && has_at_sign(word))
 }
 
 /// The symbol that a word names.
@@ -63,7 +76,10 @@ pub fn symbol_of(
         (λ symbol. string_bytes symbol ≡ symbol_of machine (naming_view naming) word.now) }
 {
     let mut symbol = String::new(alloc);
-    if machine.has_leading_underscore() && !naming.is_plain && !keeps_word(word.as_bytes()) {
+    if machine.has_leading_underscore()
+        && !naming.is_plain
+        && !keeps_word(naming, word.as_bytes())
+    {
         symbol.push('_')?;
     }
     symbol.push_str(word)?;

@@ -33,6 +33,7 @@ options = record {
   add_stdcall_underscore = refl;
   add_stdcall_alias = refl;
   identify_strict = refl;
+  keeps_decorated = refl;
   i386 = refl;
   amd64 = refl;
   armnt = refl;

@@ -7,6 +7,11 @@ worked = record {
   c = record { symbol_is = refl; asked_is = refl; target_gone = refl };
   stdcall = record { symbol_is = refl; asked_is = refl; target_gone = refl };
   stdcall_killed = record { symbol_is = refl; asked_is = refl; target_gone = refl };
+  c_of_lib = record { symbol_is = refl; asked_is = refl; target_gone = refl };
+  stdcall_of_lib = record { symbol_is = refl; asked_is = refl; target_gone = refl };
+  bare_stdcall_of_lib = record { symbol_is = refl; asked_is = refl; target_gone = refl };
+  last_at_sign_of_lib = record { symbol_is = refl; asked_is = refl; target_gone = refl };
+  asked_of_lib = record { symbol_is = refl; asked_is = refl; target_gone = refl };
   fastcall = record { symbol_is = refl; asked_is = refl; target_gone = refl };
   fastcall_killed = record { symbol_is = refl; asked_is = refl; target_gone = refl };
   vectorcall = record { symbol_is = refl; asked_is = refl; target_gone = refl };
