@@ -100,6 +100,7 @@ with_option option r =
     else if bytes_eq option (codes "--kill-at") then Some (record r { naming = record r.naming { kills_at = true } })
     else if bytes_eq option (codes "--no-leading-underscore") then Some (record r { naming = record r.naming { is_plain = true } })
     else if bytes_eq option (codes "--export-as") then Some (record r { naming = record r.naming { exports_as = true } })
+    else if bytes_eq option (codes "--lib") then Some (record r { naming = record r.naming { exports_as = true; keeps_decorated = true } })
     else if bytes_eq option (codes "-m") then Some (record r { waiting = Some setting.Machine })
     else if bytes_eq option (codes "--machine") then Some (record r { waiting = Some setting.Machine })
     else if bytes_eq option (codes "-D") then Some (record r { waiting = Some setting.Dll })

@@ -48,6 +48,9 @@ pub record WorkedChecks : Type 0 where
       ∷ codes "--flavor" ∷ codes "gnu" ∷ codes "--machine" ∷ codes "x86" ∷ []) ≡ Some full_check
   pub export_as : check_called (codes "a.lib" ∷ codes "--export-as" ∷ codes "a.def" ∷ [])
       ≡ Some (record plain_check { naming = record { is_plain = false; kills_at = false; exports_as = true; keeps_decorated = false } })
+  pub lib : check_called (codes "a.lib" ∷ codes "--lib" ∷ codes "a.def" ∷ codes "-m" ∷ codes "x86" ∷ [])
+      ≡ Some (record plain_check { machine = Some I386; naming = record { is_plain = false; kills_at = false; exports_as = true; keeps_decorated = true } })
+  pub no_definition_of_lib : define_called (codes "a.lib" ∷ codes "--lib" ∷ []) ≡ None
   pub no_definition_of_export_as : define_called (codes "a.lib" ∷ codes "--export-as" ∷ []) ≡ None
   pub task : task_named (codes "a.lib" ∷ codes "a.def" ∷ []) ≡ Some (Checks plain_check)
   pub task_of_more : task_named (codes "a.lib" ∷ codes "a.def" ∷ codes "--flavor" ∷ codes "msvc" ∷ []) ≡ Some (Checks (record plain_check { flavor = Some Msvc }))

@@ -143,6 +143,14 @@ fn with_option<'a>(option: &str, reading: Reading<'a>) -> Option<Reading<'a>>
             },
             ..reading
         }),
+        "--lib" => Some(Reading {
+            naming: Naming {
+                exports_as: true,
+                keeps_decorated: true,
+                ..naming
+            },
+            ..reading
+        }),
         "-m" | "--machine" => Some(Reading {
             waiting: Some(Setting::Machine),
             ..reading

@@ -38,7 +38,8 @@ const NAME: &str = "implib_check";
 // What the program prints for `--help`.
 const HELP: &str = "\
 usage: implib_check LIB DEF [-m MACHINE] [-k] [--no-leading-underscore]
-                    [--export-as] [-D DLL] [--flavor FLAVOR] [--json]
+                    [--export-as] [--lib] [-D DLL] [--flavor FLAVOR]
+                    [--json]
        implib_check --def LIB [-m MACHINE] [--no-leading-underscore]
                     [--flavor FLAVOR]
        implib_check --list LIB [--json]
@@ -57,6 +58,8 @@ one of the definition; the differences.
   --no-leading-underscore
                      no underscore before symbols, on i386
   --export-as        names that are not made of their symbols stand beside them
+  --lib              as implib_dlltool --lib: that, and on i386 words with an @
+                     are symbols as they are
   -D, --dllname      the DLL's name, before the definition's
   --flavor           msvc or gnu; without it the library's
   --def              a definition that means the library's imports and aliases,
