@@ -13,10 +13,10 @@ word_kept true true true is = absurd (true≢false (sym is))
 word_kept true false k is = absurd (true≢false (sym is))
 word_kept false b k is = absurd (true≢false (sym is))
 
-last_false : (a b c : Bool) → (a || b || c) ≡ false → c ≡ false
-last_false false false c none = none
-last_false false true c none = absurd (true≢false none)
-last_false true b c none = absurd (true≢false none)
+rest_false : (a b c d : Bool) → (a || b || c || d) ≡ false → (c || d) ≡ false
+rest_false false false c d none = none
+rest_false false true c d none = absurd (true≢false none)
+rest_false true b c d none = absurd (true≢false none)
 
 abbrev tail_of : List ℕ → List ℕ
 tail_of [] = []
@@ -28,7 +28,7 @@ module _ (machine : MachineType) (naming : NamingView) where
   none_between word gets =
       let kept : keeps_word naming word ≡ false = word_kept (has_leading_underscore machine) (not naming.is_plain) (keeps_word naming word) gets in
       let others : (has_two_at_signs word || (naming.keeps_decorated && list_any is_at_sign word)) ≡ false =
-      last_false (begins_with at_sign word) (begins_with question_mark word) (has_two_at_signs word || (naming.keeps_decorated && list_any is_at_sign word)) kept in
+      rest_false (begins_with at_sign word) (begins_with question_mark word) (has_two_at_signs word) (naming.keeps_decorated && list_any is_at_sign word) kept in
       ap (λ k. has_leading_underscore machine && not naming.is_plain && not k) (others ∙ sym kept) ∙ gets
 
   by_both : (first second : List ℕ) (a b : Bool) → gets_underscore machine naming first ≡ a → gets_underscore machine naming second ≡ b
