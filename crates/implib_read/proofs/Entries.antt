@@ -43,7 +43,7 @@ unfolding joined
 entries_at-stop bytes strings place auxiliary zero some none = absurd (omega (arith, some))
 entries_at-stop bytes strings place auxiliary (suc n) some none = entries_at-step bytes strings place auxiliary n ∙ ap (joined bytes strings (place + 18) n) none
 
-entries_at-more : (bytes strings : List ℕ) (place auxiliary n : ℕ) (e : Entry) (behind : ℕ) → 0 < n → entry_at bytes strings place auxiliary ≡ Some (e, behind)
+pub entries_at-more : (bytes strings : List ℕ) (place auxiliary n : ℕ) (e : Entry) (behind : ℕ) → 0 < n → entry_at bytes strings place auxiliary ≡ Some (e, behind)
     → entries_at bytes strings place auxiliary n ≡ option_map (λ es. e ∷ es) (entries_at bytes strings (place + 18) behind (n - 1))
 unfolding joined
 entries_at-more bytes strings place auxiliary zero e behind some is = absurd (omega (arith, some))

@@ -7,6 +7,7 @@ pub mod Gathering
 pub mod IndexEntries
 pub mod MemberClasses
 pub mod Records
+pub mod Room
 pub mod Texts
 pub mod WorkedBytes
 pub mod OwnArchives

@@ -1,5 +1,5 @@
 -- The archives of a definition's members for GNU's linker, as this reader has them.
-use Rattle.std.proofs.Common.{◌≡◌, ◌∙◌, ℕ, ◌+◌, Bool, true, false, ◌&&◌, List, [], ◌∷◌, Option, None, Some, ap, drop, if◌then◌else◌, map, refl, reverse, sym}
+use Rattle.std.proofs.Common.{◌≡◌, ◌∙◌, ℕ, ◌+◌, Bool, true, false, ◌&&◌, List, [], ◌∷◌, ◌==◌, Option, None, Some, ap, drop, if◌then◌else◌, length, map, nat_le, not, refl, reverse, sym}
 use Rattle.std.specs.List.{AllByRecursion, list_all}
 use Rattle.std.specs.Option.{option_and_then, option_map}
 use Rattle.std.proofs.lemmas.List.{reverse-reverse}
@@ -7,10 +7,11 @@ use Rattle.implib.specs.declared.flavor.Flavor.TheVariants.{Gnu}
 use Rattle.implib.specs.declared.machine.MachineType.{MachineType}
 use Rattle.implib.specs.Definition.{DefinitionView, ExportView}
 use Rattle.implib.specs.Formats.File.{File, ObjectFile, Meaning, file_in}
-use Rattle.implib.specs.Formats.Layout.{object_of}
+use Rattle.implib.specs.Formats.Layout.{entries_of, object_of}
 use Rattle.implib.specs.Formats.Writer.{layout_of, written_object}
 use Rattle.implib.specs.Import.{imp_symbol, is_alias, public_exports}
 use Rattle.implib.specs.LibraryName.{NamesOfDll, names_for}
+use Rattle.implib.specs.Machine.{machine_number}
 use Rattle.implib.specs.Renaming.{renamed}
 use Rattle.implib.specs.Members.Gnu.{export_object, head_object, tail_object, weak_address_name, weak_name}
 use Rattle.implib.specs.Members.GnuMembers.{alias_specs, export_spec, head_spec, numbered_specs, numbered_specs_of, tail_spec}
@@ -43,12 +44,19 @@ use Rattle.implib_read.proofs.OwnMsvc.{archive_by, classes_read, map_twice}
 abbrev ArePlain : List MemberSpec → Type 0
 ArePlain specs = AllByRecursion (λ p. is_plain (file_of p.contents) ≡ true) specs
 
+export_few : (machine : MachineType) (dll : List ℕ) (e : ExportView) (is_data : Bool)
+    → nat_le (length (written_object (export_object machine dll (record e { is_data = is_data }))).entries) 16 ≡ true
+unfolding export_object
+export_few machine dll e false = refl
+export_few machine dll e true = refl
+
 export_plain : (machine : MachineType) (dll : List ℕ) (number : ℕ) (e : ExportView) → is_plain (file_of (export_spec machine dll number e).contents) ≡ true
 unfolding export_spec export_object is_plain
-export_plain machine dll number e = ap (λ o. is_plain (ObjectFile o)) (object_of-layout_of (export_object machine dll e)) ∙ (machine_plain machine).1
+export_plain machine dll number e = ap (λ o. is_plain (ObjectFile o)) (object_of-layout_of (export_object machine dll e))
+    ∙ ap (λ b. b && not (machine_number machine == 0)) (export_few machine dll e e.is_data) ∙ (machine_plain machine).1
 
 aliases_plain : (machine : MachineType) (dll : List ℕ) (number : ℕ) (e : ExportView) → ArePlain (alias_specs machine dll number e)
-unfolding alias_specs is_plain object_of weak_object
+unfolding alias_specs is_plain object_of weak_object entries_of
 aliases_plain machine dll number e = by (is_alias e.alias_target e.name)
   where
     by : (b : Bool) → ArePlain (if b then weak_spec machine (weak_name dll number) e.name e.alias_target

@@ -1,8 +1,8 @@
 -- The members that `implib` makes for Microsoft's linker, as this reader has them.
-use Rattle.std.proofs.Common.{◌≡◌, ◌∙◌, ℕ, ◌-◌, ◌==◌, Bool, true, false, not, ◌&&◌, List, [], ◌∷◌, ◌++◌, Option, None, Some, ap, append_assoc, bytes_eq, drop, if◌then◌else◌, length, map, nat_le, refl, sym, take, is_some}
+use Rattle.std.proofs.Common.{arith, ◌≡◌, ◌∙◌, ℕ, ◌-◌, ◌==◌, Bool, true, false, not, ◌&&◌, List, [], ◌∷◌, ◌++◌, Option, None, Some, ap, append_assoc, bytes_eq, drop, if◌then◌else◌, length, map, nat_le, refl, sym, take, is_some}
 use Rattle.std.specs.List.{cons_option, filter_map, flat_map, list_all}
 use Rattle.std.specs.Option.{option_and_then, option_map}
-use Rattle.std.proofs.lemmas.Bool.{true≢false}
+use Rattle.std.proofs.lemmas.Bool.{leb-true, true≢false}
 use Rattle.implib.specs.declared.flavor.Flavor.TheVariants.{Msvc}
 use Rattle.implib.specs.declared.machine.MachineType.{MachineType}
 use Rattle.implib.specs.declared.machine.MachineType.TheVariants.{I386, ARMNT, AMD64, ARM64}
@@ -30,20 +30,21 @@ use Rattle.implib_read.specs.Files.{File as FoundFile, ShortImportFile as FoundS
 use Rattle.implib_read.specs.Files.{short_import_or_object as found_or_object}
 use Rattle.implib_read.specs.Following.{Place}
 use Rattle.implib_read.specs.Imports.{dll_of_object, import_of_object}
-use Rattle.implib_read.specs.Objects.{SameObjects, object_found}
+use Rattle.implib_read.specs.Objects.{SameObjects, object_found, room_in}
 use Rattle.implib_read.specs.ShortImports.{SameShortImports, arm64ec, found_from, short_import_found}
 use Rattle.implib_read.specs.OwnLibraries.{expected_kind, import_of_class, meaning_of_class}
 use Rattle.implib_read.specs.declared.import.ImportKind.TheVariants.{Code, Const, Data}
+use Rattle.implib_read.proofs.Room.{few-have_room}
 
 -- a file that `implib`'s reader has, as this reader has it
 unfoldable pub found_of : File → FoundFile
 found_of (ShortImportFile r) = FoundShortImport (record { fields = r; exported = None })
 found_of (ObjectFile o) = FoundObject o
 
--- whether a file is of no machine or name type that the two readers see with other eyes
+-- whether a file is of no machine, name type or number of entries that the two readers see with other eyes
 unfoldable pub is_plain : File → Bool
 is_plain (ShortImportFile r) = not (r.machine == arm64ec) && not (r.name_type == 4)
-is_plain (ObjectFile o) = not (o.machine == 0)
+is_plain (ObjectFile o) = nat_le (length o.entries) 16 && not (o.machine == 0)
 
 not_true : (b : Bool) → not b ≡ true → b ≡ false
 not_true false is = refl
@@ -100,9 +101,11 @@ by_both bytes f (Some r) o imports objects is is_o found plain =
     ap (λ i. found_or_object i (object_found bytes)) there ∙ ap found_of whole
 by_both bytes f None (Some o) imports objects is is_o found plain =
     let whole : ObjectFile o ≡ f = cc in
-    let some = not_true (o.machine == 0) (ap is_plain whole ∙ plain) in
+    let tests = both_true (nat_le (length o.entries) 16) (not (o.machine == 0)) (ap is_plain whole ∙ plain) in
+    let some = not_true (o.machine == 0) tests.1 in
+    let room = few-have_room (room_in (length bytes)) 0 o.entries (omega (arith, leb-true (length o.entries) 16 tests.0)) in
     ap (λ i. found_or_object i (object_found bytes)) (no_short_import bytes o is_o some)
-    ∙ ap (found_or_object None) (objects bytes o is_o)
+    ∙ ap (found_or_object None) (objects bytes o is_o room)
     ∙ ap found_of whole
 by_both bytes f None None imports objects is is_o found plain = cc
 
@@ -222,7 +225,7 @@ short_plain false name rest first second others = absurd (true≢false (sym firs
 
 weak_plain : (machine : MachineType) (dll : List ℕ) (e : ExportView) (others : List MemberSpec) → list_all is_plain (files_of_specs others) ≡ true
     → list_all is_plain (files_of_specs (weak_specs machine dll e ++ others)) ≡ true
-unfolding weak_specs is_plain object_of weak_object
+unfolding weak_specs is_plain object_of weak_object entries_of
 weak_plain machine dll e others rest = by (is_alias e.alias_target (short_import_symbol e))
   where
     by : (b : Bool) → list_all is_plain (files_of_specs ((if b then weak_spec machine dll (short_import_symbol e) e.alias_target ∷ weak_spec machine dll (imp_symbol (short_import_symbol e)) (imp_symbol e.alias_target) ∷ [] else []) ++ others)) ≡ true
@@ -246,7 +249,7 @@ abbrev pub own_files : DefinitionView → MachineType → List File
 own_files d machine = files_of_specs (member_specs d machine Msvc)
 
 pub specs_plain : (d : DefinitionView) (machine : MachineType) → list_all is_plain (own_files d machine) ≡ true
-unfolding header_specs descriptor_spec null_descriptor_spec null_thunk_spec object_of descriptor null_descriptor null_thunk is_plain
+unfolding header_specs descriptor_spec null_descriptor_spec null_thunk_spec object_of entries_of descriptor null_descriptor null_thunk is_plain
 specs_plain d machine =
     let some = (machine_plain machine).1 in
     object_plain (machine_number machine) _ some (object_plain (machine_number machine) _ some (object_plain (machine_number machine) _ some

@@ -12,7 +12,7 @@ use Rattle.implib_read.specs.MemberNames.{long_name_of, member_name, without_sla
 use Rattle.implib_read.specs.Objects.{entries_found, entry_at, object_found, object_of_found, records_in}
 use Rattle.implib_read.specs.ShortImports.{short_import_found}
 use Rattle.implib_read.specs.Symbols.{WorkedSymbols}
-use Rattle.implib_read.specs.WorkedFiles.{WorkedChanges, WorkedIndexes, WorkedLeads, WorkedNames, WorkedParts, WorkedShortImports, worked_by_name, worked_exported, worked_first_index, worked_indexed, worked_no_slash, worked_second_index, worked_unpadded}
+use Rattle.implib_read.specs.WorkedFiles.{WorkedChanges, WorkedIndexes, WorkedLeads, WorkedNames, WorkedParts, WorkedRoom, WorkedShortImports, worked_by_name, worked_exported, worked_first_index, worked_indexed, worked_no_slash, worked_second_index, worked_unpadded}
 use Rattle.implib_read.specs.WorkedLibraries.{WorkedLibraries, worked_dlltool, worked_ld, worked_llvm}
 
 pub worked_libraries : WorkedLibraries
@@ -26,6 +26,7 @@ worked_short_imports = record {
   by_name = refl;
   third_text = refl;
   no_third_text = refl;
+  byte_after_third_text = refl;
   size = refl;
   byte_more = refl;
   no_nul = refl;
@@ -59,6 +60,19 @@ worked_names = record {
   whole_field = refl;
   by_line_end = refl;
   by_nul = refl;
+}
+
+pub worked_room : WorkedRoom
+worked_room = record {
+  room = refl;
+  sixteenth = refl;
+  seventeenth = refl;
+  too_long = refl;
+  together = refl;
+  too_long_together = refl;
+  first_free = refl;
+  auxiliary = refl;
+  none_kept = refl;
 }
 
 pub worked_changes : WorkedChanges

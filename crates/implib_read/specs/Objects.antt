@@ -1,6 +1,6 @@
 -- Objects, for a reader that goes over the records of their tables one by one.
-use Rattle.std.specs.Prelude.{◌≡◌, ℕ, zero, suc, ◌+◌, ◌*◌, ◌/◌, ◌==◌, Bool, ◌&&◌, List, [], ◌∷◌, length, take, drop, slice_index, Option, Some, if◌then◌else◌}
-use Rattle.std.specs.Option.{option_and_then, option_map}
+use Rattle.std.specs.Prelude.{◌≡◌, ℕ, zero, suc, ◌+◌, ◌*◌, ◌/◌, ◌==◌, ◌-◌, ◌^◌, Bool, true, false, ◌&&◌, List, [], ◌∷◌, length, min, nat_le, nat_lt, take, drop, slice_index, Option, None, Some, if◌then◌else◌}
+use Rattle.std.specs.Option.{option_and_then, option_map, option_map_or}
 use Rattle.implib.specs.declared.coff.object.Relocation.{Relocation}
 use Rattle.implib.specs.Formats.Object.{Entry, ASymbol, Auxiliary, Object, bytes_at, each_at, entries_at, object_in, object_with, relocation_of, section_at, strings_at, symbol_of, u16_at, u32_at}
 
@@ -27,10 +27,36 @@ entry_at bytes strings offset zero = option_and_then
     (λ record_bytes. option_map (λ symbol. (ASymbol symbol, slice_index record_bytes 17)) (symbol_of strings record_bytes))
     (bytes_at bytes offset 18)
 
--- the entries of a symbol table, which an object without symbols lacks with its string table
+-- Room for names. Names may overlap in the string table, as one that ends another does, so those of a file could be
+-- longer than the file by any factor. Those beyond the sixteenth have to be, together, at most sixteen times as long.
+-- the length of the name of an entry
+abbrev pub name_length : Entry → ℕ
+name_length (ASymbol s) = length s.name
+name_length (Auxiliary record_bytes) = 0
+
+-- the room for names in a file of this size
+abbrev pub room_in : ℕ → ℕ
+room_in size = min (size * 16) (2 ^ 64 - 1)
+
+-- the room that is left after an entry, of which a number stand before, if there was enough
+abbrev pub room_after : ℕ → ℕ → Entry → Option ℕ
+room_after room number e =
+    if nat_lt number 16 then Some room else if nat_le (name_length e) room then Some (room - name_length e) else None
+
+-- whether there is room for the names of entries, of which a number stand before
+abbrev pub have_room : ℕ → ℕ → List Entry → Bool
+have_room room number [] = true
+have_room room number (e ∷ es) = option_map_or (λ left. have_room left (number + 1) es) (room_after room number e) false
+
+-- entries, if there is room for their names in a file of this size
+abbrev pub within_room : ℕ → List Entry → Option (List Entry)
+within_room size es = if have_room (room_in size) 0 es then Some es else None
+
+-- The entries of a symbol table, which an object without symbols lacks with its string table. There are none where
+-- their names have no room.
 unfoldable pub entries_found : List ℕ → ℕ → ℕ → Option (List Entry)
 entries_found bytes offset records = if records == 0 then Some [] else option_and_then
-    (λ strings. entries_at bytes strings offset 0 records)
+    (λ strings. option_and_then (within_room (length bytes)) (entries_at bytes strings offset 0 records))
     (strings_at bytes (offset + 18 * records))
 
 -- the object that a header of 20 bytes describes
@@ -44,6 +70,6 @@ object_of_found bytes header =
 unfoldable pub object_found : List ℕ → Option Object
 object_found bytes = option_and_then (object_of_found bytes) (bytes_at bytes 0 20)
 
--- what `implib`'s reader has of an object, this one has
+-- what `implib`'s reader has of an object, this one has, if there is room for its names
 abbrev pub SameObjects : Type 0
-SameObjects = (bytes : List ℕ) (o : Object) → object_in bytes ≡ Some o → object_found bytes ≡ Some o
+SameObjects = (bytes : List ℕ) (o : Object) → object_in bytes ≡ Some o → have_room (room_in (length bytes)) 0 o.entries ≡ true → object_found bytes ≡ Some o

@@ -1,6 +1,7 @@
 -- Short imports and archives byte by byte, and bytes that are none; a library with changed bytes.
-use Rattle.std.specs.Prelude.{◌≡◌, ℕ, ◌+◌, List, [], ◌∷◌, ◌++◌, Option, None, Some, codes, drop, take}
+use Rattle.std.specs.Prelude.{◌≡◌, ℕ, ◌+◌, false, true, List, [], ◌∷◌, ◌++◌, Option, None, Some, codes, drop, take}
 use Rattle.std.specs.Option.{option_and_then, option_map}
+use Rattle.implib.specs.Formats.Object.{Entry, ASymbol, Auxiliary}
 use Rattle.implib.specs.Import.{Name, Import}
 use Rattle.implib.specs.Worked.Digits.{hex}
 use Rattle.implib_read.specs.Archives.{Part, archive_in, parts_in}
@@ -8,6 +9,7 @@ use Rattle.implib_read.specs.Classes.{Class, NotUnderstood, MemberRead, library_
 use Rattle.implib_read.specs.Leads.{first_declarer, wrong_entries}
 use Rattle.implib_read.specs.Indexes.{IndexEntry, first_index_in, second_index_in}
 use Rattle.implib_read.specs.MemberNames.{MemberName, Named, NameAt, LinkerMember, LongNamesMember, Special, long_name_of, member_name}
+use Rattle.implib_read.specs.Objects.{have_room, room_in, within_room}
 use Rattle.implib_read.specs.ShortImports.{import_of_found, short_import_found}
 use Rattle.implib_read.specs.WorkedLibraries.{of_foo, worked_ld}
 use Rattle.implib_read.specs.declared.import.ImportKind.TheVariants.{CodeOrConst}
@@ -45,6 +47,7 @@ pub record WorkedShortImports : Type 0 where
   -- a third text by name type 1, and none by name type 4
   pub third_text : short_import_found (changed 18 4 worked_exported) ≡ None
   pub no_third_text : short_import_found (changed 18 16 worked_by_name) ≡ None
+  pub byte_after_third_text : short_import_found (changed 12 0x14 (worked_exported ++ 0 ∷ [])) ≡ None
   -- a size that is one too small; a byte after; the last NUL missing
   pub size : short_import_found (changed 12 11 worked_by_name) ≡ None
   pub byte_more : short_import_found (worked_by_name ++ 0 ∷ []) ≡ None
@@ -54,6 +57,23 @@ pub record WorkedShortImports : Type 0 where
   pub name_type : imported (changed 18 20 worked_by_name) ≡ None
   -- nor has a short import of ARM64EC
   pub arm64ec : imported (changed 6 0x41 (changed 7 0xA6 worked_by_name)) ≡ None
+
+-- a symbol of this name
+abbrev pub symbol_named : List ℕ → Entry
+symbol_named name = ASymbol (record { name = name; value = 0; section = 0; kind = 0; class = 2 })
+
+-- Which names have room: those of sixteen entries, whatever they are, and of more those that are together no longer
+-- than the room.
+pub record WorkedRoom : Type 0 where
+  pub room : room_in 10 ≡ 160
+  pub sixteenth : have_room 0 15 (symbol_named (codes "abc") ∷ []) ≡ true
+  pub seventeenth : have_room 3 16 (symbol_named (codes "abc") ∷ []) ≡ true
+  pub too_long : have_room 2 16 (symbol_named (codes "abc") ∷ []) ≡ false
+  pub together : have_room 6 16 (symbol_named (codes "abc") ∷ symbol_named (codes "def") ∷ []) ≡ true
+  pub too_long_together : have_room 5 16 (symbol_named (codes "abc") ∷ symbol_named (codes "def") ∷ []) ≡ false
+  pub first_free : have_room 3 15 (symbol_named (codes "abcd") ∷ symbol_named (codes "def") ∷ []) ≡ true
+  pub auxiliary : have_room 0 16 (Auxiliary (codes "abc") ∷ []) ≡ true
+  pub none_kept : within_room 0 [] ≡ Some []
 
 -- an archive of one member of one byte, without the padding of that: 69 bytes
 unfoldable pub worked_unpadded : List ℕ

@@ -5,7 +5,7 @@ ghost use Rattle.implib_read.specs.Objects.{SameObjects};
 ghost use Rattle.implib_read.specs.OwnLibraries.{OwnGnuLibraries, OwnMembersFound, OwnMsvcLibraries};
 ghost use Rattle.implib_read.specs.ShortImports.{SameShortImports};
 ghost use Rattle.implib_read.specs.Symbols.{WorkedSymbols};
-ghost use Rattle.implib_read.specs.WorkedFiles.{WorkedChanges, WorkedIndexes, WorkedLeads, WorkedNames, WorkedParts, WorkedShortImports};
+ghost use Rattle.implib_read.specs.WorkedFiles.{WorkedChanges, WorkedIndexes, WorkedLeads, WorkedNames, WorkedParts, WorkedRoom, WorkedShortImports};
 ghost use Rattle.implib_read.specs.WorkedLibraries.{WorkedLibraries};
 ghost use Rattle.implib_read.specs.WorkedOwn.{WorkedOwnGnuLibraries, WorkedOwnLibraries};
 
@@ -43,6 +43,11 @@ pub fn worked_parts()
 /// What name fields and long names say.
 pub fn worked_names()
     ensures { WorkedNames }
+{}
+
+/// Which names of an object's symbols have room, and which have none.
+pub fn worked_room()
+    ensures { WorkedRoom }
 {}
 
 /// By which symbol an import is linked, by what it declares.

@@ -1,10 +1,11 @@
 //! Objects.
 
 ghost use Rattle.std.specs.Prelude.{◌≡◌, ℕ, ◌+◌, ◌<◌, ◌≤◌, ◌^◌, length, drop, map, slice_get, IsSome, IfOk};
-ghost use Rattle.std.specs.Option.{option_map};
+ghost use Rattle.std.specs.Option.{option_and_then, option_map};
 ghost use Rattle.implib.specs.Formats.Object.{before_nul, data_at, each_at, entries_at, name_of, relocation_at, relocation_of};
 ghost use Rattle.implib.specs.Formats.Object.{section_at, section_of, strings_at, symbol_of};
-ghost use Rattle.implib_read.specs.Objects.{begins_with_zeros, entries_found, entry_at, object_found, object_of_found, relocations_of};
+ghost use Rattle.implib_read.specs.Objects.{begins_with_zeros, entries_found, entry_at, name_length, object_found, object_of_found};
+ghost use Rattle.implib_read.specs.Objects.{relocations_of, room_after, within_room};
 ghost use Rattle.implib_read.specs.ObjectViews.{entry_view, object_view, section_view, symbol_view};
 
 use crate::fields::{before_nul, behind, bytes_at, u16_at, u32_at, up_to_nul};
@@ -248,7 +249,32 @@ fn entry_at<'a>(
     }
 }
 
-/// The entries from an offset on.
+/// The length of an entry's name.
+fn name_length(entry: &Entry) -> usize
+    ensures { result ≡ name_length (entry_view entry.now) }
+{
+    match entry {
+        Entry::Symbol(symbol) => symbol.name.len(),
+        Entry::Auxiliary(_) => 0,
+    }
+}
+
+/// The room for names that is left after an entry, of which a number stand before.
+fn room_after(room: usize, number: usize, entry: &Entry) -> Option<usize>
+    ensures { result ≡ room_after room number (entry_view entry.now) }
+{
+    if number < 16 {
+        return Some(room);
+    }
+    let length = name_length(entry);
+    if length <= room {
+        Some(room - length)
+    } else {
+        None
+    }
+}
+
+/// The entries from an offset on, if there is room for their names.
 fn entries_at<'a>(
     alloc: Global,
     bytes: &'a [u8],
@@ -257,9 +283,10 @@ fn entries_at<'a>(
     count: u32,
 ) -> Result<Option<Vec<Entry<'a>>>, AllocError>
     requires { offset < 2 ^ 32 }
-    ensures { IfOk result (λ found. option_map (λ v. map entry_view v.items) found ≡ entries_at bytes.now strings.now offset 0 count) }
+    ensures { IfOk result (λ found. option_map (λ v. map entry_view v.items) found ≡ option_and_then (within_room (length bytes.now)) (entries_at bytes.now strings.now offset 0 count)) }
 {
     let mut entries = Vec::new(alloc);
+    let mut room = bytes.len().saturating_mul(16);
     let mut place = offset;
     let mut auxiliary = 0u8;
     let mut left = count;
@@ -267,7 +294,11 @@ fn entries_at<'a>(
         let Some((entry, behind)) = entry_at(bytes, strings, place, auxiliary) else {
             return Ok(None);
         };
+        let Some(left_room) = room_after(room, entries.len(), &entry) else {
+            return Ok(None);
+        };
         entries.push(entry)?;
+        room = left_room;
         place += 18;
         auxiliary = behind;
         left -= 1;
@@ -331,9 +362,11 @@ fn object_of_found<'a>(
 }
 
 impl<'a> Object<'a> {
-    /// The object in the bytes, or `None` where an offset or a count of it leads out of them.
+    /// The object in the bytes, or `None` where an offset or a count of it leads out of them, or
+    /// where names that overlap in the string table are, but for the first sixteen, together longer
+    /// than sixteen times the bytes.
     ///
-    /// The memory is linear in the length of the bytes, whatever the counts say.
+    /// Time and memory are linear in the length of the bytes, whatever the counts say.
     #[tactic(auto, unfolding(crate::specs::Objects::object_found))]
     pub fn read(alloc: Global, bytes: &'a [u8]) -> Result<Option<Object<'a>>, AllocError>
         ensures { IfOk result (λ found. option_map object_view found ≡ object_found bytes.now) }
