@@ -1,5 +1,5 @@
 -- What is known of where definitions are read from and libraries go (this project's own).
-use Rattle.std.specs.Prelude.{◌≡◌, ℕ, Bool, true, List, Option, IfSome}
+use Rattle.std.specs.Prelude.{◌≡◌, ℕ, Bool, true, List, Option, None, Some, IfSome}
 
 -- what is known of a disk
 pub record DiskView : Type 0 where
