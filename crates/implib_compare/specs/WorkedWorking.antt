@@ -3,9 +3,10 @@ use Rattle.std.specs.Prelude.{◌≡◌, ℕ, true, false, List, [], ◌∷◌, 
 use Rattle.implib.specs.declared.flavor.Flavor.TheVariants.{Gnu, Msvc}
 use Rattle.implib_read.specs.Archives.{Part, StoredMember}
 use Rattle.implib_read.specs.Classes.{Descriptor, Head, NullDescriptor, NullThunk, Other, Tail}
+use Rattle.implib_read.specs.Indexes.{IndexEntry}
 use Rattle.implib_read.specs.MemberNames.{LinkerMember, LongNamesMember, MemberName, Named}
 use Rattle.implib_compare.specs.declared.working.Working.TheVariants.{Broken, NotDecided, Works}
-use Rattle.implib_compare.specs.Working.{both_work, first_misleads, has_whole_tables, linker_member, second_misleads, working_status, works_of}
+use Rattle.implib_compare.specs.Working.{both_work, first_misleads, has_whole_tables, linker_member, misled, second_misleads, working_status, works_of}
 use Rattle.implib_compare.specs.Worked.{member}
 
 -- a part with one byte of data
@@ -46,6 +47,15 @@ pub record WorkedWorking : Type 0 where
   pub second_passed_over : second_misleads short_import (1 ∷ 0 ∷ 0 ∷ 0 ∷ 0x48 ∷ 0 ∷ 0 ∷ 0 ∷ 2 ∷ 0 ∷ 0 ∷ 0 ∷ 1 ∷ 0 ∷ 2 ∷ 0 ∷ codes "f\0f\0") ≡ Some []
   pub second_counts : second_misleads short_import (1 ∷ 0 ∷ 0 ∷ 0 ∷ 0x48 ∷ 0 ∷ 0 ∷ 0 ∷ 2 ∷ 0 ∷ 0 ∷ 0 ∷ 2 ∷ 0 ∷ 1 ∷ 0 ∷ codes "f\0f\0")
       ≡ Some (record { symbol = codes "f"; place = 0 } ∷ [])
+  -- whether indexes mislead: without a first one they do, and one that cannot be read does
+  pub no_index : misled None None ≡ true
+  pub no_first_index : misled None (Some (Some [])) ≡ true
+  pub one_index : misled (Some (Some [])) None ≡ false
+  pub both_indexes : misled (Some (Some [])) (Some (Some [])) ≡ false
+  pub unreadable_first : misled (Some None) None ≡ true
+  pub unreadable_second : misled (Some (Some [])) (Some None) ≡ true
+  pub misled_by_first : misled (Some (Some (record { symbol = codes "f"; place = 0 } ∷ []))) (Some (Some [])) ≡ true
+  pub misled_by_second : misled (Some (Some [])) (Some (Some (record { symbol = codes "f"; place = 0 } ∷ []))) ≡ true
   -- import tables
   pub msvc : has_whole_tables Msvc (member NullThunk ∷ member Descriptor ∷ member Other ∷ member NullDescriptor ∷ []) ≡ true
   pub no_thunk : has_whole_tables Msvc (member Descriptor ∷ member NullDescriptor ∷ []) ≡ false

@@ -1,7 +1,8 @@
 //! Libraries of further makers as worked instances of the reader [`implib_read`]: of Microsoft's linker, winebuild and
-//! rustc. The functions do nothing: their contracts are the instances.
+//! rustc; and the reader's rules at their bounds. The functions do nothing: their contracts are the instances.
 #![tactic(auto)]
 
+ghost use Rattle.implib_read_cases.specs.Bounds.{WorkedBounds};
 ghost use Rattle.implib_read_cases.specs.MoreLibraries.{WorkedDelayed, WorkedMicrosoft, WorkedRustc, WorkedWinebuild};
 
 /// What a library of Microsoft's linker means, worked by hand.
@@ -22,4 +23,9 @@ pub fn worked_delayed()
 /// What the import library in a crate of rustc means, worked by hand.
 pub fn worked_rustc()
     ensures { WorkedRustc }
+{}
+
+/// What sections, thunks and types mean at the bounds of the reader's rules, worked by hand.
+pub fn worked_bounds()
+    ensures { WorkedBounds }
 {}
