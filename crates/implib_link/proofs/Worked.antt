@@ -54,3 +54,4 @@ pub mod MoreCalls
 pub mod NearLinks
 pub mod NearResults
 pub mod NearTaken
+pub mod A32

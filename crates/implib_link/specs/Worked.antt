@@ -51,3 +51,4 @@ pub mod MoreCalls
 pub mod NearLinks
 pub mod NearResults
 pub mod NearTaken
+pub mod A32
