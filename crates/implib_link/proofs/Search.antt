@@ -25,3 +25,5 @@ pub mod MsvcGiven
 pub mod MsvcRooms
 pub mod MsvcExists
 pub mod NamedApart
+pub mod BothMembers
+pub mod BothArchives
