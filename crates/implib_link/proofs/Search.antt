@@ -27,3 +27,5 @@ pub mod MsvcExists
 pub mod NamedApart
 pub mod BothMembers
 pub mod BothArchives
+pub mod BothArranged
+pub mod BothClosed

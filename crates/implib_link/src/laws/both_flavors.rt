@@ -1,9 +1,12 @@
 //! Laws of an archive in which some libraries' members are for GNU's linker and others' for
 //! Microsoft's.
 
+ghost use Rattle.implib.specs.Formats.Object.{Object};
+ghost use Rattle.implib.specs.Link.Placement.{Bases};
 ghost use Rattle.implib.specs.Members.MemberSpec.{MemberView};
 ghost use Rattle.implib.specs.declared.machine.MachineType.{MachineType};
 ghost use Rattle.implib_link.specs.Search.BothFlavors.{FlavorLibrary, IsFlavorArchive};
+ghost use Rattle.implib_link.specs.Search.BothFlavors.{IsClosedForBoth, LinksClosedForBoth};
 ghost use Rattle.implib_link.specs.Search.BothFlavors.{NamesNoMembers, TakesOfBoth};
 ghost use Rattle.implib_link.specs.Search.BothFlavors.{archive_of_both};
 ghost use Rattle.implib_link.specs.Search.Msvc.{TakesFor};
@@ -20,4 +23,21 @@ pub fn libraries_of_both_flavors_are_searched()
         NamesNoMembers machine libraries (wanted_with_weak machine wanted taken) →
         TakesFor machine (archive_of_both libraries) wanted taken →
         TakesOfBoth machine libraries wanted taken }
+{}
+
+/// Given objects and what a linker takes for them of such an archive are a program of these DLLs,
+/// which imports exactly the exports that are named by symbols that the given objects, or the
+/// aliases that are taken for them, leave unresolved; and no name is left unresolved that the
+/// archive lists. Some short import is wanted, so that there is a null descriptor.
+///
+/// The given objects may claim symbols of the libraries, but for those of the members that are
+/// taken. The libraries may be linked in another order than that of the archive, and the null
+/// descriptor, that of the first library for Microsoft's linker, is anywhere among the members.
+pub fn closed_program_of_both_flavors_links()
+    ensures links { (machine : MachineType) (libraries : List FlavorLibrary) (own : List Object)
+        (taken : List MemberView) (arranged : List FlavorLibrary) (bases : Bases)
+        (objects : List Object) →
+        IsFlavorArchive machine libraries →
+        IsClosedForBoth machine libraries own taken arranged bases objects →
+        LinksClosedForBoth machine libraries own taken arranged bases objects }
 {}
