@@ -55,3 +55,4 @@ pub mod NearLinks
 pub mod NearResults
 pub mod NearTaken
 pub mod A32
+pub mod BothFlavors

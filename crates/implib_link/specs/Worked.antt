@@ -52,3 +52,4 @@ pub mod NearLinks
 pub mod NearResults
 pub mod NearTaken
 pub mod A32
+pub mod BothFlavors

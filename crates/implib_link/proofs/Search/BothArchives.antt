@@ -1,7 +1,7 @@
 -- What a linker takes of an archive of both flavours.
-use Rattle.std.proofs.Common.{◌≡◌, ℕ, ◌⊎◌, true, false, List, [], ◌∷◌, ◌++◌, Option, Some, refl, ap, sym, ◌∙◌, subst, inl, inr}
+use Rattle.std.proofs.Common.{◌≡◌, ℕ, ◌⊎◌, true, false, List, [], ◌∷◌, ◌++◌, Some, refl, ap, sym, ◌∙◌, subst, inl, inr}
 use Rattle.std.specs.Prelude.{bytes_eq, not, slice_get}
-use Rattle.std.specs.List.{filter, flat_map, list_any}
+use Rattle.std.specs.List.{flat_map, list_any}
 use Rattle.std.proofs.lemmas.Bool.{cases_Bool, false_from_ne_true, true≢false}
 use Rattle.implib.specs.declared.flavor.Flavor.TheVariants.{Gnu, Msvc}
 use Rattle.implib.specs.declared.machine.MachineType.{MachineType}
@@ -13,7 +13,6 @@ use Rattle.implib.specs.Link.LinkedMembers.{all_linked}
 use Rattle.implib.specs.Members.Gnu.{archive_symbols, head_object, head_symbol, iname_symbol, tail_object}
 use Rattle.implib.specs.Members.MemberSpec.{MemberView}
 use Rattle.implib.specs.Members.Msvc.{short_import_symbol, short_import_symbols}
-use Rattle.implib.specs.Members.MsvcMembers.{descriptor_spec, null_descriptor_spec, null_thunk_spec}
 use Rattle.implib.specs.Members.MsvcObjects.{descriptor_symbol, null_descriptor_symbol, null_thunk_symbol}
 use Rattle.implib.proofs.Link.LinkedMembers.{among_contains}
 use Rattle.implib.proofs.Link.Placement.{export, head, tail}
@@ -21,10 +20,10 @@ use Rattle.implib.proofs.Link.Ranges.{Among, all_among, among_back, among_first,
 use Rattle.implib_link.specs.Flavors.Expansion.{descriptor_symbol_by_name, expanded_in}
 use Rattle.implib_link.specs.Flavors.Program.{all_members, ask_in, objects_taken}
 use Rattle.implib_link.specs.Gnu.Program.{claimed_names}
-use Rattle.implib_link.specs.Search.Archives.{IsWeakData, Library, exports_of, has_weak, inputs_wanted}
+use Rattle.implib_link.specs.Search.Archives.{Library, exports_of, has_weak, inputs_wanted}
 use Rattle.implib_link.specs.Search.BothFlavors.{FlavorLibrary, IsFlavorArchive, IsWeakOfBoth, NamesNoMembers, TakesOfBoth, archive_of_both, gnu_among, msvc_among}
 use Rattle.implib_link.specs.Search.Msvc.{AreTakenInTurn, NamesNoHeader, TakesFor, claimed_in, left_in}
-use Rattle.implib_link.specs.Search.MsvcArchives.{IsWeakShort, first_null, is_import_wanted, is_short_alias, is_weak_in, others_in, short_inputs, shorts_linked, wanted_with_weak, weak_in}
+use Rattle.implib_link.specs.Search.MsvcArchives.{first_null, is_import_wanted, is_short_alias, is_weak_in, others_in, short_inputs, shorts_linked, wanted_with_weak, weak_in}
 use Rattle.implib_link.specs.Search.Search.{NamesNoHeadOrTail, exports_wanted, first_listed, is_listed_for, is_wanted, undefined_in}
 use Rattle.implib_link.proofs.Flavors.Block.{asking, use_for}
 use Rattle.implib_link.proofs.Flavors.Expanded.{taken_descriptor, taken_null, taken_null_thunk}
@@ -38,7 +37,7 @@ use Rattle.implib_link.proofs.Search.Lists.{among_at, among_either, any_among, a
 use Rattle.implib_link.proofs.Search.Msvc.{left_asking, left_descriptor, left_null, left_thunk, name_taken, taken_name}
 use Rattle.implib_link.proofs.Search.MsvcArchives.{AShort, AnyImport, Linked, TheDescriptor, TheThunk, any_of, both_parts, descriptor_plain, import_parts, linked_of, linked_there, member_with, null_or_member, null_plain, null_with, of_linked, short_plain, there_linked, thunk_plain, weak_by, weak_is_weak}
 use Rattle.implib_link.proofs.Search.MsvcClosed.{pulled}
-use Rattle.implib_link.proofs.Search.MsvcMembers.{FoundDescriptor, FoundNull, FoundShort, FoundThunk, FoundWeak as FoundShortWeak, IsPair, descriptor_found, descriptor_is, descriptor_of, left_weak, null_found, null_is, null_of, short_found, short_is, short_of, taken_weak, thunk_found, thunk_is, thunk_of, weak_is, weak_of as short_weak_of}
+use Rattle.implib_link.proofs.Search.MsvcMembers.{FoundDescriptor, FoundNull, FoundShort, FoundThunk, FoundWeak as FoundShortWeak, IsPair, descriptor_found, descriptor_is, descriptor_of, null_found, null_is, null_of, short_found, short_is, short_of, taken_weak, thunk_found, thunk_is, thunk_of, weak_is, weak_of as short_weak_of}
 use Rattle.implib_link.proofs.Search.Search.{AnExport, AnyWanted, Needed, TheHead, TheTail, any_wanted, in_nothing, left_export, left_head, left_tail, linked_if_needed, needed_if_linked, numbers_are_wanted, only_one, wanted_name, wants}
 
 -- Which members for GNU's linker are weak externals, as a linker for a machine takes them.

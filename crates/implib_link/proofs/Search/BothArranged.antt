@@ -1,6 +1,6 @@
 -- What is linked of an archive of both flavours, where the libraries may be in another order; and that its symbols differ,
 -- since those do that the archive lists.
-use Rattle.std.proofs.Common.{◌≡◌, ℕ, ◌+◌, ◌≤◌, ◌⊎◌, true, false, List, [], ◌∷◌, ◌++◌, map, Option, Some, None, refl, ap, sym, ◌∙◌, subst, inl, inr, arith}
+use Rattle.std.proofs.Common.{◌≡◌, ℕ, ◌+◌, ◌≤◌, ◌⊎◌, false, List, [], ◌∷◌, ◌++◌, map, Option, Some, None, refl, ap, sym, ◌∙◌, subst, inl, inr, arith}
 use Rattle.std.specs.Prelude.{IsPermutation, bytes_eq}
 use Rattle.std.specs.List.{AllByRecursion, IsDistinct, cons_option, flat_map, list_any}
 use Rattle.std.specs.Option.{option_map}
@@ -16,20 +16,18 @@ use Rattle.implib.proofs.Link.Ranges.{Among, all_among, among_flat}
 use Rattle.implib_link.specs.Flavors.Program.{FlavorInput, IsFoundByName, IsMadeFor, all_members, dll_names_in, members_linked, symbols_listed}
 use Rattle.implib_link.specs.Flavors.Expansion.{descriptor_symbol_by_name}
 use Rattle.std.proofs.lemmas.List.Sorted.{IsPermutation-sym}
-use Rattle.implib_link.specs.Search.Archives.{Library, exports_of, input_if_any, inputs_wanted, symbols_of_library}
+use Rattle.implib_link.specs.Search.Archives.{Library, input_if_any, inputs_wanted, symbols_of_library}
 use Rattle.implib_link.specs.Search.BothFlavors.{FlavorLibrary, IsFlavorArchive, flavor_input, flavor_inputs, gnu_among, gnu_input, if_gnu, if_msvc, msvc_among}
 use Rattle.implib_link.specs.Search.MsvcArchives.{imports_wanted, short_input_if_any, short_inputs, symbols_of_shorts}
 use Rattle.implib_link.specs.Search.Search.{exports_wanted}
 use Rattle.implib_link.proofs.Flavors.Block.{symbols_of}
 use Rattle.implib_link.proofs.Flavors.Blocks.{FlavorBlock}
 use Rattle.implib_link.proofs.Flavors.Inputs.{block_in, inputs_symbols}
-use Rattle.implib_link.proofs.Search.Arranged.{all_each, among_moved, flat_among, input_behind, input_for, input_from, input_front, input_is, library_fewer as gnu_fewer}
+use Rattle.implib_link.proofs.Search.Arranged.{all_each, among_moved, flat_among, input_behind, input_from, input_front, input_is, library_fewer as gnu_fewer}
 use Rattle.implib_link.proofs.Search.BothMembers.{gnu_made, msvc_made}
-use Rattle.implib_link.proofs.Search.Closed.{there_not}
 use Rattle.implib_link.proofs.Search.Counts.{distinct_from, few_from, none_times, times, times_both, times_moved}
-use Rattle.implib_link.proofs.Search.Lists.{any_among, among_either}
-use Rattle.implib_link.proofs.Search.MsvcArchives.{AnyImport}
-use Rattle.implib_link.proofs.Search.MsvcArranged.{library_fewer as short_fewer, short_input_for, short_input_is}
+use Rattle.implib_link.proofs.Search.Lists.{any_among}
+use Rattle.implib_link.proofs.Search.MsvcArranged.{library_fewer as short_fewer, short_input_is}
 
 -- Libraries of one flavour, in another order.
 

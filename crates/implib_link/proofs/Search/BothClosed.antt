@@ -1,34 +1,33 @@
 -- A closed program of an archive of both flavours links.
 use Rattle.std.proofs.Common.{◌≡◌, ℕ, ◌+◌, ◌*◌, ◌⊎◌, true, false, List, [], ◌∷◌, ◌++◌, Option, Some, refl, ap, sym, ◌∙◌, subst, inl, inr}
-use Rattle.std.specs.Prelude.{IsPermutation, bytes_eq, not, slice_get}
+use Rattle.std.specs.Prelude.{◌<◌, ◌^◌, IsPermutation, bytes_eq, not, slice_get}
 use Rattle.std.specs.List.{AllByRecursion, Contains, filter, flat_map, list_any}
 use Rattle.std.proofs.lemmas.Bool.{cases_Bool, true≢false}
 use Rattle.std.proofs.lemmas.Grind.{flat_map-append}
 use Rattle.std.proofs.lemmas.List.Sorted.{IsPermutation-sym}
-use Rattle.implib.specs.declared.flavor.Flavor.{Flavor}
-use Rattle.implib.specs.declared.flavor.Flavor.TheVariants.{Gnu, Msvc}
+use Rattle.implib.specs.declared.flavor.Flavor.TheVariants.{Msvc}
 use Rattle.implib.specs.declared.machine.MachineType.{MachineType}
 use Rattle.implib.specs.Definition.{ExportView}
 use Rattle.implib.specs.Formats.Object.{Object}
 use Rattle.implib.specs.Import.{imp_symbol}
 use Rattle.implib.specs.LibraryName.{linked_dll, linked_name, names_for}
 use Rattle.implib.specs.Link.Linked.{IsDefinedOnce}
-use Rattle.implib.specs.Link.LinkedMembers.{LinkInput, all_linked}
+use Rattle.implib.specs.Link.LinkedMembers.{all_linked}
 use Rattle.implib.specs.Link.Placement.{Bases, placed_from}
 use Rattle.implib.specs.Link.Resolution.{definitions_of}
 use Rattle.implib.specs.Members.Gnu.{archive_symbols, head_symbol, iname_symbol}
 use Rattle.implib.specs.Members.ImportTables.{thunk_width}
 use Rattle.implib.specs.Members.MemberSpec.{MemberView}
-use Rattle.implib.specs.Members.Msvc.{short_import_symbol, short_import_symbols}
+use Rattle.implib.specs.Members.Msvc.{short_import_symbols}
 use Rattle.implib.specs.Members.MsvcMembers.{null_descriptor_spec}
 use Rattle.implib.specs.Members.MsvcObjects.{descriptor_symbol, null_descriptor_symbol, null_thunk_symbol}
 use Rattle.implib.proofs.Link.LinkedMembers.{among_contains}
-use Rattle.implib.proofs.Link.Ranges.{Among, all_among, among_back, among_first, among_flat, among_front, among_later}
+use Rattle.implib.proofs.Link.Ranges.{Among, all_among, among_back, among_first, among_flat, among_front}
 use Rattle.implib_link.specs.Flavors.Expansion.{expanded_in}
-use Rattle.implib_link.specs.Flavors.Program.{AreFlavorObjects, FlavorInput, FlavorsLink, IsFlavorProgram, IsMadeFor, all_members, exports_chosen, null_member, objects_taken, symbol_in, symbols_listed, thunks_of}
+use Rattle.implib_link.specs.Flavors.Program.{AreFlavorObjects, FlavorInput, FlavorsLink, IsFlavorProgram, IsMadeFor, all_members, exports_chosen, null_member, objects_taken, symbols_listed, thunks_of}
 use Rattle.implib_link.specs.Gnu.Program.{ClaimsNone, claimed_names, has_tables}
 use Rattle.implib_link.specs.Search.Archives.{Library, exports_of, inputs_wanted}
-use Rattle.implib_link.specs.Search.BothFlavors.{AreClosedForBoth, FlavorLibrary, IsClosedForBoth, IsFlavorArchive, IsImportedOfBoth, IsUsedIn, LinksClosedForBoth, TakesOfBoth, archive_of_both, flavor_inputs, gnu_among, gnu_input, inputs_of_both, msvc_among, symbols_in}
+use Rattle.implib_link.specs.Search.BothFlavors.{AreClosedForBoth, FlavorLibrary, IsClosedForBoth, IsFlavorArchive, IsImportedOfBoth, IsUsedIn, LinksClosedForBoth, TakesOfBoth, archive_of_both, gnu_among, gnu_input, inputs_of_both, msvc_among}
 use Rattle.implib_link.specs.Search.Closed.{listed_in, unresolved}
 use Rattle.implib_link.specs.Search.Msvc.{NamesNoHeader, TakesFor, claimed_in, left_in}
 use Rattle.implib_link.specs.Search.MsvcArchives.{first_null, is_import_wanted, is_short_alias, is_weak_in, others_in, short_inputs, shorts_linked, weak_in}
@@ -37,7 +36,9 @@ use Rattle.implib_link.specs.Search.Search.{NamesNoHeadOrTail, exports_wanted, f
 use Rattle.implib_link.proofs.Flavors.Expanded.{taken_null}
 use Rattle.implib_link.proofs.Flavors.Inputs.{null_object}
 use Rattle.implib_link.proofs.Flavors.Loaded.{entry_of}
+use Rattle.implib_link.proofs.Flavors.Packed.{packed_flavors}
 use Rattle.implib_link.proofs.Flavors.Program.{flavors_link}
+use Rattle.implib_link.specs.Gnu.Packed.{packed, packed_end}
 use Rattle.implib_link.proofs.Search.ArchiveGroups.{export_of, weak_of as data_weak_of}
 use Rattle.implib_link.proofs.Search.ArchiveMembers.{FoundExport, FoundHead, FoundTail, FoundWeak as FoundDataWeak}
 use Rattle.implib_link.proofs.Search.Archives.{linked_of as data_linked_of, of_linked as of_data_linked}
@@ -52,7 +53,7 @@ use Rattle.implib_link.proofs.Search.MsvcArchives.{AShort, AnyImport, TheDescrip
 use Rattle.implib_link.proofs.Search.MsvcArranged.{short_input_for, short_input_held, short_input_is}
 use Rattle.implib_link.proofs.Search.MsvcClosed.{by_symbol, first_one, null_tables, pulled, takes_for}
 use Rattle.implib_link.proofs.Search.MsvcMembers.{FoundDescriptor, FoundNull, FoundShort, FoundThunk, FoundWeak as FoundShortWeak, descriptor_of, null_of, short_of, weak_of as short_weak_of}
-use Rattle.implib_link.proofs.Search.Search.{AnExport, linked_if_needed, listed_export, needed_if_linked, numbers_are_wanted, only_one, wanted_name, wants}
+use Rattle.implib_link.proofs.Search.Search.{AnExport, linked_if_needed, listed_export, numbers_are_wanted, only_one, wanted_name, wants}
 
 no_library : (l : Library) → Among l [] → ⊥
 unfolding Among
@@ -546,3 +547,14 @@ closed_links_of_both machine libraries own taken arranged bases objects archive 
       addresses = is.addresses;
       follows = is.follows;
     })
+
+-- packed placement closes the program
+pub packed_both : (machine : MachineType) (libraries : List FlavorLibrary) (own : List Object) (taken : List MemberView) (arranged : List FlavorLibrary) (first : ℕ) (objects : List Object) →
+    IsFlavorArchive machine libraries → AreClosedForBoth machine libraries own taken arranged objects → 0 < first → packed_end first objects < 2 ^ 31 →
+    IsClosedForBoth machine libraries own taken arranged (packed first objects) objects
+packed_both machine libraries own taken arranged first objects archive closed above below =
+    let inputs : List FlavorInput = inputs_of_both machine arranged own taken in
+    let made : AllByRecursion (IsMadeFor machine) inputs = both_made machine libraries arranged closed.order archive (wanted_for machine own taken) in
+    let program : IsFlavorProgram machine (packed first objects) inputs objects =
+    packed_flavors machine first inputs objects made (both_held machine libraries archive own taken arranged objects closed) above below in
+    record { closed = closed; admissible = program.admissible; lookups = program.lookups; addresses = program.addresses; follows = program.follows }

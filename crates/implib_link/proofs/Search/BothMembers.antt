@@ -1,5 +1,5 @@
 -- The members of an archive of both flavours: which of them a name finds, and what a linker takes them for.
-use Rattle.std.proofs.Common.{◌≡◌, ℕ, ◌+◌, ◌⊎◌, true, false, List, [], ◌∷◌, ◌++◌, Option, Some, None, refl, ap, sym, ◌∙◌, subst, inl, inr, arith}
+use Rattle.std.proofs.Common.{◌≡◌, ℕ, ◌+◌, ◌⊎◌, true, false, List, [], ◌∷◌, ◌++◌, Some, None, refl, ap, sym, ◌∙◌, subst, inl, inr, arith}
 use Rattle.std.specs.Prelude.{bytes_eq, reverse, slice_get}
 use Rattle.std.specs.List.{cons_option, flat_map, list_any}
 use Rattle.implib.specs.declared.flavor.Flavor.{Flavor}
@@ -9,10 +9,10 @@ use Rattle.implib.specs.Definition.{ExportView}
 use Rattle.implib.specs.Formats.File.{file_in}
 use Rattle.implib.specs.Formats.Object.{Object}
 use Rattle.implib.specs.Import.{is_alias}
-use Rattle.implib.specs.LibraryName.{NamesOfDll, linked_dll, linked_name, names_for}
+use Rattle.implib.specs.LibraryName.{NamesOfDll, linked_name, names_for}
 use Rattle.implib.specs.Members.Gnu.{archive_symbols, head_symbol, iname_symbol, weak_name}
 use Rattle.implib.specs.Members.GnuMembers.{alias_specs, export_spec, gnu_specs, head_spec, numbered_specs, numbered_specs_of, tail_spec}
-use Rattle.implib.specs.Members.MemberSpec.{MemberSpec, MemberView, file_bytes, member_of}
+use Rattle.implib.specs.Members.MemberSpec.{MemberSpec, MemberView, file_bytes}
 use Rattle.implib.specs.Members.ReadBack.{file_of}
 use Rattle.implib.specs.Members.Msvc.{short_import_symbol, short_import_symbols}
 use Rattle.implib.specs.Members.MsvcMembers.{descriptor_spec, null_descriptor_spec, null_thunk_spec}
@@ -20,7 +20,7 @@ use Rattle.implib.specs.Members.MsvcObjects.{descriptor_symbol, null_descriptor_
 use Rattle.implib.specs.Members.WeakExternal.{weak_spec}
 use Rattle.implib.proofs.Link.LinkedMembers.{among_reverse}
 use Rattle.implib.proofs.Link.Placement.{export, head, tail}
-use Rattle.implib.proofs.Link.Ranges.{Among, all_among, among_back, among_first, among_flat, among_front, among_later}
+use Rattle.implib.proofs.Link.Ranges.{Among, all_among, among_back, among_first, among_flat, among_later}
 use Rattle.implib.proofs.Members.GnuReadings.{member_specs_read}
 use Rattle.implib.proofs.Members.MemberReadings.{ReadsBack}
 use Rattle.implib_link.specs.Flavors.Expansion.{expanded_in}
@@ -28,7 +28,7 @@ use Rattle.implib_link.specs.Flavors.Program.{ask_in}
 use Rattle.implib_link.specs.Gnu.Program.{claimed_names}
 use Rattle.implib_link.specs.Search.Archives.{IsLibrary, Library, archive_of, exports_of, symbols_of_export, symbols_of_library}
 use Rattle.implib_link.specs.Search.BothFlavors.{FlavorLibrary, IsFlavorArchive, archive_of_both, gnu_among, if_gnu, if_msvc, msvc_among}
-use Rattle.implib_link.specs.Search.MsvcArchives.{IsMsvcLibrary, is_short_alias, symbols_of_short, symbols_of_shorts}
+use Rattle.implib_link.specs.Search.MsvcArchives.{IsMsvcLibrary, symbols_of_short, symbols_of_shorts}
 use Rattle.implib_link.specs.Search.Search.{first_listed}
 use Rattle.implib_link.proofs.Flavors.Block.{asking}
 use Rattle.implib_link.proofs.Flavors.Claims.{claims_asking, claims_descriptor, claims_null, claims_thunk}

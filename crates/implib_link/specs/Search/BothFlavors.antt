@@ -19,7 +19,7 @@ use Rattle.implib.specs.Members.ImportTables.{thunk_width}
 use Rattle.implib.specs.Members.MemberSpec.{MemberView}
 use Rattle.implib.specs.Members.Msvc.{short_import_symbols}
 use Rattle.implib.specs.Members.MsvcObjects.{null_descriptor_symbol}
-use Rattle.implib_link.specs.Flavors.Program.{FlavorInput, FlavorsLink, IsCode, IsFlavorProgram, all_members, exports_chosen, objects_taken, symbol_in, thunks_of}
+use Rattle.implib_link.specs.Flavors.Program.{FlavorInput, FlavorsLink, IsFlavorProgram, all_members, exports_chosen, objects_taken, symbol_in, thunks_of}
 use Rattle.implib_link.specs.Gnu.Packed.{group_end}
 use Rattle.implib_link.specs.Gnu.Program.{ClaimsNone, has_tables}
 use Rattle.implib_link.specs.Search.Archives.{IsArchive, IsWeakData, Library, NamesNoHeadOrTailOf, archive_of, input_if_any, inputs_wanted, symbols_of_library}

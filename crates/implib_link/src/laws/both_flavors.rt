@@ -11,6 +11,11 @@ ghost use Rattle.implib_link.specs.Search.BothFlavors.{NamesNoMembers, TakesOfBo
 ghost use Rattle.implib_link.specs.Search.BothFlavors.{archive_of_both};
 ghost use Rattle.implib_link.specs.Search.Msvc.{TakesFor};
 ghost use Rattle.implib_link.specs.Search.MsvcArchives.{wanted_with_weak};
+ghost use Rattle.implib_link.specs.Worked.BothFlavors.{NearAreClosedForBoth, NearIsClosedForBoth};
+ghost use Rattle.implib_link.specs.Worked.BothFlavors.{NearIsFlavorArchive, NearIsImportedOfBoth};
+ghost use Rattle.implib_link.specs.Worked.BothFlavors.{NearIsUsedIn, NearLinksClosedForBoth};
+ghost use Rattle.implib_link.specs.Worked.BothFlavors.{NearNamesNoMembers, NearTakesOfBoth};
+ghost use Rattle.implib_link.specs.Worked.BothFlavors.{WorkedBoth};
 ghost use Rattle.std.specs.Prelude.{ℕ, List};
 
 /// From such an archive a linker takes exactly the members of the exports that are wanted, by the
@@ -40,4 +45,22 @@ pub fn closed_program_of_both_flavors_links()
         IsFlavorArchive machine libraries →
         IsClosedForBoth machine libraries own taken arranged bases objects →
         LinksClosedForBoth machine libraries own taken arranged bases objects }
+{}
+
+/// A closed program by hand, of an object that names data of one library by an alias and a function
+/// of another, of the other flavour, by its pointer.
+pub fn worked_both_flavors()
+    ensures worked { WorkedBoth }
+{}
+
+/// What is no archive of both flavours, is not taken of it, and closes no program.
+pub fn near_misses_of_both_flavors()
+    ensures archive { NearIsFlavorArchive }
+    ensures names { NearNamesNoMembers }
+    ensures takes { NearTakesOfBoth }
+    ensures objects { NearAreClosedForBoth }
+    ensures closed { NearIsClosedForBoth }
+    ensures imported { NearIsImportedOfBoth }
+    ensures used { NearIsUsedIn }
+    ensures links { NearLinksClosedForBoth }
 {}
