@@ -29,3 +29,4 @@ pub mod BothMembers
 pub mod BothArchives
 pub mod BothArranged
 pub mod BothClosed
+pub mod BothGiven

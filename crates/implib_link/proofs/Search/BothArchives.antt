@@ -42,11 +42,11 @@ use Rattle.implib_link.proofs.Search.Search.{AnExport, AnyWanted, Needed, TheHea
 
 -- Which members for GNU's linker are weak externals, as a linker for a machine takes them.
 
-tail_has_none : (machine : MachineType) (dll : NamesOfDll) → has_weak (Some (tail machine dll)) ≡ false
+pub tail_has_none : (machine : MachineType) (dll : NamesOfDll) → has_weak (Some (tail machine dll)) ≡ false
 unfolding tail_object
 tail_has_none machine dll = refl
 
-head_has_none : (machine : MachineType) (dll : NamesOfDll) → has_weak (Some (head machine dll)) ≡ false
+pub head_has_none : (machine : MachineType) (dll : NamesOfDll) → has_weak (Some (head machine dll)) ≡ false
 unfolding head_object
 head_has_none machine dll = refl
 
@@ -81,7 +81,7 @@ module _ (machine : MachineType) (libraries : List FlavorLibrary) (archive : IsF
   finds : (name own : List ℕ) (m x : MemberView) → first_listed (archive_of_both libraries) name ≡ Some m → name ≡ own → first_listed (archive_of_both libraries) own ≡ Some x → m ≡ x
   finds name own m x is same other = same_first name m x is (ap (first_listed (archive_of_both libraries)) same ∙ other)
 
-  by_name : (l : Library) → Among l (msvc_among libraries) → descriptor_symbol_by_name l.definition.import_name ≡ descriptor_symbol (linked_dll l.definition)
+  pub by_name : (l : Library) → Among l (msvc_among libraries) → descriptor_symbol_by_name l.definition.import_name ≡ descriptor_symbol (linked_dll l.definition)
   by_name l held = all_among (λ (x : Library). descriptor_symbol_by_name x.definition.import_name ≡ descriptor_symbol (linked_dll x.definition)) l (msvc_among libraries) held archive.msvc.found
 
   -- What the fixed names find.
@@ -237,7 +237,7 @@ module _ (machine : MachineType) (libraries : List FlavorLibrary) (archive : IsF
         left_by_weak x o name m there (data_alias_weak x l held n e at alias same) read left is
 
     -- whatever is taken is needed
-    needed : (earlier : List MemberView) → ((m : MemberView) → Among m earlier → Among m taken) → AreTakenInTurn machine (archive_of_both libraries) wanted earlier → (m : MemberView) → Among m earlier →
+    pub needed : (earlier : List MemberView) → ((m : MemberView) → Among m earlier → Among m taken) → AreTakenInTurn machine (archive_of_both libraries) wanted earlier → (m : MemberView) → Among m earlier →
         IsNeededOf all_wanted m
     unfolding Among AreTakenInTurn left_in
     needed [] there turn m held = absurd held

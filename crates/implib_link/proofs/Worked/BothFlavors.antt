@@ -23,19 +23,20 @@ use Rattle.implib_link.specs.Flavors.Program.{FlavorInput, exports_chosen, objec
 use Rattle.implib_link.specs.Gnu.Packed.{group_end, packed_end, sections_end}
 use Rattle.implib_link.specs.Gnu.Program.{ClaimsNone, claimed_names}
 use Rattle.implib_link.specs.Search.Archives.{IsArchive, symbols_of_library}
-use Rattle.implib_link.specs.Search.BothFlavors.{AreClosedForBoth, FlavorLibrary, IsClosedForBoth, IsFlavorArchive, NamesNoMembers, archive_of_both, gnu_among, msvc_among}
+use Rattle.implib_link.specs.Search.BothFlavors.{AreClosedForBoth, AreGivenForBoth, FlavorLibrary, IsClosedForBoth, IsFlavorArchive, NamesNoMembers, archive_of_both, gnu_among, kept_of_both, msvc_among}
 use Rattle.implib_link.specs.Search.Closed.{listed_in, unresolved}
 use Rattle.implib_link.specs.Search.Msvc.{AreTakenInTurn, TakesFor, left_in}
 use Rattle.implib_link.specs.Search.MsvcArchives.{IsMsvcArchive, first_null, symbols_of_shorts, wanted_with_weak}
 use Rattle.implib_link.specs.Search.MsvcClosed.{PullsIntoFor, TakesIntoFor, wanted_for}
 use Rattle.implib_link.specs.Search.Search.{undefined_in}
-use Rattle.implib_link.specs.Worked.BothFlavors.{NearAreClosedForBoth, NearIsClosedForBoth, NearIsFlavorArchive, NearIsImportedOfBoth, NearIsUsedIn, NearLinksClosedForBoth, NearNamesNoMembers, NearTakesOfBoth, WorkedBoth, foo_and_zed, foo_members_taken, mixed_bases, mixed_inputs, mixed_objects, mixed_taken, mixed_without_last, zed_and_foo}
+use Rattle.implib_link.specs.Worked.BothFlavors.{NearAreClosedForBoth, NearAreGivenForBoth, NearIsClosedForBoth, NearIsFlavorArchive, NearIsImportedOfBoth, NearIsUsedIn, NearLinksClosedForBoth, NearNamesNoMembers, NearTakesOfBoth, WorkedBoth, WorkedGivenForBoth, foo_and_zed, foo_members_taken, mixed_bases, mixed_inputs, mixed_objects, mixed_taken, mixed_without_last, zed_and_foo}
 use Rattle.implib_link.specs.Worked.Closed.{choosing, clashing, foo_alias, foo_linked}
 use Rattle.implib_link.specs.Worked.MsvcArchives.{descriptor_named, null_named, short_named, thunk_named}
 use Rattle.implib_link.specs.Worked.MsvcClosed.{zed_members}
 use Rattle.implib_link.specs.Worked.NearSearches.{again}
 use Rattle.implib_link.proofs.Search.BothArchives.{both_taken}
 use Rattle.implib_link.proofs.Search.BothClosed.{closed_links_of_both, packed_both}
+use Rattle.implib_link.proofs.Search.BothGiven.{both_given_ends}
 use Rattle.implib_link.proofs.Search.Closed.{claims_apart, unresolved_parts}
 use Rattle.implib_link.proofs.Search.Lists.{among_any, among_at, any_among, contains_among}
 use Rattle.implib_link.proofs.Search.MsvcClosed.{takes_into}
@@ -209,7 +210,26 @@ worked_both = record {
   clashes = clashes;
 }
 
+given : AreGivenForBoth AMD64 foo_and_zed (choosing ∷ [])
+unfolding searched
+given = record {
+  claims = (claims_none_by (kept_of_both AMD64 foo_and_zed own) choosing refl, tt);
+  names = record { gnu = (record { head = refl; name = refl }, tt); msvc = (record { descriptor = refl; null_descriptor = refl; null_thunk = refl }, tt) };
+}
+
+pub worked_given_for_both : WorkedGivenForBoth
+unfolding searched
+worked_given_for_both = record { given = given; kept = refl; wants = omega arith; ends = both_given_ends AMD64 foo_and_zed own archive given }
+
 -- Near misses.
+
+pub near_are_given_for_both : NearAreGivenForBoth
+unfolding searched
+near_are_given_for_both = record {
+  claims = λ x.
+      let kept : List (List ℕ) = kept_of_both AMD64 foo_and_zed (clashing ∷ []) in
+      true≢false (all_among (λ name. list_any (bytes_eq name) (claimed_names clashing) ≡ false) (codes "queue") (kept_of_both AMD64 foo_and_zed (clashing ∷ [])) (any_among (codes "queue") kept refl) x.claims.0);
+}
 
 pub near_is_flavor_archive : NearIsFlavorArchive
 unfolding searched

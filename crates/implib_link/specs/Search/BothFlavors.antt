@@ -24,8 +24,10 @@ use Rattle.implib_link.specs.Gnu.Packed.{group_end}
 use Rattle.implib_link.specs.Gnu.Program.{ClaimsNone, has_tables}
 use Rattle.implib_link.specs.Search.Archives.{IsArchive, IsWeakData, Library, NamesNoHeadOrTailOf, archive_of, input_if_any, inputs_wanted, symbols_of_library}
 use Rattle.implib_link.specs.Search.Closed.{listed_in, unresolved}
+use Rattle.implib_link.specs.Search.Given.{alias_targets, heads_of, symbols_wanted, tails_of}
 use Rattle.implib_link.specs.Search.Msvc.{left_in}
 use Rattle.implib_link.specs.Search.MsvcArchives.{IsMsvcArchive, IsWeakShort, NamesNoHeaderOf, first_null, imports_wanted, others_in, short_input_if_any, short_inputs, shorts_linked, symbols_of_shorts, wanted_with_weak, weak_in}
+use Rattle.implib_link.specs.Search.MsvcGiven.{headers_of, import_symbols_wanted, short_targets}
 use Rattle.implib_link.specs.Search.MsvcClosed.{IsWeakTaken, TakesIntoFor, wanted_for}
 use Rattle.implib_link.specs.Search.Search.{HaveSame, exports_wanted}
 
@@ -179,3 +181,31 @@ pub record LinksClosedForBoth (machine : MachineType) (libraries : List FlavorLi
       ⊎ IsWeakTaken machine taken name
   pub closed : (name : List ℕ) → Contains (unresolved objects) name →
       Contains (listed_in (archive_of_both libraries)) name → ⊥
+
+-- the symbols by which only members name each other, and the targets of aliases, in all libraries
+abbrev pub headers_of_both : MachineType → List FlavorLibrary → List (List ℕ)
+headers_of_both machine libraries =
+    heads_of machine (gnu_among libraries) ++ (tails_of machine (gnu_among libraries) ++ headers_of (msvc_among libraries))
+
+abbrev pub targets_of_both : List FlavorLibrary → List (List ℕ)
+targets_of_both libraries = alias_targets (gnu_among libraries) ++ short_targets (msvc_among libraries)
+
+-- what is wanted at most: by the given objects, and by aliases
+abbrev pub wanted_of_both : List FlavorLibrary → List Object → List (List ℕ)
+wanted_of_both libraries own = unresolved own ++ targets_of_both libraries
+
+-- the symbols that members alone may claim: those by which only they name each other, aliases' targets, and those of the
+-- exports that are wanted
+abbrev pub kept_of_both : MachineType → List FlavorLibrary → List Object → List (List ℕ)
+kept_of_both machine libraries own =
+    headers_of_both machine libraries
+    ++ (targets_of_both libraries
+    ++ (symbols_wanted (gnu_among libraries) (wanted_of_both libraries own)
+    ++ import_symbols_wanted (msvc_among libraries) (wanted_of_both libraries own)))
+
+-- Objects that may be given to a linker with libraries of both flavours:
+-- `claims`: they claim no symbol that members alone may claim; of exports that they do not want they may;
+-- `names`: they leave no symbol unresolved by which only members name each other, and none is the target of an alias.
+pub record AreGivenForBoth (machine : MachineType) (libraries : List FlavorLibrary) (own : List Object) : Type 0 where
+  pub claims : AllByRecursion (ClaimsNone (kept_of_both machine libraries own)) own
+  pub names : NamesNoMembers machine libraries (wanted_of_both libraries own)

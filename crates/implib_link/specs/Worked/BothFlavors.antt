@@ -1,6 +1,6 @@
 -- A closed program by hand of an archive of both flavours: of foo.dll's members for GNU's linker, some of them of an alias,
 -- and of zed.dll's for Microsoft's; and near misses of it, each by the name of the field that refuses it.
-use Rattle.std.specs.Prelude.{◌≡◌, List, [], ◌∷◌, ◌++◌, codes, map, Some}
+use Rattle.std.specs.Prelude.{◌≡◌, ◌<◌, List, [], ◌∷◌, ◌++◌, codes, length, map, Some}
 use Rattle.implib.specs.declared.flavor.Flavor.TheVariants.{Gnu, Msvc}
 use Rattle.implib.specs.declared.machine.MachineType.TheVariants.{AMD64}
 use Rattle.implib.specs.Formats.Object.{Object}
@@ -13,8 +13,9 @@ use Rattle.implib.specs.Worked.Members.{of_dll}
 use Rattle.implib.specs.Worked.Statements.{plain_export}
 use Rattle.implib_link.specs.Flavors.Program.{FlavorInput, objects_taken}
 use Rattle.implib_link.specs.Gnu.Packed.{packed}
-use Rattle.implib_link.specs.Search.BothFlavors.{AreClosedForBoth, FlavorLibrary, IsClosedForBoth, IsFlavorArchive, IsImportedOfBoth, IsUsedIn, LinksClosedForBoth, NamesNoMembers, TakesOfBoth, archive_of_both, inputs_of_both}
+use Rattle.implib_link.specs.Search.BothFlavors.{AreClosedForBoth, AreGivenForBoth, FlavorLibrary, IsClosedForBoth, IsFlavorArchive, IsImportedOfBoth, IsUsedIn, LinksClosedForBoth, NamesNoMembers, TakesOfBoth, archive_of_both, inputs_of_both, kept_of_both, msvc_among}
 use Rattle.implib_link.specs.Search.Closed.{unresolved}
+use Rattle.implib_link.specs.Search.MsvcArchives.{short_inputs}
 use Rattle.implib_link.specs.Search.MsvcClosed.{PullsIntoFor, TakesIntoFor, wanted_for}
 use Rattle.implib_link.specs.Worked.Archives.{library_of}
 use Rattle.implib_link.specs.Worked.Closed.{choosing, clashing, foo_alias, foo_linked}
@@ -92,6 +93,20 @@ pub record WorkedBoth : Type 0 where
       PullsIntoFor AMD64 (archive_of_both foo_and_zed) (choosing ∷ []) taken (codes "stack") m → ⊥
   pub clashes : (arranged : List FlavorLibrary) (objects : List Object) →
       AreClosedForBoth AMD64 foo_and_zed (clashing ∷ []) mixed_taken arranged objects → ⊥
+
+-- The object may be given, and wants the import of `queue` by itself. What members alone may claim are these names.
+pub record WorkedGivenForBoth : Type 0 where
+  pub given : AreGivenForBoth AMD64 foo_and_zed (choosing ∷ [])
+  pub kept : kept_of_both AMD64 foo_and_zed (choosing ∷ [])
+      ≡ codes "_head_foo_dll" ∷ codes "foo_dll_iname"
+      ∷ codes "__NULL_IMPORT_DESCRIPTOR" ∷ codes "__IMPORT_DESCRIPTOR_zed" ∷ (0x7F ∷ codes "zed_NULL_THUNK_DATA")
+      ∷ codes "baz" ∷ codes "baz" ∷ codes "__imp_baz" ∷ codes "__imp_queue" ∷ codes "queue" ∷ []
+  pub wants : 0 < length (short_inputs (msvc_among foo_and_zed) (unresolved (choosing ∷ [])))
+  pub ends : (taken : List MemberView) × TakesIntoFor AMD64 (archive_of_both foo_and_zed) (choosing ∷ []) taken
+
+-- an object with a `queue` of its own
+pub record NearAreGivenForBoth : Type 0 where
+  pub claims : AreGivenForBoth AMD64 foo_and_zed (clashing ∷ []) → ⊥
 
 -- zed.dll's members for both linkers
 pub record NearIsFlavorArchive : Type 0 where
