@@ -41,3 +41,4 @@ pub mod Choices
 pub mod MovedPrograms
 pub mod LinkedCodes
 pub mod Aliases
+pub mod A32

@@ -25,3 +25,8 @@ pub mod MsvcGiven
 pub mod MsvcRooms
 pub mod MsvcExists
 pub mod NamedApart
+pub mod BothMembers
+pub mod BothArchives
+pub mod BothArranged
+pub mod BothClosed
+pub mod BothGiven

@@ -54,3 +54,5 @@ pub mod MoreCalls
 pub mod NearLinks
 pub mod NearResults
 pub mod NearTaken
+pub mod A32
+pub mod BothFlavors

@@ -16,3 +16,4 @@ pub mod Writing
 pub mod OtherLibraries
 pub mod Choices
 pub mod Aliases
+pub mod A32

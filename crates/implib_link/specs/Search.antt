@@ -10,3 +10,4 @@ pub mod MsvcClosed
 pub mod MsvcGiven
 pub mod MsvcExists
 pub mod NamedApart
+pub mod BothFlavors

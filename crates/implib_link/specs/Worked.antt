@@ -51,3 +51,5 @@ pub mod MoreCalls
 pub mod NearLinks
 pub mod NearResults
 pub mod NearTaken
+pub mod A32
+pub mod BothFlavors

@@ -267,21 +267,21 @@ no_short bytes None None o is = cc
 no_short bytes None (Some p) o is = cc
 
 -- the object of a file is taken with its section symbols
-object_taken : (machine : MachineType) (bytes : List ℕ) (o p : Object) → file_in bytes ≡ Some (ObjectFile o) → object_in bytes ≡ Some p → expanded_in machine bytes ≡ Some (with_section_symbols p)
+pub object_taken : (machine : MachineType) (bytes : List ℕ) (o p : Object) → file_in bytes ≡ Some (ObjectFile o) → object_in bytes ≡ Some p → expanded_in machine bytes ≡ Some (with_section_symbols p)
 object_taken machine bytes o p is read =
     let same : Some o ≡ Some p = sym (no_short bytes (short_import_in bytes) (object_in bytes) o is) ∙ read in
     let here : o ≡ p = cc in
     taken_by machine bytes (ObjectFile o) is ∙ ap (λ x. Some (with_section_symbols x)) here
 
-head_plain : (machine : MachineType) (dll : NamesOfDll) → with_section_symbols (head machine dll) ≡ head machine dll
+pub head_plain : (machine : MachineType) (dll : NamesOfDll) → with_section_symbols (head machine dll) ≡ head machine dll
 unfolding with_section_symbols head_object
 head_plain machine dll = refl
 
-tail_plain : (machine : MachineType) (dll : NamesOfDll) → with_section_symbols (tail machine dll) ≡ tail machine dll
+pub tail_plain : (machine : MachineType) (dll : NamesOfDll) → with_section_symbols (tail machine dll) ≡ tail machine dll
 unfolding with_section_symbols tail_object
 tail_plain machine dll = refl
 
-export_plain : (machine : MachineType) (dll : NamesOfDll) (e : ExportView) → with_section_symbols (export machine dll e) ≡ export machine dll e
+pub export_plain : (machine : MachineType) (dll : NamesOfDll) (e : ExportView) → with_section_symbols (export machine dll e) ≡ export machine dll e
 unfolding with_section_symbols export_object
 export_plain machine dll e = elim (cases_Bool e.is_data) [ inl is ↦ rw is refl | inr is ↦ rw is refl ]
 

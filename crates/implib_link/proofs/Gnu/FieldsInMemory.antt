@@ -165,7 +165,7 @@ module _ (machine : MachineType) (image_base : ℕ) (image : List Range) (linked
       kept_outside written memory (c.position + k)
       (code_untouched image (ranges_of_codes codes) written (range_of_code c) (c.position + k) covers_it at.beside.apart (among_map range_of_code c codes m) here) ∙ is
 
-  number_unwritten : (offset width n : ℕ) → offset + width ≤ length c.code.bytes → NumberAt memory width (c.position + offset) n → NumberAt (written ++ memory) width (c.position + offset) n
+  pub number_unwritten : (offset width n : ℕ) → offset + width ≤ length c.code.bytes → NumberAt memory width (c.position + offset) n → NumberAt (written ++ memory) width (c.position + offset) n
   number_unwritten offset width n inside number =
       let count : length number.bytes ≡ width = number.count in
       record {

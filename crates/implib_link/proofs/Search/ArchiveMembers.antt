@@ -36,7 +36,7 @@ longer n m same more = omega arith
 no_address : (name : List ℕ) → name ≡ imp_symbol name → ⊥
 no_address name same = longer (length name) (length (imp_symbol name)) (ap length same) (omega arith)
 
-own_symbols : (e : ExportView) (name : List ℕ) → Among name (archive_symbols e) → Among name (symbols_of_export e)
+pub own_symbols : (e : ExportView) (name : List ℕ) → Among name (archive_symbols e) → Among name (symbols_of_export e)
 unfolding Among
 own_symbols e name held =
     elim (cases_Bool e.is_data) [
@@ -52,7 +52,7 @@ own_symbols e name held =
 imp_symbols : (e : ExportView) → Among (imp_symbol e.name) (symbols_of_export e)
 imp_symbols e = own_symbols e (imp_symbol e.name) (address_listed e)
 
-alias_symbols : (e : ExportView) → is_alias e.alias_target e.name ≡ true → Among e.name (symbols_of_export e)
+pub alias_symbols : (e : ExportView) → is_alias e.alias_target e.name ≡ true → Among e.name (symbols_of_export e)
 unfolding Among
 alias_symbols e alias = elim (cases_Bool e.is_data) [ inl is ↦ rw (is, alias) (inl refl) | inr is ↦ rw is (inl refl) ]
 
@@ -244,7 +244,7 @@ module _ (machine : MachineType) where
   unfolding is_weak head_object
   head_not_weak m dll read = ap has_weak read
 
-  export_entries : (dll : NamesOfDll) (e : ExportView) → list_any is_weak_entry (export machine dll e).entries ≡ false
+  pub export_entries : (dll : NamesOfDll) (e : ExportView) → list_any is_weak_entry (export machine dll e).entries ≡ false
   unfolding export_object
   export_entries dll e = elim (cases_Bool e.is_data) [ inl is ↦ rw is refl | inr is ↦ rw is refl ]
 

@@ -69,7 +69,7 @@ input_linked machine l [] others = refl
 input_linked machine l (n ∷ chosen) others = refl
 
 -- a member that is linked is linked of some library
-linked_of : (machine : MachineType) (libraries : List Library) (names : List (List ℕ)) (m : MemberView) → Among m (all_linked machine (inputs_wanted libraries names)) →
+pub linked_of : (machine : MachineType) (libraries : List Library) (names : List (List ℕ)) (m : MemberView) → Among m (all_linked machine (inputs_wanted libraries names)) →
     (l : Library) × Among l libraries × Among m (linked_if_any l.definition machine (exports_wanted l.definition names))
 unfolding Among
 linked_of machine [] names m held = absurd held
@@ -81,7 +81,7 @@ linked_of machine (l ∷ libraries) names m held =
       | inr behind ↦ let later = linked_of machine libraries names m behind in (later.0, inr later.1, later.2)
     ]
 
-of_linked : (machine : MachineType) (libraries : List Library) (names : List (List ℕ)) (m : MemberView) (l : Library) → Among l libraries →
+pub of_linked : (machine : MachineType) (libraries : List Library) (names : List (List ℕ)) (m : MemberView) (l : Library) → Among l libraries →
     Among m (linked_if_any l.definition machine (exports_wanted l.definition names)) → Among m (all_linked machine (inputs_wanted libraries names))
 unfolding Among
 of_linked machine [] names m l held linked = absurd held

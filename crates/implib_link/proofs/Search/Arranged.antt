@@ -172,7 +172,7 @@ module _ (machine : MachineType) where
   sums : (h t e es : ℕ) → e ≤ es → h + (e + t) ≤ t + (h + es)
   sums h t e es few = omega arith
 
-  library_fewer : (name : List ℕ) (l : Library) (wanted : List (List ℕ)) →
+  pub library_fewer : (name : List ℕ) (l : Library) (wanted : List (List ℕ)) →
       times name (linked_symbols machine (names_for Gnu l.definition) (chosen_exports l.definition (exports_wanted l.definition wanted))) ≤ times name (symbols_of_library machine l)
   unfolding symbols_of_library
   library_fewer name l wanted =

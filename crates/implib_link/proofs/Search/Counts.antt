@@ -2,8 +2,8 @@
 -- any order, and where some are left out.
 use Rattle.std.proofs.Common.{◌≡◌, ℕ, ◌+◌, ◌≤◌, Bool, true, false, List, [], ◌∷◌, ◌++◌, refl, sym, ◌∙◌, subst, inl, inr, arith, if◌then◌else◌}
 use Rattle.std.specs.Prelude.{IsPermutation, bytes_eq}
-use Rattle.std.specs.List.{AllByRecursion, IsDistinct, flat_map, sum_by}
-use Rattle.std.proofs.lemmas.Bool.{cases_Bool}
+use Rattle.std.specs.List.{AllByRecursion, IsDistinct, flat_map, list_any, sum_by}
+use Rattle.std.proofs.lemmas.Bool.{cases_Bool, or_parts}
 use Rattle.std.proofs.lemmas.List.Sorted.{sum_by-IsPermutation}
 use Rattle.std.proofs.lemmas.List.Sums.{sum_by-append}
 use Rattle.std.proofs.lemmas.Slice.Eq.{bytes_eq-Decides}
@@ -40,6 +40,14 @@ there_none name (x ∷ xs) few =
 
     none_below : (n : ℕ) → 1 + n ≤ 0 → ⊥
     none_below n less = omega arith
+
+pub none_times : (name : List ℕ) (names : List (List ℕ)) → list_any (bytes_eq name) names ≡ false → times name names ≡ 0
+unfolding times one_if
+none_times name [] none = refl
+none_times name (x ∷ names) none =
+    let parts = or_parts (bytes_eq name x) (list_any (bytes_eq name) names) none in
+    let behind = none_times name names parts.1 in
+    rw parts.0 (omega arith)
 
 pub few_from : (xs : List (List ℕ)) → IsDistinct bytes_eq xs → (name : List ℕ) → times name xs ≤ 1
 unfolding times one_if IsDistinct

@@ -57,7 +57,7 @@ both_parts names e want none = rw (want, none) refl
 
 -- Which members are weak externals.
 
-descriptor_not_weak : (machine : MachineType) (dll : NamesOfDll) → has_weak (Some (taken_descriptor machine dll)) ≡ false
+pub descriptor_not_weak : (machine : MachineType) (dll : NamesOfDll) → has_weak (Some (taken_descriptor machine dll)) ≡ false
 unfolding with_section_symbols object_of descriptor entries_of name_text
 descriptor_not_weak machine dll = refl
 
@@ -78,11 +78,11 @@ asking_not_weak machine dll symbol (Name text hint) Code = refl
 asking_not_weak machine dll symbol (Name text hint) Data = refl
 asking_not_weak machine dll symbol (Name text hint) Constant = refl
 
-weak_is_weak : (machine : MachineType) (weak target : List ℕ) → has_weak (Some (taken_weak machine weak target)) ≡ true
+pub weak_is_weak : (machine : MachineType) (weak target : List ℕ) → has_weak (Some (taken_weak machine weak target)) ≡ true
 unfolding with_section_symbols weak_object object_of entries_of name_text
 weak_is_weak machine weak target = refl
 
-weak_by : (machine : MachineType) (m x : MemberView) (o : Object) (b : Bool) → m ≡ x → expanded_in machine x.bytes ≡ Some o → has_weak (Some o) ≡ b → is_weak_in machine m ≡ b
+pub weak_by : (machine : MachineType) (m x : MemberView) (o : Object) (b : Bool) → m ≡ x → expanded_in machine x.bytes ≡ Some o → has_weak (Some o) ≡ b → is_weak_in machine m ≡ b
 unfolding is_weak_in
 weak_by machine m x o b same is weak = ap has_weak (ap (λ (y : MemberView). expanded_in machine y.bytes) same ∙ is) ∙ weak
 

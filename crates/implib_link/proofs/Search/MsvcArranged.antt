@@ -136,7 +136,7 @@ module _ (machine : MachineType) where
   abbrev of_inputs : List FlavorInput → List (List ℕ)
   of_inputs inputs = flat_map (λ (k : FlavorBlock). symbols_of machine k.flavor k.dll k.exports) (map block_in inputs)
 
-  library_fewer : (name : List ℕ) (l : Library) (names : List (List ℕ)) →
+  pub library_fewer : (name : List ℕ) (l : Library) (names : List (List ℕ)) →
       times name (symbols_of machine Msvc (names_for Msvc l.definition) (chosen_exports l.definition (imports_wanted l names))) ≤ times name (symbols_of_shorts l)
   unfolding symbols_of_shorts
   library_fewer name l names =

@@ -133,7 +133,7 @@ pulled machine archive wanted (t ∷ earlier) turn m (inl e) = (turn.0.0, turn.0
 pulled machine archive wanted (t ∷ earlier) turn m (inr held) = pulled machine archive wanted earlier turn.1 m held
 
 -- a symbol of a short import is that of its address, or its own, where it is no data
-by_symbol : (e : ExportView) (name : List ℕ) → Among name (short_import_symbols e) → (name ≡ imp_symbol (short_import_symbol e)) ⊎ ((name ≡ short_import_symbol e) × (e.is_data ≡ false))
+pub by_symbol : (e : ExportView) (name : List ℕ) → Among name (short_import_symbols e) → (name ≡ imp_symbol (short_import_symbol e)) ⊎ ((name ≡ short_import_symbol e) × (e.is_data ≡ false))
 unfolding Among
 by_symbol e name (inl is) = inl is
 by_symbol e name (inr behind) =
@@ -200,7 +200,7 @@ module _ (machine : MachineType) (libraries : List Library) (archive : IsMsvcArc
       (λ x one. ap (first_listed (archive_of libraries)) (only_one x weak one) ∙ weak_found machine libraries archive l e weak target held there alias pair)
 
   -- the null descriptor of any library is taken for the same object
-  null_tables : (before behind : List MemberView) (dll : NamesOfDll) (l : Library) → Among l libraries → expanded_in machine (null_member machine dll.linked).bytes ≡ Some (taken_null machine) →
+  pub null_tables : (before behind : List MemberView) (dll : NamesOfDll) (l : Library) → Among l libraries → expanded_in machine (null_member machine dll.linked).bytes ≡ Some (taken_null machine) →
       objects_taken machine (before ++ (first_null machine libraries ++ behind)) ≡ objects_taken machine (before ++ null_member machine dll.linked ∷ behind)
   null_tables before behind dll l held is = by libraries refl held
     where

@@ -284,12 +284,12 @@ module _ (machine : MachineType) (libraries : List Library) (archive : IsMsvcArc
 
 -- An import that the objects want by themselves is linked.
 
-some_there : {X : Type 0} (x : X) (xs : List X) → Among x xs → 0 < length xs
+pub some_there : {X : Type 0} (x : X) (xs : List X) → Among x xs → 0 < length xs
 unfolding Among
 some_there x [] held = absurd held
 some_there x (y ∷ xs) held = omega arith
 
-more_wanted : (names more : List (List ℕ)) (e : ExportView) → is_import_wanted names e ≡ true → is_import_wanted (names ++ more) e ≡ true
+pub more_wanted : (names more : List (List ℕ)) (e : ExportView) → is_import_wanted names e ≡ true → is_import_wanted (names ++ more) e ≡ true
 more_wanted names more e want =
     let parts = import_parts names e want in
     let name = wanted_name names (short_import_symbols e) parts.0 in

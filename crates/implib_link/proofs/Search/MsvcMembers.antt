@@ -87,12 +87,12 @@ one_of_two e name (inr behind) =
       | inr is ↦ (let one : Among name (short_import_symbol e ∷ []) = rw is at behind in inl (only_one name (short_import_symbol e) one))
     ]
 
-pair_symbol : (e : ExportView) (weak target : List ℕ) → is_short_alias e ≡ true → IsPair e weak target → Among weak (symbols_of_short e)
+pub pair_symbol : (e : ExportView) (weak target : List ℕ) → is_short_alias e ≡ true → IsPair e weak target → Among weak (symbols_of_short e)
 unfolding Among
 pair_symbol e weak target alias (inl is) = rw alias (inl is.0)
 pair_symbol e weak target alias (inr is) = rw alias (inr (inl is.0))
 
-short_symbol : (e : ExportView) (name : List ℕ) → is_short_alias e ≡ false → Among name (short_import_symbols e) → Among name (symbols_of_short e)
+pub short_symbol : (e : ExportView) (name : List ℕ) → is_short_alias e ≡ false → Among name (short_import_symbols e) → Among name (symbols_of_short e)
 short_symbol e name none held = rw none held
 
 -- Groups: the descriptor and the null thunk of each library, and the members of each export. The null descriptor is

@@ -169,7 +169,7 @@ machine_instances = record {
 -- Code.
 
 -- a range after others that is apart from each
-put_last : (ranges : List Range) (r : Range) → AllByRecursion (AreApart r) ranges → AllApart ranges → AllApart (ranges ++ r ∷ [])
+pub put_last : (ranges : List Range) (r : Range) → AllByRecursion (AreApart r) ranges → AllApart ranges → AllApart (ranges ++ r ∷ [])
 put_last [] r each apart = (tt, tt)
 put_last (x ∷ ranges) r each apart = (all_append (AreApart x) ranges (r ∷ []) apart.0 ((λ address here there. each.0 address there here), tt), put_last ranges r each.1 apart.1)
 

@@ -56,7 +56,7 @@ use Rattle.implib_link.proofs.Worked.Rules.{entry_is, same_bytes}
 no_definition : (d : SymbolDefinition) → [] ≡ d ∷ [] → ⊥
 no_definition d is = cc
 
-no_length : (n : ℕ) → 0 ≡ n → 0 < n → ⊥
+pub no_length : (n : ℕ) → 0 ≡ n → 0 < n → ⊥
 no_length n none some = omega arith
 
 nowhere : (address : ℕ) → None ≡ Some address → ⊥
@@ -150,7 +150,7 @@ no_object : (o : Object) → [] ≡ o ∷ [] → ⊥
 no_object o is = cc
 
 -- two in an order of none
-no_order : {X : Type 0} (x y : X) → IsPermutation (x ∷ y ∷ []) [] → ⊥
+pub no_order : {X : Type 0} (x y : X) → IsPermutation (x ∷ y ∷ []) [] → ⊥
 no_order x y order = differ 0 2 (sum_by-IsPermutation (λ z. 1) (x ∷ y ∷ []) [] order) (omega arith)
 
 pub near_are_linked_for : NearAreLinkedFor
@@ -170,7 +170,7 @@ near_are_chosen_for = record {
 }
 
 -- what is taken for parts of a list of members
-none_taken : (before null behind : List MemberView) → length (objects_taken AMD64 null) ≡ 1 → [] ≡ objects_taken AMD64 (before ++ (null ++ behind)) → ⊥
+pub none_taken : (before null behind : List MemberView) → length (objects_taken AMD64 null) ≡ 1 → [] ≡ objects_taken AMD64 (before ++ (null ++ behind)) → ⊥
 none_taken before null behind one none =
     let f : MemberView → Option Object = λ m. expanded_in AMD64 m.bytes in
     let all : [] ≡ objects_taken AMD64 before ++ (objects_taken AMD64 null ++ objects_taken AMD64 behind) =
@@ -191,7 +191,7 @@ counted xs ys =
     ap length (filter_map-append f xs ys) ∙ length-append (objects_taken AMD64 xs) (objects_taken AMD64 ys)
 
 -- what is taken for more members than the null descriptor alone
-more_taken : (before null behind : List MemberView) (all : ℕ) → length (objects_taken AMD64 null) ≡ 1 → length (objects_taken AMD64 (before ++ behind)) ≡ all → 0 < all → 1 ≡ length (objects_taken AMD64 (before ++ (null ++ behind))) → ⊥
+pub more_taken : (before null behind : List MemberView) (all : ℕ) → length (objects_taken AMD64 null) ≡ 1 → length (objects_taken AMD64 (before ++ behind)) ≡ all → 0 < all → 1 ≡ length (objects_taken AMD64 (before ++ (null ++ behind))) → ⊥
 more_taken before null behind all one there some is =
     let first : length (objects_taken AMD64 (before ++ (null ++ behind))) ≡ length (objects_taken AMD64 before) + length (objects_taken AMD64 (null ++ behind)) = counted before (null ++ behind) in
     let second : length (objects_taken AMD64 (null ++ behind)) ≡ length (objects_taken AMD64 null) + length (objects_taken AMD64 behind) = counted null behind in

@@ -104,7 +104,7 @@ near_pulls_into_for = record {
 abbrev is_weak_data : List (List ℕ) → MemberView → ExportView → Bool
 is_weak_data names m e = e.is_data && (list_any (bytes_eq e.name) names && list_any (bytes_eq e.name) m.symbols)
 
-weak_data : (libraries : List Library) (names : List (List ℕ)) (m : MemberView) → list_any (λ l. list_any (is_weak_data names m) (exports_of l)) libraries ≡ false → IsWeakData libraries names m → ⊥
+pub weak_data : (libraries : List Library) (names : List (List ℕ)) (m : MemberView) → list_any (λ l. list_any (is_weak_data names m) (exports_of l)) libraries ≡ false → IsWeakData libraries names m → ⊥
 weak_data libraries names m none x =
     let listed : Among x.export.name m.symbols = subst (Among x.export.name) (sym x.listed) (among_first x.export.name []) in
     let passes : is_weak_data names m x.export ≡ true = rw (x.data_alone, among_any x.export.name names (contains_among x.export.name names x.named), among_any x.export.name m.symbols listed) refl in
@@ -128,7 +128,7 @@ one_of : (first second name : List ℕ) → (name ≡ first) ⊎ (name ≡ secon
 one_of first second name (inl is) = (0, omega arith, sym is)
 one_of first second name (inr is) = (1, omega arith, sym is)
 
-weak_short : (libraries : List Library) (names : List (List ℕ)) (m : MemberView) → list_any (λ l. list_any (is_weak_short names m) (exports_of l)) libraries ≡ false → IsWeakShort libraries names m → ⊥
+pub weak_short : (libraries : List Library) (names : List (List ℕ)) (m : MemberView) → list_any (λ l. list_any (is_weak_short names m) (exports_of l)) libraries ≡ false → IsWeakShort libraries names m → ⊥
 weak_short libraries names m none x =
     let symbols : List (List ℕ) = short_import_symbol x.export ∷ imp_symbol (short_import_symbol x.export) ∷ [] in
     let listed : Among x.name m.symbols = subst (Among x.name) (sym x.listed) (among_first x.name []) in
@@ -183,7 +183,7 @@ near_is_weak_taken = record {
 -- Imports.
 
 -- a name that begins with another letter than `__imp_` is no address's
-not_address : (letter : ℕ) (rest name : List ℕ) → 95 < letter → letter ∷ rest ≡ imp_symbol name → ⊥
+pub not_address : (letter : ℕ) (rest name : List ℕ) → 95 < letter → letter ∷ rest ≡ imp_symbol name → ⊥
 not_address letter rest name less is =
     let letters : ◌≡◌ {A = ℕ} letter 95 = ap (λ (text : List ℕ). slice_index text 0) is in
     differ 95 letter (sym letters) less

@@ -1,5 +1,5 @@
 -- Near misses of what is taken and linked, by computing.
-use Rattle.std.proofs.Common.{◌≡◌, ℕ, ◌+◌, ◌*◌, ◌<◌, Bool, List, [], ◌∷◌, codes, length, zero, suc, Option, Some, None, refl, ap, sym, ◌∙◌, subst, arith}
+use Rattle.std.proofs.Common.{◌≡◌, ℕ, ◌+◌, ◌*◌, ◌<◌, Bool, List, [], ◌∷◌, codes, length, map, zero, suc, Option, Some, None, refl, ap, sym, ◌∙◌, subst, arith}
 use Rattle.std.specs.Prelude.{◌&&◌, ◌^◌, bytes_eq, false, nat_eq, slice_get, true}
 use Rattle.std.specs.List.{Contains, list_any}
 use Rattle.implib.specs.declared.machine.MachineType.TheVariants.{AMD64}
@@ -16,11 +16,12 @@ use Rattle.implib_link.specs.Flavors.LldImports.{grouped, imports_of_lld}
 use Rattle.implib_link.specs.Flavors.LldTables.{thunks_until}
 use Rattle.implib_link.specs.Gnu.Packed.{packed}
 use Rattle.implib_link.specs.Gnu.Program.{LinksAmong, linked_symbols}
-use Rattle.implib_link.specs.Flavors.Program.{members_linked, null_member}
+use Rattle.implib_link.specs.Flavors.Expansion.{expanded_in}
+use Rattle.implib_link.specs.Flavors.Program.{members_linked, null_member, objects_taken}
 use Rattle.implib_link.specs.Worked.Flavors.{foo_input as foo_flavor}
 use Rattle.implib_link.specs.Worked.NearPrograms.{lld_range, mid_alone}
 use Rattle.implib_link.specs.Worked.Programs.{touching_8, zed_input}
-use Rattle.implib_link.specs.Worked.NearTaken.{NearAreBounded, NearImportsWanted, NearIsArranged, NearIsImportedBy, NearIsLinkedOfWanted, NearIsTaken, NearRunLinks, NearTakesOfLibraries, NearTakesOfShorts, bare_tables}
+use Rattle.implib_link.specs.Worked.NearTaken.{NearAreBounded, NearImportsWanted, NearIsArranged, NearIsImportedBy, NearIsLinkedOfWanted, NearIsTaken, NearRunLinks, NearTakesOfLibraries, NearTakesOfShorts, bare_tables, nul_within}
 use Rattle.implib_link.specs.Worked.Search.{members_of, three}
 use Rattle.implib_link.specs.Worked.Searched.{bar_member, by_name, head_member, qux_member, searched_objects, tail_member}
 use Rattle.implib_link.proofs.Worked.Lld.{lld_opened}
@@ -75,10 +76,16 @@ no_null : Contains (members_linked AMD64 (foo_flavor AMD64)) (null_member AMD64 
 unfolding searched is_null
 no_null held = none_passes is_null (null_member AMD64 (codes "foo.dll")) (members_linked AMD64 (foo_flavor AMD64)) refl held refl
 
+-- three members, of which two are read
+few_read : length (map (λ (m : MemberView). expanded_in AMD64 m.bytes) (members_linked AMD64 (nul_within []))) ≡ length (map Some (objects_taken AMD64 (members_linked AMD64 (nul_within [])))) → ⊥
+unfolding searched
+few_read is = differ 2 3 (sym is) (omega arith)
+
 pub near_is_taken : NearIsTaken
 unfolding searched
 near_is_taken = record {
   from_members = λ x. none_in _ x.from_members.0;
+  read = λ x. few_read (ap length x.read);
   null = λ x. no_null (x.null refl);
 }
 

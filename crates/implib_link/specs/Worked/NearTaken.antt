@@ -1,6 +1,6 @@
 -- Near misses of what linkers take, and of what is linked of it. A record `NearX` has those of `X`, each by the name of
 -- the field that refuses it.
-use Rattle.std.specs.Prelude.{ℕ, ◌^◌, List, [], ◌∷◌, codes}
+use Rattle.std.specs.Prelude.{ℕ, ◌^◌, List, [], ◌∷◌, ◌++◌, codes}
 use Rattle.implib.specs.declared.flavor.Flavor.TheVariants.{Msvc}
 use Rattle.implib.specs.declared.machine.MachineType.TheVariants.{AMD64}
 use Rattle.implib.specs.Formats.Object.{Object}
@@ -9,7 +9,9 @@ use Rattle.implib.specs.Members.ImportTables.{zeros}
 use Rattle.implib.specs.LibraryName.{own_names}
 use Rattle.implib.specs.Members.MemberSpec.{MemberView}
 use Rattle.implib_link.specs.Flavors.LldImports.{IsImportedBy}
-use Rattle.implib_link.specs.Flavors.Program.{FlavorInput, IsTaken, members_linked}
+use Rattle.implib.specs.Worked.Members.{of_dll}
+use Rattle.implib.specs.Worked.Statements.{plain_export}
+use Rattle.implib_link.specs.Flavors.Program.{FlavorInput, IsTaken, members_linked, null_member}
 use Rattle.implib_link.specs.Gnu.Bounds.{AreBounded}
 use Rattle.implib_link.specs.Gnu.OtherLibraries.{Run, RunLinks}
 use Rattle.implib_link.specs.Gnu.Packed.{packed}
@@ -47,9 +49,23 @@ pub record NearTakesOfShorts : Type 0 where
 abbrev pub foo_with : List MemberView → FlavorInput
 foo_with members = record { flavor = Msvc; input = record (foo_flavor AMD64).input { members = members } }
 
--- no members; and those that are linked alone, without the null descriptor
+-- an input for Microsoft's linker whose one export has a NUL in its name
+abbrev pub nul_within : List MemberView → FlavorInput
+nul_within members = record {
+  flavor = Msvc;
+  input = record {
+    definition = of_dll (codes "foo.dll") (plain_export (codes "op" ++ 0 ∷ codes "en") ∷ []);
+    members = members;
+    chosen = 0 ∷ [];
+  };
+}
+
+-- no members; a short import with one text too many, which is none; and those that are linked alone, without the null
+-- descriptor
 pub record NearIsTaken : Type 0 where
   pub from_members : IsTaken AMD64 (foo_with []) → ⊥
+  pub read : IsTaken AMD64
+      (nul_within (null_member AMD64 (codes "foo.dll") ∷ members_linked AMD64 (nul_within []))) → ⊥
   pub null : IsTaken AMD64 (foo_with (members_linked AMD64 (foo_flavor AMD64))) → ⊥
 
 -- the members of foo.dll among no linked objects

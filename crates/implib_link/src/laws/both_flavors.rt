@@ -1,0 +1,112 @@
+//! Laws of an archive in which some libraries' members are for GNU's linker and others' for
+//! Microsoft's.
+
+ghost use Rattle.implib.specs.Formats.Object.{Object};
+ghost use Rattle.implib.specs.Link.Placement.{Bases};
+ghost use Rattle.implib.specs.Members.MemberSpec.{MemberView};
+ghost use Rattle.implib.specs.declared.machine.MachineType.{MachineType};
+ghost use Rattle.implib_link.specs.Flavors.Program.{all_members, objects_taken};
+ghost use Rattle.implib_link.specs.Gnu.Packed.{packed, packed_end};
+ghost use Rattle.implib_link.specs.Gnu.Program.{has_tables};
+ghost use Rattle.implib_link.specs.Search.BothFlavors.{AreClosedForBoth, AreGivenForBoth};
+ghost use Rattle.implib_link.specs.Search.BothFlavors.{FlavorLibrary, IsFlavorArchive};
+ghost use Rattle.implib_link.specs.Search.BothFlavors.{IsClosedForBoth, LinksClosedForBoth};
+ghost use Rattle.implib_link.specs.Search.BothFlavors.{NamesNoMembers, TakesOfBoth};
+ghost use Rattle.implib_link.specs.Search.BothFlavors.{archive_of_both, inputs_of_both};
+ghost use Rattle.implib_link.specs.Search.BothFlavors.{msvc_among};
+ghost use Rattle.implib_link.specs.Search.Closed.{unresolved};
+ghost use Rattle.implib_link.specs.Search.Msvc.{TakesFor};
+ghost use Rattle.implib_link.specs.Search.MsvcArchives.{first_null, short_inputs, wanted_with_weak};
+ghost use Rattle.implib_link.specs.Search.MsvcArchives.{weak_in};
+ghost use Rattle.implib_link.specs.Search.MsvcClosed.{TakesIntoFor};
+ghost use Rattle.implib_link.specs.Search.Search.{HaveSame};
+ghost use Rattle.implib_link.specs.Worked.BothFlavors.{NearAreClosedForBoth, NearIsClosedForBoth};
+ghost use Rattle.implib_link.specs.Worked.BothFlavors.{NearIsFlavorArchive, NearIsImportedOfBoth};
+ghost use Rattle.implib_link.specs.Worked.BothFlavors.{NearIsUsedIn, NearLinksClosedForBoth};
+ghost use Rattle.implib_link.specs.Worked.BothFlavors.{NearNamesNoMembers, NearTakesOfBoth};
+ghost use Rattle.implib_link.specs.Worked.BothFlavors.{NearAreGivenForBoth, WorkedBoth};
+ghost use Rattle.implib_link.specs.Worked.BothFlavors.{WorkedGivenForBoth};
+ghost use Rattle.std.specs.List.{filter};
+ghost use Rattle.std.specs.Prelude.{◌≡◌, ◌<◌, ◌^◌, ◌++◌, ℕ, IsPermutation, List, length, not};
+
+/// From such an archive a linker takes exactly the members of the exports that are wanted, by the
+/// program or by an alias that is taken, with what their libraries have besides, and weak externals
+/// of aliases.
+pub fn libraries_of_both_flavors_are_searched()
+    ensures takes { (machine : MachineType) (libraries : List FlavorLibrary)
+        (taken : List MemberView) (wanted : List (List ℕ)) →
+        IsFlavorArchive machine libraries →
+        NamesNoMembers machine libraries (wanted_with_weak machine wanted taken) →
+        TakesFor machine (archive_of_both libraries) wanted taken →
+        TakesOfBoth machine libraries wanted taken }
+{}
+
+/// Given objects and what a linker takes for them of such an archive are a program of these DLLs,
+/// which imports exactly the exports that are named by symbols that the given objects, or the
+/// aliases that are taken for them, leave unresolved; and no name is left unresolved that the
+/// archive lists. Some short import is wanted, so that there is a null descriptor.
+///
+/// The given objects may claim symbols of the libraries, but for those of the members that are
+/// taken. The libraries may be linked in another order than that of the archive, and the null
+/// descriptor, that of the first library for Microsoft's linker, is anywhere among the members.
+/// Packed placement closes the program, where it ends below 2^31.
+pub fn closed_program_of_both_flavors_links()
+    ensures links { (machine : MachineType) (libraries : List FlavorLibrary) (own : List Object)
+        (taken : List MemberView) (arranged : List FlavorLibrary) (bases : Bases)
+        (objects : List Object) →
+        IsFlavorArchive machine libraries →
+        IsClosedForBoth machine libraries own taken arranged bases objects →
+        LinksClosedForBoth machine libraries own taken arranged bases objects }
+    ensures packed { (machine : MachineType) (libraries : List FlavorLibrary) (own : List Object)
+        (taken : List MemberView) (arranged : List FlavorLibrary) (first : ℕ)
+        (objects : List Object) →
+        IsFlavorArchive machine libraries →
+        AreClosedForBoth machine libraries own taken arranged objects →
+        0 < first →
+        packed_end first objects < 2 ^ 31 →
+        IsClosedForBoth machine libraries own taken arranged (packed first objects) objects }
+{}
+
+/// For objects that may be given to a linker with libraries of both flavours, its search ends; and
+/// if they leave a symbol of some short import unresolved, whatever it takes closes the program, as
+/// what is linked. Nothing is asked of the search.
+pub fn objects_given_for_both_flavors_are_closed()
+    ensures ends { (machine : MachineType) (libraries : List FlavorLibrary) (own : List Object) →
+        IsFlavorArchive machine libraries →
+        AreGivenForBoth machine libraries own →
+        (taken : List MemberView) × TakesIntoFor machine (archive_of_both libraries) own taken }
+    ensures closes { (machine : MachineType) (libraries : List FlavorLibrary) (own : List Object)
+        (taken : List MemberView) (arranged : List FlavorLibrary) (objects : List Object)
+        (before behind : List MemberView) →
+        IsFlavorArchive machine libraries →
+        AreGivenForBoth machine libraries own →
+        TakesIntoFor machine (archive_of_both libraries) own taken →
+        0 < length (short_inputs (msvc_among libraries) (unresolved own)) →
+        IsPermutation libraries arranged →
+        HaveSame (filter (λ o. not (has_tables o)) objects)
+        (own ++ objects_taken machine (weak_in machine taken)) →
+        before ++ behind ≡ all_members machine (inputs_of_both machine arranged own taken) →
+        filter has_tables objects
+        ≡ objects_taken machine (before ++ (first_null machine (msvc_among libraries) ++ behind)) →
+        AreClosedForBoth machine libraries own taken arranged objects }
+{}
+
+/// A closed program by hand, of an object that names data of one library by an alias and a function
+/// of another, of the other flavour, by its pointer.
+pub fn worked_both_flavors()
+    ensures worked { WorkedBoth }
+    ensures given { WorkedGivenForBoth }
+{}
+
+/// What is no archive of both flavours, is not taken of it, and closes no program.
+pub fn near_misses_of_both_flavors()
+    ensures archive { NearIsFlavorArchive }
+    ensures names { NearNamesNoMembers }
+    ensures takes { NearTakesOfBoth }
+    ensures given { NearAreGivenForBoth }
+    ensures objects { NearAreClosedForBoth }
+    ensures closed { NearIsClosedForBoth }
+    ensures imported { NearIsImportedOfBoth }
+    ensures used { NearIsUsedIn }
+    ensures links { NearLinksClosedForBoth }
+{}
