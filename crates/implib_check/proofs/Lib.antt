@@ -3,6 +3,7 @@ pub mod Computed
 pub mod Definitions
 pub mod IndexReadings
 pub mod JsonTexts
+pub mod ListedSymbols
 pub mod MeantLibraries
 pub mod OwnIndexes
 pub mod OwnLibraries
