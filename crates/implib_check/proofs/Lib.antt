@@ -2,6 +2,7 @@ pub mod Claims
 pub mod Computed
 pub mod Definitions
 pub mod IndexReadings
+pub mod JsonLines
 pub mod JsonTexts
 pub mod ListedSymbols
 pub mod MeantLibraries
