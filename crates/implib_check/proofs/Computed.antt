@@ -9,6 +9,7 @@ use Rattle.implib_check.specs.WorkedDefinitions.{WorkedDefines, WorkedDefinition
 use Rattle.std.specs.Fmt.{digits}
 use Rattle.std.specs.Char.{encode_utf8}
 use Rattle.std.specs.Str.{chars, is_utf8}
+use Rattle.serde_json.proofs.OnLiterals.{serde_json_on_literals}
 use Rattle.std.specs.Str.Lossy.{utf8_valid_len}
 
 pub worked_identities : WorkedIdentities
@@ -174,7 +175,7 @@ worked_together = record {
 }
 
 pub worked_json : WorkedJson
-unfolding chars encode_utf8 is_utf8 utf8_valid_len
+unfolding chars digits encode_utf8 is_utf8 serde_json_on_literals utf8_valid_len
 worked_json = record {
   listed = refl;
   listed_alias = refl;
@@ -190,4 +191,7 @@ worked_json = record {
   latin = refl;
   cut_off = refl;
   empty = refl;
+  line = refl;
+  nested_line = refl;
+  escaped_line = refl;
 }

@@ -2,7 +2,9 @@ pub mod Claims
 pub mod Computed
 pub mod Definitions
 pub mod IndexReadings
+pub mod JsonLines
 pub mod JsonTexts
+pub mod ListedSymbols
 pub mod MeantLibraries
 pub mod OwnIndexes
 pub mod OwnLibraries

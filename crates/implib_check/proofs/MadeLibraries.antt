@@ -1,5 +1,5 @@
 -- What is read of the library of a definition, with third texts or without.
-use Rattle.std.proofs.Common.{◌≡◌, ◌∙◌, ℕ, Bool, true, false, List, [], ◌∷◌, ◌++◌, Option, None, Some, ap, drop, if◌then◌else◌, map, refl, subst, sym, take}
+use Rattle.std.proofs.Common.{◌≡◌, ◌∙◌, ℕ, ◌≤◌, Bool, true, false, List, [], ◌∷◌, ◌++◌, Option, None, Some, ap, drop, if◌then◌else◌, map, refl, subst, sym, take}
 use Rattle.std.specs.Prelude.{◌&&◌, not}
 use Rattle.std.specs.List.{AllByRecursion, filter, filter_map, flat_map, list_any}
 use Rattle.std.specs.Option.{option_and_then, option_map}
@@ -13,11 +13,12 @@ use Rattle.implib.specs.declared.machine.MachineType.{MachineType}
 use Rattle.implib.specs.Definition.{DefinitionView, ExportView}
 use Rattle.implib.specs.Fault.{MemberTooLong}
 use Rattle.implib.specs.Formats.File.{Meaning, AnAlias as MeansAlias, AnImport as MeansImport, file_in, meaning_in, meaning_of}
-use Rattle.implib.specs.Import.{expected_import, holds, public_exports}
+use Rattle.implib.specs.Import.{expected_import, public_exports}
 use Rattle.implib.specs.LibraryName.{NamesOfDll, names_for}
 use Rattle.implib.specs.Members.MemberLists.{alias_specs, all_import_specs, is_weak}
 use Rattle.implib.specs.Members.Members.{AreMembersOf, is_too_long, length_refusal, refusal}
 use Rattle.implib.specs.Members.MemberSpec.{MemberSpec, MemberView, member_of}
+use Rattle.implib.specs.Members.Msvc.{short_import_size}
 use Rattle.implib.specs.Members.MsvcMembers.{header_specs}
 use Rattle.implib.specs.Members.ReadBack.{ReadBack, alias_among, file_of, import_among}
 use Rattle.implib.specs.Renaming.{renamed, renamed_export}
@@ -35,7 +36,7 @@ use Rattle.implib_read.specs.OwnLibraries.{OwnGnuLibraries, OwnMembersFound, cla
 use Rattle.implib_read.specs.ShortImports.{SameShortImports}
 use Rattle.implib_read.proofs.OwnMembers.{drop_mapped, drop_plain, files_as, files_of_specs, found_of, meanings_as, read_meanings}
 use Rattle.implib_read.proofs.OwnMsvc.{archive_by, classes_read, map_twice}
-use Rattle.implib_rules.specs.ExportAs.{AreMadeFor, all_export_as_specs, definition_made, export_as_library, export_as_refusal, export_as_spec, export_as_specs, export_as_specs_by, exported_name, kept, kept_by, kept_definition, later_specs}
+use Rattle.implib_rules.specs.ExportAs.{AreMadeFor, all_export_as_specs, definition_made, export_as_import, export_as_library, export_as_refusal, export_as_spec, export_as_specs, export_as_specs_by, exported_name, kept, kept_by, kept_definition, later_specs}
 use Rattle.implib_rules.specs.Library.{definition_text}
 use Rattle.implib_rules.specs.Linked.{NamingView}
 use Rattle.implib_rules.specs.Order.{msvc_specs, own_aliases, own_imports}
@@ -52,7 +53,7 @@ use Rattle.implib_check.proofs.SameLibraries.{verdict_itself}
 use Rattle.implib_check.proofs.ThirdTexts.{asks_by_text, text_means}
 
 -- the members of a library with third texts
-record MadeByTexts (d : DefinitionView) (machine : MachineType) (members : List MemberView) : Type 0 where
+pub record MadeByTexts (d : DefinitionView) (machine : MachineType) (members : List MemberView) : Type 0 where
   pub all : List MemberView
   pub made : AreMembersOf (kept_definition d) machine Msvc all
   pub reads : ReadBack (kept_definition d) machine Msvc all
@@ -66,7 +67,7 @@ none_too_long specs none = by (list_any is_too_long specs) none
     by true is = cc
     by false is = refl
 
-made_by_texts : (naming : NamingView) (d : DefinitionView) (machine : MachineType) (members : List MemberView)
+pub made_by_texts : (naming : NamingView) (d : DefinitionView) (machine : MachineType) (members : List MemberView)
     → AreMadeFor naming d machine Msvc members → naming.exports_as ≡ true → MadeByTexts d machine members
 made_by_texts naming d machine members made on =
     let is_made : definition_made naming Msvc d ≡ kept_definition d = ap (λ b. if b then kept_definition d else d) on in
@@ -125,29 +126,60 @@ plain_kept : (exports : List ExportView) → AllByRecursion (λ e. e.symbol_name
 plain_kept [] plain = tt
 plain_kept (e ∷ exports) plain = (kept_symbol_name (exported_name e) e plain.0, plain_kept exports plain.1)
 
+pub plain_public_kept : (d : DefinitionView) → AllByRecursion (λ e. e.symbol_name ≡ []) (public_exports d) → AllByRecursion (λ e. e.symbol_name ≡ []) (public_exports (kept_definition d))
+plain_public_kept d plain = subst (λ (x : List ExportView). AllByRecursion (λ e. e.symbol_name ≡ []) x) (sym (public_kept d.exports)) (plain_kept (public_exports d) plain)
+
+-- Short imports with third texts.
+
+-- such a short import of an export is sound and short enough
+pub record IsTextOf (machine : MachineType) (dll : NamesOfDll) (e : ExportView) (name : List ℕ) : Type 0 where
+  pub is : exported_name e ≡ Some name
+  pub plain : e.symbol_name ≡ []
+  pub sound : Sound (kept_by (Some name) e)
+  pub fits : short_import_size (export_as_import machine dll.text e name) ≤ 0xFFFF_FFFF
+
+-- each of the exports has such a short import, if it has a third text
+abbrev pub HasTexts : MachineType → NamesOfDll → ExportView → Type 0
+HasTexts machine dll e = (name : List ℕ) → exported_name e ≡ Some name → IsTextOf machine dll e name
+
+have_texts : (machine : MachineType) (dll : NamesOfDll) (exports : List ExportView) → AllByRecursion (λ e. e.symbol_name ≡ []) exports → AllByRecursion Sound (map kept exports)
+    → list_any is_too_long (flat_map (export_as_specs machine dll) exports) ≡ false → AllByRecursion (HasTexts machine dll) exports
+have_texts machine dll [] plain sound fit = tt
+have_texts machine dll (e ∷ exports) plain sound fit =
+    let specs = flat_map (export_as_specs machine dll) exports in
+    let parts = or_parts (list_any is_too_long (export_as_specs machine dll e)) (list_any is_too_long specs)
+    (sym (list_any-append is_too_long (export_as_specs machine dll e) specs) ∙ fit) in
+    (here parts.0, have_texts machine dll exports plain.1 sound.1 parts.1)
+  where
+    here : list_any is_too_long (export_as_specs machine dll e) ≡ false → HasTexts machine dll e
+    here short name is =
+        let own = ap (λ o. list_any is_too_long (export_as_specs_by machine dll e o)) (sym is) ∙ short in record {
+          is = is;
+          plain = plain.0;
+          sound = subst (λ o. Sound (kept_by o e)) is sound.0;
+          fits = short_enough (export_as_spec machine dll e name) (or_parts (is_too_long (export_as_spec machine dll e name)) false own).0;
+        }
+
+-- what all such short imports are, by what each is
+pub texts_are : (machine : MachineType) (dll : NamesOfDll) (P : ExportView → List ℕ → Type 0) → ((e : ExportView) (name : List ℕ) → IsTextOf machine dll e name → P e name)
+    → (exports : List ExportView) → AllByRecursion (HasTexts machine dll) exports → AllByRecursion (λ e. (name : List ℕ) → exported_name e ≡ Some name → P e name) exports
+texts_are machine dll P each [] texts = tt
+texts_are machine dll P each (e ∷ exports) texts = ((λ name is. each e name (texts.0 name is)), texts_are machine dll P each exports texts.1)
+
+-- those of a library
+pub texts_of : (d : DefinitionView) (machine : MachineType) (members : List MemberView) → MadeByTexts d machine members → renamed (kept_definition d) ≡ kept_definition d
+    → AllByRecursion (λ e. e.symbol_name ≡ []) (public_exports d) → AllByRecursion (HasTexts machine (names_for Msvc d)) (public_exports d)
+texts_of d machine members made once plain =
+    let k = kept_definition d in
+    let sound : AllByRecursion Sound (map kept (public_exports d)) =
+    subst (λ (x : List ExportView). AllByRecursion Sound x) (public_kept d.exports)
+    (subst (λ (x : DefinitionView). AllByRecursion Sound (public_exports x)) once (exports_sound k machine Msvc made.all made.made)) in
+    have_texts machine (names_for Msvc d) (public_exports d) plain sound made.fit
+
 module _ (defined : List ℕ → Option Place) where
   -- what a member means
   abbrev means : MemberSpec → Option Meaning
   means p = meaning_of_class (class_of_spec defined p)
-
-  -- the third texts of exports are read
-  texts_read : (machine : MachineType) (dll : NamesOfDll) (exports : List ExportView) → AllByRecursion (λ e. e.symbol_name ≡ []) exports → AllByRecursion Sound (map kept exports)
-      → holds 0 dll.text ≡ false → list_any is_too_long (flat_map (export_as_specs machine dll) exports) ≡ false → AllByRecursion (ThirdMeans machine dll means) exports
-  texts_read machine dll [] plain sound free fit = tt
-  texts_read machine dll (e ∷ exports) plain sound free fit =
-      let specs = flat_map (export_as_specs machine dll) exports in
-      let parts = or_parts (list_any is_too_long (export_as_specs machine dll e)) (list_any is_too_long specs)
-      (sym (list_any-append is_too_long (export_as_specs machine dll e) specs) ∙ fit) in
-      (here, texts_read machine dll exports plain.1 sound.1 free parts.1)
-    where
-      here : ThirdMeans machine dll means e
-      here name is =
-          let specs = flat_map (export_as_specs machine dll) exports in
-          let parts = or_parts (list_any is_too_long (export_as_specs machine dll e)) (list_any is_too_long specs)
-          (sym (list_any-append is_too_long (export_as_specs machine dll e) specs) ∙ fit) in
-          let own = ap (λ o. list_any is_too_long (export_as_specs_by machine dll e o)) (sym is) ∙ parts.0 in
-          let short = (or_parts (is_too_long (export_as_spec machine dll e name)) false own).0 in
-          text_means defined machine dll.text e name is plain.0 (subst (λ o. Sound (kept_by o e)) is sound.0) free (short_enough (export_as_spec machine dll e name) short)
 
   module _ (imports : SameShortImports) (objects : SameObjects) (d : DefinitionView) (machine : MachineType) (members : List MemberView)
       (made : MadeByTexts d machine members) (once : renamed (kept_definition d) ≡ kept_definition d) (plain : AllByRecursion (λ e. e.symbol_name ≡ []) (public_exports d)) where
@@ -174,13 +206,10 @@ module _ (defined : List ℕ → Option Place) where
         (sym (map_twice file_found (λ (p : MemberSpec). (member_of p).bytes) specs)
         ∙ files_as imports objects (map (λ (p : MemberSpec). (member_of p).bytes) specs) (files_of_specs specs) files_there (files_plain machine k))
 
-    plain_public : AllByRecursion (λ e. e.symbol_name ≡ []) (public_exports k)
-    plain_public = subst (λ (x : List ExportView). AllByRecursion (λ e. e.symbol_name ≡ []) x) (sym (public_kept d.exports)) (plain_kept (public_exports d) plain)
-
     kept_means : map meaning_of_class (drop 3 (map (class_of_spec defined) specs)) ≡ map Some kept_meanings
     kept_means =
         let own = map member_of specs in
-        let reads = reads_in_order k machine made.all own made.made made.reads.files once plain_public refl in
+        let reads = reads_in_order k machine made.all own made.made made.reads.files once (plain_public_kept d plain) refl in
         let fs = files_of_specs specs in
         let means_these : map meaning_of (drop 3 fs) ≡ map Some kept_meanings =
         sym (read_meanings (drop 3 fs))
@@ -216,11 +245,6 @@ module _ (defined : List ℕ → Option Place) where
     abbrev meanings : List Meaning
     meanings = map MeansImport (own_imports machine k) ++ flat_map (later_meanings machine d.import_name) (public_exports d)
 
-    sound_kept : AllByRecursion Sound (map kept (public_exports d))
-    sound_kept =
-        subst (λ (x : List ExportView). AllByRecursion Sound x) (public_kept d.exports)
-        (subst (λ (x : DefinitionView). AllByRecursion Sound (public_exports x)) once (exports_sound k machine Msvc made.all made.made))
-
     header_there : (ps : List MemberSpec) → take 3 (map (class_of_spec defined) (header_specs machine (names_for Msvc d) ++ ps)) ≡ take 3 (map (class_of_spec defined) specs)
     unfolding header_specs
     header_there ps = refl
@@ -230,7 +254,11 @@ module _ (defined : List ℕ → Option Place) where
     has_header meant are =
         let i = all_import_specs machine k in
         let later = flat_map (later_specs machine (names_for Msvc d)) (public_exports d) in
-        let third = texts_read machine (names_for Msvc d) (public_exports d) plain sound_kept (import_name_is_free k machine Msvc made.all made.made) made.fit in
+        let dll = names_for Msvc d in
+        let third : AllByRecursion (ThirdMeans machine dll means) (public_exports d) =
+        texts_are machine dll (λ e name. means (export_as_spec machine dll e name) ≡ Some (MeansImport (expected_import machine dll.text e)))
+        (λ e name text. text_means defined machine dll.text e name text.is text.plain text.sound (import_name_is_free k machine Msvc made.all made.made) text.fits)
+        (public_exports d) (texts_of d machine members made once plain) in
         record {
           first = ap (take 3) are ∙ header_there (i ++ later) ∙ ap (take 3) kept_classes ∙ header_read defined machine k;
           rest =
@@ -243,6 +271,19 @@ module _ (defined : List ℕ → Option Place) where
         }
 
 -- Libraries with third texts.
+
+-- what is read of one: the classes of its tables, and after them what its members mean
+pub header_by_texts : OwnMembersFound → SameShortImports → SameObjects → (kind : Kind) (d : DefinitionView) (machine : MachineType) (members : List MemberView) (meant : List MemberRead)
+    → MadeByTexts (renamed d) machine members → AllByRecursion (λ e. e.symbol_name ≡ []) (public_exports (renamed d))
+    → refusal_of kind members ≡ None → library_in (archive_of kind members) ≡ Some meant
+    → HasHeader 3 (Descriptor ∷ NullDescriptor ∷ NullThunk ∷ []) meant
+    (map MeansImport (own_imports machine (kept_definition (renamed d))) ++ flat_map (later_meanings machine (renamed d).import_name) (public_exports (renamed d)))
+header_by_texts own imports objects kind d machine members meant made plain accepted there =
+    let x = renamed d in
+    let once : renamed (kept_definition x) ≡ kept_definition x = kept_renamed x ∙ ap kept_definition (renamed_twice d) in
+    let cs = classes_of own kind (export_as_library machine x) members meant made.is accepted there in
+    has_header cs.defined imports objects x machine members made once plain meant cs.are
+
 says_by_texts : OwnMembersFound → SameShortImports → SameObjects → (kind : Kind) (d : DefinitionView) (machine : MachineType) (members : List MemberView) (meant : List MemberRead)
     → MadeByTexts (renamed d) machine members → AllByRecursion (λ e. e.symbol_name ≡ []) (public_exports (renamed d))
     → refusal_of kind members ≡ None → library_in (archive_of kind members) ≡ Some meant
@@ -252,9 +293,7 @@ says_by_texts own imports objects kind d machine members meant made plain accept
     let x = renamed d in
     let k = kept_definition x in
     let exports = public_exports x in
-    let once : renamed k ≡ k = kept_renamed x ∙ ap kept_definition (renamed_twice d) in
-    let cs = classes_of own kind (export_as_library machine x) members meant made.is accepted there in
-    let has = has_header cs.defined imports objects x machine members made once plain meant cs.are in
+    let has = header_by_texts own imports objects kind d machine members meant made plain accepted there in
     let later = flat_map (later_meanings machine x.import_name) exports in
     let whole = after_header 3 (Descriptor ∷ NullDescriptor ∷ NullThunk ∷ []) meant (map MeansImport (own_imports machine k) ++ later) refl refl refl has.first has.rest in
     let expected = expected_import machine x.import_name in

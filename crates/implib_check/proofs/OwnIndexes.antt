@@ -1,27 +1,14 @@
 -- The indexes of the library of a definition.
 use Rattle.std.proofs.Common.{◌≡◌, ◌∙◌, ℕ, zero, suc, ◌+◌, ◌-◌, ◌%◌, ◌^◌, ◌<◌, ◌≤◌, ◌==◌, Bool, true, false, ◌||◌, List, [], ◌∷◌, ◌++◌, Option, None, Some, ap, arith, bytes_eq, codes, drop, if◌then◌else◌, inl, inr, length, map, nat_lt, refl, subst, sym, take, unwrap_or}
-use Rattle.std.specs.List.{AllByRecursion, cons_option, filter_map, list_all, list_any}
+use Rattle.std.specs.List.{AllByRecursion, cons_option, filter_map, list_any}
 use Rattle.std.specs.Map.{lookup}
 use Rattle.std.specs.Option.{option_and_then, option_map, option_or}
 use Rattle.std.specs.Prelude.{slice_get}
-use Rattle.std.proofs.lemmas.Bool.{lt-ltb, true≢false}
+use Rattle.std.proofs.lemmas.Bool.{true≢false}
 use Rattle.std.proofs.lemmas.Option.{same_Some}
 use Rattle.std.proofs.lemmas.Slice.Eq.{bytes_eq-Decides}
-use Rattle.implib.specs.Formats.File.{File, ShortImportFile, ObjectFile, declared_by, file_in}
-use Rattle.implib.specs.declared.flavor.Flavor.{Flavor}
-use Rattle.implib.specs.declared.flavor.Flavor.TheVariants.{Msvc}
-use Rattle.implib.specs.declared.flavor.Flavor.TheVariants.{Gnu as ForGnu}
-use Rattle.implib.specs.declared.machine.MachineType.{MachineType}
-use Rattle.implib.specs.Definition.{DefinitionView}
-use Rattle.implib.specs.Members.GnuMembers.{tail_spec}
-use Rattle.implib.specs.Members.Members.{AreMembersOf, member_specs}
-use Rattle.implib.specs.Members.MemberSpec.{MemberSpec, MemberView, member_of as made_of}
-use Rattle.implib.specs.Members.MsvcMembers.{descriptor_spec, header_specs}
-use Rattle.implib.specs.Members.ReadBack.{GnuReadBack, ReadBack, file_of}
-use Rattle.implib.specs.Renaming.{renamed}
-use Rattle.implib.proofs.Members.MemberReadings.{map_after}
-use Rattle.implib.proofs.Members.Renaming.{renamed_twice}
-use Rattle.implib_archive.specs.Archive.{archive_of, entries_from, entries_of, first_linker, first_place, long_names, name_field, names_bytes, places_of, second_linker, sorted_entries}
+use Rattle.implib.specs.Members.MemberSpec.{MemberView}
+use Rattle.implib_archive.specs.Archive.{archive_of, entries_of, first_linker, first_place, long_names, name_field, names_bytes, places_of, second_linker, sorted_entries}
 use Rattle.implib_archive.specs.Leads.{first_lister, header_for, headers_among, headers_in, numbered, second_header_for, with_header}
 use Rattle.implib_archive.specs.Parts.{field, padding}
 use Rattle.implib_archive.specs.ReadBack.{padded, parts_of, read_view, stored, stored_linkers, stored_member, stored_names}
@@ -48,16 +35,14 @@ use Rattle.implib_read.proofs.OwnArchives.{bytes_as, bytes_by, found_by, is_know
 use Rattle.implib_read.specs.Objects.{SameObjects}
 use Rattle.implib_read.specs.OwnLibraries.{OwnMembersFound}
 use Rattle.implib_read.specs.ShortImports.{SameShortImports}
-use Rattle.implib_read.proofs.OwnGnuLibrary.{gnu_files_plain, gnu_files_read, own_gnu_files}
-use Rattle.implib_read.proofs.OwnMembers.{files_as, files_of_specs, found_of, is_plain}
 use Rattle.implib_read.proofs.OwnMsvc.{map_twice}
-use Rattle.implib_rules.specs.Library.{kind_of}
-use Rattle.implib_rules.specs.Order.{LibraryReads, library_specs, msvc_specs}
+use Rattle.implib_rules.specs.Library.{definition_text, kind_of}
+use Rattle.implib_rules.proofs.PlainNames.{plain_of}
 use Rattle.implib_check.specs.OwnIndexes.{IndexesLead, OwnIndexesLead}
 use Rattle.implib_compare.specs.Working.{is_linker, linker_member, misleading, second_misleads, with_offset}
 use Rattle.implib_compare.proofs.FirstEntries.{none_misleads, pair_of}
 use Rattle.implib_check.proofs.IndexReadings.{index_there}
-use Rattle.implib_check.proofs.OwnLibraries.{files_plain, files_read, made_plainly}
+use Rattle.implib_check.proofs.ListedSymbols.{symbols_listed}
 use Rattle.implib_check.proofs.SecondIndex.{second_there}
 
 -- The offsets of members.
@@ -409,80 +394,20 @@ archive_leads same kind members accepted some a there declared =
 
 -- Libraries of definitions.
 
-declared_of : (fs : List File) → map declared_by_found (map found_of fs) ≡ map declared_by fs
-unfolding found_of
-declared_of [] = refl
-declared_of (ShortImportFile r ∷ fs) = ap (λ others. declared_by (ShortImportFile r) ∷ others) (declared_of fs)
-declared_of (ObjectFile o ∷ fs) = ap (λ others. declared_by (ObjectFile o) ∷ others) (declared_of fs)
-
-listed_of : (members : List MemberView) (fs : List File) → map (λ m. file_in m.bytes) members ≡ map Some fs
-    → map (λ m. option_map declared_by (file_in m.bytes)) members ≡ map (λ m. Some m.symbols) members → map declared_by fs ≡ map (λ m. m.symbols) members
-listed_of [] [] files declared = refl
-listed_of [] (f ∷ fs) files declared = cc
-listed_of (m ∷ members) [] files declared = cc
-listed_of (m ∷ members) (f ∷ fs) files declared =
-    let file : file_in m.bytes ≡ Some f = cc in
-    let files' : map (λ m. file_in m.bytes) members ≡ map Some fs = cc in
-    let symbols : option_map declared_by (file_in m.bytes) ≡ Some m.symbols = cc in
-    let declared' : map (λ m. option_map declared_by (file_in m.bytes)) members ≡ map (λ m. Some m.symbols) members = cc in
-    let first : declared_by f ≡ m.symbols = same_Some _ _ (sym (ap (option_map declared_by) file) ∙ symbols) in
-    ap (λ s. s ∷ map declared_by fs) first ∙ ap (λ others. m.symbols ∷ others) (listed_of members fs files' declared')
-
--- what is read of members: files that both readers have, with the symbols that the members list
-record HasFiles (members : List MemberView) : Type 0 where
-  fs : List File
-  files : map (λ m. file_in m.bytes) members ≡ map Some fs
-  plain : list_all is_plain fs ≡ true
-  declared : map (λ m. option_map declared_by (file_in m.bytes)) members ≡ map (λ m. Some m.symbols) members
-
-has_files : (d : DefinitionView) (machine : MachineType) (flavor : Flavor) (all members : List MemberView) → AreMembersOf (renamed d) machine flavor all → ReadBack (renamed d) machine flavor all
-    → members ≡ map made_of (library_specs (renamed d) machine flavor) → LibraryReads (renamed d) machine flavor members → HasFiles members
-has_files d machine Msvc all members made back is reads =
-    let specs = msvc_specs machine (renamed d) in
-    record {
-      fs = files_of_specs specs;
-      files = ap (map (λ (m : MemberView). file_in m.bytes)) is
-          ∙ map_after (λ (m : MemberView). file_in m.bytes) made_of specs
-          ∙ files_read machine (renamed d) all made back.files (renamed_twice d)
-          ∙ sym (map_twice Some (λ (p : MemberSpec). file_of p.contents) specs);
-      plain = files_plain machine (renamed d);
-      declared = reads.declared;
-    }
-has_files d machine ForGnu all members made back is reads =
-    let same : all ≡ members = made.made ∙ ap (λ (x : DefinitionView). map made_of (member_specs x machine ForGnu)) (renamed_twice d) ∙ sym is in
-    let read = subst (GnuReadBack (renamed d) machine) same back in
-    record {
-      fs = own_gnu_files (renamed d) machine;
-      files = gnu_files_read (renamed d) machine members read;
-      plain = gnu_files_plain (renamed d) machine;
-      declared = read.declared;
-    }
-
--- the first member lists a symbol
-some_listed : (d : DefinitionView) (machine : MachineType) (flavor : Flavor) → nat_lt 0 (length (entries_of Gnu (map made_of (library_specs d machine flavor)))) ≡ true
-unfolding entries_of entries_from header_specs descriptor_spec tail_spec
-some_listed d machine Msvc = lt-ltb 0 (suc _) (omega arith)
-some_listed d machine ForGnu = lt-ltb 0 (suc _) (omega arith)
-
 pub library_leads : SameParts → OwnMembersFound → SameShortImports → SameObjects → OwnIndexesLead
-library_leads parts own imports objects definition options file a off is there =
+library_leads parts own imports objects definition options file a is there =
     let made = is.members_for in
     let members = is.members in
-    let plainly = made_plainly options.naming (renamed made.definition) options.machine options.flavor members made.made_for off in
     let kind = kind_of options.flavor members in
-    let d = renamed made.definition in
     let contents = map (λ (m : MemberView). m.bytes) members in
     let archive_there : archive_in (archive_of kind members) ≡ Some a = sym (ap archive_in is.is) ∙ there in
     let bytes : map (λ m. m.bytes) a.members ≡ contents =
     same_Some _ _ (sym (ap (option_map (λ (x : Archive). map (λ m. m.bytes) x.members)) archive_there) ∙ own kind members is.accepted) in
-    let has = has_files made.definition options.machine options.flavor plainly.all members plainly.made plainly.reads plainly.is (made.library_reads off) in
-    let files : map file_in contents ≡ map Some has.fs = map_twice file_in (λ (m : MemberView). m.bytes) members ∙ has.files in
+    let listed = symbols_listed imports objects options.naming made.definition options.machine options.flavor members made.made_for
+    (plain_of (definition_text definition) options made.definition made.of_text) made.library_reads in
     let declared : map (λ m. declared_by_found (file_found m.bytes)) a.members ≡ map (λ (m : MemberView). m.symbols) members =
     sym (map_twice (λ b. declared_by_found (file_found b)) (λ (m : StoredMember). m.bytes) a.members)
     ∙ ap (map (λ b. declared_by_found (file_found b))) bytes
-    ∙ sym (map_twice declared_by_found file_found contents)
-    ∙ ap (map declared_by_found) (files_as imports objects contents has.fs files has.plain)
-    ∙ declared_of has.fs
-    ∙ listed_of members has.fs has.files has.declared in
-    let some = ap (λ (ms : List MemberView). nat_lt 0 (length (entries_of Gnu ms))) plainly.is ∙ some_listed d options.machine options.flavor in
-    archive_leads parts kind members is.accepted some a archive_there declared
+    ∙ map_twice (λ b. declared_by_found (file_found b)) (λ (m : MemberView). m.bytes) members
+    ∙ listed.declared in
+    archive_leads parts kind members is.accepted listed.some a archive_there declared

@@ -1,6 +1,7 @@
 -- The import tables of the library of a definition: they are whole, and of one DLL.
 use Rattle.std.proofs.Common.{◌≡◌, ◌∙◌, ℕ, ◌+◌, Bool, true, false, ◌&&◌, ◌||◌, inl, inr, ◌⊎◌, List, [], ◌∷◌, ◌++◌, Option, None, Some, ap, codes, drop, fold, if◌then◌else◌, length, map, refl, reverse, subst, sym, take}
-use Rattle.std.specs.List.{AllByRecursion, cons_option, filter_map, list_any}
+use Rattle.std.specs.List.{AllByRecursion, cons_option, filter, filter_map, list_any}
+use Rattle.std.specs.Prelude.{not}
 use Rattle.std.specs.Option.{option_map, option_map_or}
 use Rattle.std.proofs.lemmas.Bool.{true≢false}
 use Rattle.std.proofs.lemmas.List.{reverse-reverse, take-append-drop}
@@ -18,6 +19,7 @@ use Rattle.implib.specs.LibraryName.{names_for}
 use Rattle.implib.specs.Members.Gnu.{weak_address_name, weak_name}
 use Rattle.implib.specs.Members.GnuMembers.{alias_specs, export_spec, numbered_specs, numbered_specs_of}
 use Rattle.implib.specs.Members.GnuReader.{externals_in, section_named, text_section}
+use Rattle.implib.specs.Members.MemberLists.{is_weak}
 use Rattle.implib.specs.Members.Members.{AreMembersOf, member_specs}
 use Rattle.implib.specs.Members.MemberSpec.{MemberSpec, MemberView, member_of}
 use Rattle.implib.specs.Members.ReadBack.{GnuReadBack, ReadBack, file_of, import_among}
@@ -42,16 +44,22 @@ use Rattle.implib_read.proofs.OwnGnu.{reversed_all}
 use Rattle.implib_read.proofs.OwnGnuLibrary.{gnu_files_plain, gnu_files_read, own_gnu_files}
 use Rattle.implib_read.proofs.OwnMembers.{files_as, files_of_specs, found_of}
 use Rattle.implib_read.proofs.OwnMsvc.{archive_by, classes_read, map_twice}
-use Rattle.implib_rules.specs.Order.{LibraryReads, library_specs}
+use Rattle.implib_rules.specs.ExportAs.{AreMadeFor}
+use Rattle.implib_rules.specs.Library.{definition_text}
+use Rattle.implib_rules.specs.Linked.{NamingView}
+use Rattle.implib_rules.specs.Order.{LibraryReads, library_specs, own_imports}
+use Rattle.implib_rules.proofs.PlainNames.{plain_of}
 use Rattle.implib_compare.specs.declared.working.Piece.{Piece}
 use Rattle.implib_compare.specs.declared.working.Piece.TheVariants as piece
 use Rattle.implib_compare.specs.declared.working.Working.TheVariants.{Works}
 use Rattle.implib_compare.specs.Comparison.{has_unread}
 use Rattle.implib_read.specs.Identity.{dll_of, dlls_of, with_dll_of, with_name}
-use Rattle.implib_check.specs.OwnLibraries.{MeantIsDefined, SaysWhatIsDefined, by_export, imports_meant, meanings_read}
+use Rattle.implib_check.specs.OwnExportAs.{MeantIsMade, SaysWhatIsMade, has_third_text, imports_by_texts, imports_made}
+use Rattle.implib_check.specs.OwnLibraries.{by_export, meanings_read}
 use Rattle.implib_check.specs.OwnTables.{OwnTablesAreWhole}
 use Rattle.implib_compare.specs.Flavors.{flavor_of, is_for_msvc, tells_code}
 use Rattle.implib_compare.specs.Working.{has_one_from, has_whole_tables, is_piece, works_of}
+use Rattle.implib_check.proofs.MadeLibraries.{header_by_texts, made_by_texts}
 use Rattle.implib_check.proofs.OwnLibraries.{HasHeader, all_told, any_members, header_msvc, made_plainly}
 
 -- Parts of import tables.
@@ -228,9 +236,16 @@ expected_of_dll : (machine : MachineType) (dll : List ℕ) (exports : List Expor
 expected_of_dll machine dll [] = tt
 expected_of_dll machine dll (e ∷ exports) = (refl, expected_of_dll machine dll exports)
 
-meant_of_dll : (flavor : Flavor) (machine : MachineType) (d : DefinitionView) → AllByRecursion (λ (i : Import). i.dll ≡ d.import_name) (imports_meant flavor machine d)
-meant_of_dll Msvc machine d = expected_of_dll machine d.import_name _
-meant_of_dll Gnu machine d = expected_of_dll machine d.import_name _
+texts_of_dll : (b : Bool) (machine : MachineType) (d : DefinitionView) → AllByRecursion (λ (i : Import). i.dll ≡ d.import_name) (if b then imports_by_texts machine d else own_imports machine d)
+texts_of_dll true machine d =
+    all_append (λ (i : Import). i.dll ≡ d.import_name) (map (expected_import machine d.import_name) (filter (λ e. not (has_third_text e) && not (is_weak e)) (public_exports d)))
+    (map (expected_import machine d.import_name) (filter has_third_text (public_exports d)))
+    (expected_of_dll machine d.import_name _) (expected_of_dll machine d.import_name _)
+texts_of_dll false machine d = expected_of_dll machine d.import_name _
+
+made_of_dll : (naming : NamingView) (flavor : Flavor) (machine : MachineType) (d : DefinitionView) → AllByRecursion (λ (i : Import). i.dll ≡ d.import_name) (imports_made naming flavor machine d)
+made_of_dll naming Msvc machine d = texts_of_dll naming.exports_as machine d
+made_of_dll naming Gnu machine d = expected_of_dll machine d.import_name _
 
 in_any_order : (flavor : Flavor) (dll : List ℕ) (ms : List Meaning) → AllByRecursion (OfDll dll) (by_export flavor ms) → AllByRecursion (OfDll dll) ms
 in_any_order Msvc dll ms all = all
@@ -265,12 +280,12 @@ dlls_one dll names (m ∷ members) so_far all = by m.class (λ ns. dlls_one dll 
     by Other rest so_far all = rest names so_far all
     by NotUnderstood rest so_far all = rest names so_far all
 
-says_one : (flavor : Flavor) (machine : MachineType) (d : DefinitionView) (members : List MemberRead) → SaysWhatIsDefined d machine flavor members → IsOneOf d.import_name (dlls_of members)
+says_one : (naming : NamingView) (flavor : Flavor) (machine : MachineType) (d : DefinitionView) (members : List MemberRead) → SaysWhatIsMade naming d machine flavor members → IsOneOf d.import_name (dlls_of members)
 unfolding IsOneOf
-says_one flavor machine d members says =
+says_one naming flavor machine d members says =
     dlls_one d.import_name [] members (inl refl)
     (in_any_order flavor d.import_name (meanings_read members)
-    (all_of_dll d.import_name (by_export flavor (meanings_read members)) (subst (AllByRecursion (λ (i : Import). i.dll ≡ d.import_name)) (sym says.imports) (meant_of_dll flavor machine d))))
+    (all_of_dll d.import_name (by_export flavor (meanings_read members)) (subst (AllByRecursion (λ (i : Import). i.dll ≡ d.import_name)) (sym says.imports) (made_of_dll naming flavor machine d))))
 
 works : (dll : List ℕ) (names : List (List ℕ)) (unread whole : Bool) → unread ≡ false → whole ≡ true → IsOneOf dll names → works_of false unread (length names) whole ≡ Works
 unfolding IsOneOf
@@ -320,25 +335,46 @@ flavor_gnu own imports objects kind d machine members meant ms back accepted the
     ap (λ b. if b then Msvc else Gnu)
     (any_members is_for_msvc meant ∙ ap (list_any is_for_msvc) (with_header 2 (Tail ∷ Head ∷ []) meant has.first) ∙ ap (list_any is_for_msvc) rest ∙ untold)
 
-whole : OwnMembersFound → SameShortImports → SameObjects → OwnGnuLibraries → (kind : Kind) (d : DefinitionView) (machine : MachineType) (flavor : Flavor) (all members : List MemberView) (meant : List MemberRead)
+whole_plainly : OwnMembersFound → SameShortImports → SameObjects → OwnGnuLibraries → (kind : Kind) (d : DefinitionView) (machine : MachineType) (flavor : Flavor) (all members : List MemberView) (meant : List MemberRead)
     → AreMembersOf (renamed d) machine flavor all → ReadBack (renamed d) machine flavor all → members ≡ map member_of (library_specs (renamed d) machine flavor)
     → LibraryReads (renamed d) machine flavor members → refusal_of kind members ≡ None → library_in (archive_of kind members) ≡ Some meant
     → has_whole_tables (flavor_of meant) meant ≡ true
-whole own imports objects law kind d machine Msvc all members meant made back is reads accepted there =
+whole_plainly own imports objects law kind d machine Msvc all members meant made back is reads accepted there =
     let has = header_msvc own imports objects kind (renamed d) machine all members meant made back.files (renamed_twice d) is reads accepted there in
     ap (λ f. has_whole_tables f meant) (flavor_msvc meant _ has) ∙ whole_msvc meant _ has
-whole own imports objects law kind d machine Gnu all members meant made back is reads accepted there =
+whole_plainly own imports objects law kind d machine Gnu all members meant made back is reads accepted there =
     let same : all ≡ members = made.made ∙ ap (λ (x : DefinitionView). map member_of (member_specs x machine Gnu)) (renamed_twice d) ∙ sym is in
     let read = subst (GnuReadBack (renamed d) machine) same back in
     let has = header_gnu law kind (renamed d) machine members meant read accepted there in
     ap (λ f. has_whole_tables f meant) (flavor_gnu own imports objects kind (renamed d) machine members meant has.0 read accepted there has.1) ∙ whole_gnu meant has.0 has.1
 
-pub tables_are_whole : OwnMembersFound → SameShortImports → SameObjects → OwnGnuLibraries → MeantIsDefined → OwnTablesAreWhole
-tables_are_whole own imports objects law meant_defined definition options file members off is there =
+whole_with : OwnMembersFound → SameShortImports → SameObjects → OwnGnuLibraries → (kind : Kind) (naming : NamingView) (d : DefinitionView) (machine : MachineType) (flavor : Flavor) (members : List MemberView) (meant : List MemberRead)
+    → naming.exports_as ≡ true → AreMadeFor naming (renamed d) machine flavor members → AllByRecursion (λ e. e.symbol_name ≡ []) (public_exports (renamed d))
+    → refusal_of kind members ≡ None → library_in (archive_of kind members) ≡ Some meant → has_whole_tables (flavor_of meant) meant ≡ true
+whole_with own imports objects law kind naming d machine Msvc members meant on made plain accepted there =
+    let has = header_by_texts own imports objects kind d machine members meant (made_by_texts naming (renamed d) machine members made on) plain accepted there in
+    ap (λ f. has_whole_tables f meant) (flavor_msvc meant _ has) ∙ whole_msvc meant _ has
+whole_with own imports objects law kind naming d machine Gnu members meant on made plain accepted there =
+    whole_plainly own imports objects law kind d machine Gnu made.all members meant made.made made.reads made.is tt accepted there
+
+whole : OwnMembersFound → SameShortImports → SameObjects → OwnGnuLibraries → (kind : Kind) (naming : NamingView) (d : DefinitionView) (machine : MachineType) (flavor : Flavor) (members : List MemberView) (meant : List MemberRead)
+    → AreMadeFor naming (renamed d) machine flavor members → AllByRecursion (λ e. e.symbol_name ≡ []) (public_exports (renamed d))
+    → (naming.exports_as ≡ false → LibraryReads (renamed d) machine flavor members)
+    → refusal_of kind members ≡ None → library_in (archive_of kind members) ≡ Some meant → has_whole_tables (flavor_of meant) meant ≡ true
+whole own imports objects law kind naming d machine flavor members meant made plain reads accepted there = by naming.exports_as refl
+  where
+    by : (b : Bool) → naming.exports_as ≡ b → has_whole_tables (flavor_of meant) meant ≡ true
+    by true on = whole_with own imports objects law kind naming d machine flavor members meant on made plain accepted there
+    by false off =
+        let plainly = made_plainly naming (renamed d) machine flavor members made off in
+        whole_plainly own imports objects law kind d machine flavor plainly.all members meant plainly.made plainly.reads plainly.is (reads off) accepted there
+
+pub tables_are_whole : OwnMembersFound → SameShortImports → SameObjects → OwnGnuLibraries → MeantIsMade → OwnTablesAreWhole
+tables_are_whole own imports objects law meant_made definition options file members is there =
     let made = is.members_for in
-    let plainly = made_plainly options.naming (renamed made.definition) options.machine options.flavor is.members made.made_for off in
-    let says = meant_defined definition options file members off is there in
+    let says = meant_made definition options file members is there in
     let read = sym (ap library_in is.is) ∙ there in
+    let plain = plain_of (definition_text definition) options made.definition made.of_text in
     works _ (dlls_of members) (has_unread members) (has_whole_tables (flavor_of members) members) says.says.read
-    (whole own imports objects law _ made.definition options.machine options.flavor plainly.all is.members members plainly.made plainly.reads plainly.is (made.library_reads off) is.accepted read)
-    (says_one options.flavor options.machine (renamed says.d) members says.says)
+    (whole own imports objects law _ options.naming made.definition options.machine options.flavor is.members members made.made_for plain made.library_reads is.accepted read)
+    (says_one options.naming options.flavor options.machine (renamed says.d) members says.says)

@@ -12,12 +12,13 @@ use Rattle.implib.specs.Formats.Object.{u16_at}
 use Rattle.implib.specs.Formats.ShortImport.{before_at_sign, is_short_import, short_import_header_size, text_in, without_prefix}
 use Rattle.implib.specs.Import.{Ask, Name, Ordinal, expected_import, holds, import_symbols, is_alias, is_empty_text}
 use Rattle.implib.specs.Machine.{machine_number}
-use Rattle.implib.specs.Members.Msvc.{short_import_bytes, short_import_size, short_import_symbol, symbol_or_name}
+use Rattle.implib.specs.Members.Msvc.{short_import_bytes, short_import_size, short_import_symbol, short_import_symbols, symbol_or_name}
 use Rattle.implib.specs.Underscore.{asked_name}
 use Rattle.implib.proofs.Members.NotRefused.{Sound}
 use Rattle.implib_read.specs.Classes.{class_of_file, class_of_import, kind_of_type}
 use Rattle.implib_read.specs.Files.{file_found, short_import_or_object}
 use Rattle.implib_read.specs.Following.{Place}
+use Rattle.implib_read.specs.Leads.{declared_by_found}
 use Rattle.implib_read.specs.Objects.{object_found}
 use Rattle.implib_read.specs.OwnLibraries.{meaning_of_class}
 use Rattle.implib_read.specs.ShortImports.{arm64ec, fields_with, found_from, found_with, last_text, no_text, short_import_found}
@@ -57,14 +58,18 @@ meaning_by true false written told dll symbol name hint machine kind is other sa
 meaning_by true true written told dll symbol name hint machine kind is other same = absurd (true≢false other)
 meaning_by false ec written told dll symbol name hint machine kind is other same = absurd (true≢false (sym is))
 
--- what is read of a short import with a third text means the import that it is
+-- what is read of a short import with a third text: it means the import that it is, and declares its symbols
+pub record IsRead (defined : List ℕ → Option Place) (bytes : List ℕ) (r : ExportAsRead) : Type 0 where
+  pub means : meaning_of_class (class_of_file defined (file_found bytes)) ≡ Some (MeansImport r.import)
+  pub declares : declared_by_found (file_found bytes) ≡ r.import.declared
+
 module _ (defined : List ℕ → Option Place) (bytes : List ℕ) (r : ExportAsRead) (other : (r.machine == arm64ec) ≡ false) where
-  found_means : (symbol dll name rest more : List ℕ) → is_short_import bytes ≡ true → HasTypes (u16_at bytes 18)
+  found_reads : (symbol dll name rest more : List ℕ) → is_short_import bytes ≡ true → HasTypes (u16_at bytes 18)
       → text_in (drop short_import_header_size bytes) ≡ Some (symbol, rest) → text_in rest ≡ Some (dll, more) → text_in more ≡ Some (name, [])
       → export_as_of bytes symbol dll (Some (name, [])) ≡ Some r
-      → meaning_of_class (class_of_file defined (file_found bytes)) ≡ Some (MeansImport r.import)
+      → IsRead defined bytes r
   unfolding short_import_found
-  found_means symbol dll name rest more short types first second third is =
+  found_reads symbol dll name rest more short types first second third is =
       let own = same_Some _ _ is in
       let found : short_import_found bytes ≡ Some (record { fields = fields_with bytes symbol dll; exported = Some name }) =
       ap (λ b. if b then found_from bytes (text_in (drop short_import_header_size bytes)) else None) short
@@ -72,42 +77,49 @@ module _ (defined : List ℕ → Option Place) (bytes : List ℕ) (r : ExportAsR
       ∙ ap (found_with bytes symbol) second
       ∙ ap (λ b. option_map (λ (exported : Option (List ℕ)). record { fields = fields_with bytes symbol dll; exported = exported }) (if b then last_text (text_in more) else no_text more)) types.name_type
       ∙ ap (λ t. option_map (λ (exported : Option (List ℕ)). record { fields = fields_with bytes symbol dll; exported = exported }) (last_text t)) third in
-      ap (λ o. meaning_of_class (class_of_file defined (short_import_or_object o (object_found bytes)))) found
-      ∙ meaning_by (nat_le (u16_at bytes 18 % 4) 2) (u16_at bytes 6 == arm64ec) (u16_at bytes 18 % 4 == 1) (u16_at bytes 18 == 4 * 4 + 1) dll symbol name (u16_at bytes 16) (u16_at bytes 6) (kind_of_type (u16_at bytes 18 % 4))
-      types.import_type (ap (λ x. x.machine == arm64ec) own ∙ other) types.data_told
-      ∙ ap (λ x. Some (MeansImport x.import)) own
+      record {
+        means =
+            ap (λ o. meaning_of_class (class_of_file defined (short_import_or_object o (object_found bytes)))) found
+            ∙ meaning_by (nat_le (u16_at bytes 18 % 4) 2) (u16_at bytes 6 == arm64ec) (u16_at bytes 18 % 4 == 1) (u16_at bytes 18 == 4 * 4 + 1) dll symbol name (u16_at bytes 16) (u16_at bytes 6) (kind_of_type (u16_at bytes 18 % 4))
+            types.import_type (ap (λ x. x.machine == arm64ec) own ∙ other) types.data_told
+            ∙ ap (λ x. Some (MeansImport x.import)) own;
+        declares =
+            ap (λ o. declared_by_found (short_import_or_object o (object_found bytes))) found
+            ∙ ap (λ b. import_symbols b symbol) types.data_told
+            ∙ ap (λ x. x.import.declared) own;
+      }
 
   by_name : (t : Option (List ℕ × List ℕ)) (symbol dll rest more : List ℕ) → is_short_import bytes ≡ true → HasTypes (u16_at bytes 18)
       → text_in (drop short_import_header_size bytes) ≡ Some (symbol, rest) → text_in rest ≡ Some (dll, more) → text_in more ≡ t
       → export_as_of bytes symbol dll t ≡ Some r
-      → meaning_of_class (class_of_file defined (file_found bytes)) ≡ Some (MeansImport r.import)
+      → IsRead defined bytes r
   by_name None symbol dll rest more short types first second third is = cc
   by_name (Some (name, b ∷ others)) symbol dll rest more short types first second third is = cc
-  by_name (Some (name, [])) symbol dll rest more short types first second third is = found_means symbol dll name rest more short types first second third is
+  by_name (Some (name, [])) symbol dll rest more short types first second third is = found_reads symbol dll name rest more short types first second third is
 
   by_dll : (t : Option (List ℕ × List ℕ)) (symbol rest : List ℕ) → is_short_import bytes ≡ true → HasTypes (u16_at bytes 18)
       → text_in (drop short_import_header_size bytes) ≡ Some (symbol, rest) → text_in rest ≡ t
       → export_as_after_dll bytes symbol t ≡ Some r
-      → meaning_of_class (class_of_file defined (file_found bytes)) ≡ Some (MeansImport r.import)
+      → IsRead defined bytes r
   by_dll None symbol rest short types first second is = cc
   by_dll (Some (dll, more)) symbol rest short types first second is = by_name (text_in more) symbol dll rest more short types first second refl is
 
   by_symbol : (t : Option (List ℕ × List ℕ)) → is_short_import bytes ≡ true → HasTypes (u16_at bytes 18) → text_in (drop short_import_header_size bytes) ≡ t
       → export_as_after_symbol bytes t ≡ Some r
-      → meaning_of_class (class_of_file defined (file_found bytes)) ≡ Some (MeansImport r.import)
+      → IsRead defined bytes r
   by_symbol None short types first is = cc
   by_symbol (Some (symbol, rest)) short types first is = by_dll (text_in rest) symbol rest short types first refl is
 
   by_tests : (a b c : Bool) → is_short_import bytes ≡ a → nat_le 16 (u16_at bytes 18) ≡ b → nat_le (u16_at bytes 18) 18 ≡ c
       → (if a && b && c then export_as_after_symbol bytes (text_in (drop short_import_header_size bytes)) else None) ≡ Some r
-      → meaning_of_class (class_of_file defined (file_found bytes)) ≡ Some (MeansImport r.import)
+      → IsRead defined bytes r
   by_tests true true true short from to is = by_symbol (text_in (drop short_import_header_size bytes)) short (types_of (u16_at bytes 18) from to) refl is
   by_tests true true false short from to is = cc
   by_tests true false c short from to is = cc
   by_tests false b c short from to is = cc
 
-  read_means : export_as_in bytes ≡ Some r → meaning_of_class (class_of_file defined (file_found bytes)) ≡ Some (MeansImport r.import)
-  read_means is = by_tests (is_short_import bytes) (nat_le 16 (u16_at bytes 18)) (nat_le (u16_at bytes 18) 18) refl refl refl is
+  is_read : export_as_in bytes ≡ Some r → IsRead defined bytes r
+  is_read is = by_tests (is_short_import bytes) (nat_le 16 (u16_at bytes 18)) (nat_le (u16_at bytes 18) 18) refl refl refl is
 
 -- a name that is asked for by a third text is another symbol than that of the export
 other_symbol : (symbol name : List ℕ) → is_empty_text name ≡ false → makes symbol name ≡ false → is_alias name symbol ≡ true
@@ -161,12 +173,31 @@ not_other : (b : Bool) → not b ≡ true → b ≡ false
 not_other true is = cc
 not_other false is = refl
 
+-- what its short import is read as
+abbrev pub read_of_text : MachineType → List ℕ → ExportView → List ℕ → ExportAsRead
+read_of_text machine dll e name = record {
+  machine = machine_number machine;
+  symbol = short_import_symbol e;
+  import = record { dll = dll; declared = import_symbols e.is_data (short_import_symbol e); ask = Name name e.ordinal };
+}
+
 -- what is read of its short import
+text_read : (defined : List ℕ → Option Place) (machine : MachineType) (dll : List ℕ) (e : ExportView) (name : List ℕ)
+    → e.symbol_name ≡ [] → Sound (kept_by (Some name) e) → holds 0 dll ≡ false → short_import_size (export_as_import machine dll e name) ≤ 0xFFFF_FFFF
+    → IsRead defined (short_import_bytes (export_as_import machine dll e name)) (read_of_text machine dll e name)
+text_read defined machine dll e name plain sound dll_free fits =
+    let symbol_free : holds 0 (short_import_symbol e) ≡ false = ap (λ s. holds 0 (symbol_or_name s e.name)) plain ∙ sound.name in
+    let read = export_as_reads machine dll e name symbol_free dll_free sound.alias_target (ltb-true e.ordinal 0x1_0000 sound.ordinal) fits in
+    is_read defined (short_import_bytes (export_as_import machine dll e name)) (read_of_text machine dll e name) (not_other (machine_number machine == arm64ec) (machine_plain machine).0) read
+
 pub text_means : (defined : List ℕ → Option Place) (machine : MachineType) (dll : List ℕ) (e : ExportView) (name : List ℕ)
     → exported_name e ≡ Some name → e.symbol_name ≡ [] → Sound (kept_by (Some name) e) → holds 0 dll ≡ false → short_import_size (export_as_import machine dll e name) ≤ 0xFFFF_FFFF
     → meaning_of_class (class_of_file defined (file_found (short_import_bytes (export_as_import machine dll e name)))) ≡ Some (MeansImport (expected_import machine dll e))
 text_means defined machine dll e name is plain sound dll_free fits =
-    let symbol_free : holds 0 (short_import_symbol e) ≡ false = ap (λ s. holds 0 (symbol_or_name s e.name)) plain ∙ sound.name in
-    let read = export_as_reads machine dll e name symbol_free dll_free sound.alias_target (ltb-true e.ordinal 0x1_0000 sound.ordinal) fits in
-    read_means defined (short_import_bytes (export_as_import machine dll e name)) _ (not_other (machine_number machine == arm64ec) (machine_plain machine).0) read
+    (text_read defined machine dll e name plain sound dll_free fits).means
     ∙ ap (λ i. Some (MeansImport i)) (expected_by_text machine dll e name (asks_by_text e name is) plain)
+
+pub text_declares : (machine : MachineType) (dll : List ℕ) (e : ExportView) (name : List ℕ)
+    → e.symbol_name ≡ [] → Sound (kept_by (Some name) e) → holds 0 dll ≡ false → short_import_size (export_as_import machine dll e name) ≤ 0xFFFF_FFFF
+    → declared_by_found (file_found (short_import_bytes (export_as_import machine dll e name))) ≡ short_import_symbols e
+text_declares machine dll e name plain sound dll_free fits = (text_read (λ symbol. None) machine dll e name plain sound dll_free fits).declares

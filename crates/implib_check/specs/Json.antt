@@ -10,6 +10,7 @@ use Rattle.implib_read.specs.IndexViews.{index_entry_view}
 use Rattle.implib_read.specs.declared.import.ImportKind.{ImportKind}
 use Rattle.implib_read.specs.declared.import.ImportKind.TheVariants.{Code, CodeOrConst, Const, Data as OfData}
 use Rattle.serde_json.specs.Data.{Data, Members, no_members, number, object, put, string, unsigned}
+use Rattle.serde_json.specs.Written.{compact_text}
 use Rattle.implib_check.specs.declared.finding.Fault.{Fault}
 use Rattle.implib_check.specs.declared.finding.Fault.TheVariants as fault
 use Rattle.implib_check.specs.declared.finding.Finding.{Finding}
@@ -211,3 +212,7 @@ with_finding (FaultOf path fault) fields = with_fault fault (with_word (codes "l
 -- The object of what is found.
 abbrev pub object_of : FindingView → Data
 object_of f = object (with_finding f (with_word (codes "what") (what_of f) no_members))
+
+-- The line of what is found: the text of its object, with no space, and a line feed.
+abbrev pub line_of : FindingView → List ℕ
+line_of f = compact_text (object_of f) ++ codes "\n"

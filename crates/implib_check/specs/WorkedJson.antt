@@ -1,11 +1,11 @@
 -- What is found, as JSON objects worked by hand.
-use Rattle.std.specs.Prelude.{◌≡◌, ℕ, List, [], ◌∷◌, None, Some, codes}
+use Rattle.std.specs.Prelude.{◌≡◌, ℕ, List, [], ◌∷◌, ◌++◌, None, Some, codes}
 use Rattle.implib.specs.Import.{Name, Ordinal}
 use Rattle.implib_read.specs.Classes.{MemberRead}
 use Rattle.implib_read.specs.declared.import.ImportKind.TheVariants.{Code}
 use Rattle.serde_json.specs.Data.{Data, Members, member, no_members, number, object, string, unsigned}
 use Rattle.implib_check.specs.Json.{Clash, Different, FaultOf, InDefinition, InLibrary, Listed, Missing, MisleadingEntry, NoIndex, NotOnePart}
-use Rattle.implib_check.specs.Json.{SeveralDlls, SideView, UnreadableIndex, object_of, text_of}
+use Rattle.implib_check.specs.Json.{SeveralDlls, SideView, UnreadableIndex, line_of, object_of, text_of}
 use Rattle.implib_compare.specs.Worked.{alias, feed, of_dll}
 use Rattle.implib_compare.specs.declared.working.Piece.TheVariants.{OfHead}
 
@@ -124,3 +124,12 @@ pub record WorkedJson : Type 0 where
   pub latin : text_of (0x66 ∷ 0xFC ∷ 0x72 ∷ []) ≡ 0x66 ∷ 0xEF ∷ 0xBF ∷ 0xBD ∷ 0x72 ∷ []
   pub cut_off : text_of (0xE2 ∷ 0x82 ∷ 0x72 ∷ []) ≡ 0xEF ∷ 0xBF ∷ 0xBD ∷ 0xEF ∷ 0xBF ∷ 0xBD ∷ 0x72 ∷ []
   pub empty : text_of [] ≡ []
+  -- lines: of an import; of a difference, with an object in each field of two; and of a name with a quote, a
+  -- backslash, a line feed, a NUL and a letter that is no ASCII
+  pub line : line_of (Listed (in_library by_name))
+      ≡ codes "{\"dll\":\"zoo.dll\",\"hint\":5,\"kind\":\"code\",\"library\":\"a.lib\",\"machine\":34404,\"member\":\"m\",\"name\":\"feed\",\"offset\":8,\"symbol\":\"feed\",\"what\":\"import\"}\n"
+  pub nested_line : line_of (Missing (in_library by_ordinal) (InDefinition (codes "a.def") None))
+      ≡ codes "{\"here\":{\"dll\":\"zoo.dll\",\"kind\":\"code\",\"library\":\"a.lib\",\"machine\":332,\"member\":\"m\",\"offset\":8,\"ordinal\":7,\"symbol\":\"feed\"},"
+      ++ codes "\"symbol\":\"feed\",\"there\":{\"file\":\"a.def\"},\"what\":\"difference\"}\n"
+  pub escaped_line : line_of (FaultOf (0x61 ∷ 0x22 ∷ 0x5C ∷ 0x0A ∷ 0 ∷ 0xC3 ∷ 0xBC ∷ []) NoIndex)
+      ≡ codes "{\"library\":\"a\\\"\\\\\\n\\u0000" ++ 0xC3 ∷ 0xBC ∷ codes "\",\"what\":\"broken\",\"why\":\"no index\"}\n"

@@ -3,7 +3,7 @@
 ghost use Rattle.std.specs.Prelude.{◌≡◌, IfOk, OnOk, take};
 ghost use Rattle.std.specs.Str.Lossy.{utf8_valid_len};
 ghost use Rattle.std.specs.String.{string_bytes};
-ghost use Rattle.implib_check.specs.Json.{class_word, fault_view, finding_view, object_of, side_object, side_view, site_object, site_view, text_of};
+ghost use Rattle.implib_check.specs.Json.{class_word, fault_view, finding_view, line_of, object_of, side_object, side_view, site_object, site_view, text_of};
 ghost use Rattle.implib_check.specs.Json.{what_of, with_asked, with_class, with_fault, with_finding, with_member, with_name, with_number, with_position};
 ghost use Rattle.implib_check.specs.Json.{with_side, with_sides, with_site, with_word, MisleadingEntry};
 ghost use Rattle.implib_read.specs.ClassViews.{class_view, member_read_view};
@@ -283,12 +283,22 @@ fn put_finding(fields: &mut Fields, alloc: Global, finding: &Finding) -> Result<
     }
 }
 
-/// The JSON object of what is found.
-pub fn object_of(alloc: Global, finding: &Finding) -> Result<Value, AllocError>
+// The JSON object of what is found.
+fn object_of(alloc: Global, finding: &Finding) -> Result<Value, AllocError>
     ensures { IfOk result (λ object. view object ≡ object_of (finding_view finding.now)) }
 {
     let mut fields = Map::new(alloc);
     put_word(&mut fields, alloc, "what", what_of(finding))?;
     put_finding(&mut fields, alloc, finding)?;
     Ok(Value::Object(fields))
+}
+
+/// The line of what is found: its JSON object, and a line feed.
+#[tactic(auto, using(crate::proofs::JsonLines::object_floatless))]
+pub fn line_of(alloc: Global, finding: &Finding) -> Result<String, AllocError>
+    ensures { IfOk result (λ line. string_bytes line ≡ line_of (finding_view finding.now)) }
+{
+    let mut line = object_of(alloc, finding)?.to_string(alloc)?;
+    line.push_str("\n")?;
+    Ok(line)
 }

@@ -61,7 +61,7 @@ pub fn own_tables_are_whole()
     same_short_imports();
     same_objects();
     own_gnu_libraries();
-    meant_is_defined();
+    meant_is_made();
 }
 
 /// Which DLLs libraries have, worked by hand.

@@ -1,7 +1,11 @@
 //! What is written of what is found: each finding on a line, as text or as JSON.
 
+ghost use Rattle.std.specs.Io.KnownBytes.{Appends};
+ghost use Rattle.std.specs.Prelude.{◌≡◌, OnOk, true};
+ghost use Rattle.implib_check.specs.Json.{finding_view, line_of};
+
 use crate::finding::Finding;
-use crate::json::object_of;
+use crate::json::line_of;
 use std::alloc::{AllocError, Global};
 use std::fmt::Write as _;
 use std::io::{BufWriter, ErrorKind, Write};
@@ -73,12 +77,14 @@ pub struct Form {
 }
 
 /// Writes a finding on a line of its own.
-pub fn tell<O: Write>(form: Form, printer: &mut O, finding: &Finding) -> Result<(), Failure> {
-    let mut lines = Lines { writer: printer };
+pub fn tell<O: Write>(form: Form, printer: &mut O, finding: &Finding) -> Result<(), Failure>
+    ensures json { form.is_json ≡ true → OnOk result (Appends (O.contents printer.old) (O.contents printer.new)
+        (line_of (finding_view finding.now))) }
+{
     if form.is_json {
-        let text = object_of(form.alloc, finding)?.to_string(form.alloc)?;
-        writeln!(lines, "{text}")?;
+        printer.write_all(line_of(form.alloc, finding)?.as_bytes())?;
     } else {
+        let mut lines = Lines { writer: printer };
         writeln!(lines, "{finding}")?;
     }
     Ok(())
