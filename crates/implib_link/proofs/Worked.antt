@@ -56,3 +56,4 @@ pub mod NearResults
 pub mod NearTaken
 pub mod A32
 pub mod BothFlavors
+pub mod BothReversed

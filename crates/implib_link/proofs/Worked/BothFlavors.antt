@@ -53,20 +53,20 @@ abbrev own : List Object
 own = choosing ∷ []
 
 -- no name of the ones is one of the others
-apart_by : (others texts : List (List ℕ)) → list_all (λ name. not (list_any (bytes_eq name) others)) texts ≡ true → AllByRecursion (λ name. list_any (bytes_eq name) others ≡ false) texts
+pub apart_by : (others texts : List (List ℕ)) → list_all (λ name. not (list_any (bytes_eq name) others)) texts ≡ true → AllByRecursion (λ name. list_any (bytes_eq name) others ≡ false) texts
 apart_by others [] all = tt
 apart_by others (name ∷ texts) all =
     let parts = and_parts (not (list_any (bytes_eq name) others)) (list_all (λ n. not (list_any (bytes_eq n) others)) texts) all in
     (not-true (list_any (bytes_eq name) others) parts.0, apart_by others texts parts.1)
 
-gnu_archive : IsArchive AMD64 (gnu_among foo_and_zed)
+pub gnu_archive : IsArchive AMD64 (gnu_among foo_and_zed)
 unfolding searched
 gnu_archive = record {
   made = (record { accepted = refl; made = refl; ordinals = refl }, tt);
   distinct = distinct_by (flat_map (symbols_of_library AMD64) (gnu_among foo_and_zed)) refl;
 }
 
-msvc_archive : IsMsvcArchive AMD64 (msvc_among foo_and_zed)
+pub msvc_archive : IsMsvcArchive AMD64 (msvc_among foo_and_zed)
 unfolding searched
 msvc_archive = record {
   made = (record { accepted = refl; made = refl; ordinals = refl }, tt);
@@ -120,12 +120,12 @@ takes_wanted =
       ended = settled_ends AMD64 members wants mixed_taken refl;
     }
 
-claims : AllByRecursion (ClaimsNone (listed_in mixed_taken ++ left_in AMD64 mixed_taken)) (choosing ∷ [])
+pub claims : AllByRecursion (ClaimsNone (listed_in mixed_taken ++ left_in AMD64 mixed_taken)) (choosing ∷ [])
 unfolding searched
 claims = (claims_none_by (listed_in mixed_taken ++ left_in AMD64 mixed_taken) choosing refl, tt)
 
 -- what the members that are taken leave, the object does not claim
-left_apart : (name : List ℕ) → Among name (flat_map undefined_in (objects_taken AMD64 mixed_taken)) → Among name (flat_map claimed_names own) → ⊥
+pub left_apart : (name : List ℕ) → Among name (flat_map undefined_in (objects_taken AMD64 mixed_taken)) → Among name (flat_map claimed_names own) → ⊥
 unfolding left_in
 left_apart name left = claims_apart (listed_in mixed_taken ++ left_in AMD64 mixed_taken) own claims name (among_back name (listed_in mixed_taken) (left_in AMD64 mixed_taken) left)
 

@@ -26,6 +26,7 @@ ghost use Rattle.implib_link.specs.Worked.BothFlavors.{NearIsUsedIn, NearLinksCl
 ghost use Rattle.implib_link.specs.Worked.BothFlavors.{NearNamesNoMembers, NearTakesOfBoth};
 ghost use Rattle.implib_link.specs.Worked.BothFlavors.{NearAreGivenForBoth, WorkedBoth};
 ghost use Rattle.implib_link.specs.Worked.BothFlavors.{WorkedGivenForBoth};
+ghost use Rattle.implib_link.specs.Worked.BothReversed.{WorkedReversed};
 ghost use Rattle.std.specs.List.{filter};
 ghost use Rattle.std.specs.Prelude.{◌≡◌, ◌<◌, ◌^◌, ◌++◌, ℕ, IsPermutation, List, length, not};
 
@@ -92,10 +93,11 @@ pub fn objects_given_for_both_flavors_are_closed()
 {}
 
 /// A closed program by hand, of an object that names data of one library by an alias and a function
-/// of another, of the other flavour, by its pointer.
+/// of another, of the other flavour, by its pointer; and with the libraries in the other order.
 pub fn worked_both_flavors()
     ensures worked { WorkedBoth }
     ensures given { WorkedGivenForBoth }
+    ensures reversed { WorkedReversed }
 {}
 
 /// What is no archive of both flavours, is not taken of it, and closes no program.
