@@ -1,10 +1,11 @@
 -- The worked bounds, by computing.
 use Rattle.std.proofs.Common.{refl}
 use Rattle.implib.specs.Formats.Object.{u16_at}
+use Rattle.implib_read.specs.MemberNames.{long_name_of, without_slash}
 use Rattle.implib_read_cases.specs.Bounds.{WorkedBounds}
 
 pub worked_bounds : WorkedBounds
-unfolding u16_at
+unfolding u16_at long_name_of without_slash
 worked_bounds = record {
   no_bytes = refl;
   two_bytes = refl;
@@ -24,4 +25,7 @@ worked_bounds = record {
   code = refl;
   of_data = refl;
   constant = refl;
+  slash_before_line_end = refl;
+  slash_before_nul = refl;
+  slash_at_the_end = refl;
 }

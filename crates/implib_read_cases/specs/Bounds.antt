@@ -1,10 +1,11 @@
 -- What sections and fields of objects mean at the bounds of the reader's rules, worked by hand.
-use Rattle.std.specs.Prelude.{◌≡◌, ℕ, List, [], ◌∷◌, false, true, None, Some, codes}
+use Rattle.std.specs.Prelude.{◌≡◌, ℕ, List, [], ◌∷◌, ◌++◌, false, true, None, Some, codes}
 use Rattle.implib.specs.declared.coff.object.Relocation.{Relocation}
 use Rattle.implib.specs.Formats.Object.{ObjectSection}
 use Rattle.implib.specs.Import.{Ordinal}
 use Rattle.implib_read.specs.Classes.{DelayImport, Descriptor, Head, NotUnderstood, NullThunk, Tail, class_of_descriptor, class_of_thunks, kind_of_type}
 use Rattle.implib_read.specs.Imports.{ordinal_in}
+use Rattle.implib_read.specs.MemberNames.{long_name_of}
 use Rattle.implib_read.specs.declared.import.ImportKind.TheVariants.{Code, Const, Data}
 
 -- a section with these bytes and relocations
@@ -15,7 +16,7 @@ section_of bytes relocations = record { name = codes ".idata$7"; flags = 0; byte
 abbrev pub one_relocation : List Relocation
 one_relocation = record { offset = 0; symbol = 0; kind = 7 } ∷ []
 
--- thunks, sections and types, and what they mean
+-- thunks, sections, types and long names, and what they mean
 pub record WorkedBounds : Type 0 where
   -- an ordinal is in a thunk of 4 bytes or more with its top bit set
   pub no_bytes : ordinal_in [] ≡ None
@@ -39,3 +40,7 @@ pub record WorkedBounds : Type 0 where
   pub code : kind_of_type 0 ≡ Code
   pub of_data : kind_of_type 1 ≡ Data
   pub constant : kind_of_type 2 ≡ Const
+  -- a long name loses its slash before a line end, and before a NUL or at the end keeps it
+  pub slash_before_line_end : long_name_of (codes "a/\nb/\n") ≡ codes "a"
+  pub slash_before_nul : long_name_of (codes "a/" ++ 0 ∷ codes "b") ≡ codes "a/"
+  pub slash_at_the_end : long_name_of (codes "a/") ≡ codes "a/"
