@@ -3,7 +3,7 @@ use Rattle.std.specs.Prelude.{◌≡◌, true, false, [], ◌∷◌, None, Some,
 use Rattle.implib.specs.declared.flavor.Flavor.{Flavor}
 use Rattle.implib.specs.declared.flavor.Flavor.TheVariants.{Gnu, Msvc}
 use Rattle.implib.specs.declared.machine.MachineType.{MachineType}
-use Rattle.implib.specs.declared.machine.MachineType.TheVariants.{AMD64, ARM64, I386}
+use Rattle.implib.specs.declared.machine.MachineType.TheVariants.{AMD64, ARM64, ARMNT, I386}
 use Rattle.implib.specs.Import.{Name, Ordinal}
 use Rattle.implib_read.specs.Classes.{Head, Tail}
 use Rattle.implib_read.specs.declared.import.ImportKind.TheVariants.{Code, CodeOrConst, Const, Data}
@@ -11,7 +11,7 @@ use Rattle.implib_rules.specs.Linked.{NamingView}
 use Rattle.implib_rules.specs.Additions.{no_additions}
 use Rattle.implib_rules.specs.Options.{LibraryOptionsView}
 use Rattle.implib_check.specs.Calls.{DefineView, define_called}
-use Rattle.implib_check.specs.DefinitionText.{definition_text, is_plain_name, name_text, word_of_symbol}
+use Rattle.implib_check.specs.DefinitionText.{definition_text, is_plain_name, machine_text, name_text, naming_text, word_of_symbol}
 use Rattle.implib_check.specs.Targets.{options_of}
 use Rattle.implib_check.specs.Tasks.{Defines, task_named}
 use Rattle.implib_compare.specs.Worked.{alias, feed, member, of_dll, zoo}
@@ -59,6 +59,11 @@ pub record WorkedDefinitions : Type 0 where
   pub both_aliases : definition_text (on AMD64 Msvc)
       (of_dll (codes "z.dll") feed (Name (codes "feed") 0) Code 0x8664 ∷ alias (codes "a") (codes "feed") ∷ alias (codes "__imp_a") (codes "__imp_feed") ∷ [])
       ≡ codes "; -m i386:x86-64 --flavor msvc\nLIBRARY z.dll\nEXPORTS\n    feed\n    a == feed\n"
+  -- the options that the head has
+  pub i386_option : machine_text I386 ≡ codes "i386"
+  pub arm_option : machine_text ARMNT ≡ codes "arm"
+  pub option_of_names : naming_text as_written ≡ codes " --no-leading-underscore"
+  pub no_option_of_names : naming_text by_default ≡ []
   -- names in quotes: keywords, ordinals, white space
   pub keyword : name_text (codes "DATA") ≡ codes "\"DATA\""
   pub at_number : name_text (codes "@5") ≡ codes "\"@5\""
