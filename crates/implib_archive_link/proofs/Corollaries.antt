@@ -11,7 +11,7 @@ use Rattle.implib.specs.Members.Members.{AreMembersOf}
 use Rattle.implib.specs.Members.MemberSpec.{MemberView}
 use Rattle.implib.specs.Members.MsvcObjects.{descriptor_symbol}
 use Rattle.implib_archive.specs.declared.kind.Kind.{Kind}
-use Rattle.implib_archive_link.specs.InBytes.{Asks, LinkerMember, asks_for, asks_on, asks_with, is_undefined, objects_for, objects_of}
+use Rattle.implib_archive_link.specs.InBytes.{Asks, LinkerMember, asks_for, asks_on, asks_with, asks_with_on, is_undefined, objects_for, objects_of}
 use Rattle.implib_archive_link.specs.Results.{AreFoundInBytes, AreSearched, HaveArchive, IsEnding, IsSearchOf, TakesJust}
 use Rattle.implib_archive_link.proofs.InBytes.{AreTakenBy, PullsBy, TakesBy, kept_of_map, leads_to_first, search_of, takes_just}
 use Rattle.implib_link.specs.Flavors.Expansion.{descriptor_symbol_by_name, expanded_in}
@@ -19,6 +19,7 @@ use Rattle.implib_link.specs.Gnu.Program.{ClaimsNone}
 use Rattle.implib_link.specs.Search.Archives.{IsArchive, Library, NamesNoHeadOrTailOf, TakesOfLibraries, archive_of, wanted_with}
 use Rattle.implib_link.specs.Search.Closed.{AreLinkedFor, AreTakenInto, LinksClosed, PullsInto, TakesInto, listed_in, unresolved, wanted_in}
 use Rattle.implib_link.specs.Search.Given.{AreGiven}
+use Rattle.implib_link.specs.Search.MsvcClosed.{AreTakenIntoFor, PullsIntoFor, TakesIntoFor}
 use Rattle.implib_link.specs.Search.Msvc.{AreTakenInTurn, NamesNoHeader, PullsInFor, TakesFor, claimed_in, left_in, msvc_if_any, shorts_wanted}
 use Rattle.implib_link.specs.Search.Search.{HaveSame, IsTakenInTurn, NamesNoHeadOrTail, PullsIn, Takes, exports_wanted, linked_if_any, names_claimed, names_undefined}
 use Rattle.implib_link.proofs.Search.Ends.{search_ends}
@@ -109,20 +110,57 @@ module _ (archive : List MemberView) (own : List Object) where
     ended = λ name m pulls. takes.ended name m (pulls_given taken name m pulls);
   }
 
-module _ (machine : MachineType) (archive : List MemberView) (wanted : List (List ℕ)) where
-  expanded_same : (members : List MemberView) → objects_for machine (map (λ m. m.bytes) members) ≡ filter_map (λ m. expanded_in machine m.bytes) members
-  expanded_same members = kept_of_map (expanded_in machine) (λ m. m.bytes) members
+expanded_same : (machine : MachineType) (members : List MemberView) → objects_for machine (map (λ m. m.bytes) members) ≡ filter_map (λ m. expanded_in machine m.bytes) members
+expanded_same machine members = kept_of_map (expanded_in machine) (λ m. m.bytes) members
 
+module _ (machine : MachineType) (archive : List MemberView) (own : List Object) where
+  pulls_given_short : (taken : List MemberView) (name : List ℕ) (m : MemberView) → PullsBy archive (asks_with_on machine own) taken name m → PullsIntoFor machine archive own taken name m
+  pulls_given_short taken name m pulls = record {
+    named = subst (λ objects. Contains (unresolved (own ++ objects)) name) (expanded_same machine taken) pulls.asked;
+    listed = pulls.listed;
+    new = pulls.new;
+  }
+
+  by_given_short : (taken : List MemberView) (name : List ℕ) (m : MemberView) → PullsIntoFor machine archive own taken name m → PullsBy archive (asks_with_on machine own) taken name m
+  by_given_short taken name m pulls = record {
+    asked = subst (λ objects. Contains (unresolved (own ++ objects)) name) (sym (expanded_same machine taken)) pulls.named;
+    listed = pulls.listed;
+    new = pulls.new;
+  }
+
+  turn_given_short : (taken : List MemberView) → AreTakenBy archive (asks_with_on machine own) taken → AreTakenIntoFor machine archive own taken
+  unfolding AreTakenBy AreTakenIntoFor
+  turn_given_short [] turn = tt
+  turn_given_short (m ∷ taken) turn = ((turn.0.0, pulls_given_short taken turn.0.0 m turn.0.1), turn_given_short taken turn.1)
+
+  pub given_short_taken : (taken : List MemberView) → TakesBy archive (asks_with_on machine own) taken → TakesIntoFor machine archive own taken
+  given_short_taken taken takes = record {
+    in_turn = turn_given_short taken takes.in_turn;
+    ended = λ name m pulls. takes.ended name m (by_given_short taken name m pulls);
+  }
+
+  turn_by_given_short : (taken : List MemberView) → AreTakenIntoFor machine archive own taken → AreTakenBy archive (asks_with_on machine own) taken
+  unfolding AreTakenBy AreTakenIntoFor
+  turn_by_given_short [] turn = tt
+  turn_by_given_short (m ∷ taken) turn = ((turn.0.0, by_given_short taken turn.0.0 m turn.0.1), turn_by_given_short taken turn.1)
+
+  pub taken_given_short : (taken : List MemberView) → TakesIntoFor machine archive own taken → TakesBy archive (asks_with_on machine own) taken
+  taken_given_short taken takes = record {
+    in_turn = turn_by_given_short taken takes.in_turn;
+    ended = λ name m pulls. takes.ended name m (pulls_given_short taken name m pulls);
+  }
+
+module _ (machine : MachineType) (archive : List MemberView) (wanted : List (List ℕ)) where
   pulls_short : (taken : List MemberView) (name : List ℕ) (m : MemberView) → PullsBy archive (asks_on machine wanted) taken name m → PullsInFor machine archive wanted taken name m
   unfolding left_in claimed_in
   pulls_short taken name m pulls =
-      let asked = subst (λ objects. is_undefined wanted objects name) (expanded_same taken) pulls.asked in
+      let asked = subst (λ objects. is_undefined wanted objects name) (expanded_same machine taken) pulls.asked in
       record { named = asked.0; undefined = asked.1; listed = pulls.listed; new = pulls.new }
 
   by_short : (taken : List MemberView) (name : List ℕ) (m : MemberView) → PullsInFor machine archive wanted taken name m → PullsBy archive (asks_on machine wanted) taken name m
   unfolding left_in claimed_in
   by_short taken name m pulls = record {
-    asked = subst (λ objects. is_undefined wanted objects name) (sym (expanded_same taken)) (pulls.named, pulls.undefined);
+    asked = subst (λ objects. is_undefined wanted objects name) (sym (expanded_same machine taken)) (pulls.named, pulls.undefined);
     listed = pulls.listed;
     new = pulls.new;
   }
@@ -157,6 +195,7 @@ are_searched kind linker members ready = record {
   wanted = λ wanted. takes_just kind linker members (asks_for wanted) (Takes members wanted) ready (wanted_taken members wanted);
   given = λ own. takes_just kind linker members (asks_with own) (TakesInto members own) ready (given_taken members own);
   short = λ machine wanted. takes_just kind linker members (asks_on machine wanted) (TakesFor machine members wanted) ready (short_taken machine members wanted);
+  given_short = λ machine own. takes_just kind linker members (asks_with_on machine own) (TakesIntoFor machine members own) ready (given_short_taken machine members own);
 }
 
 pub bytes_take_wanted : (kind : Kind) (linker : LinkerMember) (machine : MachineType) (d : DefinitionView) (members : List MemberView) (wanted : List (List ℕ)) → HaveArchive kind linker members
@@ -204,9 +243,10 @@ are_found_in_bytes kind linker members ready = record {
   wanted = λ wanted found takes. search_of kind linker members (asks_for wanted) found ready (taken_wanted members wanted found takes);
   given = λ own found takes. search_of kind linker members (asks_with own) found ready (taken_given members own found takes);
   short = λ machine wanted found takes. search_of kind linker members (asks_on machine wanted) found ready (taken_short machine members wanted found takes);
+  given_short = λ machine own found takes. search_of kind linker members (asks_with_on machine own) found ready (taken_given_short machine members own found takes);
 }
 
-ending : (kind : Kind) (linker : LinkerMember) (members : List MemberView) (asks : Asks) (found : List MemberView) → IsSearchOf kind linker members asks found → IsEnding kind linker members asks
+pub ending : (kind : Kind) (linker : LinkerMember) (members : List MemberView) (asks : Asks) (found : List MemberView) → IsSearchOf kind linker members asks found → IsEnding kind linker members asks
 ending kind linker members asks found search = (search.taken, search.takes)
 
 pub ends_wanted : (kind : Kind) (linker : LinkerMember) (members : List MemberView) (wanted : List (List ℕ)) → HaveArchive kind linker members → IsEnding kind linker members (asks_for wanted)

@@ -18,7 +18,7 @@ use Rattle.implib_archive.specs.declared.error.Fault.TheVariants.{EmptyName}
 use Rattle.implib_archive.specs.Worked.{worked_gnu, worked_members}
 use Rattle.implib_archive.proofs.WorkedBytes.{worked_archives}
 use Rattle.implib_archive.specs.declared.kind.Kind.TheVariants.{Gnu}
-use Rattle.implib_archive_link.specs.InBytes.{Asks, AreTakenAt, First, Second, TakesAt, asks_for, asks_on, asks_with, header_by}
+use Rattle.implib_archive_link.specs.InBytes.{Asks, AreTakenAt, First, Second, TakesAt, asks_for, asks_on, asks_with, asks_with_on, header_by}
 use Rattle.implib_archive_link.specs.LldWay.{IsWantedBy, short_of_export}
 use Rattle.implib_archive_link.specs.Results.{AreHeadersOf}
 use Rattle.implib_archive_link.specs.NearMisses.{NearAreSearched, NearCallsArrive, NearHaveArchive, NearIsBuiltByLld, NearIsHeaderOf, NearIsWantedBy, NearLeadsToFirst, NearLldArrives, NearPullsInAt, WorkedIndexes, WorkedReads, asking_stack, stack}
@@ -27,6 +27,7 @@ use Rattle.implib_link.specs.Flavors.LldTables.{addresses_at, directory_built}
 use Rattle.implib_link.specs.Search.Archives.{exports_of}
 use Rattle.implib_link.specs.Search.Closed.{TakesInto, unresolved}
 use Rattle.implib_link.specs.Search.Msvc.{TakesFor}
+use Rattle.implib_link.specs.Search.MsvcClosed.{TakesIntoFor}
 use Rattle.implib_link.specs.Search.Search.{Takes}
 use Rattle.implib_link.specs.Worked.MsvcArchives.{msvc_zed}
 use Rattle.implib_link.specs.Worked.NearPrograms.{defines_mid, lld_defines, mid_alone}
@@ -132,6 +133,10 @@ near_are_searched = record {
       let at = x.short AMD64 (codes "f" ∷ []) [] (nothing_taken (asks_on AMD64 (codes "f" ∷ []))) in
       let takes : TakesFor AMD64 worked_members (codes "f" ∷ []) [] = subst (TakesFor AMD64 worked_members (codes "f" ∷ [])) (no_headers at.headers at.found at.at) at.holds in
       takes.ended (codes "f") f_member (record { named = (0, omega arith, refl); undefined = refl; listed = refl; new = λ held. none_in f_member held });
+  given_short = λ x.
+      let at = x.given_short AMD64 (asking_f ∷ []) [] (nothing_taken (asks_with_on AMD64 (asking_f ∷ []))) in
+      let takes : TakesIntoFor AMD64 worked_members (asking_f ∷ []) [] = subst (TakesIntoFor AMD64 worked_members (asking_f ∷ [])) (no_headers at.headers at.found at.at) at.holds in
+      takes.ended (codes "f") f_member (record { named = (0, omega arith, refl); listed = refl; new = λ held. none_in f_member held });
 }
 
 stack_wanted : IsWantedBy (msvc_zed ∷ []) (asking_stack ∷ []) msvc_zed stack

@@ -86,3 +86,7 @@ asks_on machine wanted contents name = is_undefined wanted (objects_for machine 
 -- for given objects: a name that they and the members that are taken leave unresolved
 abbrev pub asks_with : List Object → Asks
 asks_with own contents name = Contains (unresolved (own ++ objects_of contents)) name
+
+-- for given objects, of members for either linker
+abbrev pub asks_with_on : MachineType → List Object → Asks
+asks_with_on machine own contents name = Contains (unresolved (own ++ objects_for machine contents)) name

@@ -71,6 +71,7 @@ pub record NearAreSearched : Type 0 where
   pub wanted : AreSearched Gnu Second worked_members → ⊥
   pub given : AreSearched Gnu Second worked_members → ⊥
   pub short : AreSearched Gnu Second worked_members → ⊥
+  pub given_short : AreSearched Gnu Second worked_members → ⊥
 
 -- an object that leaves `stack` to others
 abbrev pub asking_stack : Object

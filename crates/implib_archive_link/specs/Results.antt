@@ -10,9 +10,10 @@ use Rattle.implib_archive.specs.ReadBack.{read_view}
 use Rattle.implib_archive.specs.Reader.{member_at}
 use Rattle.implib_archive.specs.Refusal.{refusal_of}
 use Rattle.implib_archive.specs.declared.kind.Kind.{Kind}
-use Rattle.implib_archive_link.specs.InBytes.{Asks, Has, LinkerMember, TakesAt, asks_for, asks_on, asks_with, header_by}
+use Rattle.implib_archive_link.specs.InBytes.{Asks, Has, LinkerMember, TakesAt, asks_for, asks_on, asks_with, asks_with_on, header_by}
 use Rattle.implib_link.specs.Search.Closed.{TakesInto}
 use Rattle.implib_link.specs.Search.Msvc.{TakesFor}
+use Rattle.implib_link.specs.Search.MsvcClosed.{TakesIntoFor}
 use Rattle.implib_link.specs.Search.Search.{Takes, first_listed}
 
 -- Members of a list, by the headers that a linker takes.
@@ -66,14 +67,16 @@ pub record LeadsToFirst (kind : Kind) (linker : LinkerMember) (members : List Me
 
 -- The bytes are an archive in the sense of searches:
 -- `leads`: a name leads to the header of exactly the first member that it is listed for;
--- `wanted`, `given`, `short`: what a linker takes in the bytes, for wanted names, for given objects, or of
--- short imports, are members that it takes of the list of members.
+-- `wanted`, `given`, `short`, `given_short`: what a linker takes in the bytes, for wanted names or for given
+-- objects, and the same with short imports, are members that it takes of the list of members.
 pub record AreSearched (kind : Kind) (linker : LinkerMember) (members : List MemberView) : Type 0 where
   pub leads : (name : List ℕ) → LeadsToFirst kind linker members name
   pub wanted : (wanted : List (List ℕ)) → TakesJust kind linker members (asks_for wanted) (Takes members wanted)
   pub given : (own : List Object) → TakesJust kind linker members (asks_with own) (TakesInto members own)
   pub short : (machine : MachineType) (wanted : List (List ℕ)) →
       TakesJust kind linker members (asks_on machine wanted) (TakesFor machine members wanted)
+  pub given_short : (machine : MachineType) (own : List Object) →
+      TakesJust kind linker members (asks_with_on machine own) (TakesIntoFor machine members own)
 
 -- A search of members is one in the bytes of their archive: the headers of the members that are found are
 -- taken.
@@ -85,7 +88,7 @@ pub record IsSearchOf (kind : Kind) (linker : LinkerMember) (members : List Memb
   pub at : AreHeadersOf headers members taken found
   pub takes : TakesAt kind linker (archive_of kind members) asks taken
 
--- Each search of the members is one in the bytes, for wanted names, for given objects, or of short imports.
+-- Each search of the members is one in the bytes, for wanted names or for given objects, and with short imports.
 pub record AreFoundInBytes (kind : Kind) (linker : LinkerMember) (members : List MemberView) : Type 0 where
   pub wanted : (wanted : List (List ℕ)) (found : List MemberView) → Takes members wanted found →
       IsSearchOf kind linker members (asks_for wanted) found
@@ -93,6 +96,8 @@ pub record AreFoundInBytes (kind : Kind) (linker : LinkerMember) (members : List
       IsSearchOf kind linker members (asks_with own) found
   pub short : (machine : MachineType) (wanted : List (List ℕ)) (found : List MemberView) →
       TakesFor machine members wanted found → IsSearchOf kind linker members (asks_on machine wanted) found
+  pub given_short : (machine : MachineType) (own : List Object) (found : List MemberView) →
+      TakesIntoFor machine members own found → IsSearchOf kind linker members (asks_with_on machine own) found
 
 -- a search in the bytes comes to an end
 abbrev pub IsEnding : Kind → LinkerMember → List MemberView → Asks → Type 0

@@ -10,30 +10,37 @@ ghost use Rattle.implib.specs.Members.MsvcObjects.{descriptor_symbol};
 ghost use Rattle.implib.specs.declared.flavor.Flavor.TheVariants.{Gnu, Msvc};
 ghost use Rattle.implib.specs.declared.machine.MachineType.{MachineType};
 ghost use Rattle.implib_archive.specs.declared.kind.Kind.{Kind};
+ghost use Rattle.implib_archive_link.specs.BothWay.{AreLinkedForBoth, BothArrive};
 ghost use Rattle.implib_archive_link.specs.InBytes.{LinkerMember, asks_for, asks_on, asks_with};
+ghost use Rattle.implib_archive_link.specs.InBytes.{asks_with_on};
 ghost use Rattle.implib_archive_link.specs.LldWay.{AreCalledAlike, LldArrives, asks_of_lld};
 ghost use Rattle.implib_archive_link.specs.NearMisses.{NearAreSearched, NearCallsArrive, NearIsBuiltByLld};
 ghost use Rattle.implib_archive_link.specs.NearMisses.{NearIsWantedBy, NearLeadsToFirst, NearLldArrives};
 ghost use Rattle.implib_archive_link.specs.NearMisses.{NearHaveArchive, NearIsHeaderOf};
 ghost use Rattle.implib_archive_link.specs.NearMisses.{NearPullsInAt, WorkedIndexes, WorkedReads};
+ghost use Rattle.implib_archive_link.specs.NearBothWay.{NearAreLinkedForBoth, NearBothArrive};
 ghost use Rattle.implib_archive_link.specs.Results.{AreFoundInBytes, AreSearched, HaveArchive};
 ghost use Rattle.implib_archive_link.specs.Results.{IsEnding, TakesJust};
 ghost use Rattle.implib_archive_link.specs.Way.{CallsArrive};
 ghost use Rattle.implib_archive_link.specs.Worked.{WorkedLibraries, WorkedSearches};
+ghost use Rattle.implib_archive_link.specs.WorkedBothWay.{WorkedBothWay};
 ghost use Rattle.implib_archive_link.specs.WorkedLldWay.{WorkedLldWay};
 ghost use Rattle.implib_archive_link.specs.WorkedWay.{WorkedWay};
 ghost use Rattle.implib_link.specs.Flavors.Expansion.{descriptor_symbol_by_name};
 ghost use Rattle.implib_link.specs.Gnu.Program.{ClaimsNone};
 ghost use Rattle.implib_link.specs.Search.Archives.{IsArchive, Library, NamesNoHeadOrTailOf};
 ghost use Rattle.implib_link.specs.Search.Archives.{TakesOfLibraries, archive_of, wanted_with};
-ghost use Rattle.implib_link.specs.Search.Closed.{AreLinkedFor, LinksClosed, listed_in, wanted_in};
+ghost use Rattle.implib_link.specs.Search.BothFlavors.{AreGivenForBoth, FlavorLibrary};
+ghost use Rattle.implib_link.specs.Search.BothFlavors.{IsFlavorArchive, archive_of_both, msvc_among};
+ghost use Rattle.implib_link.specs.Search.Closed.{AreLinkedFor, LinksClosed, listed_in, unresolved};
+ghost use Rattle.implib_link.specs.Search.Closed.{wanted_in};
 ghost use Rattle.implib_link.specs.Search.Given.{AreGiven};
 ghost use Rattle.implib_link.specs.Search.Msvc.{NamesNoHeader, msvc_if_any, shorts_wanted};
-ghost use Rattle.implib_link.specs.Search.MsvcArchives.{IsMsvcArchive};
+ghost use Rattle.implib_link.specs.Search.MsvcArchives.{IsMsvcArchive, short_inputs};
 ghost use Rattle.implib_link.specs.Search.Search.{HaveSame, NamesNoHeadOrTail, exports_wanted};
 ghost use Rattle.implib_link.specs.Search.Search.{linked_if_any, names_undefined};
 ghost use Rattle.std.specs.List.{AllByRecursion, IsDistinct, flat_map};
-ghost use Rattle.std.specs.Prelude.{◌≡◌, ◌++◌, ℕ, List, bytes_eq};
+ghost use Rattle.std.specs.Prelude.{◌≡◌, ◌<◌, ◌++◌, ℕ, List, bytes_eq, length};
 
 /// The bytes of the archive of members are an archive in the sense of searches: a name leads to the
 /// first member that it is listed for, by either linker member; what a linker takes in the bytes
@@ -169,6 +176,32 @@ pub fn bytes_lead_to_lld_calls()
         IsEnding kind linker members (asks_of_lld machine own) }
 {}
 
+/// The whole way for libraries of which some are for GNU's linker and others for Microsoft's: what a
+/// linker takes in their archive's bytes for objects that may be given closes the program, wherever
+/// it is linked; and in the memory that a loader leaves, which reads the image and knows nothing
+/// else, each call through an import's `__imp_` symbol, of either flavour, in any object's linked
+/// code, goes to what its DLL gives. The objects leave a symbol of some short import unresolved.
+///
+/// The search comes to an end.
+pub fn bytes_of_both_flavors_lead_to_calls()
+    ensures arrive { (kind : Kind) (linker : LinkerMember) (machine : MachineType)
+        (libraries : List FlavorLibrary) (own : List Object) →
+        HaveArchive kind linker (archive_of_both libraries) →
+        IsFlavorArchive machine libraries →
+        AreGivenForBoth machine libraries own →
+        0 < length (short_inputs (msvc_among libraries) (unresolved own)) →
+        TakesJust kind linker (archive_of_both libraries) (asks_with_on machine own)
+        (λ taken. (arranged : List FlavorLibrary) (bases : Bases) (objects : List Object) →
+        AreLinkedForBoth machine libraries own taken arranged bases objects →
+        BothArrive machine libraries own taken arranged bases objects) }
+    ensures ends { (kind : Kind) (linker : LinkerMember) (machine : MachineType)
+        (libraries : List FlavorLibrary) (own : List Object) →
+        HaveArchive kind linker (archive_of_both libraries) →
+        IsFlavorArchive machine libraries →
+        AreGivenForBoth machine libraries own →
+        IsEnding kind linker (archive_of_both libraries) (asks_with_on machine own) }
+{}
+
 /// Searches by hand in the bytes of archives of two members, of a definition's members, and of
 /// libraries.
 pub fn worked_searches()
@@ -188,6 +221,12 @@ pub fn worked_lld_way()
     ensures { WorkedLldWay }
 {}
 
+/// The whole way by hand for libraries of both flavours: from the bytes of an archive to a call of
+/// each flavour's import, which arrive at what their DLLs give.
+pub fn worked_both_way()
+    ensures { WorkedBothWay }
+{}
+
 /// Near misses of searches in bytes, two indexes that differ, and what a reader finds after the
 /// headers that a search takes.
 pub fn near_misses_in_bytes()
@@ -200,11 +239,13 @@ pub fn near_misses_in_bytes()
     ensures searched { NearAreSearched }
 {}
 
-/// Near misses of both ways: exports that are not wanted, images that lld did not write, an export
+/// Near misses of the ways: exports that are not wanted, images that lld did not write, an export
 /// that was not taken, and imports without a library.
 pub fn near_misses_of_ways()
     ensures wanted { NearIsWantedBy }
     ensures built { NearIsBuiltByLld }
     ensures arrives { NearLldArrives }
     ensures calls { NearCallsArrive }
+    ensures both { NearBothArrive }
+    ensures linked_for_both { NearAreLinkedForBoth }
 {}

@@ -1,0 +1,60 @@
+-- The whole way for libraries of both flavours, by the laws on it.
+use Rattle.std.proofs.Common.{◌≡◌, ℕ, ◌<◌, List, ◌++◌, length, map}
+use Rattle.std.specs.List.{AllByRecursion}
+use Rattle.implib.specs.declared.machine.MachineType.{MachineType}
+use Rattle.implib.specs.Formats.Object.{Object}
+use Rattle.implib.specs.Link.Image.{image_of}
+use Rattle.implib.specs.Link.Placement.{Bases, placed_from}
+use Rattle.implib.specs.Members.ImportTables.{thunk_width}
+use Rattle.implib.specs.Members.MemberSpec.{MemberView}
+use Rattle.implib_archive.specs.declared.kind.Kind.{Kind}
+use Rattle.implib_archive_link.specs.BothWay.{AreLinkedForBoth, BothArrive}
+use Rattle.implib_archive_link.specs.InBytes.{LinkerMember, asks_with_on}
+use Rattle.implib_archive_link.specs.Results.{HaveArchive, IsEnding, TakesJust}
+use Rattle.implib_archive_link.proofs.Corollaries.{are_found_in_bytes, ending, given_short_taken}
+use Rattle.implib_archive_link.proofs.InBytes.{takes_just}
+use Rattle.implib_link.specs.Flavors.Program.{FlavorInput, IsMadeFor, imported_in}
+use Rattle.implib_link.specs.Search.BothFlavors.{AreGivenForBoth, FlavorLibrary, IsFlavorArchive, LinksClosedForBoth, archive_of_both, inputs_of_both, msvc_among}
+use Rattle.implib_link.specs.Search.Closed.{unresolved}
+use Rattle.implib_link.specs.Search.MsvcArchives.{short_inputs}
+use Rattle.implib_link.specs.Search.MsvcClosed.{TakesIntoFor, wanted_for}
+use Rattle.implib_link.proofs.CodeOfPrograms.{flavors_linked_reached}
+use Rattle.implib_link.proofs.Gnu.Reading.{directory_read}
+use Rattle.implib_link.proofs.LoadedPrograms.{flavors_reader_loads}
+use Rattle.implib_link.proofs.Search.BothArranged.{both_made}
+use Rattle.implib_link.proofs.Search.BothClosed.{closed_links_of_both}
+use Rattle.implib_link.proofs.Search.BothGiven.{both_given_closes, both_given_ends}
+
+pub both_arrive : (machine : MachineType) (libraries : List FlavorLibrary) (own : List Object) (taken : List MemberView) (arranged : List FlavorLibrary) (bases : Bases) (objects : List Object) →
+    IsFlavorArchive machine libraries → AreGivenForBoth machine libraries own → 0 < length (short_inputs (msvc_among libraries) (unresolved own)) → TakesIntoFor machine (archive_of_both libraries) own taken →
+    AreLinkedForBoth machine libraries own taken arranged bases objects → BothArrive machine libraries own taken arranged bases objects
+both_arrive machine libraries own taken arranged bases objects archive given some takes linked =
+    let closed = both_given_closes machine libraries own taken arranged objects linked.before linked.behind archive given takes some linked.order linked.others linked.members linked.tables in
+    let links : LinksClosedForBoth machine libraries own taken arranged bases objects =
+    closed_links_of_both machine libraries own taken arranged bases objects archive
+    (record { closed = closed; admissible = linked.admissible; lookups = linked.lookups; addresses = linked.addresses; follows = linked.follows }) in
+    let inputs : List FlavorInput = inputs_of_both machine arranged own taken in
+    let made : AllByRecursion (IsMadeFor machine) inputs = both_made machine libraries arranged linked.order archive (wanted_for machine own taken) in
+    record {
+      links = links;
+      ends = λ gives n written wide reads. (flavors_reader_loads machine bases inputs objects gives n written made links.program wide reads).0;
+      calls = λ image_base codes targets gives n written i j p e c offset can beside wide reads input chosen held has.
+          (flavors_linked_reached machine image_base bases inputs objects codes targets gives written made links.program can beside wide
+          (directory_read (image_of machine bases (placed_from bases objects)) (thunk_width machine) gives n bases.descriptors (map (imported_in machine) inputs) written links.links.directory reads).1 i j p e input chosen).calls
+          c offset held has;
+    }
+
+pub bytes_lead_to_both : (kind : Kind) (linker : LinkerMember) (machine : MachineType) (libraries : List FlavorLibrary) (own : List Object) → HaveArchive kind linker (archive_of_both libraries) →
+    IsFlavorArchive machine libraries → AreGivenForBoth machine libraries own → 0 < length (short_inputs (msvc_among libraries) (unresolved own)) →
+    TakesJust kind linker (archive_of_both libraries) (asks_with_on machine own) (λ taken. (arranged : List FlavorLibrary) (bases : Bases) (objects : List Object) →
+    AreLinkedForBoth machine libraries own taken arranged bases objects → BothArrive machine libraries own taken arranged bases objects)
+bytes_lead_to_both kind linker machine libraries own ready archive given some =
+    takes_just kind linker (archive_of_both libraries) (asks_with_on machine own)
+    (λ taken. (arranged : List FlavorLibrary) (bases : Bases) (objects : List Object) → AreLinkedForBoth machine libraries own taken arranged bases objects → BothArrive machine libraries own taken arranged bases objects) ready
+    (λ taken takes arranged bases objects linked. both_arrive machine libraries own taken arranged bases objects archive given some (given_short_taken machine (archive_of_both libraries) own taken takes) linked)
+
+pub ends_for_both : (kind : Kind) (linker : LinkerMember) (machine : MachineType) (libraries : List FlavorLibrary) (own : List Object) → HaveArchive kind linker (archive_of_both libraries) →
+    IsFlavorArchive machine libraries → AreGivenForBoth machine libraries own → IsEnding kind linker (archive_of_both libraries) (asks_with_on machine own)
+ends_for_both kind linker machine libraries own ready archive given =
+    let found = both_given_ends machine libraries own archive given in
+    ending kind linker (archive_of_both libraries) (asks_with_on machine own) found.0 ((are_found_in_bytes kind linker (archive_of_both libraries) ready).given_short machine own found.0 found.1)

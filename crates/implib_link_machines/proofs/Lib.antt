@@ -1,0 +1,3 @@
+pub mod Gnu
+pub mod Msvc
+pub mod Mixed

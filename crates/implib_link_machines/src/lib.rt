@@ -1,0 +1,28 @@
+//! Closed programs by hand on ARM64, I386 and ARMNT, as instances of the laws of `implib_link`: an object and what a
+//! linker takes for it of two libraries, both for GNU's linker, both for Microsoft's, and one for each. The functions do
+//! nothing: their contracts are the instances.
+#![tactic(auto)]
+
+ghost use Rattle.implib_link_machines.specs.Closed.{WorkedGnu, WorkedMixed, WorkedMsvc};
+ghost use Rattle.implib.specs.declared.machine.MachineType.TheVariants.{ARM64, ARMNT, I386};
+
+/// Closed programs of libraries for GNU's linker, worked by hand.
+pub fn worked_gnu_programs()
+    ensures arm64 { WorkedGnu ARM64 0x5060 0x5070 }
+    ensures i386 { WorkedGnu I386 0x5050 0x5058 }
+    ensures armnt { WorkedGnu ARMNT 0x5050 0x5058 }
+{}
+
+/// Closed programs of libraries for Microsoft's linker, worked by hand.
+pub fn worked_msvc_programs()
+    ensures arm64 { WorkedMsvc ARM64 0x9060 0x9070 }
+    ensures i386 { WorkedMsvc I386 0x9050 0x9058 }
+    ensures armnt { WorkedMsvc ARMNT 0x9050 0x9058 }
+{}
+
+/// Closed programs of a library for Microsoft's linker and one for GNU's, worked by hand.
+pub fn worked_mixed_programs()
+    ensures arm64 { WorkedMixed ARM64 0x13070 0x13060 }
+    ensures i386 { WorkedMixed I386 0x13058 0x13050 }
+    ensures armnt { WorkedMixed ARMNT 0x13058 0x13050 }
+{}
