@@ -18,6 +18,7 @@ use Rattle.implib_archive_link.specs.BothWay.{AreLinkedForBoth, BothArrive}
 use Rattle.implib_archive_link.specs.InBytes.{Second}
 use Rattle.implib_archive_link.specs.Results.{HaveArchive}
 use Rattle.implib_archive_link.specs.WorkedBothWay.{WorkedBothWay, bar_for_gnu, bases, before_null, both, calls_bar, calls_queue, code_at, linked, objects, own, placed, queue_for_msvc, taken}
+use Rattle.implib_archive_link.specs.WorkedWay.{code}
 use Rattle.implib_archive_link.proofs.BothWay.{both_arrive}
 use Rattle.implib_archive_link.proofs.Corollaries.{are_found_in_bytes}
 use Rattle.implib_link.specs.Flavors.Program.{FlavorInput}
@@ -185,7 +186,7 @@ queue_called = record {
 beside : (codes : List LinkedCode) × ((targets : LinkedCode → ℕ → ℕ) × ((map placed_code codes ≡ placed) × AreBeside AMD64 0x1_4000_0000 bases objects codes targets))
 unfolding searched group_end sections_end
 beside =
-    let small = (omega arith, (omega arith, (omega arith, (omega arith, (omega arith, (omega arith, (omega arith, (omega arith, (omega arith, (omega arith, (omega arith, (omega arith, (omega arith, (omega arith, (omega arith, tt))))))))))))))) in
+    let small : AllByRecursion (λ (b : ℕ). b < 256) code.bytes = (omega arith, (omega arith, (omega arith, (omega arith, (omega arith, (omega arith, (omega arith, (omega arith, (omega arith, (omega arith, (omega arith, (omega arith, (omega arith, (omega arith, (omega arith, tt))))))))))))))) in
     codes_can_be_linked AMD64 0x1_4000_0000 bases objects placed sections once (small, (small, tt))
 
 -- the linked code of a placed one

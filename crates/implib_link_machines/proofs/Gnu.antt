@@ -9,7 +9,7 @@ use Rattle.implib.proofs.Link.Ranges.{among_back}
 use Rattle.implib_link.specs.Gnu.Packed.{group_end, packed_end, sections_end}
 use Rattle.implib_link.specs.Gnu.Program.{ClaimsNone}
 use Rattle.implib_link.specs.Search.Archives.{IsArchive, archive_of, symbols_of_library}
-use Rattle.implib_link.specs.Search.Closed.{AreLinkedFor, inputs_in, listed_in, unresolved}
+use Rattle.implib_link.specs.Search.Closed.{AreLinkedFor, inputs_in, listed_in, unresolved, wanted_in}
 use Rattle.implib_link.specs.Search.Given.{AreGiven, symbols_kept}
 use Rattle.implib_link.specs.Search.Search.{IsTakenInTurn, Takes, names_undefined}
 use Rattle.implib_link.proofs.Gnu.Packed.{packed_is_admissible}
@@ -64,9 +64,9 @@ takes_arm64 : Takes (archive_of (gnu_libraries ARM64)) (unresolved (own_on ARM64
 unfolding searched IsTakenInTurn
 takes_arm64 = record {
   in_turn = (
-    (head_symbol ARM64 foo, pulls_in_now _ _ _ _ _ refl refl refl refl),
+    (iname_symbol ARM64 foo, pulls_in_now _ _ _ _ _ refl refl refl refl),
     (
-      (iname_symbol ARM64 foo, pulls_in_now _ _ _ _ _ refl refl refl refl),
+      (head_symbol ARM64 foo, pulls_in_now _ _ _ _ _ refl refl refl refl),
       (
         (baz ARM64, pulls_in_now _ _ _ _ _ refl refl refl refl),
         (
@@ -91,7 +91,7 @@ linked_arm64 = record {
   order = record { moves = []; below = tt; is = refl };
   others = λ o. (λ held. held, λ held. held);
   tables = refl;
-  admissible = packed_is_admissible ARM64 0x5000 (inputs_in (gnu_libraries ARM64) (own_on ARM64) (gnu_taken ARM64)) (gnu_objects ARM64) (inputs_made ARM64 (gnu_libraries ARM64) _ archive_arm64.made)
+  admissible = packed_is_admissible ARM64 0x5000 (inputs_in (gnu_libraries ARM64) (own_on ARM64) (gnu_taken ARM64)) (gnu_objects ARM64) (inputs_made ARM64 (gnu_libraries ARM64) (wanted_in (own_on ARM64) (gnu_taken ARM64)) archive_arm64.made)
       refl (omega arith) (below_limit (packed_end 0x5000 (gnu_objects ARM64)) refl);
 }
 
@@ -122,9 +122,9 @@ takes_i386 : Takes (archive_of (gnu_libraries I386)) (unresolved (own_on I386)) 
 unfolding searched IsTakenInTurn
 takes_i386 = record {
   in_turn = (
-    (head_symbol I386 foo, pulls_in_now _ _ _ _ _ refl refl refl refl),
+    (iname_symbol I386 foo, pulls_in_now _ _ _ _ _ refl refl refl refl),
     (
-      (iname_symbol I386 foo, pulls_in_now _ _ _ _ _ refl refl refl refl),
+      (head_symbol I386 foo, pulls_in_now _ _ _ _ _ refl refl refl refl),
       (
         (baz I386, pulls_in_now _ _ _ _ _ refl refl refl refl),
         (
@@ -149,7 +149,7 @@ linked_i386 = record {
   order = record { moves = []; below = tt; is = refl };
   others = λ o. (λ held. held, λ held. held);
   tables = refl;
-  admissible = packed_is_admissible I386 0x5000 (inputs_in (gnu_libraries I386) (own_on I386) (gnu_taken I386)) (gnu_objects I386) (inputs_made I386 (gnu_libraries I386) _ archive_i386.made)
+  admissible = packed_is_admissible I386 0x5000 (inputs_in (gnu_libraries I386) (own_on I386) (gnu_taken I386)) (gnu_objects I386) (inputs_made I386 (gnu_libraries I386) (wanted_in (own_on I386) (gnu_taken I386)) archive_i386.made)
       refl (omega arith) (below_limit (packed_end 0x5000 (gnu_objects I386)) refl);
 }
 
@@ -180,9 +180,9 @@ takes_armnt : Takes (archive_of (gnu_libraries ARMNT)) (unresolved (own_on ARMNT
 unfolding searched IsTakenInTurn
 takes_armnt = record {
   in_turn = (
-    (head_symbol ARMNT foo, pulls_in_now _ _ _ _ _ refl refl refl refl),
+    (iname_symbol ARMNT foo, pulls_in_now _ _ _ _ _ refl refl refl refl),
     (
-      (iname_symbol ARMNT foo, pulls_in_now _ _ _ _ _ refl refl refl refl),
+      (head_symbol ARMNT foo, pulls_in_now _ _ _ _ _ refl refl refl refl),
       (
         (baz ARMNT, pulls_in_now _ _ _ _ _ refl refl refl refl),
         (
@@ -207,7 +207,7 @@ linked_armnt = record {
   order = record { moves = []; below = tt; is = refl };
   others = λ o. (λ held. held, λ held. held);
   tables = refl;
-  admissible = packed_is_admissible ARMNT 0x5000 (inputs_in (gnu_libraries ARMNT) (own_on ARMNT) (gnu_taken ARMNT)) (gnu_objects ARMNT) (inputs_made ARMNT (gnu_libraries ARMNT) _ archive_armnt.made)
+  admissible = packed_is_admissible ARMNT 0x5000 (inputs_in (gnu_libraries ARMNT) (own_on ARMNT) (gnu_taken ARMNT)) (gnu_objects ARMNT) (inputs_made ARMNT (gnu_libraries ARMNT) (wanted_in (own_on ARMNT) (gnu_taken ARMNT)) archive_armnt.made)
       refl (omega arith) (below_limit (packed_end 0x5000 (gnu_objects ARMNT)) refl);
 }
 

@@ -13,7 +13,7 @@ use Rattle.implib_link.specs.Search.Archives.{symbols_of_library}
 use Rattle.implib_link.specs.Search.BothFlavors.{AreClosedForBoth, AreGivenForBoth, IsFlavorArchive, NamesNoMembers, archive_of_both, gnu_among, kept_of_both, msvc_among}
 use Rattle.implib_link.specs.Search.Closed.{listed_in, unresolved}
 use Rattle.implib_link.specs.Search.Msvc.{AreTakenInTurn, TakesFor, left_in}
-use Rattle.implib_link.specs.Search.MsvcArchives.{short_inputs, symbols_of_shorts, wanted_with_weak}
+use Rattle.implib_link.specs.Search.MsvcArchives.{symbols_of_shorts, wanted_with_weak}
 use Rattle.implib_link.specs.Search.MsvcClosed.{TakesIntoFor, wanted_for}
 use Rattle.implib_link.proofs.Search.BothArchives.{both_taken}
 use Rattle.implib_link.proofs.Search.BothClosed.{closed_links_of_both, packed_both}
@@ -31,7 +31,6 @@ use Rattle.implib_link_machines.specs.Parts.{bar, baz, choosing_on, foo, queue, 
 record Computed (machine : MachineType) (baz_at queue_at : ℕ) : Type 0 where
   archive : IsFlavorArchive machine (mixed_libraries machine)
   given : AreGivenForBoth machine (mixed_libraries machine) (own_on machine)
-  wants : 0 < length (short_inputs (msvc_among (mixed_libraries machine)) (unresolved (own_on machine)))
   takes : TakesFor machine (archive_of_both (mixed_libraries machine)) (unresolved (own_on machine)) (mixed_taken machine)
   names : NamesNoMembers machine (mixed_libraries machine) (wanted_with_weak machine (unresolved (own_on machine)) (mixed_taken machine))
   claims : AllByRecursion (ClaimsNone (listed_in (mixed_taken machine) ++ left_in machine (mixed_taken machine))) (own_on machine)
@@ -52,7 +51,6 @@ worked machine baz_at queue_at is =
     record {
       archive = is.archive;
       given = is.given;
-      wants = is.wants;
       takes = into;
       just = both_taken machine (mixed_libraries machine) is.archive (unresolved (own_on machine)) (mixed_taken machine) is.names is.takes;
       closed = closed;
@@ -137,7 +135,6 @@ mixed_arm64 = worked ARM64 0x13070 0x13060 (record {
     claims = (claims_none_by (kept_of_both ARM64 (mixed_libraries ARM64) (own_on ARM64)) (choosing_on ARM64) refl, tt);
     names = record { gnu = (record { head = refl; name = refl }, tt); msvc = (record { descriptor = refl; null_descriptor = refl; null_thunk = refl }, tt) };
   };
-  wants = omega arith;
   takes = takes_arm64;
   names = names_arm64;
   claims = claims_arm64;
@@ -223,7 +220,6 @@ mixed_i386 = worked I386 0x13058 0x13050 (record {
     claims = (claims_none_by (kept_of_both I386 (mixed_libraries I386) (own_on I386)) (choosing_on I386) refl, tt);
     names = record { gnu = (record { head = refl; name = refl }, tt); msvc = (record { descriptor = refl; null_descriptor = refl; null_thunk = refl }, tt) };
   };
-  wants = omega arith;
   takes = takes_i386;
   names = names_i386;
   claims = claims_i386;
@@ -309,7 +305,6 @@ mixed_armnt = worked ARMNT 0x13058 0x13050 (record {
     claims = (claims_none_by (kept_of_both ARMNT (mixed_libraries ARMNT) (own_on ARMNT)) (choosing_on ARMNT) refl, tt);
     names = record { gnu = (record { head = refl; name = refl }, tt); msvc = (record { descriptor = refl; null_descriptor = refl; null_thunk = refl }, tt) };
   };
-  wants = omega arith;
   takes = takes_armnt;
   names = names_armnt;
   claims = claims_armnt;

@@ -14,7 +14,7 @@ use Rattle.implib_link.specs.Flavors.Program.{objects_taken}
 use Rattle.implib_link.specs.Gnu.Packed.{packed}
 use Rattle.implib_link.specs.Gnu.Program.{null_descriptor}
 use Rattle.implib_link.specs.Search.Archives.{IsArchive, Library, archive_of}
-use Rattle.implib_link.specs.Search.BothFlavors.{AreGivenForBoth, FlavorLibrary, IsClosedForBoth, IsFlavorArchive, LinksClosedForBoth, TakesOfBoth, archive_of_both, msvc_among}
+use Rattle.implib_link.specs.Search.BothFlavors.{AreGivenForBoth, FlavorLibrary, IsClosedForBoth, IsFlavorArchive, LinksClosedForBoth, TakesOfBoth, archive_of_both}
 use Rattle.implib_link.specs.Search.Closed.{IsClosed, LinksClosed, TakesInto, unresolved}
 use Rattle.implib_link.specs.Search.Given.{AreGiven}
 use Rattle.implib_link.specs.Search.MsvcArchives.{IsMsvcArchive, short_inputs}
@@ -41,7 +41,7 @@ gnu_libraries machine = library_on machine Gnu (foo_on machine) ∷ library_on m
 
 abbrev pub gnu_taken : MachineType → List MemberView
 gnu_taken machine =
-    head_on machine foo ∷ tail_on machine foo ∷ baz_on machine ∷ alias_on machine
+    tail_on machine foo ∷ head_on machine foo ∷ baz_on machine ∷ alias_on machine
     ∷ tail_on machine zed ∷ head_on machine zed ∷ queue_on machine ∷ []
 
 abbrev pub gnu_objects : MachineType → List Object
@@ -106,7 +106,8 @@ pub record WorkedMsvc (machine : MachineType) (baz_at queue_at : ℕ) : Type 0 w
   pub baz_pointer : IsPointerAt (msvc_bases machine) (msvc_objects machine) (baz machine) baz_at
   pub queue_pointer : IsPointerAt (msvc_bases machine) (msvc_objects machine) (queue machine) queue_at
 
--- For both: foo.dll's members are for Microsoft's linker, and zed.dll's, which are linked first, for GNU's.
+-- For both: foo.dll's members are for Microsoft's linker, and zed.dll's, which are linked first, for GNU's. The object wants
+-- a short import only by the alias.
 abbrev pub foo_msvc : MachineType → FlavorLibrary
 foo_msvc machine = record { flavor = Msvc; library = library_on machine Msvc (foo_on machine) }
 
@@ -140,7 +141,6 @@ mixed_bases machine = packed 0x13000 (mixed_objects machine)
 pub record WorkedMixed (machine : MachineType) (baz_at queue_at : ℕ) : Type 0 where
   pub archive : IsFlavorArchive machine (mixed_libraries machine)
   pub given : AreGivenForBoth machine (mixed_libraries machine) (own_on machine)
-  pub wants : 0 < length (short_inputs (msvc_among (mixed_libraries machine)) (unresolved (own_on machine)))
   pub takes : TakesIntoFor machine (archive_of_both (mixed_libraries machine)) (own_on machine) (mixed_taken machine)
   pub just : TakesOfBoth machine (mixed_libraries machine) (unresolved (own_on machine)) (mixed_taken machine)
   pub closed : IsClosedForBoth machine (mixed_libraries machine) (own_on machine) (mixed_taken machine)
