@@ -240,12 +240,10 @@ worked_both_way =
               beside.1.1.1,
               λ n written reads. (
                 arrive.ends (given_on AMD64) n written (wide AMD64) reads,
-                (
-                  subst (λ a. CallArrives AMD64 0x1_4000_0000 _ a _) (ap (λ (c : PlacedCode). c.position + 4) bar.is)
-                      (arrive.calls 0x1_4000_0000 beside.0 beside.1.0 (given_on AMD64) n written 0 0 bar_input (plain_export (codes "bar")) bar.own 4 tt beside.1.1.1 (wide AMD64) reads refl refl bar.held bar_has),
-                  subst (λ a. CallArrives AMD64 0x1_4000_0000 _ a _) (ap (λ (c : PlacedCode). c.position + 4) queue.is)
-                      (arrive.calls 0x1_4000_0000 beside.0 beside.1.0 (given_on AMD64) n written 1 0 queue_input (plain_export (codes "queue")) queue.own 4 tt beside.1.1.1 (wide AMD64) reads refl refl queue.held queue_has),
-                ),
+                subst (λ a. CallArrives AMD64 0x1_4000_0000 _ a _) (ap (λ (c : PlacedCode). c.position + 4) bar.is)
+                    (arrive.calls 0x1_4000_0000 beside.0 beside.1.0 (given_on AMD64) n written 0 0 bar_input (plain_export (codes "bar")) bar.own 4 tt beside.1.1.1 (wide AMD64) reads refl refl bar.held bar_has),
+                subst (λ a. CallArrives AMD64 0x1_4000_0000 _ a _) (ap (λ (c : PlacedCode). c.position + 4) queue.is)
+                    (arrive.calls 0x1_4000_0000 beside.0 beside.1.0 (given_on AMD64) n written 1 0 queue_input (plain_export (codes "queue")) queue.own 4 tt beside.1.1.1 (wide AMD64) reads refl refl queue.held queue_has),
               ),
             ),
           ),
