@@ -24,7 +24,7 @@ use Rattle.implib_archive_link.proofs.Corollaries.{are_found_in_bytes}
 use Rattle.implib_link.specs.Flavors.Program.{FlavorInput}
 use Rattle.implib_link.specs.Gnu.Calls.{CallArrives, HasCall, PlacedCode}
 use Rattle.implib_link.specs.Gnu.Choices.{AreSections, DefineOnce, plain_range}
-use Rattle.implib_link.specs.Gnu.Fields.{AreBeside, LinkedCode, placed_code}
+use Rattle.implib_link.specs.Gnu.Fields.{AreBeside, LinkedCode, placed_code, ranges_of_codes}
 use Rattle.implib_link.specs.Gnu.Packed.{group_end, packed_end, sections_end}
 use Rattle.implib_link.specs.Gnu.Program.{ClaimsNone}
 use Rattle.implib_link.specs.Search.Archives.{symbols_of_library}
@@ -240,9 +240,9 @@ worked_both_way =
               beside.1.1.1,
               λ n written reads. (
                 arrive.ends (given_on AMD64) n written (wide AMD64) reads,
-                subst (λ a. CallArrives AMD64 0x1_4000_0000 _ a _) (ap (λ (c : PlacedCode). c.position + 4) bar.is)
+                subst (λ a. CallArrives AMD64 0x1_4000_0000 (written ++ (image_of AMD64 bases linked ++ ranges_of_codes beside.0)) a (0x30 ∷ 0 ∷ 0 ∷ 0x10 ∷ 0 ∷ 0 ∷ 0 ∷ 0 ∷ [])) (ap (λ (c : PlacedCode). c.position + 4) bar.is)
                     (arrive.calls 0x1_4000_0000 beside.0 beside.1.0 (given_on AMD64) n written 0 0 bar_input (plain_export (codes "bar")) bar.own 4 tt beside.1.1.1 (wide AMD64) reads refl refl bar.held bar_has),
-                subst (λ a. CallArrives AMD64 0x1_4000_0000 _ a _) (ap (λ (c : PlacedCode). c.position + 4) queue.is)
+                subst (λ a. CallArrives AMD64 0x1_4000_0000 (written ++ (image_of AMD64 bases linked ++ ranges_of_codes beside.0)) a (0x50 ∷ 0 ∷ 0 ∷ 0x10 ∷ 0 ∷ 0 ∷ 0 ∷ 0 ∷ [])) (ap (λ (c : PlacedCode). c.position + 4) queue.is)
                     (arrive.calls 0x1_4000_0000 beside.0 beside.1.0 (given_on AMD64) n written 1 0 queue_input (plain_export (codes "queue")) queue.own 4 tt beside.1.1.1 (wide AMD64) reads refl refl queue.held queue_has),
               ),
             ),
