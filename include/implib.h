@@ -62,7 +62,7 @@ extern "C" {
 
 /* The version of this header, which grows with every change of what it declares or says. implib_version()
  * gives that of the library. */
-#define IMPLIB_VERSION 5
+#define IMPLIB_VERSION 6
 uint32_t implib_version(void);
 
 /* What a call answers. New statuses get new numbers. Those of faults of the input are 16 to 39. */
@@ -132,6 +132,7 @@ enum implib_status {
 #define IMPLIB_KILL_AT 1u               /* -k: on I386 the DLL is asked for names without `@` and the rest */
 #define IMPLIB_NO_LEADING_UNDERSCORE 2u /* --no-leading-underscore: on I386 symbols are as they are written */
 #define IMPLIB_EXPORT_AS 4u             /* --export-as: a name that is not made of its symbol is beside it */
+#define IMPLIB_KEEP_DECORATED 8u        /* --lib: on I386 a name with an `@` is decorated already */
 
 /*
  * For which machine, linker and DLL a library is made.

@@ -115,7 +115,12 @@ worked_statuses = record {
     export_as = refl;
     kill_at_export_as = refl;
     plain_export_as = refl;
-    all_flags = refl;
+    plain_kill_at_export_as = refl;
+    keep_decorated = refl;
+    kill_at_keep_decorated = refl;
+    plain_keep_decorated = refl;
+    export_as_keep_decorated = refl;
+    each_flag = refl;
     unknown_flag = refl;
     version_is = refl;
   };

@@ -15,6 +15,7 @@ pub mod Check
 pub mod CheckAnswer
 pub mod Place
 pub mod Version
+pub mod Flags
 pub mod Given
 pub mod GivenWith
 pub mod GivenOf

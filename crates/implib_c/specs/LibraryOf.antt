@@ -14,6 +14,7 @@ use Rattle.implib_c.specs.declared.export.ExportFault.{ExportFault}
 use Rattle.implib_c.specs.declared.export.ExportFault.TheVariants.{NotUtf8, UnknownFlags}
 use Rattle.implib_c.specs.declared.status.Status.{Status}
 use Rattle.implib_c.specs.declared.status.Status.TheVariants as status
+use Rattle.implib_c.specs.Flags.{has_flag}
 use Rattle.implib_c.specs.LibraryWith.{GivenOptions, IsOptionFault, OptionFault, WithOptions, option_status}
 use Rattle.implib_c.specs.Status.{archive_status, cause_status, status_number}
 
@@ -28,10 +29,6 @@ pub record GivenExport : Type 0 where
 -- the view of an export
 abbrev pub given_export : Export → GivenExport
 given_export e = record { name = e.name.now; target = e.target.now; ordinal = e.ordinal; flags = e.flags }
-
--- whether a flag, which is a power of 2, is set
-abbrev pub has_flag : ℕ → ℕ → Bool
-has_flag flags flag = not (bit_and flags flag == 0)
 
 -- What a definition has of an export: the name, what follows `==`, and the ordinal; the flag 1 is `NONAME`, 2
 -- `DATA`, 4 `CONSTANT` and 8 `PRIVATE`. So the statement `name @ordinal NONAME DATA CONSTANT PRIVATE == target`

@@ -1,7 +1,7 @@
 -- What `implib_library_with` answers: the library that the program `implib_dlltool` makes of the text under these
 -- options (`implib_rules`).
 use Rattle.std.specs.Prelude.{◌≡◌, ℕ, ◌+◌, ◌<◌, ◌≤◌, ◌==◌, true, false, List, [], ◌∷◌, ◌++◌, length, drop}
-use Rattle.std.specs.Prelude.{Option, None, Some, IfSome, nat_eq, if◌then◌else◌}
+use Rattle.std.specs.Prelude.{Option, None, Some, IfSome, nat_eq, nat_lt, if◌then◌else◌}
 use Rattle.std.specs.List.{starts_with}
 use Rattle.std.specs.Option.{IsSome}
 use Rattle.std.specs.Str.{IsUtf8}
@@ -17,6 +17,7 @@ use Rattle.implib_c.specs.declared.library_with.OptionsArguments.{OptionsArgumen
 use Rattle.implib_c.specs.declared.status.Status.{Status}
 use Rattle.implib_c.specs.declared.status.Status.TheVariants as status
 use Rattle.implib_c.specs.Answer.{flavor_numbered}
+use Rattle.implib_c.specs.Flags.{has_flag}
 use Rattle.implib_c.specs.Status.{archive_status, cause_status, status_number}
 
 -- the options as C passes them: numbers, and the bytes of a name
@@ -32,18 +33,16 @@ pub record GivenOptions : Type 0 where
 abbrev pub given_options : OptionsArguments → GivenOptions
 given_options o = record { machine = o.machine; flavor = o.flavor; flags = o.flags; has_dll = o.has_dll; dll = o.dll.now }
 
--- how names are read, and asked for, with these flags: 1 is the option `-k`, 2 `--no-leading-underscore`, and 4
--- `--export-as`
+-- how names are read, and asked for, with these flags: 1 is the option `-k`, 2 `--no-leading-underscore`, 4 `--export-as`,
+-- and 8 what LIB's words have besides
 abbrev pub naming_numbered : ℕ → Option NamingView
 naming_numbered flags =
-    if flags == 0 then Some (record { is_plain = false; kills_at = false; exports_as = false; keeps_decorated = false })
-    else if flags == 1 then Some (record { is_plain = false; kills_at = true; exports_as = false; keeps_decorated = false })
-    else if flags == 2 then Some (record { is_plain = true; kills_at = false; exports_as = false; keeps_decorated = false })
-    else if flags == 3 then Some (record { is_plain = true; kills_at = true; exports_as = false; keeps_decorated = false })
-    else if flags == 4 then Some (record { is_plain = false; kills_at = false; exports_as = true; keeps_decorated = false })
-    else if flags == 5 then Some (record { is_plain = false; kills_at = true; exports_as = true; keeps_decorated = false })
-    else if flags == 6 then Some (record { is_plain = true; kills_at = false; exports_as = true; keeps_decorated = false })
-    else if flags == 7 then Some (record { is_plain = true; kills_at = true; exports_as = true; keeps_decorated = false })
+    if nat_lt flags 16 then Some (record {
+      is_plain = has_flag flags 2;
+      kills_at = has_flag flags 1;
+      exports_as = has_flag flags 4;
+      keeps_decorated = has_flag flags 8;
+    })
     else None
 
 -- the DLL's name, where one is given

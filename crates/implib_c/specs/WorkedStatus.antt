@@ -150,9 +150,14 @@ pub record WorkedArguments : Type 0 where
   pub export_as : naming_numbered 4 ≡ Some (record { is_plain = false; kills_at = false; exports_as = true; keeps_decorated = false })
   pub kill_at_export_as : naming_numbered 5 ≡ Some (record { is_plain = false; kills_at = true; exports_as = true; keeps_decorated = false })
   pub plain_export_as : naming_numbered 6 ≡ Some (record { is_plain = true; kills_at = false; exports_as = true; keeps_decorated = false })
-  pub all_flags : naming_numbered 7 ≡ Some (record { is_plain = true; kills_at = true; exports_as = true; keeps_decorated = false })
-  pub unknown_flag : naming_numbered 8 ≡ None
-  pub version_is : version ≡ 5
+  pub plain_kill_at_export_as : naming_numbered 7 ≡ Some (record { is_plain = true; kills_at = true; exports_as = true; keeps_decorated = false })
+  pub keep_decorated : naming_numbered 8 ≡ Some (record { is_plain = false; kills_at = false; exports_as = false; keeps_decorated = true })
+  pub kill_at_keep_decorated : naming_numbered 9 ≡ Some (record { is_plain = false; kills_at = true; exports_as = false; keeps_decorated = true })
+  pub plain_keep_decorated : naming_numbered 10 ≡ Some (record { is_plain = true; kills_at = false; exports_as = false; keeps_decorated = true })
+  pub export_as_keep_decorated : naming_numbered 12 ≡ Some (record { is_plain = false; kills_at = false; exports_as = true; keeps_decorated = true })
+  pub each_flag : naming_numbered 15 ≡ Some (record { is_plain = true; kills_at = true; exports_as = true; keeps_decorated = true })
+  pub unknown_flag : naming_numbered 16 ≡ None
+  pub version_is : version ≡ 6
 
 -- all of them
 pub record WorkedStatuses : Type 0 where

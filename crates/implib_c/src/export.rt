@@ -1,7 +1,8 @@
 //! An export as C passes it.
 
 ghost use Rattle.implib.specs.Definition.{export_view};
-ghost use Rattle.implib_c.specs.LibraryOf.{IsAccepted, IsExportFault, export_given, given_export, has_flag};
+ghost use Rattle.implib_c.specs.Flags.{has_flag};
+ghost use Rattle.implib_c.specs.LibraryOf.{IsAccepted, IsExportFault, export_given, given_export};
 ghost use Rattle.std.specs.Prelude.{◌≡◌, IfErr, IfOk, OnOk};
 
 use implib::def::ShortExport;
@@ -40,7 +41,7 @@ pub enum ExportFault {
 }
 
 // Whether a flag is set.
-fn has_flag(flags: u32, flag: u32) -> bool
+pub(crate) fn has_flag(flags: u32, flag: u32) -> bool
     ensures { result ≡ has_flag flags flag }
 {
     flags & flag != 0

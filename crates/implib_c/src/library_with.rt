@@ -12,6 +12,7 @@ ghost use Rattle.implib_rules.specs.Options.{library_options_view};
 ghost use Rattle.std.specs.Option.{option_map};
 ghost use Rattle.std.specs.Prelude.{◌≡◌, ◌+◌, ◌<◌, ◌^◌, Err, IfErr, IfOk, map};
 
+use crate::export::has_flag;
 use crate::outcome::{Failure, flavor_with, machine_with, pack_into};
 use implib::{Flavor, Member};
 use implib_rules::additions::Additions;
@@ -20,26 +21,27 @@ use implib_rules::linked::Naming;
 use implib_rules::options::LibraryOptions;
 use std::alloc::Global;
 
+// The flags of options: `IMPLIB_KILL_AT` and those below it in the header.
+const KILL_AT: u32 = 1;
+
+const NO_LEADING_UNDERSCORE: u32 = 2;
+
+const EXPORT_AS: u32 = 4;
+
+const KEEP_DECORATED: u32 = 8;
+
 // How names are read, and asked for, with these flags.
 fn naming_with(flags: u32) -> Option<Naming>
     ensures { option_map naming_view result ≡ naming_numbered flags }
 {
-    let (is_plain, kills_at, exports_as) = match flags {
-        0 => (false, false, false),
-        1 => (false, true, false),
-        2 => (true, false, false),
-        3 => (true, true, false),
-        4 => (false, false, true),
-        5 => (false, true, true),
-        6 => (true, false, true),
-        7 => (true, true, true),
-        _ => return None,
-    };
+    if flags > (KILL_AT | NO_LEADING_UNDERSCORE | EXPORT_AS | KEEP_DECORATED) {
+        return None;
+    }
     Some(Naming {
-        is_plain,
-        kills_at,
-        exports_as,
-        keeps_decorated: false,
+        is_plain: has_flag(flags, NO_LEADING_UNDERSCORE),
+        kills_at: has_flag(flags, KILL_AT),
+        exports_as: has_flag(flags, EXPORT_AS),
+        keeps_decorated: has_flag(flags, KEEP_DECORATED),
     })
 }
 

@@ -421,17 +421,18 @@ fn a_call_with_options_puts_the_library_that_the_program_writes(
     for (flavor, number, _) in FLAVORS {
         let flavor = (flavor, number);
         for machine in MACHINES {
-            for (flags, kills_at, is_plain, exports_as) in [
-                (0, false, false, false),
-                (1, true, false, false),
-                (2, false, true, false),
-                (5, true, false, true),
+            for (flags, kills_at, is_plain, exports_as, keeps_decorated) in [
+                (0, false, false, false, false),
+                (1, true, false, false, false),
+                (2, false, true, false, false),
+                (5, true, false, true, false),
+                (8, false, false, false, true),
             ] {
                 let naming = Naming {
                     is_plain,
                     kills_at,
                     exports_as,
-                    keeps_decorated: false,
+                    keeps_decorated,
                 };
                 expect_written(&rt, alloc, DECORATED, machine, flavor, (flags, naming))?;
             }
@@ -557,7 +558,7 @@ fn offsets_have_lines_and_columns(rt: HostRuntime) -> Result<(), Fail> {
 
 #[test]
 fn the_version_is_that_of_the_header(rt: HostRuntime) -> Result<(), Fail> {
-    assert_eq!(rt; implib_version(), 5);
+    assert_eq!(rt; implib_version(), 6);
     Ok(())
 }
 
