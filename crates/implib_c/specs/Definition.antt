@@ -74,7 +74,7 @@ abbrev pub flag : Bool → ℕ → ℕ
 flag true number = number
 flag false number = 0
 
--- the attributes of an export: 1 for NONAME, 2 for DATA, 4 for PRIVATE and 8 for CONSTANT
+-- the attributes of an export: 1 for NONAME, 2 for DATA, 4 for CONSTANT and 8 for PRIVATE
 abbrev pub flags_of : StatedExport → ℕ
 flags_of e = flag e.no_name 1 + flag e.is_data 2 + flag e.constant 4 + flag e.private 8
 
