@@ -30,3 +30,5 @@ pub mod BothArchives
 pub mod BothArranged
 pub mod BothClosed
 pub mod BothGiven
+pub mod BothRooms
+pub mod BothExists

@@ -11,3 +11,4 @@ pub mod MsvcGiven
 pub mod MsvcExists
 pub mod NamedApart
 pub mod BothFlavors
+pub mod BothExists

@@ -54,3 +54,4 @@ pub mod NearTaken
 pub mod A32
 pub mod BothFlavors
 pub mod BothReversed
+pub mod BothExists

@@ -2,6 +2,7 @@
 //! function.
 
 pub mod aliases;
+pub mod both_exists;
 pub mod both_flavors;
 pub mod bounds;
 pub mod calls;

@@ -16,15 +16,15 @@ use Rattle.implib_link.specs.Gnu.Program.{ClaimsNone, IsProgram, has_tables, lin
 use Rattle.implib_link.proofs.Gnu.Blocks.{objects_behind}
 use Rattle.implib.specs.LibraryName.{NamesOfDll}
 
-head_has : (machine : MachineType) (dll : NamesOfDll) → has_tables (head machine dll) ≡ true
+pub head_has : (machine : MachineType) (dll : NamesOfDll) → has_tables (head machine dll) ≡ true
 unfolding has_tables head_object
 head_has machine dll = refl
 
-tail_has : (machine : MachineType) (dll : NamesOfDll) → has_tables (tail machine dll) ≡ true
+pub tail_has : (machine : MachineType) (dll : NamesOfDll) → has_tables (tail machine dll) ≡ true
 unfolding has_tables tail_object
 tail_has machine dll = refl
 
-export_has : (machine : MachineType) (dll : NamesOfDll) (e : ExportView) → has_tables (export machine dll e) ≡ true
+pub export_has : (machine : MachineType) (dll : NamesOfDll) (e : ExportView) → has_tables (export machine dll e) ≡ true
 unfolding has_tables export_object
 export_has machine dll e = refl
 

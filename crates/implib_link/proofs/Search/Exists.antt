@@ -104,6 +104,26 @@ pub none_kept : (objects : List Object) → NoneHave objects → filter has_tabl
 none_kept [] none = refl
 none_kept (o ∷ objects) none = rw none.0 (none_kept objects none.1)
 
+-- Objects without tables, and behind them those with tables.
+
+pub tables_last : (own weak tables : List Object) → NoneHave own → NoneHave weak → AllByRecursion (λ o. has_tables o ≡ true) tables → filter has_tables (own ++ (weak ++ tables)) ≡ tables
+tables_last own weak tables plain none all =
+    ap (filter has_tables) (sym (append_assoc own weak tables))
+    ∙ filter-append has_tables (own ++ weak) tables
+    ∙ ap (λ front. front ++ filter has_tables tables) (none_kept (own ++ weak) (both_none own weak plain none))
+    ∙ all_kept tables all
+
+pub others_first : (own weak tables : List Object) → NoneHave own → NoneHave weak → AllByRecursion (λ o. has_tables o ≡ true) tables →
+    HaveSame (filter (λ o. not (has_tables o)) (own ++ (weak ++ tables))) (own ++ weak)
+others_first own weak tables plain none all =
+    let are : filter (λ o. not (has_tables o)) (own ++ (weak ++ tables)) ≡ own ++ weak =
+    ap (filter (λ o. not (has_tables o))) (sym (append_assoc own weak tables))
+    ∙ filter-append (λ o. not (has_tables o)) (own ++ weak) tables
+    ∙ ap (λ behind. filter (λ o. not (has_tables o)) (own ++ weak) ++ behind) (none_left tables all)
+    ∙ append-nil (filter (λ o. not (has_tables o)) (own ++ weak))
+    ∙ plain_left (own ++ weak) (both_none own weak plain none) in
+    λ o. (λ held. subst (λ zs. Contains zs o) are held, λ held. subst (λ zs. Contains zs o) (sym are) held)
+
 weak_plain : (machine : MachineType) (weak target : List ℕ) → has_tables (object_of (weak_object machine weak target)) ≡ false
 unfolding has_tables weak_object object_of entries_of name_text
 weak_plain machine weak target = refl
@@ -138,8 +158,8 @@ module _ (machine : MachineType) (libraries : List Library) (archive : IsArchive
         let x = pulled_by machine libraries archive own given taken turn m there.0 in
         weak_has_none x.0 m o there.1 x.1 read)
 
-    abbrev others : List Object
-    others = own ++ objects_in (weak_among taken)
+    abbrev weak : List Object
+    weak = objects_in (weak_among taken)
 
     abbrev tables : List Object
     tables = objects_in (all_linked machine (inputs_in libraries own taken)) ++ null_descriptor ∷ []
@@ -147,35 +167,11 @@ module _ (machine : MachineType) (libraries : List Library) (archive : IsArchive
     all_have : AllByRecursion (λ o. has_tables o ≡ true) tables
     all_have = members_have machine (inputs_in libraries own taken) (inputs_made machine libraries (wanted_in own taken) archive.made)
 
-    objects_are : objects_closed machine libraries own taken ≡ others ++ tables
-    objects_are = sym (append_assoc own (objects_in (weak_among taken)) tables)
-
-    others_none : NoneHave others
-    others_none = both_none own (objects_in (weak_among taken)) plain weak_none
-
-    tables_are : filter has_tables (objects_closed machine libraries own taken) ≡ tables
-    tables_are =
-        ap (filter has_tables) objects_are
-        ∙ filter-append has_tables others tables
-        ∙ ap (λ front. front ++ filter has_tables tables) (none_kept others others_none)
-        ∙ all_kept tables all_have
-
-    others_are : filter (λ o. not (has_tables o)) (objects_closed machine libraries own taken) ≡ others
-    others_are =
-        ap (filter (λ o. not (has_tables o))) objects_are
-        ∙ filter-append (λ o. not (has_tables o)) others tables
-        ∙ ap (λ behind. filter (λ o. not (has_tables o)) others ++ behind) (none_left tables all_have)
-        ∙ append-nil (filter (λ o. not (has_tables o)) others)
-        ∙ plain_left others others_none
-
-    same_from : (xs ys : List Object) → xs ≡ ys → HaveSame xs ys
-    same_from xs ys is = λ o. (λ held. subst (λ zs. Contains zs o) is held, λ held. subst (λ zs. Contains zs o) (sym is) held)
-
     pub chosen_for : AreChosenFor machine libraries own taken libraries (objects_closed machine libraries own taken)
     chosen_for = record {
       order = IsPermutation-refl libraries;
-      others = same_from (filter (λ o. not (has_tables o)) (objects_closed machine libraries own taken)) others others_are;
-      tables = tables_are;
+      others = others_first own weak tables plain weak_none all_have;
+      tables = tables_last own weak tables plain weak_none all_have;
     }
 
 pub closed_exists : (machine : MachineType) (libraries : List Library) (own : List Object) (first : ℕ) → IsArchive machine libraries → AreGiven machine libraries own →

@@ -1,10 +1,7 @@
 -- There is a closed program with libraries for Microsoft's linker: packed placement of what it takes for given objects.
 use Rattle.std.proofs.Common.{◌≡◌, ℕ, ◌^◌, ◌<◌, ◌≤◌, Bool, true, false, List, [], ◌∷◌, ◌++◌, length, Option, Some, None, refl, ap, sym, ◌∙◌, subst, inl, inr, arith}
-use Rattle.std.specs.Prelude.{not}
-use Rattle.std.specs.List.{AllByRecursion, Contains, cons_option, filter}
+use Rattle.std.specs.List.{AllByRecursion, cons_option}
 use Rattle.std.proofs.lemmas.Bool.{true≢false}
-use Rattle.std.proofs.lemmas.List.{append-nil, append_assoc}
-use Rattle.std.proofs.lemmas.List.Elements.{filter-append}
 use Rattle.std.proofs.lemmas.List.Sorted.{IsPermutation-refl}
 use Rattle.implib.specs.declared.flavor.Flavor.TheVariants.{Msvc}
 use Rattle.implib.specs.declared.machine.MachineType.{MachineType}
@@ -32,14 +29,12 @@ use Rattle.implib_link.specs.Search.MsvcArchives.{IsMsvcArchive, IsMsvcLibrary, 
 use Rattle.implib_link.specs.Search.MsvcClosed.{AreClosedForMsvc, AreLinkedForMsvc, IsClosedForMsvc, TakesIntoFor, inputs_for, wanted_for}
 use Rattle.implib_link.specs.Search.MsvcExists.{HasClosedForMsvc, msvc_tables_end, objects_closed_for}
 use Rattle.implib_link.specs.Search.MsvcGiven.{AreGivenForMsvc}
-use Rattle.implib_link.specs.Search.Search.{HaveSame}
 use Rattle.implib_link.proofs.Flavors.Block.{asking, use_for}
 use Rattle.implib_link.proofs.Flavors.Expanded.{taken_descriptor, taken_null, taken_null_thunk}
 use Rattle.implib_link.proofs.Flavors.Packed.{kept_sized, packed_flavors}
-use Rattle.implib_link.proofs.Gnu.Alone.{all_kept, none_left}
 use Rattle.implib_link.proofs.Gnu.Packed.{lies_within}
 use Rattle.implib_link.proofs.Search.Closed.{passing}
-use Rattle.implib_link.proofs.Search.Exists.{NoneHave, both_none, none_kept, plain_left, within_by}
+use Rattle.implib_link.proofs.Search.Exists.{NoneHave, others_first, tables_last, within_by}
 use Rattle.implib_link.proofs.Search.Lists.{among_either}
 use Rattle.implib_link.proofs.Search.MsvcArchives.{AShort, Linked, TheDescriptor, TheThunk, descriptor_plain, linked_of, null_plain, short_plain, there_linked, thunk_plain}
 use Rattle.implib_link.proofs.Search.MsvcArranged.{short_inputs_made, shorts_moved}
@@ -99,7 +94,7 @@ unfolding has_tables import_object
 asking_has machine dll symbol (Ordinal n) use_kind = refl
 asking_has machine dll symbol (Name text hint) use_kind = refl
 
-weak_has_none : (machine : MachineType) (weak target : List ℕ) → has_tables (taken_weak machine weak target) ≡ false
+pub weak_has_none : (machine : MachineType) (weak target : List ℕ) → has_tables (taken_weak machine weak target) ≡ false
 unfolding has_tables with_section_symbols weak_object object_of entries_of name_text
 weak_has_none machine weak target = refl
 
@@ -107,68 +102,70 @@ first_taken : (P : Object → Type 0) (read : Option Object) (objects : List Obj
 first_taken P None objects own all = all
 first_taken P (Some o) objects own all = (own o refl, all)
 
-each_taken : (machine : MachineType) (P : Object → Type 0) (members : List MemberView) → ((m : MemberView) (o : Object) → Among m members → expanded_in machine m.bytes ≡ Some o → P o) →
+pub each_taken : (machine : MachineType) (P : Object → Type 0) (members : List MemberView) → ((m : MemberView) (o : Object) → Among m members → expanded_in machine m.bytes ≡ Some o → P o) →
     AllByRecursion P (objects_taken machine members)
 each_taken machine P [] own = tt
 each_taken machine P (m ∷ members) own =
     first_taken P (expanded_in machine m.bytes) (objects_taken machine members) (λ o is. own m o (among_first m members) is)
     (each_taken machine P members (λ x o held is. own x o (among_later x m members held) is))
 
-module _ (machine : MachineType) (libraries : List Library) (archive : IsMsvcArchive machine libraries) (own : List Object) (given : AreGivenForMsvc libraries own) (plain : NoneHave own) where
+-- a member that is another is taken for the same object
+pub same_object : (machine : MachineType) (b : Bool) (m x : MemberView) (o one : Object) → m ≡ x → expanded_in machine x.bytes ≡ Some one → expanded_in machine m.bytes ≡ Some o → has_tables one ≡ b →
+    has_tables o ≡ b
+same_object machine b m x o one same is read has =
+    let objects : o ≡ one = (let e : Some o ≡ Some one = sym read ∙ ap (λ (y : MemberView). expanded_in machine y.bytes) same ∙ is in cc) in
+    subst (λ y. has_tables y ≡ b) (sym objects) has
+
+module _ (machine : MachineType) (libraries : List Library) (archive : IsMsvcArchive machine libraries) where
   made_of : (l : Library) → Among l libraries → IsMsvcLibrary machine l
   made_of l there = all_among (IsMsvcLibrary machine) l libraries there archive.made
-
-  same_object : (b : Bool) (m x : MemberView) (o one : Object) → m ≡ x → expanded_in machine x.bytes ≡ Some one → expanded_in machine m.bytes ≡ Some o → has_tables one ≡ b → has_tables o ≡ b
-  same_object b m x o one same is read has =
-      let objects : o ≡ one = (let e : Some o ≡ Some one = sym read ∙ ap (λ (y : MemberView). expanded_in machine y.bytes) same ∙ is in cc) in
-      subst (λ y. has_tables y ≡ b) (sym objects) has
 
   first_held : (l : Library) (rest : List Library) → libraries ≡ l ∷ rest → Among l libraries
   first_held l rest is = subst (Among l) (sym is) (among_first l rest)
 
-  none_of : (by : List ℕ) (m : MemberView) (o : Object) → is_weak_in machine m ≡ true → Found machine libraries archive by m → expanded_in machine m.bytes ≡ Some o → has_tables o ≡ false
+  pub none_of : (by : List ℕ) (m : MemberView) (o : Object) → is_weak_in machine m ≡ true → Found machine libraries archive by m → expanded_in machine m.bytes ≡ Some o → has_tables o ≡ false
   none_of by m o weak_one (FoundDescriptor l there same is) read = absurd (true≢false (sym weak_one ∙ descriptor_plain machine m l (made_of l there) same))
   none_of by m o weak_one (FoundNull l rest first same is) read = absurd (true≢false (sym weak_one ∙ null_plain machine m l (made_of l (first_held l rest first)) same))
   none_of by m o weak_one (FoundThunk l there same is) read = absurd (true≢false (sym weak_one ∙ thunk_plain machine m l (made_of l there) same))
   none_of by m o weak_one (FoundShort l there e among none same listed) read = absurd (true≢false (sym weak_one ∙ short_plain machine m l (made_of l there) e among same))
   none_of by m o weak_one (FoundWeak l there e among alias weak target pair same named) read =
-      same_object false m (weak_of machine l weak target) o (taken_weak machine weak target) same (weak_is machine l (made_of l there) e weak target among alias pair) read (weak_has_none machine weak target)
+      same_object machine false m (weak_of machine l weak target) o (taken_weak machine weak target) same (weak_is machine l (made_of l there) e weak target among alias pair) read (weak_has_none machine weak target)
 
-  linked_has : (l : Library) → Among l libraries → (names : List (List ℕ)) (m : MemberView) (o : Object) → Linked machine l names m → expanded_in machine m.bytes ≡ Some o → has_tables o ≡ true
+  pub linked_has : (l : Library) → Among l libraries → (names : List (List ℕ)) (m : MemberView) (o : Object) → Linked machine l names m → expanded_in machine m.bytes ≡ Some o → has_tables o ≡ true
   linked_has l there names m o (TheDescriptor same any) read =
-      same_object true m (descriptor_of machine l) o (taken_descriptor machine (names_for Msvc l.definition)) same (descriptor_is machine l (made_of l there)) read (descriptor_has machine (names_for Msvc l.definition))
+      same_object machine true m (descriptor_of machine l) o (taken_descriptor machine (names_for Msvc l.definition)) same (descriptor_is machine l (made_of l there)) read (descriptor_has machine (names_for Msvc l.definition))
   linked_has l there names m o (TheThunk same any) read =
-      same_object true m (thunk_of machine l) o (taken_null_thunk machine (names_for Msvc l.definition)) same (thunk_is machine l (made_of l there)) read (thunk_has machine (names_for Msvc l.definition))
+      same_object machine true m (thunk_of machine l) o (taken_null_thunk machine (names_for Msvc l.definition)) same (thunk_is machine l (made_of l there)) read (thunk_has machine (names_for Msvc l.definition))
   linked_has l there names m o (AShort e among same want) read =
-      same_object true m (short_of machine l e) o (asking machine (names_for Msvc l.definition) e) same (short_is machine l (made_of l there) e among) read
+      same_object machine true m (short_of machine l e) o (asking machine (names_for Msvc l.definition) e) same (short_is machine l (made_of l there) e among) read
       (asking_has machine (names_for Msvc l.definition) (short_import_symbol e) (ask_in Msvc machine e) (use_for e))
 
-  first_has : (ls : List Library) → libraries ≡ ls → (m : MemberView) (o : Object) → Among m (first_null machine ls) → expanded_in machine m.bytes ≡ Some o → has_tables o ≡ true
+  pub first_has : (ls : List Library) → libraries ≡ ls → (m : MemberView) (o : Object) → Among m (first_null machine ls) → expanded_in machine m.bytes ≡ Some o → has_tables o ≡ true
   unfolding Among
   first_has [] is m o there read = absurd there
-  first_has (l ∷ rest) is m o (inl same) read = same_object true m (null_of machine l) o (taken_null machine) same (null_is machine l (made_of l (first_held l rest is))) read (null_has machine)
+  first_has (l ∷ rest) is m o (inl same) read = same_object machine true m (null_of machine l) o (taken_null machine) same (null_is machine l (made_of l (first_held l rest is))) read (null_has machine)
   first_has (l ∷ rest) is m o (inr nothing) read = absurd nothing
 
-  module _ (taken : List MemberView) (takes : TakesIntoFor machine (archive_of libraries) own taken) where
+  module _ (own : List Object) (given : AreGivenForMsvc libraries own) (plain : NoneHave own) (taken : List MemberView) (takes : TakesIntoFor machine (archive_of libraries) own taken) where
     turn : AreTakenInTurn machine (archive_of libraries) (unresolved own) taken
     turn = in_turn_for machine (archive_of libraries) own taken takes.in_turn
 
     abbrev members : List MemberView
     members = all_members machine (inputs_for machine libraries own taken)
 
-    abbrev others : List Object
-    others = own ++ objects_taken machine (weak_in machine taken)
+    abbrev weak : List Object
+    weak = objects_taken machine (weak_in machine taken)
 
     abbrev tables : List Object
     tables = objects_taken machine (first_null machine libraries ++ members)
 
-    weak_none : NoneHave (objects_taken machine (weak_in machine taken))
+    weak_none : NoneHave weak
     weak_none = each_taken machine (λ o. has_tables o ≡ false) (weak_in machine taken) (λ m o there read.
         let kept = passing (is_weak_in machine) m taken there in
         let x = pulled_by machine libraries archive own given taken turn m kept.0 in
         none_of x.0 m o kept.1 x.1 read)
 
-    all_have : AllByRecursion (λ o. has_tables o ≡ true) (objects_taken machine (first_null machine libraries ++ members))
+    all_have : AllByRecursion (λ o. has_tables o ≡ true) tables
     all_have = each_taken machine (λ o. has_tables o ≡ true) (first_null machine libraries ++ members) (λ m o there read.
         elim (among_either m (first_null machine libraries) members there) [
           | inl null ↦ first_has libraries refl m o null read
@@ -177,38 +174,14 @@ module _ (machine : MachineType) (libraries : List Library) (archive : IsMsvcArc
               linked_has from.0 from.1 (wanted_for machine own taken) m o (there_linked machine from.0 (wanted_for machine own taken) m from.2) read
         ])
 
-    objects_are : objects_closed_for machine libraries own taken ≡ others ++ tables
-    objects_are = sym (append_assoc own (objects_taken machine (weak_in machine taken)) tables)
-
-    others_none : NoneHave others
-    others_none = both_none own (objects_taken machine (weak_in machine taken)) plain weak_none
-
-    tables_are : filter has_tables (objects_closed_for machine libraries own taken) ≡ objects_taken machine (first_null machine libraries ++ members)
-    tables_are =
-        ap (filter has_tables) objects_are
-        ∙ filter-append has_tables others tables
-        ∙ ap (λ front. front ++ filter has_tables tables) (none_kept others others_none)
-        ∙ all_kept tables all_have
-
-    others_are : filter (λ o. not (has_tables o)) (objects_closed_for machine libraries own taken) ≡ own ++ objects_taken machine (weak_in machine taken)
-    others_are =
-        ap (filter (λ o. not (has_tables o))) objects_are
-        ∙ filter-append (λ o. not (has_tables o)) others tables
-        ∙ ap (λ behind. filter (λ o. not (has_tables o)) others ++ behind) (none_left tables all_have)
-        ∙ append-nil (filter (λ o. not (has_tables o)) others)
-        ∙ plain_left others others_none
-
-    same_from : (xs ys : List Object) → xs ≡ ys → HaveSame xs ys
-    same_from xs ys is = λ o. (λ there. subst (λ zs. Contains zs o) is there, λ there. subst (λ zs. Contains zs o) (sym is) there)
-
     pub linked_for : AreLinkedForMsvc machine libraries own taken libraries (objects_closed_for machine libraries own taken)
     linked_for = record {
       order = IsPermutation-refl libraries;
-      others = same_from (filter (λ o. not (has_tables o)) (objects_closed_for machine libraries own taken)) others others_are;
+      others = others_first own weak tables plain weak_none all_have;
       before = [];
       behind = members;
       members = refl;
-      tables = tables_are;
+      tables = tables_last own weak tables plain weak_none all_have;
     }
 
 pub msvc_exists : (machine : MachineType) (libraries : List Library) (own : List Object) (first : ℕ) → IsMsvcArchive machine libraries → AreGivenForMsvc libraries own →

@@ -135,16 +135,22 @@ some_near test (e ∷ es) =
     let some : sum_by short_room (e ∷ filter test es) ≡ short_room e + sum_by short_room (filter test es) = sum_next short_room e (filter test es) in
     elim (cases_Bool (test e)) [ inl is ↦ rw is (omega arith) | inr is ↦ rw is (omega arith) ]
 
+-- what is linked of a library, if any import is wanted, and of others
+pub short_library_near : (machine : MachineType) (l : Library) (names : List (List ℕ)) (others : List FlavorInput) (n : ℕ) → all_rooms (all_objects machine (map block_in others) []) ≤ n →
+    all_rooms (all_objects machine (map block_in (cons_option (short_input_if_any l (imports_wanted l names)) others)) []) ≤ msvc_library_room l + n
+short_library_near machine l names others n behind =
+    let some : sum_by short_room (filter (is_import_wanted names) (exports_of l)) ≤ sum_by short_room (exports_of l) = some_near (is_import_wanted names) (exports_of l) in
+    let own : 67 + length l.definition.import_name + sum_by short_room (chosen_exports l.definition (imports_wanted l names)) ≤ msvc_library_room l =
+    subst (λ (es : List ExportView). 67 + length l.definition.import_name + sum_by short_room es ≤ msvc_library_room l) (sym (imports_are l names)) (omega arith) in
+    library_near machine l (imports_wanted l names) others n (msvc_library_room l) behind own
+
 libraries_near : (machine : MachineType) (libraries : List Library) (names : List (List ℕ)) → all_rooms (all_objects machine (map block_in (short_inputs libraries names)) []) ≤ sum_by msvc_library_room libraries
 unfolding all_rooms
 libraries_near machine [] names = omega arith
 libraries_near machine (l ∷ libraries) names =
     let all : sum_by msvc_library_room (l ∷ libraries) ≡ msvc_library_room l + sum_by msvc_library_room libraries = sum_next msvc_library_room l libraries in
-    let some : sum_by short_room (filter (is_import_wanted names) (exports_of l)) ≤ sum_by short_room (exports_of l) = some_near (is_import_wanted names) (exports_of l) in
-    let own : 67 + length l.definition.import_name + sum_by short_room (chosen_exports l.definition (imports_wanted l names)) ≤ msvc_library_room l =
-    subst (λ (es : List ExportView). 67 + length l.definition.import_name + sum_by short_room es ≤ msvc_library_room l) (sym (imports_are l names)) (omega arith) in
     subst (λ n. all_rooms (all_objects machine (map block_in (short_inputs (l ∷ libraries) names)) []) ≤ n) (sym all)
-    (library_near machine l (imports_wanted l names) (short_inputs libraries names) (sum_by msvc_library_room libraries) (msvc_library_room l) (libraries_near machine libraries names) own)
+    (short_library_near machine l names (short_inputs libraries names) (sum_by msvc_library_room libraries) (libraries_near machine libraries names))
 
 -- an object put in among others
 rooms_put : (front back : List Object) (o : Object) → all_rooms (front ++ o ∷ back) ≡ own_rooms o + all_rooms (front ++ back)
@@ -152,17 +158,20 @@ unfolding all_rooms
 rooms_put [] back o = refl
 rooms_put (x ∷ front) back o = (let behind = rooms_put front back o in omega arith)
 
+-- What is linked of any inputs, and a null descriptor among it, packed: as far as its room reaches.
+pub flavor_tables_near : (machine : MachineType) (first : ℕ) (inputs : List FlavorInput) (objects : List Object) (room : ℕ) → AllByRecursion (IsMadeFor machine) inputs →
+    AreFlavorObjects machine inputs objects → all_rooms (all_objects machine (map block_in inputs) []) ≤ room → packed_end first objects ≤ first + 72 + room
+flavor_tables_near machine first inputs objects room made held rooms =
+    let front : List Object = objects_taken machine held.before in
+    let back : List Object = objects_taken machine held.behind in
+    let near : packed_end first (front ++ taken_null machine ∷ back) ≤ first + 38 + all_rooms (front ++ taken_null machine ∷ back) = packed_near first (front ++ taken_null machine ∷ back) in
+    let put : all_rooms (front ++ taken_null machine ∷ back) ≡ own_rooms (taken_null machine) + all_rooms (front ++ back) = rooms_put front back (taken_null machine) in
+    let parts : all_rooms (front ++ back) ≡ all_rooms (all_objects machine (map block_in inputs) []) = ap all_rooms (parts_are machine inputs objects made held) in
+    let null = null_near machine in
+    subst (λ n. n ≤ first + 72 + room) (sym (packed_end_kept first objects ∙ ap (packed_end first) (kept_are machine inputs objects made held))) (omega arith)
+
 pub msvc_tables_near : (machine : MachineType) (first : ℕ) (libraries arranged : List Library) (names : List (List ℕ)) (objects : List Object) → AllByRecursion (IsMadeFor machine) (short_inputs arranged names) →
     AreFlavorObjects machine (short_inputs arranged names) objects → IsPermutation libraries arranged → packed_end first objects ≤ msvc_tables_end first libraries
 msvc_tables_near machine first libraries arranged names objects made held order =
-    let front : List Object = objects_taken machine held.before in
-    let back : List Object = objects_taken machine held.behind in
-    let blocks : List Object = all_objects machine (map block_in (short_inputs arranged names)) [] in
-    let near : packed_end first (front ++ taken_null machine ∷ back) ≤ first + 38 + all_rooms (front ++ taken_null machine ∷ back) = packed_near first (front ++ taken_null machine ∷ back) in
-    let put : all_rooms (front ++ taken_null machine ∷ back) ≡ own_rooms (taken_null machine) + all_rooms (front ++ back) = rooms_put front back (taken_null machine) in
-    let parts : all_rooms (front ++ back) ≡ all_rooms blocks = ap all_rooms (parts_are machine (short_inputs arranged names) objects made held) in
-    let null = null_near machine in
-    let rooms : all_rooms blocks ≤ sum_by msvc_library_room arranged = libraries_near machine arranged names in
-    let moved : sum_by msvc_library_room arranged ≡ sum_by msvc_library_room libraries = sum_by-IsPermutation msvc_library_room libraries arranged order in
-    subst (λ n. n ≤ msvc_tables_end first libraries)
-    (sym (packed_end_kept first objects ∙ ap (packed_end first) (kept_are machine (short_inputs arranged names) objects made held))) (omega arith)
+    subst (λ n. packed_end first objects ≤ first + 72 + n) (sum_by-IsPermutation msvc_library_room libraries arranged order)
+    (flavor_tables_near machine first (short_inputs arranged names) objects (sum_by msvc_library_room arranged) made held (libraries_near machine arranged names))

@@ -22,7 +22,7 @@ use Rattle.implib.specs.Import.{name_asked}
 use Rattle.implib.specs.Underscore.{asked_name, has_underscore}
 use Rattle.implib.proofs.Link.LinkedBlocks.{Block, blocks_objects}
 use Rattle.implib.proofs.Link.LinkedInputs.{block_of, gnu_inputs_objects}
-use Rattle.implib.proofs.Link.Placement.{export, head, length-thunk, tail}
+use Rattle.implib.proofs.Link.Placement.{after_head, export, head, length-thunk, tail}
 use Rattle.implib_link.specs.Gnu.Packed.{end_with, group_end, packed_addresses, packed_descriptors, packed_directory_ends, packed_dll_names, packed_end, packed_hint_names, packed_lookups, sections_end}
 use Rattle.implib_link.specs.Gnu.Program.{has_tables, null_descriptor}
 use Rattle.implib_link.specs.Search.Archives.{IsLibrary, Library, exports_of, input_if_any, inputs_wanted}
@@ -192,6 +192,15 @@ exports_near machine dll (e ∷ es) rest =
     let behind = exports_near machine dll es rest in
     omega arith
 
+-- one DLL's objects, and others after them
+pub block_near : (machine : MachineType) (dll : NamesOfDll) (es : List ExportView) (rest : List Object) → all_rooms (head machine dll ∷ after_head machine dll es rest) ≤ 61 + length dll.text + sum_by export_room es + all_rooms rest
+unfolding all_rooms
+block_near machine dll es rest =
+    let first = head_near machine dll in
+    let last = tail_near machine dll in
+    let between = exports_near machine dll es (tail machine dll ∷ rest) in
+    omega arith
+
 abbrev block_room : Block → ℕ
 block_room k = 61 + length k.dll.text + sum_by export_room k.exports
 
@@ -199,9 +208,7 @@ blocks_near : (machine : MachineType) (blocks : List Block) → all_rooms (block
 unfolding all_rooms
 blocks_near machine [] = (let null = null_near in omega arith)
 blocks_near machine (k ∷ blocks) =
-    let first = head_near machine k.dll in
-    let last = tail_near machine k.dll in
-    let between = exports_near machine k.dll k.exports (tail machine k.dll ∷ blocks_objects machine blocks (null_descriptor ∷ [])) in
+    let first = block_near machine k.dll k.exports (blocks_objects machine blocks (null_descriptor ∷ [])) in
     let next : sum_by block_room (k ∷ blocks) ≡ block_room k + sum_by block_room blocks = sum_next block_room k blocks in
     let behind = blocks_near machine blocks in
     omega arith
@@ -216,6 +223,12 @@ some_near test (e ∷ es) =
     let some : sum_by export_room (e ∷ filter test es) ≡ export_room e + sum_by export_room (filter test es) = sum_next export_room e (filter test es) in
     elim (cases_Bool (test e)) [ inl is ↦ rw is (omega arith) | inr is ↦ rw is (omega arith) ]
 
+-- the exports of a library that are wanted
+pub wanted_near : (l : Library) (wanted : List (List ℕ)) → 61 + length l.definition.import_name + sum_by export_room (chosen_exports l.definition (exports_wanted l.definition wanted)) ≤ library_room l
+wanted_near l wanted =
+    let some : sum_by export_room (filter (is_wanted wanted) (exports_of l)) ≤ sum_by export_room (exports_of l) = some_near (is_wanted wanted) (exports_of l) in
+    subst (λ (es : List ExportView). 61 + length l.definition.import_name + sum_by export_room es ≤ library_room l) (sym (chosen_are l wanted)) (omega arith)
+
 input_near : (l : Library) (chosen : List ℕ) (others : List LinkInput) (n m : ℕ) → sum_by block_room (map block_of others) ≤ n →
     block_room (record { dll = names_for Gnu l.definition; exports = chosen_exports l.definition chosen }) ≤ m →
     sum_by block_room (map block_of (cons_option (input_if_any l chosen) others)) ≤ m + n
@@ -229,11 +242,8 @@ libraries_near : (libraries : List Library) (wanted : List (List ℕ)) → sum_b
 libraries_near [] wanted = omega arith
 libraries_near (l ∷ libraries) wanted =
     let all : sum_by library_room (l ∷ libraries) ≡ library_room l + sum_by library_room libraries = sum_next library_room l libraries in
-    let some : sum_by export_room (filter (is_wanted wanted) (exports_of l)) ≤ sum_by export_room (exports_of l) = some_near (is_wanted wanted) (exports_of l) in
-    let own : block_room (record { dll = names_for Gnu l.definition; exports = chosen_exports l.definition (exports_wanted l.definition wanted) }) ≤ library_room l =
-    subst (λ (es : List ExportView). 61 + length l.definition.import_name + sum_by export_room es ≤ library_room l) (sym (chosen_are l wanted)) (omega arith) in
     subst (λ n. sum_by block_room (map block_of (inputs_wanted (l ∷ libraries) wanted)) ≤ n) (sym all)
-    (input_near l (exports_wanted l.definition wanted) (inputs_wanted libraries wanted) (sum_by library_room libraries) (library_room l) (libraries_near libraries wanted) own)
+    (input_near l (exports_wanted l.definition wanted) (inputs_wanted libraries wanted) (sum_by library_room libraries) (library_room l) (libraries_near libraries wanted) (wanted_near l wanted))
 
 pub tables_near : (machine : MachineType) (first : ℕ) (libraries arranged : List Library) (wanted : List (List ℕ)) (objects : List Object) → AllByRecursion (IsLibrary machine) arranged →
     IsPermutation libraries arranged → filter has_tables objects ≡ objects_in (all_linked machine (inputs_wanted arranged wanted)) ++ null_descriptor ∷ [] →

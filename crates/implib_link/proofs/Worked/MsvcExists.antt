@@ -41,7 +41,7 @@ far : msvc_tables_end 0x7FFF_FF00 two_msvc ≡ 0x8000_0096
 unfolding opened
 far = refl
 
-above_zero : 0 < 0x2000
+pub above_zero : 0 < 0x2000
 above_zero = omega arith
 
 room_below : msvc_tables_end 0x2000 two_msvc < 2 ^ 31
@@ -54,14 +54,14 @@ end = refl
 no_room : msvc_tables_end 0x7FFF_FF00 two_msvc < 2 ^ 31 → ⊥
 no_room below = (let is = far in omega arith)
 
-above : (n m : ℕ) → n ≡ m → 2 ^ 31 < m → n < 2 ^ 31 → ⊥
+pub above : (n m : ℕ) → n ≡ m → 2 ^ 31 < m → n < 2 ^ 31 → ⊥
 above n m same over below = omega arith
 
 too_far : IsClosedForMsvc AMD64 two_msvc (choosing ∷ []) shorts_of_both msvc_zed_first (packed 0x7FFF_FFF8 msvc_objects) msvc_objects → ⊥
 unfolding opened refusal renamed_refusal encoded_size expanded_in short_import_in import_object descriptor_symbol_by_name with_section_symbols descriptor null_descriptor null_thunk descriptor_symbol null_descriptor_symbol null_thunk_symbol base_name descriptor_spec null_descriptor_spec null_thunk_spec header_specs weak_specs weak_object has_tables group_end sections_end
 too_far is = above 0x8000_0020 0x8000_0020 refl (omega arith) is.admissible.ends.0
 
-none_below : (n : ℕ) → n ≡ 0 → 0 < n → ⊥
+pub none_below : (n : ℕ) → n ≡ 0 → 0 < n → ⊥
 none_below n is over = omega arith
 
 at_zero : HasClosedForMsvc AMD64 two_msvc (choosing ∷ []) 0 → ⊥
