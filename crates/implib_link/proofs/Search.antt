@@ -32,3 +32,4 @@ pub mod BothClosed
 pub mod BothGiven
 pub mod BothRooms
 pub mod BothExists
+pub mod NoShorts

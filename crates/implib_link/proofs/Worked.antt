@@ -58,3 +58,4 @@ pub mod A32
 pub mod BothFlavors
 pub mod BothReversed
 pub mod BothExists
+pub mod NoShorts

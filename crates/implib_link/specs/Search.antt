@@ -12,3 +12,4 @@ pub mod MsvcExists
 pub mod NamedApart
 pub mod BothFlavors
 pub mod BothExists
+pub mod NoShorts

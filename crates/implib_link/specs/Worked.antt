@@ -55,3 +55,4 @@ pub mod A32
 pub mod BothFlavors
 pub mod BothReversed
 pub mod BothExists
+pub mod NoShorts

@@ -21,6 +21,7 @@ pub mod msvc_given;
 pub mod msvc_search;
 pub mod named_apart;
 pub mod near_misses;
+pub mod no_shorts;
 pub mod operands;
 pub mod other_libraries;
 pub mod packed;

@@ -60,7 +60,7 @@ unfolding Among
 no_library l held = held
 
 -- a name that is listed finds a member
-first_of : (name : List ℕ) (members : List MemberView) → Among name (listed_in members) → (m : MemberView) × (first_listed members name ≡ Some m)
+pub first_of : (name : List ℕ) (members : List MemberView) → Among name (listed_in members) → (m : MemberView) × (first_listed members name ≡ Some m)
 unfolding Among
 first_of name [] held = absurd held
 first_of name (m ∷ members) held =

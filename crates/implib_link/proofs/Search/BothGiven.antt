@@ -54,16 +54,16 @@ import_wanted_too names more e within want =
     let name = wanted_name names (short_import_symbols e) parts.0 in
     both_parts more e (wants more (short_import_symbols e) name.0 name.1 (within name.0 name.2)) parts.1
 
-export_wanted_too : (names more : List (List ℕ)) (e : ExportView) → ((name : List ℕ) → Among name names → Among name more) → is_wanted names e ≡ true → is_wanted more e ≡ true
+pub export_wanted_too : (names more : List (List ℕ)) (e : ExportView) → ((name : List ℕ) → Among name names → Among name more) → is_wanted names e ≡ true → is_wanted more e ≡ true
 export_wanted_too names more e within want =
     let name = wanted_name names (archive_symbols e) want in
     wants more (archive_symbols e) name.0 name.1 (within name.0 name.2)
 
 module _ (machine : MachineType) (libraries : List FlavorLibrary) (archive : IsFlavorArchive machine libraries) (own : List Object) (given : AreGivenForBoth machine libraries own) where
-  abbrev kept : List (List ℕ)
+  abbrev pub kept : List (List ℕ)
   kept = kept_of_both machine libraries own
 
-  abbrev most : List (List ℕ)
+  abbrev pub most : List (List ℕ)
   most = wanted_of_both libraries own
 
   abbrev behind_headers : List (List ℕ)
@@ -71,7 +71,7 @@ module _ (machine : MachineType) (libraries : List FlavorLibrary) (archive : IsF
 
   -- Symbols that members alone may claim.
 
-  header_kept : (name : List ℕ) → Among name (headers_of_both machine libraries) → Among name kept
+  pub header_kept : (name : List ℕ) → Among name (headers_of_both machine libraries) → Among name kept
   header_kept name held = among_front name (headers_of_both machine libraries) behind_headers held
 
   head_kept : (l : Library) → Among l (gnu_among libraries) → Among (head_symbol machine (linked_name l.definition)) kept
@@ -101,7 +101,7 @@ module _ (machine : MachineType) (libraries : List FlavorLibrary) (archive : IsF
   thunk_kept : (l : Library) → Among l (msvc_among libraries) → Among (null_thunk_symbol (linked_dll l.definition)) kept
   thunk_kept l held = short_header_kept _ (among_later _ _ _ (among_flat own_header l (msvc_among libraries) _ held (among_later _ _ _ (among_first _ _))))
 
-  target_kept : (name : List ℕ) → Among name (targets_of_both libraries) → Among name kept
+  pub target_kept : (name : List ℕ) → Among name (targets_of_both libraries) → Among name kept
   target_kept name held =
       among_back name (headers_of_both machine libraries) behind_headers
       (among_front name (targets_of_both libraries) (symbols_wanted (gnu_among libraries) most ++ import_symbols_wanted (msvc_among libraries) most) held)
@@ -109,7 +109,7 @@ module _ (machine : MachineType) (libraries : List FlavorLibrary) (archive : IsF
   abbrev wanted_symbols : List (List ℕ)
   wanted_symbols = symbols_wanted (gnu_among libraries) most ++ import_symbols_wanted (msvc_among libraries) most
 
-  export_kept : (l : Library) (e : ExportView) (name : List ℕ) → Among l (gnu_among libraries) → Among e (exports_of l) → is_wanted most e ≡ true → Among name (archive_symbols e) → Among name kept
+  pub export_kept : (l : Library) (e : ExportView) (name : List ℕ) → Among l (gnu_among libraries) → Among e (exports_of l) → is_wanted most e ≡ true → Among name (archive_symbols e) → Among name kept
   export_kept l e name held there want listed =
       among_back name (headers_of_both machine libraries) behind_headers (among_back name (targets_of_both libraries) wanted_symbols
       (among_front name (symbols_wanted (gnu_among libraries) most) (import_symbols_wanted (msvc_among libraries) most)

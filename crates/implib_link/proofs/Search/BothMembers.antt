@@ -132,7 +132,7 @@ either_first Msvc l rest name m later is =
       | inr own ↦ inr (in_front name l.members (archive_of_both rest) (archive_of (msvc_among rest)) m own.0 own.1 is)
     ]
 
-found_either : (libraries : List FlavorLibrary) (name : List ℕ) (m : MemberView) → first_listed (archive_of_both libraries) name ≡ Some m → Either libraries name m
+pub found_either : (libraries : List FlavorLibrary) (name : List ℕ) (m : MemberView) → first_listed (archive_of_both libraries) name ≡ Some m → Either libraries name m
 unfolding archive_of
 found_either [] name m is = cc
 found_either (l ∷ rest) name m is = either_first l.flavor l.library rest name m (found_either rest name m) is
@@ -192,7 +192,7 @@ module _ (machine : MachineType) (libraries : List FlavorLibrary) (archive : IsF
       (inr (inr (among_flat symbols_of_export e (reverse (exports_of l)) name (among_reverse e (exports_of l) (among_at e (exports_of l) n is))
       (subst (λ k. Among k (symbols_of_export e)) (sym named) (alias_symbols e alias)))))
 
-  msvc_symbol : (name : List ℕ) (m : MemberView) → MsvcFound machine (msvc_among libraries) archive.msvc name m → Among name (null_descriptor_symbol ∷ flat_map symbols_of_shorts (msvc_among libraries))
+  pub msvc_symbol : (name : List ℕ) (m : MemberView) → MsvcFound machine (msvc_among libraries) archive.msvc name m → Among name (null_descriptor_symbol ∷ flat_map symbols_of_shorts (msvc_among libraries))
   unfolding symbols_of_shorts Among
   msvc_symbol name m (FoundDescriptor l held same is) = inr (among_flat symbols_of_shorts l (msvc_among libraries) name held (inl is))
   msvc_symbol name m (FoundNull l rest first same is) = inl is
@@ -203,11 +203,17 @@ module _ (machine : MachineType) (libraries : List FlavorLibrary) (archive : IsF
       inr (among_flat symbols_of_shorts l (msvc_among libraries) name held
       (inr (inr (among_flat symbols_of_short e (exports_of l) name there (subst (λ k. Among k (symbols_of_short e)) (sym named) (pair_symbol e weak target alias pair))))))
 
+  -- none is one of both flavours
+  pub symbols_apart : (name : List ℕ) → Among name (flat_map (symbols_of_library machine) (gnu_among libraries)) →
+      Among name (null_descriptor_symbol ∷ flat_map symbols_of_shorts (msvc_among libraries)) → ⊥
+  symbols_apart name gnu short =
+      there_not name (null_descriptor_symbol ∷ flat_map symbols_of_shorts (msvc_among libraries))
+      (all_among (λ k. list_any (bytes_eq k) (null_descriptor_symbol ∷ flat_map symbols_of_shorts (msvc_among libraries)) ≡ false) name (flat_map (symbols_of_library machine) (gnu_among libraries)) gnu archive.apart)
+      short
+
   not_both : (name : List ℕ) (m x : MemberView) → first_listed (archive_of (gnu_among libraries)) name ≡ Some m → first_listed (archive_of (msvc_among libraries)) name ≡ Some x → ⊥
   not_both name m x gnu msvc =
-      there_not name (null_descriptor_symbol ∷ flat_map symbols_of_shorts (msvc_among libraries))
-      (all_among (λ k. list_any (bytes_eq k) (null_descriptor_symbol ∷ flat_map symbols_of_shorts (msvc_among libraries)) ≡ false) name (flat_map (symbols_of_library machine) (gnu_among libraries))
-      (gnu_symbol name m (gnu_found machine (gnu_among libraries) archive.gnu name m gnu)) archive.apart)
+      symbols_apart name (gnu_symbol name m (gnu_found machine (gnu_among libraries) archive.gnu name m gnu))
       (msvc_symbol name x (msvc_found machine (msvc_among libraries) archive.msvc name x msvc))
 
   pub gnu_in_both : (name : List ℕ) (m : MemberView) → first_listed (archive_of (gnu_among libraries)) name ≡ Some m → first_listed (archive_of_both libraries) name ≡ Some m

@@ -499,7 +499,7 @@ module _ (machine : MachineType) (libraries : List Library) (archive : IsArchive
         let by = name_read f name members held in
         read_name f name taken by.0 by.1 (there by.0 by.2) by.3 by.4
 
-    from_sources : (f : Object → List (List ℕ)) → f null_descriptor ≡ [] → (name : List ℕ) → Among name (flat_map f objects) → Among name (flat_map f sources)
+    pub from_sources : (f : Object → List (List ℕ)) → f null_descriptor ≡ [] → (name : List ℕ) → Among name (flat_map f objects) → Among name (flat_map f (own ++ objects_in taken))
     from_sources f nothing name held =
         let by = among_flat_map f name objects held in
         subst (Among name) (sym (flat_map-append f own (objects_in taken)))
@@ -523,7 +523,7 @@ module _ (machine : MachineType) (libraries : List Library) (archive : IsArchive
     other_held : (o : Object) → Among o others → Among o objects
     other_held o held = (passing (λ x. not (has_tables x)) o objects held).0
 
-    into_objects : (f : Object → List (List ℕ)) (name : List ℕ) → Among name (flat_map f sources) → Among name (flat_map f objects)
+    pub into_objects : (f : Object → List (List ℕ)) (name : List ℕ) → Among name (flat_map f (own ++ objects_in taken)) → Among name (flat_map f objects)
     into_objects f name held =
         elim (among_either name (flat_map f own) (flat_map f (objects_in taken)) (subst (Among name) (flat_map-append f own (objects_in taken)) held)) [
           | inl given ↦

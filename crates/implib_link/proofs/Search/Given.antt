@@ -37,15 +37,54 @@ left_weak : (machine : MachineType) (weak target : List ℕ) → undefined_in (o
 unfolding undefined_in weak_object object_of entries_of name_text
 left_weak machine weak target = refl
 
+module _ (machine : MachineType) (libraries : List Library) (archive : IsArchive machine libraries) where
+  made_of : (l : Library) → Among l libraries → IsLibrary machine l
+  made_of l held = all_among (IsLibrary machine) l libraries held archive.made
+
+  target_is : (l : Library) (n : ℕ) (e : ExportView) → Among l libraries → slice_get (exports_of l) n ≡ Some e → is_alias e.alias_target e.name ≡ true → e.is_data ≡ true →
+      Among e.alias_target (alias_targets libraries)
+  target_is l n e held at alias is_data =
+      let both : is_data_alias e ≡ true = rw (is_data, alias) refl in
+      among_flat (λ (x : Library). map (λ (y : ExportView). y.alias_target) (filter is_data_alias (exports_of x))) l libraries e.alias_target held
+      (among_map (λ (y : ExportView). y.alias_target) e (filter is_data_alias (exports_of l)) (passes is_data_alias e (exports_of l) (among_at e (exports_of l) n at) both))
+
+  -- What a member that a name finds leaves to others.
+
+  pub data Left (name : List ℕ) (m : MemberView) : Type 0 where
+    LeftByHead : (l : Library) → Among l libraries → name ≡ iname_symbol machine (linked_name l.definition) → Left name m
+    LeftByExport : (l : Library) → Among l libraries → name ≡ head_symbol machine (linked_name l.definition) → Left name m
+    LeftByWeak : Among name (alias_targets libraries) → Left name m
+
+  names_of : (names : List (List ℕ)) (name : List ℕ) (m x : MemberView) (o one : Object) → m ≡ x → object_in x.bytes ≡ Some one → object_in m.bytes ≡ Some o →
+      undefined_in one ≡ names → Among name (undefined_in o) → Among name names
+  names_of names name m x o one same is read are held =
+      let objects : o ≡ one = (let e : Some o ≡ Some one = sym read ∙ ap (λ (y : MemberView). object_in y.bytes) same ∙ is in cc) in
+      subst (Among name) are (subst (λ t. Among name (undefined_in t)) objects held)
+
+  pub left_by : (by name : List ℕ) (m : MemberView) (o : Object) → Found machine libraries archive by m → object_in m.bytes ≡ Some o → Among name (undefined_in o) → Left name m
+  left_by by name m o (FoundTail l held same is) read left =
+      let dll : NamesOfDll = names_for Gnu l.definition in
+      absurd (in_nothing name (names_of [] name m (tail_of machine l) o (tail machine dll) same (tail_object_is machine l (made_of l held)) read (left_tail machine dll) left))
+  left_by by name m o (FoundHead l held same is) read left =
+      let dll : NamesOfDll = names_for Gnu l.definition in
+      LeftByHead l held (only_one name (iname_symbol machine dll.linked)
+      (names_of (iname_symbol machine dll.linked ∷ []) name m (head_of machine l) o (head machine dll) same (head_object_is machine l (made_of l held)) read (left_head machine dll) left))
+  left_by by name m o (FoundExport l held n e is same listed) read left =
+      let dll : NamesOfDll = names_for Gnu l.definition in
+      LeftByExport l held (only_one name (head_symbol machine dll.linked)
+      (names_of (head_symbol machine dll.linked ∷ []) name m (export_of machine l n e) o (export machine dll e) same (export_object_is machine l (made_of l held) n e is) read (left_export machine dll e) left))
+  left_by by name m o (FoundWeak l held n e is alias is_data same named) read left =
+      let target : name ≡ e.alias_target = only_one name e.alias_target
+      (names_of (e.alias_target ∷ []) name m (weak_of machine l n e) o (object_of (weak_object machine e.name e.alias_target)) same (weak_object_is machine l (made_of l held) n e is alias) read
+      (left_weak machine e.name e.alias_target) left) in
+      LeftByWeak (subst (λ x. Among x (alias_targets libraries)) (sym target) (target_is l n e held is alias is_data))
+
 module _ (machine : MachineType) (libraries : List Library) (archive : IsArchive machine libraries) (own : List Object) (given : AreGiven machine libraries own) where
   abbrev kept : List (List ℕ)
   kept = symbols_kept machine libraries own
 
   abbrev most : List (List ℕ)
   most = wanted_at_most libraries own
-
-  made_of : (l : Library) → Among l libraries → IsLibrary machine l
-  made_of l held = all_among (IsLibrary machine) l libraries held archive.made
 
   -- Symbols that members alone may claim.
 
@@ -72,45 +111,7 @@ module _ (machine : MachineType) (libraries : List Library) (archive : IsArchive
       (among_back name (tails_of machine libraries) (alias_targets libraries ++ symbols_wanted libraries most)
       (among_back name (alias_targets libraries) (symbols_wanted libraries most) held))
 
-  target_is : (l : Library) (n : ℕ) (e : ExportView) → Among l libraries → slice_get (exports_of l) n ≡ Some e → is_alias e.alias_target e.name ≡ true → e.is_data ≡ true →
-      Among e.alias_target (alias_targets libraries)
-  target_is l n e held at alias is_data =
-      let both : is_data_alias e ≡ true = rw (is_data, alias) refl in
-      among_flat (λ (x : Library). map (λ (y : ExportView). y.alias_target) (filter is_data_alias (exports_of x))) l libraries e.alias_target held
-      (among_map (λ (y : ExportView). y.alias_target) e (filter is_data_alias (exports_of l)) (passes is_data_alias e (exports_of l) (among_at e (exports_of l) n at) both))
-
-  -- What a member that a name finds leaves to others.
-
-  data Left (name : List ℕ) (m : MemberView) : Type 0 where
-    LeftByHead : (l : Library) → Among l libraries → name ≡ iname_symbol machine (linked_name l.definition) → Left name m
-    LeftByExport : (l : Library) → Among l libraries → name ≡ head_symbol machine (linked_name l.definition) → Left name m
-    LeftByWeak : Among name (alias_targets libraries) → Left name m
-
-  names_of : (names : List (List ℕ)) (name : List ℕ) (m x : MemberView) (o one : Object) → m ≡ x → object_in x.bytes ≡ Some one → object_in m.bytes ≡ Some o →
-      undefined_in one ≡ names → Among name (undefined_in o) → Among name names
-  names_of names name m x o one same is read are held =
-      let objects : o ≡ one = (let e : Some o ≡ Some one = sym read ∙ ap (λ (y : MemberView). object_in y.bytes) same ∙ is in cc) in
-      subst (Among name) are (subst (λ t. Among name (undefined_in t)) objects held)
-
-  left_by : (by name : List ℕ) (m : MemberView) (o : Object) → Found machine libraries archive by m → object_in m.bytes ≡ Some o → Among name (undefined_in o) → Left name m
-  left_by by name m o (FoundTail l held same is) read left =
-      let dll : NamesOfDll = names_for Gnu l.definition in
-      absurd (in_nothing name (names_of [] name m (tail_of machine l) o (tail machine dll) same (tail_object_is machine l (made_of l held)) read (left_tail machine dll) left))
-  left_by by name m o (FoundHead l held same is) read left =
-      let dll : NamesOfDll = names_for Gnu l.definition in
-      LeftByHead l held (only_one name (iname_symbol machine dll.linked)
-      (names_of (iname_symbol machine dll.linked ∷ []) name m (head_of machine l) o (head machine dll) same (head_object_is machine l (made_of l held)) read (left_head machine dll) left))
-  left_by by name m o (FoundExport l held n e is same listed) read left =
-      let dll : NamesOfDll = names_for Gnu l.definition in
-      LeftByExport l held (only_one name (head_symbol machine dll.linked)
-      (names_of (head_symbol machine dll.linked ∷ []) name m (export_of machine l n e) o (export machine dll e) same (export_object_is machine l (made_of l held) n e is) read (left_export machine dll e) left))
-  left_by by name m o (FoundWeak l held n e is alias is_data same named) read left =
-      let target : name ≡ e.alias_target = only_one name e.alias_target
-      (names_of (e.alias_target ∷ []) name m (weak_of machine l n e) o (object_of (weak_object machine e.name e.alias_target)) same (weak_object_is machine l (made_of l held) n e is alias) read
-      (left_weak machine e.name e.alias_target) left) in
-      LeftByWeak (subst (λ x. Among x (alias_targets libraries)) (sym target) (target_is l n e held is alias is_data))
-
-  left_kept : (name : List ℕ) (m : MemberView) → Left name m → Among name kept
+  left_kept : (name : List ℕ) (m : MemberView) → Left machine libraries archive name m → Among name kept
   left_kept name m (LeftByHead l held is) = subst (λ n. Among n kept) (sym is) (tail_kept l held)
   left_kept name m (LeftByExport l held is) = subst (λ n. Among n kept) (sym is) (head_kept l held)
   left_kept name m (LeftByWeak held) = target_kept name held
@@ -150,7 +151,7 @@ module _ (machine : MachineType) (libraries : List Library) (archive : IsArchive
   same_first m x found one other = (let e : Some m ≡ Some x = sym one ∙ other in cc)
 
   -- of a member that a name finds which another one left
-  left_listed : (by name : List ℕ) (m x : MemberView) → Left by x → first_listed (archive_of libraries) by ≡ Some m → Among name m.symbols → IsKept name
+  left_listed : (by name : List ℕ) (m x : MemberView) → Left machine libraries archive by x → first_listed (archive_of libraries) by ≡ Some m → Among name m.symbols → IsKept name
   left_listed by name m x (LeftByHead l held is) at listed =
       tail_listed l m name held (same_first m (tail_of machine l) (first_listed (archive_of libraries) by) at (ap (first_listed (archive_of libraries)) is ∙ tail_found machine libraries archive l held)) listed
   left_listed by name m x (LeftByExport l held is) at listed =
@@ -179,7 +180,7 @@ module _ (machine : MachineType) (libraries : List Library) (archive : IsArchive
         | inr left ↦
             let from = name_read undefined_in by earlier left in
             let x = pulled_by earlier turn.1 from.0 from.2 in
-            left_listed by name t from.0 (left_by x.0 by from.0 from.1 x.1 from.3 from.4) turn.0.1.listed own_name
+            left_listed by name t from.0 (left_by machine libraries archive x.0 by from.0 from.1 x.1 from.3 from.4) turn.0.1.listed own_name
       ]
 
   module _ (taken : List MemberView) (turn : IsTakenInTurn (archive_of libraries) (unresolved own) taken) where
@@ -187,7 +188,7 @@ module _ (machine : MachineType) (libraries : List Library) (archive : IsArchive
     left_of name left =
         let from = name_read undefined_in name taken left in
         let x = pulled_by taken turn from.0 from.2 in
-        left_kept name from.0 (left_by x.0 name from.0 from.1 x.1 from.3 from.4)
+        left_kept name from.0 (left_by machine libraries archive x.0 name from.0 from.1 x.1 from.3 from.4)
 
     -- the objects claim nothing of it
     none_kept : (name : List ℕ) → IsKept name → Among name (flat_map claimed_names own) → ⊥
@@ -211,16 +212,16 @@ module _ (machine : MachineType) (libraries : List Library) (archive : IsArchive
     weak_left : (by name : List ℕ) (m : MemberView) (o : Object) → is_weak m ≡ true → Found machine libraries archive by m → object_in m.bytes ≡ Some o → Among name (undefined_in o) →
         Among name (alias_targets libraries)
     weak_left by name m o weak (FoundTail l held same is) read left =
-        absurd (true≢false (sym weak ∙ tail_not_weak machine m (names_for Gnu l.definition) (ap (λ (y : MemberView). object_in y.bytes) same ∙ tail_object_is machine l (made_of l held))))
+        absurd (true≢false (sym weak ∙ tail_not_weak machine m (names_for Gnu l.definition) (ap (λ (y : MemberView). object_in y.bytes) same ∙ tail_object_is machine l (made_of machine libraries archive l held))))
     weak_left by name m o weak (FoundHead l held same is) read left =
-        absurd (true≢false (sym weak ∙ head_not_weak machine m (names_for Gnu l.definition) (ap (λ (y : MemberView). object_in y.bytes) same ∙ head_object_is machine l (made_of l held))))
+        absurd (true≢false (sym weak ∙ head_not_weak machine m (names_for Gnu l.definition) (ap (λ (y : MemberView). object_in y.bytes) same ∙ head_object_is machine l (made_of machine libraries archive l held))))
     weak_left by name m o weak (FoundExport l held n e is same listed) read left =
-        absurd (true≢false (sym weak ∙ export_not_weak machine m (names_for Gnu l.definition) e (ap (λ (y : MemberView). object_in y.bytes) same ∙ export_object_is machine l (made_of l held) n e is)))
+        absurd (true≢false (sym weak ∙ export_not_weak machine m (names_for Gnu l.definition) e (ap (λ (y : MemberView). object_in y.bytes) same ∙ export_object_is machine l (made_of machine libraries archive l held) n e is)))
     weak_left by name m o weak (FoundWeak l held n e is alias is_data same named) read left =
         subst (λ x. Among x (alias_targets libraries)) (sym (only_one name e.alias_target
-        (names_of (e.alias_target ∷ []) name m (weak_of machine l n e) o (object_of (weak_object machine e.name e.alias_target)) same (weak_object_is machine l (made_of l held) n e is alias) read
+        (names_of machine libraries archive (e.alias_target ∷ []) name m (weak_of machine l n e) o (object_of (weak_object machine e.name e.alias_target)) same (weak_object_is machine l (made_of machine libraries archive l held) n e is alias) read
         (left_weak machine e.name e.alias_target) left)))
-        (target_is l n e held is alias is_data)
+        (target_is machine libraries archive l n e held is alias is_data)
 
     wanted_most : (name : List ℕ) → Among name (wanted_in own taken) → Among name most
     unfolding names_undefined

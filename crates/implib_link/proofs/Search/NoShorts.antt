@@ -1,0 +1,236 @@
+-- For objects that want no short import, a linker takes of an archive of both flavours what it takes of the libraries for GNU's
+-- linker alone.
+use Rattle.std.proofs.Common.{◌≡◌, ℕ, false, List, [], ◌∷◌, ◌++◌, Some, refl, ap, sym, ◌∙◌, subst, inl, inr}
+use Rattle.std.specs.Prelude.{bytes_eq}
+use Rattle.std.specs.List.{Contains, cons_option, filter, flat_map, list_any}
+use Rattle.std.proofs.lemmas.Grind.{flat_map-append}
+use Rattle.implib.specs.declared.machine.MachineType.{MachineType}
+use Rattle.implib.specs.Formats.Layout.{entries_of, name_text, object_of}
+use Rattle.implib.specs.Formats.Object.{Object, object_in}
+use Rattle.implib.specs.LibraryName.{linked_name}
+use Rattle.implib.specs.Link.LinkedMembers.{objects_in}
+use Rattle.implib.specs.Link.Placement.{Bases}
+use Rattle.implib.specs.Members.Gnu.{archive_symbols, head_symbol, iname_symbol}
+use Rattle.implib.specs.Members.MemberSpec.{MemberView}
+use Rattle.implib.specs.Members.MsvcObjects.{null_descriptor_symbol}
+use Rattle.implib.specs.Members.WeakExternal.{weak_object}
+use Rattle.implib.proofs.Link.LinkedMembers.{among_contains}
+use Rattle.implib.proofs.Link.Ranges.{Among, all_among, among_back, among_first, among_flat, among_front, among_later}
+use Rattle.implib_link.specs.Flavors.Expansion.{expanded_in}
+use Rattle.implib_link.specs.Flavors.Program.{objects_taken}
+use Rattle.implib_link.specs.Flavors.SectionSymbols.{with_section_symbols}
+use Rattle.implib_link.specs.Gnu.Program.{ClaimsNone, claimed_names}
+use Rattle.implib_link.specs.Search.Archives.{Library, archive_of, exports_of, symbols_of_library}
+use Rattle.implib_link.specs.Search.BothFlavors.{AreGivenForBoth, FlavorLibrary, IsFlavorArchive, archive_of_both, gnu_among, kept_of_both, msvc_among, targets_of_both, wanted_of_both}
+use Rattle.implib_link.specs.Search.Closed.{AreLinkedFor, AreTakenInto, IsClosed, LinksClosed, PullsInto, TakesInto, listed_in, unresolved}
+use Rattle.implib_link.specs.Search.Given.{AreGiven, alias_targets, heads_of, symbols_kept, symbols_wanted, tails_of, wanted_at_most}
+use Rattle.implib_link.specs.Search.MsvcArchives.{symbols_of_shorts}
+use Rattle.implib_link.specs.Search.MsvcClosed.{AreTakenIntoFor, PullsIntoFor, TakesIntoFor}
+use Rattle.implib_link.specs.Search.MsvcGiven.{headers_of, short_targets}
+use Rattle.implib_link.specs.Search.NoShorts.{WantsNoShort}
+use Rattle.implib_link.specs.Search.Search.{NamesNoHeadOrTail, first_listed, is_wanted, undefined_in}
+use Rattle.implib_link.proofs.Search.ArchiveMembers.{Found, FoundExport, FoundHead, FoundTail, FoundWeak, export_object_is, found, head_object_is, tail_object_is, weak_object_is}
+use Rattle.implib_link.proofs.Search.Arranged.{all_each}
+use Rattle.implib_link.proofs.Search.BothClosed.{first_of}
+use Rattle.implib_link.proofs.Search.BothGiven.{export_kept, export_wanted_too, header_kept, target_kept}
+use Rattle.implib_link.proofs.Search.BothMembers.{found_either, gnu_export_is, gnu_head_is, gnu_in_both, gnu_made, gnu_tail_is, gnu_weak_is, msvc_symbol, symbols_apart}
+use Rattle.implib_link.proofs.Search.Closed.{claims_apart, claims_none, closed_links, from_sources, into_objects, not_there, passing, there_not, unresolved_from, unresolved_parts}
+use Rattle.implib_link.proofs.Search.Given.{Left, LeftByExport, LeftByHead, LeftByWeak, given_closes, left_by}
+use Rattle.implib_link.proofs.Search.Lists.{among_either, among_flat_map, contains_among, listed_is, name_read}
+use Rattle.implib_link.proofs.Search.MsvcMembers.{found as msvc_found, taken_weak}
+
+-- a weak external is taken as it is
+weak_plain : (machine : MachineType) (weak target : List ℕ) → taken_weak machine weak target ≡ object_of (weak_object machine weak target)
+unfolding with_section_symbols weak_object object_of entries_of name_text
+weak_plain machine weak target = refl
+
+module _ (machine : MachineType) (libraries : List FlavorLibrary) (archive : IsFlavorArchive machine libraries) where
+  abbrev shorts : List (List ℕ)
+  shorts = null_descriptor_symbol ∷ flat_map symbols_of_shorts (msvc_among libraries)
+
+  -- A linker takes a member for GNU's linker for the object in its bytes.
+
+  read_same : (m x : MemberView) → m ≡ x → expanded_in machine x.bytes ≡ object_in x.bytes → expanded_in machine m.bytes ≡ object_in m.bytes
+  read_same m x same is = subst (λ (y : MemberView). expanded_in machine y.bytes ≡ object_in y.bytes) (sym same) is
+
+  found_same : (by : List ℕ) (m : MemberView) → Found machine (gnu_among libraries) archive.gnu by m → expanded_in machine m.bytes ≡ object_in m.bytes
+  found_same by m (FoundTail l held same is) =
+      read_same m _ same (gnu_tail_is machine l (gnu_made machine libraries archive l held) ∙ sym (tail_object_is machine l (gnu_made machine libraries archive l held)))
+  found_same by m (FoundHead l held same is) =
+      read_same m _ same (gnu_head_is machine l (gnu_made machine libraries archive l held) ∙ sym (head_object_is machine l (gnu_made machine libraries archive l held)))
+  found_same by m (FoundExport l held n e is same listed) =
+      read_same m _ same (gnu_export_is machine l (gnu_made machine libraries archive l held) n e is ∙ sym (export_object_is machine l (gnu_made machine libraries archive l held) n e is))
+  found_same by m (FoundWeak l held n e is alias is_data same named) =
+      read_same m _ same (gnu_weak_is machine l (gnu_made machine libraries archive l held) n e is alias ∙ ap Some (weak_plain machine e.name e.alias_target)
+      ∙ sym (weak_object_is machine l (gnu_made machine libraries archive l held) n e is alias))
+
+  -- names find these members in the archive of the libraries for GNU's linker
+  abbrev AllFound : List MemberView → Type 0
+  AllFound members = (m : MemberView) → Among m members → (by : List ℕ) × (first_listed (archive_of (gnu_among libraries)) by ≡ Some m)
+
+  objects_same : (members : List MemberView) → AllFound members → objects_taken machine members ≡ objects_in members
+  objects_same [] all = refl
+  objects_same (m ∷ members) all =
+      let by = all m (among_first m members) in
+      let first : expanded_in machine m.bytes ≡ object_in m.bytes = found_same by.0 m (found machine (gnu_among libraries) archive.gnu by.0 m by.1) in
+      ap (λ o. cons_option o (objects_taken machine members)) first ∙ ap (cons_option (object_in m.bytes)) (objects_same members (λ x held. all x (among_later x m members held)))
+
+  module _ (own : List Object) (none : WantsNoShort libraries own) where
+    abbrev most : List (List ℕ)
+    most = wanted_at_most (gnu_among libraries) own
+
+    not_wanted : (name : List ℕ) → Among name shorts → Among name most → ⊥
+    not_wanted name short want = there_not name most (all_among (λ k. list_any (bytes_eq k) most ≡ false) name shorts short none) want
+
+    -- what such a member leaves to others is no symbol for Microsoft's linker
+    left_short : (name : List ℕ) (m : MemberView) → Left machine (gnu_among libraries) archive.gnu name m → Among name shorts → ⊥
+    unfolding symbols_of_library Among
+    left_short name m (LeftByHead l held is) short =
+        symbols_apart machine libraries archive name (among_flat (symbols_of_library machine) l (gnu_among libraries) name held (inl is)) short
+    left_short name m (LeftByExport l held is) short =
+        symbols_apart machine libraries archive name (among_flat (symbols_of_library machine) l (gnu_among libraries) name held (inr (inl is))) short
+    left_short name m (LeftByWeak target) short = not_wanted name short (among_back name (unresolved own) (alias_targets (gnu_among libraries)) target)
+
+    unresolved_short : (members : List MemberView) → AllFound members → (name : List ℕ) → Among name (unresolved (own ++ objects_in members)) → Among name shorts → ⊥
+    unresolved_short members all name held short =
+        let parts = unresolved_parts (own ++ objects_in members) name held in
+        elim (among_either name (flat_map undefined_in own) (flat_map undefined_in (objects_in members)) (subst (Among name) (flat_map-append undefined_in own (objects_in members)) parts.0)) [
+          | inl given ↦
+              not_wanted name short (among_front name (unresolved own) (alias_targets (gnu_among libraries))
+              (unresolved_from own name given (λ claimed. parts.1 (subst (Among name) (sym (flat_map-append claimed_names own (objects_in members)))
+              (among_front name (flat_map claimed_names own) (flat_map claimed_names (objects_in members)) claimed)))))
+          | inr left ↦
+              let from = name_read undefined_in name members left in
+              let by = all from.0 from.2 in
+              left_short name from.0 (left_by machine (gnu_among libraries) archive.gnu by.0 name from.0 from.1 (found machine (gnu_among libraries) archive.gnu by.0 from.0 by.1) from.3 from.4) short
+        ]
+
+    -- so an unresolved name finds what it finds in the libraries for GNU's linker
+    finds_gnu : (members : List MemberView) → AllFound members → (name : List ℕ) → Among name (unresolved (own ++ objects_in members)) → (m : MemberView) →
+        first_listed (archive_of_both libraries) name ≡ Some m → first_listed (archive_of (gnu_among libraries)) name ≡ Some m
+    finds_gnu members all name held m is =
+        elim (found_either libraries name m is) [
+          | inl gnu ↦ gnu
+          | inr msvc ↦ absurd (unresolved_short members all name held (msvc_symbol machine libraries archive name m (msvc_found machine (msvc_among libraries) archive.msvc name m msvc)))
+        ]
+
+    pulls_alone : (members : List MemberView) → AllFound members → (name : List ℕ) (m : MemberView) → PullsIntoFor machine (archive_of_both libraries) own members name m →
+        PullsInto (archive_of (gnu_among libraries)) own members name m
+    pulls_alone members all name m pulls =
+        let named : Contains (unresolved (own ++ objects_in members)) name = subst (λ os. Contains (unresolved (own ++ os)) name) (objects_same members all) pulls.named in
+        record {
+          named = named;
+          listed = finds_gnu members all name (contains_among name (unresolved (own ++ objects_in members)) named) m pulls.listed;
+          new = pulls.new;
+        }
+
+    pulls_of_both : (members : List MemberView) → AllFound members → (name : List ℕ) (m : MemberView) → PullsInto (archive_of (gnu_among libraries)) own members name m →
+        PullsIntoFor machine (archive_of_both libraries) own members name m
+    pulls_of_both members all name m pulls = record {
+      named = subst (λ os. Contains (unresolved (own ++ os)) name) (sym (objects_same members all)) pulls.named;
+      listed = gnu_in_both machine libraries archive name m pulls.listed;
+      new = pulls.new;
+    }
+
+    one_more : (m : MemberView) (members : List MemberView) (name : List ℕ) → first_listed (archive_of (gnu_among libraries)) name ≡ Some m → AllFound members → AllFound (m ∷ members)
+    unfolding Among
+    one_more m members name is all x (inl same) = (name, is ∙ ap Some (sym same))
+    one_more m members name is all x (inr held) = all x held
+
+    nothing_found : AllFound []
+    unfolding Among
+    nothing_found m held = absurd held
+
+    turn_alone : (taken : List MemberView) → AreTakenIntoFor machine (archive_of_both libraries) own taken → AreTakenInto (archive_of (gnu_among libraries)) own taken × AllFound taken
+    unfolding AreTakenIntoFor AreTakenInto
+    turn_alone [] turn = (tt, nothing_found)
+    turn_alone (m ∷ earlier) turn =
+        let later = turn_alone earlier turn.1 in
+        let pulls : PullsInto (archive_of (gnu_among libraries)) own earlier turn.0.0 m = pulls_alone earlier later.1 turn.0.0 m turn.0.1 in
+        (((turn.0.0, pulls), later.0), one_more m earlier turn.0.0 pulls.listed later.1)
+
+    turn_of_both : (taken : List MemberView) → AreTakenInto (archive_of (gnu_among libraries)) own taken → AreTakenIntoFor machine (archive_of_both libraries) own taken × AllFound taken
+    unfolding AreTakenIntoFor AreTakenInto
+    turn_of_both [] turn = (tt, nothing_found)
+    turn_of_both (m ∷ earlier) turn =
+        let later = turn_of_both earlier turn.1 in
+        (((turn.0.0, pulls_of_both earlier later.1 turn.0.0 m turn.0.1), later.0), one_more m earlier turn.0.0 turn.0.1.listed later.1)
+
+    pub takes_alone : (taken : List MemberView) → TakesIntoFor machine (archive_of_both libraries) own taken → TakesInto (archive_of (gnu_among libraries)) own taken
+    takes_alone taken takes =
+        let turn = turn_alone taken takes.in_turn in
+        record { in_turn = turn.0; ended = λ name m pulls. takes.ended name m (pulls_of_both taken turn.1 name m pulls) }
+
+    pub takes_of_both : (taken : List MemberView) → TakesInto (archive_of (gnu_among libraries)) own taken → TakesIntoFor machine (archive_of_both libraries) own taken
+    takes_of_both taken takes =
+        let turn = turn_of_both taken takes.in_turn in
+        record { in_turn = turn.0; ended = λ name m pulls. takes.ended name m (pulls_alone taken turn.1 name m pulls) }
+
+    module _ (taken : List MemberView) (arranged : List Library) (bases : Bases) (objects : List Object) (given : AreGiven machine (gnu_among libraries) own)
+        (takes : TakesIntoFor machine (archive_of_both libraries) own taken) (linked : AreLinkedFor machine (gnu_among libraries) own taken arranged bases objects) where
+      is : IsClosed machine (gnu_among libraries) own taken arranged bases objects
+      is = given_closes machine (gnu_among libraries) own taken arranged bases objects archive.gnu given (takes_alone taken takes) linked
+
+      pub links_alone : LinksClosed machine (gnu_among libraries) own taken arranged bases objects
+      links_alone = closed_links machine (gnu_among libraries) own taken arranged bases objects archive.gnu is
+
+      -- no name is left that the whole archive lists
+      pub none_unresolved : (name : List ℕ) → Contains (unresolved objects) name → Contains (listed_in (archive_of_both libraries)) name → ⊥
+      unfolding undefined_in
+      none_unresolved name left listed =
+          let parts = unresolved_parts objects name (contains_among name (unresolved objects) left) in
+          let from : Among name (unresolved (own ++ objects_in taken)) =
+          unresolved_from (own ++ objects_in taken) name (from_sources machine (gnu_among libraries) archive.gnu own taken arranged bases objects is undefined_in refl name parts.0)
+          (λ claimed. parts.1 (into_objects machine (gnu_among libraries) archive.gnu own taken arranged bases objects is claimed_names name claimed)) in
+          let at = first_of name (archive_of_both libraries) (contains_among name (listed_in (archive_of_both libraries)) listed) in
+          let gnu = listed_is (archive_of (gnu_among libraries)) name at.0 (finds_gnu taken (turn_alone taken takes.in_turn).1 name from at.0 at.1) in
+          links_alone.closed name left
+          (among_contains name (listed_in (archive_of (gnu_among libraries))) (among_flat (λ (m : MemberView). m.symbols) at.0 (archive_of (gnu_among libraries)) name gnu.0 gnu.1))
+
+-- Objects that may be given with the whole archive may be given with the libraries for GNU's linker alone.
+module _ (machine : MachineType) (libraries : List FlavorLibrary) (archive : IsFlavorArchive machine libraries) (own : List Object) (given : AreGivenForBoth machine libraries own) where
+  abbrev alone : List Library
+  alone = gnu_among libraries
+
+  abbrev fewer : List (List ℕ)
+  fewer = wanted_at_most (gnu_among libraries) own
+
+  within : (name : List ℕ) → Among name fewer → Among name (wanted_of_both libraries own)
+  within name want =
+      elim (among_either name (unresolved own) (alias_targets alone) want) [
+        | inl left ↦ among_front name (unresolved own) (targets_of_both libraries) left
+        | inr target ↦ among_back name (unresolved own) (targets_of_both libraries) (among_front name (alias_targets alone) (short_targets (msvc_among libraries)) target)
+      ]
+
+  fewer_kept : (name : List ℕ) → Among name (symbols_kept machine alone own) → Among name (kept_of_both machine libraries own)
+  fewer_kept name held =
+      elim (among_either name (heads_of machine alone) (tails_of machine alone ++ (alias_targets alone ++ symbols_wanted alone fewer)) held) [
+        | inl top ↦ header_kept machine libraries archive own given name (among_front name (heads_of machine alone) (tails_of machine alone ++ headers_of (msvc_among libraries)) top)
+        | inr behind ↦ elim (among_either name (tails_of machine alone) (alias_targets alone ++ symbols_wanted alone fewer) behind) [
+          | inl last ↦
+              header_kept machine libraries archive own given name (among_back name (heads_of machine alone) (tails_of machine alone ++ headers_of (msvc_among libraries))
+              (among_front name (tails_of machine alone) (headers_of (msvc_among libraries)) last))
+          | inr more ↦ elim (among_either name (alias_targets alone) (symbols_wanted alone fewer) more) [
+            | inl target ↦ target_kept machine libraries archive own given name (among_front name (alias_targets alone) (short_targets (msvc_among libraries)) target)
+            | inr want ↦
+                let l = among_flat_map (λ (x : Library). flat_map archive_symbols (filter (is_wanted fewer) (exports_of x))) name alone want in
+                let e = among_flat_map archive_symbols name (filter (is_wanted fewer) (exports_of l.0)) l.2 in
+                let there = passing (is_wanted fewer) e.0 (exports_of l.0) e.1 in
+                export_kept machine libraries archive own given l.0 e.0 name l.1 there.0 (export_wanted_too fewer (wanted_of_both libraries own) e.0 within there.1) e.2
+          ]
+        ]
+      ]
+
+  names_none : (name : List ℕ) → list_any (bytes_eq name) (wanted_of_both libraries own) ≡ false → list_any (bytes_eq name) fewer ≡ false
+  names_none name none = not_there name fewer (λ want. there_not name (wanted_of_both libraries own) none (within name want))
+
+  pub given_alone : AreGiven machine (gnu_among libraries) own
+  given_alone = record {
+    claims = all_each (ClaimsNone (symbols_kept machine alone own)) own (λ o held.
+        claims_none (symbols_kept machine alone own) o (λ name there claimed.
+        claims_apart (kept_of_both machine libraries own) own given.claims name (fewer_kept name there) (among_flat claimed_names o own name held claimed)));
+    names = all_each (λ (l : Library). NamesNoHeadOrTail machine (linked_name l.definition) fewer) alone (λ l held.
+        let none : NamesNoHeadOrTail machine (linked_name l.definition) (wanted_of_both libraries own) =
+        all_among (λ (x : Library). NamesNoHeadOrTail machine (linked_name x.definition) (wanted_of_both libraries own)) l alone held given.names.gnu in
+        record { head = names_none (head_symbol machine (linked_name l.definition)) none.head; name = names_none (iname_symbol machine (linked_name l.definition)) none.name });
+  }
