@@ -1,5 +1,5 @@
 -- The closed programs for GNU's linker, by computing and by the laws.
-use Rattle.std.proofs.Common.{◌≡◌, ℕ, ◌+◌, ◌^◌, ◌<◌, List, [], ◌∷◌, ◌++◌, refl, arith}
+use Rattle.std.proofs.Common.{◌≡◌, ℕ, ◌+◌, ◌^◌, ◌<◌, false, List, [], ◌∷◌, ◌++◌, refl, arith}
 use Rattle.std.specs.List.{AllByRecursion, flat_map}
 use Rattle.implib.specs.declared.machine.MachineType.{MachineType}
 use Rattle.implib.specs.declared.machine.MachineType.TheVariants.{ARM64, ARMNT, I386}
@@ -7,14 +7,16 @@ use Rattle.implib.specs.Import.{imp_symbol}
 use Rattle.implib.specs.Members.Gnu.{head_symbol, iname_symbol}
 use Rattle.implib.proofs.Link.Ranges.{among_back}
 use Rattle.implib_link.specs.Gnu.Packed.{group_end, packed_end, sections_end}
-use Rattle.implib_link.specs.Gnu.Program.{ClaimsNone}
+use Rattle.implib_link.specs.Gnu.Program.{ClaimsNone, has_tables}
 use Rattle.implib_link.specs.Search.Archives.{IsArchive, archive_of, symbols_of_library}
 use Rattle.implib_link.specs.Search.Closed.{AreLinkedFor, inputs_in, listed_in, unresolved, wanted_in}
+use Rattle.implib_link.specs.Search.Exists.{tables_end}
 use Rattle.implib_link.specs.Search.Given.{AreGiven, symbols_kept}
 use Rattle.implib_link.specs.Search.Search.{IsTakenInTurn, Takes, names_undefined}
 use Rattle.implib_link.proofs.Gnu.Packed.{packed_is_admissible}
 use Rattle.implib_link.proofs.Search.Archives.{inputs_made}
 use Rattle.implib_link.proofs.Search.Closed.{claims_apart, closed_links, takes_into}
+use Rattle.implib_link.proofs.Search.Exists.{closed_exists}
 use Rattle.implib_link.proofs.Search.Given.{given_closes}
 use Rattle.implib_link.proofs.Worked.NearSearches.{searched}
 use Rattle.implib_link.proofs.Worked.Programs.{claims_none_by, distinct_by}
@@ -24,7 +26,7 @@ use Rattle.implib_link_machines.specs.Closed.{IsLeft, IsPointerAt, WorkedGnu, gn
 use Rattle.implib_link_machines.specs.Parts.{bar, baz, choosing_on, foo, queue, zed}
 
 -- what is computed of the program on a machine
-record Computed (machine : MachineType) (baz_at queue_at : ℕ) : Type 0 where
+record Computed (machine : MachineType) (baz_at queue_at end_at : ℕ) : Type 0 where
   archive : IsArchive machine (gnu_libraries machine)
   given : AreGiven machine (gnu_libraries machine) (own_on machine)
   takes : Takes (archive_of (gnu_libraries machine)) (unresolved (own_on machine)) (gnu_taken machine)
@@ -33,10 +35,13 @@ record Computed (machine : MachineType) (baz_at queue_at : ℕ) : Type 0 where
   left : IsLeft machine (gnu_objects machine)
   baz_pointer : IsPointerAt (gnu_bases machine) (gnu_objects machine) (baz machine) baz_at
   queue_pointer : IsPointerAt (gnu_bases machine) (gnu_objects machine) (queue machine) queue_at
+  plain : AllByRecursion (λ o. has_tables o ≡ false) (own_on machine)
+  room : tables_end 0x5000 (gnu_libraries machine) ≡ end_at
+  below : tables_end 0x5000 (gnu_libraries machine) < 2 ^ 31
 
-worked : (machine : MachineType) (baz_at queue_at : ℕ) → Computed machine baz_at queue_at → WorkedGnu machine baz_at queue_at
+worked : (machine : MachineType) (baz_at queue_at end_at : ℕ) → Computed machine baz_at queue_at end_at → WorkedGnu machine baz_at queue_at end_at
 unfolding names_undefined
-worked machine baz_at queue_at is =
+worked machine baz_at queue_at end_at is =
     let listed : List (List ℕ) = listed_in (gnu_taken machine) in
     let into = takes_into (archive_of (gnu_libraries machine)) (own_on machine) (gnu_taken machine)
     (λ name left. claims_apart (listed_in (gnu_taken machine) ++ names_undefined (gnu_taken machine)) (own_on machine) is.claims name (among_back name listed (names_undefined (gnu_taken machine)) left))
@@ -51,6 +56,8 @@ worked machine baz_at queue_at is =
       left = is.left;
       baz_pointer = is.baz_pointer;
       queue_pointer = is.queue_pointer;
+      room = is.room;
+      exists = closed_exists machine (gnu_libraries machine) (own_on machine) 0x5000 is.archive is.given is.plain (omega arith) is.below;
     }
 
 archive_arm64 : IsArchive ARM64 (gnu_libraries ARM64)
@@ -95,9 +102,9 @@ linked_arm64 = record {
       refl (omega arith) (below_limit (packed_end 0x5000 (gnu_objects ARM64)) refl);
 }
 
-pub gnu_arm64 : WorkedGnu ARM64 0x5060 0x5070
+pub gnu_arm64 : WorkedGnu ARM64 0x5060 0x5070 0x5186
 unfolding searched group_end sections_end
-gnu_arm64 = worked ARM64 0x5060 0x5070 (record {
+gnu_arm64 = worked ARM64 0x5060 0x5070 0x5186 (record {
   archive = archive_arm64;
   given = record {
     claims = (claims_none_by (symbols_kept ARM64 (gnu_libraries ARM64) (own_on ARM64)) (choosing_on ARM64) refl, tt);
@@ -109,6 +116,9 @@ gnu_arm64 = worked ARM64 0x5060 0x5070 (record {
   left = refl;
   baz_pointer = refl;
   queue_pointer = refl;
+  plain = (refl, tt);
+  room = refl;
+  below = below_limit (tables_end 0x5000 (gnu_libraries ARM64)) refl;
 })
 
 archive_i386 : IsArchive I386 (gnu_libraries I386)
@@ -153,9 +163,9 @@ linked_i386 = record {
       refl (omega arith) (below_limit (packed_end 0x5000 (gnu_objects I386)) refl);
 }
 
-pub gnu_i386 : WorkedGnu I386 0x5050 0x5058
+pub gnu_i386 : WorkedGnu I386 0x5050 0x5058 0x518A
 unfolding searched group_end sections_end
-gnu_i386 = worked I386 0x5050 0x5058 (record {
+gnu_i386 = worked I386 0x5050 0x5058 0x518A (record {
   archive = archive_i386;
   given = record {
     claims = (claims_none_by (symbols_kept I386 (gnu_libraries I386) (own_on I386)) (choosing_on I386) refl, tt);
@@ -167,6 +177,9 @@ gnu_i386 = worked I386 0x5050 0x5058 (record {
   left = refl;
   baz_pointer = refl;
   queue_pointer = refl;
+  plain = (refl, tt);
+  room = refl;
+  below = below_limit (tables_end 0x5000 (gnu_libraries I386)) refl;
 })
 
 archive_armnt : IsArchive ARMNT (gnu_libraries ARMNT)
@@ -211,9 +224,9 @@ linked_armnt = record {
       refl (omega arith) (below_limit (packed_end 0x5000 (gnu_objects ARMNT)) refl);
 }
 
-pub gnu_armnt : WorkedGnu ARMNT 0x5050 0x5058
+pub gnu_armnt : WorkedGnu ARMNT 0x5050 0x5058 0x5186
 unfolding searched group_end sections_end
-gnu_armnt = worked ARMNT 0x5050 0x5058 (record {
+gnu_armnt = worked ARMNT 0x5050 0x5058 0x5186 (record {
   archive = archive_armnt;
   given = record {
     claims = (claims_none_by (symbols_kept ARMNT (gnu_libraries ARMNT) (own_on ARMNT)) (choosing_on ARMNT) refl, tt);
@@ -225,4 +238,7 @@ gnu_armnt = worked ARMNT 0x5050 0x5058 (record {
   left = refl;
   baz_pointer = refl;
   queue_pointer = refl;
+  plain = (refl, tt);
+  room = refl;
+  below = below_limit (tables_end 0x5000 (gnu_libraries ARMNT)) refl;
 })

@@ -1,9 +1,11 @@
 -- The closed programs of libraries of both flavours, by computing and by the laws.
-use Rattle.std.proofs.Common.{◌≡◌, ℕ, ◌+◌, ◌^◌, ◌<◌, List, [], ◌∷◌, ◌++◌, length, refl, arith}
+use Rattle.std.proofs.Common.{◌≡◌, ℕ, ◌+◌, ◌^◌, ◌<◌, List, [], ◌∷◌, ◌++◌, length, refl, subst, arith}
 use Rattle.std.specs.List.{AllByRecursion, flat_map}
 use Rattle.implib.specs.declared.machine.MachineType.{MachineType}
 use Rattle.implib.specs.declared.machine.MachineType.TheVariants.{ARM64, ARMNT, I386}
 use Rattle.implib.specs.Import.{imp_symbol}
+use Rattle.implib.specs.Link.Image.{image_of}
+use Rattle.implib.specs.Link.Placement.{placed_from}
 use Rattle.implib.specs.Members.Gnu.{head_symbol, iname_symbol}
 use Rattle.implib.specs.Members.MsvcObjects.{descriptor_symbol, null_descriptor_symbol, null_thunk_symbol}
 use Rattle.implib.proofs.Link.Ranges.{among_back}
@@ -11,12 +13,15 @@ use Rattle.implib_link.specs.Gnu.Packed.{group_end, packed_end, sections_end}
 use Rattle.implib_link.specs.Gnu.Program.{ClaimsNone}
 use Rattle.implib_link.specs.Search.Archives.{symbols_of_library}
 use Rattle.implib_link.specs.Search.BothFlavors.{AreClosedForBoth, AreGivenForBoth, IsFlavorArchive, NamesNoMembers, archive_of_both, gnu_among, kept_of_both, msvc_among}
+use Rattle.implib_link.specs.Search.BothExists.{tables_end_of_both}
 use Rattle.implib_link.specs.Search.Closed.{listed_in, unresolved}
+use Rattle.implib_link.specs.Search.Exists.{LieWithin}
 use Rattle.implib_link.specs.Search.Msvc.{AreTakenInTurn, TakesFor, left_in}
 use Rattle.implib_link.specs.Search.MsvcArchives.{symbols_of_shorts, wanted_with_weak}
 use Rattle.implib_link.specs.Search.MsvcClosed.{TakesIntoFor, wanted_for}
 use Rattle.implib_link.proofs.Search.BothArchives.{both_taken}
 use Rattle.implib_link.proofs.Search.BothClosed.{closed_links_of_both, packed_both}
+use Rattle.implib_link.proofs.Search.BothExists.{placed_within}
 use Rattle.implib_link.proofs.Search.Closed.{claims_apart}
 use Rattle.implib_link.proofs.Search.MsvcClosed.{takes_into}
 use Rattle.implib_link.proofs.Worked.BothFlavors.{apart_by}
@@ -28,7 +33,7 @@ use Rattle.implib_link_machines.specs.Closed.{IsLeft, IsPointerAt, WorkedMixed, 
 use Rattle.implib_link_machines.specs.Parts.{bar, baz, choosing_on, foo, queue, zed}
 
 -- what is computed of the program on a machine
-record Computed (machine : MachineType) (baz_at queue_at : ℕ) : Type 0 where
+record Computed (machine : MachineType) (baz_at queue_at end_at : ℕ) : Type 0 where
   archive : IsFlavorArchive machine (mixed_libraries machine)
   given : AreGivenForBoth machine (mixed_libraries machine) (own_on machine)
   takes : TakesFor machine (archive_of_both (mixed_libraries machine)) (unresolved (own_on machine)) (mixed_taken machine)
@@ -40,10 +45,12 @@ record Computed (machine : MachineType) (baz_at queue_at : ℕ) : Type 0 where
   left : IsLeft machine (mixed_objects machine)
   baz_pointer : IsPointerAt (mixed_bases machine) (mixed_objects machine) (baz machine) baz_at
   queue_pointer : IsPointerAt (mixed_bases machine) (mixed_objects machine) (queue machine) queue_at
+  room : tables_end_of_both 0x13000 (mixed_libraries machine) ≡ end_at
+  below : tables_end_of_both 0x13000 (mixed_libraries machine) < 2 ^ 31
 
-worked : (machine : MachineType) (baz_at queue_at : ℕ) → Computed machine baz_at queue_at → WorkedMixed machine baz_at queue_at
+worked : (machine : MachineType) (baz_at queue_at end_at : ℕ) → Computed machine baz_at queue_at end_at → WorkedMixed machine baz_at queue_at end_at
 unfolding left_in
-worked machine baz_at queue_at is =
+worked machine baz_at queue_at end_at is =
     let into = takes_into machine (archive_of_both (mixed_libraries machine)) (own_on machine) (mixed_taken machine)
     (λ name left. claims_apart (listed_in (mixed_taken machine) ++ left_in machine (mixed_taken machine)) (own_on machine) is.claims name (among_back name (listed_in (mixed_taken machine)) (left_in machine (mixed_taken machine)) left))
     is.takes in
@@ -58,6 +65,9 @@ worked machine baz_at queue_at is =
       left = is.left;
       baz_pointer = is.baz_pointer;
       queue_pointer = is.queue_pointer;
+      room = is.room;
+      within = subst (λ n. LieWithin 0x13000 n (image_of machine (mixed_bases machine) (placed_from (mixed_bases machine) (mixed_objects machine)))) is.room
+          (placed_within machine (mixed_libraries machine) (own_on machine) (mixed_taken machine) (zed_first machine) 0x13000 (mixed_objects machine) is.archive (is.closed into) (omega arith) is.below);
     }
 
 archive_arm64 : IsFlavorArchive ARM64 (mixed_libraries ARM64)
@@ -127,9 +137,9 @@ closed_arm64 takes = record {
   names = names_arm64;
 }
 
-pub mixed_arm64 : WorkedMixed ARM64 0x13070 0x13060
+pub mixed_arm64 : WorkedMixed ARM64 0x13070 0x13060 0x1318E
 unfolding searched group_end sections_end
-mixed_arm64 = worked ARM64 0x13070 0x13060 (record {
+mixed_arm64 = worked ARM64 0x13070 0x13060 0x1318E (record {
   archive = archive_arm64;
   given = record {
     claims = (claims_none_by (kept_of_both ARM64 (mixed_libraries ARM64) (own_on ARM64)) (choosing_on ARM64) refl, tt);
@@ -143,6 +153,8 @@ mixed_arm64 = worked ARM64 0x13070 0x13060 (record {
   left = refl;
   baz_pointer = refl;
   queue_pointer = refl;
+  room = refl;
+  below = below_limit (tables_end_of_both 0x13000 (mixed_libraries ARM64)) refl;
 })
 
 archive_i386 : IsFlavorArchive I386 (mixed_libraries I386)
@@ -212,9 +224,9 @@ closed_i386 takes = record {
   names = names_i386;
 }
 
-pub mixed_i386 : WorkedMixed I386 0x13058 0x13050
+pub mixed_i386 : WorkedMixed I386 0x13058 0x13050 0x13192
 unfolding searched group_end sections_end
-mixed_i386 = worked I386 0x13058 0x13050 (record {
+mixed_i386 = worked I386 0x13058 0x13050 0x13192 (record {
   archive = archive_i386;
   given = record {
     claims = (claims_none_by (kept_of_both I386 (mixed_libraries I386) (own_on I386)) (choosing_on I386) refl, tt);
@@ -228,6 +240,8 @@ mixed_i386 = worked I386 0x13058 0x13050 (record {
   left = refl;
   baz_pointer = refl;
   queue_pointer = refl;
+  room = refl;
+  below = below_limit (tables_end_of_both 0x13000 (mixed_libraries I386)) refl;
 })
 
 archive_armnt : IsFlavorArchive ARMNT (mixed_libraries ARMNT)
@@ -297,9 +311,9 @@ closed_armnt takes = record {
   names = names_armnt;
 }
 
-pub mixed_armnt : WorkedMixed ARMNT 0x13058 0x13050
+pub mixed_armnt : WorkedMixed ARMNT 0x13058 0x13050 0x1318E
 unfolding searched group_end sections_end
-mixed_armnt = worked ARMNT 0x13058 0x13050 (record {
+mixed_armnt = worked ARMNT 0x13058 0x13050 0x1318E (record {
   archive = archive_armnt;
   given = record {
     claims = (claims_none_by (kept_of_both ARMNT (mixed_libraries ARMNT) (own_on ARMNT)) (choosing_on ARMNT) refl, tt);
@@ -313,4 +327,6 @@ mixed_armnt = worked ARMNT 0x13058 0x13050 (record {
   left = refl;
   baz_pointer = refl;
   queue_pointer = refl;
+  room = refl;
+  below = below_limit (tables_end_of_both 0x13000 (mixed_libraries ARMNT)) refl;
 })

@@ -1,5 +1,5 @@
 -- The closed programs for Microsoft's linker, by computing and by the laws.
-use Rattle.std.proofs.Common.{◌≡◌, ℕ, ◌^◌, ◌<◌, List, [], ◌∷◌, ◌++◌, length, refl, arith}
+use Rattle.std.proofs.Common.{◌≡◌, ℕ, ◌^◌, ◌<◌, false, List, [], ◌∷◌, ◌++◌, length, refl, arith}
 use Rattle.std.specs.List.{AllByRecursion, flat_map}
 use Rattle.implib.specs.declared.machine.MachineType.{MachineType}
 use Rattle.implib.specs.declared.machine.MachineType.TheVariants.{ARM64, ARMNT, I386}
@@ -7,16 +7,17 @@ use Rattle.implib.specs.Import.{imp_symbol}
 use Rattle.implib.specs.Members.MsvcObjects.{descriptor_symbol, null_descriptor_symbol, null_thunk_symbol}
 use Rattle.implib.proofs.Link.Ranges.{among_back}
 use Rattle.implib_link.specs.Gnu.Packed.{group_end, packed_end, sections_end}
-use Rattle.implib_link.specs.Gnu.Program.{ClaimsNone}
+use Rattle.implib_link.specs.Gnu.Program.{ClaimsNone, has_tables}
 use Rattle.implib_link.specs.Search.Archives.{archive_of}
 use Rattle.implib_link.specs.Search.Closed.{listed_in, unresolved}
 use Rattle.implib_link.specs.Search.Msvc.{AreTakenInTurn, TakesFor, left_in}
 use Rattle.implib_link.specs.Search.MsvcArchives.{IsMsvcArchive, short_inputs, symbols_of_shorts}
 use Rattle.implib_link.specs.Search.MsvcClosed.{AreLinkedForMsvc}
+use Rattle.implib_link.specs.Search.MsvcExists.{msvc_tables_end}
 use Rattle.implib_link.specs.Search.MsvcGiven.{AreGivenForMsvc, symbols_kept_for}
 use Rattle.implib_link.proofs.Search.Closed.{claims_apart}
 use Rattle.implib_link.proofs.Search.MsvcClosed.{closed_links_for, takes_into}
-use Rattle.implib_link.proofs.Search.MsvcExists.{packed_closed}
+use Rattle.implib_link.proofs.Search.MsvcExists.{msvc_exists, packed_closed}
 use Rattle.implib_link.proofs.Search.MsvcGiven.{msvc_given_closes}
 use Rattle.implib_link.proofs.Worked.MsvcSearch.{pulls_in_now, settled_ends}
 use Rattle.implib_link.proofs.Worked.NearSearches.{searched}
@@ -26,7 +27,7 @@ use Rattle.implib_link_machines.specs.Closed.{IsLeft, IsPointerAt, WorkedMsvc, m
 use Rattle.implib_link_machines.specs.Parts.{bar, baz, choosing_on, foo, queue, zed}
 
 -- what is computed of the program on a machine
-record Computed (machine : MachineType) (baz_at queue_at : ℕ) : Type 0 where
+record Computed (machine : MachineType) (baz_at queue_at end_at : ℕ) : Type 0 where
   archive : IsMsvcArchive machine (msvc_libraries machine)
   given : AreGivenForMsvc (msvc_libraries machine) (own_on machine)
   wants : 0 < length (short_inputs (msvc_libraries machine) (unresolved (own_on machine)))
@@ -37,10 +38,13 @@ record Computed (machine : MachineType) (baz_at queue_at : ℕ) : Type 0 where
   left : IsLeft machine (msvc_objects machine)
   baz_pointer : IsPointerAt (msvc_bases machine) (msvc_objects machine) (baz machine) baz_at
   queue_pointer : IsPointerAt (msvc_bases machine) (msvc_objects machine) (queue machine) queue_at
+  plain : AllByRecursion (λ o. has_tables o ≡ false) (own_on machine)
+  room : msvc_tables_end 0x9000 (msvc_libraries machine) ≡ end_at
+  below : msvc_tables_end 0x9000 (msvc_libraries machine) < 2 ^ 31
 
-worked : (machine : MachineType) (baz_at queue_at : ℕ) → Computed machine baz_at queue_at → WorkedMsvc machine baz_at queue_at
+worked : (machine : MachineType) (baz_at queue_at end_at : ℕ) → Computed machine baz_at queue_at end_at → WorkedMsvc machine baz_at queue_at end_at
 unfolding left_in
-worked machine baz_at queue_at is =
+worked machine baz_at queue_at end_at is =
     let into = takes_into machine (archive_of (msvc_libraries machine)) (own_on machine) (msvc_taken machine)
     (λ name left. claims_apart (listed_in (msvc_taken machine) ++ left_in machine (msvc_taken machine)) (own_on machine) is.claims name (among_back name (listed_in (msvc_taken machine)) (left_in machine (msvc_taken machine)) left))
     is.takes in
@@ -56,6 +60,8 @@ worked machine baz_at queue_at is =
       left = is.left;
       baz_pointer = is.baz_pointer;
       queue_pointer = is.queue_pointer;
+      room = is.room;
+      exists = msvc_exists machine (msvc_libraries machine) (own_on machine) 0x9000 is.archive is.given is.plain is.wants (omega arith) is.below;
     }
 
 takes_arm64 : TakesFor ARM64 (archive_of (msvc_libraries ARM64)) (unresolved (own_on ARM64)) (msvc_taken ARM64)
@@ -97,9 +103,9 @@ linked_arm64 = record {
   tables = refl;
 }
 
-pub msvc_arm64 : WorkedMsvc ARM64 0x9060 0x9070
+pub msvc_arm64 : WorkedMsvc ARM64 0x9060 0x9070 0x9196
 unfolding searched group_end sections_end
-msvc_arm64 = worked ARM64 0x9060 0x9070 (record {
+msvc_arm64 = worked ARM64 0x9060 0x9070 0x9196 (record {
   archive = record {
     made = (record { accepted = refl; made = refl; ordinals = refl }, (record { accepted = refl; made = refl; ordinals = refl }, tt));
     distinct = distinct_by (null_descriptor_symbol ∷ flat_map symbols_of_shorts (msvc_libraries ARM64)) refl;
@@ -117,6 +123,9 @@ msvc_arm64 = worked ARM64 0x9060 0x9070 (record {
   left = refl;
   baz_pointer = refl;
   queue_pointer = refl;
+  plain = (refl, tt);
+  room = refl;
+  below = below_limit (msvc_tables_end 0x9000 (msvc_libraries ARM64)) refl;
 })
 
 takes_i386 : TakesFor I386 (archive_of (msvc_libraries I386)) (unresolved (own_on I386)) (msvc_taken I386)
@@ -158,9 +167,9 @@ linked_i386 = record {
   tables = refl;
 }
 
-pub msvc_i386 : WorkedMsvc I386 0x9050 0x9058
+pub msvc_i386 : WorkedMsvc I386 0x9050 0x9058 0x919A
 unfolding searched group_end sections_end
-msvc_i386 = worked I386 0x9050 0x9058 (record {
+msvc_i386 = worked I386 0x9050 0x9058 0x919A (record {
   archive = record {
     made = (record { accepted = refl; made = refl; ordinals = refl }, (record { accepted = refl; made = refl; ordinals = refl }, tt));
     distinct = distinct_by (null_descriptor_symbol ∷ flat_map symbols_of_shorts (msvc_libraries I386)) refl;
@@ -178,6 +187,9 @@ msvc_i386 = worked I386 0x9050 0x9058 (record {
   left = refl;
   baz_pointer = refl;
   queue_pointer = refl;
+  plain = (refl, tt);
+  room = refl;
+  below = below_limit (msvc_tables_end 0x9000 (msvc_libraries I386)) refl;
 })
 
 takes_armnt : TakesFor ARMNT (archive_of (msvc_libraries ARMNT)) (unresolved (own_on ARMNT)) (msvc_taken ARMNT)
@@ -219,9 +231,9 @@ linked_armnt = record {
   tables = refl;
 }
 
-pub msvc_armnt : WorkedMsvc ARMNT 0x9050 0x9058
+pub msvc_armnt : WorkedMsvc ARMNT 0x9050 0x9058 0x9196
 unfolding searched group_end sections_end
-msvc_armnt = worked ARMNT 0x9050 0x9058 (record {
+msvc_armnt = worked ARMNT 0x9050 0x9058 0x9196 (record {
   archive = record {
     made = (record { accepted = refl; made = refl; ordinals = refl }, (record { accepted = refl; made = refl; ordinals = refl }, tt));
     distinct = distinct_by (null_descriptor_symbol ∷ flat_map symbols_of_shorts (msvc_libraries ARMNT)) refl;
@@ -239,4 +251,7 @@ msvc_armnt = worked ARMNT 0x9050 0x9058 (record {
   left = refl;
   baz_pointer = refl;
   queue_pointer = refl;
+  plain = (refl, tt);
+  room = refl;
+  below = below_limit (msvc_tables_end 0x9000 (msvc_libraries ARMNT)) refl;
 })

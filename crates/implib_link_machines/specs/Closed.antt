@@ -1,11 +1,13 @@
 -- Closed programs of an object and two libraries, by hand. In each the object leaves three names unresolved: for `bar` a
 -- linker takes the alias, for which `baz` is wanted, and with `baz` and `queue` what their libraries have besides; linked,
--- it is a closed program, in which `printf` alone is left, and the pointers to `baz` and `queue` are at these addresses.
+-- it is a closed program, in which `printf` alone is left, and the pointers to `baz` and `queue` are at these addresses. By
+-- the definitions alone the import tables end by the third.
 use Rattle.std.specs.Prelude.{◌≡◌, ◌<◌, ℕ, List, [], ◌∷◌, ◌++◌, codes, length, Some}
 use Rattle.implib.specs.declared.flavor.Flavor.TheVariants.{Gnu, Msvc}
 use Rattle.implib.specs.declared.machine.MachineType.{MachineType}
 use Rattle.implib.specs.Formats.Object.{Object}
 use Rattle.implib.specs.Import.{imp_symbol}
+use Rattle.implib.specs.Link.Image.{image_of}
 use Rattle.implib.specs.Link.LinkedMembers.{objects_in}
 use Rattle.implib.specs.Link.Placement.{Bases, placed_from}
 use Rattle.implib.specs.Link.Resolution.{definitions_of}
@@ -15,10 +17,13 @@ use Rattle.implib_link.specs.Gnu.Packed.{packed}
 use Rattle.implib_link.specs.Gnu.Program.{null_descriptor}
 use Rattle.implib_link.specs.Search.Archives.{IsArchive, Library, archive_of}
 use Rattle.implib_link.specs.Search.BothFlavors.{AreGivenForBoth, FlavorLibrary, IsClosedForBoth, IsFlavorArchive, LinksClosedForBoth, TakesOfBoth, archive_of_both}
+use Rattle.implib_link.specs.Search.BothExists.{tables_end_of_both}
 use Rattle.implib_link.specs.Search.Closed.{IsClosed, LinksClosed, TakesInto, unresolved}
+use Rattle.implib_link.specs.Search.Exists.{HasClosed, LieWithin, tables_end}
 use Rattle.implib_link.specs.Search.Given.{AreGiven}
 use Rattle.implib_link.specs.Search.MsvcArchives.{IsMsvcArchive, short_inputs}
 use Rattle.implib_link.specs.Search.MsvcClosed.{IsClosedForMsvc, LinksClosedForMsvc, TakesIntoFor}
+use Rattle.implib_link.specs.Search.MsvcExists.{HasClosedForMsvc, msvc_tables_end}
 use Rattle.implib_link.specs.Search.MsvcGiven.{AreGivenForMsvc}
 use Rattle.implib_link.specs.Worked.Programs.{symbol_on}
 use Rattle.implib_link_machines.specs.Parts.{alias_on, baz, baz_on, choosing_on, descriptor_on, foo, foo_on, head_on, library_on, null_on, queue, queue_on, short_alias_on, short_on, tail_on, thunk_on, zed, zed_on}
@@ -55,7 +60,7 @@ gnu_objects machine =
 abbrev pub gnu_bases : MachineType → Bases
 gnu_bases machine = packed 0x5000 (gnu_objects machine)
 
-pub record WorkedGnu (machine : MachineType) (baz_at queue_at : ℕ) : Type 0 where
+pub record WorkedGnu (machine : MachineType) (baz_at queue_at end_at : ℕ) : Type 0 where
   pub archive : IsArchive machine (gnu_libraries machine)
   pub given : AreGiven machine (gnu_libraries machine) (own_on machine)
   pub takes : TakesInto (archive_of (gnu_libraries machine)) (own_on machine) (gnu_taken machine)
@@ -66,6 +71,8 @@ pub record WorkedGnu (machine : MachineType) (baz_at queue_at : ℕ) : Type 0 wh
   pub left : IsLeft machine (gnu_objects machine)
   pub baz_pointer : IsPointerAt (gnu_bases machine) (gnu_objects machine) (baz machine) baz_at
   pub queue_pointer : IsPointerAt (gnu_bases machine) (gnu_objects machine) (queue machine) queue_at
+  pub room : tables_end 0x5000 (gnu_libraries machine) ≡ end_at
+  pub exists : HasClosed machine (gnu_libraries machine) (own_on machine) 0x5000
 
 -- For Microsoft's linker. The null descriptor, foo.dll's, comes last.
 abbrev pub msvc_libraries : MachineType → List Library
@@ -93,7 +100,7 @@ msvc_objects machine =
 abbrev pub msvc_bases : MachineType → Bases
 msvc_bases machine = packed 0x9000 (msvc_objects machine)
 
-pub record WorkedMsvc (machine : MachineType) (baz_at queue_at : ℕ) : Type 0 where
+pub record WorkedMsvc (machine : MachineType) (baz_at queue_at end_at : ℕ) : Type 0 where
   pub archive : IsMsvcArchive machine (msvc_libraries machine)
   pub given : AreGivenForMsvc (msvc_libraries machine) (own_on machine)
   pub wants : 0 < length (short_inputs (msvc_libraries machine) (unresolved (own_on machine)))
@@ -105,6 +112,8 @@ pub record WorkedMsvc (machine : MachineType) (baz_at queue_at : ℕ) : Type 0 w
   pub left : IsLeft machine (msvc_objects machine)
   pub baz_pointer : IsPointerAt (msvc_bases machine) (msvc_objects machine) (baz machine) baz_at
   pub queue_pointer : IsPointerAt (msvc_bases machine) (msvc_objects machine) (queue machine) queue_at
+  pub room : msvc_tables_end 0x9000 (msvc_libraries machine) ≡ end_at
+  pub exists : HasClosedForMsvc machine (msvc_libraries machine) (own_on machine) 0x9000
 
 -- For both: foo.dll's members are for Microsoft's linker, and zed.dll's, which are linked first, for GNU's. The object wants
 -- a short import only by the alias.
@@ -138,7 +147,7 @@ mixed_objects machine =
 abbrev pub mixed_bases : MachineType → Bases
 mixed_bases machine = packed 0x13000 (mixed_objects machine)
 
-pub record WorkedMixed (machine : MachineType) (baz_at queue_at : ℕ) : Type 0 where
+pub record WorkedMixed (machine : MachineType) (baz_at queue_at end_at : ℕ) : Type 0 where
   pub archive : IsFlavorArchive machine (mixed_libraries machine)
   pub given : AreGivenForBoth machine (mixed_libraries machine) (own_on machine)
   pub takes : TakesIntoFor machine (archive_of_both (mixed_libraries machine)) (own_on machine) (mixed_taken machine)
@@ -150,3 +159,6 @@ pub record WorkedMixed (machine : MachineType) (baz_at queue_at : ℕ) : Type 0 
   pub left : IsLeft machine (mixed_objects machine)
   pub baz_pointer : IsPointerAt (mixed_bases machine) (mixed_objects machine) (baz machine) baz_at
   pub queue_pointer : IsPointerAt (mixed_bases machine) (mixed_objects machine) (queue machine) queue_at
+  pub room : tables_end_of_both 0x13000 (mixed_libraries machine) ≡ end_at
+  pub within : LieWithin 0x13000 end_at
+      (image_of machine (mixed_bases machine) (placed_from (mixed_bases machine) (mixed_objects machine)))

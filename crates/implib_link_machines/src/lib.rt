@@ -8,21 +8,21 @@ ghost use Rattle.implib.specs.declared.machine.MachineType.TheVariants.{ARM64, A
 
 /// Closed programs of libraries for GNU's linker, worked by hand.
 pub fn worked_gnu_programs()
-    ensures arm64 { WorkedGnu ARM64 0x5060 0x5070 }
-    ensures i386 { WorkedGnu I386 0x5050 0x5058 }
-    ensures armnt { WorkedGnu ARMNT 0x5050 0x5058 }
+    ensures arm64 { WorkedGnu ARM64 0x5060 0x5070 0x5186 }
+    ensures i386 { WorkedGnu I386 0x5050 0x5058 0x518A }
+    ensures armnt { WorkedGnu ARMNT 0x5050 0x5058 0x5186 }
 {}
 
 /// Closed programs of libraries for Microsoft's linker, worked by hand.
 pub fn worked_msvc_programs()
-    ensures arm64 { WorkedMsvc ARM64 0x9060 0x9070 }
-    ensures i386 { WorkedMsvc I386 0x9050 0x9058 }
-    ensures armnt { WorkedMsvc ARMNT 0x9050 0x9058 }
+    ensures arm64 { WorkedMsvc ARM64 0x9060 0x9070 0x9196 }
+    ensures i386 { WorkedMsvc I386 0x9050 0x9058 0x919A }
+    ensures armnt { WorkedMsvc ARMNT 0x9050 0x9058 0x9196 }
 {}
 
 /// Closed programs of a library for Microsoft's linker and one for GNU's, worked by hand.
 pub fn worked_mixed_programs()
-    ensures arm64 { WorkedMixed ARM64 0x13070 0x13060 }
-    ensures i386 { WorkedMixed I386 0x13058 0x13050 }
-    ensures armnt { WorkedMixed ARMNT 0x13058 0x13050 }
+    ensures arm64 { WorkedMixed ARM64 0x13070 0x13060 0x1318E }
+    ensures i386 { WorkedMixed I386 0x13058 0x13050 0x13192 }
+    ensures armnt { WorkedMixed ARMNT 0x13058 0x13050 0x1318E }
 {}
