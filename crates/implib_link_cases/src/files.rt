@@ -178,7 +178,11 @@ pub fn answer_search(
 
 /// The indexes of the members that are taken.
 fn taken_for(alloc: Global, files: &Files, names: &str) -> Result<Vec<usize>, Fail> {
-    let archive = Archive::of_files(alloc, files.all.as_slice())?;
+    let mut archive = Archive::new(alloc);
+    for (member, expansion) in files.all.iter() {
+        let symbols = member.symbols.as_slice();
+        archive.add(alloc, symbols, member.bytes.as_slice(), expansion)?;
+    }
     let mut wanted = Vec::new(alloc);
     for name in names.split_whitespace() {
         wanted.push(name)?;

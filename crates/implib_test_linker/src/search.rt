@@ -4,38 +4,44 @@
 use super::expansion::Expansion;
 use super::object::Object;
 use super::object_of;
-use implib::Member;
 use std::alloc::Global;
 use std::test::Fail;
 
-/// An archive, with the objects of its members.
+/// An archive: of its members what they are listed for, and their objects.
 #[derive(Drop)]
 pub struct Archive<'a> {
-    members: Vec<&'a Member>,
+    listed: Vec<&'a [String]>,
     objects: Vec<Object<'a>>,
 }
 
 impl<'a> Archive<'a> {
-    /// The archive of files, each a member and, if it is a short import, what it is taken for.
-    pub fn of_files(alloc: Global, files: &'a [(Member, Option<Expansion>)]) -> Result<Self, Fail> {
-        let mut archive = Archive {
-            members: Vec::new(alloc),
+    /// An archive without members.
+    pub fn new(alloc: Global) -> Self {
+        Archive {
+            listed: Vec::new(alloc),
             objects: Vec::new(alloc),
-        };
-        for (member, expansion) in files {
-            archive.members.push(member)?;
-            archive
-                .objects
-                .push(object_of(alloc, member.bytes.as_slice(), expansion)?)?;
         }
-        Ok(archive)
+    }
+
+    /// Adds a member: the symbols that it is listed for, its file and, if that is a short import, what
+    /// it is taken for.
+    pub fn add(
+        &mut self,
+        alloc: Global,
+        symbols: &'a [String],
+        file: &'a [u8],
+        expansion: &'a Option<Expansion>,
+    ) -> Result<(), Fail> {
+        self.listed.push(symbols)?;
+        self.objects.push(object_of(alloc, file, expansion)?)?;
+        Ok(())
     }
 
     /// The indexes of the members that are taken for wanted names, from the first on: as long as a
     /// name is undefined, the first member that it is listed for.
     pub fn taken(&self, alloc: Global, wanted: &[&str]) -> Result<Vec<usize>, Fail> {
-        let mut taken = vec![in alloc; false; self.members.len()]?;
-        for _ in self.members.iter() {
+        let mut taken = vec![in alloc; false; self.listed.len()]?;
+        for _ in self.listed.iter() {
             let Some(index) = self.next(taken.as_slice(), wanted) else {
                 break;
             };
@@ -83,8 +89,8 @@ impl<'a> Archive<'a> {
         if self.is_defined(taken, name) {
             return None;
         }
-        for (index, member) in self.members.iter().enumerate() {
-            if is_listed(*member, name) {
+        for (index, symbols) in self.listed.iter().enumerate() {
+            if is_listed(*symbols, name) {
                 return if *taken.get(index)? {
                     None
                 } else {
@@ -143,9 +149,9 @@ fn is_claimed(objects: &[Object], name: &str) -> bool {
     false
 }
 
-/// Whether an archive lists a symbol for a member.
-fn is_listed(member: &Member, name: &str) -> bool {
-    for symbol in member.symbols.iter() {
+/// Whether a name is among symbols.
+fn is_listed(symbols: &[String], name: &str) -> bool {
+    for symbol in symbols {
         if symbol.as_str() == name {
             return true;
         }
