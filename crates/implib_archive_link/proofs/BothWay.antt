@@ -1,5 +1,5 @@
 -- The whole way for libraries of both flavours, by the laws on it.
-use Rattle.std.proofs.Common.{◌≡◌, ℕ, ◌<◌, List, ◌++◌, length, map}
+use Rattle.std.proofs.Common.{◌<◌, List, length, map}
 use Rattle.std.specs.List.{AllByRecursion}
 use Rattle.implib.specs.declared.machine.MachineType.{MachineType}
 use Rattle.implib.specs.Formats.Object.{Object}

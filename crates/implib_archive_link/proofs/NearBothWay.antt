@@ -1,21 +1,19 @@
 -- Near misses of the whole way for libraries of both flavours, by computing.
-use Rattle.std.proofs.Common.{◌≡◌, ℕ, Bool, [], ◌∷◌, List, codes, length, refl, ap, sym, ◌∙◌, arith}
+use Rattle.std.proofs.Common.{◌≡◌, Bool, [], ◌∷◌, codes, length, refl, ap, sym, ◌∙◌, arith}
 use Rattle.std.specs.Prelude.{bytes_eq}
 use Rattle.std.specs.List.{Contains, list_any}
 use Rattle.implib.specs.declared.machine.MachineType.TheVariants.{AMD64}
 use Rattle.implib.specs.Formats.Object.{Object}
 use Rattle.implib.specs.Link.Placement.{Descriptors, next_multiple}
-use Rattle.implib_archive_link.specs.BothWay.{AreLinkedForBoth}
 use Rattle.implib_archive_link.specs.NearBothWay.{LinkedAt, NearAreLinkedForBoth, NearBothArrive}
 use Rattle.implib_link.specs.Flavors.Program.{objects_taken}
 use Rattle.implib_link.specs.Gnu.Packed.{group_end, sections_end}
 use Rattle.implib_link.specs.Gnu.Program.{claimed_names}
 use Rattle.implib_link.specs.Search.BothFlavors.{msvc_among}
 use Rattle.implib_link.specs.Search.MsvcArchives.{first_null}
-use Rattle.implib_link.specs.Worked.BothFlavors.{foo_and_zed, mixed_bases, mixed_objects, mixed_taken, zed_and_foo}
+use Rattle.implib_link.specs.Worked.BothFlavors.{foo_and_zed, mixed_bases, mixed_objects, zed_and_foo}
 use Rattle.implib_link.specs.Worked.Calls.{given_on}
-use Rattle.implib_link.specs.Worked.Closed.{choosing, foo_alias, foo_linked}
-use Rattle.implib_link.specs.Worked.MsvcClosed.{zed_members}
+use Rattle.implib_link.specs.Worked.Closed.{choosing, foo_alias}
 use Rattle.implib_link.proofs.Worked.BothFlavors.{near_links_closed_for_both, worked_both}
 use Rattle.implib_link.proofs.Worked.Calls.{wide, worked_reading}
 use Rattle.implib_link.proofs.Worked.NearMisses.{none_passes}

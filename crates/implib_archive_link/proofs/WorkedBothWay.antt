@@ -1,16 +1,15 @@
 -- The whole way for libraries of both flavours by hand, by computing and by the laws.
-use Rattle.std.proofs.Common.{◌≡◌, ℕ, ◌^◌, ◌<◌, ◌+◌, List, [], ◌∷◌, ◌++◌, codes, length, map, refl, ap, sym, ◌∙◌, subst, Some, arith}
+use Rattle.std.proofs.Common.{◌≡◌, ℕ, ◌^◌, ◌<◌, ◌+◌, List, [], ◌∷◌, ◌++◌, codes, map, refl, ap, sym, ◌∙◌, subst, Some, arith}
 use Rattle.std.specs.Prelude.{slice_get}
 use Rattle.std.specs.List.{AllByRecursion, Contains, flat_map}
 use Rattle.implib.specs.declared.flavor.Flavor.TheVariants.{Gnu, Msvc}
 use Rattle.implib.specs.declared.machine.MachineType.TheVariants.{AMD64}
 use Rattle.implib.specs.Formats.Constants.{class_external}
-use Rattle.implib.specs.Formats.Object.{Object}
 use Rattle.implib.specs.Link.Image.{image_of}
 use Rattle.implib.specs.Members.MsvcObjects.{null_descriptor_symbol}
 use Rattle.implib.specs.Worked.Statements.{plain_export}
 use Rattle.implib.proofs.Link.LinkedMembers.{among_contains}
-use Rattle.implib.proofs.Link.Ranges.{Among, among_back, apart_as_they_rise, ends_below}
+use Rattle.implib.proofs.Link.Ranges.{among_back, apart_as_they_rise}
 use Rattle.implib_archive.specs.Archive.{entries_from, entries_of, first_linker_size, first_place, front_size, is_long, long_names as archive_long_names, name_end, names_bytes, names_size, offset_of, places_from, second_linker_size, strings_of, with_first, with_name as archive_with_name}
 use Rattle.implib_archive.specs.Refusal.{has_short_places, has_too_many, member_refusal, members_refusal, name_refusal, places_refusal, refusal_of, symbol_refusal, symbols_refusal}
 use Rattle.implib_archive.specs.declared.kind.Kind.TheVariants.{Coff}

@@ -1,5 +1,5 @@
 -- The closed programs for GNU's linker, by computing and by the laws.
-use Rattle.std.proofs.Common.{◌≡◌, ℕ, ◌+◌, ◌^◌, ◌<◌, false, List, [], ◌∷◌, ◌++◌, refl, arith}
+use Rattle.std.proofs.Common.{◌≡◌, ℕ, ◌^◌, ◌<◌, false, List, [], ◌++◌, refl, arith}
 use Rattle.std.specs.List.{AllByRecursion, flat_map}
 use Rattle.implib.specs.declared.machine.MachineType.{MachineType}
 use Rattle.implib.specs.declared.machine.MachineType.TheVariants.{ARM64, ARMNT, I386}
