@@ -1,5 +1,5 @@
 -- What `implib_library_of` answers: the library that the rules of `implib_rules` make of exports under these options.
-use Rattle.std.specs.Prelude.{◌≡◌, ℕ, ◌<◌, ◌≤◌, ◌==◌, ◌⊎◌, Bool, not, List, ◌++◌, All, Some, bit_and, drop, length, map, slice_get, take}
+use Rattle.std.specs.Prelude.{◌≡◌, ℕ, ◌<◌, ◌≤◌, ◌⊎◌, List, ◌++◌, All, Some, drop, length, map, slice_get, take}
 use Rattle.std.specs.Option.{unwrap_or}
 use Rattle.std.specs.Str.{IsUtf8}
 use Rattle.implib.specs.Definition.{ExportView, empty_export}
