@@ -1,3 +1,4 @@
 pub mod Gnu
 pub mod Msvc
 pub mod Mixed
+pub mod Way

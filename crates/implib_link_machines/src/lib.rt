@@ -1,10 +1,12 @@
-//! Closed programs by hand on ARM64, I386 and ARMNT, as instances of the laws of `implib_link`: an object and what a
-//! linker takes for it of two libraries, both for GNU's linker, both for Microsoft's, and one for each. The functions do
-//! nothing: their contracts are the instances.
+//! Closed programs by hand on ARM64, I386 and ARMNT, as instances of the laws of `implib_link` and `implib_archive_link`: an object and what a
+//! linker takes for it of two libraries, both for GNU's linker, both for Microsoft's, and one for each; and on ARM64 and I386
+//! the whole way from an archive's bytes to calls. The functions do nothing: their contracts are the instances.
 #![tactic(auto)]
 
 ghost use Rattle.implib_link_machines.specs.Closed.{WorkedGnu, WorkedMixed, WorkedMsvc};
+ghost use Rattle.implib_link_machines.specs.Way.{WorkedWay};
 ghost use Rattle.implib.specs.declared.machine.MachineType.TheVariants.{ARM64, ARMNT, I386};
+ghost use Rattle.std.specs.Prelude.{◌∷◌, []};
 
 /// Closed programs of libraries for GNU's linker, worked by hand.
 pub fn worked_gnu_programs()
@@ -25,4 +27,12 @@ pub fn worked_mixed_programs()
     ensures arm64 { WorkedMixed ARM64 0x13070 0x13060 0x1318E }
     ensures i386 { WorkedMixed I386 0x13058 0x13050 0x13192 }
     ensures armnt { WorkedMixed ARMNT 0x13058 0x13050 0x1318E }
+{}
+
+/// The whole way from an archive's bytes to two calls, of an import for each linker, worked by hand.
+pub fn worked_ways()
+    ensures arm64 { WorkedWay ARM64 0x1_4000_0000 0x41000 0x41060 0x41070
+        (0x30 ∷ 0 ∷ 0 ∷ 0x10 ∷ 0 ∷ 0 ∷ 0 ∷ 0 ∷ []) (0x50 ∷ 0 ∷ 0 ∷ 0x10 ∷ 0 ∷ 0 ∷ 0 ∷ 0 ∷ []) }
+    ensures i386 { WorkedWay I386 0x40_0000 0x61000 0x61050 0x61058
+        (0x30 ∷ 0 ∷ 0 ∷ 0x10 ∷ []) (0x50 ∷ 0 ∷ 0 ∷ 0x10 ∷ []) }
 {}
