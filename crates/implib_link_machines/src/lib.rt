@@ -1,6 +1,8 @@
-//! Closed programs by hand on ARM64, I386 and ARMNT, as instances of the laws of `implib_link` and `implib_archive_link`: an object and what a
-//! linker takes for it of two libraries, both for GNU's linker, both for Microsoft's, and one for each; and on ARM64 and I386
-//! the whole way from an archive's bytes to calls. The functions do nothing: their contracts are the instances.
+//! Closed programs by hand on ARM64, I386 and ARMNT, as instances of the laws of `implib_link`: an
+//! object and what a linker takes for it of two libraries, both for GNU's linker, both for
+//! Microsoft's, and one for each; and on ARM64 and I386 the whole way from an archive's bytes to
+//! calls, by the laws of `implib_archive_link`. The functions do nothing: their contracts are the
+//! instances.
 #![tactic(auto)]
 
 ghost use Rattle.implib_link_machines.specs.Closed.{WorkedGnu, WorkedMixed, WorkedMsvc};
