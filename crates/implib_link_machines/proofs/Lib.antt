@@ -2,3 +2,4 @@ pub mod Gnu
 pub mod Msvc
 pub mod Mixed
 pub mod Way
+pub mod GnuWay

@@ -66,12 +66,12 @@ abbrev queue_input : MachineType → FlavorInput
 queue_input machine = record { flavor = Msvc; input = record { definition = (queue_for_msvc machine).library.definition; members = (queue_for_msvc machine).library.members; chosen = 0 ∷ [] } }
 
 -- the linked code of a placed one
-record Linked (codes : List LinkedCode) (c : PlacedCode) : Type 0 where
-  own : LinkedCode
-  held : Contains codes own
-  is : placed_code own ≡ c
+pub record Linked (codes : List LinkedCode) (c : PlacedCode) : Type 0 where
+  pub own : LinkedCode
+  pub held : Contains codes own
+  pub is : placed_code own ≡ c
 
-linked_code : (codes : List LinkedCode) (placed : List PlacedCode) (i : ℕ) (c : PlacedCode) → map placed_code codes ≡ placed → slice_get placed i ≡ Some c → Linked codes c
+pub linked_code : (codes : List LinkedCode) (placed : List PlacedCode) (i : ℕ) (c : PlacedCode) → map placed_code codes ≡ placed → slice_get placed i ≡ Some c → Linked codes c
 linked_code codes placed i c same at =
     let found = mapped_at placed_code codes i c (ap (λ xs. slice_get xs i) same ∙ at) in
     record { own = found.0; held = among_contains found.0 codes (among_at found.0 codes i found.1.0); is = found.1.1 }
@@ -222,8 +222,8 @@ once_arm64 : DefineOnce (placed_from (bases ARM64 0x41000) (objects ARM64)) (pla
 unfolding searched group_end sections_end found found_in
 once_arm64 = once_by (placed_from (bases ARM64 0x41000) (objects ARM64)) (placed ARM64 0x41000) refl refl
 
-bar_called_arm64 : HasCall ARM64 (code_at ARM64 (calls_bar ARM64) (0x41000 + 0x1000)) 4 (imp_symbol (bar ARM64))
-bar_called_arm64 = record {
+pub bar_called_arm64 : (position : ℕ) → HasCall ARM64 (code_at ARM64 (calls_bar ARM64) position) 4 (imp_symbol (bar ARM64))
+bar_called_arm64 position = record {
   front = first_bytes ARM64;
   back = last_bytes ARM64;
   instructions = refl;
@@ -240,8 +240,8 @@ bar_called_arm64 = record {
   named = refl;
 }
 
-queue_called_arm64 : HasCall ARM64 (code_at ARM64 (calls_queue ARM64) (0x41000 + 0x1020)) 4 (imp_symbol (queue ARM64))
-queue_called_arm64 = record {
+pub queue_called_arm64 : (position : ℕ) → HasCall ARM64 (code_at ARM64 (calls_queue ARM64) position) 4 (imp_symbol (queue ARM64))
+queue_called_arm64 position = record {
   front = first_bytes ARM64;
   back = last_bytes ARM64;
   instructions = refl;
@@ -257,6 +257,9 @@ queue_called_arm64 = record {
   undefined = refl;
   named = refl;
 }
+
+pub small_arm64 : AllByRecursion (λ b. b < 256) (calling_code ARM64).bytes
+small_arm64 = (omega arith, (omega arith, (omega arith, (omega arith, (omega arith, (omega arith, (omega arith, (omega arith, (omega arith, (omega arith, (omega arith, (omega arith, (omega arith, (omega arith, (omega arith, (omega arith, (omega arith, (omega arith, (omega arith, (omega arith, (omega arith, (omega arith, (omega arith, (omega arith, tt))))))))))))))))))))))))
 
 can_arm64 : CanJump ARM64 0x1_4000_0000 (bases ARM64 0x41000)
 unfolding searched group_end sections_end
@@ -274,8 +277,8 @@ arrive_arm64 arrive linked_codes targets same beside n written reads =
     let memory : List Range = written ++ (image_of ARM64 (bases ARM64 0x41000) (placed_from (bases ARM64 0x41000) (objects ARM64)) ++ ranges_of_codes linked_codes) in
     let to_bar = linked_code linked_codes (placed ARM64 0x41000) 0 (code_at ARM64 (calls_bar ARM64) (0x41000 + 0x1000)) same refl in
     let to_queue = linked_code linked_codes (placed ARM64 0x41000) 1 (code_at ARM64 (calls_queue ARM64) (0x41000 + 0x1020)) same refl in
-    let bar_has : HasCall ARM64 (placed_code to_bar.own) 4 (imp_symbol (bar ARM64)) = subst (λ c. HasCall ARM64 c 4 (imp_symbol (bar ARM64))) (sym to_bar.is) bar_called_arm64 in
-    let queue_has : HasCall ARM64 (placed_code to_queue.own) 4 (imp_symbol (queue ARM64)) = subst (λ c. HasCall ARM64 c 4 (imp_symbol (queue ARM64))) (sym to_queue.is) queue_called_arm64 in (
+    let bar_has : HasCall ARM64 (placed_code to_bar.own) 4 (imp_symbol (bar ARM64)) = subst (λ c. HasCall ARM64 c 4 (imp_symbol (bar ARM64))) (sym to_bar.is) (bar_called_arm64 (0x41000 + 0x1000)) in
+    let queue_has : HasCall ARM64 (placed_code to_queue.own) 4 (imp_symbol (queue ARM64)) = subst (λ c. HasCall ARM64 c 4 (imp_symbol (queue ARM64))) (sym to_queue.is) (queue_called_arm64 (0x41000 + 0x1020)) in (
       arrive.ends (given_on ARM64) n written (wide ARM64) reads,
       subst (λ a. CallArrives ARM64 0x1_4000_0000 memory a (0x30 ∷ 0 ∷ 0 ∷ 0x10 ∷ 0 ∷ 0 ∷ 0 ∷ 0 ∷ [])) (ap (λ (c : PlacedCode). c.position + 4) to_bar.is)
           (arrive.calls 0x1_4000_0000 linked_codes targets (given_on ARM64) n written 0 0 (bar_input ARM64) (plain_export (bar ARM64)) to_bar.own 4 can_arm64 beside (wide ARM64) reads refl refl to_bar.held bar_has),
@@ -295,9 +298,9 @@ way_arm64 = worked ARM64 0x1_4000_0000 0x41000 0x41060 0x41070 (0x30 ∷ 0 ∷ 0
   linked = linked_arm64;
   sections = sections_arm64;
   once = once_arm64;
-  small = (omega arith, (omega arith, (omega arith, (omega arith, (omega arith, (omega arith, (omega arith, (omega arith, (omega arith, (omega arith, (omega arith, (omega arith, (omega arith, (omega arith, (omega arith, (omega arith, (omega arith, (omega arith, (omega arith, (omega arith, (omega arith, (omega arith, (omega arith, (omega arith, tt))))))))))))))))))))))));
-  bar_called = bar_called_arm64;
-  queue_called = queue_called_arm64;
+  small = small_arm64;
+  bar_called = bar_called_arm64 (0x41000 + 0x1000);
+  queue_called = queue_called_arm64 (0x41000 + 0x1020);
   bar_pointer = refl;
   queue_pointer = refl;
   can = can_arm64;
@@ -400,8 +403,8 @@ once_i386 : DefineOnce (placed_from (bases I386 0x61000) (objects I386)) (placed
 unfolding searched group_end sections_end found found_in
 once_i386 = once_by (placed_from (bases I386 0x61000) (objects I386)) (placed I386 0x61000) refl refl
 
-bar_called_i386 : HasCall I386 (code_at I386 (calls_bar I386) (0x61000 + 0x1000)) 4 (imp_symbol (bar I386))
-bar_called_i386 = record {
+pub bar_called_i386 : (position : ℕ) → HasCall I386 (code_at I386 (calls_bar I386) position) 4 (imp_symbol (bar I386))
+bar_called_i386 position = record {
   front = first_bytes I386;
   back = last_bytes I386;
   instructions = refl;
@@ -418,8 +421,8 @@ bar_called_i386 = record {
   named = refl;
 }
 
-queue_called_i386 : HasCall I386 (code_at I386 (calls_queue I386) (0x61000 + 0x1020)) 4 (imp_symbol (queue I386))
-queue_called_i386 = record {
+pub queue_called_i386 : (position : ℕ) → HasCall I386 (code_at I386 (calls_queue I386) position) 4 (imp_symbol (queue I386))
+queue_called_i386 position = record {
   front = first_bytes I386;
   back = last_bytes I386;
   instructions = refl;
@@ -435,6 +438,9 @@ queue_called_i386 = record {
   undefined = refl;
   named = refl;
 }
+
+pub small_i386 : AllByRecursion (λ b. b < 256) (calling_code I386).bytes
+small_i386 = (omega arith, (omega arith, (omega arith, (omega arith, (omega arith, (omega arith, (omega arith, (omega arith, (omega arith, (omega arith, (omega arith, tt)))))))))))
 
 can_i386 : CanJump I386 0x40_0000 (bases I386 0x61000)
 unfolding searched group_end sections_end
@@ -452,8 +458,8 @@ arrive_i386 arrive linked_codes targets same beside n written reads =
     let memory : List Range = written ++ (image_of I386 (bases I386 0x61000) (placed_from (bases I386 0x61000) (objects I386)) ++ ranges_of_codes linked_codes) in
     let to_bar = linked_code linked_codes (placed I386 0x61000) 0 (code_at I386 (calls_bar I386) (0x61000 + 0x1000)) same refl in
     let to_queue = linked_code linked_codes (placed I386 0x61000) 1 (code_at I386 (calls_queue I386) (0x61000 + 0x1020)) same refl in
-    let bar_has : HasCall I386 (placed_code to_bar.own) 4 (imp_symbol (bar I386)) = subst (λ c. HasCall I386 c 4 (imp_symbol (bar I386))) (sym to_bar.is) bar_called_i386 in
-    let queue_has : HasCall I386 (placed_code to_queue.own) 4 (imp_symbol (queue I386)) = subst (λ c. HasCall I386 c 4 (imp_symbol (queue I386))) (sym to_queue.is) queue_called_i386 in (
+    let bar_has : HasCall I386 (placed_code to_bar.own) 4 (imp_symbol (bar I386)) = subst (λ c. HasCall I386 c 4 (imp_symbol (bar I386))) (sym to_bar.is) (bar_called_i386 (0x61000 + 0x1000)) in
+    let queue_has : HasCall I386 (placed_code to_queue.own) 4 (imp_symbol (queue I386)) = subst (λ c. HasCall I386 c 4 (imp_symbol (queue I386))) (sym to_queue.is) (queue_called_i386 (0x61000 + 0x1020)) in (
       arrive.ends (given_on I386) n written (wide I386) reads,
       subst (λ a. CallArrives I386 0x40_0000 memory a (0x30 ∷ 0 ∷ 0 ∷ 0x10 ∷ [])) (ap (λ (c : PlacedCode). c.position + 4) to_bar.is)
           (arrive.calls 0x40_0000 linked_codes targets (given_on I386) n written 0 0 (bar_input I386) (plain_export (bar I386)) to_bar.own 4 can_i386 beside (wide I386) reads refl refl to_bar.held bar_has),
@@ -473,9 +479,9 @@ way_i386 = worked I386 0x40_0000 0x61000 0x61050 0x61058 (0x30 ∷ 0 ∷ 0 ∷ 0
   linked = linked_i386;
   sections = sections_i386;
   once = once_i386;
-  small = (omega arith, (omega arith, (omega arith, (omega arith, (omega arith, (omega arith, (omega arith, (omega arith, (omega arith, (omega arith, (omega arith, tt)))))))))));
-  bar_called = bar_called_i386;
-  queue_called = queue_called_i386;
+  small = small_i386;
+  bar_called = bar_called_i386 (0x61000 + 0x1000);
+  queue_called = queue_called_i386 (0x61000 + 0x1020);
   bar_pointer = refl;
   queue_pointer = refl;
   can = can_i386;

@@ -1,3 +1,4 @@
 pub mod Parts
 pub mod Closed
 pub mod Way
+pub mod GnuWay

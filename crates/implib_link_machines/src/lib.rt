@@ -6,6 +6,7 @@
 #![tactic(auto)]
 
 ghost use Rattle.implib_link_machines.specs.Closed.{WorkedGnu, WorkedMixed, WorkedMsvc};
+ghost use Rattle.implib_link_machines.specs.GnuWay.{WorkedGnuWay};
 ghost use Rattle.implib_link_machines.specs.Way.{WorkedWay};
 ghost use Rattle.implib.specs.declared.machine.MachineType.TheVariants.{ARM64, ARMNT, I386};
 ghost use Rattle.std.specs.Prelude.{◌∷◌, []};
@@ -36,5 +37,13 @@ pub fn worked_ways()
     ensures arm64 { WorkedWay ARM64 0x1_4000_0000 0x41000 0x41060 0x41070
         (0x30 ∷ 0 ∷ 0 ∷ 0x10 ∷ 0 ∷ 0 ∷ 0 ∷ 0 ∷ []) (0x50 ∷ 0 ∷ 0 ∷ 0x10 ∷ 0 ∷ 0 ∷ 0 ∷ 0 ∷ []) }
     ensures i386 { WorkedWay I386 0x40_0000 0x61000 0x61050 0x61058
+        (0x30 ∷ 0 ∷ 0 ∷ 0x10 ∷ []) (0x50 ∷ 0 ∷ 0 ∷ 0x10 ∷ []) }
+{}
+
+/// The same for two libraries for GNU's linker.
+pub fn worked_gnu_ways()
+    ensures arm64 { WorkedGnuWay ARM64 0x1_4000_0000 0x51000 0x51060 0x51070
+        (0x30 ∷ 0 ∷ 0 ∷ 0x10 ∷ 0 ∷ 0 ∷ 0 ∷ 0 ∷ []) (0x50 ∷ 0 ∷ 0 ∷ 0x10 ∷ 0 ∷ 0 ∷ 0 ∷ 0 ∷ []) }
+    ensures i386 { WorkedGnuWay I386 0x40_0000 0x71000 0x71050 0x71058
         (0x30 ∷ 0 ∷ 0 ∷ 0x10 ∷ []) (0x50 ∷ 0 ∷ 0 ∷ 0x10 ∷ []) }
 {}
