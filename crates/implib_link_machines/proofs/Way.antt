@@ -6,8 +6,7 @@ use Rattle.implib.specs.declared.flavor.Flavor.TheVariants.{Gnu, Msvc}
 use Rattle.implib.specs.declared.machine.MachineType.{MachineType}
 use Rattle.implib.specs.declared.machine.MachineType.TheVariants.{ARM64, I386}
 use Rattle.implib.specs.Formats.Constants.{class_external}
-use Rattle.implib.specs.Formats.Object.{Object}
-use Rattle.implib.specs.Import.{Ask, imp_symbol}
+use Rattle.implib.specs.Import.{imp_symbol}
 use Rattle.implib.specs.Link.Image.{Range, image_of}
 use Rattle.implib.specs.Link.Placement.{placed_from}
 use Rattle.implib.specs.Members.Gnu.{head_symbol, iname_symbol}
@@ -20,7 +19,7 @@ use Rattle.implib_archive.specs.Archive.{entries_from, entries_of, first_linker_
 use Rattle.implib_archive.specs.Refusal.{has_short_places, has_too_many, member_refusal, members_refusal, name_refusal, places_refusal, refusal_of, symbol_refusal, symbols_refusal}
 use Rattle.implib_archive.specs.declared.kind.Kind.TheVariants as kind
 use Rattle.implib_archive_link.specs.BothWay.{AreLinkedForBoth, BothArrive}
-use Rattle.implib_archive_link.specs.InBytes.{First, asks_with_on}
+use Rattle.implib_archive_link.specs.InBytes.{First}
 use Rattle.implib_archive_link.specs.Results.{HaveArchive}
 use Rattle.implib_archive_link.proofs.BothWay.{both_arrive}
 use Rattle.implib_archive_link.proofs.Corollaries.{are_found_in_bytes}
@@ -32,7 +31,7 @@ use Rattle.implib_link.specs.Gnu.Packed.{group_end, packed_end, sections_end}
 use Rattle.implib_link.specs.Gnu.Program.{ClaimsNone}
 use Rattle.implib_link.specs.Gnu.Reading.{ReadsAndWrites}
 use Rattle.implib_link.specs.Search.Archives.{symbols_of_library}
-use Rattle.implib_link.specs.Search.BothFlavors.{AreGivenForBoth, IsClosedForBoth, IsFlavorArchive, archive_of_both, gnu_among, inputs_of_both, kept_of_both, msvc_among}
+use Rattle.implib_link.specs.Search.BothFlavors.{AreGivenForBoth, IsClosedForBoth, IsFlavorArchive, archive_of_both, gnu_among, kept_of_both, msvc_among}
 use Rattle.implib_link.specs.Search.Closed.{listed_in, unresolved}
 use Rattle.implib_link.specs.Search.Msvc.{AreTakenInTurn, TakesFor, left_in}
 use Rattle.implib_link.specs.Search.MsvcArchives.{short_inputs, symbols_of_shorts}
@@ -56,7 +55,7 @@ use Rattle.implib_link.proofs.Worked.NearSearches.{searched}
 use Rattle.implib_link.proofs.Worked.Programs.{claims_none_by, distinct_by}
 use Rattle.implib_link.proofs.Worked.Searched.{below_limit}
 use Rattle.implib_link_machines.specs.Closed.{IsPointerAt}
-use Rattle.implib_link_machines.specs.Parts.{bar, foo, null_on, queue, zed}
+use Rattle.implib_link_machines.specs.Parts.{bar, foo, queue, zed}
 use Rattle.implib_link_machines.specs.Way.{Arrives, WorkedWay, bar_for_gnu, bases, both, calls_bar, calls_queue, code_at, members, objects, own, placed, queue_for_msvc, taken}
 
 abbrev bar_input : MachineType → FlavorInput
