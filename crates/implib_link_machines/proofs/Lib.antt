@@ -3,3 +3,4 @@ pub mod Msvc
 pub mod Mixed
 pub mod Way
 pub mod GnuWay
+pub mod LldWay

@@ -2,3 +2,4 @@ pub mod Parts
 pub mod Closed
 pub mod Way
 pub mod GnuWay
+pub mod LldWay

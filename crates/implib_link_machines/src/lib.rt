@@ -1,14 +1,16 @@
 //! Closed programs by hand on ARM64, I386 and ARMNT, as instances of the laws of `implib_link`: an
 //! object and what a linker takes for it of two libraries, both for GNU's linker, both for
-//! Microsoft's, and one for each; and on ARM64 and I386 the whole way from an archive's bytes to
+//! Microsoft's, and one for each; and on ARM64 and I386 the whole ways from an archive's bytes to
 //! calls, by the laws of `implib_archive_link`. The functions do nothing: their contracts are the
 //! instances.
 #![tactic(auto)]
 
 ghost use Rattle.implib_link_machines.specs.Closed.{WorkedGnu, WorkedMixed, WorkedMsvc};
 ghost use Rattle.implib_link_machines.specs.GnuWay.{WorkedGnuWay};
+ghost use Rattle.implib_link_machines.specs.LldWay.{WorkedLldWay};
 ghost use Rattle.implib_link_machines.specs.Way.{WorkedWay};
 ghost use Rattle.implib.specs.declared.machine.MachineType.TheVariants.{ARM64, ARMNT, I386};
+ghost use Rattle.implib_link.specs.Worked.LldPrograms.{eight_bytes, four_bytes};
 ghost use Rattle.std.specs.Prelude.{◌∷◌, []};
 
 /// Closed programs of libraries for GNU's linker, worked by hand.
@@ -46,4 +48,10 @@ pub fn worked_gnu_ways()
         (0x30 ∷ 0 ∷ 0 ∷ 0x10 ∷ 0 ∷ 0 ∷ 0 ∷ 0 ∷ []) (0x50 ∷ 0 ∷ 0 ∷ 0x10 ∷ 0 ∷ 0 ∷ 0 ∷ 0 ∷ []) }
     ensures i386 { WorkedGnuWay I386 0x40_0000 0x71000 0x71050 0x71058
         (0x30 ∷ 0 ∷ 0 ∷ 0x10 ∷ []) (0x50 ∷ 0 ∷ 0 ∷ 0x10 ∷ []) }
+{}
+
+/// The way for lld, by programs that it wrote.
+pub fn worked_lld_ways()
+    ensures arm64 { WorkedLldWay ARM64 0x1_4000_0000 20 (eight_bytes 0x40) (eight_bytes 0) }
+    ensures i386 { WorkedLldWay I386 0x40_0000 12 (four_bytes 0x40) (four_bytes 0) }
 {}
