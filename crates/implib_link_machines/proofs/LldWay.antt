@@ -1,5 +1,5 @@
 -- The way for lld by hand, by computing and by the law.
-use Rattle.std.proofs.Common.{◌≡◌, ℕ, ◌+◌, false, true, List, [], ◌∷◌, ◌++◌, codes, map, refl, ap, sym, ◌∙◌, subst, inl, inr, arith}
+use Rattle.std.proofs.Common.{◌≡◌, ℕ, true, List, [], ◌∷◌, ◌++◌, codes, map, refl, ap, sym, ◌∙◌, subst, inl, inr, arith}
 use Rattle.std.specs.Prelude.{bytes_eq}
 use Rattle.std.specs.List.{filter, flat_map, list_any}
 use Rattle.std.proofs.lemmas.Bool.{true≢false}
@@ -24,7 +24,7 @@ use Rattle.implib_link.specs.Search.Closed.{claims_of, unresolved}
 use Rattle.implib_link.specs.Search.MsvcArchives.{IsMsvcArchive, symbols_of_shorts}
 use Rattle.implib_link.specs.Tables.{CanReadFrom}
 use Rattle.implib_link.specs.Worked.Calls.{given_on}
-use Rattle.implib_link.specs.Worked.LldPrograms.{WorkedLldProgram, addresses_on, code_of_object, code_of_thunk, eight_bytes, four_bytes, lld_codes, lld_image_on, lld_linked_on, lld_memory, lld_targets, shorts_on}
+use Rattle.implib_link.specs.Worked.LldPrograms.{addresses_on, code_of_object, code_of_thunk, eight_bytes, four_bytes, lld_codes, lld_image_on, lld_linked_on, lld_memory, lld_targets, shorts_on}
 use Rattle.implib_link.specs.Worked.Programs.{symbol_on}
 use Rattle.implib_link.proofs.Search.Lists.{contains_among}
 use Rattle.implib_link.proofs.Worked.Calls.{wide}
