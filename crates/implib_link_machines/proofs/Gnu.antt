@@ -1,28 +1,34 @@
 -- The closed programs for GNU's linker, by computing and by the laws.
-use Rattle.std.proofs.Common.{◌≡◌, ℕ, ◌^◌, ◌<◌, false, List, [], ◌++◌, refl, arith}
+use Rattle.std.proofs.Common.{◌≡◌, ℕ, ◌^◌, ◌<◌, false, List, [], ◌∷◌, ◌++◌, refl, arith}
 use Rattle.std.specs.List.{AllByRecursion, flat_map}
 use Rattle.implib.specs.declared.machine.MachineType.{MachineType}
 use Rattle.implib.specs.declared.machine.MachineType.TheVariants.{ARM64, ARMNT, I386}
 use Rattle.implib.specs.Import.{imp_symbol}
 use Rattle.implib.specs.Members.Gnu.{head_symbol, iname_symbol}
+use Rattle.implib.specs.Members.MsvcObjects.{null_descriptor_symbol}
 use Rattle.implib.proofs.Link.Ranges.{among_back}
 use Rattle.implib_link.specs.Gnu.Packed.{group_end, packed_end, sections_end}
 use Rattle.implib_link.specs.Gnu.Program.{ClaimsNone, has_tables}
 use Rattle.implib_link.specs.Search.Archives.{IsArchive, archive_of, symbols_of_library}
 use Rattle.implib_link.specs.Search.Closed.{AreLinkedFor, inputs_in, listed_in, unresolved, wanted_in}
 use Rattle.implib_link.specs.Search.Exists.{tables_end}
-use Rattle.implib_link.specs.Search.Given.{AreGiven, symbols_kept}
+use Rattle.implib_link.specs.Search.BothFlavors.{IsFlavorArchive, gnu_among, msvc_among}
+use Rattle.implib_link.specs.Search.Given.{AreGiven, symbols_kept, wanted_at_most}
+use Rattle.implib_link.specs.Search.MsvcArchives.{symbols_of_shorts}
+use Rattle.implib_link.specs.Search.NoShorts.{WantsNoShort}
 use Rattle.implib_link.specs.Search.Search.{IsTakenInTurn, Takes, names_undefined}
 use Rattle.implib_link.proofs.Gnu.Packed.{packed_is_admissible}
 use Rattle.implib_link.proofs.Search.Archives.{inputs_made}
 use Rattle.implib_link.proofs.Search.Closed.{claims_apart, closed_links, takes_into}
 use Rattle.implib_link.proofs.Search.Exists.{closed_exists}
 use Rattle.implib_link.proofs.Search.Given.{given_closes}
+use Rattle.implib_link.proofs.Search.NoShorts.{takes_of_both}
+use Rattle.implib_link.proofs.Worked.BothFlavors.{apart_by}
 use Rattle.implib_link.proofs.Worked.NearSearches.{searched}
 use Rattle.implib_link.proofs.Worked.Programs.{claims_none_by, distinct_by}
 use Rattle.implib_link.proofs.Worked.Search.{pulls_in_now, settled_ends}
 use Rattle.implib_link.proofs.Worked.Searched.{below_limit}
-use Rattle.implib_link_machines.specs.Closed.{IsLeft, IsPointerAt, WorkedGnu, gnu_bases, gnu_libraries, gnu_objects, gnu_taken, own_on}
+use Rattle.implib_link_machines.specs.Closed.{IsLeft, IsPointerAt, WorkedGnu, gnu_bases, gnu_libraries, gnu_objects, gnu_taken, own_on, with_far}
 use Rattle.implib_link_machines.specs.Parts.{bar, baz, choosing_on, foo, queue, zed}
 
 -- what is computed of the program on a machine
@@ -38,6 +44,8 @@ record Computed (machine : MachineType) (baz_at queue_at end_at : ℕ) : Type 0 
   plain : AllByRecursion (λ o. has_tables o ≡ false) (own_on machine)
   room : tables_end 0x5000 (gnu_libraries machine) ≡ end_at
   below : tables_end 0x5000 (gnu_libraries machine) < 2 ^ 31
+  mixed : IsFlavorArchive machine (with_far machine)
+  none : WantsNoShort (with_far machine) (own_on machine)
 
 worked : (machine : MachineType) (baz_at queue_at end_at : ℕ) → Computed machine baz_at queue_at end_at → WorkedGnu machine baz_at queue_at end_at
 unfolding names_undefined
@@ -58,6 +66,9 @@ worked machine baz_at queue_at end_at is =
       queue_pointer = is.queue_pointer;
       room = is.room;
       exists = closed_exists machine (gnu_libraries machine) (own_on machine) 0x5000 is.archive is.given is.plain (omega arith) is.below;
+      mixed = is.mixed;
+      none = is.none;
+      beside = takes_of_both machine (with_far machine) is.mixed (own_on machine) is.none (gnu_taken machine) into;
     }
 
 archive_arm64 : IsArchive ARM64 (gnu_libraries ARM64)
@@ -119,6 +130,16 @@ gnu_arm64 = worked ARM64 0x5060 0x5070 0x5186 (record {
   plain = (refl, tt);
   room = refl;
   below = below_limit (tables_end 0x5000 (gnu_libraries ARM64)) refl;
+  mixed = record {
+    gnu = archive_arm64;
+    msvc = record {
+      made = (record { accepted = refl; made = refl; ordinals = refl }, tt);
+      distinct = distinct_by (null_descriptor_symbol ∷ flat_map symbols_of_shorts (msvc_among (with_far ARM64))) refl;
+      found = (refl, tt);
+    };
+    apart = apart_by (null_descriptor_symbol ∷ flat_map symbols_of_shorts (msvc_among (with_far ARM64))) (flat_map (symbols_of_library ARM64) (gnu_among (with_far ARM64))) refl;
+  };
+  none = apart_by (wanted_at_most (gnu_among (with_far ARM64)) (own_on ARM64)) (null_descriptor_symbol ∷ flat_map symbols_of_shorts (msvc_among (with_far ARM64))) refl;
 })
 
 archive_i386 : IsArchive I386 (gnu_libraries I386)
@@ -180,6 +201,16 @@ gnu_i386 = worked I386 0x5050 0x5058 0x518A (record {
   plain = (refl, tt);
   room = refl;
   below = below_limit (tables_end 0x5000 (gnu_libraries I386)) refl;
+  mixed = record {
+    gnu = archive_i386;
+    msvc = record {
+      made = (record { accepted = refl; made = refl; ordinals = refl }, tt);
+      distinct = distinct_by (null_descriptor_symbol ∷ flat_map symbols_of_shorts (msvc_among (with_far I386))) refl;
+      found = (refl, tt);
+    };
+    apart = apart_by (null_descriptor_symbol ∷ flat_map symbols_of_shorts (msvc_among (with_far I386))) (flat_map (symbols_of_library I386) (gnu_among (with_far I386))) refl;
+  };
+  none = apart_by (wanted_at_most (gnu_among (with_far I386)) (own_on I386)) (null_descriptor_symbol ∷ flat_map symbols_of_shorts (msvc_among (with_far I386))) refl;
 })
 
 archive_armnt : IsArchive ARMNT (gnu_libraries ARMNT)
@@ -241,4 +272,14 @@ gnu_armnt = worked ARMNT 0x5050 0x5058 0x5186 (record {
   plain = (refl, tt);
   room = refl;
   below = below_limit (tables_end 0x5000 (gnu_libraries ARMNT)) refl;
+  mixed = record {
+    gnu = archive_armnt;
+    msvc = record {
+      made = (record { accepted = refl; made = refl; ordinals = refl }, tt);
+      distinct = distinct_by (null_descriptor_symbol ∷ flat_map symbols_of_shorts (msvc_among (with_far ARMNT))) refl;
+      found = (refl, tt);
+    };
+    apart = apart_by (null_descriptor_symbol ∷ flat_map symbols_of_shorts (msvc_among (with_far ARMNT))) (flat_map (symbols_of_library ARMNT) (gnu_among (with_far ARMNT))) refl;
+  };
+  none = apart_by (wanted_at_most (gnu_among (with_far ARMNT)) (own_on ARMNT)) (null_descriptor_symbol ∷ flat_map symbols_of_shorts (msvc_among (with_far ARMNT))) refl;
 })

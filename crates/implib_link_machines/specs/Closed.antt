@@ -12,6 +12,8 @@ use Rattle.implib.specs.Link.LinkedMembers.{objects_in}
 use Rattle.implib.specs.Link.Placement.{Bases, placed_from}
 use Rattle.implib.specs.Link.Resolution.{definitions_of}
 use Rattle.implib.specs.Members.MemberSpec.{MemberView}
+use Rattle.implib.specs.Worked.Members.{of_dll}
+use Rattle.implib.specs.Worked.Statements.{plain_export}
 use Rattle.implib_link.specs.Flavors.Program.{objects_taken}
 use Rattle.implib_link.specs.Gnu.Packed.{packed}
 use Rattle.implib_link.specs.Gnu.Program.{null_descriptor}
@@ -25,6 +27,7 @@ use Rattle.implib_link.specs.Search.MsvcArchives.{IsMsvcArchive, short_inputs}
 use Rattle.implib_link.specs.Search.MsvcClosed.{IsClosedForMsvc, LinksClosedForMsvc, TakesIntoFor}
 use Rattle.implib_link.specs.Search.MsvcExists.{HasClosedForMsvc, msvc_tables_end}
 use Rattle.implib_link.specs.Search.MsvcGiven.{AreGivenForMsvc}
+use Rattle.implib_link.specs.Search.NoShorts.{WantsNoShort}
 use Rattle.implib_link.specs.Worked.Programs.{symbol_on}
 use Rattle.implib_link_machines.specs.Parts.{alias_on, baz, baz_on, choosing_on, descriptor_on, foo, foo_on, head_on, library_on, null_on, queue, queue_on, short_alias_on, short_on, tail_on, thunk_on, zed, zed_on}
 
@@ -57,6 +60,20 @@ gnu_objects machine =
     ∷ head_on machine zed ∷ queue_on machine ∷ tail_on machine zed ∷ [])
     ++ null_descriptor ∷ [])
 
+-- far.dll for Microsoft's linker, of which the object wants nothing, between the two
+abbrev pub far_msvc : MachineType → FlavorLibrary
+far_msvc machine = record {
+  flavor = Msvc;
+  library = library_on machine Msvc (of_dll (codes "far.dll") (plain_export (symbol_on machine (codes "pop")) ∷ []));
+}
+
+abbrev pub with_far : MachineType → List FlavorLibrary
+with_far machine =
+    record { flavor = Gnu; library = library_on machine Gnu (foo_on machine) }
+    ∷ far_msvc machine
+    ∷ record { flavor = Gnu; library = library_on machine Gnu (zed_on machine) }
+    ∷ []
+
 abbrev pub gnu_bases : MachineType → Bases
 gnu_bases machine = packed 0x5000 (gnu_objects machine)
 
@@ -73,6 +90,9 @@ pub record WorkedGnu (machine : MachineType) (baz_at queue_at end_at : ℕ) : Ty
   pub queue_pointer : IsPointerAt (gnu_bases machine) (gnu_objects machine) (queue machine) queue_at
   pub room : tables_end 0x5000 (gnu_libraries machine) ≡ end_at
   pub exists : HasClosed machine (gnu_libraries machine) (own_on machine) 0x5000
+  pub mixed : IsFlavorArchive machine (with_far machine)
+  pub none : WantsNoShort (with_far machine) (own_on machine)
+  pub beside : TakesIntoFor machine (archive_of_both (with_far machine)) (own_on machine) (gnu_taken machine)
 
 -- For Microsoft's linker. The null descriptor, foo.dll's, comes last.
 abbrev pub msvc_libraries : MachineType → List Library
