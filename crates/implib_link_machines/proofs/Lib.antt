@@ -4,3 +4,4 @@ pub mod Mixed
 pub mod Way
 pub mod GnuWay
 pub mod LldWay
+pub mod Crossed

@@ -3,3 +3,4 @@ pub mod Closed
 pub mod Way
 pub mod GnuWay
 pub mod LldWay
+pub mod Crossed

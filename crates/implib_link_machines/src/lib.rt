@@ -6,10 +6,11 @@
 #![tactic(auto)]
 
 ghost use Rattle.implib_link_machines.specs.Closed.{WorkedGnu, WorkedMixed, WorkedMsvc};
+ghost use Rattle.implib_link_machines.specs.Crossed.{WorkedCrossed};
 ghost use Rattle.implib_link_machines.specs.GnuWay.{WorkedGnuWay};
 ghost use Rattle.implib_link_machines.specs.LldWay.{WorkedLldWay};
 ghost use Rattle.implib_link_machines.specs.Way.{WorkedWay};
-ghost use Rattle.implib.specs.declared.machine.MachineType.TheVariants.{ARM64, ARMNT, I386};
+ghost use Rattle.implib.specs.declared.machine.MachineType.TheVariants.{AMD64, ARM64, ARMNT, I386};
 ghost use Rattle.implib_link.specs.Worked.LldPrograms.{eight_bytes, four_bytes};
 ghost use Rattle.std.specs.Prelude.{◌∷◌, []};
 
@@ -54,4 +55,12 @@ pub fn worked_gnu_ways()
 pub fn worked_lld_ways()
     ensures arm64 { WorkedLldWay ARM64 0x1_4000_0000 20 (eight_bytes 0x40) (eight_bytes 0) }
     ensures i386 { WorkedLldWay I386 0x40_0000 12 (four_bytes 0x40) (four_bytes 0) }
+{}
+
+/// Closed programs in which an alias stands for a function of a library of the other flavour.
+pub fn worked_crossed_programs()
+    ensures amd64 { WorkedCrossed AMD64 0x25038 }
+    ensures arm64 { WorkedCrossed ARM64 0x25038 }
+    ensures i386 { WorkedCrossed I386 0x25030 }
+    ensures armnt { WorkedCrossed ARMNT 0x25030 }
 {}
