@@ -1,28 +1,21 @@
 -- The closed program in which an alias stands for a function of the other flavour, by computing and by the laws.
-use Rattle.std.proofs.Common.{codes, ◌≡◌, ℕ, ◌^◌, ◌<◌, [], ◌∷◌, ◌++◌, refl, subst, arith}
+use Rattle.std.proofs.Common.{codes, ◌≡◌, ℕ, ◌^◌, ◌<◌, [], ◌∷◌, ◌++◌, refl, arith}
 use Rattle.std.specs.List.{AllByRecursion, flat_map}
 use Rattle.implib.specs.declared.machine.MachineType.{MachineType}
 use Rattle.implib.specs.declared.machine.MachineType.TheVariants.{AMD64, ARM64, ARMNT, I386}
-use Rattle.implib.specs.Import.{imp_symbol}
-use Rattle.implib.specs.Link.Image.{image_of}
-use Rattle.implib.specs.Link.Placement.{placed_from}
-use Rattle.implib.specs.Members.Gnu.{head_symbol, iname_symbol}
 use Rattle.implib.specs.Members.MsvcObjects.{descriptor_symbol, null_descriptor_symbol, null_thunk_symbol}
 use Rattle.implib.proofs.Link.Ranges.{among_back}
 use Rattle.implib_link.specs.Gnu.Packed.{group_end, packed_end, sections_end}
 use Rattle.implib_link.specs.Gnu.Program.{ClaimsNone}
 use Rattle.implib_link.specs.Search.Archives.{symbols_of_library}
 use Rattle.implib_link.specs.Search.BothFlavors.{AreClosedForBoth, AreGivenForBoth, IsFlavorArchive, NamesNoMembers, archive_of_both, gnu_among, kept_of_both, msvc_among}
-use Rattle.implib_link.specs.Search.BothExists.{tables_end_of_both}
 use Rattle.implib_link.specs.Search.Closed.{listed_in, unresolved}
-use Rattle.implib_link.specs.Search.Exists.{LieWithin}
 use Rattle.implib_link.specs.Search.Msvc.{AreTakenInTurn, TakesFor, left_in}
 use Rattle.implib_link.specs.Search.MsvcArchives.{symbols_of_shorts, wanted_with_weak}
 use Rattle.implib_link.specs.Search.MsvcClosed.{TakesIntoFor, wanted_for}
 use Rattle.implib_link.specs.Worked.Programs.{symbol_on}
 use Rattle.implib_link.proofs.Search.BothArchives.{both_taken}
 use Rattle.implib_link.proofs.Search.BothClosed.{closed_links_of_both, packed_both}
-use Rattle.implib_link.proofs.Search.BothExists.{placed_within}
 use Rattle.implib_link.proofs.Search.Closed.{claims_apart}
 use Rattle.implib_link.proofs.Search.MsvcClosed.{takes_into}
 use Rattle.implib_link.proofs.Worked.BothFlavors.{apart_by}
@@ -31,7 +24,7 @@ use Rattle.implib_link.proofs.Worked.NearSearches.{searched}
 use Rattle.implib_link.proofs.Worked.Programs.{claims_none_by, distinct_by}
 use Rattle.implib_link.proofs.Worked.Searched.{below_limit}
 use Rattle.implib_link_machines.specs.Closed.{IsLeft, IsPointerAt}
-use Rattle.implib_link_machines.specs.Crossed.{WorkedCrossed, alias, bases, libraries, naming, objects, own, taken, zed_shorts}
+use Rattle.implib_link_machines.specs.Crossed.{WorkedCrossed, bases, libraries, naming, objects, own, taken, zed_shorts}
 use Rattle.implib_link_machines.specs.Parts.{bar, queue, zed}
 
 -- what is computed of the program on a machine
