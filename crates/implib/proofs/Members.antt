@@ -9,6 +9,7 @@ pub mod NotRefused
 pub mod MemberReadings
 pub mod MemberMeanings
 pub mod MemberLists
+pub mod KeptImports
 pub mod MembersLoop
 pub mod Asked
 pub mod GnuObjects

@@ -10,6 +10,7 @@ pub mod MsvcMembers
 pub mod GnuMembers
 pub mod NameRules
 pub mod Members
+pub mod ShortImports
 pub mod MemberLists
 pub mod ReadBack
 pub mod OfText

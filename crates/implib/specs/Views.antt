@@ -6,4 +6,5 @@ pub mod Hearing
 pub mod Layout
 pub mod Writer
 pub mod Table
+pub mod KeptImports
 pub mod Making

@@ -149,15 +149,14 @@ impl ImportLibrary {
     /// # Errors
     ///
     /// Those of [`ImportLibrary::members`] for Microsoft's linker.
-    pub(crate) fn msvc_member_lists(&self) -> Result<MemberLists, Error>
+    pub(crate) fn into_msvc_member_lists(self) -> Result<MemberLists, Error>
         ensures ok { IfOk result (λ lists.
-            AreListsOf self.now.definition self.now.machine (lists_view lists)) }
+            AreListsOf self.definition self.machine (lists_view lists)) }
         ensures refused { IfInvalid result
-            (λ cause. refusal self.now.definition self.now.machine Msvc ≡ Some cause) }
-        ensures names_refused_always { RefusesAlways
-            self.now.definition self.now.machine Msvc result }
+            (λ cause. refusal self.definition self.machine Msvc ≡ Some cause) }
+        ensures names_refused_always { RefusesAlways self.definition self.machine Msvc result }
     {
-        member_lists(&self.def, self.machine)
+        member_lists(self.def, self.machine)
     }
 
     /// A copy of the library.

@@ -23,9 +23,11 @@ pub(crate) mod members;
 pub mod name_type;
 mod objects;
 mod short_import;
+mod short_imports;
 
 pub use crate::msvc::members::{MemberLists, linked_dll};
 pub use crate::msvc::short_import::{ShortImport, import_symbols, import_type};
+pub use crate::msvc::short_imports::ShortImports;
 
 /// The import library of a module definition for Microsoft's linker (docs/FORMATS.md, "Members for
 /// Microsoft's linker").
@@ -87,19 +89,19 @@ impl MsvcImportLibrary {
     }
 
     /// The members in three lists. An alias, an export whose symbol is weak for another, has its weak
-    /// externals alone, and no short import; [`MsvcImportLibrary::members`] makes that too.
+    /// externals alone, and no short import; [`MsvcImportLibrary::members`] makes that too. The short
+    /// imports are kept as what they say, and each export is freed when that is taken from it.
     ///
     /// # Errors
     ///
     /// Those of [`ImportLibrary::members`].
-    pub fn member_lists(&self) -> Result<MemberLists, Error>
+    pub fn into_member_lists(self) -> Result<MemberLists, Error>
         ensures ok { IfOk result (λ lists.
-            AreListsOf self.now.definition self.now.machine (lists_view lists)) }
+            AreListsOf self.definition self.machine (lists_view lists)) }
         ensures refused { IfInvalid result
-            (λ cause. refusal self.now.definition self.now.machine Msvc ≡ Some cause) }
-        ensures names_refused_always { RefusesAlways
-            self.now.definition self.now.machine Msvc result }
+            (λ cause. refusal self.definition self.machine Msvc ≡ Some cause) }
+        ensures names_refused_always { RefusesAlways self.definition self.machine Msvc result }
     {
-        self.library.msvc_member_lists()
+        self.library.into_msvc_member_lists()
     }
 }

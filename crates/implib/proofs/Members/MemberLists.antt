@@ -16,11 +16,13 @@ use Rattle.implib.specs.Import.{imp_symbol}
 use Rattle.implib.specs.Library.{member_view}
 use Rattle.implib.specs.LibraryName.{NamesOfDll}
 use Rattle.implib.specs.Members.MemberLists.{alias_specs, has_code, import_specs, is_weak}
-use Rattle.implib.specs.Members.MemberSpec.{MemberSpec, member_of}
+use Rattle.implib.specs.Members.MemberSpec.{MemberSpec, MemberView, member_of}
 use Rattle.implib.specs.Members.Members.{is_too_long}
 use Rattle.implib.specs.Members.Msvc.{short_import_symbol}
 use Rattle.implib.specs.Members.MsvcMembers.{export_specs, short_import_spec, weak_address_spec, weak_specs, weak_symbol_spec}
 use Rattle.implib.specs.Members.WeakExternal.{weak_object}
+use Rattle.implib.specs.Members.ShortImports.{ShortImportsView}
+use Rattle.implib.specs.Views.KeptImports.{KeepsMembers}
 use Rattle.implib.specs.Views.Making.{PushesAlias, PushesKept, PushesListed, PushesMembers}
 
 -- the size of a weak external
@@ -161,35 +163,38 @@ module _ (machine : MachineType) (dll : NamesOfDll) (e : ExportView) where
   alias_specs-none : is_weak e ≡ false → alias_specs machine dll.linked e ≡ []
   alias_specs-none plain = no_alias (has_code e) (weak_specs machine dll.linked e) (none machine dll.linked e plain)
 
-  -- an alias changes the list of aliases alone
-  pub listed_alias : (imports old new : List Member) (result : Result (Unit {0}) Error) → is_weak e ≡ true
-      → PushesAlias machine dll e old new result → PushesListed machine dll e imports imports old new result
-  listed_alias imports old new (Ok done) weak pushed = record {
-    imports_ok =
-        sym (append-nil (map member_view imports))
-        ∙ ap (λ t. map member_view imports ++ map member_of t) (sym (import_specs-weak weak));
-    aliases_ok = pushed.ok;
-    fit = pushed.fit;
-    too_long = tt;
-  }
-  listed_alias imports old new (Err (OutOfMemory refused)) weak pushed = record { imports_ok = tt; aliases_ok = tt; fit = tt; too_long = tt }
-  listed_alias imports old new (Err (Invalid fault)) weak pushed = record { imports_ok = tt; aliases_ok = tt; fit = tt; too_long = pushed.too_long }
+-- an alias changes the list of aliases alone
+pub listed_alias : (e : ExportView) (imports : ShortImportsView) (old new : List Member) (result : Result (Unit {0}) Error) → is_weak e ≡ true
+    → PushesAlias imports.machine imports.dll e old new result → PushesListed e imports imports old new result
+listed_alias e imports old new (Ok done) weak pushed = record {
+  imports_ok =
+      ap (λ (members : List MemberView). record imports { members = members })
+      (sym (append-nil imports.members)
+      ∙ ap (λ t. imports.members ++ map member_of t) (sym (import_specs-weak imports.machine imports.dll e weak)));
+  aliases_ok = pushed.ok;
+  fit = pushed.fit;
+  too_long = tt;
+}
+listed_alias e imports old new (Err (OutOfMemory refused)) weak pushed = record { imports_ok = tt; aliases_ok = tt; fit = tt; too_long = tt }
+listed_alias e imports old new (Err (Invalid fault)) weak pushed = record { imports_ok = tt; aliases_ok = tt; fit = tt; too_long = pushed.too_long }
 
-  -- and another export the list of imports alone
-  pub listed_import : (aliases old new : List Member) (result : Result (Unit {0}) Error) → is_weak e ≡ false
-      → PushesMembers (short_import_spec machine dll e ∷ []) old new result → PushesListed machine dll e old new aliases aliases result
-  listed_import aliases old new (Ok done) plain pushed = record {
-    imports_ok = pushed.ok ∙ ap (λ t. map member_view old ++ map member_of t) (sym (import_specs-own plain));
-    aliases_ok =
-        sym (append-nil (map member_view aliases))
-        ∙ ap (λ t. map member_view aliases ++ map member_of t) (sym (alias_specs-none plain));
-    fit = ap (list_any is_too_long) (own plain) ∙ pushed.fit;
-    too_long = tt;
-  }
-  listed_import aliases old new (Err (OutOfMemory refused)) plain pushed = record { imports_ok = tt; aliases_ok = tt; fit = tt; too_long = tt }
-  listed_import aliases old new (Err (Invalid fault)) plain pushed = record {
-    imports_ok = tt;
-    aliases_ok = tt;
-    fit = tt;
-    too_long = (pushed.too_long.0, ap (list_any is_too_long) (own plain) ∙ pushed.too_long.1);
-  }
+-- and another export the imports alone
+pub listed_import : (e : ExportView) (old new : ShortImportsView) (aliases : List Member) (result : Result (Unit {0}) Error) → is_weak e ≡ false
+    → KeepsMembers (short_import_spec old.machine old.dll e ∷ []) old new result → PushesListed e old new aliases aliases result
+listed_import e old new aliases (Ok done) plain kept = record {
+  imports_ok =
+      kept.ok
+      ∙ ap (λ t. record old { members = old.members ++ map member_of t }) (sym (import_specs-own old.machine old.dll e plain));
+  aliases_ok =
+      sym (append-nil (map member_view aliases))
+      ∙ ap (λ t. map member_view aliases ++ map member_of t) (sym (alias_specs-none old.machine old.dll e plain));
+  fit = ap (list_any is_too_long) (own old.machine old.dll e plain) ∙ kept.fit;
+  too_long = tt;
+}
+listed_import e old new aliases (Err (OutOfMemory refused)) plain kept = record { imports_ok = tt; aliases_ok = tt; fit = tt; too_long = tt }
+listed_import e old new aliases (Err (Invalid fault)) plain kept = record {
+  imports_ok = tt;
+  aliases_ok = tt;
+  fit = tt;
+  too_long = (kept.too_long.0, ap (list_any is_too_long) (own old.machine old.dll e plain) ∙ kept.too_long.1);
+}

@@ -1,20 +1,26 @@
 -- The loop over a definition's exports: what is left to make.
-use Rattle.std.proofs.Common.{◌≡◌, ℕ, suc, ◌+◌, ◌<◌, Bool, true, false, if◌then◌else◌, ◌||◌, ◌&&◌, List, ◌∷◌, ◌++◌, length, drop, map, get_or, None, ap, sym, ◌∙◌, append_assoc, add-one}
+use Rattle.std.proofs.Common.{◌≡◌, ℕ, suc, ◌+◌, ◌<◌, Bool, true, false, if◌then◌else◌, ◌||◌, ◌&&◌, List, [], ◌∷◌, ◌++◌, length, drop, map, get_or, None, Result, Err, ap, refl, sym, ◌∙◌, append_assoc, add-one}
 use Rattle.std.specs.Prelude.{not}
 use Rattle.std.specs.List.{filter, flat_map, list_all, list_any}
 use Rattle.std.proofs.lemmas.List.{map-append}
 use Rattle.std.proofs.lemmas.List.Folds.{list_any-append}
 use Rattle.std.proofs.Math.Seq.{drop-cons}
 use Rattle.implib.specs.declared.def.definition.ShortExport.{ShortExport}
+use Rattle.implib.specs.declared.error.Error.{Error}
+use Rattle.implib.specs.declared.error.Error.TheVariants.{Invalid, OutOfMemory}
 use Rattle.implib.specs.declared.flavor.Flavor.TheVariants.{Msvc}
 use Rattle.implib.specs.declared.machine.MachineType.{MachineType}
-use Rattle.implib.specs.Definition.{ExportView, export_view}
-use Rattle.implib.specs.LibraryName.{NamesOfDll}
-use Rattle.implib.specs.Members.MemberLists.{alias_specs, import_specs}
+use Rattle.implib.specs.declared.msvc.members.MemberLists.{MemberLists}
+use Rattle.implib.specs.Definition.{DefinitionView, ExportView, export_view}
+use Rattle.implib.specs.Fault.{IfInvalid, MemberTooLong}
+use Rattle.implib.specs.Import.{public_exports}
+use Rattle.implib.specs.LibraryName.{NamesOfDll, names_for}
+use Rattle.implib.specs.Members.MemberLists.{alias_specs, all_alias_specs, all_import_specs, import_specs}
 use Rattle.implib.specs.Members.MemberSpec.{MemberSpec, MemberView, member_of}
-use Rattle.implib.specs.Members.MsvcMembers.{export_specs}
-use Rattle.implib.specs.Members.Members.{has_u16_ordinal, is_too_long}
-use Rattle.implib.specs.Members.NameRules.{name_refusal, names_refusal}
+use Rattle.implib.specs.Members.MsvcMembers.{export_specs, header_specs}
+use Rattle.implib.specs.Members.Members.{has_u16_ordinal, is_too_long, member_specs}
+use Rattle.implib.specs.Members.NameRules.{definition_names_refusal, name_refusal, names_refusal}
+use Rattle.implib.specs.Views.Making.{MakesLists}
 use Rattle.implib.proofs.Members.NotRefused.{first_none}
 
 -- the members so far and those of the exports that are left are all; none so far is too long
@@ -132,3 +138,46 @@ module _ (machine : MachineType) (dll : NamesOfDll) (all_imports all_aliases : L
             sym (ap (λ test. test && list_all has_u16_ordinal these) ordinal)
             ∙ (sym (ap (list_all has_u16_ordinal) same) ∙ before.ordinals);
       }
+
+  -- where a member of a public export is too long, one of all is
+  pub long_of_listed : e.private ≡ false → Listed machine dll all_imports all_aliases long sound index imports aliases (e ∷ exports)
+      → list_any is_too_long (export_specs machine dll e) ≡ true → long ≡ true
+  long_of_listed public before is =
+      let these = filter (λ x. not x.private) exports in
+      sym before.fit
+      ∙ (ap (λ (x : List ExportView). list_any is_too_long (flat_map (export_specs machine dll) x)) (kept machine dll all_imports long sound index imports e exports public)
+      ∙ (list_any-append is_too_long (export_specs machine dll e) (flat_map (export_specs machine dll) these)
+      ∙ ap (λ test. test || list_any is_too_long (flat_map (export_specs machine dll) these)) is))
+
+-- at first nothing is listed
+pub listed_at_first : (d : DefinitionView) (machine : MachineType) → definition_names_refusal d machine Msvc ≡ None
+    → list_any is_too_long (header_specs machine (names_for Msvc d)) ≡ false
+    → Listed machine (names_for Msvc d) (map member_of (all_import_specs machine d)) (map member_of (all_alias_specs machine d))
+    (list_any is_too_long (member_specs d machine Msvc)) (list_all has_u16_ordinal (public_exports d)) 0 [] [] d.exports
+listed_at_first d machine names header =
+    let dll = names_for Msvc d in
+    let all = flat_map (export_specs machine dll) (public_exports d) in
+    record {
+      named = (first_none _ _ (first_none _ _ names).1).1;
+      imported = refl;
+      aliased = refl;
+      fit = sym (list_any-append is_too_long (header_specs machine dll) all ∙ ap (λ test. test || list_any is_too_long all) header);
+      ordinals = refl;
+    }
+
+-- a call that fails
+abbrev failed : Error → Result MemberLists Error
+failed error = Err error
+
+-- a call that fails only where a member is too long
+pub lists_refused : (d : DefinitionView) (machine : MachineType) (error : Error)
+    → IfInvalid (failed error) (λ cause. (cause ≡ MemberTooLong) × (list_any is_too_long (member_specs d machine Msvc) ≡ true))
+    → MakesLists d machine (Err error)
+lists_refused d machine (OutOfMemory refused) is = record { header = tt; imports = tt; aliases = tt; fit = tt; too_long = tt }
+lists_refused d machine (Invalid fault) is = record { header = tt; imports = tt; aliases = tt; fit = tt; too_long = is }
+
+pub cause_of_long : (error : Error) (a b : Bool) → (a ≡ true → b ≡ true)
+    → IfInvalid {T = Unit {0}} (Err error) (λ cause. (cause ≡ MemberTooLong) × (a ≡ true))
+    → IfInvalid (failed error) (λ cause. (cause ≡ MemberTooLong) × (b ≡ true))
+cause_of_long (OutOfMemory refused) a b follows is = tt
+cause_of_long (Invalid fault) a b follows is = (is.0, follows is.1)

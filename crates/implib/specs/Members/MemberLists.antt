@@ -25,7 +25,7 @@ pub record ListsView : Type 0 where
 abbrev pub lists_view : MemberLists → ListsView
 lists_view lists = record {
   header = map member_view lists.header.items;
-  imports = map member_view lists.imports.items;
+  imports = lists.imports.members;
   aliases = map member_view lists.aliases.items;
 }
 

@@ -17,6 +17,7 @@ use Rattle.implib.specs.Members.MemberLists.{alias_specs, all_alias_specs, all_i
 use Rattle.implib.specs.Members.MemberSpec.{MemberSpec, member_of}
 use Rattle.implib.specs.Members.Members.{is_too_long, member_specs}
 use Rattle.implib.specs.Members.MsvcMembers.{export_specs, header_specs, weak_specs}
+use Rattle.implib.specs.Members.ShortImports.{ShortImportsView}
 
 -- the encoded object; it is refused only where it has 2^32 bytes or more
 pub record EncodesObject {A : Type 0} (p : ObjectLayout) (result : Result (Vec ℕ A) Error) : Type 0 where
@@ -43,14 +44,18 @@ pub record PushesMembers (specs : List MemberSpec) (old new : List Member) (resu
   pub fit : OnOk result (list_any is_too_long specs ≡ false)
   pub too_long : IfInvalid result (λ cause. (cause ≡ MemberTooLong) × (list_any is_too_long specs ≡ true))
 
--- the short import of an export, or its weak externals where it is an alias, are put after the old members of two
--- lists; they are refused only where one of the export's members is too long
-pub record PushesListed (machine : MachineType) (dll : NamesOfDll) (e : ExportView) (old_imports imports old_aliases aliases : List Member)
+-- the short import of an export is kept, or its weak externals are put after the old ones where it is an alias; they
+-- are refused only where one of the export's members is too long
+pub record PushesListed (e : ExportView) (old_imports imports : ShortImportsView) (old_aliases aliases : List Member)
     (result : Result (Unit {0}) Error) : Type 0 where
-  pub imports_ok : OnOk result (map member_view imports ≡ map member_view old_imports ++ map member_of (import_specs machine dll e))
-  pub aliases_ok : OnOk result (map member_view aliases ≡ map member_view old_aliases ++ map member_of (alias_specs machine dll.linked e))
-  pub fit : OnOk result (list_any is_too_long (export_specs machine dll e) ≡ false)
-  pub too_long : IfInvalid result (λ cause. (cause ≡ MemberTooLong) × (list_any is_too_long (export_specs machine dll e) ≡ true))
+  pub imports_ok : OnOk result (imports ≡ record old_imports {
+    members = old_imports.members ++ map member_of (import_specs old_imports.machine old_imports.dll e);
+  })
+  pub aliases_ok : OnOk result (map member_view aliases
+      ≡ map member_view old_aliases ++ map member_of (alias_specs old_imports.machine old_imports.dll.linked e))
+  pub fit : OnOk result (list_any is_too_long (export_specs old_imports.machine old_imports.dll e) ≡ false)
+  pub too_long : IfInvalid result (λ cause. (cause ≡ MemberTooLong)
+      × (list_any is_too_long (export_specs old_imports.machine old_imports.dll e) ≡ true))
 
 -- the weak externals of an alias are put after the old members; they are refused only where one is too long, also
 -- the one that data lacks
@@ -70,7 +75,7 @@ pub record PushesAlias (machine : MachineType) (dll : NamesOfDll) (e : ExportVie
 -- the members of a definition in three lists; they are refused only where one of all its members is too long
 pub record MakesLists (d : DefinitionView) (machine : MachineType) (result : Result MemberLists Error) : Type 0 where
   pub header : IfOk result (λ lists. map member_view lists.header.items ≡ map member_of (header_specs machine (names_for Msvc d)))
-  pub imports : IfOk result (λ lists. map member_view lists.imports.items ≡ map member_of (all_import_specs machine d))
+  pub imports : IfOk result (λ lists. lists.imports.members ≡ map member_of (all_import_specs machine d))
   pub aliases : IfOk result (λ lists. map member_view lists.aliases.items ≡ map member_of (all_alias_specs machine d))
   pub fit : OnOk result (list_any is_too_long (member_specs d machine Msvc) ≡ false)
   pub too_long : IfInvalid result (λ cause. (cause ≡ MemberTooLong) × (list_any is_too_long (member_specs d machine Msvc) ≡ true))

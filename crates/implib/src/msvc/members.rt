@@ -32,6 +32,7 @@ use crate::machine::MachineType;
 use crate::member::Member;
 use crate::msvc::objects::{descriptor_member, null_descriptor_member, null_thunk_member};
 use crate::msvc::short_import::{short_import_member, test_short_import};
+use crate::msvc::short_imports::ShortImports;
 use crate::refusal::names_fault;
 use crate::weak_external::{MEMBERS_OF_ALIAS, is_alias, weak_member};
 use std::alloc::{AllocError, Global};
@@ -47,7 +48,7 @@ pub struct MemberLists {
     /// The import descriptor, the null descriptor and the null thunk.
     pub header: Vec<Member>,
     /// The short imports of the exports that are no aliases, in the order of the exports.
-    pub imports: Vec<Member>,
+    pub imports: ShortImports,
     /// The weak externals of the aliases, in the order of the exports: of the symbol and of its
     /// address, and for DATA and CONSTANT of the address alone.
     pub aliases: Vec<Member>,
@@ -243,49 +244,53 @@ fn push_weak_address(
 }
 
 /// The members in three lists, of a definition whose exports are under their names to link by.
-pub(crate) fn member_lists(def: &ModuleDef, machine: MachineType) -> Result<MemberLists, Error>
-    requires { is_renamed (map export_view def.now.exports.items) ≡ true }
+pub(crate) fn member_lists(def: ModuleDef, machine: MachineType) -> Result<MemberLists, Error>
+    requires { is_renamed (map export_view def.exports.items) ≡ true }
     ensures ok { IfOk result (λ lists.
-        AreListsOf (definition_view def.now) machine (lists_view lists)) }
+        AreListsOf (definition_view def) machine (lists_view lists)) }
     ensures refused { IfInvalid result
-        (λ cause. refusal (definition_view def.now) machine Msvc ≡ Some cause) }
-    ensures names_refused_always { RefusesAlways (definition_view def.now) machine Msvc result }
+        (λ cause. refusal (definition_view def) machine Msvc ≡ Some cause) }
+    ensures names_refused_always { RefusesAlways (definition_view def) machine Msvc result }
 {
-    if let Some(fault) = names_fault(def, machine, Flavor::Msvc) {
+    if let Some(fault) = names_fault(&def, machine, Flavor::Msvc) {
         return Err(Error::Invalid(fault));
     }
     named_lists(def, machine)
 }
 
 // The lists of a definition that breaks no rule on names.
-fn named_lists(def: &ModuleDef, machine: MachineType) -> Result<MemberLists, Error>
-    requires { definition_names_refusal (definition_view def.now) machine Msvc ≡ None }
-    ensures made { MakesLists (definition_view def.now) machine result }
+fn named_lists(def: ModuleDef, machine: MachineType) -> Result<MemberLists, Error>
+    requires { definition_names_refusal (definition_view def) machine Msvc ≡ None }
+    ensures made { MakesLists (definition_view def) machine result }
     ensures ordinals { OnOk result
-        (list_all has_u16_ordinal (public_exports (definition_view def.now)) ≡ true) }
+        (list_all has_u16_ordinal (public_exports (definition_view def)) ≡ true) }
 {
-    let library = linked_dll(*def.exports.allocator(), def)?;
+    let library = linked_dll(*def.exports.allocator(), &def)?;
     build_lists(def, machine, library.as_str())
 }
 
 // The lists under the library's name for the linker.
-fn build_lists(def: &ModuleDef, machine: MachineType, library: &str) -> Result<MemberLists, Error>
-    requires names { definition_names_refusal (definition_view def.now) machine Msvc ≡ None }
-    requires library { library.now ≡ linked_dll (definition_view def.now) }
+fn build_lists(def: ModuleDef, machine: MachineType, library: &str) -> Result<MemberLists, Error>
+    requires names { definition_names_refusal (definition_view def) machine Msvc ≡ None }
+    requires library { library.now ≡ linked_dll (definition_view def) }
     requires free { holds 0 library.now ≡ false }
-    ensures made { MakesLists (definition_view def.now) machine result }
+    ensures made { MakesLists (definition_view def) machine result }
     ensures ordinals { OnOk result
-        (list_all has_u16_ordinal (public_exports (definition_view def.now)) ≡ true) }
+        (list_all has_u16_ordinal (public_exports (definition_view def)) ≡ true) }
 {
     let alloc = *def.exports.allocator();
-    let dll = def.import_name.as_str();
+    let ModuleDef {
+        exports,
+        import_name: dll,
+        ..
+    } = def;
     let mut header = Vec::with_capacity(alloc, HEADER_MEMBERS)?;
-    push_header_members(&mut header, machine, library, dll)?;
-    let mut imports = Vec::with_capacity(alloc, def.exports.len())?;
+    push_header_members(&mut header, machine, library, dll.as_str())?;
+    let mut imports = ShortImports::with_capacity(alloc, machine, library, dll, exports.len())?;
     let mut aliases = Vec::new(alloc);
-    for export in def.exports.iter() {
+    for export in exports {
         if !export.private {
-            push_listed(&mut imports, &mut aliases, export, machine, library, dll)?;
+            push_listed(&mut imports, &mut aliases, &export)?;
         }
     }
     Ok(MemberLists {
@@ -295,25 +300,27 @@ fn build_lists(def: &ModuleDef, machine: MachineType, library: &str) -> Result<M
     })
 }
 
-// Pushes the short import of an export, or its weak externals where it is an alias.
+// Keeps the short import of an export, or pushes its weak externals where it is an alias.
 fn push_listed(
-    imports: &mut Vec<Member>,
+    imports: &mut ShortImports,
     aliases: &mut Vec<Member>,
     export: &ShortExport,
-    machine: MachineType,
-    library: &str,
-    dll: &str,
 ) -> Result<(), Error>
     requires { holds_nul (export_view export.now) ≡ false }
-    ensures pushed { PushesListed machine (record { linked = library.now; text = dll.now })
-        (export_view export.now) imports.old.items imports.new.items
+    ensures pushed { PushesListed (export_view export.now) imports.old imports.new
         aliases.old.items aliases.new.items result }
     ensures ordinal { OnOk result (has_u16_ordinal (export_view export.now) ≡ true) }
 {
     if has_aliases(export) {
-        push_alias(aliases, export, machine, library, dll)
+        push_alias(
+            aliases,
+            export,
+            imports.machine(),
+            imports.library(),
+            imports.dll(),
+        )
     } else {
-        push_short_import(imports, export, machine, library, dll)
+        imports.push(export)
     }
 }
 

@@ -141,6 +141,25 @@ impl<'a> ShortImport<'a> {
         Ok(pass.finish())
     }
 
+    /// The bytes of a short import that is not too long.
+    ///
+    /// # Errors
+    ///
+    /// An allocation failed.
+    pub(crate) fn to_short_bytes(&self, alloc: Global) -> Result<Vec<u8>, AllocError>
+        requires import_type { self.now.import_type ≤ 3 }
+        requires name_type { self.now.name_type ≤ 7 }
+        requires fits { short_import_size (short_import_view self.now) ≤ u32.MAX }
+        ensures { IfOk result (λ bytes.
+            bytes.items ≡ short_import_bytes (short_import_view self.now)) }
+    {
+        match self.to_bytes(alloc) {
+            Ok(bytes) => Ok(bytes),
+            Err(Error::OutOfMemory(refused)) => Err(refused),
+            Err(Error::Invalid(_)) => unreachable!(),
+        }
+    }
+
     // Puts the header; `data_size` is the size of the texts with their NULs.
     fn put_header(&self, pass: &mut Pass, data_size: u32)
         requires import_type { self.now.import_type ≤ 3 }
