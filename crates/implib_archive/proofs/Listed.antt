@@ -51,38 +51,38 @@ firsts_more entries i d within = ap (λ t. fold with_first [] (shown t)) (take_m
     ∙ fold_push with_first [] (shown (take i entries)) ((get_or entries i d).0.now, (get_or entries i d).1))
 
 -- the entries of one member more
-pub entries_more : (found pushed : List (List ℕ × ℕ)) (number : ℕ) {X : Type 0} (view : X → MemberView) (xs : List X) (i : ℕ) (d : X) → i < length xs
-    → pushed ≡ found ++ map (λ symbol. (symbol, number)) (view (get_or xs i d)).symbols
-    → pushed ++ entries_from (number + 1) (map view (drop (i + 1) xs)) ≡ found ++ entries_from number (map view (drop i xs))
+pub entries_more : (found pushed : List (List ℕ × ℕ)) (number : ℕ) (members : List MemberView) (i : ℕ) (d : MemberView) → i < length members
+    → pushed ≡ found ++ map (λ symbol. (symbol, number)) (get_or members i d).symbols
+    → pushed ++ entries_from (number + 1) (drop (i + 1) members) ≡ found ++ entries_from number (drop i members)
 unfolding entries_from
-entries_more found pushed number view xs i d within e = ap (λ t. t ++ entries_from (number + 1) (map view (drop (i + 1) xs))) e
-    ∙ (append_assoc found (map (λ symbol. (symbol, number)) (view (get_or xs i d)).symbols) (entries_from (number + 1) (map view (drop (i + 1) xs)))
-    ∙ sym (ap (λ t. found ++ entries_from number (map view t)) (drop_more xs i d within)))
+entries_more found pushed number members i d within e = ap (λ t. t ++ entries_from (number + 1) (drop (i + 1) members)) e
+    ∙ (append_assoc found (map (λ symbol. (symbol, number)) (get_or members i d).symbols) (entries_from (number + 1) (drop (i + 1) members))
+    ∙ sym (ap (λ t. found ++ entries_from number t) (drop_more members i d within)))
 
 -- no member is left
-pub entries_all : (found : List (List ℕ × ℕ)) (number : ℕ) {X : Type 0} (view : X → MemberView) (xs : List X) (i : ℕ) → length xs ≤ i → found ++ entries_from number (map view (drop i xs)) ≡ found
+pub entries_all : (found : List (List ℕ × ℕ)) (number : ℕ) (members : List MemberView) (i : ℕ) → length members ≤ i → found ++ entries_from number (drop i members) ≡ found
 unfolding entries_from
-entries_all found number view xs i past = ap (λ t. found ++ entries_from number (map view t)) (drop_all i xs past) ∙ append-nil found
+entries_all found number members i past = ap (λ t. found ++ entries_from number t) (drop_all i members past) ∙ append-nil found
 
 length-symbols : (number : ℕ) (symbols : List (List ℕ)) (entries : List (List ℕ × ℕ)) → length (map (λ symbol. (symbol, number)) symbols ++ entries) ≡ length symbols + length entries
 length-symbols number [] entries = sym (zero-add (length entries))
 length-symbols number (s ∷ symbols) entries = omega (arith, length-symbols number symbols entries)
 
-count_suc : {X : Type 0} (number : ℕ) (view : X → MemberView) (xs : List X) (i : ℕ) (d : X) → i < length xs
-    → length (entries_from number (map view (take (suc i) xs))) ≡ length (entries_from number (map view (take i xs))) + length (view (get_or xs i d)).symbols
+count_suc : (number : ℕ) (members : List MemberView) (i : ℕ) (d : MemberView) → i < length members
+    → length (entries_from number (take (suc i) members)) ≡ length (entries_from number (take i members)) + length (get_or members i d).symbols
 unfolding entries_from
-count_suc number view [] i d within = absurd (omega arith)
-count_suc number view (x ∷ xs) zero d within = omega (arith, length-symbols number (view x).symbols [])
-count_suc number view (x ∷ xs) (suc i) d within =
-    let w : i < length xs = omega arith in
+count_suc number [] i d within = absurd (omega arith)
+count_suc number (m ∷ members) zero d within = omega (arith, length-symbols number m.symbols [])
+count_suc number (m ∷ members) (suc i) d within =
+    let w : i < length members = omega arith in
     omega (
       arith,
-      count_suc (number + 1) view xs i d w,
-      length-symbols number (view x).symbols (entries_from (number + 1) (map view (take (suc i) xs))),
-      length-symbols number (view x).symbols (entries_from (number + 1) (map view (take i xs))),
+      count_suc (number + 1) members i d w,
+      length-symbols number m.symbols (entries_from (number + 1) (take (suc i) members)),
+      length-symbols number m.symbols (entries_from (number + 1) (take i members)),
     )
 
 -- the symbols of one member more
-pub count_more : {X : Type 0} (number : ℕ) (view : X → MemberView) (xs : List X) (i : ℕ) (d : X) → i < length xs
-    → length (entries_from number (map view (take (i + 1) xs))) ≡ length (entries_from number (map view (take i xs))) + length (view (get_or xs i d)).symbols
-count_more number view xs i d within = ap (λ k. length (entries_from number (map view (take k xs)))) (add-one i) ∙ count_suc number view xs i d within
+pub count_more : (number : ℕ) (members : List MemberView) (i : ℕ) (d : MemberView) → i < length members
+    → length (entries_from number (take (i + 1) members)) ≡ length (entries_from number (take i members)) + length (get_or members i d).symbols
+count_more number members i d within = ap (λ k. length (entries_from number (take k members))) (add-one i) ∙ count_suc number members i d within

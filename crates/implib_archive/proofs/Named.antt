@@ -1,9 +1,9 @@
 -- The long names and their offsets.
-use Rattle.std.proofs.Common.{◌≡◌, ℕ, ◌+◌, ◌^◌, ◌<◌, ◌≤◌, Bool, true, false, List, [], ◌∷◌, ◌++◌, Some, bytes_eq, codes, decimal, get_or, if◌then◌else◌, is_some, length, map, refl, sym, ap, subst, take, ◌∙◌, append-nil, length-append, arith, unwrap_or}
+use Rattle.std.proofs.Common.{◌≡◌, ℕ, ◌+◌, ◌^◌, ◌<◌, ◌≤◌, Bool, true, false, List, [], ◌∷◌, ◌++◌, Some, bytes_eq, codes, decimal, get_or, if◌then◌else◌, is_some, length, refl, sym, ap, subst, take, ◌∙◌, append-nil, length-append, arith, unwrap_or}
 use Rattle.std.specs.Borrow.{Bor}
 use Rattle.std.specs.Map.{lookup}
 use Rattle.std.proofs.lemmas.Grind.{flat_map-append}
-use Rattle.std.proofs.lemmas.List.{map-append, take_more}
+use Rattle.std.proofs.lemmas.List.{take_more}
 use Rattle.std.proofs.lemmas.List.Sums.{fold_push}
 use Rattle.implib.specs.Members.MemberSpec.{MemberView}
 use Rattle.implib_archive.specs.Archive.{is_long, long_names, member_label, name_end, name_field, names_bytes, offset_of, with_name}
@@ -89,13 +89,11 @@ module _ (kind : Kind) (names : List (List ℕ × ℕ)) (name : List ℕ) where
       }
 
 -- the names of one member more
-pub long_names-more : (kind : Kind) {X : Type 0} (view : X → MemberView) (xs : List X) (i : ℕ) (d : X) → i < length xs
-    → long_names kind (map view (take (i + 1) xs)) ≡ with_name kind (long_names kind (map view (take i xs))) (view (get_or xs i d)).name
+pub long_names-more : (kind : Kind) (members : List MemberView) (i : ℕ) (d : MemberView) → i < length members
+    → long_names kind (take (i + 1) members) ≡ with_name kind (long_names kind (take i members)) (get_or members i d).name
 unfolding long_names
-long_names-more kind view xs i d within =
-    ap (λ t. long_names kind (map view t)) (take_more xs i d within)
-    ∙ ap (long_names kind) (map-append view (take i xs) (get_or xs i d ∷ []))
-    ∙ fold_push (λ names m. with_name kind names m.name) [] (map view (take i xs)) (view (get_or xs i d))
+long_names-more kind members i d within =
+    ap (long_names kind) (take_more members i d within) ∙ fold_push (λ names m. with_name kind names m.name) [] (take i members) (get_or members i d)
 
 -- the name field of a long name
 pub name_field-long : (names : List (List ℕ × ℕ)) (name : List ℕ) → is_long name ≡ true → codes "/" ++ decimal (unwrap_or (offset_of names name) 0) ≡ name_field names name

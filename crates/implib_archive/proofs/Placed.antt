@@ -1,5 +1,5 @@
 -- The offsets of members, and the sizes of what stands before them.
-use Rattle.std.proofs.Common.{◌≡◌, ℕ, ◌+◌, ◌^◌, ◌<◌, ◌≤◌, Bool, true, false, ◌&&◌, List, [], ◌∷◌, ◌++◌, Some, None, drop, get_or, if◌then◌else◌, length, map, nat_lt, sym, ap, take, ◌∙◌, append-nil, length-append}
+use Rattle.std.proofs.Common.{◌≡◌, ℕ, ◌+◌, ◌^◌, ◌<◌, ◌≤◌, Bool, true, false, ◌&&◌, List, [], ◌∷◌, ◌++◌, Some, None, drop, get_or, if◌then◌else◌, length, nat_lt, sym, ap, take, ◌∙◌, append-nil, length-append}
 use Rattle.std.specs.Borrow.{Bor}
 use Rattle.std.specs.List.{list_all}
 use Rattle.std.proofs.lemmas.Bool.{le-ltb, lt-ltb}
@@ -49,26 +49,26 @@ some_too_far first members near long =
     ∙ ap (λ b. if b then None else Some ArchiveTooLong) long
 
 -- one member more
-module _ {X : Type 0} (view : X → MemberView) (xs : List X) (i : ℕ) (d : X) (within : i < length xs) (place next : ℕ) (step : next ≡ place + part_size (length (view (get_or xs i d)).bytes)) where
-  pub places_more : places_from place (map view (drop i xs)) ≡ place ∷ places_from next (map view (drop (i + 1) xs))
+module _ (members : List MemberView) (i : ℕ) (d : MemberView) (within : i < length members) (place next : ℕ) (step : next ≡ place + part_size (length (get_or members i d).bytes)) where
+  pub places_more : places_from place (drop i members) ≡ place ∷ places_from next (drop (i + 1) members)
   unfolding places_from
-  places_more = ap (λ t. places_from place (map view t)) (drop_more xs i d within) ∙ ap (λ n. place ∷ places_from n (map view (drop (i + 1) xs))) (sym step)
+  places_more = ap (places_from place) (drop_more members i d within) ∙ ap (λ n. place ∷ places_from n (drop (i + 1) members)) (sym step)
 
-  pub end_more : end_from place (map view (drop i xs)) ≡ end_from next (map view (drop (i + 1) xs))
+  pub end_more : end_from place (drop i members) ≡ end_from next (drop (i + 1) members)
   unfolding end_from
-  end_more = ap (λ t. end_from place (map view t)) (drop_more xs i d within) ∙ ap (λ n. end_from n (map view (drop (i + 1) xs))) (sym step)
+  end_more = ap (end_from place) (drop_more members i d within) ∙ ap (λ n. end_from n (drop (i + 1) members)) (sym step)
 
-  pub short_more : place < 2 ^ 32 → are_short (places_from place (map view (drop i xs))) ≡ are_short (places_from next (map view (drop (i + 1) xs)))
-  short_more near = ap are_short places_more ∙ ap (λ b. b && are_short (places_from next (map view (drop (i + 1) xs)))) (lt-ltb place (2 ^ 32) near)
+  pub short_more : place < 2 ^ 32 → are_short (places_from place (drop i members)) ≡ are_short (places_from next (drop (i + 1) members))
+  short_more near = ap are_short places_more ∙ ap (λ b. b && are_short (places_from next (drop (i + 1) members))) (lt-ltb place (2 ^ 32) near)
 
-  pub long_here : 2 ^ 32 ≤ place → are_short (places_from place (map view (drop i xs))) ≡ false
-  long_here far = ap are_short places_more ∙ ap (λ b. b && are_short (places_from next (map view (drop (i + 1) xs)))) (le-ltb place (2 ^ 32) far)
+  pub long_here : 2 ^ 32 ≤ place → are_short (places_from place (drop i members)) ≡ false
+  long_here far = ap are_short places_more ∙ ap (λ b. b && are_short (places_from next (drop (i + 1) members))) (le-ltb place (2 ^ 32) far)
 
 -- no member is left
-pub places_all : {X : Type 0} (view : X → MemberView) (xs : List X) (i place : ℕ) → length xs ≤ i → places_from place (map view (drop i xs)) ≡ []
+pub places_all : (members : List MemberView) (i place : ℕ) → length members ≤ i → places_from place (drop i members) ≡ []
 unfolding places_from
-places_all view xs i place past = ap (λ t. places_from place (map view t)) (drop_all i xs past)
+places_all members i place past = ap (places_from place) (drop_all i members past)
 
-pub end_all : {X : Type 0} (view : X → MemberView) (xs : List X) (i place : ℕ) → length xs ≤ i → end_from place (map view (drop i xs)) ≡ place
+pub end_all : (members : List MemberView) (i place : ℕ) → length members ≤ i → end_from place (drop i members) ≡ place
 unfolding end_from
-end_all view xs i place past = ap (λ t. end_from place (map view t)) (drop_all i xs past)
+end_all members i place past = ap (end_from place) (drop_all i members past)

@@ -1,6 +1,6 @@
 -- The length of an archive, and what holds of members that have one.
-use Rattle.std.proofs.Common.{◌≡◌, ℕ, zero, suc, ◌+◌, ◌-◌, ◌*◌, ◌%◌, ◌^◌, ◌<◌, ◌≤◌, Bool, true, false, ◌&&◌, ◌||◌, List, [], ◌∷◌, ◌++◌, Option, Some, None, bytes_eq, codes, decimal, flat_map, fold, if◌then◌else◌, is_some, length, min, nat_eq, nat_le, nat_lt, replicate, unwrap_or, refl, sym, ap, subst, ◌∙◌, length-append, arith}
-use Rattle.std.specs.List.{list_any}
+use Rattle.std.proofs.Common.{◌≡◌, ℕ, zero, suc, ◌+◌, ◌-◌, ◌*◌, ◌%◌, ◌^◌, ◌<◌, ◌≤◌, Bool, true, false, ◌&&◌, ◌||◌, List, [], ◌∷◌, ◌++◌, Option, Some, None, bytes_eq, codes, decimal, flat_map, fold, get_or, if◌then◌else◌, is_some, length, min, nat_eq, nat_le, nat_lt, replicate, unwrap_or, refl, sym, ap, subst, ◌∙◌, length-append, arith}
+use Rattle.std.specs.List.{All, list_any}
 use Rattle.std.proofs.lemmas.Bool.{leb-false, lt-ltb, ltb-false, ltb-true, true≢false}
 use Rattle.std.proofs.lemmas.Fmt.{length-decimal-le}
 use Rattle.std.proofs.lemmas.List.{length-replicate}
@@ -102,6 +102,15 @@ members_short kind [] none = tt
 members_short kind (m ∷ members) none =
     let both = both_none (member_refusal kind m) (members_refusal kind members) none in
     (short_by (name_refusal kind m.name) (symbols_refusal m.symbols) (length m.bytes) both.0, members_short kind members both.1)
+
+short_at : (members : List MemberView) → AreShort members → (i : ℕ) (d : MemberView) → i < length members → length (get_or members i d).bytes < 2 ^ 32
+short_at [] short i d within = absurd (omega arith)
+short_at (m ∷ members) short zero d within = short.0
+short_at (m ∷ members) short (suc i) d within = let w : i < length members = omega arith in short_at members short.1 i d w
+
+-- each of them, by its index
+pub each_short : (kind : Kind) (members : List MemberView) → members_refusal kind members ≡ None → All (λ m. length m.bytes < 2 ^ 32) members
+each_short kind members none = short_at members (members_short kind members none)
 
 -- Lengths.
 

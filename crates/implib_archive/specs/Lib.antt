@@ -6,5 +6,6 @@ pub mod ReadBack
 pub mod Reader
 pub mod Refusal
 pub mod Refused
+pub mod Sources
 pub mod Worked
 pub mod Written

@@ -1,5 +1,5 @@
 -- View: what the code's functions have appended and measured.
-use Rattle.std.specs.Prelude.{◌≡◌, ℕ, ◌+◌, ◌*◌, ◌^◌, ◌<◌, ◌≤◌, List, [], ◌++◌, Option, None, Some, bytes_eq, codes, length, map}
+use Rattle.std.specs.Prelude.{◌≡◌, ℕ, ◌+◌, ◌-◌, ◌*◌, ◌^◌, ◌<◌, ◌≤◌, List, [], ◌++◌, Option, None, Some, bytes_eq, codes, length, map}
 use Rattle.std.specs.Borrow.{Bor}
 use Rattle.std.specs.List.{All, IsDistinct}
 use Rattle.std.specs.Cmp.Lexicographic.{slice_cmp}
@@ -7,14 +7,13 @@ use Rattle.std.specs.Ordering.{nat_cmp, ordering_then}
 use Rattle.std.specs.declared.cmp.Ordering.{Ordering}
 use Rattle.implib_archive.specs.Archive.{end_from, entries_of, first_place, long_names, member_label, names_bytes, places_of, sorted_entries, strings_of}
 use Rattle.implib_archive.specs.Refusal.{refusal_of}
+use Rattle.implib_archive.specs.Sources.{member_at}
 use Rattle.implib_archive.specs.declared.error.Error.{Error}
 use Rattle.implib_archive.specs.declared.error.Error.TheVariants.{Invalid, OutOfMemory}
 use Rattle.implib_archive.specs.declared.error.Fault.{Fault}
 use Rattle.implib_archive.specs.declared.kind.Kind.{Kind}
 use Rattle.implib_archive.specs.declared.kind.Kind.TheVariants.{Coff}
 use Rattle.implib.specs.Members.MemberSpec.{MemberView}
-use Rattle.implib.specs.Library.{member_view}
-use Rattle.implib.specs.declared.member.Member.{Member}
 use Rattle.implib_archive.specs.Parts.{Label as LabelSpec, field, header_bytes}
 use Rattle.implib_archive.specs.declared.bytes.Label.{Label}
 use Rattle.implib_archive.specs.declared.bytes.Texts.{Texts}
@@ -99,7 +98,6 @@ pub record IsMade (kind : Kind) (members : List MemberView) (entries sorted offs
 abbrev pub header_of : List (List ℕ × ℕ) → MemberView → List ℕ
 header_of names m = header_bytes (member_label names m.name) (length m.bytes)
 
--- the bytes are the header of the member before, where there is one
-abbrev pub IsHeaderOf : List (List ℕ × ℕ) → Option (Bor Member) → List ℕ → Type 0
-IsHeaderOf names None bytes = Unit {0}
-IsHeaderOf names (Some before) bytes = bytes ≡ header_of names (member_view before.now)
+-- the bytes are the header of the member before the one at an index, where there is one
+abbrev pub IsHeaderBefore : List (List ℕ × ℕ) → List MemberView → ℕ → List ℕ → Type 0
+IsHeaderBefore names members index bytes = 0 < index → bytes ≡ header_of names (member_at members (index - 1))

@@ -1,16 +1,16 @@
 //! The entries of the index.
 
-ghost use Rattle.implib.specs.Library.{member_view};
 ghost use Rattle.implib_archive.specs.Archive.{entries_from, entries_of, sorted_entries};
 ghost use Rattle.implib_archive.specs.Archive.{with_first};
 ghost use Rattle.implib_archive.specs.Pushed.{AreDistinct, AreInOrder, entry_cmp, shown};
-ghost use Rattle.std.specs.Prelude.{◌≡◌, ◌++◌, ◌-◌, ◌^◌, [], IfOk, OnOk, fold, length, map, min};
+ghost use Rattle.implib_archive.specs.Sources.{member_at};
+ghost use Rattle.std.specs.Prelude.{◌≡◌, ◌++◌, ◌-◌, ◌<◌, ◌^◌, [], IfOk, OnOk, fold, length, map};
+ghost use Rattle.std.specs.Prelude.{min};
 ghost use Rattle.std.specs.Bool.{MatchBool};
 ghost use Rattle.std.specs.List.Sorted.{IsPermutation, IsSorted};
-ghost use Rattle.std.specs.String.{string_bytes};
 
 use crate::kind::Kind;
-use implib::Member;
+use crate::source::{Members, Source};
 use indexmap::IndexMap;
 use std::alloc::{AllocError, Global};
 
@@ -22,17 +22,17 @@ pub(crate) struct Entries<'a> {
 }
 
 // The entries of the index: symbols, and the numbers of their members from 1.
-pub(crate) fn entries_of<'a>(
+pub(crate) fn entries_of<'a, S: Source<'a>>(
     alloc: Global,
-    members: &'a [Member],
+    source: &S,
     kind: Kind,
 ) -> Result<Entries<'a>, AllocError>
     ensures listed { IfOk result (λ entries. shown entries.listed.items
-        ≡ entries_of kind (map member_view members.now)) }
-    ensures sorted { IfOk result (λ entries. AreInOrder kind (map member_view members.now)
+        ≡ entries_of kind (S.members source.now)) }
+    ensures sorted { IfOk result (λ entries. AreInOrder kind (S.members source.now)
         (shown entries.sorted.items)) }
 {
-    let listed = all_entries(alloc, members)?;
+    let listed = all_entries(alloc, source)?;
     match kind {
         Kind::Gnu => {
             let sorted = Vec::new(alloc);
@@ -43,46 +43,44 @@ pub(crate) fn entries_of<'a>(
 }
 
 // All entries, in the order of the members.
-fn all_entries<'a>(
+fn all_entries<'a, S: Source<'a>>(
     alloc: Global,
-    members: &'a [Member],
+    source: &S,
 ) -> Result<Vec<(&'a str, usize)>, AllocError>
-    ensures { IfOk result (λ entries. shown entries.items
-        ≡ entries_from 1 (map member_view members.now)) }
+    ensures { IfOk result (λ entries. shown entries.items ≡ entries_from 1 (S.members source.now)) }
 {
-    let mut entries = Vec::with_capacity(alloc, count_of(members))?;
-    let mut number = 0;
-    for member in members {
-        number += 1;
-        push_entries(&mut entries, member.symbols.as_slice(), number)?;
+    let mut entries = Vec::with_capacity(alloc, count_of(source))?;
+    for index in 0..source.count() {
+        push_entries(&mut entries, source, index, index + 1)?;
     }
     Ok(entries)
 }
 
 // The number of the members' symbols; it saturates at 2^64 - 1.
-fn count_of(members: &[Member]) -> usize
-    ensures { result
-        ≡ min (length (entries_from 1 (map member_view members.now))) (2 ^ 64 - 1) }
+fn count_of<'a, S: Source<'a>>(source: &S) -> usize
+    ensures { result ≡ min (length (entries_from 1 (S.members source.now))) (2 ^ 64 - 1) }
 {
     let mut count: usize = 0;
-    for member in members {
-        count = count.saturating_add(member.symbols.as_slice().len());
+    for index in 0..source.count() {
+        count = count.saturating_add(source.symbol_count(index));
     }
     count
 }
 
-// Appends the entries of a member.
-fn push_entries<'a>(
+// Appends the entries of the member at an index; its number is given.
+fn push_entries<'a, S: Source<'a>>(
     entries: &mut Vec<(&'a str, usize)>,
-    symbols: &'a [String],
+    source: &S,
+    index: usize,
     number: usize,
 ) -> Result<(), AllocError>
+    requires { index < length (S.members source.now) }
     ensures { OnOk result (shown entries.new.items
         ≡ shown entries.old.items
-        ++ map (λ symbol. (symbol, number)) (map string_bytes symbols.now)) }
+        ++ map (λ symbol. (symbol, number)) (member_at (S.members source.now) index).symbols) }
 {
-    for symbol in symbols {
-        entries.push((symbol.as_str(), number))?;
+    for symbol in 0..source.symbol_count(index) {
+        entries.push((source.symbol(index, symbol), number))?;
     }
     Ok(())
 }

@@ -7,6 +7,9 @@
 //! exactly these after `Ok`, and a beginning of them after an error. [`members_refusal`] says what
 //! is wrong with members alone, without their archive.
 //!
+//! An archive is made over a [`Source`]: over a slice of members that are held, or over a caller's
+//! own, which makes the bytes of a member when it is written.
+//!
 //! [`laws`] has what is proved of every archive: a reader that follows headers and sizes finds the
 //! linker members, the long names and each member, in order and with its whole name, and nothing
 //! else; the index leads each symbol to the header of the first member that lists it, and the
@@ -24,9 +27,11 @@ mod long_names;
 mod offsets;
 mod output;
 mod refusal;
+mod source;
 mod writer;
 
 pub use error::{Error, Fault, WriteError};
 pub use kind::Kind;
 pub use refusal::members_refusal;
+pub use source::{Members, Source};
 pub use writer::Archive;

@@ -1,19 +1,18 @@
 //! The long names, and the names in headers.
 
-ghost use Rattle.implib.specs.Library.{member_view};
-ghost use Rattle.implib_archive.specs.Archive.{is_long, long_names, member_label, name_end};
-ghost use Rattle.implib_archive.specs.Archive.{names_bytes, offset_of, with_name};
-ghost use Rattle.implib_archive.specs.Parts.{header_bytes, part_bytes};
+ghost use Rattle.implib_archive.specs.Archive.{is_long, long_names, member_label, member_part};
+ghost use Rattle.implib_archive.specs.Archive.{name_end, names_bytes, offset_of, with_name};
+ghost use Rattle.implib_archive.specs.Parts.{header_bytes};
 ghost use Rattle.implib_archive.specs.Pushed.{AreMeasured, Pushes, label_view, shown};
+ghost use Rattle.implib_archive.specs.Sources.{member_at};
 ghost use Rattle.implib_archive.specs.declared.kind.Kind.{Kind};
-ghost use Rattle.std.specs.Prelude.{◌≡◌, ◌++◌, ◌≤◌, ℕ, List, IfOk, OnOk, codes, length, map};
+ghost use Rattle.std.specs.Prelude.{◌≡◌, ◌++◌, ◌<◌, ◌≤◌, ℕ, List, IfOk, OnOk, codes, length};
 ghost use Rattle.std.specs.Prelude.{unwrap_or};
-ghost use Rattle.std.specs.String.{string_bytes};
 
 use crate::bytes::{Label, Texts, push_header, push_padding};
 use crate::front::push_ended;
 use crate::kind::Kind;
-use implib::Member;
+use crate::source::{Members, Source};
 use indexmap::IndexMap;
 use itoa::Buffer;
 use std::alloc::{AllocError, Global};
@@ -28,21 +27,20 @@ pub(crate) struct LongNames<'a> {
 
 impl<'a> LongNames<'a> {
     // The long names of the members.
-    pub(crate) fn of(
+    pub(crate) fn of<S: Source<'a>>(
         alloc: Global,
-        members: &'a [Member],
+        source: &S,
         kind: Kind,
     ) -> Result<LongNames<'a>, AllocError>
-        ensures { IfOk result (λ names. AreMeasured kind
-            (long_names kind (map member_view members.now))
+        ensures { IfOk result (λ names. AreMeasured kind (long_names kind (S.members source.now))
             (shown names.offsets.entries) names.size) }
     {
         let mut names = LongNames {
             offsets: IndexMap::new(alloc),
             size: 0,
         };
-        for member in members {
-            names.add(member.name.as_str(), kind)?;
+        for index in 0..source.count() {
+            names.add(source.name(index), kind)?;
         }
         Ok(names)
     }
@@ -89,42 +87,41 @@ impl<'a> LongNames<'a> {
         }
     }
 
-    // Appends the header of a member.
+    // Appends the header of a member with this name and size.
     pub(crate) fn push_member_header(
         &self,
         out: &mut Vec<u8>,
-        member: &Member,
+        name: &str,
+        size: usize,
     ) -> Result<(), AllocError>
         ensures { OnOk result (Pushes out.old.items out.new.items
-            (header_bytes (member_label (shown self.now.offsets.entries)
-            (string_bytes member.now.name))
-            (length member.now.bytes.items))) }
+            (header_bytes (member_label (shown self.now.offsets.entries) name.now) size)) }
     {
-        let name = member.name.as_str();
         let mut digits = Buffer::new();
         if is_long(name.as_bytes()) {
             let offset = digits.format(self.offset_of(name)).as_bytes();
-            push_header(out, &label_of(b"/", offset), member.bytes.as_slice().len())
+            push_header(out, &label_of(b"/", offset), size)
         } else {
-            push_header(
-                out,
-                &label_of(name.as_bytes(), b"/"),
-                member.bytes.as_slice().len(),
-            )
+            push_header(out, &label_of(name.as_bytes(), b"/"), size)
         }
     }
 
-    // Appends a member.
-    pub(crate) fn push_member(&self, out: &mut Vec<u8>, member: &Member) -> Result<(), AllocError>
+    // Appends the member at an index.
+    pub(crate) fn push_member<'b, S: Source<'b>>(
+        &self,
+        out: &mut Vec<u8>,
+        source: &S,
+        index: usize,
+    ) -> Result<(), AllocError>
+        requires { index < length (S.members source.now) }
         ensures { OnOk result (Pushes out.old.items out.new.items
-            (part_bytes (member_label (shown self.now.offsets.entries)
-            (string_bytes member.now.name))
-            member.now.bytes.items)) }
+            (member_part (shown self.now.offsets.entries)
+            (member_at (S.members source.now) index))) }
     {
-        let bytes = member.bytes.as_slice();
-        self.push_member_header(out, member)?;
-        out.extend_from_slice(bytes)?;
-        push_padding(out, b'\n', bytes.len())
+        let size = source.size(index);
+        self.push_member_header(out, source.name(index), size)?;
+        source.push_bytes(index, out)?;
+        push_padding(out, b'\n', size)
     }
 }
 

@@ -1,17 +1,17 @@
 //! The size of an archive's front, and the offsets of the members' headers.
 
-ghost use Rattle.implib.specs.Library.{member_view};
 ghost use Rattle.implib_archive.specs.Archive.{end_from, first_linker_size, front_size, names_size};
 ghost use Rattle.implib_archive.specs.Archive.{places_from, second_linker_size, strings_of};
 ghost use Rattle.implib_archive.specs.Parts.{part_size};
 ghost use Rattle.implib_archive.specs.Pushed.{IsRefusal, shown};
 ghost use Rattle.implib_archive.specs.Refusal.{places_refusal};
+ghost use Rattle.std.specs.List.{All};
 ghost use Rattle.std.specs.Prelude.{◌≡◌, ◌<◌, ◌≤◌, ◌+◌, ◌-◌, ◌^◌, IfErr, IfOk, None, OnOk, length};
-ghost use Rattle.std.specs.Prelude.{map, min};
+ghost use Rattle.std.specs.Prelude.{min};
 
 use crate::error::{Error, Fault};
 use crate::kind::Kind;
-use implib::Member;
+use crate::source::{Members, Source};
 use std::alloc::Global;
 
 // The offset of the first member's header, those of all headers, and the archive's end, which is
@@ -119,26 +119,29 @@ pub(crate) fn front_size(
 }
 
 // The places of the members, the first of which begins at this offset.
-pub(crate) fn place_members(alloc: Global, first: u64, members: &[Member]) -> Result<Places, Error>
-    ensures accepted { OnOk result (places_refusal first (map member_view members.now) ≡ None) }
+pub(crate) fn place_members<'a, S: Source<'a>>(
+    alloc: Global,
+    first: u64,
+    source: &S,
+) -> Result<Places, Error>
+    requires { All (λ m. length m.bytes < 2 ^ 32) (S.members source.now) }
+    ensures accepted { OnOk result (places_refusal first (S.members source.now) ≡ None) }
     ensures offsets { IfOk result (λ places. places.offsets.items
-        ≡ places_from first (map member_view members.now)) }
-    ensures end { IfOk result (λ places. places.end
-        ≡ end_from first (map member_view members.now)) }
-    ensures refused { IfErr result
-        (IsRefusal (places_refusal first (map member_view members.now))) }
+        ≡ places_from first (S.members source.now)) }
+    ensures end { IfOk result (λ places. places.end ≡ end_from first (S.members source.now)) }
+    ensures refused { IfErr result (IsRefusal (places_refusal first (S.members source.now))) }
 {
     if first >= TOO_LONG {
         return Err(Error::Invalid(Fault::ArchiveTooLong));
     }
-    let mut offsets = Vec::with_capacity(alloc, members.len())?;
+    let mut offsets = Vec::with_capacity(alloc, source.count())?;
     let mut place = first;
-    for member in members {
+    for index in 0..source.count() {
         if place >= TOO_LONG {
             return Err(Error::Invalid(Fault::ArchiveTooLong));
         }
         offsets.push(place as u32)?;
-        place += part_size(member.bytes.as_slice().len() as u64);
+        place += part_size(source.size(index) as u64);
     }
     Ok(Places {
         first,

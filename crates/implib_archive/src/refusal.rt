@@ -3,11 +3,12 @@
 ghost use Rattle.implib.specs.Library.{member_view};
 ghost use Rattle.implib_archive.specs.Refusal.{member_refusal, members_refusal, name_refusal};
 ghost use Rattle.implib_archive.specs.Refusal.{symbol_refusal, symbols_refusal};
-ghost use Rattle.std.specs.Prelude.{◌≡◌, length, map};
-ghost use Rattle.std.specs.String.{string_bytes};
+ghost use Rattle.implib_archive.specs.Sources.{member_at};
+ghost use Rattle.std.specs.Prelude.{◌≡◌, ◌<◌, length, map};
 
 use crate::error::Fault;
 use crate::kind::Kind;
+use crate::source::{Members, Source};
 use implib::Member;
 
 // What is wrong with a name.
@@ -47,12 +48,13 @@ fn symbol_refusal(symbol: &[u8]) -> Option<Fault>
     None
 }
 
-// What is wrong with the first symbol that is refused.
-fn symbols_refusal(symbols: &[String]) -> Option<Fault>
-    ensures { result ≡ symbols_refusal (map string_bytes symbols.now) }
+// What is wrong with the first symbol of a member that is refused.
+fn symbols_refusal<'a, S: Source<'a>>(source: &S, index: usize) -> Option<Fault>
+    requires { index < length (S.members source.now) }
+    ensures { result ≡ symbols_refusal (member_at (S.members source.now) index).symbols }
 {
-    for symbol in symbols {
-        let refusal = symbol_refusal(symbol.as_bytes());
+    for number in 0..source.symbol_count(index) {
+        let refusal = symbol_refusal(source.symbol(index, number).as_bytes());
         if refusal.is_some() {
             return refusal;
         }
@@ -61,19 +63,33 @@ fn symbols_refusal(symbols: &[String]) -> Option<Fault>
 }
 
 // What is wrong with a member.
-fn member_refusal(kind: Kind, member: &Member) -> Option<Fault>
-    ensures { result ≡ member_refusal kind (member_view member.now) }
+fn member_refusal<'a, S: Source<'a>>(kind: Kind, source: &S, index: usize) -> Option<Fault>
+    requires { index < length (S.members source.now) }
+    ensures { result ≡ member_refusal kind (member_at (S.members source.now) index) }
 {
-    let of_name = name_refusal(kind, member.name.as_bytes());
+    let of_name = name_refusal(kind, source.name(index).as_bytes());
     if of_name.is_some() {
         return of_name;
     }
-    let of_symbols = symbols_refusal(member.symbols.as_slice());
+    let of_symbols = symbols_refusal(source, index);
     if of_symbols.is_some() {
         return of_symbols;
     }
-    if member.bytes.as_slice().len() as u64 > u32::MAX as u64 {
+    if source.size(index) as u64 > u32::MAX as u64 {
         return Some(Fault::MemberTooLong);
+    }
+    None
+}
+
+// What is wrong with the first member of a source that is refused.
+pub(crate) fn source_refusal<'a, S: Source<'a>>(kind: Kind, source: &S) -> Option<Fault>
+    ensures { result ≡ members_refusal kind (S.members source.now) }
+{
+    for index in 0..source.count() {
+        let refusal = member_refusal(kind, source, index);
+        if refusal.is_some() {
+            return refusal;
+        }
     }
     None
 }
@@ -83,11 +99,5 @@ fn member_refusal(kind: Kind, member: &Member) -> Option<Fault>
 pub fn members_refusal(kind: Kind, members: &[Member]) -> Option<Fault>
     ensures { result ≡ members_refusal kind (map member_view members.now) }
 {
-    for member in members {
-        let refusal = member_refusal(kind, member);
-        if refusal.is_some() {
-            return refusal;
-        }
-    }
-    None
+    source_refusal(kind, &members)
 }

@@ -1,13 +1,13 @@
 //! Archives, and writing them.
 
-ghost use Rattle.implib.specs.Library.{member_view};
 ghost use Rattle.implib_archive.specs.Archive.{archive_of, entries_of, first_place, front_of};
 ghost use Rattle.implib_archive.specs.Archive.{long_names, member_part};
-ghost use Rattle.implib_archive.specs.Pushed.{AreMeasured, IsHeaderOf, IsRefusal, Pushes};
+ghost use Rattle.implib_archive.specs.Pushed.{AreMeasured, IsHeaderBefore, IsRefusal, Pushes};
 ghost use Rattle.implib_archive.specs.Pushed.{header_of, shown};
 ghost use Rattle.implib_archive.specs.Refusal.{has_too_many, refusal_of};
+ghost use Rattle.implib_archive.specs.Sources.{member_at};
 ghost use Rattle.implib_archive.specs.Written.{Writes};
-ghost use Rattle.std.specs.Prelude.{◌≡◌, ◌^◌, [], IfErr, IfOk, None, OnOk, flat_map, length, map};
+ghost use Rattle.std.specs.Prelude.{◌≡◌, ◌^◌, ◌<◌, [], IfErr, IfOk, None, OnOk, flat_map, length};
 ghost use Rattle.std.specs.Prelude.{min};
 
 use crate::entries::{Entries, entries_of};
@@ -17,61 +17,62 @@ use crate::kind::Kind;
 use crate::long_names::LongNames;
 use crate::offsets::{Places, front_size, place_members, strings_size};
 use crate::output::put_part;
-use crate::refusal::members_refusal;
+use crate::refusal::source_refusal;
+use crate::source::{Members, Source};
 use implib::Member;
 use std::alloc::{AllocError, Global};
 use std::io;
 use std::marker::Model;
 
-/// An archive of members, which it borrows: its layout is known, its bytes are not made yet.
+/// An archive of the members of a source, which it borrows: its layout is known, its bytes are not
+/// made yet.
 #[derive(Drop)]
-pub struct Archive<'a> {
-    members: &'a [Member],
+pub struct Archive<'a, S: Members = &'a [Member]> {
+    source: S,
     kind: Kind,
     entries: Entries<'a>,
     names: LongNames<'a>,
     places: Places,
 }
 
-impl<'a> Model for Archive<'a> {
-    ghost use Rattle.implib.specs.Library.{member_view};
+impl<'a, S: Members> Model for Archive<'a, S> {
     ghost use Rattle.implib_archive.specs.Archive.{ArchiveView};
     ghost use Rattle.implib_archive.specs.Pushed.{IsMade, shown};
-    ghost use Rattle.std.specs.Prelude.{map};
 
     ghost Value = { ArchiveView };
 
-    ghost view = { λ a. record { kind = a.kind; members = map member_view a.members.now } };
+    ghost view = { λ a. record { kind = a.kind; members = S.members a.source } };
 
-    ghost invariant = { λ a. IsMade a.kind (map member_view a.members.now)
+    ghost invariant = { λ a. IsMade a.kind (S.members a.source)
         (shown a.entries.listed.items) (shown a.entries.sorted.items) (shown a.names.offsets.entries)
         a.names.size a.places.offsets.items a.places.end };
 }
 
-impl<'a> Archive<'a> {
-    /// The archive of the members, in their order.
+impl<'a, S: Source<'a>> Archive<'a, S> {
+    /// The archive of the members of a source, in their order: of `&[Member]`, or of a caller's own
+    /// [`Source`].
     ///
     /// It is refused where the kind cannot carry the members: `Error::Invalid` tells the first
     /// cause, that of the first member that has one, then too many members, then a header at an
     /// offset of 2^32 or more. Nothing is refused but for its cause or a failed allocation.
-    pub fn new(alloc: Global, members: &'a [Member], kind: Kind) -> Result<Self, Error>
+    pub fn new(alloc: Global, source: S, kind: Kind) -> Result<Self, Error>
         ensures holds { IfOk result (λ archive. archive
-            ≡ record { kind = kind; members = map member_view members.now }) }
-        ensures accepted { OnOk result (refusal_of kind (map member_view members.now) ≡ None) }
-        ensures refused { IfErr result (IsRefusal (refusal_of kind (map member_view members.now))) }
+            ≡ record { kind = kind; members = S.members source }) }
+        ensures accepted { OnOk result (refusal_of kind (S.members source) ≡ None) }
+        ensures refused { IfErr result (IsRefusal (refusal_of kind (S.members source))) }
     {
-        if let Some(fault) = members_refusal(kind, members) {
+        if let Some(fault) = source_refusal(kind, &source) {
             return Err(Error::Invalid(fault));
         }
-        if has_too_many(kind, members) {
+        if has_too_many(kind, &source) {
             return Err(Error::Invalid(Fault::TooManyMembers));
         }
-        let entries = entries_of(alloc, members, kind)?;
-        let names = LongNames::of(alloc, members, kind)?;
-        let first = first_place(kind, members, entries.listed.as_slice(), &names);
-        let places = place_members(alloc, first, members)?;
+        let entries = entries_of(alloc, &source, kind)?;
+        let names = LongNames::of(alloc, &source, kind)?;
+        let first = first_place(kind, &source, entries.listed.as_slice(), &names);
+        let places = place_members(alloc, first, &source)?;
         Ok(Archive {
-            members,
+            source,
             kind,
             entries,
             names,
@@ -96,11 +97,11 @@ impl<'a> Archive<'a> {
     {
         let mut bytes = Vec::with_capacity(alloc, self.places.end as usize)?;
         self.push_start(&mut bytes)?;
-        push_members(&mut bytes, &self.names, self.members)?;
+        push_members(&mut bytes, &self.names, &self.source)?;
         Ok(bytes)
     }
 
-    /// Writes the archive, without a second copy of the members.
+    /// Writes the archive. The members are made one at a time, in one buffer.
     ///
     /// It calls `write` for each linker member, and two or three times for each member, so a writer to a
     /// file wants a `BufWriter` before it. It does not flush.
@@ -115,7 +116,7 @@ impl<'a> Archive<'a> {
     {
         let mut piece = Vec::with_capacity(alloc, self.places.first as usize)?;
         self.write_start(writer, &mut piece)?;
-        write_members(writer, &mut piece, &self.names, self.members)
+        write_members(alloc, writer, &mut piece, &self.names, &self.source)
     }
 
     // Writes the front through an empty buffer.
@@ -156,25 +157,30 @@ impl<'a> Archive<'a> {
 
 // Whether there are more members than the second linker member numbers.
 #[tactic(auto, unfolding(crate::specs::Refusal::has_too_many))]
-fn has_too_many(kind: Kind, members: &[Member]) -> bool
-    ensures { result ≡ has_too_many kind (map member_view members.now) }
+fn has_too_many<'a, S: Source<'a>>(kind: Kind, source: &S) -> bool
+    ensures { result ≡ has_too_many kind (S.members source.now) }
 {
     match kind {
-        Kind::Coff => members.len() >= 65535,
+        Kind::Coff => source.count() >= 65535,
         Kind::Gnu => false,
     }
 }
 
 // The offset of the first member's header; exact below 2^32.
-fn first_place(kind: Kind, members: &[Member], entries: &[(&str, usize)], names: &LongNames) -> u64
-    requires listed { shown entries.now ≡ entries_of kind (map member_view members.now) }
-    requires measured { AreMeasured kind (long_names kind (map member_view members.now))
+fn first_place<'a, S: Source<'a>>(
+    kind: Kind,
+    source: &S,
+    entries: &[(&str, usize)],
+    names: &LongNames,
+) -> u64
+    requires listed { shown entries.now ≡ entries_of kind (S.members source.now) }
+    requires measured { AreMeasured kind (long_names kind (S.members source.now))
         (shown names.now.offsets.entries) names.now.size }
-    ensures { min result (2 ^ 32) ≡ min (first_place kind (map member_view members.now)) (2 ^ 32) }
+    ensures { min result (2 ^ 32) ≡ min (first_place kind (S.members source.now)) (2 ^ 32) }
 {
     front_size(
         kind,
-        members.len(),
+        source.count(),
         entries.len(),
         strings_size(entries),
         names.size,
@@ -182,71 +188,82 @@ fn first_place(kind: Kind, members: &[Member], entries: &[(&str, usize)], names:
 }
 
 // Appends the members.
-fn push_members(out: &mut Vec<u8>, names: &LongNames, members: &[Member]) -> Result<(), AllocError>
+fn push_members<'a, S: Source<'a>>(
+    out: &mut Vec<u8>,
+    names: &LongNames,
+    source: &S,
+) -> Result<(), AllocError>
     ensures { OnOk result (Pushes out.old.items out.new.items
-        (flat_map (member_part (shown names.now.offsets.entries)) (map member_view members.now))) }
+        (flat_map (member_part (shown names.now.offsets.entries)) (S.members source.now))) }
 {
-    for member in members {
-        names.push_member(out, member)?;
+    for index in 0..source.count() {
+        names.push_member(out, source, index)?;
     }
     Ok(())
 }
 
-// Makes a header that of a member. It keeps the header of the member before, where name and size are
-// the same, as they are of most short imports.
-fn renew_header(
+// Makes a header that of the member at an index. It keeps the header of the member before, where
+// name and size are the same, as they are of most short imports.
+fn renew_header<'a, S: Source<'a>>(
     header: &mut Vec<u8>,
     names: &LongNames,
-    before: Option<&Member>,
-    member: &Member,
+    source: &S,
+    index: usize,
 ) -> Result<(), AllocError>
-    requires { IsHeaderOf (shown names.now.offsets.entries) before header.old.items }
+    requires within { index < length (S.members source.now) }
+    requires before { IsHeaderBefore (shown names.now.offsets.entries) (S.members source.now) index
+        header.old.items }
     ensures { OnOk result (header.new.items
-        ≡ header_of (shown names.now.offsets.entries) (member_view member.now)) }
+        ≡ header_of (shown names.now.offsets.entries) (member_at (S.members source.now) index)) }
 {
-    if let Some(before) = before {
-        if before.name == member.name && before.bytes.len() == member.bytes.len() {
-            return Ok(());
-        }
+    let name = source.name(index);
+    let size = source.size(index);
+    if index > 0 && source.size(index - 1) == size && source.name(index - 1) == name {
+        return Ok(());
     }
     header.clear();
-    names.push_member_header(header, member)
+    names.push_member_header(header, name, size)
 }
 
-// Writes the members. One buffer serves all headers.
-fn write_members<W: io::Write>(
+// Writes the members. One buffer serves all headers, and another the members' bytes.
+fn write_members<'a, W: io::Write, S: Source<'a>>(
+    alloc: Global,
     writer: &mut W,
     header: &mut Vec<u8>,
     names: &LongNames,
-    members: &[Member],
+    source: &S,
 ) -> Result<(), WriteError>
     ensures { Writes (W.contents writer.old) (W.contents writer.new)
-        (flat_map (member_part (shown names.now.offsets.entries)) (map member_view members.now))
-        result }
+        (flat_map (member_part (shown names.now.offsets.entries)) (S.members source.now)) result }
 {
-    let mut before = None;
-    for member in members {
-        write_member(writer, header, names, before, member)?;
-        before = Some(member);
+    let mut bytes = Vec::new(alloc);
+    for index in 0..source.count() {
+        write_member(writer, header, &mut bytes, names, source, index)?;
     }
     Ok(())
 }
 
-// Writes a member; the header is that of the member before.
-fn write_member<W: io::Write>(
+// Writes the member at an index; the header is that of the member before.
+fn write_member<'a, W: io::Write, S: Source<'a>>(
     writer: &mut W,
     header: &mut Vec<u8>,
+    bytes: &mut Vec<u8>,
     names: &LongNames,
-    before: Option<&Member>,
-    member: &Member,
+    source: &S,
+    index: usize,
 ) -> Result<(), WriteError>
-    requires { IsHeaderOf (shown names.now.offsets.entries) before header.old.items }
+    requires within { index < length (S.members source.now) }
+    requires before { IsHeaderBefore (shown names.now.offsets.entries) (S.members source.now) index
+        header.old.items }
     ensures written { Writes (W.contents writer.old) (W.contents writer.new)
-        (member_part (shown names.now.offsets.entries) (member_view member.now)) result }
+        (member_part (shown names.now.offsets.entries) (member_at (S.members source.now) index))
+        result }
     ensures header { OnOk result (header.new.items
-        ≡ header_of (shown names.now.offsets.entries) (member_view member.now)) }
+        ≡ header_of (shown names.now.offsets.entries) (member_at (S.members source.now) index)) }
 {
-    renew_header(header, names, before, member)?;
-    put_part(writer, header.as_slice(), member.bytes.as_slice())?;
+    renew_header(header, names, source, index)?;
+    bytes.clear();
+    source.push_bytes(index, bytes)?;
+    put_part(writer, header.as_slice(), bytes.as_slice())?;
     Ok(())
 }

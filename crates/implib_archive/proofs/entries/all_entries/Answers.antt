@@ -1,23 +1,19 @@
-use Rattle.std.proofs.Common.{◌++◌, ◌+◌, ◌∙◌, ap, map, sym}
-use Rattle.std.specs.String.{string_bytes}
-use Rattle.implib.specs.Library.{member_view}
+use Rattle.std.proofs.Common.{◌+◌, ◌<◌, ◌≤◌, ◌∙◌, arith, length, sym}
 use Rattle.implib_archive.specs.Pushed.{shown}
+use Rattle.implib_archive.specs.Sources.{no_member}
 use Rattle.implib_archive.proofs.Listed.{entries_all, entries_more}
 use Rattle.implib_archive.proofs.entries.all_entries.Goals as goal
 
-pub loop-member-preserved : goal.loop-member-preserved
-loop-member-preserved c =
-    let n = c.loop-member.number + 1 in
-    let pushed = c.in_ok-push_entries.ensures
-    ∙ (ap (λ t. shown c.loop-member.entries.items ++ map (λ symbol. (symbol, n)) (map string_bytes t)) c.as_slice.ensures.value
-    ∙ ap (λ m. shown c.loop-member.entries.items ++ map (λ symbol. (symbol, n)) (member_view m).symbols) c.member-item.is) in
-    record {
-      number = ap (λ k. k + 1) c.loop-member.invariant.number;
-      entries = entries_more (shown c.loop-member.entries.items) (shown c.push_entries.new.entries.items) n member_view c.args.members.now c.loop-member.member-index c.member-item.result c.loop-member-test.true pushed
-          ∙ c.loop-member.invariant.entries;
-    }
+pub loop-index-preserved : goal.loop-index-preserved
+loop-index-preserved g c =
+    let members = g.S.Members.members c.args.source.now in
+    let i = c.loop-index.index in
+    let within : i < length members = omega (arith, c.loop-index-test.true, c.count-index-end.ensures) in
+    entries_more (shown c.loop-index.entries.items) (shown c.push_entries.new.entries.items) (i + 1) members i no_member within c.in_ok-push_entries.ensures
+    ∙ c.loop-index.invariant
 
 pub returns : goal.returns
-returns c =
-    sym (entries_all (shown c.loop-member.entries.items) (c.loop-member.number + 1) member_view c.args.members.now c.loop-member.member-index c.loop-member-test.false)
-    ∙ c.loop-member.invariant.entries
+returns g c =
+    let members = g.S.Members.members c.args.source.now in
+    let past : length members ≤ c.loop-index.index = omega (arith, c.loop-index-test.false, c.count-index-end.ensures) in
+    sym (entries_all (shown c.loop-index.entries.items) (c.loop-index.index + 1) members c.loop-index.index past) ∙ c.loop-index.invariant

@@ -1,17 +1,16 @@
-use Rattle.std.proofs.Common.{◌∙◌, ap, arith, length, map, refl, sym}
-use Rattle.std.proofs.lemmas.List.{length-map}
-use Rattle.std.specs.String.{string_bytes}
-use Rattle.implib.specs.Library.{member_view}
+use Rattle.std.proofs.Common.{◌<◌, arith, length, refl}
 use Rattle.implib_archive.specs.Archive.{entries_from}
+use Rattle.implib_archive.specs.Sources.{no_member}
 use Rattle.implib_archive.proofs.Listed.{count_more}
 use Rattle.implib_archive.proofs.entries.count_of.Goals as goal
 
-pub loop-member-init : goal.loop-member-init
+pub loop-index-init : goal.loop-index-init
 unfolding entries_from
-loop-member-init c = refl
+loop-index-init g c = refl
 
-pub loop-member-preserved : goal.loop-member-preserved
-loop-member-preserved c =
-    let more = count_more 1 member_view c.args.members.now c.loop-member.member-index c.member-item.result c.loop-member-test.true in
-    let here = sym (length-map c.as_slice.result.now string_bytes) ∙ (ap (λ t. length (map string_bytes t)) c.as_slice.ensures.value ∙ ap (λ m. length (member_view m).symbols) c.member-item.is) in
-    omega (arith, more, here, c.loop-member.invariant, c.saturating_add-count.ensures)
+pub loop-index-preserved : goal.loop-index-preserved
+loop-index-preserved g c =
+    let members = g.S.Members.members c.args.source.now in
+    let within : c.loop-index.index < length members = omega (arith, c.loop-index-test.true, c.count-index-end.ensures) in
+    let more = count_more 1 members c.loop-index.index no_member within in
+    omega (arith, more, c.symbol_count.ensures, c.loop-index.invariant, c.saturating_add-count.ensures)

@@ -1,22 +1,21 @@
-use Rattle.std.proofs.Common.{◌∙◌, ap, map, refl, subst, sym, take, arith}
-use Rattle.std.specs.String.{string_bytes}
-use Rattle.implib.specs.Library.{member_view}
+use Rattle.std.proofs.Common.{◌<◌, ◌∙◌, ap, arith, length, refl, subst, sym, take}
 use Rattle.implib_archive.specs.Archive.{long_names, names_bytes, with_name}
 use Rattle.implib_archive.specs.Pushed.{AreMeasured, shown}
+use Rattle.implib_archive.specs.Sources.{no_member}
 use Rattle.implib_archive.proofs.Named.{long_names-more}
 use Rattle.implib_archive.proofs.long_names.LongNames.of.Goals as goal
 
-pub loop-member-init : goal.loop-member-init
+pub loop-index-init : goal.loop-index-init
 unfolding long_names names_bytes
-loop-member-init c = record { same = λ _. ap shown c.new.ensures.empty; exact = λ _. refl; long = λ far. absurd (omega (arith, far)) }
+loop-index-init g c = record { same = λ _. ap shown c.new.ensures.empty; exact = λ _. refl; long = λ far. absurd (omega (arith, far)) }
 
-pub loop-member-preserved : goal.loop-member-preserved
-loop-member-preserved c =
+pub loop-index-preserved : goal.loop-index-preserved
+loop-index-preserved g c =
     let kind = c.args.kind in
-    let ms = c.args.members.now in
-    let i = c.loop-member.member-index in
-    let before = long_names kind (map member_view (take i ms)) in
-    let name = c.as_str.ensures.value ∙ ap (λ m. string_bytes m.name) c.member-item.is in
-    let all = ap (with_name kind before) name ∙ sym (long_names-more kind member_view ms i c.member-item.result c.loop-member-test.true) in
+    let members = g.S.Members.members c.args.source.now in
+    let i = c.loop-index.index in
+    let within : i < length members = omega (arith, c.loop-index-test.true, c.count-index-end.ensures) in
+    let before = long_names kind (take i members) in
+    let all = ap (with_name kind before) c.name.ensures ∙ sym (long_names-more kind members i no_member within) in
     subst (λ t. AreMeasured kind t (shown c.add.new.self.offsets.entries) c.add.new.self.size) all
-    (c.in_ok-add.ensures before c.loop-member.invariant)
+    (c.in_ok-add.ensures before c.loop-index.invariant)

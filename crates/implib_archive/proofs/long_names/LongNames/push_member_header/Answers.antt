@@ -1,6 +1,5 @@
-use Rattle.std.proofs.Common.{◌∙◌, ◌++◌, ap, codes, decimal, length, sym, unwrap_or}
-use Rattle.std.specs.String.{string_bytes}
-use Rattle.implib_archive.specs.Archive.{is_long, member_label, offset_of}
+use Rattle.std.proofs.Common.{◌∙◌, ◌++◌, ap, codes, decimal, sym}
+use Rattle.implib_archive.specs.Archive.{is_long}
 use Rattle.implib_archive.specs.Parts.{header_bytes}
 use Rattle.implib_archive.specs.Pushed.{shown}
 use Rattle.implib_archive.proofs.Appended.{on_as}
@@ -10,18 +9,15 @@ use Rattle.implib_archive.proofs.long_names.LongNames.push_member_header.Goals a
 pub returns-then-is_long : goal.returns-then-is_long
 returns-then-is_long c =
     let names = shown c.args.self.now.offsets.entries in
-    let name = string_bytes c.args.member.now.name in
-    let long = sym (c.is_long.ensures ∙ ap is_long (c.as_bytes.ensures.value ∙ c.as_str-name.ensures.value)) ∙ c.if-is_long.true in
-    let offset = c.offset_of.ensures ∙ ap (λ t. unwrap_or (offset_of names t) 0) c.as_str-name.ensures.value in
-    let text = ap (λ t. codes "/" ++ t) (c.as_bytes-offset.ensures.value ∙ c.format.ensures.text ∙ ap decimal offset) ∙ name_field-long names name long in
-    on_as _ _ _ (ap (λ l. header_bytes l (length c.as_slice.result.now)) (label_with names name c.label_of.ensures text)
-    ∙ ap (λ t. header_bytes (member_label names name) (length t)) c.as_slice.ensures.value) c.push_header.ensures
+    let name = c.args.name.now in
+    let long = sym (c.is_long.ensures ∙ ap is_long c.as_bytes.ensures.value) ∙ c.if-is_long.true in
+    let text = ap (λ t. codes "/" ++ t) (c.as_bytes-offset.ensures.value ∙ c.format.ensures.text ∙ ap decimal c.offset_of.ensures) ∙ name_field-long names name long in
+    on_as _ _ _ (ap (λ l. header_bytes l c.args.size) (label_with names name c.label_of.ensures text)) c.push_header.ensures
 
 pub returns-else-is_long : goal.returns-else-is_long
 returns-else-is_long c =
     let names = shown c.args.self.now.offsets.entries in
-    let name = string_bytes c.args.member.now.name in
-    let short = sym (c.is_long.ensures ∙ ap is_long (c.as_bytes.ensures.value ∙ c.as_str-name.ensures.value)) ∙ c.if-is_long.false in
-    let text = ap (λ t. t ++ codes "/") (c.as_bytes-else-is_long.ensures.value ∙ c.as_str-name.ensures.value) ∙ name_field-short names name short in
-    on_as _ _ _ (ap (λ l. header_bytes l (length c.as_slice-else-is_long.result.now)) (label_with names name c.label_of-else-is_long.ensures text)
-    ∙ ap (λ t. header_bytes (member_label names name) (length t)) c.as_slice-else-is_long.ensures.value) c.push_header-else-is_long.ensures
+    let name = c.args.name.now in
+    let short = sym (c.is_long.ensures ∙ ap is_long c.as_bytes.ensures.value) ∙ c.if-is_long.false in
+    let text = ap (λ t. t ++ codes "/") c.as_bytes-else-is_long.ensures.value ∙ name_field-short names name short in
+    on_as _ _ _ (ap (λ l. header_bytes l c.args.size) (label_with names name c.label_of-else-is_long.ensures text)) c.push_header-else-is_long.ensures

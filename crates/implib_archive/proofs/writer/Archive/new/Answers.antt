@@ -1,32 +1,37 @@
-use Rattle.std.proofs.Common.{◌≡◌, ◌∙◌, ap, arith, map, refl, sym}
+use Rattle.std.proofs.Common.{◌≡◌, ◌∙◌, ap, arith, refl, sym}
 use Rattle.std.proofs.lemmas.Result.{err_from_is_err_and}
-use Rattle.implib.specs.Library.{member_view}
 use Rattle.implib_archive.specs.Archive.{end_from, first_place, places_from}
-use Rattle.implib_archive.proofs.Whole.{first_near, names_below, near_size, refused_many, refused_member, refused_places, same_refusal}
+use Rattle.implib_archive.proofs.Whole.{each_short, first_near, names_below, near_size, refused_many, refused_member, refused_places, same_refusal}
 use Rattle.implib_archive.proofs.writer.Archive.new.Goals as goal
 
 pub returns-in-Some-clause-refused : goal.returns-in-Some-clause-refused
-returns-in-Some-clause-refused c = refused_member c.args.kind (map member_view c.args.members.now) _ (sym c.in-Some.ensures) refl
+returns-in-Some-clause-refused g c = refused_member c.args.kind (g.S.Members.members c.args.source) _ (sym c.in-Some.ensures) refl
 
 pub returns-then-has_too_many-clause-refused : goal.returns-then-has_too_many-clause-refused
-returns-then-has_too_many-clause-refused c =
-    refused_many c.args.kind (map member_view c.args.members.now) (sym c.members_refusal.ensures ∙ c.in_default.is) (sym c.has_too_many.ensures ∙ c.if-has_too_many.true)
+returns-then-has_too_many-clause-refused g c =
+    refused_many c.args.kind (g.S.Members.members c.args.source) (sym c.source_refusal.ensures ∙ c.in_default.is) (sym c.has_too_many.ensures ∙ c.if-has_too_many.true)
+
+-- for each lifetime that the source's bound may stand for
+pub place_members-requires : goal.place_members-requires
+place_members-requires g c =
+    let short = each_short c.args.kind (g.S.Members.members c.args.source) (sym c.source_refusal.ensures ∙ c.in_default.is) in
+    λ _. ((refl, tt), short)
 
 pub returns-in_err-places-clause-refused : goal.returns-in_err-places-clause-refused
-returns-in_err-places-clause-refused c =
+returns-in_err-places-clause-refused g c =
     let kind = c.args.kind in
-    let ms = map member_view c.args.members.now in
-    let asked = refused_places kind ms (sym c.members_refusal.ensures ∙ c.in_default.is) (sym c.has_too_many.ensures ∙ c.if-has_too_many.false)
+    let ms = g.S.Members.members c.args.source in
+    let asked = refused_places kind ms (sym c.source_refusal.ensures ∙ c.in_default.is) (sym c.has_too_many.ensures ∙ c.if-has_too_many.false)
     ∙ sym (same_refusal c.first_place-first.result (first_place kind ms) ms c.first_place-first.ensures) in
     let p = err_from_is_err_and c.from_residual-in_err-places.result c.from_residual-in_err-places.ensures.1 in
     rw (p.1, p.2, asked) c.in_err-places.ensures.refused
 
 pub invariant_of-result : goal.invariant_of-result
-invariant_of-result c =
+invariant_of-result g c =
     let kind = c.args.kind in
-    let ms = map member_view c.args.members.now in
+    let ms = g.S.Members.members c.args.source in
     let first = c.first_place-first.result in
-    let accepted = refused_places kind ms (sym c.members_refusal.ensures ∙ c.in_default.is) (sym c.has_too_many.ensures ∙ c.if-has_too_many.false)
+    let accepted = refused_places kind ms (sym c.source_refusal.ensures ∙ c.in_default.is) (sym c.has_too_many.ensures ∙ c.if-has_too_many.false)
     ∙ sym (same_refusal first (first_place kind ms) ms c.first_place-first.ensures) ∙ c.in_ok-places.ensures.accepted in
     let near = first_near first ms c.in_ok-places.ensures.accepted in
     let same : first ≡ first_place kind ms = omega (arith, near, c.first_place-first.ensures) in
@@ -42,8 +47,8 @@ invariant_of-result c =
     }
 
 pub returns-clause-accepted : goal.returns-clause-accepted
-returns-clause-accepted c =
+returns-clause-accepted g c =
     let kind = c.args.kind in
-    let ms = map member_view c.args.members.now in
-    refused_places kind ms (sym c.members_refusal.ensures ∙ c.in_default.is) (sym c.has_too_many.ensures ∙ c.if-has_too_many.false)
+    let ms = g.S.Members.members c.args.source in
+    refused_places kind ms (sym c.source_refusal.ensures ∙ c.in_default.is) (sym c.has_too_many.ensures ∙ c.if-has_too_many.false)
     ∙ sym (same_refusal c.first_place-first.result (first_place kind ms) ms c.first_place-first.ensures) ∙ c.in_ok-places.ensures.accepted

@@ -1,5 +1,4 @@
-use Rattle.std.proofs.Common.{◌∙◌, ap, arith, map, subst, sym}
-use Rattle.implib.specs.Library.{member_view}
+use Rattle.std.proofs.Common.{◌∙◌, ap, arith, subst, sym}
 use Rattle.implib_archive.specs.Archive.{front, front_of, places_of, sorted_entries}
 use Rattle.implib_archive.specs.Pushed.{FrontFits, shown}
 use Rattle.implib_archive.proofs.Puts.{writes_as}
@@ -9,7 +8,7 @@ use Rattle.implib_archive.proofs.writer.Archive.write_start.Goals as goal
 pub write_front-requires-clause-fits : goal.write_front-requires-clause-fits
 write_front-requires-clause-fits g c =
     let a = c.self.inside in
-    let ms = map member_view a.members.now in
+    let ms = g.S.Members.members a.source in
     let made = c.self.invariant in
     let places = c.as_slice-places.ensures.value ∙ made.placed in
     let entries = ap shown c.as_slice-entries.ensures.value ∙ made.listed in

@@ -1,5 +1,4 @@
-use Rattle.std.proofs.Common.{◌++◌, ◌∙◌, ap, flat_map, map, sym}
-use Rattle.implib.specs.Library.{member_view}
+use Rattle.std.proofs.Common.{◌++◌, ◌∙◌, ap, flat_map, sym}
 use Rattle.implib_archive.specs.Archive.{archive_of, front_of, long_names, member_part}
 use Rattle.implib_archive.specs.Pushed.{shown}
 use Rattle.implib_archive.proofs.Puts.{begins_more, writes_as, writes_err, writes_then}
@@ -16,7 +15,7 @@ returns-in_err-write_start g c =
 pub returns : goal.returns
 returns g c =
     let a = c.self.inside in
-    let parts = flat_map (member_part (shown a.names.offsets.entries)) (map member_view a.members.now) in
+    let parts = flat_map (member_part (shown a.names.offsets.entries)) (g.S.Members.members a.source) in
     let start = front_of c.args.self.now.kind c.args.self.now.members in
     writes_as c.write_members.result _ _
     (ap (λ v. front_of v.kind v.members ++ parts) (sym c.self.view_is) ∙ archive_made c.self.invariant ∙ ap (λ v. archive_of v.kind v.members) c.self.view_is)
