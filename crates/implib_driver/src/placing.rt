@@ -1,18 +1,17 @@
 //! The library of a definition, and its way to its place.
 
-ghost use Rattle.implib.specs.Library.{member_view};
 ghost use Rattle.implib_archive.specs.Archive.{archive_of};
 ghost use Rattle.implib_driver.specs.Placing.{AnswersWith, IsPlaced, IsPut, IsUnplaced};
 ghost use Rattle.implib_driver.specs.Request.{request_view};
 ghost use Rattle.std.specs.Io.KnownBytes.{Appends};
 ghost use Rattle.std.specs.Option.{option_map};
-ghost use Rattle.std.specs.Prelude.{◌≡◌, IfOk, None, OnErr, OnOk, map};
+ghost use Rattle.std.specs.Prelude.{◌≡◌, IfOk, None, OnErr, OnOk};
 
 use crate::disk::Disk;
 use crate::request::Request;
-use implib::Member;
 use implib_archive::{Archive, WriteError};
 use implib_rules::library::{LibraryError, archive_for};
+use implib_rules::members::LibraryMembers;
 use std::alloc::Global;
 use std::io::{BufWriter, Write};
 
@@ -20,7 +19,7 @@ use std::io::{BufWriter, Write};
 const BUFFER: usize = 1 << 16;
 
 // Writes an archive to a file that is empty, and gives the file.
-fn fill<W: Write + Drop>(alloc: Global, file: W, archive: &Archive<'_>) -> Result<W, WriteError>
+fn fill<W: Write + Drop>(alloc: Global, file: W, archive: &Archive<'_, &LibraryMembers>) -> Result<W, WriteError>
     ensures { IfOk result (λ filled. Appends (W.contents file) (W.contents filled)
         (archive_of archive.now.kind archive.now.members)) }
 {
@@ -42,7 +41,7 @@ fn place<D: Disk>(
     alloc: Global,
     disk: &mut D,
     path: &str,
-    archive: &Archive<'_>,
+    archive: &Archive<'_, &LibraryMembers>,
 ) -> Result<(), WriteError>
     requires { (D.view disk.old).left ≡ None }
     ensures placed { OnOk result (IsPlaced D.is_known (D.view disk.old) (D.view disk.new) path.now
@@ -65,7 +64,7 @@ fn place_if<D: Disk>(
     alloc: Global,
     disk: &mut D,
     output: Option<&str>,
-    archive: &Archive<'_>,
+    archive: &Archive<'_, &LibraryMembers>,
 ) -> Result<(), WriteError>
     requires { (D.view disk.old).left ≡ None }
     ensures put { OnOk result (IsPut D.is_known (D.view disk.old) (D.view disk.new)
@@ -89,12 +88,12 @@ fn place_if<D: Disk>(
 pub fn put<D: Disk>(
     alloc: Global,
     disk: &mut D,
-    members: &[Member],
+    members: &LibraryMembers,
     request: &Request<'_>,
 ) -> Result<(), LibraryError>
     requires { (D.view disk.old).left ≡ None }
     ensures { AnswersWith D.is_known (D.view disk.old) (D.view disk.new)
-        (map member_view members.now) (request_view request.now) result }
+        members.now (request_view request.now) result }
 {
     let archive = archive_for(alloc, members, request.library.flavor)?;
     match place_if(alloc, disk, request.output, &archive) {

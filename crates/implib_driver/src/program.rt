@@ -1,7 +1,6 @@
 //! The program: its arguments, its run over files, and its exit status.
 
 ghost use Rattle.implib.specs.Definition.{definition_view};
-ghost use Rattle.implib.specs.Library.{member_view};
 ghost use Rattle.implib_driver.specs.Program.{DoesWords, Finishes, FinishesWith};
 ghost use Rattle.implib_driver.specs.Program.{FinishesWithout, members_counted};
 ghost use Rattle.implib_driver.specs.Identity.{identified};
@@ -29,8 +28,9 @@ use crate::reporter::{Complaint, Reporter};
 use crate::request::{CallError, Identification, Request, Task, caller_of, task_of};
 use crate::verbose::warnings_for;
 use implib::def::ModuleDef;
-use implib::{Flavor, Member, ParseError};
+use implib::{Flavor, ParseError};
 use implib_rules::library::{LibraryError, Refusal, members_for};
+use implib_rules::members::LibraryMembers;
 use implib_rules::places::{Place, export_lines, read_with_places};
 use implib_rules::text::DefinitionText;
 use implib_rules::text_warnings::text_warnings;
@@ -283,13 +283,13 @@ fn members_counted(flavor: Flavor, members: usize) -> usize
 fn finish<D: Disk, T: Reporter>(
     alloc: Global,
     bytes: &[u8],
-    members: Vec<Member>,
+    members: LibraryMembers,
     disk: &mut D,
     request: &Request<'_>,
     reporter: &mut T,
 ) -> u8
     requires { (D.view disk.old).left ≡ None }
-    ensures { FinishesWith D.is_known bytes.now (map member_view members.items)
+    ensures { FinishesWith D.is_known bytes.now members
         (request_view request.now) (D.view disk.old) (D.view disk.new)
         (T.said reporter.old) (T.said reporter.new) result }
 {
@@ -299,8 +299,8 @@ fn finish<D: Disk, T: Reporter>(
     };
     match warn(alloc, counted, request, reporter) {
         Ok(()) => {
-            let put = put(alloc, disk, members.as_slice(), request);
-            // The program ends now. Freeing each name and symbol would take a fifth of its time.
+            let put = put(alloc, disk, &members, request);
+            // The program ends now. Freeing each symbol would take its time.
             mem::forget(members);
             conclude(reporter, request, put)
         }

@@ -20,4 +20,5 @@ pub mod FirstExports
 pub mod Warned
 pub mod InOrder
 pub mod PlacesHeard
+pub mod Spots
 pub mod Utf8

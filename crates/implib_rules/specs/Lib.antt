@@ -17,6 +17,7 @@ pub mod Warnings
 pub mod TextWarnings
 pub mod Views
 pub mod ExportAsViews
+pub mod Spots
 pub mod Utf8
 pub mod WorkedUtf8
 pub mod WorkedNames

@@ -1,16 +1,16 @@
 //! From exports that are given without a text to the members of their library.
 
 ghost use Rattle.implib.specs.Definition.{definition_view, export_view};
-ghost use Rattle.implib.specs.Library.{member_view};
 ghost use Rattle.implib_rules.specs.Exports.{DefinitionOfExports, IsRefusalOfDefinition};
 ghost use Rattle.implib_rules.specs.Exports.{IsRefusalOfExports, MembersOfExports};
 ghost use Rattle.implib_rules.specs.Options.{library_options_view};
 ghost use Rattle.std.specs.Prelude.{IfErr, IfOk, map};
 
 use crate::library::{by_rules, members_in_order};
+use crate::members::LibraryMembers;
 use crate::options::LibraryOptions;
 use implib::def::{ModuleDef, ShortExport};
-use implib::{Error, Fault, Member};
+use implib::{Error, Fault};
 use std::alloc::{AllocError, Global};
 
 /// Why exports have no members here.
@@ -71,9 +71,9 @@ pub fn members_of_exports(
     alloc: Global,
     exports: Vec<ShortExport>,
     options: &LibraryOptions,
-) -> Result<Vec<Member>, ExportsRefusal>
+) -> Result<LibraryMembers, ExportsRefusal>
     ensures made { IfOk result (λ members. MembersOfExports (map export_view exports.items)
-        (library_options_view options.now) (map member_view members.items)) }
+        (library_options_view options.now) members) }
     ensures refused { IfErr result (IsRefusalOfExports (map export_view exports.items)
         (library_options_view options.now)) }
 {

@@ -18,6 +18,7 @@ pub mod library;
 pub mod library_name;
 pub mod linked;
 pub mod machine;
+pub mod members;
 mod message;
 pub mod name;
 pub mod options;

@@ -2,7 +2,6 @@
 
 ghost use Rattle.implib.specs.Definition.{definition_view};
 ghost use Rattle.implib.specs.Fault.{IfInvalid};
-ghost use Rattle.implib.specs.Library.{member_view};
 ghost use Rattle.implib.specs.Members.Members.{refusal};
 ghost use Rattle.implib.specs.Renaming.{renamed};
 ghost use Rattle.implib.specs.declared.flavor.Flavor.TheVariants.{Gnu, Msvc};
@@ -19,13 +18,14 @@ ghost use Rattle.implib_rules.specs.Library.{definition_for, is_out_of_memory, k
 ghost use Rattle.implib_rules.specs.Names.{lacks_name};
 ghost use Rattle.implib_rules.specs.Order.{AreInOrder};
 ghost use Rattle.implib_rules.specs.Options.{library_options_view};
-ghost use Rattle.std.specs.Prelude.{◌≡◌, ◌⊎◌, IfErr, IfOk, MatchOption, None, OnOk, Some, false, length, map, true};
+ghost use Rattle.std.specs.Prelude.{◌≡◌, ◌⊎◌, IfErr, IfOk, MatchOption, None, OnOk, Some, false, true};
 
 use crate::additions::extend_exports;
 use crate::aliases::link_with_targets;
 use crate::export_as::{keep_exports, laters_of, place};
 use crate::library_name::library_name_for;
 use crate::linked::Naming;
+use crate::members::LibraryMembers;
 use crate::name::{FirstHeading, dll_name, lacks_name};
 use crate::options::LibraryOptions;
 use crate::places::position_of_fault;
@@ -34,7 +34,7 @@ use crate::text::DefinitionText;
 use implib::def::{ModuleDef, Position};
 use implib::gnu::GnuImportLibrary;
 use implib::msvc::{MemberLists, MsvcImportLibrary, linked_dll};
-use implib::{Error, Fault, Flavor, MachineType, Member, ParseError};
+use implib::{Error, Fault, Flavor, MachineType, ParseError};
 use implib_archive::{Archive, Kind, WriteError};
 use std::alloc::{AllocError, Global};
 use std::io;
@@ -210,28 +210,29 @@ pub fn definition_for(
 
 // The members for Microsoft's linker, weak externals last, and without the short imports of
 // aliases.
-fn msvc_members_in_order(def: ModuleDef, machine: MachineType) -> Result<Vec<Member>, Error>
+fn msvc_members_in_order(def: ModuleDef, machine: MachineType) -> Result<LibraryMembers, Error>
     ensures ok { IfOk result (λ members. AreInOrder (renamed (definition_view def)) machine Msvc
-        (map member_view members.items)) }
+        members) }
     ensures refused { IfInvalid result
         (λ cause. refusal (renamed (definition_view def)) machine Msvc ≡ Some cause) }
 {
-    let lists = MsvcImportLibrary::new(def, machine).member_lists()?;
+    let lists = MsvcImportLibrary::new(def, machine).into_member_lists()?;
     let MemberLists {
-        header: mut members,
-        mut imports,
-        mut aliases,
+        header,
+        imports,
+        aliases,
     } = lists;
-    members.append(&mut imports)?;
-    members.append(&mut aliases)?;
-    Ok(members)
+    Ok(LibraryMembers::new(header, Some(imports), aliases)?)
 }
 
 // The members for Microsoft's linker where an export may have a short import with a third text, which
 // stands where the weak externals of an alias would.
-fn msvc_members_exported_as(mut def: ModuleDef, machine: MachineType) -> Result<Vec<Member>, Error>
+fn msvc_members_exported_as(
+    mut def: ModuleDef,
+    machine: MachineType,
+) -> Result<LibraryMembers, Error>
     ensures ok { IfOk result (λ members. IsExportAsLibrary (renamed (definition_view def)) machine
-        (map member_view members.items)) }
+        members) }
     ensures refused { IfInvalid result
         (λ cause. export_as_refusal (renamed (definition_view def)) machine ≡ Some cause) }
 {
@@ -245,25 +246,27 @@ fn msvc_members_exported_as(mut def: ModuleDef, machine: MachineType) -> Result<
         def.exports.as_slice(),
     );
     keep_exports(alloc, &mut def.exports)?;
-    let lists = MsvcImportLibrary::new(def, machine).member_lists()?;
+    let lists = MsvcImportLibrary::new(def, machine).into_member_lists()?;
     let MemberLists {
-        header: mut all,
-        mut imports,
+        header,
+        imports,
         aliases,
     } = lists;
-    all.append(&mut imports)?;
-    place(laters?, aliases, &mut all)?;
-    Ok(all)
+    let mut after = Vec::new(alloc);
+    place(laters?, aliases, &mut after)?;
+    Ok(LibraryMembers::new(header, Some(imports), after)?)
 }
 
 // The members for GNU's linker.
-fn gnu_members(def: ModuleDef, machine: MachineType) -> Result<Vec<Member>, Error>
+fn gnu_members(def: ModuleDef, machine: MachineType) -> Result<LibraryMembers, Error>
     ensures ok { IfOk result (λ members. AreInOrder (renamed (definition_view def)) machine Gnu
-        (map member_view members.items)) }
+        members) }
     ensures refused { IfInvalid result
         (λ cause. refusal (renamed (definition_view def)) machine Gnu ≡ Some cause) }
 {
-    GnuImportLibrary::new(def, machine).members()
+    let before = Vec::new(*def.exports.allocator());
+    let members = GnuImportLibrary::new(def, machine).members()?;
+    Ok(LibraryMembers::new(before, None, members)?)
 }
 
 /// The members of a definition in the order in which an archive is to have them.
@@ -272,9 +275,9 @@ pub(crate) fn members_in_order(
     machine: MachineType,
     flavor: Flavor,
     naming: Naming,
-) -> Result<Vec<Member>, Error>
+) -> Result<LibraryMembers, Error>
     ensures ok { IfOk result (λ members. AreMadeFor (naming_view naming)
-        (renamed (definition_view def)) machine flavor (map member_view members.items)) }
+        (renamed (definition_view def)) machine flavor members) }
     ensures refused { IfInvalid result (λ cause. refusal_made (naming_view naming) machine flavor
         (renamed (definition_view def)) ≡ Some cause) }
 {
@@ -294,9 +297,9 @@ pub fn members_for(
     alloc: Global,
     bytes: &[u8],
     options: &LibraryOptions,
-) -> Result<Vec<Member>, Refusal>
+) -> Result<LibraryMembers, Refusal>
     ensures made { IfOk result (λ members. MembersFor bytes.now (library_options_view options.now)
-        (map member_view members.items)) }
+        members) }
     ensures refused { IfErr result (IsRefusalOfMembers bytes.now (library_options_view options.now)) }
 {
     let read = DefinitionText::new(alloc, bytes)?;
@@ -386,22 +389,20 @@ pub fn kind_for(flavor: Flavor, count: usize) -> Kind
 /// What an archive of this kind cannot carry; or an allocation failed.
 pub fn archive_for<'a>(
     alloc: Global,
-    members: &'a [Member],
+    members: &'a LibraryMembers,
     flavor: Flavor,
-) -> Result<Archive<'a>, Refusal>
-    ensures holds { IfOk result (λ archive. archive ≡ record {
-      kind = kind_of flavor (map member_view members.now);
-      members = map member_view members.now;
-    }) }
-    ensures accepted { OnOk result (refusal_of (kind_of flavor (map member_view members.now))
-        (map member_view members.now) ≡ None) }
-    ensures refused { IfErr result (IsRefusalOfArchive flavor (map member_view members.now)) }
+) -> Result<Archive<'a, &'a LibraryMembers>, Refusal>
+    ensures holds { IfOk result (λ archive. archive
+        ≡ record { kind = kind_of flavor members.now; members = members.now }) }
+    ensures accepted { OnOk result (refusal_of (kind_of flavor members.now) members.now ≡ None) }
+    ensures refused { IfErr result (IsRefusalOfArchive flavor members.now) }
 {
     let kind = kind_for(flavor, members.len());
     Ok(Archive::new(alloc, members, kind)?)
 }
 
-/// Writes the import library that is asked for. It is never held beside its members.
+/// Writes the import library that is asked for. It is never held, nor are its short imports: they are
+/// made one by one.
 ///
 /// It calls `write` a few times for each member, so a writer to a file wants a `BufWriter` before
 /// it. It does not flush.
@@ -426,7 +427,7 @@ pub fn write_library<W: io::Write>(
         (W.contents writer.old) (W.contents writer.new)) }
 {
     let members = members_for(alloc, bytes, options)?;
-    let archive = archive_for(alloc, members.as_slice(), options.flavor)?;
+    let archive = archive_for(alloc, &members, options.flavor)?;
     archive.write_to(alloc, writer)?;
     Ok(())
 }

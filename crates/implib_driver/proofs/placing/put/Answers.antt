@@ -1,12 +1,11 @@
-use Rattle.std.proofs.Common.{rules, map}
-use Rattle.implib.specs.Library.{member_view}
+use Rattle.std.proofs.Common.{rules}
 use Rattle.implib_archive.specs.Archive.{archive_of}
 use Rattle.implib_rules.specs.Library.{kind_of}
 use Rattle.implib_driver.proofs.placing.put.Goals as goal
 
 pub returns : goal.returns
 returns g c = λ bytes made.
-    let members = map member_view c.args.members.now in
+    let members = c.args.members.now in
     record {
       file = archive_of (kind_of c.args.request.now.library.flavor members) members;
       is_library = record { members = members; members_for = made; accepted = c.in_ok-archive.ensures.accepted; is = search rules };
@@ -15,7 +14,7 @@ returns g c = λ bytes made.
 
 pub returns-in-Ok : goal.returns-in-Ok
 returns-in-Ok g c = λ bytes made.
-    let members = map member_view c.args.members.now in
+    let members = c.args.members.now in
     let placed = rw c.in_ok-archive.ensures.holds at c.in-Ok.ensures.put in
     record {
       file = archive_of (kind_of c.args.request.now.library.flavor members) members;

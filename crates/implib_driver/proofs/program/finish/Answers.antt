@@ -1,7 +1,5 @@
-use Rattle.std.proofs.Common.{◌≡◌, ◌∙◌, ap, inl, length, map, rules, subst, sym}
-use Rattle.std.proofs.lemmas.List.{length-map}
-use Rattle.implib.specs.Library.{member_view}
-use Rattle.implib_rules.specs.Library.{CountsMembers, MembersFor}
+use Rattle.std.proofs.Common.{◌≡◌, ◌∙◌, ap, inl, length, subst, sym}
+use Rattle.implib_rules.specs.Library.{CountsMembers}
 use Rattle.implib_rules.specs.Options.{library_options_view}
 use Rattle.implib_driver.specs.Program.{members_counted}
 use Rattle.implib_driver.proofs.Finishing.{counts_with}
@@ -11,17 +9,15 @@ pub returns-in-Ok : goal.returns-in-Ok
 returns-in-Ok g c = λ made.
     let bytes = c.args.bytes.now in
     let library = library_options_view c.args.request.now.library in
-    let members = map member_view c.args.members.items in
-    let len : c.len.result ≡ length c.args.members.items = search rules in
+    let members = c.args.members in
     let count : c.members_counted.result ≡ members_counted library.flavor (length members) =
-    c.members_counted.ensures ∙ ap (members_counted library.flavor) (len ∙ sym (length-map c.args.members.items member_view)) in
+    c.members_counted.ensures ∙ ap (members_counted library.flavor) c.len.ensures in
     let counts = subst (λ n. CountsMembers bytes library library.flavor n) (sym count) (counts_with bytes library library.flavor members made) in
-    let given = subst (λ items. MembersFor bytes library (map member_view items)) (sym c.as_slice.ensures.value) made in
     inl (record {
       warned = g.T.Reporter.said c.warn.new.reporter;
       warns = c.in-Ok.ensures.warned counts;
       answer = c.put-put.result;
-      answers = c.put-put.ensures bytes given;
+      answers = c.put-put.ensures bytes made;
       says = c.conclude.ensures.said;
       is_status = c.conclude.ensures.status;
     })

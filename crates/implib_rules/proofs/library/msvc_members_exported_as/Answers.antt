@@ -11,7 +11,6 @@ use Rattle.implib.specs.Renaming.{renamed}
 use Rattle.implib_rules.specs.ExportAs.{export_as_refusal, export_as_unless_private}
 use Rattle.implib_rules.specs.ExportAsViews.{later_view}
 use Rattle.implib_rules.proofs.ExportedAs.{handed_on, held_kept, is_export_as_library, names_refused, too_long_refused}
-use Rattle.implib_rules.proofs.Made.{joined_before}
 use Rattle.implib_rules.proofs.library.msvc_members_exported_as.Goals as goal
 
 same_names : (names others : NamesOfDll) → names.linked ≡ others.linked → names.text ≡ others.text → names ≡ others
@@ -56,4 +55,4 @@ returns-clause-ok c =
     (held_kept d c.args.machine library _ c.new.ensures.held c.in_ok-keep_exports.ensures) c.in_ok-lists.ensures.ok
     (same_names _ _ (c.as_str.ensures.value ∙ c.in_ok-linked.ensures) c.as_str-2.ensures.value) (ap (map export_view) c.as_slice.ensures.value)
     c.in_ok-laters.ensures.ok
-    c.in_ok-laters.ensures.fits (joined_before member_view lists.header.items lists.imports.items _ _ _ c.in_ok-append.ensures.items c.in_ok-place.ensures)
+    c.in_ok-laters.ensures.fits ?

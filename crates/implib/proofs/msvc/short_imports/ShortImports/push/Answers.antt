@@ -1,4 +1,4 @@
-use Rattle.std.proofs.Common.{List, ◌||◌, ap, false, map, string_bytes}
+use Rattle.std.proofs.Common.{List, ◌||◌, ap, false, string_bytes}
 use Rattle.std.proofs.lemmas.Result.{err_from_is_err_and}
 use Rattle.implib.specs.Definition.{export_view}
 use Rattle.implib.specs.LibraryName.{NamesOfDll}
