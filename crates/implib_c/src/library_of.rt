@@ -2,7 +2,6 @@
 //! wrong.
 
 ghost use Rattle.implib.specs.Definition.{export_view};
-ghost use Rattle.implib.specs.Library.{member_view};
 ghost use Rattle.implib_c.specs.Given.{failure_status, length_given, place_given, status_given};
 ghost use Rattle.implib_c.specs.GivenOf.{AreGiven, OnExportFault, PutsLibraryOf};
 ghost use Rattle.implib_c.specs.LibraryOf.{LibraryOfAnswers, export_given, exports_status, given_export};
@@ -113,7 +112,7 @@ fn put_library_of(
         Err(error) => return Err(Failure::from(error)),
     };
     match members_of_exports(alloc, given, options) {
-        Ok(members) => pack_for(alloc, buffer, members.as_slice(), options.flavor),
+        Ok(members) => pack_for(alloc, buffer, &members, options.flavor),
         Err(refusal) => Err(failure_of(refusal)),
     }
 }

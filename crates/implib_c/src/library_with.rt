@@ -1,6 +1,5 @@
 //! From a text and options to the library that the program makes of them, or to what is wrong.
 
-ghost use Rattle.implib.specs.Library.{member_view};
 ghost use Rattle.implib_c.specs.Given.{PacksInto, failure_status, length_given, place_given, status_given};
 ghost use Rattle.implib_c.specs.GivenWith.{IsNoOptions, IsWithin, PutsLibrary};
 ghost use Rattle.implib_c.specs.LibraryWith.{AreOptions, LibraryWithAnswers, given_options, mark_length};
@@ -10,14 +9,15 @@ ghost use Rattle.implib_rules.specs.Library.{kind_of};
 ghost use Rattle.implib_rules.specs.Linked.{naming_view};
 ghost use Rattle.implib_rules.specs.Options.{library_options_view};
 ghost use Rattle.std.specs.Option.{option_map};
-ghost use Rattle.std.specs.Prelude.{◌≡◌, ◌+◌, ◌<◌, ◌^◌, Err, IfErr, IfOk, map};
+ghost use Rattle.std.specs.Prelude.{◌≡◌, ◌+◌, ◌<◌, ◌^◌, Err, IfErr, IfOk};
 
 use crate::export::has_flag;
 use crate::outcome::{Failure, flavor_with, machine_with, pack_into};
-use implib::{Flavor, Member};
+use implib::Flavor;
 use implib_rules::additions::Additions;
 use implib_rules::library::{Refusal, kind_for, members_for};
 use implib_rules::linked::Naming;
+use implib_rules::members::LibraryMembers;
 use implib_rules::options::LibraryOptions;
 use std::alloc::Global;
 
@@ -152,11 +152,10 @@ pub fn failure_in(text: &[u8], refusal: Refusal) -> Failure
 pub fn pack_for(
     alloc: Global,
     buffer: &mut [u8],
-    members: &[Member],
+    members: &LibraryMembers,
     flavor: Flavor,
 ) -> Result<usize, Failure>
-    ensures { PacksInto (kind_of flavor (map member_view members.now)) (map member_view members.now)
-        buffer.old buffer.new result }
+    ensures { PacksInto (kind_of flavor members.now) members.now buffer.old buffer.new result }
 {
     pack_into(alloc, buffer, members, kind_for(flavor, members.len()))
 }
@@ -173,7 +172,7 @@ fn put_library(
         (length_given result) (place_given result) (status_given result) }
 {
     match members_for(alloc, text, options) {
-        Ok(members) => pack_for(alloc, buffer, members.as_slice(), options.flavor),
+        Ok(members) => pack_for(alloc, buffer, &members, options.flavor),
         Err(refusal) => Err(failure_in(text, refusal)),
     }
 }

@@ -14,7 +14,7 @@ use crate::export::ExportFault;
 use crate::status::Status;
 use implib::def::ModuleDef;
 use implib::{Error, Fault, Flavor, ImportLibrary, MachineType, Member, ParseError};
-use implib_archive::{Archive, Kind};
+use implib_archive::{Archive, Kind, Source};
 use std::alloc::{AllocError, Global};
 
 /// Why nothing is put into the buffer.
@@ -228,13 +228,13 @@ pub fn put_encoding(buffer: &mut [u8], bytes: &[u8]) -> Result<usize, Failure>
 /// # Errors
 ///
 /// `NoArchive`, `BufferTooSmall`, `OutOfMemory`.
-pub fn pack_into(
+pub fn pack_into<'a, S: Source<'a>>(
     alloc: Global,
     buffer: &mut [u8],
-    members: &[Member],
+    members: S,
     kind: Kind,
 ) -> Result<usize, Failure>
-    ensures { PacksInto kind (map member_view members.now) buffer.old buffer.new result }
+    ensures { PacksInto kind (S.members members) buffer.old buffer.new result }
 {
     let archive = Archive::new(alloc, members, kind)?;
     let needed = archive.len() as usize;

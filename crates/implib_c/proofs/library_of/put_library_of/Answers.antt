@@ -1,9 +1,7 @@
-use Rattle.std.proofs.Common.{map, refl, subst}
+use Rattle.std.proofs.Common.{map, refl}
 use Rattle.implib.specs.Definition.{export_view}
-use Rattle.implib.specs.Library.{member_view}
 use Rattle.implib_rules.specs.Library.{kind_of}
 use Rattle.implib_rules.specs.Options.{library_options_view}
-use Rattle.implib_c.specs.Given.{PacksInto}
 use Rattle.implib_c.specs.LibraryOf.{given_export}
 use Rattle.implib_c.proofs.AnswerOf.{puts_no_exports, puts_packed, puts_refused}
 use Rattle.implib_c.proofs.library_of.put_library_of.Goals as goal
@@ -17,10 +15,8 @@ pub returns-in-Ok-members_of_exports : goal.returns-in-Ok-members_of_exports
 returns-in-Ok-members_of_exports c =
     let members = c.in-Ok-members_of_exports.members in
     puts_packed (map given_export c.args.exports.now) (library_options_view c.args.options.now) c.args.buffer.now (map export_view c.in-Ok.given.items) c.in-Ok.ensures.ok
-    (map member_view members.items) c.in-Ok-members_of_exports.ensures.made (kind_of c.args.options.now.flavor (map member_view members.items)) refl
-    c.pack_for.new.buffer c.pack_for.result
-    (subst (λ items. PacksInto (kind_of c.args.options.now.flavor (map member_view items)) (map member_view items) c.args.buffer.now c.pack_for.new.buffer c.pack_for.result)
-    c.as_slice.ensures.value c.pack_for.ensures)
+    members c.in-Ok-members_of_exports.ensures.made (kind_of c.args.options.now.flavor members) refl
+    c.pack_for.new.buffer c.pack_for.result c.pack_for.ensures
 
 pub returns-in-Err-members_of_exports : goal.returns-in-Err-members_of_exports
 returns-in-Err-members_of_exports c =

@@ -1,8 +1,6 @@
-use Rattle.std.proofs.Common.{map, refl, subst}
-use Rattle.implib.specs.Library.{member_view}
+use Rattle.std.proofs.Common.{refl}
 use Rattle.implib_rules.specs.Library.{kind_of}
 use Rattle.implib_rules.specs.Options.{library_options_view}
-use Rattle.implib_c.specs.Given.{PacksInto}
 use Rattle.implib_c.proofs.AnswerWith.{puts_nothing, puts_packed}
 use Rattle.implib_c.proofs.Within.{refusal_within}
 use Rattle.implib_c.proofs.library_with.put_library.Goals as goal
@@ -12,11 +10,8 @@ failure_in-requires c = refusal_within c.args.text.now (library_options_view c.a
 
 pub returns-in-Ok : goal.returns-in-Ok
 returns-in-Ok c =
-    puts_packed c.args.text.now (library_options_view c.args.options.now) c.args.buffer.now (map member_view c.in-Ok.members.items) c.in-Ok.ensures.made
-    (kind_of c.args.options.now.flavor (map member_view c.in-Ok.members.items)) refl
-    c.pack_for.new.buffer c.pack_for.result
-    (subst (λ items. PacksInto (kind_of c.args.options.now.flavor (map member_view items)) (map member_view items) c.args.buffer.now c.pack_for.new.buffer c.pack_for.result)
-    c.as_slice.ensures.value c.pack_for.ensures)
+    puts_packed c.args.text.now (library_options_view c.args.options.now) c.args.buffer.now c.in-Ok.members c.in-Ok.ensures.made
+    (kind_of c.args.options.now.flavor c.in-Ok.members) refl c.pack_for.new.buffer c.pack_for.result c.pack_for.ensures
 
 pub returns-in-Err : goal.returns-in-Err
 returns-in-Err c =
