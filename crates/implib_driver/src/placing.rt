@@ -19,7 +19,11 @@ use std::io::{BufWriter, Write};
 const BUFFER: usize = 1 << 16;
 
 // Writes an archive to a file that is empty, and gives the file.
-fn fill<W: Write + Drop>(alloc: Global, file: W, archive: &Archive<'_, &LibraryMembers>) -> Result<W, WriteError>
+fn fill<W: Write + Drop>(
+    alloc: Global,
+    file: W,
+    archive: &Archive<'_, &LibraryMembers>,
+) -> Result<W, WriteError>
     ensures { IfOk result (λ filled. Appends (W.contents file) (W.contents filled)
         (archive_of archive.now.kind archive.now.members)) }
 {

@@ -20,5 +20,4 @@ pub mod FirstExports
 pub mod Warned
 pub mod InOrder
 pub mod PlacesHeard
-pub mod Spots
 pub mod Utf8

@@ -67,14 +67,6 @@ module _ (d : DefinitionView) (machine : MachineType) where
     is = made.made ∙ ap (λ (x : DefinitionView). map member_of (member_specs x machine Gnu)) once;
   }
 
--- lists that are joined one after another
-pub joined : {X : Type 0} (view : X → MemberView) (header imports aliases both all : List X) → both ≡ header ++ imports → all ≡ both ++ aliases
-    → map view all ≡ map view header ++ (map view imports ++ map view aliases)
-joined view header imports aliases both all first second =
-    ap (map view) (second ∙ (ap (λ t. t ++ aliases) first ∙ append_assoc header imports aliases))
-    ∙ (map-append view header (imports ++ aliases)
-    ∙ ap (λ t. map view header ++ t) (map-append view imports aliases))
-
 -- what a library of one flavour holds
 abbrev pub held_by : DefinitionView → MachineType → Flavor → LibraryView
 held_by d machine flavor = record { definition = renamed d; machine = machine; flavor = flavor }
@@ -201,10 +193,3 @@ members_of_exports exports options d members meant made = record {
 -- the text that is read of bytes is their definition's
 pub found_in : (bytes text read : List ℕ) → read ≡ definition_text bytes → (text ≡ read) × IsUtf8 read → (text ≡ definition_text bytes) × IsUtf8 (definition_text bytes)
 found_in bytes text read is found = (found.0 ∙ is, subst IsUtf8 is found.1)
-
--- two lists that are joined, and members after them
-pub joined_before : {X : Type 0} (view : X → MemberView) (header imports both : List X) (later all : List MemberView) → both ≡ header ++ imports → all ≡ map view both ++ later
-    → all ≡ map view header ++ (map view imports ++ later)
-joined_before view header imports both later all first second =
-    second ∙ (ap (λ l. map view l ++ later) first
-    ∙ (ap (λ l. l ++ later) (map-append view header imports) ∙ append_assoc (map view header) (map view imports) later))

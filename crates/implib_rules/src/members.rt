@@ -67,11 +67,7 @@ fn count_kept(imports: Option<&ShortImports>) -> usize
 }
 
 // Where the member at an index of short imports and others after them is.
-fn spot_after<'a>(
-    imports: Option<&'a ShortImports>,
-    after: &'a [Member],
-    index: usize,
-) -> Spot<'a>
+fn spot_after<'a>(imports: Option<&'a ShortImports>, after: &'a [Member], index: usize) -> Spot<'a>
     ensures { IsAt (kept_in (option_map (λ i. i.now) imports.entry) ++ map member_view after.now)
         index result }
 {

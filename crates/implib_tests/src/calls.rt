@@ -67,10 +67,16 @@ fn libraries_for_one_linker_have_members(rt: HostRuntime) -> Result<(), Fail> {
 fn members_for_microsoft_are_in_three_lists(rt: HostRuntime) -> Result<(), Fail> {
     let text = "LIBRARY foo.dll\nEXPORTS\nfoo == baz\nbar\nvar == baz DATA";
     let def = ModuleDef::parse(rt.alloc(), text, MachineType::AMD64)?;
-    let lists = MsvcImportLibrary::new(def, MachineType::AMD64).member_lists()?;
+    let lists = MsvcImportLibrary::new(def, MachineType::AMD64).into_member_lists()?;
     assert!(rt; have_lengths(&lists.header, &[358, 127, 159]));
-    assert!(rt; have_lengths(&lists.imports, &[32]));
     assert!(rt; have_lengths(&lists.aliases, &[162, 174, 174]));
+    let imports = lists.imports;
+    assert!(rt; (imports.len(), imports.size(0), imports.symbol_count(0)) == (1, 32, 2));
+    assert!(rt; (imports.name(0), imports.symbol(0, 0)) == ("foo.dll", "__imp_bar"));
+    assert!(rt; imports.symbol(0, 1) == "bar");
+    let bytes = imports.bytes(rt.alloc(), 0)?;
+    assert!(rt; bytes.as_slice()
+        == b"\0\0\xFF\xFF\0\0\x64\x86\0\0\0\0\x0C\0\0\0\0\0\x04\0bar\0foo.dll\0");
     Ok(())
 }
 

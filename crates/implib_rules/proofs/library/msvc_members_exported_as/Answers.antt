@@ -1,6 +1,7 @@
-use Rattle.std.proofs.Common.{◌≡◌, ◌∙◌, true, ap, map, Some}
+use Rattle.std.proofs.Common.{◌≡◌, ◌∙◌, ◌++◌, List, true, ap, map, Some}
 use Rattle.std.specs.List.{flat_map, list_any}
 use Rattle.implib.specs.declared.flavor.Flavor.TheVariants.{Msvc}
+use Rattle.implib.specs.declared.member.Member.{Member}
 use Rattle.implib.specs.Definition.{definition_view, export_view}
 use Rattle.implib.specs.Fault.{MemberTooLong}
 use Rattle.implib.specs.Library.{member_view}
@@ -8,7 +9,7 @@ use Rattle.implib.specs.LibraryName.{NamesOfDll, names_for}
 use Rattle.implib.specs.Members.MemberLists.{lists_view}
 use Rattle.implib.specs.Members.Members.{is_too_long, refusal}
 use Rattle.implib.specs.Renaming.{renamed}
-use Rattle.implib_rules.specs.ExportAs.{export_as_refusal, export_as_unless_private}
+use Rattle.implib_rules.specs.ExportAs.{export_as_refusal, export_as_unless_private, placed}
 use Rattle.implib_rules.specs.ExportAsViews.{later_view}
 use Rattle.implib_rules.proofs.ExportedAs.{handed_on, held_kept, is_export_as_library, names_refused, too_long_refused}
 use Rattle.implib_rules.proofs.library.msvc_members_exported_as.Goals as goal
@@ -55,4 +56,8 @@ returns-clause-ok c =
     (held_kept d c.args.machine library _ c.new.ensures.held c.in_ok-keep_exports.ensures) c.in_ok-lists.ensures.ok
     (same_names _ _ (c.as_str.ensures.value ∙ c.in_ok-linked.ensures) c.as_str-2.ensures.value) (ap (map export_view) c.as_slice.ensures.value)
     c.in_ok-laters.ensures.ok
-    c.in_ok-laters.ensures.fits ?
+    c.in_ok-laters.ensures.fits
+    (c.in_ok-new.ensures {u = tt}
+    ∙ ap (λ l. map member_view lists.header.items ++ (lists.imports.members ++ l))
+    (c.in_ok-place.ensures {u = tt}
+    ∙ ap (λ (before : List Member). map member_view before ++ placed (map later_view c.in_ok-laters.field-0.items) (map member_view lists.aliases.items)) c.new-after.ensures.items))
