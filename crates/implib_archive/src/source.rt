@@ -9,8 +9,8 @@ ghost use Rattle.std.specs.Prelude.{◌≡◌, ◌<◌, List, OnOk, length, map}
 use implib::Member;
 use std::alloc::AllocError;
 
-/// What stands for the members of an archive, as a reference to them does. [`Source`] has the calls
-/// that answer of them.
+/// A value that stands for members, as a reference to them does. [`Source`] has the calls that
+/// answer of them; contracts of an archive name the members alone.
 pub trait Members: Copy {
     // The members, in order.
     ghost members: { Self → List MemberView };
@@ -19,7 +19,8 @@ pub trait Members: Copy {
 /// Where the members of an archive come from: their names, sizes and symbols are at hand, and their
 /// bytes are made when they are wanted.
 ///
-/// It is what an archive copies and keeps, so a type that holds much has it at its reference.
+/// An archive keeps a copy of its source, so a type that is not `Copy` has this at its reference:
+/// `impl<'a> Source<'a> for &'a T`.
 pub trait Source<'a>: Members {
     /// The number of the members.
     fn count(&self) -> usize
@@ -61,7 +62,7 @@ impl<'a> Members for &'a [Member] {
     ghost members = { λ members. map member_view members.now };
 }
 
-/// Members that are held: nothing is made.
+// Members that are held.
 impl<'a> Source<'a> for &'a [Member] {
     fn count(&self) -> usize {
         self.len()

@@ -87,7 +87,8 @@ impl<'a, S: Source<'a>> Archive<'a, S> {
         self.places.end
     }
 
-    /// The archive's bytes, in memory of exactly their size.
+    /// The archive's bytes, in memory of exactly their size; a source of the caller's own may have
+    /// asked for more.
     ///
     /// # Errors
     ///
