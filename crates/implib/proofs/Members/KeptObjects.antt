@@ -1,9 +1,11 @@
 -- Exports for GNU's linker that are kept as what their objects say.
 use Rattle.std.proofs.Common.{◌≡◌, ℕ, ◌+◌, ◌*◌, ◌-◌, ◌<◌, ◌≤◌, ◌||◌, true, false, Bool, List, [], ◌∷◌, ◌++◌, length, drop, map, refl, sym, ap, ◌∙◌, arith, length-append, if◌then◌else◌, codes, bytes_eq, inl, inr, sum_by}
-use Rattle.std.specs.Prelude.{get_or, min, string_bytes}
-use Rattle.std.specs.List.{fold, list_any}
+use Rattle.std.specs.Prelude.{IfSome, None, Option, Some, get_or, min, option_map, string_bytes}
+use Rattle.std.specs.List.{AllByRecursion, fold, list_any, slice_get}
 use Rattle.std.specs.Str.{IsCharBoundary}
-use Rattle.std.proofs.lemmas.Bool.{cases_Bool, false≢true, true≢false}
+use Rattle.std.proofs.lemmas.Bool.{cases_Bool, le-ltb, lt-ltb, or_parts}
+use Rattle.std.proofs.lemmas.List.{map-append}
+use Rattle.std.proofs.lemmas.Option.{slice_get-map}
 use Rattle.std.proofs.lemmas.List.Folds.{list_any-append}
 use Rattle.std.proofs.lemmas.List.Sums.{sum_by-append}
 use Rattle.std.proofs.lemmas.Slice.Eq.{bytes_eq-Decides}
@@ -11,14 +13,22 @@ use Rattle.std.proofs.lemmas.Str.{IsCharBoundary-after_ascii, IsUtf8-string_byte
 use Rattle.implib.specs.declared.gnu.export_objects.KeptObject.{KeptObject}
 use Rattle.implib.specs.declared.machine.MachineType.{MachineType}
 use Rattle.implib.specs.declared.machine.MachineType.TheVariants.{I386, ARMNT, AMD64, ARM64}
-use Rattle.implib.specs.Definition.{ExportView}
+use Rattle.implib.specs.Definition.{ExportView, given_name}
 use Rattle.implib.specs.Formats.Bytes.{u16_bytes}
-use Rattle.implib.specs.Formats.Layout.{auxiliary_count, contents_offset, contents_size, encoded_size, record_count, records, string_size, strings_size, symbol_table_offset}
-use Rattle.implib.specs.Formats.Writer.{AddedSymbol, is_long, layout_of, long_names, symbol_written, with_long_name, with_name}
-use Rattle.implib.specs.Import.{imp_symbol, name_asked}
-use Rattle.implib.specs.Members.Gnu.{export_object, export_sections, export_symbols, head_symbol, hint_name, hint_name_symbol, relocations_of_stub, relocations_of_thunk, stub, stub_bytes, stub_relocations, thunk}
+use Rattle.implib.specs.Formats.Layout.{auxiliary_count, contents_offset, contents_size, encoded, encoded_size, record_count, records, string_size, strings_size, symbol_table_offset}
+use Rattle.implib.specs.Formats.Writer.{WriterState, is_long, layout_of, long_names, symbol_written, with_long_name, with_name}
+use Rattle.implib.specs.Import.{holds, imp_symbol, is_empty_text, name_asked}
+use Rattle.implib.specs.Members.Gnu.{archive_symbols, export_name, export_object, export_sections, export_symbols, head_symbol, hint_name, hint_name_symbol, relocations_of_stub, relocations_of_thunk, stub, stub_bytes, stub_relocations, thunk}
 use Rattle.implib.specs.Members.ImportTables.{relocation, thunk_width, zeros}
-use Rattle.implib.specs.Views.KeptObjects.{HasAddress, kept_name, kept_export, long_name_size, stub_size}
+use Rattle.implib.specs.Views.KeptObjects.{HasAddress, IsKept, KeepsExport, kept_export, kept_name, kept_symbols, kept_view, long_name_size, stub_size}
+use Rattle.implib.specs.Members.GnuMembers.{export_spec}
+use Rattle.implib.specs.Members.MemberSpec.{MemberView, file_size, member_of}
+use Rattle.implib.specs.Members.Members.{is_too_long}
+use Rattle.implib.specs.Members.NameRules.{holds_nul}
+use Rattle.implib.proofs.Formats.ObjectReading.{length-encoded}
+use Rattle.implib.proofs.Link.LinkedMembers.{all_at}
+use Rattle.implib.proofs.Members.GnuObjects.{Fits-export_object}
+use Rattle.implib.proofs.Text.Trivia.{AllByRecursion-append}
 
 -- the prefix of the symbol of an address may be cut off
 pub boundary : (k : KeptObject) → HasAddress k → IsCharBoundary (string_bytes k.address) 6
@@ -186,3 +196,114 @@ pub sizes_saturated : (records contents names : ℕ) {first whole some : ℕ}
     → whole ≡ min (first + some) 0xFFFF_FFFF_FFFF_FFFF → first ≡ min (304 + records * 18 + contents) 0xFFFF_FFFF_FFFF_FFFF → some ≡ min 0xFFFF_FFFF_FFFF_FFFF names
     → whole ≡ min 0xFFFF_FFFF_FFFF_FFFF (304 + 18 * records + contents + names)
 sizes_saturated records contents names a b c = omega (arith, a, b, c)
+
+-- What is kept of an export says all that its object does.
+
+abbrev said : List ℕ → Option (List ℕ) → ℕ → Bool → Bool → ExportView
+said name asked ordinal no_name is_data = record {
+  name = name;
+  ext_name = None;
+  symbol_name = [];
+  asked_name = asked;
+  alias_target = [];
+  ordinal = ordinal;
+  no_name = no_name;
+  is_data = is_data;
+  private = false;
+  constant = false;
+}
+
+object_of_said : (machine : MachineType) (linked : List ℕ) (e : ExportView) →
+    export_object machine linked (said e.name e.asked_name e.ordinal e.no_name e.is_data) ≡ export_object machine linked e
+unfolding export_object stub relocations_of_stub thunk relocations_of_thunk hint_name
+object_of_said machine linked e = refl
+
+module _ (machine : MachineType) (linked : List ℕ) (number : ℕ) (e : ExportView) (k : KeptObject) (keeps : KeepsExport linked number e k) where
+  pub name_kept : kept_name k ≡ e.name
+  name_kept = ap (drop 6) keeps.address
+
+  pub object_kept : export_object machine linked (kept_export k) ≡ export_object machine linked e
+  object_kept =
+      let name = name_kept in
+      let whole : export_object machine linked (said (kept_name k) (option_map string_bytes k.asked_name) k.ordinal k.no_name k.is_data) ≡ export_object machine linked (said e.name e.asked_name e.ordinal e.no_name e.is_data) =
+      rw (name, keeps.asked_name, keeps.ordinal, keeps.no_name, keeps.is_data) refl in
+      whole ∙ object_of_said machine linked e
+
+  pub member_kept : kept_view machine linked k ≡ member_of (export_spec machine linked number e)
+  unfolding export_spec
+  member_kept =
+      let name = name_kept in
+      let object = object_kept in
+      let symbols : kept_symbols k ≡ archive_symbols e = rw (keeps.is_data, name, keeps.address) refl in
+      let whole : kept_view machine linked k ≡ record { name = export_name linked number; bytes = encoded (layout_of (export_object machine linked e)); symbols = archive_symbols e } =
+      rw (keeps.name, object, symbols) refl in
+      whole
+
+  pub long_kept : encoded_size (layout_of (export_object machine linked (kept_export k))) ≡ file_size ((export_spec machine linked number e).contents)
+  unfolding export_spec
+  long_kept = ap (λ (h : WriterState). encoded_size (layout_of h)) object_kept
+
+  -- the object is too long where its size is
+  pub refused_long : (size : ℕ) → size ≡ min 0xFFFF_FFFF_FFFF_FFFF (encoded_size (layout_of (export_object machine linked (kept_export k)))) → 0xFFFF_FFFF < size
+      → is_too_long (export_spec machine linked number e) ≡ true
+  refused_long size is long =
+      let same = long_kept in
+      lt-ltb 0xFFFF_FFFF _ (omega (arith, is, long, same))
+
+  pub kept_short : (size : ℕ) → size ≡ min 0xFFFF_FFFF_FFFF_FFFF (encoded_size (layout_of (export_object machine linked (kept_export k)))) → size ≤ 0xFFFF_FFFF
+      → is_too_long (export_spec machine linked number e) ≡ false
+  kept_short size is short =
+      let same = long_kept in
+      le-ltb 0xFFFF_FFFF _ (omega (arith, is, short, same))
+
+  pub is_kept : (size : ℕ) → size ≡ min 0xFFFF_FFFF_FFFF_FFFF (encoded_size (layout_of (export_object machine linked (kept_export k)))) → size ≤ 0xFFFF_FFFF
+      → holds 0 e.name ≡ false → is_empty_text e.name ≡ false → IsKept machine linked k
+  is_kept size is short free filled =
+      let name = name_kept in
+      record {
+        address = keeps.address ∙ ap imp_symbol (sym name);
+        free = rw name free;
+        filled = rw name filled;
+        short = omega (arith, is, short);
+      }
+
+-- a name without NUL, of an export that holds none
+pub name_free : (e : ExportView) → holds_nul e ≡ false → holds 0 e.name ≡ false
+name_free e free =
+    let three = or_parts (holds 0 e.name || holds 0 e.symbol_name || holds 0 e.alias_target) (holds 0 (given_name e)) free in
+    let two = or_parts (holds 0 e.name || holds 0 e.symbol_name) (holds 0 e.alias_target) three.0 in
+    (or_parts (holds 0 e.name) (holds 0 e.symbol_name) two.0).0
+
+-- the size of an object that is kept is that of its bytes
+pub length_kept : (machine : MachineType) (linked : List ℕ) (k : KeptObject) → holds 0 linked ≡ false → IsKept machine linked k
+    → length ((kept_view machine linked k).bytes) ≡ encoded_size (layout_of (export_object machine linked (kept_export k)))
+length_kept machine linked k free kept =
+    length-encoded (layout_of (export_object machine linked (kept_export k)))
+    (Fits-export_object machine linked (kept_export k) free kept.free kept.filled)
+    (omega (arith, kept.short))
+
+module _ (machine : MachineType) (linked : List ℕ) where
+  pub size_at : (items : List KeptObject) (index : ℕ) (k : KeptObject) (size : ℕ) → holds 0 linked ≡ false → AllByRecursion (IsKept machine linked) items
+      → slice_get items index ≡ Some k → size ≡ min 0xFFFF_FFFF_FFFF_FFFF (encoded_size (layout_of (export_object machine linked (kept_export k))))
+      → IfSome (slice_get (map (kept_view machine linked) items) index) (λ m. size ≡ length m.bytes)
+  size_at items index k size free all found is =
+      let kept = all_at (IsKept machine linked) items index k all found in
+      let long = length_kept machine linked k free kept in
+      rw (slice_get-map (kept_view machine linked) items index, found) (omega (arith, is, long, kept.short))
+
+  pub at_none : (items : List KeptObject) (index : ℕ) (P : MemberView → Type 0)
+      → slice_get items index ≡ None → IfSome (slice_get (map (kept_view machine linked) items) index) P
+  at_none items index P found = rw (slice_get-map (kept_view machine linked) items index, found) tt
+
+  -- one object more
+  pub kept_more : (number : ℕ) (e : ExportView) (items more : List KeptObject) (k : KeptObject) → more ≡ items ++ k ∷ []
+      → kept_view machine linked k ≡ member_of (export_spec machine linked number e)
+      → map (kept_view machine linked) more ≡ map (kept_view machine linked) items ++ map member_of (export_spec machine linked number e ∷ [])
+  kept_more number e items more k is shows =
+      ap (map (kept_view machine linked)) is
+      ∙ (map-append (kept_view machine linked) items (k ∷ [])
+      ∙ ap (λ (m : MemberView). map (kept_view machine linked) items ++ m ∷ []) shows)
+
+  pub all_kept : (items more : List KeptObject) (k : KeptObject) → more ≡ items ++ k ∷ [] → AllByRecursion (IsKept machine linked) items → IsKept machine linked k
+      → AllByRecursion (IsKept machine linked) more
+  all_kept items more k is all kept = rw is (AllByRecursion-append (IsKept machine linked) items (k ∷ []) all (kept, tt))

@@ -1,6 +1,6 @@
 -- Views of exports for GNU's linker that are kept as what their objects say. No promise cites them.
 use Rattle.std.specs.Prelude.{◌≡◌, ℕ, ◌+◌, ◌*◌, ◌≤◌, List, [], ◌∷◌, ◌++◌, Bool, None, drop, length, map, if◌then◌else◌, string_bytes, Result, IfOk, OnOk, false, true}
-use Rattle.std.specs.List.{list_any}
+use Rattle.std.specs.List.{AllByRecursion, list_any}
 use Rattle.std.specs.Option.{option_map}
 use Rattle.implib.specs.declared.error.Error.{Error}
 use Rattle.implib.specs.declared.gnu.export_objects.KeptObject.{KeptObject}
@@ -11,7 +11,7 @@ use Rattle.implib.specs.Formats.Layout.{encoded, encoded_size, string_size}
 use Rattle.implib.specs.Formats.Writer.{is_long, layout_of}
 use Rattle.implib.specs.Import.{holds, imp_symbol, is_empty_text}
 use Rattle.implib.specs.Members.ExportObjects.{ExportObjectsView}
-use Rattle.implib.specs.Members.Gnu.{export_name, export_object, stub_bytes, stub_relocations}
+use Rattle.implib.specs.Members.Gnu.{export_name, export_object, head_symbol, stub_bytes, stub_relocations}
 use Rattle.implib.specs.Members.MemberSpec.{MemberSpec, MemberView, member_of}
 use Rattle.implib.specs.Members.Members.{is_too_long}
 
@@ -81,3 +81,9 @@ pub record KeepsObjects (specs : List MemberSpec) (old new : ExportObjectsView) 
   pub ok : OnOk result (new ≡ record old { members = old.members ++ map member_of specs })
   pub fit : OnOk result (list_any is_too_long specs ≡ false)
   pub too_long : IfInvalid result (λ cause. (cause ≡ MemberTooLong) × (list_any is_too_long specs ≡ true))
+
+-- what holds of all that is kept for a library of this name, with the symbol of its head
+pub record AreKept (machine : MachineType) (linked symbol : List ℕ) (objects : List KeptObject) : Type 0 where
+  pub head : symbol ≡ head_symbol machine linked
+  pub free : holds 0 linked ≡ false
+  pub each : AllByRecursion (IsKept machine linked) objects
