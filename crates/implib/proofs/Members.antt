@@ -10,6 +10,7 @@ pub mod MemberReadings
 pub mod MemberMeanings
 pub mod MemberLists
 pub mod KeptImports
+pub mod KeptObjects
 pub mod MembersLoop
 pub mod Asked
 pub mod GnuObjects

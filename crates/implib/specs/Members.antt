@@ -11,6 +11,7 @@ pub mod GnuMembers
 pub mod NameRules
 pub mod Members
 pub mod ShortImports
+pub mod ExportObjects
 pub mod MemberLists
 pub mod ReadBack
 pub mod OfText

@@ -7,4 +7,5 @@ pub mod Layout
 pub mod Writer
 pub mod Table
 pub mod KeptImports
+pub mod KeptObjects
 pub mod Making

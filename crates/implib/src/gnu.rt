@@ -18,6 +18,7 @@ use crate::machine::MachineType;
 use crate::member::Member;
 use std::marker::Model;
 
+mod export_objects;
 pub(crate) mod members;
 mod names;
 mod objects;
