@@ -25,14 +25,14 @@ use crate::aliases::link_with_targets;
 use crate::export_as::{keep_exports, laters_of, place};
 use crate::library_name::library_name_for;
 use crate::linked::Naming;
-use crate::members::LibraryMembers;
+use crate::members::{LibraryMembers, MadeLater};
 use crate::name::{FirstHeading, dll_name, lacks_name};
 use crate::options::LibraryOptions;
 use crate::places::position_of_fault;
 use crate::repeats::leave_out_repeats;
 use crate::text::DefinitionText;
 use implib::def::{ModuleDef, Position};
-use implib::gnu::GnuImportLibrary;
+use implib::gnu::{GnuImportLibrary, GnuMembers};
 use implib::msvc::{MemberLists, MsvcImportLibrary, linked_dll};
 use implib::{Error, Fault, Flavor, MachineType, ParseError};
 use implib_archive::{Archive, Kind, WriteError};
@@ -222,7 +222,7 @@ fn msvc_members_in_order(def: ModuleDef, machine: MachineType) -> Result<Library
         imports,
         aliases,
     } = lists;
-    Ok(LibraryMembers::new(header, Some(imports), aliases)?)
+    Ok(LibraryMembers::new(header, MadeLater::Imports(imports), aliases)?)
 }
 
 // The members for Microsoft's linker where an export may have a short import with a third text, which
@@ -254,7 +254,7 @@ fn msvc_members_exported_as(
     } = lists;
     let mut after = Vec::new(alloc);
     place(laters?, aliases, &mut after)?;
-    Ok(LibraryMembers::new(header, Some(imports), after)?)
+    Ok(LibraryMembers::new(header, MadeLater::Imports(imports), after)?)
 }
 
 // The members for GNU's linker.
@@ -264,9 +264,10 @@ fn gnu_members(def: ModuleDef, machine: MachineType) -> Result<LibraryMembers, E
     ensures refused { IfInvalid result
         (λ cause. refusal (renamed (definition_view def)) machine Gnu ≡ Some cause) }
 {
-    let before = Vec::new(*def.exports.allocator());
-    let members = GnuImportLibrary::new(def, machine).members()?;
-    Ok(LibraryMembers::new(before, None, members)?)
+    let after = Vec::new(*def.exports.allocator());
+    let members = GnuImportLibrary::new(def, machine).into_members()?;
+    let GnuMembers { before, objects } = members;
+    Ok(LibraryMembers::new(before, MadeLater::Objects(objects), after)?)
 }
 
 /// The members of a definition in the order in which an archive is to have them.
@@ -401,8 +402,8 @@ pub fn archive_for<'a>(
     Ok(Archive::new(alloc, members, kind)?)
 }
 
-/// Writes the import library that is asked for. It is never held, nor are its short imports: they are
-/// made one by one.
+/// Writes the import library that is asked for. It is never held, nor are the members of its imports:
+/// they are made one by one.
 ///
 /// It calls `write` a few times for each member, so a writer to a file wants a `BufWriter` before
 /// it. It does not flush.

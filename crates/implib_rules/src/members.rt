@@ -1,22 +1,34 @@
-//! The members of a library, of which short imports are made when they are wanted.
+//! The members of a library, most of which are made when they are wanted.
 
 ghost use Rattle.implib.specs.Library.{member_view};
-ghost use Rattle.implib_rules.specs.Spots.{IsAt, kept_in};
+ghost use Rattle.implib_rules.specs.Spots.{IsAt, later_in};
 ghost use Rattle.std.specs.List.{slice_get};
-ghost use Rattle.std.specs.Prelude.{◌≡◌, ◌++◌, IfOk, IfSome, length, map, option_map, string_bytes};
+ghost use Rattle.std.specs.Prelude.{◌≡◌, ◌++◌, IfOk, IfSome, length, map, string_bytes};
 
 use implib::Member;
+use implib::gnu::ExportObjects;
 use implib::msvc::ShortImports;
 use implib_archive::{Members, Source};
 use std::alloc::AllocError;
 use std::marker::Model;
 
-/// The members of a library, in order. Short imports are kept as what they say; their bytes are made
-/// when they are wanted.
+/// Members that are made when they are wanted.
+#[derive(Drop)]
+pub(crate) enum MadeLater {
+    /// No member.
+    Nothing,
+    /// Short imports.
+    Imports(ShortImports),
+    /// Objects of exports for GNU's linker.
+    Objects(ExportObjects),
+}
+
+/// The members of a library, in order. Short imports, and objects of exports for GNU's linker, are
+/// kept as what they say; their bytes are made when they are wanted.
 #[derive(Drop)]
 pub struct LibraryMembers {
     before: Vec<Member>,
-    imports: Option<ShortImports>,
+    later: MadeLater,
     after: Vec<Member>,
     count: usize,
 }
@@ -24,16 +36,16 @@ pub struct LibraryMembers {
 impl Model for LibraryMembers {
     ghost use Rattle.implib.specs.Library.{member_view};
     ghost use Rattle.implib.specs.Members.MemberSpec.{MemberView};
-    ghost use Rattle.implib_rules.specs.Spots.{kept_in};
+    ghost use Rattle.implib_rules.specs.Spots.{later_in};
     ghost use Rattle.std.specs.Prelude.{◌≡◌, ◌++◌, List, length, map};
 
     ghost Value = { List MemberView };
 
     ghost view = { λ m. map member_view m.before.items
-        ++ (kept_in m.imports ++ map member_view m.after.items) };
+        ++ (later_in m.later ++ map member_view m.after.items) };
 
     ghost invariant = { λ m. m.count ≡ length (map member_view m.before.items
-        ++ (kept_in m.imports ++ map member_view m.after.items)) };
+        ++ (later_in m.later ++ map member_view m.after.items)) };
 }
 
 // Where a member is.
@@ -41,7 +53,9 @@ enum Spot<'a> {
     // Here.
     Held(&'a Member),
     // Among these, at this index.
-    Kept(&'a ShortImports, usize),
+    Import(&'a ShortImports, usize),
+    // Among these, at this index.
+    Object(&'a ExportObjects, usize),
     // Nowhere: there are not so many.
     Nowhere,
 }
@@ -56,49 +70,57 @@ fn spot_in(members: &[Member], index: usize) -> Spot<'_>
     }
 }
 
-// How many short imports there are.
-fn count_kept(imports: Option<&ShortImports>) -> usize
-    ensures { result ≡ length (kept_in (option_map (λ i. i.now) imports.entry)) }
-{
-    match imports {
-        Some(imports) => imports.len(),
-        None => 0,
+impl MadeLater {
+    // How many there are.
+    fn len(&self) -> usize
+        ensures { result ≡ length (later_in self.now) }
+    {
+        match self {
+            MadeLater::Nothing => 0,
+            MadeLater::Imports(imports) => imports.len(),
+            MadeLater::Objects(objects) => objects.len(),
+        }
+    }
+
+    // Where the one at an index is.
+    fn spot(&self, index: usize) -> Spot<'_>
+        ensures { IsAt (later_in self.now) index result }
+    {
+        match self {
+            MadeLater::Nothing => Spot::Nowhere,
+            MadeLater::Imports(imports) => Spot::Import(imports, index),
+            MadeLater::Objects(objects) => Spot::Object(objects, index),
+        }
     }
 }
 
-// Where the member at an index of short imports and others after them is.
-fn spot_after<'a>(imports: Option<&'a ShortImports>, after: &'a [Member], index: usize) -> Spot<'a>
-    ensures { IsAt (kept_in (option_map (λ i. i.now) imports.entry) ++ map member_view after.now)
-        index result }
+// Where the member at an index of these and of others after them is.
+fn spot_after<'a>(later: &'a MadeLater, after: &'a [Member], index: usize) -> Spot<'a>
+    ensures { IsAt (later_in later.now ++ map member_view after.now) index result }
 {
-    match imports {
-        Some(imports) => {
-            if index < imports.len() {
-                Spot::Kept(imports, index)
-            } else {
-                spot_in(after, index - imports.len())
-            }
-        }
-        None => spot_in(after, index),
+    let count = later.len();
+    if index < count {
+        later.spot(index)
+    } else {
+        spot_in(after, index - count)
     }
 }
 
 impl LibraryMembers {
-    /// Members in order: some, short imports if there are any, and others.
+    /// Members in order: some, those that are made when they are wanted, and others.
     ///
     /// # Errors
     ///
     /// There are 2^64 or more.
     pub(crate) fn new(
         before: Vec<Member>,
-        imports: Option<ShortImports>,
+        later: MadeLater,
         after: Vec<Member>,
     ) -> Result<LibraryMembers, AllocError>
         ensures { IfOk result (λ members. members ≡ map member_view before.items
-            ++ (kept_in imports ++ map member_view after.items)) }
+            ++ (later_in later ++ map member_view after.items)) }
     {
-        let kept = count_kept(imports.as_ref());
-        let Some(count) = before.len().checked_add(kept) else {
+        let Some(count) = before.len().checked_add(later.len()) else {
             return Err(AllocError);
         };
         let Some(count) = count.checked_add(after.len()) else {
@@ -106,7 +128,7 @@ impl LibraryMembers {
         };
         Ok(LibraryMembers {
             before,
-            imports,
+            later,
             after,
             count,
         })
@@ -127,7 +149,7 @@ impl LibraryMembers {
             spot_in(self.before.as_slice(), index)
         } else {
             spot_after(
-                self.imports.as_ref(),
+                &self.later,
                 self.after.as_slice(),
                 index - self.before.len(),
             )
@@ -158,7 +180,8 @@ impl<'a> Source<'a> for &'a LibraryMembers {
     fn name(&self, index: usize) -> &'a str {
         match self.spot(index) {
             Spot::Held(member) => member.name.as_str(),
-            Spot::Kept(imports, index) => imports.name(index),
+            Spot::Import(imports, index) => imports.name(index),
+            Spot::Object(objects, index) => objects.name(index),
             Spot::Nowhere => "",
         }
     }
@@ -166,7 +189,8 @@ impl<'a> Source<'a> for &'a LibraryMembers {
     fn size(&self, index: usize) -> usize {
         match self.spot(index) {
             Spot::Held(member) => member.bytes.as_slice().len(),
-            Spot::Kept(imports, index) => imports.size(index),
+            Spot::Import(imports, index) => imports.size(index),
+            Spot::Object(objects, index) => objects.size(index),
             Spot::Nowhere => 0,
         }
     }
@@ -174,7 +198,8 @@ impl<'a> Source<'a> for &'a LibraryMembers {
     fn symbol_count(&self, index: usize) -> usize {
         match self.spot(index) {
             Spot::Held(member) => member.symbols.as_slice().len(),
-            Spot::Kept(imports, index) => imports.symbol_count(index),
+            Spot::Import(imports, index) => imports.symbol_count(index),
+            Spot::Object(objects, index) => objects.symbol_count(index),
             Spot::Nowhere => 0,
         }
     }
@@ -182,7 +207,8 @@ impl<'a> Source<'a> for &'a LibraryMembers {
     fn symbol(&self, index: usize, number: usize) -> &'a str {
         match self.spot(index) {
             Spot::Held(member) => symbol_in(member.symbols.as_slice(), number),
-            Spot::Kept(imports, index) => imports.symbol(index, number),
+            Spot::Import(imports, index) => imports.symbol(index, number),
+            Spot::Object(objects, index) => objects.symbol(index, number),
             Spot::Nowhere => "",
         }
     }
@@ -190,8 +216,12 @@ impl<'a> Source<'a> for &'a LibraryMembers {
     fn push_bytes(&self, index: usize, out: &mut Vec<u8>) -> Result<(), AllocError> {
         match self.spot(index) {
             Spot::Held(member) => out.extend_from_slice(member.bytes.as_slice()),
-            Spot::Kept(imports, index) => {
+            Spot::Import(imports, index) => {
                 let bytes = imports.bytes(*out.allocator(), index)?;
+                out.extend_from_slice(bytes.as_slice())
+            }
+            Spot::Object(objects, index) => {
+                let bytes = objects.bytes(*out.allocator(), index)?;
                 out.extend_from_slice(bytes.as_slice())
             }
             Spot::Nowhere => Ok(()),
