@@ -11,6 +11,7 @@ pub mod MemberMeanings
 pub mod MemberLists
 pub mod KeptImports
 pub mod KeptObjects
+pub mod KeptLoop
 pub mod MembersLoop
 pub mod Asked
 pub mod GnuObjects

@@ -12,6 +12,7 @@ pub mod NameRules
 pub mod Members
 pub mod ShortImports
 pub mod ExportObjects
+pub mod KeptMembers
 pub mod MemberLists
 pub mod ReadBack
 pub mod OfText

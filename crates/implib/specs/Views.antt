@@ -9,3 +9,4 @@ pub mod Table
 pub mod KeptImports
 pub mod KeptObjects
 pub mod Making
+pub mod MakingKept

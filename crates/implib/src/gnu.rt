@@ -3,6 +3,7 @@
 ghost use Rattle.implib.specs.Definition.{definition_view};
 ghost use Rattle.implib.specs.Fault.{IfInvalid};
 ghost use Rattle.implib.specs.Library.{member_view};
+ghost use Rattle.implib.specs.Members.KeptMembers.{kept_members};
 ghost use Rattle.implib.specs.Members.Members.{AreMembersOf, refusal};
 ghost use Rattle.implib.specs.Members.NameRules.{RefusesAlways};
 ghost use Rattle.implib.specs.Members.ReadBack.{ReadBack};
@@ -23,6 +24,9 @@ pub(crate) mod members;
 mod names;
 mod objects;
 mod table;
+
+pub use crate::gnu::export_objects::ExportObjects;
+pub use crate::gnu::members::GnuMembers;
 
 /// The import library of a module definition for GNU's linker (docs/FORMATS.md, "Members for GNU's
 /// linker").
@@ -80,5 +84,24 @@ impl GnuImportLibrary {
             self.now.definition self.now.machine Gnu result }
     {
         self.library.members()
+    }
+
+    /// The members, the objects of the exports kept as what they say: an archive of the library can
+    /// so be written without holding them all (docs/FORMATS.md, "Objects of exports that are
+    /// kept").
+    ///
+    /// # Errors
+    ///
+    /// Those of [`ImportLibrary::members`].
+    pub fn into_members(self) -> Result<GnuMembers, Error>
+        ensures ok { IfOk result (λ members.
+            AreMembersOf self.definition self.machine Gnu (kept_members members)) }
+        ensures reads { IfOk result (λ members.
+            ReadBack self.definition self.machine Gnu (kept_members members)) }
+        ensures refused { IfInvalid result
+            (λ cause. refusal self.definition self.machine Gnu ≡ Some cause) }
+        ensures names_refused_always { RefusesAlways self.definition self.machine Gnu result }
+    {
+        self.library.into_gnu_members()
     }
 }

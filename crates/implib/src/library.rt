@@ -3,19 +3,20 @@
 ghost use Rattle.implib.specs.Definition.{definition_view, export_view};
 ghost use Rattle.implib.specs.Fault.{IfInvalid, error_cause};
 ghost use Rattle.implib.specs.Library.{LibraryOf, library_view, member_view};
+ghost use Rattle.implib.specs.Members.KeptMembers.{kept_members};
 ghost use Rattle.implib.specs.Members.MemberLists.{AreListsOf, lists_view};
 ghost use Rattle.implib.specs.Members.Members.{AreMembersOf, refusal};
 ghost use Rattle.implib.specs.Members.NameRules.{RefusesAlways};
 ghost use Rattle.implib.specs.Text.Parses.{Refuses};
 ghost use Rattle.implib.specs.Members.ReadBack.{ReadBack};
 ghost use Rattle.implib.specs.Renaming.{is_renamed, renamed};
-ghost use Rattle.implib.specs.declared.flavor.Flavor.TheVariants.{Msvc};
+ghost use Rattle.implib.specs.declared.flavor.Flavor.TheVariants.{Gnu, Msvc};
 ghost use Rattle.std.specs.Prelude.{◌≡◌, IfErr, IfOk, None, Some, map, true};
 
 use crate::def::definition::{ModuleDef, rename};
 use crate::error::Error;
 use crate::flavor::Flavor;
-use crate::gnu::members::members as gnu_members;
+use crate::gnu::members::{GnuMembers, into_members as into_gnu_members, members as gnu_members};
 use crate::machine::MachineType;
 use crate::member::Member;
 use crate::msvc::members::{MemberLists, member_lists, members as msvc_members};
@@ -157,6 +158,24 @@ impl ImportLibrary {
         ensures names_refused_always { RefusesAlways self.definition self.machine Msvc result }
     {
         member_lists(self.def, self.machine)
+    }
+
+    /// The members for GNU's linker, the objects of the exports kept as what they say, whatever the
+    /// library's flavour.
+    ///
+    /// # Errors
+    ///
+    /// Those of [`ImportLibrary::members`] for GNU's linker.
+    pub(crate) fn into_gnu_members(self) -> Result<GnuMembers, Error>
+        ensures ok { IfOk result (λ members.
+            AreMembersOf self.definition self.machine Gnu (kept_members members)) }
+        ensures reads { IfOk result (λ members.
+            ReadBack self.definition self.machine Gnu (kept_members members)) }
+        ensures refused { IfInvalid result
+            (λ cause. refusal self.definition self.machine Gnu ≡ Some cause) }
+        ensures names_refused_always { RefusesAlways self.definition self.machine Gnu result }
+    {
+        into_gnu_members(self.def, self.machine)
     }
 
     /// A copy of the library.

@@ -1,7 +1,7 @@
 -- Exports for GNU's linker that are kept as what their objects say.
 use Rattle.std.proofs.Common.{◌≡◌, ℕ, ◌+◌, ◌*◌, ◌-◌, ◌<◌, ◌≤◌, ◌||◌, true, false, Bool, List, [], ◌∷◌, ◌++◌, length, drop, map, refl, sym, ap, ◌∙◌, arith, length-append, if◌then◌else◌, codes, bytes_eq, inl, inr, sum_by}
 use Rattle.std.specs.Prelude.{IfSome, None, Option, Some, get_or, min, option_map, string_bytes}
-use Rattle.std.specs.List.{AllByRecursion, fold, list_any, slice_get}
+use Rattle.std.specs.List.{AllByRecursion, list_any, slice_get}
 use Rattle.std.specs.Str.{IsCharBoundary}
 use Rattle.std.proofs.lemmas.Bool.{cases_Bool, le-ltb, lt-ltb, or_parts}
 use Rattle.std.proofs.lemmas.List.{map-append}
@@ -117,6 +117,7 @@ counted_after head name = elim (cases_Bool (bytes_eq name head)) [
         (if list_any (bytes_eq name) (if long then head ∷ [] else []) then 0 else long_name_size name) ≡ 0
     when_same true is_long same = rw same refl
     when_same false is_long same = rw is_long refl
+
     when_different : (long : Bool) → bytes_eq name head ≡ false →
         (if list_any (bytes_eq name) (if long then head ∷ [] else []) then 0 else long_name_size name) ≡ long_name_size name
     when_different true differs = rw differs refl

@@ -1,5 +1,5 @@
 -- Views of exports for GNU's linker that are kept as what their objects say. No promise cites them.
-use Rattle.std.specs.Prelude.{◌≡◌, ℕ, ◌+◌, ◌*◌, ◌≤◌, List, [], ◌∷◌, ◌++◌, Bool, None, drop, length, map, if◌then◌else◌, string_bytes, Result, IfOk, OnOk, false, true}
+use Rattle.std.specs.Prelude.{◌≡◌, ℕ, ◌+◌, ◌*◌, ◌≤◌, List, [], ◌∷◌, ◌++◌, None, drop, length, map, if◌then◌else◌, string_bytes, Result, OnOk, false, true}
 use Rattle.std.specs.List.{AllByRecursion, list_any}
 use Rattle.std.specs.Option.{option_map}
 use Rattle.implib.specs.declared.error.Error.{Error}

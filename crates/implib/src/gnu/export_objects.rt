@@ -16,7 +16,7 @@ ghost use Rattle.implib.specs.Views.KeptObjects.{long_name_size, stub_size};
 ghost use Rattle.std.specs.List.{slice_get, sum_by};
 ghost use Rattle.std.specs.Option.{option_map};
 ghost use Rattle.std.specs.Prelude.{string_bytes, true, ℕ, min};
-ghost use Rattle.std.specs.Prelude.{◌≡◌, ◌≤◌, ◌==◌, ◌∷◌, [], IfOk, IfSome, List, OnOk, false, length};
+ghost use Rattle.std.specs.Prelude.{◌≡◌, ◌≤◌, ◌∷◌, [], IfOk, IfSome, List, OnOk, false, length};
 
 use crate::def::definition::ShortExport;
 use crate::error::{Error, Fault};
@@ -108,7 +108,7 @@ impl Model for ExportObjects {
     } };
 
     ghost invariant = { λ s.
-      AreKept s.machine (string_bytes s.library) (string_bytes s.head) s.objects.items };
+        AreKept s.machine (string_bytes s.library) (string_bytes s.head) s.objects.items };
 }
 
 impl KeptObject {

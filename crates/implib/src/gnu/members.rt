@@ -14,17 +14,22 @@ ghost use Rattle.implib.specs.Members.GnuMembers.{alias_specs, export_spec, gnu_
 ghost use Rattle.implib.specs.Members.GnuMembers.{head_spec, numbered_specs, numbered_specs_of};
 ghost use Rattle.implib.specs.Members.GnuMembers.{tail_spec};
 ghost use Rattle.implib.specs.Members.WeakExternal.{weak_spec};
+ghost use Rattle.implib.specs.Members.KeptMembers.{kept_members};
+ghost use Rattle.implib.specs.Members.NameRules.{names_refusal};
+ghost use Rattle.implib.specs.Views.KeptObjects.{KeepsObjects};
+ghost use Rattle.implib.specs.Views.MakingKept.{MakesKept, is_public_alias, kept_specs, public_among};
 ghost use Rattle.implib.specs.Members.ReadBack.{ReadBack};
 ghost use Rattle.implib.specs.Renaming.{is_renamed};
 ghost use Rattle.implib.specs.declared.flavor.Flavor.TheVariants.{Gnu};
 ghost use Rattle.implib.specs.Views.Making.{MakesMember, MakesMembers, PushesMembers};
-ghost use Rattle.std.specs.List.{list_all, sum_by};
+ghost use Rattle.std.specs.List.{filter, list_all, list_any, sum_by};
 ghost use Rattle.std.specs.Prelude.{None, Some, [], false, map, min, string_bytes, true, ◌+◌, ◌∷◌};
-ghost use Rattle.std.specs.Prelude.{◌≡◌, IfOk, OnOk};
+ghost use Rattle.std.specs.Prelude.{◌≡◌, IfOk, OnOk, length, not};
 
 use crate::def::definition::{ModuleDef, ShortExport};
 use crate::error::Error;
 use crate::flavor::Flavor;
+use crate::gnu::export_objects::ExportObjects;
 use crate::gnu::names::{
     export_name, head_name, head_symbol, iname_symbol, tail_name, weak_address_name, weak_name,
 };
@@ -38,6 +43,17 @@ use std::alloc::{AllocError, Global};
 
 // The head and the tail.
 const HEAD_AND_TAIL: usize = 2;
+
+/// The members for GNU's linker, the objects of the exports kept as what they say (docs/FORMATS.md,
+/// "Objects of exports that are kept"): those of `before`, and then those of `objects`. An alias is
+/// a public export whose name is weak for another.
+#[derive(Debug, Drop)]
+pub struct GnuMembers {
+    /// The tail and the head; where an export is an alias, all the members.
+    pub before: Vec<Member>,
+    /// The objects of the exports, from the last to the first; none where an export is an alias.
+    pub objects: ExportObjects,
+}
 
 /// The members, in order, of a definition whose exports are under their names to link by.
 pub(crate) fn members(def: &ModuleDef, machine: MachineType) -> Result<Vec<Member>, Error>
@@ -272,4 +288,128 @@ fn export_member(
         bytes,
         symbols,
     })
+}
+
+/// The members, in order, with the objects of the exports kept as what they say, of a definition
+/// whose exports are under their names to link by.
+pub(crate) fn into_members(def: ModuleDef, machine: MachineType) -> Result<GnuMembers, Error>
+    requires { is_renamed (map export_view def.exports.items) ≡ true }
+    ensures ok { IfOk result (λ members.
+        AreMembersOf (definition_view def) machine Gnu (kept_members members)) }
+    ensures reads { IfOk result (λ members.
+        ReadBack (definition_view def) machine Gnu (kept_members members)) }
+    ensures refused { IfInvalid result
+        (λ cause. refusal (definition_view def) machine Gnu ≡ Some cause) }
+    ensures names_refused_always { RefusesAlways (definition_view def) machine Gnu result }
+{
+    if let Some(fault) = names_fault(&def, machine, Flavor::Gnu) {
+        return Err(Error::Invalid(fault));
+    }
+    named_kept(def, machine)
+}
+
+// The members of a definition that breaks no rule on names, in order.
+fn named_kept(def: ModuleDef, machine: MachineType) -> Result<GnuMembers, Error>
+    requires { definition_names_refusal (definition_view def) machine Gnu ≡ None }
+    ensures made { MakesKept (member_specs (definition_view def) machine Gnu) result }
+    ensures ordinals { OnOk result
+        (list_all has_u16_ordinal (public_exports (definition_view def)) ≡ true) }
+{
+    if any_alias(&def) {
+        made_members(def, machine)
+    } else {
+        keep_members(def, machine)
+    }
+}
+
+// Whether a public export is an alias.
+fn any_alias(def: &ModuleDef) -> bool
+    ensures { result
+        ≡ list_any (λ export. is_public_alias (export_view export)) def.now.exports.items }
+{
+    def.exports
+        .iter()
+        .any(|export| !export.private && has_aliases(export))
+}
+
+// The members, all of them made.
+fn made_members(def: ModuleDef, machine: MachineType) -> Result<GnuMembers, Error>
+    requires { definition_names_refusal (definition_view def) machine Gnu ≡ None }
+    ensures made { MakesKept (member_specs (definition_view def) machine Gnu) result }
+    ensures ordinals { OnOk result
+        (list_all has_u16_ordinal (public_exports (definition_view def)) ≡ true) }
+{
+    let alloc = *def.exports.allocator();
+    let before = named_members(&def, machine)?;
+    let objects = ExportObjects::with_capacity(alloc, machine, linked_name(&def), 0)?;
+    Ok(GnuMembers { before, objects })
+}
+
+// The tail and the head, and the objects of the exports, none of which is an alias.
+fn keep_members(def: ModuleDef, machine: MachineType) -> Result<GnuMembers, Error>
+    requires names { definition_names_refusal (definition_view def) machine Gnu ≡ None }
+    requires plain { list_any (λ export. is_public_alias (export_view export)) def.exports.items
+        ≡ false }
+    ensures made { MakesKept (member_specs (definition_view def) machine Gnu) result }
+    ensures ordinals { OnOk result
+        (list_all has_u16_ordinal (public_exports (definition_view def)) ≡ true) }
+{
+    let alloc = *def.exports.allocator();
+    let library = linked_name(&def);
+    let before = tail_and_head(alloc, machine, library, def.import_name.as_str())?;
+    let count = public_count(&def);
+    let mut objects = ExportObjects::with_capacity(alloc, machine, library, count)?;
+    let ModuleDef { exports, .. } = def;
+    keep_exports(&mut objects, exports, count)?;
+    Ok(GnuMembers { before, objects })
+}
+
+// The number of public exports.
+fn public_count(def: &ModuleDef) -> usize
+    ensures { result ≡ length (filter (λ export. not export.private) def.now.exports.items) }
+{
+    def.exports.iter().filter(|export| !export.private).count()
+}
+
+// The tail and the head of a library of this name for the linker and of this DLL.
+fn tail_and_head(
+    alloc: Global,
+    machine: MachineType,
+    library: &str,
+    dll: &str,
+) -> Result<Vec<Member>, Error>
+    requires { holds 0 library.now ≡ false }
+    ensures { MakesMembers (tail_spec machine (record { linked = library.now; text = dll.now })
+        ∷ head_spec machine library.now ∷ []) result }
+{
+    let mut members = Vec::with_capacity(alloc, HEAD_AND_TAIL)?;
+    members.push(tail_member(alloc, machine, library, dll)?)?;
+    members.push(head_member(alloc, machine, library)?)?;
+    Ok(members)
+}
+
+// Keeps the objects of the exports, none of which is an alias, from the last to the first; `count`
+// are public.
+fn keep_exports(
+    objects: &mut ExportObjects,
+    mut exports: Vec<ShortExport>,
+    count: usize,
+) -> Result<(), Error>
+    requires names { names_refusal Gnu objects.old.machine 0 (map export_view exports.items) ≡ None }
+    requires plain { list_any (λ export. is_public_alias (export_view export)) exports.items
+        ≡ false }
+    requires count { count ≡ length (filter (λ export. not export.private) exports.items) }
+    ensures kept { KeepsObjects (kept_specs objects.old.machine objects.old.linked
+        (map export_view exports.items)) objects.old objects.new result }
+    ensures ordinals { OnOk result
+        (list_all has_u16_ordinal (public_among (map export_view exports.items)) ≡ true) }
+{
+    let mut number = count;
+    while let Some(export) = exports.pop() {
+        if !export.private {
+            number -= 1;
+            objects.push(export, number)?;
+        }
+    }
+    Ok(())
 }

@@ -1,5 +1,5 @@
-use Rattle.std.proofs.Common.{◌≡◌, ℕ, List, ◌||◌, ap, arith, false, min, refl, string_bytes}
-use Rattle.implib.specs.Definition.{ExportView, export_view}
+use Rattle.std.proofs.Common.{◌≡◌, List, ◌||◌, ap, false, min, refl, string_bytes}
+use Rattle.implib.specs.Definition.{export_view}
 use Rattle.implib.specs.Formats.Layout.{encoded_size}
 use Rattle.implib.specs.Formats.Writer.{layout_of}
 use Rattle.implib.specs.Members.Gnu.{export_object}
@@ -20,7 +20,7 @@ returns-then-size-gt-LONGEST_MEMBER-clause-pushed c =
       too_long = (
         refl,
         ap (λ b. b || false) (refused_long c.self.inside.machine (string_bytes c.self.inside.library) c.args.number (export_view c.args.export) c.in_ok-kept.kept
-        keeps c.size.result size_is c.if-size-gt-LONGEST_MEMBER.true),
+            keeps c.size.result size_is c.if-size-gt-LONGEST_MEMBER.true),
       );
     }
 

@@ -1,4 +1,4 @@
-use Rattle.std.proofs.Common.{length, refl, rules, string_bytes}
+use Rattle.std.proofs.Common.{length, refl, string_bytes}
 use Rattle.std.proofs.lemmas.Option.{slice_get_past, slice_get_read}
 use Rattle.implib.proofs.Members.KeptObjects.{at_none, size_at}
 use Rattle.implib.proofs.gnu.export_objects.ExportObjects.size.Goals as goal

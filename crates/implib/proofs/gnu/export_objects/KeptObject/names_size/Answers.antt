@@ -1,4 +1,4 @@
-use Rattle.std.proofs.Common.{◌≡◌, ◌+◌, ◌||◌, Bool, ℕ, List, if◌then◌else◌, bytes_eq, ap, refl, sym, ◌∙◌}
+use Rattle.std.proofs.Common.{◌≡◌, ◌||◌, if◌then◌else◌, bytes_eq, refl}
 use Rattle.implib.specs.Views.KeptObjects.{kept_export, long_name_size}
 use Rattle.implib.proofs.Members.KeptObjects.{names_long, saturated}
 use Rattle.implib.proofs.gnu.export_objects.KeptObject.names_size.Goals as goal

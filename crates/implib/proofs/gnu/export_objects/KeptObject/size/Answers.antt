@@ -1,4 +1,4 @@
-use Rattle.std.proofs.Common.{◌≡◌, ◌+◌, ◌*◌, ℕ, if◌then◌else◌, arith, refl}
+use Rattle.std.proofs.Common.{◌≡◌, if◌then◌else◌, refl}
 use Rattle.implib.specs.Views.KeptObjects.{kept_export}
 use Rattle.implib.proofs.Members.KeptObjects.{object_long, sizes_saturated}
 use Rattle.implib.proofs.gnu.export_objects.KeptObject.size.Goals as goal
