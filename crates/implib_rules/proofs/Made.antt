@@ -1,5 +1,5 @@
 -- From the definition of bytes to its members and its library.
-use Rattle.std.proofs.Common.{◌≡◌, ◌++◌, ◌∙◌, ℕ, Err, List, [], Ok, Result, Some, false, true, if◌then◌else◌, ap, append_assoc, map, refl, subst, sym}
+use Rattle.std.proofs.Common.{◌≡◌, ◌++◌, ◌∙◌, ℕ, Err, List, [], Ok, Result, Some, false, true, if◌then◌else◌, ap, map, refl, subst, sym}
 use Rattle.std.specs.Prelude.{IfOk}
 use Rattle.std.proofs.lemmas.List.{map-append}
 use Rattle.std.specs.List.{AllByRecursion}

@@ -80,6 +80,33 @@ fn members_for_microsoft_are_in_three_lists(rt: HostRuntime) -> Result<(), Fail>
     Ok(())
 }
 
+#[test]
+fn objects_for_gnu_are_made_when_they_are_wanted(rt: HostRuntime) -> Result<(), Fail> {
+    let text = "LIBRARY foo.dll\nEXPORTS\nbar\nvar DATA";
+    let def = ModuleDef::parse(rt.alloc(), text, MachineType::AMD64)?;
+    let kept = GnuImportLibrary::new(def.clone()?, MachineType::AMD64).into_members()?;
+    let members = GnuImportLibrary::new(def, MachineType::AMD64).members()?;
+    assert!(rt; have_lengths(&kept.before, &[356, 450]));
+    let objects = kept.objects;
+    assert!(rt; (objects.len(), objects.size(1)) == (2, 474));
+    assert!(rt; (objects.name(0), objects.name(1)) == ("foo_dll_a_s00001.o", "foo_dll_a_s00000.o"));
+    assert!(rt; (objects.symbol_count(0), objects.symbol(0, 0)) == (1, "__imp_var"));
+    assert!(rt; (objects.symbol(1, 0), objects.symbol(1, 1)) == ("bar", "__imp_bar"));
+    let bytes = objects.bytes(rt.alloc(), 0)?;
+    assert!(rt; bytes.as_slice() == members[2].bytes.as_slice());
+    Ok(())
+}
+
+#[test]
+fn members_for_gnu_with_an_alias_are_all_made(rt: HostRuntime) -> Result<(), Fail> {
+    let (text, _, gnu) = ALIASED;
+    let def = ModuleDef::parse(rt.alloc(), text, MachineType::AMD64)?;
+    let kept = GnuImportLibrary::new(def, MachineType::AMD64).into_members()?;
+    assert!(rt; have_lengths(&kept.before, gnu));
+    assert!(rt; kept.objects.len() == 0);
+    Ok(())
+}
+
 // What a fault says is empty.
 fn empty_part(fault: &Fault) -> &'static str {
     match fault {
