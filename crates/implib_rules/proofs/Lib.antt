@@ -12,6 +12,7 @@ pub mod OrderedReadings
 pub mod PlainNames
 pub mod PlainPlaces
 pub mod PlainStays
+pub mod PlainWords
 pub mod Made
 pub mod ExportedAs
 pub mod ExportAsRead

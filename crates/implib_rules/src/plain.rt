@@ -20,7 +20,7 @@ ghost use Rattle.implib_rules.specs.Plain.{is_in_apostrophes, is_program_type, i
 ghost use Rattle.implib_rules.specs.Plain.{step_in_word, with_digit, word_step};
 ghost use Rattle.std.specs.Char.{is_ascii_digit};
 ghost use Rattle.std.specs.List.{fold};
-ghost use Rattle.std.specs.Prelude.{◌≡◌, ◌<◌, IfOk, IfSome, Some, length, slice_index, take_while, true};
+ghost use Rattle.std.specs.Prelude.{◌≡◌, ◌<◌, ◌≤◌, IfOk, IfSome, Some, length, slice_index, take_while, true};
 
 use implib::def::lexer::is_delimiter;
 use std::alloc::{AllocError, Global};
@@ -727,6 +727,18 @@ pub(crate) const BEGINNING: Reading = Reading {
     before: Before::LineStart,
 };
 
+// A text after what is left in front of it of a word that stays, if one is read.
+fn after_kept_word(reading: Reading, text: &[u8]) -> &[u8]
+    ensures stays { plain_from reading result.now ≡ result.now
+        → plain_from reading text.now ≡ text.now }
+    ensures no_longer { length result.now ≤ length text.now }
+{
+    match reading.part {
+        Part::Word => after_word(text),
+        _ => text,
+    }
+}
+
 /// Whether bytes are the text of their definition as they are.
 #[tactic(auto, unfolding(crate::specs::Plain::plain_from))]
 pub(crate) fn is_plain(bytes: &[u8]) -> bool
@@ -740,7 +752,7 @@ pub(crate) fn is_plain(bytes: &[u8]) -> bool
             return false;
         }
         reading = step.reading;
-        text = rest;
+        text = after_kept_word(reading, rest);
     }
     true
 }
