@@ -75,8 +75,8 @@ fn members_for_microsoft_are_in_three_lists(rt: HostRuntime) -> Result<(), Fail>
     assert!(rt; (imports.name(0), imports.symbol(0, 0)) == ("foo.dll", "__imp_bar"));
     assert!(rt; imports.symbol(0, 1) == "bar");
     let bytes = imports.bytes(rt.alloc(), 0)?;
-    assert!(rt; bytes.as_slice()
-        == b"\0\0\xFF\xFF\0\0\x64\x86\0\0\0\0\x0C\0\0\0\0\0\x04\0bar\0foo.dll\0");
+    let record = b"\0\0\xFF\xFF\0\0\x64\x86\0\0\0\0\x0C\0\0\0\0\0\x04\0bar\0foo.dll\0";
+    assert!(rt; bytes.as_slice() == record.as_slice());
     Ok(())
 }
 
@@ -92,8 +92,12 @@ fn objects_for_gnu_are_made_when_they_are_wanted(rt: HostRuntime) -> Result<(), 
     assert!(rt; (objects.name(0), objects.name(1)) == ("foo_dll_a_s00001.o", "foo_dll_a_s00000.o"));
     assert!(rt; (objects.symbol_count(0), objects.symbol(0, 0)) == (1, "__imp_var"));
     assert!(rt; (objects.symbol(1, 0), objects.symbol(1, 1)) == ("bar", "__imp_bar"));
+    let made = match members.get(2) {
+        Some(member) => member.bytes.as_slice(),
+        None => &[],
+    };
     let bytes = objects.bytes(rt.alloc(), 0)?;
-    assert!(rt; bytes.as_slice() == members[2].bytes.as_slice());
+    assert!(rt; bytes.as_slice() == made);
     Ok(())
 }
 
