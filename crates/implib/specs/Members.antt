@@ -14,5 +14,6 @@ pub mod ShortImports
 pub mod ExportObjects
 pub mod KeptMembers
 pub mod MemberLists
+pub mod OlderSymbols
 pub mod ReadBack
 pub mod OfText

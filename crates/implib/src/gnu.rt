@@ -6,6 +6,7 @@ ghost use Rattle.implib.specs.Library.{member_view};
 ghost use Rattle.implib.specs.Members.KeptMembers.{kept_members};
 ghost use Rattle.implib.specs.Members.Members.{AreMembersOf, refusal};
 ghost use Rattle.implib.specs.Members.NameRules.{RefusesAlways};
+ghost use Rattle.implib.specs.Members.OlderSymbols.{AreOlderMembersOf, older_refusal};
 ghost use Rattle.implib.specs.Members.ReadBack.{ReadBack};
 ghost use Rattle.implib.specs.Renaming.{renamed};
 ghost use Rattle.implib.specs.declared.flavor.Flavor.TheVariants.{Gnu};
@@ -23,6 +24,7 @@ mod export_objects;
 pub(crate) mod members;
 mod names;
 mod objects;
+pub(crate) mod older;
 mod table;
 
 pub use crate::gnu::export_objects::ExportObjects;
@@ -84,6 +86,22 @@ impl GnuImportLibrary {
             self.now.definition self.now.machine Gnu result }
     {
         self.library.members()
+    }
+
+    /// The members, where the object of each export declares an older symbol of its address beside
+    /// `__imp_X`: `___imp` and then X, as GNU dlltool's `--compat-implib` has it (docs/FORMATS.md,
+    /// "Older symbols").
+    ///
+    /// # Errors
+    ///
+    /// Those of [`ImportLibrary::members`], with these longer members.
+    pub fn members_with_older_symbols(&self) -> Result<Vec<Member>, Error>
+        ensures ok { IfOk result (λ members. AreOlderMembersOf
+            self.now.definition self.now.machine (map member_view members.items)) }
+        ensures refused { IfInvalid result
+            (λ cause. older_refusal self.now.definition self.now.machine ≡ Some cause) }
+    {
+        self.library.older_gnu_members()
     }
 
     /// The members, the objects of the exports kept as what they say: an archive of the library can

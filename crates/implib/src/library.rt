@@ -7,6 +7,7 @@ ghost use Rattle.implib.specs.Members.KeptMembers.{kept_members};
 ghost use Rattle.implib.specs.Members.MemberLists.{AreListsOf, lists_view};
 ghost use Rattle.implib.specs.Members.Members.{AreMembersOf, refusal};
 ghost use Rattle.implib.specs.Members.NameRules.{RefusesAlways};
+ghost use Rattle.implib.specs.Members.OlderSymbols.{AreOlderMembersOf, older_refusal};
 ghost use Rattle.implib.specs.Text.Parses.{Refuses};
 ghost use Rattle.implib.specs.Members.ReadBack.{ReadBack};
 ghost use Rattle.implib.specs.Renaming.{is_renamed, renamed};
@@ -17,6 +18,7 @@ use crate::def::definition::{ModuleDef, rename};
 use crate::error::Error;
 use crate::flavor::Flavor;
 use crate::gnu::members::{GnuMembers, into_members as into_gnu_members, members as gnu_members};
+use crate::gnu::older::older_members;
 use crate::machine::MachineType;
 use crate::member::Member;
 use crate::msvc::members::{MemberLists, member_lists, members as msvc_members};
@@ -176,6 +178,20 @@ impl ImportLibrary {
         ensures names_refused_always { RefusesAlways self.definition self.machine Gnu result }
     {
         into_gnu_members(self.def, self.machine)
+    }
+
+    /// The members for GNU's linker with older symbols of addresses, whatever the library's flavour.
+    ///
+    /// # Errors
+    ///
+    /// Those of [`ImportLibrary::members`] for GNU's linker, with these longer members.
+    pub(crate) fn older_gnu_members(&self) -> Result<Vec<Member>, Error>
+        ensures ok { IfOk result (λ members. AreOlderMembersOf
+            self.now.definition self.now.machine (map member_view members.items)) }
+        ensures refused { IfInvalid result
+            (λ cause. older_refusal self.now.definition self.now.machine ≡ Some cause) }
+    {
+        older_members(&self.def, self.machine)
     }
 
     /// A copy of the library.

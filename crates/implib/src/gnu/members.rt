@@ -72,8 +72,8 @@ pub(crate) fn members(def: &ModuleDef, machine: MachineType) -> Result<Vec<Membe
     }
 }
 
-// The name that the members and their symbols are named after.
-fn linked_name(def: &ModuleDef) -> &str
+/// The name that the members and their symbols are named after.
+pub(crate) fn linked_name(def: &ModuleDef) -> &str
     ensures { result.now ≡ linked_name (definition_view def.now) }
 {
     match &def.library_name {
@@ -120,8 +120,8 @@ fn build(def: &ModuleDef, machine: MachineType, head: &str) -> Result<Vec<Member
     Ok(members)
 }
 
-// The number of members; 2^64 - 1 where it is more.
-fn member_count(def: &ModuleDef) -> usize
+/// The number of members; 2^64 - 1 where it is more.
+pub(crate) fn member_count(def: &ModuleDef) -> usize
     ensures { result
         ≡ min u64.MAX (2 + sum_by gnu_member_count (public_exports (definition_view def.now))) }
 {
@@ -138,16 +138,16 @@ fn member_count(def: &ModuleDef) -> usize
     count
 }
 
-// Whether the export's name is weak for another.
-fn has_aliases(export: &ShortExport) -> bool
+/// Whether the export's name is weak for another.
+pub(crate) fn has_aliases(export: &ShortExport) -> bool
     ensures { result
         ≡ is_alias (export_view export.now).alias_target (export_view export.now).name }
 {
     is_alias(export.alias_target.as_str(), export.name.as_str())
 }
 
-// Pushes the head and the tail of a library of this name for the linker and of this DLL.
-fn push_head_and_tail(
+/// Pushes the head and the tail of a library of this name for the linker and of this DLL.
+pub(crate) fn push_head_and_tail(
     members: &mut Vec<Member>,
     machine: MachineType,
     library: &str,
@@ -215,9 +215,9 @@ fn push_export(
     Ok(())
 }
 
-// Pushes the weak externals of an export: of its name, and of its address.
+/// Pushes the weak externals of an export: of its name, and of its address.
 #[tactic(auto, unfolding(crate::specs::Members::GnuMembers::alias_specs))]
-fn push_weak_externals(
+pub(crate) fn push_weak_externals(
     members: &mut Vec<Member>,
     export: &ShortExport,
     number: usize,
@@ -242,8 +242,8 @@ fn push_weak_externals(
     Ok(())
 }
 
-// The archive symbols of an export; `address` is its `__imp_` symbol.
-fn archive_symbols(
+/// The archive symbols of an export; `address` is its `__imp_` symbol.
+pub(crate) fn archive_symbols(
     alloc: Global,
     export: &ShortExport,
     address: String,

@@ -8,11 +8,13 @@ ghost use Rattle.implib.specs.Members.Gnu.{file_symbol, head_object, head_sectio
 ghost use Rattle.implib.specs.Members.Gnu.{head_symbols, hint_name, hint_name_symbol, iname_symbol};
 ghost use Rattle.implib.specs.Members.Gnu.{relocations_of_stub, relocations_of_thunk, section};
 ghost use Rattle.implib.specs.Members.Gnu.{stub, tail_object, tail_sections, tail_symbols, thunk};
+ghost use Rattle.implib.specs.Members.OlderSymbols.{object_with, older_object, older_symbol};
 ghost use Rattle.implib.specs.Import.{imp_symbol, holds, is_empty_text};
 ghost use Rattle.implib.specs.Members.ImportTables.{thunk_width};
 ghost use Rattle.implib.specs.Views.Table.{section_row, symbol_row};
 ghost use Rattle.implib.specs.Formats.Writer.{layout_of};
 ghost use Rattle.implib.specs.Views.Making.{EncodesObject};
+ghost use Rattle.implib.specs.Views.Table.{CanBeHeld};
 ghost use Rattle.std.specs.Prelude.{◌+◌, [], false, map, string_bytes, ◌∷◌, ◌++◌, ◌<◌, ◌≡◌, IfOk};
 ghost use Rattle.std.specs.Prelude.{if◌then◌else◌, take};
 
@@ -305,22 +307,16 @@ fn hint_name(
     Ok(bytes)
 }
 
-/// The object of an export, by its symbols.
-pub(crate) fn export_object<'a>(
+// Writes the object of an export with these symbols.
+fn write_export(
     alloc: Global,
-    export: &'a ShortExport,
+    export: &ShortExport,
     machine: MachineType,
-    library: &str,
-    head: &'a str,
-    address: &'a str,
+    symbols: &[SymbolRow],
 ) -> Result<Vec<u8>, Error>
-    requires library_text { holds 0 library.now ≡ false }
-    requires name_text { holds 0 (export_view export.now).name ≡ false }
-    requires filled { is_empty_text (export_view export.now).name ≡ false }
-    requires head { head.now ≡ head_symbol machine library.now }
-    requires address { address.now ≡ imp_symbol (export_view export.now).name }
-    ensures { EncodesObject
-        (layout_of (export_object machine library.now (export_view export.now))) result }
+    requires { CanBeHeld (object_with machine (export_view export.now) (map symbol_row symbols.now)) }
+    ensures { EncodesObject (layout_of
+        (object_with machine (export_view export.now) (map symbol_row symbols.now))) result }
 {
     let to_head = [image_relocation(machine, 0, 0)];
     let to_name = [image_relocation(machine, 0, hint_name_symbol(export))];
@@ -347,6 +343,26 @@ pub(crate) fn export_object<'a>(
             &[],
         ),
     ];
+    write_table(alloc, machine, &sections, symbols)
+}
+
+/// The object of an export, by its symbols.
+pub(crate) fn export_object<'a>(
+    alloc: Global,
+    export: &'a ShortExport,
+    machine: MachineType,
+    library: &str,
+    head: &'a str,
+    address: &'a str,
+) -> Result<Vec<u8>, Error>
+    requires library_text { holds 0 library.now ≡ false }
+    requires name_text { holds 0 (export_view export.now).name ≡ false }
+    requires filled { is_empty_text (export_view export.now).name ≡ false }
+    requires head { head.now ≡ head_symbol machine library.now }
+    requires address { address.now ≡ imp_symbol (export_view export.now).name }
+    ensures { EncodesObject
+        (layout_of (export_object machine library.now (export_view export.now))) result }
+{
     let head = symbol(head, Place::Undefined, class::EXTERNAL);
     let code = symbol(export.name.as_str(), Place::Section(1), class::EXTERNAL);
     let address = symbol(address, Place::Section(5), class::EXTERNAL);
@@ -358,5 +374,39 @@ pub(crate) fn export_object<'a>(
     } else {
         &of_code[..]
     };
-    write_table(alloc, machine, &sections, symbols)
+    write_export(alloc, export, machine, symbols)
+}
+
+/// The object of an export with the older symbol of its address beside that of today.
+pub(crate) fn older_object<'a>(
+    alloc: Global,
+    export: &'a ShortExport,
+    machine: MachineType,
+    library: &str,
+    head: &'a str,
+    address: &'a str,
+    older: &'a str,
+) -> Result<Vec<u8>, Error>
+    requires library_text { holds 0 library.now ≡ false }
+    requires name_text { holds 0 (export_view export.now).name ≡ false }
+    requires filled { is_empty_text (export_view export.now).name ≡ false }
+    requires head { head.now ≡ head_symbol machine library.now }
+    requires address { address.now ≡ imp_symbol (export_view export.now).name }
+    requires older { older.now ≡ older_symbol (export_view export.now).name }
+    ensures { EncodesObject
+        (layout_of (older_object machine library.now (export_view export.now))) result }
+{
+    let head = symbol(head, Place::Undefined, class::EXTERNAL);
+    let code = symbol(export.name.as_str(), Place::Section(1), class::EXTERNAL);
+    let address = symbol(address, Place::Section(5), class::EXTERNAL);
+    let names = symbol(".idata$6", Place::Section(7), class::STATIC);
+    let older = symbol(older, Place::Section(5), class::EXTERNAL);
+    let of_code = [head, code, address, names, older];
+    let of_data = [head, address, names, older];
+    let symbols = if export.is_data {
+        &of_data[..]
+    } else {
+        &of_code[..]
+    };
+    write_export(alloc, export, machine, symbols)
 }
