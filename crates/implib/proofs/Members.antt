@@ -18,3 +18,4 @@ pub mod GnuObjects
 pub mod GnuNames
 pub mod GnuLoop
 pub mod GnuReadings
+pub mod OlderMembers

@@ -10,56 +10,60 @@ use Rattle.implib.specs.Definition.{ExportView}
 use Rattle.implib.specs.Members.MemberSpec.{MemberView, MemberSpec, member_of}
 use Rattle.implib.specs.Members.Members.{has_u16_ordinal, is_too_long}
 use Rattle.implib.specs.Members.NameRules.{name_refusal, names_refusal}
-use Rattle.implib.specs.Members.GnuMembers.{numbered_specs, numbered_specs_of}
 use Rattle.implib.proofs.Members.NotRefused.{first_none}
 
 -- the members so far and those of the exports that are left, numbered from a number, are all; none so far is too long
-pub record Left (machine : MachineType) (dll : List ℕ) (all : List MemberView) (long sound : Bool)
+pub record Left (machine : MachineType) (numbered : ℕ → List ExportView → List MemberSpec) (all : List MemberView) (long sound : Bool)
     (index number : ℕ) (members : List MemberView) (exports : List ExportView) : Type 0 where
   pub named : names_refusal Gnu machine index exports ≡ None
-  pub made : members ++ map member_of (numbered_specs machine dll number (filter (λ e. not e.private) exports)) ≡ all
-  pub fit : list_any is_too_long (numbered_specs machine dll number (filter (λ e. not e.private) exports)) ≡ long
+  pub made : members ++ map member_of (numbered number (filter (λ e. not e.private) exports)) ≡ all
+  pub fit : list_any is_too_long (numbered number (filter (λ e. not e.private) exports)) ≡ long
   pub ordinals : list_all has_u16_ordinal (filter (λ e. not e.private) exports) ≡ sound
 
-module _ (machine : MachineType) (dll : List ℕ) (all : List MemberView) (long sound : Bool) (index number : ℕ) (members : List MemberView) (e : ExportView) (exports : List ExportView) where
+module _ (machine : MachineType) (numbered : ℕ → List ExportView → List MemberSpec) (all : List MemberView) (long sound : Bool) (index number : ℕ) (members : List MemberView) (e : ExportView) (exports : List ExportView) where
+  abbrev public : List ExportView
+  public = filter (λ x. not x.private) exports
+
   rest_named : names_refusal Gnu machine index (e ∷ exports) ≡ None → names_refusal Gnu machine (index + 1) exports ≡ None
   rest_named named = (first_none (if e.private then None else name_refusal Gnu machine index e) (names_refusal Gnu machine (index + 1) exports) named).1
 
-  kept : e.private ≡ false → filter (λ x. not x.private) (e ∷ exports) ≡ e ∷ filter (λ x. not x.private) exports
-  kept public = ap (λ test. if not test then e ∷ filter (λ x. not x.private) exports else filter (λ x. not x.private) exports) public
+  kept : e.private ≡ false → filter (λ x. not x.private) (e ∷ exports) ≡ e ∷ public
+  kept unhidden = ap (λ test. if not test then e ∷ public else public) unhidden
 
-  passed : e.private ≡ true → filter (λ x. not x.private) (e ∷ exports) ≡ filter (λ x. not x.private) exports
-  passed private = ap (λ test. if not test then e ∷ filter (λ x. not x.private) exports else filter (λ x. not x.private) exports) private
+  passed : e.private ≡ true → filter (λ x. not x.private) (e ∷ exports) ≡ public
+  passed private = ap (λ test. if not test then e ∷ public else public) private
 
   -- after a private export
-  pub left_private : e.private ≡ true → Left machine dll all long sound index number members (e ∷ exports) → Left machine dll all long sound (index + 1) number members exports
+  pub left_private : e.private ≡ true → Left machine numbered all long sound index number members (e ∷ exports) → Left machine numbered all long sound (index + 1) number members exports
   left_private private left = record {
     named = rest_named left.named;
-    made = sym (ap (λ (x : List ExportView). members ++ map member_of (numbered_specs machine dll number x)) (passed private)) ∙ left.made;
-    fit = sym (ap (λ (x : List ExportView). list_any is_too_long (numbered_specs machine dll number x)) (passed private)) ∙ left.fit;
+    made = sym (ap (λ (x : List ExportView). members ++ map member_of (numbered number x)) (passed private)) ∙ left.made;
+    fit = sym (ap (λ (x : List ExportView). list_any is_too_long (numbered number x)) (passed private)) ∙ left.fit;
     ordinals = sym (ap (list_all has_u16_ordinal) (passed private)) ∙ left.ordinals;
   }
 
   -- after an export whose members are made
-  pub left_public : (extended : List MemberView) → e.private ≡ false → Left machine dll all long sound index number members (e ∷ exports) →
-      extended ≡ members ++ map member_of (numbered_specs_of machine dll number e) → list_any is_too_long (numbered_specs_of machine dll number e) ≡ false → has_u16_ordinal e ≡ true →
-      Left machine dll all long sound (index + 1) (number + 1) extended exports
-  left_public extended public left made short ordinal =
-      let others = numbered_specs machine dll (number + 1) (filter (λ x. not x.private) exports) in
+  pub left_public : (specs : List MemberSpec) (extended : List MemberView) → numbered number (e ∷ public) ≡ specs ++ numbered (number + 1) public →
+      e.private ≡ false → Left machine numbered all long sound index number members (e ∷ exports) →
+      extended ≡ members ++ map member_of specs → list_any is_too_long specs ≡ false → has_u16_ordinal e ≡ true →
+      Left machine numbered all long sound (index + 1) (number + 1) extended exports
+  left_public specs extended step unhidden left made short ordinal =
+      let others = numbered (number + 1) public in
+      let first : numbered number (filter (λ x. not x.private) (e ∷ exports)) ≡ specs ++ others = ap (numbered number) (kept unhidden) ∙ step in
       record {
         named = rest_named left.named;
         made =
             ap (λ x. x ++ map member_of others) made
-            ∙ (append_assoc members (map member_of (numbered_specs_of machine dll number e)) (map member_of others)
-            ∙ (ap (λ x. members ++ x) (sym (map-append member_of (numbered_specs_of machine dll number e) others))
-            ∙ (sym (ap (λ (x : List ExportView). members ++ map member_of (numbered_specs machine dll number x)) (kept public)) ∙ left.made)));
+            ∙ (append_assoc members (map member_of specs) (map member_of others)
+            ∙ (ap (λ x. members ++ x) (sym (map-append member_of specs others))
+            ∙ (sym (ap (λ x. members ++ map member_of x) first) ∙ left.made)));
         fit =
             sym (ap (λ test. test || list_any is_too_long others) short)
-            ∙ (sym (list_any-append is_too_long (numbered_specs_of machine dll number e) others)
-            ∙ (sym (ap (λ (x : List ExportView). list_any is_too_long (numbered_specs machine dll number x)) (kept public)) ∙ left.fit));
+            ∙ (sym (list_any-append is_too_long specs others)
+            ∙ (sym (ap (list_any is_too_long) first) ∙ left.fit));
         ordinals =
-            sym (ap (λ test. test && list_all has_u16_ordinal (filter (λ x. not x.private) exports)) ordinal)
-            ∙ (sym (ap (list_all has_u16_ordinal) (kept public)) ∙ left.ordinals);
+            sym (ap (λ test. test && list_all has_u16_ordinal public) ordinal)
+            ∙ (sym (ap (list_all has_u16_ordinal) (kept unhidden)) ∙ left.ordinals);
       }
 
 -- From the last to the first.

@@ -1,5 +1,5 @@
 -- The objects for GNU's linker fit what a file has room for.
-use Rattle.std.proofs.Common.{◌≡◌, ℕ, ◌<◌, ◌≤◌, ◌^◌, Bool, true, false, if◌then◌else◌, List, [], ◌∷◌, ◌++◌, length, refl, ◌∙◌, arith, codes, length-append}
+use Rattle.std.proofs.Common.{◌≡◌, ℕ, ◌+◌, ◌<◌, ◌≤◌, ◌^◌, Bool, true, false, if◌then◌else◌, List, [], ◌∷◌, ◌++◌, length, refl, ◌∙◌, arith, codes, length-append}
 use Rattle.std.specs.Prelude.{nat_eq, ◌==◌}
 use Rattle.std.specs.List.{AllByRecursion}
 use Rattle.std.proofs.lemmas.Bool.{or_parts, or_from}
@@ -13,10 +13,11 @@ use Rattle.implib.specs.Definition.{ExportView}
 use Rattle.implib.specs.Members.Gnu.{added, empty_sections, export_object, export_symbols, file_symbol, full_stop, head_object, head_symbol, head_symbols, hint_name, prefixed_symbol, iname_symbol, relocations_of_stub, relocations_of_thunk, section, mangled_name, stub, stub_relocations, tail_object, tail_symbols, thunk, without_full_stop, stub_bytes}
 use Rattle.implib.specs.Import.{imp_symbol, holds, is_empty_text, underscore}
 use Rattle.implib.specs.Members.ImportTables.{relocation, thunk_width, zeros}
+use Rattle.implib.specs.Members.OlderSymbols.{object_with, older_object, older_symbol, older_symbols}
 use Rattle.implib.specs.Formats.Object.{ObjectSection}
 use Rattle.implib.specs.Formats.Layout.{Fits}
 use Rattle.implib.specs.Views.Table.{CanBeHeld}
-use Rattle.implib.specs.Formats.Writer.{AddedSymbol, IsPlaceAmong, all_entries, layout_of}
+use Rattle.implib.specs.Formats.Writer.{AddedSymbol, IsPlaceAmong, WriterState, all_entries, layout_of}
 use Rattle.implib.specs.Views.Writer.{IsSound, IsSoundSection, IsSoundSymbol}
 use Rattle.implib.proofs.Members.MsvcObjects.{plain_section_fits, relocation_fits}
 use Rattle.implib.proofs.Formats.Table.{CanBeHeld-from_sound, LieWithin}
@@ -177,31 +178,31 @@ CanBeHeld-tail_object machine dll free =
 
 -- An export.
 
--- the symbols of an export, by whether it is data
-abbrev symbols_by : Bool → List ℕ → List ℕ → List AddedSymbol
-symbols_by is_data head name =
+-- the symbols of an export, by whether it is data, and these after them
+abbrev symbols_by : List AddedSymbol → Bool → List ℕ → List ℕ → List AddedSymbol
+symbols_by more is_data head name =
     added head Undefined class_external
     ∷ ((if is_data then [] else added name (Section 1) class_external ∷ [])
     ++ added (imp_symbol name) (Section 5) class_external
     ∷ added (codes ".idata$6") (Section 7) class_static
-    ∷ [])
+    ∷ more)
 
-stub_sound : (machine : MachineType) (is_data : Bool) (head name : List ℕ) (contents : List ℕ) (flags : ℕ) → flags < 2 ^ 32 →
-    IsSoundSection (symbols_by is_data head name) (section (codes ".text" ++ 0 ∷ 0 ∷ 0 ∷ []) flags contents (if is_data then [] else stub_relocations machine 2))
-stub_sound machine true head name contents flags flags_fit = plain_sound (symbols_by true head name) _ contents flags refl flags_fit
-stub_sound I386 false head name contents flags flags_fit = record {
+stub_sound : (more : List AddedSymbol) (machine : MachineType) (is_data : Bool) (head name : List ℕ) (contents : List ℕ) (flags : ℕ) → flags < 2 ^ 32 →
+    IsSoundSection (symbols_by more is_data head name) (section (codes ".text" ++ 0 ∷ 0 ∷ 0 ∷ []) flags contents (if is_data then [] else stub_relocations machine 2))
+stub_sound more machine true head name contents flags flags_fit = plain_sound (symbols_by more true head name) _ contents flags refl flags_fit
+stub_sound more I386 false head name contents flags flags_fit = record {
   fits = record { name = refl; flags = flags_fit; count = omega arith; relocations = (record { offset = omega arith; symbol = omega arith; kind = omega arith }, tt) };
   relocations = (tt, tt);
 }
-stub_sound ARMNT false head name contents flags flags_fit = record {
+stub_sound more ARMNT false head name contents flags flags_fit = record {
   fits = record { name = refl; flags = flags_fit; count = omega arith; relocations = (record { offset = omega arith; symbol = omega arith; kind = omega arith }, tt) };
   relocations = (tt, tt);
 }
-stub_sound AMD64 false head name contents flags flags_fit = record {
+stub_sound more AMD64 false head name contents flags flags_fit = record {
   fits = record { name = refl; flags = flags_fit; count = omega arith; relocations = (record { offset = omega arith; symbol = omega arith; kind = omega arith }, tt) };
   relocations = (tt, tt);
 }
-stub_sound ARM64 false head name contents flags flags_fit = record {
+stub_sound more ARM64 false head name contents flags flags_fit = record {
   fits = record {
     name = refl;
     flags = flags_fit;
@@ -214,68 +215,72 @@ stub_sound ARM64 false head name contents flags flags_fit = record {
   relocations = (tt, (tt, tt));
 }
 
-entry_sound : (machine : MachineType) (is_data no_name : Bool) (head name section_name contents : List ℕ) (flags : ℕ) → length section_name ≡ 8 → flags < 2 ^ 32 →
-    IsSoundSection (symbols_by is_data head name)
+entry_sound : (more : List AddedSymbol) (machine : MachineType) (is_data no_name : Bool) (head name section_name contents : List ℕ) (flags : ℕ) → length section_name ≡ 8 → flags < 2 ^ 32 →
+    IsSoundSection (symbols_by more is_data head name)
     (section section_name flags contents (if no_name then [] else relocation machine 0 (if is_data then 2 else 3) ∷ []))
-entry_sound machine is_data true head name section_name contents flags eight flags_fit = plain_sound (symbols_by is_data head name) section_name contents flags eight flags_fit
-entry_sound machine true false head name section_name contents flags eight flags_fit = record {
+entry_sound more machine is_data true head name section_name contents flags eight flags_fit = plain_sound (symbols_by more is_data head name) section_name contents flags eight flags_fit
+entry_sound more machine true false head name section_name contents flags eight flags_fit = record {
   fits = record { name = eight; flags = flags_fit; count = omega arith; relocations = (relocation_fits machine 0 2 (omega arith) (omega arith), tt) };
   relocations = (tt, tt);
 }
-entry_sound machine false false head name section_name contents flags eight flags_fit = record {
+entry_sound more machine false false head name section_name contents flags eight flags_fit = record {
   fits = record { name = eight; flags = flags_fit; count = omega arith; relocations = (relocation_fits machine 0 3 (omega arith) (omega arith), tt) };
   relocations = (tt, tt);
 }
 
 -- the section that names the head
-head_entry_sound : (machine : MachineType) (is_data : Bool) (head name section_name contents : List ℕ) (flags : ℕ) → length section_name ≡ 8 → flags < 2 ^ 32 →
-    IsSoundSection (symbols_by is_data head name) (section section_name flags contents (relocation machine 0 0 ∷ []))
-head_entry_sound machine is_data head name section_name contents flags eight flags_fit = record {
+head_entry_sound : (more : List AddedSymbol) (machine : MachineType) (is_data : Bool) (head name section_name contents : List ℕ) (flags : ℕ) → length section_name ≡ 8 → flags < 2 ^ 32 →
+    IsSoundSection (symbols_by more is_data head name) (section section_name flags contents (relocation machine 0 0 ∷ []))
+head_entry_sound more machine is_data head name section_name contents flags eight flags_fit = record {
   fits = record { name = eight; flags = flags_fit; count = omega arith; relocations = (relocation_fits machine 0 0 (omega arith) (omega arith), tt) };
   relocations = (tt, tt);
 }
 
-symbols_sound : (is_data : Bool) (head name : List ℕ) → 0 < length head → holds 0 head ≡ false → 0 < length name → holds 0 name ≡ false →
-    AllByRecursion (IsSoundSymbol 7) (symbols_by is_data head name)
-symbols_sound true head name head_filled head_free name_filled name_free = (
+symbols_sound : (more : List AddedSymbol) (is_data : Bool) (head name : List ℕ) → 0 < length head → holds 0 head ≡ false → 0 < length name → holds 0 name ≡ false →
+    AllByRecursion (IsSoundSymbol 7) more → AllByRecursion (IsSoundSymbol 7) (symbols_by more is_data head name)
+symbols_sound more true head name head_filled head_free name_filled name_free others = (
   symbol_sound 7 head Undefined class_external head_filled head_free tt,
   (
     symbol_sound 7 (imp_symbol name) (Section 5) class_external (omega arith) name_free (omega arith, omega arith),
-    (symbol_sound 7 (codes ".idata$6") (Section 7) class_static (omega arith) refl (omega arith, omega arith), tt),
+    (symbol_sound 7 (codes ".idata$6") (Section 7) class_static (omega arith) refl (omega arith, omega arith), others),
   ),
 )
-symbols_sound false head name head_filled head_free name_filled name_free = (
+symbols_sound more false head name head_filled head_free name_filled name_free others = (
   symbol_sound 7 head Undefined class_external head_filled head_free tt,
   (
     symbol_sound 7 name (Section 1) class_external name_filled name_free (omega arith, omega arith),
     (
       symbol_sound 7 (imp_symbol name) (Section 5) class_external (omega arith) name_free (omega arith, omega arith),
-      (symbol_sound 7 (codes ".idata$6") (Section 7) class_static (omega arith) refl (omega arith, omega arith), tt),
+      (symbol_sound 7 (codes ".idata$6") (Section 7) class_static (omega arith) refl (omega arith, omega arith), others),
     ),
   ),
 )
 
-pub IsSound-export_object : (machine : MachineType) (dll : List ℕ) (e : ExportView) → holds 0 dll ≡ false → holds 0 e.name ≡ false → is_empty_text e.name ≡ false →
-    IsSound (export_object machine dll e) (length (all_entries (export_symbols (head_symbol machine dll) e)))
-unfolding export_object stub relocations_of_stub thunk relocations_of_thunk hint_name
-IsSound-export_object machine dll e free name_free filled =
+-- an export's object with these symbols after its own
+abbrev object_by : List AddedSymbol → MachineType → List ℕ → ExportView → WriterState
+object_by more machine dll e = object_with machine e (symbols_by more e.is_data (head_symbol machine dll) e.name)
+
+IsSound-object_by : (more : List AddedSymbol) (machine : MachineType) (dll : List ℕ) (e : ExportView) → holds 0 dll ≡ false → holds 0 e.name ≡ false → is_empty_text e.name ≡ false →
+    AllByRecursion (IsSoundSymbol 7) more → IsSound (object_by more machine dll e) (length (all_entries (symbols_by more e.is_data (head_symbol machine dll) e.name)))
+unfolding stub relocations_of_stub thunk relocations_of_thunk hint_name
+IsSound-object_by more machine dll e free name_free filled others =
     let head = head_symbol machine dll in
-    let symbols = symbols_by e.is_data head e.name in
+    let symbols = symbols_by more e.is_data head e.name in
     record {
       few = omega arith;
       records = refl;
       sections = (
-        stub_sound machine e.is_data head e.name _ _ (omega arith),
+        stub_sound more machine e.is_data head e.name _ _ (omega arith),
         (
           plain_sound symbols _ [] _ refl (omega arith),
           (
             plain_sound symbols _ [] _ refl (omega arith),
             (
-              head_entry_sound machine e.is_data head e.name (codes ".idata$7") _ _ refl (omega arith),
+              head_entry_sound more machine e.is_data head e.name (codes ".idata$7") _ _ refl (omega arith),
               (
-                entry_sound machine e.is_data e.no_name head e.name (codes ".idata$5") _ _ refl (omega arith),
+                entry_sound more machine e.is_data e.no_name head e.name (codes ".idata$5") _ _ refl (omega arith),
                 (
-                  entry_sound machine e.is_data e.no_name head e.name (codes ".idata$4") _ _ refl (omega arith),
+                  entry_sound more machine e.is_data e.no_name head e.name (codes ".idata$4") _ _ refl (omega arith),
                   (plain_sound symbols (codes ".idata$6") _ _ refl (omega arith), tt),
                 ),
               ),
@@ -283,8 +288,13 @@ IsSound-export_object machine dll e free name_free filled =
           ),
         ),
       );
-      symbols = symbols_sound e.is_data head e.name (filled-head_symbol machine dll) (holds-head_symbol machine dll free) (filled_text e.name filled) name_free;
+      symbols = symbols_sound more e.is_data head e.name (filled-head_symbol machine dll) (holds-head_symbol machine dll free) (filled_text e.name filled) name_free others;
     }
+
+pub IsSound-export_object : (machine : MachineType) (dll : List ℕ) (e : ExportView) → holds 0 dll ≡ false → holds 0 e.name ≡ false → is_empty_text e.name ≡ false →
+    IsSound (export_object machine dll e) (length (all_entries (export_symbols (head_symbol machine dll) e)))
+unfolding export_object
+IsSound-export_object machine dll e free name_free filled = IsSound-object_by [] machine dll e free name_free filled tt
 
 pub Fits-export_object : (machine : MachineType) (dll : List ℕ) (e : ExportView) → holds 0 dll ≡ false → holds 0 e.name ≡ false → is_empty_text e.name ≡ false →
     Fits (layout_of (export_object machine dll e))
@@ -306,22 +316,49 @@ entry_within ARMNT false by_ordinal symbol = (omega arith, tt)
 entry_within AMD64 false by_ordinal symbol = (omega arith, tt)
 entry_within ARM64 false by_ordinal symbol = (omega arith, tt)
 
-export_within : (machine : MachineType) (dll : List ℕ) (e : ExportView) → AllByRecursion LieWithin (export_object machine dll e).sections
-unfolding export_object stub relocations_of_stub thunk relocations_of_thunk
-export_within machine dll e = (
+object_within : (more : List AddedSymbol) (machine : MachineType) (dll : List ℕ) (e : ExportView) → AllByRecursion LieWithin (object_by more machine dll e).sections
+unfolding stub relocations_of_stub thunk relocations_of_thunk
+object_within more machine dll e = (
   stub_within machine e.is_data,
   (tt, (tt, ((omega arith, tt), (entry_within machine e.no_name _ _, (entry_within machine e.no_name _ _, (tt, tt)))))),
 )
 
-few_entries : (head : List ℕ) (e : ExportView) → length (all_entries (export_symbols head e)) ≤ 4
-few_entries head e = by e.is_data
+few_entries : (more : List AddedSymbol) (head : List ℕ) (e : ExportView) → length (all_entries (symbols_by more e.is_data head e.name)) ≤ 4 + length (all_entries more)
+few_entries more head e = by e.is_data
   where
-    by : (is_data : Bool) → length (all_entries (symbols_by is_data head e.name)) ≤ 4
+    by : (is_data : Bool) → length (all_entries (symbols_by more is_data head e.name)) ≤ 4 + length (all_entries more)
     by true = omega arith
     by false = omega arith
 
+CanBeHeld-object_by : (more : List AddedSymbol) (machine : MachineType) (dll : List ℕ) (e : ExportView) → holds 0 dll ≡ false → holds 0 e.name ≡ false → is_empty_text e.name ≡ false →
+    AllByRecursion (IsSoundSymbol 7) more → length (all_entries more) ≤ 1 → CanBeHeld (object_by more machine dll e)
+CanBeHeld-object_by more machine dll e free name_free filled others few =
+    CanBeHeld-from_sound (object_by more machine dll e) (length (all_entries (symbols_by more e.is_data (head_symbol machine dll) e.name))) (IsSound-object_by more machine dll e free name_free filled others)
+    (omega (arith, few_entries more (head_symbol machine dll) e, few)) (object_within more machine dll e)
+
 pub CanBeHeld-export_object : (machine : MachineType) (dll : List ℕ) (e : ExportView) → holds 0 dll ≡ false → holds 0 e.name ≡ false → is_empty_text e.name ≡ false →
     CanBeHeld (export_object machine dll e)
-CanBeHeld-export_object machine dll e free name_free filled =
-    CanBeHeld-from_sound (export_object machine dll e) (length (all_entries (export_symbols (head_symbol machine dll) e))) (IsSound-export_object machine dll e free name_free filled)
-    (omega (arith, few_entries (head_symbol machine dll) e)) (export_within machine dll e)
+unfolding export_object
+CanBeHeld-export_object machine dll e free name_free filled = CanBeHeld-object_by [] machine dll e free name_free filled tt (omega arith)
+
+-- With an older symbol of the address.
+
+-- the symbol after the others
+abbrev older : ExportView → AddedSymbol
+older e = added (older_symbol e.name) (Section 5) class_external
+
+older_sound : (e : ExportView) → holds 0 e.name ≡ false → AllByRecursion (IsSoundSymbol 7) (older e ∷ [])
+older_sound e name_free = (symbol_sound 7 (older_symbol e.name) (Section 5) class_external (omega arith) name_free (omega arith, omega arith), tt)
+
+pub Fits-older_object : (machine : MachineType) (dll : List ℕ) (e : ExportView) → holds 0 dll ≡ false → holds 0 e.name ≡ false → is_empty_text e.name ≡ false →
+    Fits (layout_of (older_object machine dll e))
+unfolding older_object
+Fits-older_object machine dll e free name_free filled =
+    layout_of-fits (object_by (older e ∷ []) machine dll e) (length (all_entries (older_symbols (head_symbol machine dll) e)))
+    (IsSound-object_by (older e ∷ []) machine dll e free name_free filled (older_sound e name_free))
+
+pub CanBeHeld-older_object : (machine : MachineType) (dll : List ℕ) (e : ExportView) → holds 0 dll ≡ false → holds 0 e.name ≡ false → is_empty_text e.name ≡ false →
+    CanBeHeld (older_object machine dll e)
+unfolding older_object
+CanBeHeld-older_object machine dll e free name_free filled =
+    CanBeHeld-object_by (older e ∷ []) machine dll e free name_free filled (older_sound e name_free) (omega arith)

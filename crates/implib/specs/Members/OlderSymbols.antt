@@ -1,6 +1,6 @@
 -- The members for GNU's linker where the object of each export has an older symbol of its address beside that of today
 -- (docs/FORMATS.md, "Older symbols").
-use Rattle.std.specs.Prelude.{◌≡◌, ℕ, ◌+◌, true, List, [], ◌∷◌, ◌++◌, Option, None, codes, map, reverse}
+use Rattle.std.specs.Prelude.{◌≡◌, ℕ, ◌+◌, true, List, [], ◌∷◌, ◌++◌, Option, None, codes, if◌then◌else◌, map, reverse}
 use Rattle.std.specs.List.{list_all}
 use Rattle.implib.specs.declared.coff.object.Place.TheVariants.{Undefined, Section}
 use Rattle.implib.specs.declared.flavor.Flavor.TheVariants.{Gnu}
