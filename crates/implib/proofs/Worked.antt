@@ -9,6 +9,7 @@ pub mod MemberSpecs
 pub mod Layouts
 pub mod Members
 pub mod Gnu
+pub mod OlderSymbols
 pub mod LibraryNames
 pub mod Links
 pub mod Refused

@@ -5,6 +5,7 @@ pub mod Positions
 pub mod Heard
 pub mod Members
 pub mod Gnu
+pub mod OlderSymbols
 pub mod LibraryNames
 pub mod Objects
 pub mod Links

@@ -25,7 +25,7 @@ unfolding text_opened refusal renamed_refusal weak_object digits alias_specs exp
 opened = tt
 
 -- what is read from a text is what it means
-means : (P : DefinitionView → Type 0) (text : List ℕ) (machine : MachineType) (d : DefinitionView) →
+pub means : (P : DefinitionView → Type 0) (text : List ℕ) (machine : MachineType) (d : DefinitionView) →
     is_utf8 text ≡ true → read machine (tokens_of 0 (lexemes_in text)) ≡ Ok d → P d → Means text machine P
 means P text machine d utf8 e holds = (d, parses text machine d utf8 e, holds)
 

@@ -3,6 +3,7 @@
 ghost use Rattle.implib.specs.Worked.Members.{WorkedBytes, WorkedFields, WorkedMeanings, WorkedOutlines, WorkedRefusals};
 ghost use Rattle.implib.specs.Worked.Gnu.{WorkedGnuBytes, WorkedGnuOutlines, WorkedGnuRefusals};
 ghost use Rattle.implib.specs.Worked.MemberSpecs.{WorkedLists, WorkedMemberSpecs};
+ghost use Rattle.implib.specs.Worked.OlderSymbols.{WorkedOlderBytes, WorkedOlderOutlines};
 
 use crate::machine::MachineType;
 
@@ -22,6 +23,13 @@ pub fn worked_gnu_members()
     ensures outlines { WorkedGnuOutlines }
     ensures refusals { WorkedGnuRefusals }
     ensures bytes { WorkedGnuBytes }
+{}
+
+/// Definitions that were worked by hand have these members with older symbols for GNU's linker, or
+/// are refused.
+pub fn worked_older_symbols()
+    ensures outlines { WorkedOlderOutlines }
+    ensures bytes { WorkedOlderBytes }
 {}
 
 /// A definition that was worked by hand has these members on each machine, for either linker.
