@@ -18,4 +18,5 @@ pub mod GnuObjects
 pub mod GnuNames
 pub mod GnuLoop
 pub mod GnuReadings
+pub mod OlderReadings
 pub mod OlderMembers

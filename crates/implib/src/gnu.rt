@@ -6,7 +6,7 @@ ghost use Rattle.implib.specs.Library.{member_view};
 ghost use Rattle.implib.specs.Members.KeptMembers.{kept_members};
 ghost use Rattle.implib.specs.Members.Members.{AreMembersOf, refusal};
 ghost use Rattle.implib.specs.Members.NameRules.{RefusesAlways};
-ghost use Rattle.implib.specs.Members.OlderSymbols.{AreOlderMembersOf, older_refusal};
+ghost use Rattle.implib.specs.Members.OlderSymbols.{AreOlderMembersOf, OlderReadBack, older_refusal};
 ghost use Rattle.implib.specs.Members.ReadBack.{ReadBack};
 ghost use Rattle.implib.specs.Renaming.{renamed};
 ghost use Rattle.implib.specs.declared.flavor.Flavor.TheVariants.{Gnu};
@@ -97,6 +97,8 @@ impl GnuImportLibrary {
     /// Those of [`ImportLibrary::members`], with these longer members.
     pub fn members_with_older_symbols(&self) -> Result<Vec<Member>, Error>
         ensures ok { IfOk result (λ members. AreOlderMembersOf
+            self.now.definition self.now.machine (map member_view members.items)) }
+        ensures reads { IfOk result (λ members. OlderReadBack
             self.now.definition self.now.machine (map member_view members.items)) }
         ensures refused { IfInvalid result
             (λ cause. older_refusal self.now.definition self.now.machine ≡ Some cause) }

@@ -7,7 +7,7 @@ ghost use Rattle.implib.specs.Members.KeptMembers.{kept_members};
 ghost use Rattle.implib.specs.Members.MemberLists.{AreListsOf, lists_view};
 ghost use Rattle.implib.specs.Members.Members.{AreMembersOf, refusal};
 ghost use Rattle.implib.specs.Members.NameRules.{RefusesAlways};
-ghost use Rattle.implib.specs.Members.OlderSymbols.{AreOlderMembersOf, older_refusal};
+ghost use Rattle.implib.specs.Members.OlderSymbols.{AreOlderMembersOf, OlderReadBack, older_refusal};
 ghost use Rattle.implib.specs.Text.Parses.{Refuses};
 ghost use Rattle.implib.specs.Members.ReadBack.{ReadBack};
 ghost use Rattle.implib.specs.Renaming.{is_renamed, renamed};
@@ -187,6 +187,8 @@ impl ImportLibrary {
     /// Those of [`ImportLibrary::members`] for GNU's linker, with these longer members.
     pub(crate) fn older_gnu_members(&self) -> Result<Vec<Member>, Error>
         ensures ok { IfOk result (λ members. AreOlderMembersOf
+            self.now.definition self.now.machine (map member_view members.items)) }
+        ensures reads { IfOk result (λ members. OlderReadBack
             self.now.definition self.now.machine (map member_view members.items)) }
         ensures refused { IfInvalid result
             (λ cause. older_refusal self.now.definition self.now.machine ≡ Some cause) }

@@ -15,12 +15,12 @@ use Rattle.implib.specs.declared.machine.MachineType.TheVariants.{I386, ARMNT, A
 use Rattle.implib.specs.Formats.Bytes.{u16_bytes, u32_bytes}
 use Rattle.implib.specs.Definition.{DefinitionView, ExportView}
 use Rattle.implib.specs.Formats.File.{File, ObjectFile, Meaning, AnImport, AnAlias, alias_of_object, declared_by, file_in}
-use Rattle.implib.specs.Members.Gnu.{export_object, archive_symbols, head_object, head_symbol, hint_name, iname_symbol, relocations_of_stub, relocations_of_thunk, stub, tail_object, thunk}
+use Rattle.implib.specs.Members.Gnu.{export_name, export_object, archive_symbols, head_object, head_symbol, hint_name, iname_symbol, relocations_of_stub, relocations_of_thunk, stub, tail_object, thunk}
 use Rattle.implib.specs.Members.GnuReader.{CodeRelocation, alias_or_import, ask_of_export, code_of_export, code_relocations, dll_by_names, externals_in, import_of, meaning_with, text_section}
-use Rattle.implib.specs.Import.{Ordinal, Name, imp_symbol, aliases_for, expected_ask, holds, expected_import, import_symbols, is_alias, name_asked, public_exports}
+use Rattle.implib.specs.Import.{Import, Ordinal, Name, imp_symbol, aliases_for, expected_ask, holds, expected_import, import_symbols, is_alias, name_asked, public_exports}
 use Rattle.implib.specs.Members.MemberSpec.{AnObject, MemberSpec, MemberView, file_bytes, file_size, member_of}
 use Rattle.implib.specs.Members.Members.{AreMembersOf, is_too_long, member_specs}
-use Rattle.implib.specs.Members.GnuMembers.{alias_specs, export_spec, head_spec, numbered_specs, numbered_specs_of, tail_spec}
+use Rattle.implib.specs.Members.GnuMembers.{alias_specs, export_spec, head_spec, numbered_specs, tail_spec}
 use Rattle.implib.specs.Members.WeakExternal.{weak_spec}
 use Rattle.implib.specs.Members.WeakExternal.{weak_object}
 use Rattle.implib.specs.Formats.Object.{u16_at, u32_at}
@@ -35,7 +35,7 @@ use Rattle.implib.proofs.Members.MemberReadings.{ReadsBack, all_append, each_len
 use Rattle.implib.proofs.Members.NotRefused.{Sound, exports_sound, import_name_is_free, linked_is_free, name_asked_free, none_long, short_enough}
 use Rattle.implib.proofs.Formats.Symbols.{before_nul-ended}
 use Rattle.implib.proofs.Formats.WriterLayout.{object_of-layout_of}
-use Rattle.implib.specs.LibraryName.{NamesOfDll, linked_name, names_for}
+use Rattle.implib.specs.LibraryName.{NamesOfDll, names_for}
 
 -- The specifications read back.
 
@@ -43,39 +43,64 @@ held_reads : (h : WriterState) → Fits (layout_of h) → encoded_size (layout_o
 unfolding layout_of
 held_reads h fits short = object_reads (layout_of h) fits (machine_number_nonzero h.machine) short
 
-module _ (machine : MachineType) (dll : List ℕ) (dll_free : holds 0 dll ≡ false) where
-  chosen_read : (number : ℕ) (e : ExportView) → Sound e → (test : Bool) (first second : List ℕ) →
-      list_any is_too_long (if test then weak_spec machine first e.name e.alias_target ∷ weak_spec machine second (imp_symbol e.name) (imp_symbol e.alias_target) ∷ [] else []) ≡ false →
-      AllByRecursion (λ p. ReadsBack p.contents) (if test then weak_spec machine first e.name e.alias_target ∷ weak_spec machine second (imp_symbol e.name) (imp_symbol e.alias_target) ∷ [] else [])
-  chosen_read number e sound false first second short = tt
-  chosen_read number e sound true first second short =
-      let of_name = weak_spec machine first e.name e.alias_target in
-      let of_address = weak_spec machine second (imp_symbol e.name) (imp_symbol e.alias_target) in
-      let one = or_parts (is_too_long of_name) _ short in
-      let two = or_parts (is_too_long of_address) false one.1 in (
-        weak_reads machine e.name e.alias_target sound.name sound.alias_target (short_enough of_name one.0),
-        (weak_reads machine (imp_symbol e.name) (imp_symbol e.alias_target) sound.name sound.alias_target (short_enough of_address two.0), tt),
-      )
+-- Exports' objects of one kind: each fits, declares these symbols, and is read as this import, with the code of its machine.
+pub record AreRead (machine : MachineType) (dll : NamesOfDll) (object : ExportView → WriterState) (listed : ExportView → List (List ℕ)) (import : ExportView → Import) : Type 0 where
+  pub fits : (e : ExportView) → Sound e → Fits (layout_of (object e))
+  pub declares : (e : ExportView) → declared_by (ObjectFile (written_object (object e))) ≡ listed e
+  pub no_alias : (e : ExportView) → alias_of_object (written_object (object e)) ≡ None
+  pub imports : (e : ExportView) → Sound e → import_of (written_object (object e)) (written_object (head_object machine dll.linked)) (written_object (tail_object machine dll)) ≡ Some (import e)
+  pub code : (e : ExportView) → code_relocations (written_object (object e)) ≡ Some (expected_code machine e)
 
-  of_export_read : (number : ℕ) (e : ExportView) → Sound e → list_any is_too_long (numbered_specs_of machine dll number e) ≡ false →
-      AllByRecursion (λ p. ReadsBack p.contents) (numbered_specs_of machine dll number e)
-  unfolding alias_specs export_spec
+-- the specification of the member of such an object
+abbrev pub spec_by : MachineType → NamesOfDll → (ExportView → WriterState) → (ExportView → List (List ℕ)) → ℕ → ExportView → MemberSpec
+spec_by machine dll object listed number e = record { name = export_name dll.linked number; contents = AnObject (layout_of (object e)); symbols = listed e }
+
+-- those of an export, with its weak externals
+abbrev pub specs_by : MachineType → NamesOfDll → (ExportView → WriterState) → (ExportView → List (List ℕ)) → ℕ → ExportView → List MemberSpec
+specs_by machine dll object listed number e = alias_specs machine dll.linked number e ++ spec_by machine dll object listed number e ∷ []
+
+-- and those of exports that are numbered from a number
+pub record AreNumbered (of : ℕ → ExportView → List MemberSpec) (numbered : ℕ → List ExportView → List MemberSpec) : Type 0 where
+  pub none : (number : ℕ) → numbered number [] ≡ []
+  pub more : (number : ℕ) (e : ExportView) (exports : List ExportView) → numbered number (e ∷ exports) ≡ of number e ++ numbered (number + 1) exports
+
+chosen_read : (machine : MachineType) (e : ExportView) → Sound e → (test : Bool) (first second : List ℕ) →
+    list_any is_too_long (if test then weak_spec machine first e.name e.alias_target ∷ weak_spec machine second (imp_symbol e.name) (imp_symbol e.alias_target) ∷ [] else []) ≡ false →
+    AllByRecursion (λ p. ReadsBack p.contents) (if test then weak_spec machine first e.name e.alias_target ∷ weak_spec machine second (imp_symbol e.name) (imp_symbol e.alias_target) ∷ [] else [])
+chosen_read machine e sound false first second short = tt
+chosen_read machine e sound true first second short =
+    let of_name = weak_spec machine first e.name e.alias_target in
+    let of_address = weak_spec machine second (imp_symbol e.name) (imp_symbol e.alias_target) in
+    let one = or_parts (is_too_long of_name) _ short in
+    let two = or_parts (is_too_long of_address) false one.1 in (
+      weak_reads machine e.name e.alias_target sound.name sound.alias_target (short_enough of_name one.0),
+      (weak_reads machine (imp_symbol e.name) (imp_symbol e.alias_target) sound.name sound.alias_target (short_enough of_address two.0), tt),
+    )
+
+module _ (machine : MachineType) (dll : NamesOfDll) (object : ExportView → WriterState) (listed : ExportView → List (List ℕ)) (import : ExportView → Import) (read : AreRead machine dll object listed import)
+    (numbered : ℕ → List ExportView → List MemberSpec) (steps : AreNumbered (specs_by machine dll object listed) numbered) where
+  of_export_read : (number : ℕ) (e : ExportView) → Sound e → list_any is_too_long (specs_by machine dll object listed number e) ≡ false →
+      AllByRecursion (λ p. ReadsBack p.contents) (specs_by machine dll object listed number e)
+  unfolding alias_specs
   of_export_read number e sound short =
-      let parts = or_parts (list_any is_too_long (alias_specs machine dll number e)) (is_too_long (export_spec machine dll number e) || false)
-      (sym (list_any-append is_too_long (alias_specs machine dll number e) (export_spec machine dll number e ∷ [])) ∙ short) in
-      let last = or_parts (is_too_long (export_spec machine dll number e)) false parts.1 in
-      all_append (λ p. ReadsBack p.contents) (alias_specs machine dll number e) (export_spec machine dll number e ∷ [])
-      (chosen_read number e sound (is_alias e.alias_target e.name) _ _ parts.0)
-      (held_reads (export_object machine dll e) (Fits-export_object machine dll e dll_free sound.name sound.filled) (short_enough (export_spec machine dll number e) last.0), tt)
+      let own = spec_by machine dll object listed number e in
+      let parts = or_parts (list_any is_too_long (alias_specs machine dll.linked number e)) (is_too_long own || false)
+      (sym (list_any-append is_too_long (alias_specs machine dll.linked number e) (own ∷ [])) ∙ short) in
+      let last = or_parts (is_too_long own) false parts.1 in
+      all_append (λ p. ReadsBack p.contents) (alias_specs machine dll.linked number e) (own ∷ [])
+      (chosen_read machine e sound (is_alias e.alias_target e.name) _ _ parts.0)
+      (held_reads (object e) (read.fits e sound) (short_enough own last.0), tt)
 
-  numbered_read : (number : ℕ) (exports : List ExportView) → AllByRecursion Sound exports → list_any is_too_long (numbered_specs machine dll number exports) ≡ false →
-      AllByRecursion (λ p. ReadsBack p.contents) (numbered_specs machine dll number exports)
-  numbered_read number [] sound short = tt
+  pub numbered_read : (number : ℕ) (exports : List ExportView) → AllByRecursion Sound exports → list_any is_too_long (numbered number exports) ≡ false →
+      AllByRecursion (λ p. ReadsBack p.contents) (numbered number exports)
+  numbered_read number [] sound short = subst (AllByRecursion (λ (p : MemberSpec). ReadsBack p.contents)) (sym (steps.none number)) tt
   numbered_read number (e ∷ exports) sound short =
-      let parts = or_parts (list_any is_too_long (numbered_specs_of machine dll number e)) (list_any is_too_long (numbered_specs machine dll (number + 1) exports))
-      (sym (list_any-append is_too_long (numbered_specs_of machine dll number e) (numbered_specs machine dll (number + 1) exports)) ∙ short) in
-      all_append (λ p. ReadsBack p.contents) (numbered_specs_of machine dll number e) (numbered_specs machine dll (number + 1) exports)
-      (of_export_read number e sound.0 parts.0) (numbered_read (number + 1) exports sound.1 parts.1)
+      let own = specs_by machine dll object listed number e in
+      let others = numbered (number + 1) exports in
+      let parts = or_parts (list_any is_too_long own) (list_any is_too_long others)
+      (sym (list_any-append is_too_long own others) ∙ (sym (ap (list_any is_too_long) (steps.more number e exports)) ∙ short)) in
+      subst (AllByRecursion (λ (p : MemberSpec). ReadsBack p.contents)) (sym (steps.more number e exports))
+      (all_append (λ p. ReadsBack p.contents) own others (of_export_read number e sound.0 parts.0) (numbered_read (number + 1) exports sound.1 parts.1))
 
 -- What is declared.
 
@@ -96,28 +121,28 @@ unfolding export_object
 export_declares_by machine dll e true = refl
 export_declares_by machine dll e false = refl
 
-export_declares : (machine : MachineType) (dll : List ℕ) (number : ℕ) (e : ExportView) → DeclaresListed (export_spec machine dll number e)
-unfolding export_spec
-export_declares machine dll number e = held_declares (export_object machine dll e) (archive_symbols e) (export_declares_by machine dll e e.is_data)
-
 chosen_declare : (machine : MachineType) (e : ExportView) (test : Bool) (first second : List ℕ) →
     AllByRecursion DeclaresListed (if test then weak_spec machine first e.name e.alias_target ∷ weak_spec machine second (imp_symbol e.name) (imp_symbol e.alias_target) ∷ [] else [])
 chosen_declare machine e false first second = tt
 chosen_declare machine e true first second =
     (weak_declares machine first e.name e.alias_target, (weak_declares machine second (imp_symbol e.name) (imp_symbol e.alias_target), tt))
 
-numbered_declare : (machine : MachineType) (dll : List ℕ) (number : ℕ) (exports : List ExportView) → AllByRecursion DeclaresListed (numbered_specs machine dll number exports)
-unfolding alias_specs
-numbered_declare machine dll number [] = tt
-numbered_declare machine dll number (e ∷ exports) =
-    all_append DeclaresListed (numbered_specs_of machine dll number e) (numbered_specs machine dll (number + 1) exports)
-    (all_append DeclaresListed (alias_specs machine dll number e) (export_spec machine dll number e ∷ [])
-    (chosen_declare machine e (is_alias e.alias_target e.name) _ _) (export_declares machine dll number e, tt))
-    (numbered_declare machine dll (number + 1) exports)
+module _ (machine : MachineType) (dll : NamesOfDll) (object : ExportView → WriterState) (listed : ExportView → List (List ℕ)) (import : ExportView → Import) (read : AreRead machine dll object listed import)
+    (numbered : ℕ → List ExportView → List MemberSpec) (steps : AreNumbered (specs_by machine dll object listed) numbered) where
+  pub numbered_declare : (number : ℕ) (exports : List ExportView) → AllByRecursion DeclaresListed (numbered number exports)
+  unfolding alias_specs
+  numbered_declare number [] = subst (AllByRecursion DeclaresListed) (sym (steps.none number)) tt
+  numbered_declare number (e ∷ exports) =
+      let own = spec_by machine dll object listed number e in
+      subst (AllByRecursion DeclaresListed) (sym (steps.more number e exports))
+      (all_append DeclaresListed (specs_by machine dll object listed number e) (numbered (number + 1) exports)
+      (all_append DeclaresListed (alias_specs machine dll.linked number e) (own ∷ [])
+      (chosen_declare machine e (is_alias e.alias_target e.name) _ _) (held_declares (object e) (listed e) (read.declares e), tt))
+      (numbered_declare (number + 1) exports))
 
 -- What an export means.
 
-same_bytes : (text : List ℕ) → bytes_eq text text ≡ true
+pub same_bytes : (text : List ℕ) → bytes_eq text text ≡ true
 same_bytes text = (bytes_eq-Decides text text).1 refl
 
 asks_by : (machine : MachineType) (dll : List ℕ) (e : ExportView) → e.ordinal < 2 ^ 16 → holds 0 (name_asked machine e) ≡ false → (is_data no_name : Bool) →
@@ -166,45 +191,60 @@ code_by ARMNT dll e false = refl
 code_by AMD64 dll e false = refl
 code_by ARM64 dll e false = refl
 
+pub import_found : (machine : MachineType) (dll : NamesOfDll) (export : WriterState) (e : ExportView) (symbols : List (List ℕ)) →
+    dll_by_names (written_object export) (written_object (head_object machine dll.linked)) (written_object (tail_object machine dll)) ≡ Some dll.text →
+    ask_of_export (written_object export) ≡ Some (expected_ask machine e) →
+    externals_in (written_object export) (codes ".idata$5") ++ externals_in (written_object export) text_section ≡ symbols →
+    import_of (written_object export) (written_object (head_object machine dll.linked)) (written_object (tail_object machine dll)) ≡ Some (record { dll = dll.text; declared = symbols; ask = expected_ask machine e })
+import_found machine dll export e symbols named asks declared =
+    let o = written_object export in
+    ap (λ found. option_and_then (λ name. option_map
+    (λ ask. record { dll = name; declared = externals_in o (codes ".idata$5") ++ externals_in o text_section; ask = ask })
+    (ask_of_export o)) found) named
+    ∙ (ap (λ found. option_map (λ ask. record { dll = dll.text; declared = externals_in o (codes ".idata$5") ++ externals_in o text_section; ask = ask }) found) asks
+    ∙ ap (λ symbols. Some (record { dll = dll.text; declared = symbols; ask = expected_ask machine e })) declared)
+
+pub export_reads : (machine : MachineType) (dll : NamesOfDll) → holds 0 dll.linked ≡ false → holds 0 dll.text ≡ false →
+    AreRead machine dll (export_object machine dll.linked) archive_symbols (expected_import machine dll.text)
+export_reads machine dll linked_free text_free = record {
+  fits = λ e sound. Fits-export_object machine dll.linked e linked_free sound.name sound.filled;
+  declares = λ e. export_declares_by machine dll.linked e e.is_data;
+  no_alias = λ e. no_alias machine dll.linked e e.is_data;
+  imports = λ e sound.
+      import_found machine dll (export_object machine dll.linked e) e (import_symbols e.is_data e.name) (dll_found machine dll e text_free)
+      (asks_by machine dll.linked e (ltb-true e.ordinal 0x1_0000 sound.ordinal) (name_asked_free machine e sound) e.is_data e.no_name)
+      (declared_by_import machine dll.linked e e.is_data);
+  code = λ e. code_by machine dll.linked e e.is_data;
+}
+
 -- What the specifications mean.
 
-module _ (machine : MachineType) (dll : NamesOfDll) (linked_free : holds 0 dll.linked ≡ false) (text_free : holds 0 dll.text ≡ false) where
+module _ (machine : MachineType) (dll : NamesOfDll) (object : ExportView → WriterState) (listed : ExportView → List (List ℕ)) (import : ExportView → Import) (read : AreRead machine dll object listed import)
+    (numbered : ℕ → List ExportView → List MemberSpec) (steps : AreNumbered (specs_by machine dll object listed) numbered) where
   abbrev head_file : File
   head_file = ObjectFile (object_of (layout_of (head_object machine dll.linked)))
 
   abbrev tail_file : File
   tail_file = ObjectFile (object_of (layout_of (tail_object machine dll)))
 
+  -- what an export's members mean
+  abbrev meanings : ExportView → List Meaning
+  meanings e = map AnAlias (aliases_for e.name e.alias_target) ++ AnImport (import e) ∷ []
+
   -- what a specification's file means
   abbrev specified : MemberSpec → Option Meaning
   specified p = meaning_with head_file tail_file (file_of p.contents)
 
-  import_found : (e : ExportView) → Sound e →
-      import_of (written_object (export_object machine dll.linked e)) (written_object (head_object machine dll.linked)) (written_object (tail_object machine dll)) ≡ Some (expected_import machine dll.text e)
-  import_found e sound =
-      let o = written_object (export_object machine dll.linked e) in
-      let fits : e.ordinal < 2 ^ 16 = ltb-true e.ordinal 0x1_0000 sound.ordinal in
-      let asks : ask_of_export o ≡ Some (expected_ask machine e) =
-      asks_by machine dll.linked e fits (name_asked_free machine e sound) e.is_data e.no_name in
-      let declared : externals_in o (codes ".idata$5") ++ externals_in o text_section ≡ import_symbols e.is_data e.name = declared_by_import machine dll.linked e e.is_data in
-      let named = dll_found machine dll e text_free in
-      ap (λ found. option_and_then (λ name. option_map
-      (λ ask. record { dll = name; declared = externals_in o (codes ".idata$5") ++ externals_in o text_section; ask = ask })
-      (ask_of_export o)) found) named
-      ∙ (ap (λ found. option_map (λ ask. record { dll = dll.text; declared = externals_in o (codes ".idata$5") ++ externals_in o text_section; ask = ask }) found) asks
-      ∙ ap (λ symbols. Some (record { dll = dll.text; declared = symbols; ask = expected_ask machine e })) declared)
-
-  export_specified : (number : ℕ) (e : ExportView) → Sound e → specified (export_spec machine dll.linked number e) ≡ Some (AnImport (expected_import machine dll.text e))
-  unfolding export_spec
+  export_specified : (number : ℕ) (e : ExportView) → Sound e → specified (spec_by machine dll object listed number e) ≡ Some (AnImport (import e))
   export_specified number e sound =
-      let export = written_object (export_object machine dll.linked e) in
+      let export = written_object (object e) in
       let head = written_object (head_object machine dll.linked) in
       let tail = written_object (tail_object machine dll) in
-      ap (λ o. meaning_with head_file tail_file (ObjectFile o)) (object_of-layout_of (export_object machine dll.linked e))
+      ap (λ o. meaning_with head_file tail_file (ObjectFile o)) (object_of-layout_of (object e))
       ∙ (ap (λ o. meaning_with (ObjectFile o) tail_file (ObjectFile export)) (object_of-layout_of (head_object machine dll.linked))
       ∙ (ap (λ o. meaning_with (ObjectFile head) (ObjectFile o) (ObjectFile export)) (object_of-layout_of (tail_object machine dll))
-      ∙ (ap (λ a. alias_or_import a (import_of export head tail)) (no_alias machine dll.linked e e.is_data)
-      ∙ ap (option_map AnImport) (import_found e sound))))
+      ∙ (ap (λ a. alias_or_import a (import_of export head tail)) (read.no_alias e)
+      ∙ ap (option_map AnImport) (read.imports e sound))))
 
   weak_specified : (weak target : List ℕ) → meaning_with head_file tail_file (ObjectFile (object_of (weak_object machine weak target))) ≡ Some (AnAlias (record { weak = weak; target = target }))
   unfolding weak_object object_of entries_of name_text u32_at u32_bytes
@@ -220,23 +260,27 @@ module _ (machine : MachineType) (dll : NamesOfDll) (linked_free : holds 0 dll.l
       ap (λ x. x ∷ meaning_with head_file tail_file (ObjectFile (object_of (weak_object machine (imp_symbol e.name) (imp_symbol e.alias_target)))) ∷ []) one
       ∙ ap (λ x. Some (AnAlias (record { weak = e.name; target = e.alias_target })) ∷ x ∷ []) two
 
-  of_export_specified : (number : ℕ) (e : ExportView) → Sound e → map specified (numbered_specs_of machine dll.linked number e) ≡ map (λ m. Some m) (expected_meanings machine dll.text e)
+  of_export_specified : (number : ℕ) (e : ExportView) → Sound e → map specified (specs_by machine dll object listed number e) ≡ map (λ m. Some m) (meanings e)
   unfolding alias_specs
   of_export_specified number e sound =
-      map-append specified (alias_specs machine dll.linked number e) (export_spec machine dll.linked number e ∷ [])
-      ∙ (ap (λ x. x ++ specified (export_spec machine dll.linked number e) ∷ []) (chosen_specified e (is_alias e.alias_target e.name) _ _)
+      let own = spec_by machine dll object listed number e in
+      map-append specified (alias_specs machine dll.linked number e) (own ∷ [])
+      ∙ (ap (λ x. x ++ specified own ∷ []) (chosen_specified e (is_alias e.alias_target e.name) _ _)
       ∙ (ap (λ x. map (λ a. Some (AnAlias a)) (aliases_for e.name e.alias_target) ++ x ∷ []) (export_specified number e sound)
-      ∙ sym (map-append (λ m. Some m) (map AnAlias (aliases_for e.name e.alias_target)) (AnImport (expected_import machine dll.text e) ∷ [])
-      ∙ ap (λ x. x ++ Some (AnImport (expected_import machine dll.text e)) ∷ []) (map_after (λ m. Some m) AnAlias (aliases_for e.name e.alias_target)))))
+      ∙ sym (map-append (λ m. Some m) (map AnAlias (aliases_for e.name e.alias_target)) (AnImport (import e) ∷ [])
+      ∙ ap (λ x. x ++ Some (AnImport (import e)) ∷ []) (map_after (λ m. Some m) AnAlias (aliases_for e.name e.alias_target)))))
 
-  numbered_specified : (number : ℕ) (exports : List ExportView) → AllByRecursion Sound exports →
-      map specified (numbered_specs machine dll.linked number exports) ≡ map (λ m. Some m) (flat_map (expected_meanings machine dll.text) exports)
-  numbered_specified number [] sound = refl
+  pub numbered_specified : (number : ℕ) (exports : List ExportView) → AllByRecursion Sound exports →
+      map specified (numbered number exports) ≡ map (λ m. Some m) (flat_map meanings exports)
+  numbered_specified number [] sound = ap (map specified) (steps.none number)
   numbered_specified number (e ∷ exports) sound =
-      map-append specified (numbered_specs_of machine dll.linked number e) (numbered_specs machine dll.linked (number + 1) exports)
-      ∙ (ap (λ x. x ++ map specified (numbered_specs machine dll.linked (number + 1) exports)) (of_export_specified number e sound.0)
-      ∙ (ap (λ x. map (λ m. Some m) (expected_meanings machine dll.text e) ++ x) (numbered_specified (number + 1) exports sound.1)
-      ∙ sym (map-append (λ m. Some m) (expected_meanings machine dll.text e) (flat_map (expected_meanings machine dll.text) exports))))
+      let own = specs_by machine dll object listed number e in
+      let others = numbered (number + 1) exports in
+      ap (map specified) (steps.more number e exports)
+      ∙ (map-append specified own others
+      ∙ (ap (λ x. x ++ map specified others) (of_export_specified number e sound.0)
+      ∙ (ap (λ x. map (λ m. Some m) (meanings e) ++ x) (numbered_specified (number + 1) exports sound.1)
+      ∙ sym (map-append (λ m. Some m) (meanings e) (flat_map meanings exports)))))
 
   -- the code of a specification's file
   abbrev specified_code : MemberSpec → Option (List CodeRelocation)
@@ -251,53 +295,58 @@ module _ (machine : MachineType) (dll : NamesOfDll) (linked_free : holds 0 dll.l
   chosen_code e false first second = refl
   chosen_code e true first second = rw (weak_code e.name e.alias_target, weak_code (imp_symbol e.name) (imp_symbol e.alias_target)) refl
 
-  export_code : (number : ℕ) (e : ExportView) → specified_code (export_spec machine dll.linked number e) ≡ Some (expected_code machine e)
-  unfolding export_spec
+  export_code : (number : ℕ) (e : ExportView) → specified_code (spec_by machine dll object listed number e) ≡ Some (expected_code machine e)
   export_code number e =
-      let export = written_object (export_object machine dll.linked e) in
-      ap (λ o. code_of_export (ObjectFile o)) (object_of-layout_of (export_object machine dll.linked e))
-      ∙ (ap (λ a. elim a [ None ↦ code_relocations export | Some found ↦ None ]) (no_alias machine dll.linked e e.is_data) ∙ code_by machine dll.linked e e.is_data)
+      let export = written_object (object e) in
+      ap (λ o. code_of_export (ObjectFile o)) (object_of-layout_of (object e))
+      ∙ (ap (λ a. elim a [ None ↦ code_relocations export | Some found ↦ None ]) (read.no_alias e) ∙ read.code e)
 
   one_kept : {X Y : Type 0} (f : X → Option Y) (x : X) (y : Y) → f x ≡ Some y → filter_map f (x ∷ []) ≡ y ∷ []
   one_kept f x y same = rw same refl
 
-  of_export_code : (number : ℕ) (e : ExportView) → filter_map specified_code (numbered_specs_of machine dll.linked number e) ≡ expected_code machine e ∷ []
+  of_export_code : (number : ℕ) (e : ExportView) → filter_map specified_code (specs_by machine dll object listed number e) ≡ expected_code machine e ∷ []
   unfolding alias_specs
   of_export_code number e =
-      filter_map-append specified_code (alias_specs machine dll.linked number e) (export_spec machine dll.linked number e ∷ [])
-      ∙ (ap (λ x. x ++ filter_map specified_code (export_spec machine dll.linked number e ∷ [])) (chosen_code e (is_alias e.alias_target e.name) _ _)
-      ∙ one_kept specified_code (export_spec machine dll.linked number e) (expected_code machine e) (export_code number e))
+      let own = spec_by machine dll object listed number e in
+      filter_map-append specified_code (alias_specs machine dll.linked number e) (own ∷ [])
+      ∙ (ap (λ x. x ++ filter_map specified_code (own ∷ [])) (chosen_code e (is_alias e.alias_target e.name) _ _)
+      ∙ one_kept specified_code own (expected_code machine e) (export_code number e))
 
-  numbered_code : (number : ℕ) (exports : List ExportView) → filter_map specified_code (numbered_specs machine dll.linked number exports) ≡ map (expected_code machine) exports
-  numbered_code number [] = refl
+  pub numbered_code : (number : ℕ) (exports : List ExportView) → filter_map specified_code (numbered number exports) ≡ map (expected_code machine) exports
+  numbered_code number [] = ap (filter_map specified_code) (steps.none number)
   numbered_code number (e ∷ exports) =
-      filter_map-append specified_code (numbered_specs_of machine dll.linked number e) (numbered_specs machine dll.linked (number + 1) exports)
-      ∙ (ap (λ x. x ++ filter_map specified_code (numbered_specs machine dll.linked (number + 1) exports)) (of_export_code number e)
-      ∙ ap (λ x. expected_code machine e ∷ x) (numbered_code (number + 1) exports))
+      let own = specs_by machine dll object listed number e in
+      let others = numbered (number + 1) exports in
+      ap (filter_map specified_code) (steps.more number e exports)
+      ∙ (filter_map-append specified_code own others
+      ∙ (ap (λ x. x ++ filter_map specified_code others) (of_export_code number e)
+      ∙ ap (λ x. expected_code machine e ∷ x) (numbered_code (number + 1) exports)))
 
-  -- the imports and the aliases among what is expected
-  one_import : (e : ExportView) → filter_map import_among (expected_meanings machine dll.text e) ≡ expected_import machine dll.text e ∷ []
+-- The imports and the aliases among what is expected.
+
+module _ (machine : MachineType) (dll : List ℕ) where
+  one_import : (e : ExportView) → filter_map import_among (expected_meanings machine dll e) ≡ expected_import machine dll e ∷ []
   one_import e =
-      filter_map-append import_among (map AnAlias (aliases_for e.name e.alias_target)) (AnImport (expected_import machine dll.text e) ∷ [])
-      ∙ ap (λ x. x ++ expected_import machine dll.text e ∷ []) (no_imports (aliases_for e.name e.alias_target))
+      filter_map-append import_among (map AnAlias (aliases_for e.name e.alias_target)) (AnImport (expected_import machine dll e) ∷ [])
+      ∙ ap (λ x. x ++ expected_import machine dll e ∷ []) (no_imports (aliases_for e.name e.alias_target))
 
-  pub all_imports : (exports : List ExportView) → filter_map import_among (flat_map (expected_meanings machine dll.text) exports) ≡ map (expected_import machine dll.text) exports
+  pub all_imports : (exports : List ExportView) → filter_map import_among (flat_map (expected_meanings machine dll) exports) ≡ map (expected_import machine dll) exports
   all_imports [] = refl
   all_imports (e ∷ exports) =
-      filter_map-append import_among (expected_meanings machine dll.text e) (flat_map (expected_meanings machine dll.text) exports)
-      ∙ (ap (λ x. x ++ filter_map import_among (flat_map (expected_meanings machine dll.text) exports)) (one_import e)
-      ∙ ap (λ x. expected_import machine dll.text e ∷ x) (all_imports exports))
+      filter_map-append import_among (expected_meanings machine dll e) (flat_map (expected_meanings machine dll) exports)
+      ∙ (ap (λ x. x ++ filter_map import_among (flat_map (expected_meanings machine dll) exports)) (one_import e)
+      ∙ ap (λ x. expected_import machine dll e ∷ x) (all_imports exports))
 
-  its_aliases : (e : ExportView) → filter_map alias_among (expected_meanings machine dll.text e) ≡ aliases_for e.name e.alias_target
+  its_aliases : (e : ExportView) → filter_map alias_among (expected_meanings machine dll e) ≡ aliases_for e.name e.alias_target
   its_aliases e =
-      filter_map-append alias_among (map AnAlias (aliases_for e.name e.alias_target)) (AnImport (expected_import machine dll.text e) ∷ [])
+      filter_map-append alias_among (map AnAlias (aliases_for e.name e.alias_target)) (AnImport (expected_import machine dll e) ∷ [])
       ∙ (ap (λ x. x ++ []) (all_aliases (aliases_for e.name e.alias_target)) ∙ append-nil (aliases_for e.name e.alias_target))
 
-  pub aliases_among : (exports : List ExportView) → filter_map alias_among (flat_map (expected_meanings machine dll.text) exports) ≡ flat_map (λ e. aliases_for e.name e.alias_target) exports
+  pub aliases_among : (exports : List ExportView) → filter_map alias_among (flat_map (expected_meanings machine dll) exports) ≡ flat_map (λ e. aliases_for e.name e.alias_target) exports
   aliases_among [] = refl
   aliases_among (e ∷ exports) =
-      filter_map-append alias_among (expected_meanings machine dll.text e) (flat_map (expected_meanings machine dll.text) exports)
-      ∙ (ap (λ x. x ++ filter_map alias_among (flat_map (expected_meanings machine dll.text) exports)) (its_aliases e)
+      filter_map-append alias_among (expected_meanings machine dll e) (flat_map (expected_meanings machine dll) exports)
+      ∙ (ap (λ x. x ++ filter_map alias_among (flat_map (expected_meanings machine dll) exports)) (its_aliases e)
       ∙ ap (λ x. aliases_for e.name e.alias_target ++ x) (aliases_among exports))
 
 -- The members.
@@ -318,85 +367,136 @@ reversed_all : {X : Type 0} (P : X → Type 0) (xs : List X) → AllByRecursion 
 reversed_all P [] all = tt
 reversed_all P (x ∷ xs) all = subst (AllByRecursion P) (sym (reverse-append (x ∷ []) xs)) (all_append P (reverse xs) (x ∷ []) (reversed_all P xs all.1) (all.0, tt))
 
+-- the tail, the head, and the members of exports' objects of one kind, none of them too long, are read as they are specified
+module _ (machine : MachineType) (dll : NamesOfDll) (linked_free : holds 0 dll.linked ≡ false) (object : ExportView → WriterState) (listed : ExportView → List (List ℕ)) (import : ExportView → Import) (read : AreRead machine dll object listed import)
+    (numbered : ℕ → List ExportView → List MemberSpec) (steps : AreNumbered (specs_by machine dll object listed) numbered)
+    (exports : List ExportView) (sound : AllByRecursion Sound exports) (members : List MemberView)
+    (made : members ≡ map member_of (tail_spec machine dll ∷ head_spec machine dll.linked ∷ reverse (numbered 0 exports)))
+    (short : list_any is_too_long (tail_spec machine dll ∷ head_spec machine dll.linked ∷ reverse (numbered 0 exports)) ≡ false) where
+  abbrev built : List MemberSpec
+  built = numbered 0 exports
+
+  abbrev all : List MemberSpec
+  all = tail_spec machine dll ∷ head_spec machine dll.linked ∷ reverse built
+
+  abbrev pub head : File
+  head = head_file machine dll object listed import read numbered steps
+
+  abbrev pub tail : File
+  tail = tail_file machine dll object listed import read numbered steps
+
+  tail_short : (is_too_long (tail_spec machine dll) ≡ false) × (is_too_long (head_spec machine dll.linked) || list_any is_too_long (reverse built) ≡ false)
+  tail_short = or_parts (is_too_long (tail_spec machine dll)) _ short
+
+  head_short : (is_too_long (head_spec machine dll.linked) ≡ false) × (list_any is_too_long (reverse built) ≡ false)
+  head_short = or_parts (is_too_long (head_spec machine dll.linked)) (list_any is_too_long (reverse built)) tail_short.1
+
+  built_read : AllByRecursion (λ p. ReadsBack p.contents) built
+  built_read = numbered_read machine dll object listed import read numbered steps 0 exports sound (sym (list_any-reverse is_too_long built) ∙ head_short.1)
+
+  tail_back : ReadsBack (AnObject (layout_of (tail_object machine dll)))
+  unfolding tail_spec
+  tail_back = held_reads (tail_object machine dll) (Fits-tail_object machine dll linked_free) (short_enough (tail_spec machine dll) tail_short.0)
+
+  head_back : ReadsBack (AnObject (layout_of (head_object machine dll.linked)))
+  unfolding head_spec
+  head_back = held_reads (head_object machine dll.linked) (Fits-head_object machine dll.linked linked_free) (short_enough (head_spec machine dll.linked) head_short.0)
+
+  pub all_read : AllByRecursion (λ p. ReadsBack p.contents) all
+  unfolding tail_spec head_spec
+  all_read = (tail_back, (head_back, reversed_all (λ (p : MemberSpec). ReadsBack p.contents) built built_read))
+
+  of_members : {Y : Type 0} (f : MemberView → Y) → map f members ≡ map (λ p. f (member_of p)) all
+  of_members f = ap (map f) made ∙ map_after f member_of all
+
+  -- the members after the tail and the head, turned round, are those that were built
+  behind : reverse (drop 2 members) ≡ map member_of built
+  behind =
+      ap (λ (x : List MemberView). reverse (drop 2 x)) made
+      ∙ (sym (map-reverse member_of (reverse built)) ∙ ap (map member_of) (reverse-reverse built))
+
+  pub files : map (λ m. file_in m.bytes) members ≡ map (λ p. Some (file_of p.contents)) all
+  files =
+      of_members (λ m. file_in m.bytes)
+      ∙ map_same (λ p. file_in (file_bytes p.contents)) (λ p. Some (file_of p.contents)) all (each_read all all_read)
+
+  pub lengths : map (λ m. length m.bytes) members ≡ map (λ p. file_size p.contents) all
+  lengths =
+      of_members (λ m. length m.bytes)
+      ∙ map_same (λ p. length (file_bytes p.contents)) (λ p. file_size p.contents) all (each_length all all_read)
+
+  pub declared : map (λ m. option_map declared_by (file_in m.bytes)) members ≡ map (λ m. Some m.symbols) members
+  declared =
+      of_members (λ m. option_map declared_by (file_in m.bytes))
+      ∙ (map_same (λ (p : MemberSpec). option_map declared_by (file_in (file_bytes p.contents))) (λ (p : MemberSpec). Some p.symbols) all
+      (read_declares all all_read
+      (tail_declares machine dll, (head_declares machine dll.linked, reversed_all DeclaresListed built (numbered_declare machine dll object listed import read numbered steps 0 exports))))
+      ∙ sym (of_members (λ m. Some m.symbols)))
+
+  pub tail_read : file_at members 0 ≡ Some tail
+  unfolding tail_spec
+  tail_read = ap (λ (x : List MemberView). file_at x 0) made ∙ tail_back.read
+
+  pub head_read : file_at members 1 ≡ Some head
+  unfolding head_spec
+  head_read = ap (λ (x : List MemberView). file_at x 1) made ∙ head_back.read
+
+  pub meanings_read : map (λ m. option_and_then (meaning_with head tail) (file_in m.bytes)) (reverse (drop 2 members))
+      ≡ map (λ m. Some m) (flat_map (meanings machine dll object listed import read numbered steps) exports)
+  meanings_read =
+      ap (map (λ (m : MemberView). option_and_then (meaning_with head tail) (file_in m.bytes))) behind
+      ∙ (read_meaning head tail built built_read ∙ numbered_specified machine dll object listed import read numbered steps 0 exports sound)
+
+  pub code_read : filter_map (λ m. option_and_then code_of_export (file_in m.bytes)) (reverse (drop 2 members)) ≡ map (expected_code machine) exports
+  code_read =
+      ap (filter_map (λ (m : MemberView). option_and_then code_of_export (file_in m.bytes))) behind
+      ∙ (read_code built built_read ∙ numbered_code machine dll object listed import read numbered steps 0 exports)
+
 -- the members of a definition that is not refused are read as the definition means
 module _ (d : DefinitionView) (machine : MachineType) (members : List MemberView) (made : AreMembersOf d machine Gnu members) where
   abbrev exports : List ExportView
   exports = public_exports (renamed d)
 
-  abbrev built : List MemberSpec
-  built = numbered_specs machine (linked_name d) 0 exports
+  abbrev dll : NamesOfDll
+  dll = names_for Gnu d
 
-  free : holds 0 (linked_name d) ≡ false
+  abbrev numbered : ℕ → List ExportView → List MemberSpec
+  numbered = numbered_specs machine dll.linked
+
+  free : holds 0 dll.linked ≡ false
   free = linked_is_free d machine Gnu members made
 
-  text_free : holds 0 d.import_name ≡ false
-  text_free = import_name_is_free d machine Gnu members made
+  read : AreRead machine dll (export_object machine dll.linked) archive_symbols (expected_import machine dll.text)
+  read = export_reads machine dll free (import_name_is_free d machine Gnu members made)
 
-  tail_short : (is_too_long (tail_spec machine (names_for Gnu d)) ≡ false) × (is_too_long (head_spec machine (linked_name d)) || list_any is_too_long (reverse built) ≡ false)
-  tail_short = or_parts (is_too_long (tail_spec machine (names_for Gnu d))) _ (none_long d machine Gnu members made)
+  steps : AreNumbered (specs_by machine dll (export_object machine dll.linked) archive_symbols) numbered
+  unfolding export_spec
+  steps = record { none = λ number. refl; more = λ number e exports. refl }
 
-  head_short : (is_too_long (head_spec machine (linked_name d)) ≡ false) × (list_any is_too_long (reverse built) ≡ false)
-  head_short = or_parts (is_too_long (head_spec machine (linked_name d))) (list_any is_too_long (reverse built)) tail_short.1
+  sound : AllByRecursion Sound exports
+  sound = exports_sound d machine Gnu members made
 
-  built_read : AllByRecursion (λ p. ReadsBack p.contents) built
-  built_read = numbered_read machine (linked_name d) free 0 exports (exports_sound d machine Gnu members made) (sym (list_any-reverse is_too_long built) ∙ head_short.1)
-
-  tail_back : ReadsBack (AnObject (layout_of (tail_object machine (names_for Gnu d))))
-  unfolding tail_spec
-  tail_back = held_reads (tail_object machine (names_for Gnu d)) (Fits-tail_object machine (names_for Gnu d) free) (short_enough (tail_spec machine (names_for Gnu d)) tail_short.0)
-
-  head_back : ReadsBack (AnObject (layout_of (head_object machine (linked_name d))))
-  unfolding head_spec
-  head_back = held_reads (head_object machine (linked_name d)) (Fits-head_object machine (linked_name d) free) (short_enough (head_spec machine (linked_name d)) head_short.0)
+  short : list_any is_too_long (member_specs (renamed d) machine Gnu) ≡ false
+  short = none_long d machine Gnu members made
 
   pub member_specs_read : AllByRecursion (λ p. ReadsBack p.contents) (member_specs (renamed d) machine Gnu)
-  unfolding tail_spec head_spec
-  member_specs_read = (tail_back, (head_back, reversed_all (λ (p : MemberSpec). ReadsBack p.contents) built built_read))
-
-  of_members : {Y : Type 0} (f : MemberView → Y) → map f members ≡ map (λ p. f (member_of p)) (member_specs (renamed d) machine Gnu)
-  of_members f = ap (map f) made.made ∙ map_after f member_of (member_specs (renamed d) machine Gnu)
-
-  -- the members after the tail and the head, turned round, are those that were built
-  behind : reverse (drop 2 members) ≡ map member_of built
-  behind =
-      ap (λ (x : List MemberView). reverse (drop 2 x)) made.made
-      ∙ (sym (map-reverse member_of (reverse built)) ∙ ap (map member_of) (reverse-reverse built))
-
-  first_file : file_at (map member_of (member_specs (renamed d) machine Gnu)) 0 ≡ Some (tail_file machine (names_for Gnu d) free text_free)
-  unfolding tail_spec
-  first_file = tail_back.read
-
-  second_file : file_at (map member_of (member_specs (renamed d) machine Gnu)) 1 ≡ Some (head_file machine (names_for Gnu d) free text_free)
-  unfolding head_spec
-  second_file = head_back.read
+  member_specs_read = all_read machine dll free (export_object machine dll.linked) archive_symbols (expected_import machine dll.text) read numbered steps exports sound members made.made short
 
   pub reads_for_gnu : GnuReadBack d machine members
-  reads_for_gnu = record {
-    files = of_members (λ m. file_in m.bytes)
-        ∙ map_same (λ p. file_in (file_bytes p.contents)) (λ p. Some (file_of p.contents)) (member_specs (renamed d) machine Gnu)
-        (each_read (member_specs (renamed d) machine Gnu) member_specs_read);
-    lengths = of_members (λ m. length m.bytes)
-        ∙ map_same (λ p. length (file_bytes p.contents)) (λ p. file_size p.contents) (member_specs (renamed d) machine Gnu)
-        (each_length (member_specs (renamed d) machine Gnu) member_specs_read);
-    declared =
-        of_members (λ m. option_map declared_by (file_in m.bytes))
-        ∙ (map_same (λ (p : MemberSpec). option_map declared_by (file_in (file_bytes p.contents))) (λ (p : MemberSpec). Some p.symbols) (member_specs (renamed d) machine Gnu)
-        (read_declares (member_specs (renamed d) machine Gnu) member_specs_read
-        (tail_declares machine (names_for Gnu d), (head_declares machine (linked_name d), reversed_all DeclaresListed built (numbered_declare machine (linked_name d) 0 exports))))
-        ∙ sym (of_members (λ m. Some m.symbols)));
-    tail = tail_file machine (names_for Gnu d) free text_free;
-    head = head_file machine (names_for Gnu d) free text_free;
-    tail_read = ap (λ (x : List MemberView). file_at x 0) made.made ∙ first_file;
-    head_read = ap (λ (x : List MemberView). file_at x 1) made.made ∙ second_file;
-    meanings = flat_map (expected_meanings machine d.import_name) exports;
-    meanings_read =
-        ap (map (λ (m : MemberView). option_and_then (meaning_with (head_file machine (names_for Gnu d) free text_free) (tail_file machine (names_for Gnu d) free text_free)) (file_in m.bytes))) behind
-        ∙ (read_meaning (head_file machine (names_for Gnu d) free text_free) (tail_file machine (names_for Gnu d) free text_free) built built_read
-        ∙ numbered_specified machine (names_for Gnu d) free text_free 0 exports (exports_sound d machine Gnu members made));
-    by_export = refl;
-    imports = all_imports machine (names_for Gnu d) free text_free exports;
-    aliases = aliases_among machine (names_for Gnu d) free text_free exports;
-    code =
-        ap (filter_map (λ (m : MemberView). option_and_then code_of_export (file_in m.bytes))) behind
-        ∙ (read_code built built_read ∙ numbered_code machine (names_for Gnu d) free text_free 0 exports);
-  }
+  reads_for_gnu =
+      let object = export_object machine dll.linked in
+      let import = expected_import machine dll.text in record {
+        files = files machine dll free object archive_symbols import read numbered steps exports sound members made.made short;
+        lengths = lengths machine dll free object archive_symbols import read numbered steps exports sound members made.made short;
+        declared = declared machine dll free object archive_symbols import read numbered steps exports sound members made.made short;
+        tail = tail machine dll free object archive_symbols import read numbered steps exports sound members made.made short;
+        head = head machine dll free object archive_symbols import read numbered steps exports sound members made.made short;
+        tail_read = tail_read machine dll free object archive_symbols import read numbered steps exports sound members made.made short;
+        head_read = head_read machine dll free object archive_symbols import read numbered steps exports sound members made.made short;
+        meanings = flat_map (expected_meanings machine d.import_name) exports;
+        meanings_read = meanings_read machine dll free object archive_symbols import read numbered steps exports sound members made.made short;
+        by_export = refl;
+        imports = all_imports machine d.import_name exports;
+        aliases = aliases_among machine d.import_name exports;
+        code = code_read machine dll free object archive_symbols import read numbered steps exports sound members made.made short;
+      }

@@ -33,7 +33,7 @@ pub record Sound (e : ExportView) : Type 0 where
   pub asked_name : holds 0 (given_name e) ≡ false
   pub ordinal : has_u16_ordinal e ≡ true
 
-if_none : {X : Type 0} (test : Bool) (x : X) (otherwise : Option X) → (if test then Some x else otherwise) ≡ None → (test ≡ false) × (otherwise ≡ None)
+pub if_none : {X : Type 0} (test : Bool) (x : X) (otherwise : Option X) → (if test then Some x else otherwise) ≡ None → (test ≡ false) × (otherwise ≡ None)
 if_none true x otherwise none = cc
 if_none false x otherwise none = (refl, none)
 
@@ -149,29 +149,41 @@ name_asked_free machine e sound =
 pub short_enough : (p : MemberSpec) → is_too_long p ≡ false → file_size p.contents ≤ 0xFFFF_FFFF
 short_enough p short = ltb-false 0xFFFF_FFFF (file_size p.contents) short
 
+-- what is known of a definition that breaks no rule on names
+module _ (d : DefinitionView) (machine : MachineType) (flavor : Flavor) (names : definition_names_refusal (renamed d) machine flavor ≡ None) where
+  library_refusals : (import_name_refusal d.import_name ≡ None)
+      × (first_of_both (library_name_refusal d.library_name) (names_refusal flavor machine 0 (map renamed_export d.exports)) ≡ None)
+  library_refusals = first_none (import_name_refusal d.import_name) _ names
+
+  name_refusals : (library_name_refusal d.library_name ≡ None) × (names_refusal flavor machine 0 (map renamed_export d.exports) ≡ None)
+  name_refusals = first_none (library_name_refusal d.library_name) (names_refusal flavor machine 0 (map renamed_export d.exports)) library_refusals.1
+
+  pub text_free_by_names : holds 0 d.import_name ≡ false
+  text_free_by_names = import_name_free d.import_name library_refusals.0
+
+  pub linked_free_by_names : holds 0 (linked_in flavor d) ≡ false
+  linked_free_by_names = linked_free flavor d name_refusals.0 text_free_by_names
+
+  pub sound_by_names : list_all has_u16_ordinal (public_exports (renamed d)) ≡ true → AllByRecursion Sound (public_exports (renamed d))
+  sound_by_names ordinals = all_sound flavor machine 0 (map renamed_export d.exports) name_refusals.1 ordinals
+
+-- and of one that is not refused
 module _ (d : DefinitionView) (machine : MachineType) (flavor : Flavor) (members : List MemberView) (made : AreMembersOf d machine flavor members) where
   refusals : (definition_names_refusal (renamed d) machine flavor ≡ None) × (length_refusal (member_specs (renamed d) machine flavor) ≡ None)
   unfolding refusal renamed_refusal
   refusals = first_none (definition_names_refusal (renamed d) machine flavor) (length_refusal (member_specs (renamed d) machine flavor)) made.accepted
 
-  library_refusals : (import_name_refusal d.import_name ≡ None)
-      × (first_of_both (library_name_refusal d.library_name) (names_refusal flavor machine 0 (map renamed_export d.exports)) ≡ None)
-  library_refusals = first_none (import_name_refusal d.import_name) _ refusals.0
-
-  name_refusals : (library_name_refusal d.library_name ≡ None) × (names_refusal flavor machine 0 (map renamed_export d.exports) ≡ None)
-  name_refusals = first_none (library_name_refusal d.library_name) (names_refusal flavor machine 0 (map renamed_export d.exports)) library_refusals.1
-
   pub import_name_is_free : holds 0 d.import_name ≡ false
-  import_name_is_free = import_name_free d.import_name library_refusals.0
+  import_name_is_free = text_free_by_names d machine flavor refusals.0
 
   pub linked_is_free : holds 0 (linked_in flavor d) ≡ false
-  linked_is_free = linked_free flavor d name_refusals.0 import_name_is_free
+  linked_is_free = linked_free_by_names d machine flavor refusals.0
 
   pub exports_sound : AllByRecursion Sound (public_exports (renamed d))
-  exports_sound = all_sound flavor machine 0 (map renamed_export d.exports) name_refusals.1 made.ordinals
+  exports_sound = sound_by_names d machine flavor refusals.0 made.ordinals
 
   pub exports_ask : AllByRecursion (AsksNoOther flavor machine) (public_exports (renamed d))
-  exports_ask = all_ask flavor machine 0 (map renamed_export d.exports) name_refusals.1
+  exports_ask = all_ask flavor machine 0 (map renamed_export d.exports) (name_refusals d machine flavor refusals.0).1
 
   pub none_long : list_any is_too_long (member_specs (renamed d) machine flavor) ≡ false
   none_long = (if_none (list_any is_too_long (member_specs (renamed d) machine flavor)) MemberTooLong None refusals.1).0

@@ -1,21 +1,25 @@
 -- The members for GNU's linker where the object of each export has an older symbol of its address beside that of today
 -- (docs/FORMATS.md, "Older symbols").
-use Rattle.std.specs.Prelude.{◌≡◌, ℕ, ◌+◌, true, List, [], ◌∷◌, ◌++◌, Option, None, codes, if◌then◌else◌, map, reverse}
-use Rattle.std.specs.List.{list_all}
+use Rattle.std.specs.Prelude.{◌≡◌, ℕ, ◌+◌, true, List, [], ◌∷◌, ◌++◌, Option, None, Some, codes, drop, if◌then◌else◌, length, map, reverse}
+use Rattle.std.specs.List.{filter_map, flat_map, list_all}
+use Rattle.std.specs.Option.{option_and_then, option_map}
 use Rattle.implib.specs.declared.coff.object.Place.TheVariants.{Undefined, Section}
 use Rattle.implib.specs.declared.flavor.Flavor.TheVariants.{Gnu}
 use Rattle.implib.specs.declared.machine.MachineType.{MachineType}
 use Rattle.implib.specs.Definition.{DefinitionView, ExportView}
 use Rattle.implib.specs.Fault.{Cause}
 use Rattle.implib.specs.Formats.Constants.{class_external, class_static}
+use Rattle.implib.specs.Formats.File.{AnAlias, AnImport, File, Meaning, declared_by, file_in}
 use Rattle.implib.specs.Formats.Writer.{AddedSymbol, WriterState, layout_of}
-use Rattle.implib.specs.Import.{Import, expected_import, imp_symbol, public_exports}
+use Rattle.implib.specs.Import.{Import, aliases_for, expected_import, imp_symbol, public_exports}
 use Rattle.implib.specs.LibraryName.{NamesOfDll, names_for}
 use Rattle.implib.specs.Members.Gnu.{added, archive_symbols, code_symbol, export_name, export_sections, head_symbol}
 use Rattle.implib.specs.Members.GnuMembers.{alias_specs, head_spec, tail_spec}
+use Rattle.implib.specs.Members.GnuReader.{code_of_export, meaning_with}
 use Rattle.implib.specs.Members.Members.{has_u16_ordinal, length_refusal}
-use Rattle.implib.specs.Members.MemberSpec.{AnObject, MemberSpec, MemberView, member_of}
+use Rattle.implib.specs.Members.MemberSpec.{AnObject, MemberSpec, MemberView, file_size, member_of}
 use Rattle.implib.specs.Members.NameRules.{definition_names_refusal, first_of_both}
+use Rattle.implib.specs.Members.ReadBack.{expected_code, file_at, file_of}
 use Rattle.implib.specs.Renaming.{renamed}
 
 -- The older symbol of an export's address. For example, `___impbar` of bar, and `___imp_bar` of `_bar`.
@@ -92,3 +96,28 @@ abbrev pub older_import : MachineType → List ℕ → ExportView → Import
 older_import machine dll e = record (expected_import machine dll e) {
   declared = imp_symbol e.name ∷ older_symbol e.name ∷ (if e.is_data then [] else e.name ∷ []);
 }
+
+-- what an export's members mean: its aliases, then its import
+abbrev pub older_meanings : MachineType → List ℕ → ExportView → List Meaning
+older_meanings machine dll e =
+    map AnAlias (aliases_for e.name e.alias_target) ++ AnImport (older_import machine dll e) ∷ []
+
+-- What the members are read as; the first is the tail, the second the head. Nothing is imported that is not imported
+-- without older symbols.
+pub record OlderReadBack (d : DefinitionView) (machine : MachineType) (members : List MemberView) : Type 0 where
+  -- each file reads as specified
+  pub files : map (λ m. file_in m.bytes) members ≡ map (λ p. Some (file_of p.contents)) (older_specs (renamed d) machine)
+  -- each file has the specified length
+  pub lengths : map (λ m. length m.bytes) members ≡ map (λ p. file_size p.contents) (older_specs (renamed d) machine)
+  -- each member declares exactly its archive symbols
+  pub declared : map (λ m. option_map declared_by (file_in m.bytes)) members ≡ map (λ m. Some m.symbols) members
+  pub tail : File
+  pub head : File
+  pub tail_read : file_at members 0 ≡ Some tail
+  pub head_read : file_at members 1 ≡ Some head
+  -- the members after these two, read backwards: export by export, its aliases and its import
+  pub meanings : map (λ m. option_and_then (meaning_with head tail) (file_in m.bytes)) (reverse (drop 2 members))
+      ≡ map Some (flat_map (older_meanings machine d.import_name) (public_exports (renamed d)))
+  -- the code of each export is relocated as its machine's stub, to the address of that export by its symbol of today
+  pub code : filter_map (λ m. option_and_then code_of_export (file_in m.bytes)) (reverse (drop 2 members))
+      ≡ map (expected_code machine) (public_exports (renamed d))

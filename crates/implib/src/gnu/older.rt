@@ -9,7 +9,7 @@ ghost use Rattle.implib.specs.LibraryName.{linked_name};
 ghost use Rattle.implib.specs.Members.Gnu.{head_symbol};
 ghost use Rattle.implib.specs.Members.Members.{has_u16_ordinal};
 ghost use Rattle.implib.specs.Members.NameRules.{definition_names_refusal, holds_nul};
-ghost use Rattle.implib.specs.Members.OlderSymbols.{AreOlderMembersOf, numbered_older_specs};
+ghost use Rattle.implib.specs.Members.OlderSymbols.{AreOlderMembersOf, OlderReadBack, numbered_older_specs};
 ghost use Rattle.implib.specs.Members.OlderSymbols.{older_refusal, older_spec, older_specs};
 ghost use Rattle.implib.specs.Members.OlderSymbols.{older_specs_of, older_symbol};
 ghost use Rattle.implib.specs.Renaming.{is_renamed};
@@ -38,6 +38,8 @@ pub(crate) fn older_members(def: &ModuleDef, machine: MachineType) -> Result<Vec
     requires { is_renamed (map export_view def.now.exports.items) ≡ true }
     ensures ok { IfOk result (λ members.
         AreOlderMembersOf (definition_view def.now) machine (map member_view members.items)) }
+    ensures reads { IfOk result (λ members. OlderReadBack
+        (definition_view def.now) machine (map member_view members.items)) }
     ensures refused { IfInvalid result
         (λ cause. older_refusal (definition_view def.now) machine ≡ Some cause) }
 {
