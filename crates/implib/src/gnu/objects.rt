@@ -397,11 +397,11 @@ pub(crate) fn older_object<'a>(
         (layout_of (older_object machine library.now (export_view export.now))) result }
 {
     let head = symbol(head, Place::Undefined, class::EXTERNAL);
-    let code = symbol(export.name.as_str(), Place::Section(1), class::EXTERNAL);
+    let own = symbol(export.name.as_str(), Place::Section(1), class::EXTERNAL);
     let today = symbol(address, Place::Section(5), class::EXTERNAL);
     let names = symbol(".idata$6", Place::Section(7), class::STATIC);
     let older = symbol(older, Place::Section(5), class::EXTERNAL);
-    let of_code = [head, code, today, names, older];
+    let of_code = [head, own, today, names, older];
     let of_data = [head, today, names, older];
     let symbols = if export.is_data {
         &of_data[..]

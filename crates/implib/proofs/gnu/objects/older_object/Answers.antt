@@ -13,7 +13,7 @@ write_export-requires c =
     let symbols : map symbol_row c.if-export.symbols.now ≡ older_symbols (head_symbol c.args.machine c.args.library.now) (export_view c.args.export.now) =
     elim c.if-export.branch [
       | then-export w ↦ rw (w.symbols-is, w.if-export.true, c.symbol-head.ensures, c.symbol-today.ensures, c.symbol-names.ensures, c.symbol-older.ensures, c.requires.head, c.requires.address, c.requires.older) refl
-      | else-export w ↦ rw (w.symbols-is, w.if-export.false, c.symbol-head.ensures, c.symbol-code.ensures, c.symbol-today.ensures, c.symbol-names.ensures, c.symbol-older.ensures, c.as_str.ensures.value, c.requires.head, c.requires.address, c.requires.older) refl
+      | else-export w ↦ rw (w.symbols-is, w.if-export.false, c.symbol-head.ensures, c.symbol-own.ensures, c.symbol-today.ensures, c.symbol-names.ensures, c.symbol-older.ensures, c.as_str.ensures.value, c.requires.head, c.requires.address, c.requires.older) refl
     ] in
     rw symbols (CanBeHeld-older_object c.args.machine c.args.library.now (export_view c.args.export.now) c.requires.library_text c.requires.name_text c.requires.filled)
 
@@ -24,7 +24,7 @@ same c =
     let symbols : map symbol_row c.if-export.symbols.now ≡ older_symbols (head_symbol c.args.machine c.args.library.now) (export_view c.args.export.now) =
     elim c.if-export.branch [
       | then-export w ↦ rw (w.symbols-is, w.if-export.true, c.symbol-head.ensures, c.symbol-today.ensures, c.symbol-names.ensures, c.symbol-older.ensures, c.requires.head, c.requires.address, c.requires.older) refl
-      | else-export w ↦ rw (w.symbols-is, w.if-export.false, c.symbol-head.ensures, c.symbol-code.ensures, c.symbol-today.ensures, c.symbol-names.ensures, c.symbol-older.ensures, c.as_str.ensures.value, c.requires.head, c.requires.address, c.requires.older) refl
+      | else-export w ↦ rw (w.symbols-is, w.if-export.false, c.symbol-head.ensures, c.symbol-own.ensures, c.symbol-today.ensures, c.symbol-names.ensures, c.symbol-older.ensures, c.as_str.ensures.value, c.requires.head, c.requires.address, c.requires.older) refl
     ] in
     rw symbols refl
 
