@@ -102,6 +102,23 @@ fn objects_for_gnu_are_made_when_they_are_wanted(rt: HostRuntime) -> Result<(), 
 }
 
 #[test]
+fn members_for_gnu_with_older_symbols(rt: HostRuntime) -> Result<(), Fail> {
+    let (text, _, gnu) = BAR;
+    let def = ModuleDef::parse(rt.alloc(), text, MachineType::AMD64)?;
+    let library = GnuImportLibrary::new(def, MachineType::AMD64);
+    let members = library.members_with_older_symbols()?;
+    assert!(rt; have_lengths(&members, &[356, 450, 502]));
+    let symbols = match members.get(2) {
+        Some(member) => member.symbols.as_slice(),
+        None => &[],
+    };
+    assert!(rt; symbols.len() == 3);
+    assert!(rt; symbols.last().map(String::as_str) == Some("___impbar"));
+    assert!(rt; have_lengths(&library.members()?, gnu));
+    Ok(())
+}
+
+#[test]
 fn members_for_gnu_with_an_alias_are_all_made(rt: HostRuntime) -> Result<(), Fail> {
     let (text, _, gnu) = ALIASED;
     let def = ModuleDef::parse(rt.alloc(), text, MachineType::AMD64)?;
