@@ -1,10 +1,10 @@
 -- Definitions with what their members with older symbols are or why they have none, worked by hand.
-use Rattle.std.specs.Prelude.{◌≡◌, ℕ, true, List, [], ◌∷◌, ◌++◌, map, take, drop, slice_get, Option, Some}
+use Rattle.std.specs.Prelude.{◌≡◌, ℕ, List, [], ◌∷◌, ◌++◌, map, take, drop, slice_get, Option, Some}
 use Rattle.std.specs.Prelude.{None, codes}
 use Rattle.std.specs.Option.{option_map}
 use Rattle.implib.specs.declared.machine.MachineType.{MachineType}
 use Rattle.implib.specs.declared.machine.MachineType.TheVariants.{I386, ARMNT, AMD64, ARM64}
-use Rattle.implib.specs.Definition.{DefinitionView, empty_export}
+use Rattle.implib.specs.Definition.{DefinitionView}
 use Rattle.implib.specs.Fault.{NulInExport}
 use Rattle.implib.specs.Members.MemberSpec.{MemberSpec, file_bytes}
 use Rattle.implib.specs.Members.OlderSymbols.{older_refusal, older_specs}
