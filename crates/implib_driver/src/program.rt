@@ -68,6 +68,8 @@ Makes the import library of a module definition.
                            the same of names with @
       --export-as          for Microsoft's linker, and for lld from 18 on, write a
                            name that is not made of its symbol beside it
+  -C, --compat-implib      for GNU's linker, name each address by ___imp and its
+                           symbol too, as in Cygwin's libraries before 2000
   -v, --verbose            write warnings of FILE on standard error
   -I, --identify LIB       print the names of the DLLs that LIB imports from, and
                            make nothing
