@@ -6,7 +6,7 @@ use Rattle.implib_driver.specs.declared.options.Meaning.TheVariants.{Takes, Swit
 use Rattle.implib_driver.specs.declared.options.Setting.{Setting}
 use Rattle.implib_driver.specs.declared.options.Switch.{Switch}
 use Rattle.implib_driver.specs.declared.options.Setting.TheVariants.{Definition, Output, Machine, Dll, Flavor, Assembler, AssemblerFlags, TemporaryPrefix, FurtherPrefix, Identify}
-use Rattle.implib_driver.specs.declared.options.Switch.TheVariants.{KillAt, NoLeadingUnderscore, LeadingUnderscore, ExportAs, AddUnderscore, AddStdcallUnderscore, AddStdcallAlias, DeterministicLibraries, NonDeterministicLibraries, NoDelete, IdentifyStrict, KeepsDecorated, Verbose, Help, Version}
+use Rattle.implib_driver.specs.declared.options.Switch.TheVariants.{KillAt, NoLeadingUnderscore, LeadingUnderscore, ExportAs, AddUnderscore, AddStdcallUnderscore, AddStdcallAlias, DeterministicLibraries, NonDeterministicLibraries, NoDelete, IdentifyStrict, KeepsDecorated, CompatImplib, Verbose, Help, Version}
 
 -- the long names, without `--`, of GNU dlltool's options that have no meaning here
 abbrev pub is_unsupported : List ℕ → Bool
@@ -18,7 +18,6 @@ is_unsupported name =
     else if bytes_eq name (codes "no-idata4") then true
     else if bytes_eq name (codes "no-idata5") then true
     else if bytes_eq name (codes "add-indirect") then true
-    else if bytes_eq name (codes "compat-implib") then true
     else if bytes_eq name (codes "export-all-symbols") then true
     else if bytes_eq name (codes "no-export-all-symbols") then true
     else if bytes_eq name (codes "exclude-symbols") then true
@@ -47,6 +46,7 @@ option_named name =
     else if bytes_eq name (codes "add-underscore") then Switches AddUnderscore
     else if bytes_eq name (codes "add-stdcall-underscore") then Switches AddStdcallUnderscore
     else if bytes_eq name (codes "add-stdcall-alias") then Switches AddStdcallAlias
+    else if bytes_eq name (codes "compat-implib") then Switches CompatImplib
     else if bytes_eq name (codes "deterministic-libraries") then Switches DeterministicLibraries
     else if bytes_eq name (codes "non-deterministic-libraries") then Switches NonDeterministicLibraries
     else if bytes_eq name (codes "no-delete") then Switches NoDelete
@@ -72,6 +72,7 @@ option_lettered letter =
     else if letter == byte "k" then Switches KillAt
     else if letter == byte "U" then Switches AddUnderscore
     else if letter == byte "A" then Switches AddStdcallAlias
+    else if letter == byte "C" then Switches CompatImplib
     else if letter == byte "n" then Switches NoDelete
     else if letter == byte "v" then Switches Verbose
     else if letter == byte "h" then Switches Help
@@ -83,7 +84,6 @@ option_lettered letter =
     else if letter == byte "x" then Unsupported
     else if letter == byte "c" then Unsupported
     else if letter == byte "a" then Unsupported
-    else if letter == byte "C" then Unsupported
     else Unknown
 
 -- the number of an option that takes a value; no two have one
@@ -116,6 +116,7 @@ switch_number AddStdcallUnderscore = 11
 switch_number AddStdcallAlias = 12
 switch_number IdentifyStrict = 13
 switch_number KeepsDecorated = 14
+switch_number CompatImplib = 15
 
 -- whether two options that take values are one
 abbrev pub is_same_setting : Setting → Setting → Bool

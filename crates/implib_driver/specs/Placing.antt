@@ -6,7 +6,7 @@ use Rattle.implib_driver.specs.Request.{RequestView}
 use Rattle.implib_rules.specs.declared.library.LibraryError.{LibraryError}
 use Rattle.implib_rules.specs.declared.library.LibraryError.TheVariants.{Refused, Writing}
 use Rattle.implib_rules.specs.declared.library.Refusal.{Refusal}
-use Rattle.implib_rules.specs.Library.{IsLibrary, IsRefusalOfBytes, MembersFor}
+use Rattle.implib_rules.specs.Older.{IsLibraryAsked, IsRefusalOfBytesAsked, MembersAsked}
 
 -- a file is in its place, and all of it, where bytes are known; nothing new is left, and no call failed
 pub record IsPlaced (known : Bool) (before after : DiskView) (path file : List ℕ) : Type 0 where
@@ -28,18 +28,18 @@ IsPut known before after (Some path) file = IsPlaced known before after path fil
 -- the bytes have a library, which is in the place that is asked for
 pub record Puts (known : Bool) (before after : DiskView) (bytes : List ℕ) (request : RequestView) : Type 0 where
   pub file : List ℕ
-  pub is_library : IsLibrary bytes request.library file
+  pub is_library : IsLibraryAsked request.older_symbols bytes request.library file
   pub is_put : IsPut known before after request.output file
 
 -- the bytes have no library for this reason, and the disk is as it was
 pub record PutsNone (before after : DiskView) (bytes : List ℕ) (request : RequestView) (refusal : Refusal) : Type 0 where
-  pub refused : IsRefusalOfBytes bytes request.library refusal
+  pub refused : IsRefusalOfBytesAsked request.older_symbols bytes request.library refusal
   pub same : after ≡ before
 
 -- the bytes have a library, which was not written whole or is in no place
 pub record FailsToPut (before after : DiskView) (bytes : List ℕ) (request : RequestView) : Type 0 where
   pub file : List ℕ
-  pub is_library : IsLibrary bytes request.library file
+  pub is_library : IsLibraryAsked request.older_symbols bytes request.library file
   pub unplaced : IsUnplaced before after
 
 -- what a call for a library answers
@@ -55,4 +55,4 @@ Answers known before after bytes request (Err (Writing cause)) = FailsToPut befo
 -- what an answer says of the library of any bytes that have these members, and of the disk
 abbrev pub AnswersWith : Bool → DiskView → DiskView → List MemberView → RequestView → Answer → Type 0
 AnswersWith known before after members request answer =
-    (bytes : List ℕ) → MembersFor bytes request.library members → Answers known before after bytes request answer
+    (bytes : List ℕ) → MembersAsked request.older_symbols bytes request.library members → Answers known before after bytes request answer

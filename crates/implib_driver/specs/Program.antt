@@ -24,7 +24,8 @@ use Rattle.implib_rules.specs.declared.library.LibraryError.TheVariants.{Refused
 use Rattle.implib_rules.specs.declared.library.Refusal.{Refusal}
 use Rattle.implib_rules.specs.declared.library.Refusal.TheVariants.{OutOfMemory}
 use Rattle.implib_rules.specs.declared.places.Place.{Place}
-use Rattle.implib_rules.specs.Library.{CountsMembers, IsRefusalOfMembers, MembersFor, definition_text, status_of}
+use Rattle.implib_rules.specs.Library.{CountsMembers, definition_text, status_of}
+use Rattle.implib_rules.specs.Older.{IsRefusalOfAsked, MembersAsked}
 use Rattle.implib_rules.specs.Places.{ArePlacesOf, export_lines}
 use Rattle.implib_rules.specs.TextWarnings.{text_warnings}
 use Rattle.implib_rules.specs.Warnings.{WarningView}
@@ -131,12 +132,12 @@ Finishes known bytes request disk put before after status =
 -- what is done with the bytes of a definition that has these members
 abbrev pub FinishesWith : Bool → List ℕ → List MemberView → RequestView → DiskView → DiskView → Option (List Line) → Option (List Line) → ℕ → Type 0
 FinishesWith known bytes members request disk put before after status =
-    MembersFor bytes request.library members → Finishes known bytes request disk put before after status
+    MembersAsked request.older_symbols bytes request.library members → Finishes known bytes request disk put before after status
 
 -- what is done with the bytes of a definition that has no members for this: nothing with any disk
 abbrev pub FinishesWithout : List ℕ → Refusal → RequestView → Option (List Line) → Option (List Line) → ℕ → Type 0
 FinishesWithout bytes refusal request before after status =
-    IsRefusalOfMembers bytes request.library refusal →
+    IsRefusalOfAsked request.older_symbols bytes request.library refusal →
     (known : Bool) (disk : DiskView) → Finishes known bytes request disk disk before after status
 
 -- the definition was read, and this was done with its bytes

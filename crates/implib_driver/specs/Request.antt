@@ -9,7 +9,7 @@ use Rattle.implib.specs.declared.flavor.Flavor.TheVariants.{Msvc, Gnu}
 use Rattle.implib.specs.declared.machine.MachineType.{MachineType}
 use Rattle.implib.specs.declared.machine.MachineType.TheVariants.{I386, ARMNT, AMD64, ARM64}
 use Rattle.implib_driver.specs.declared.options.Setting.TheVariants.{Definition, Output, Machine, Dll, Flavor as FlavorSetting, Assembler, AssemblerFlags, TemporaryPrefix, FurtherPrefix, Identify}
-use Rattle.implib_driver.specs.declared.options.Switch.TheVariants.{Help, IdentifyStrict, KeepsDecorated, KillAt, LeadingUnderscore, NoLeadingUnderscore, Verbose, Version, ExportAs, AddUnderscore, AddStdcallUnderscore}
+use Rattle.implib_driver.specs.declared.options.Switch.TheVariants.{Help, IdentifyStrict, KeepsDecorated, KillAt, LeadingUnderscore, NoLeadingUnderscore, Verbose, Version, ExportAs, AddUnderscore, AddStdcallUnderscore, CompatImplib}
 use Rattle.implib_driver.specs.declared.request.CallError.{CallError}
 use Rattle.implib_driver.specs.declared.request.CallError.TheVariants as error
 use Rattle.implib_driver.specs.declared.request.CalledAs.{CalledAs}
@@ -38,6 +38,8 @@ pub record RequestView : Type 0 where
   pub output : Option (List ℕ)
   -- what it is made for
   pub library : LibraryOptionsView
+  -- whether addresses have their older symbols too
+  pub older_symbols : Bool
   -- whether warnings are written
   pub is_verbose : Bool
 
@@ -47,6 +49,7 @@ request_view r = record {
   definition = r.definition.now;
   output = option_map (λ text. text.now) r.output;
   library = library_options_view r.library;
+  older_symbols = r.older_symbols;
   is_verbose = r.is_verbose;
 }
 
@@ -75,6 +78,7 @@ pub data CallFaultView : Type 0 where
   HasEmptyOutput : CallFaultView
   IsOtherArchitecture : CallFaultView
   HasNoUnderscore : CallFaultView
+  HasNoOlderSymbols : CallFaultView
   ReplacesDefinition : CallFaultView
 
 -- the view of a fault of the program
@@ -87,6 +91,7 @@ call_fault_view fault.OutputToStandard = GoesToStandard
 call_fault_view fault.EmptyOutput = HasEmptyOutput
 call_fault_view fault.OtherArchitecture = IsOtherArchitecture
 call_fault_view fault.NoUnderscore = HasNoUnderscore
+call_fault_view fault.NoOlderSymbols = HasNoOlderSymbols
 call_fault_view fault.OutputIsDefinition = ReplacesDefinition
 
 -- a value that is asked for, or what is wrong
@@ -301,6 +306,16 @@ additions_in options = record {
   stdcall_underscore = is_switched AddStdcallUnderscore options;
 }
 
+-- older symbols of addresses, if they are asked for, which no short import can declare
+abbrev pub older_symbols_or : Flavor → Bool → Asked Bool
+older_symbols_or Msvc true = Err HasNoOlderSymbols
+older_symbols_or Msvc false = Ok false
+older_symbols_or Gnu asked = Ok asked
+
+-- whether options ask for older symbols of addresses
+abbrev pub older_symbols_in : Flavor → List OccurrenceView → Asked Bool
+older_symbols_in flavor options = older_symbols_or flavor (is_switched CompatImplib options)
+
 -- the library that is asked for, of this definition
 abbrev pub request_of : Caller → List OccurrenceView → Option (List ℕ) → Asked RequestView
 request_of caller options None = Err LacksDefinition
@@ -310,12 +325,14 @@ request_of caller options (Some definition) =
     with (flavor_in caller.called_as machine output options) (λ flavor.
     with (dll_in options) (λ dll.
     with (naming_in machine options) (λ naming.
+    with (older_symbols_in flavor options) (λ older_symbols.
     Ok (record {
       definition = definition;
       output = output;
       library = record { machine = machine; flavor = flavor; dll = dll; naming = naming; additions = additions_in options };
+      older_symbols = older_symbols;
       is_verbose = is_switched Verbose options;
-    }))))))
+    })))))))
 
 -- the library that options ask for
 abbrev pub request_in : Caller → List OccurrenceView → Asked RequestView

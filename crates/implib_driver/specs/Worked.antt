@@ -1,7 +1,7 @@
 -- Command lines worked by hand, each word and each option written out.
 use Rattle.std.specs.Prelude.{◌≡◌, List, [], ◌∷◌, ℕ, Some, Ok, Err, codes}
 use Rattle.implib_driver.specs.declared.options.Setting.TheVariants.{Definition, Output, Machine, Dll, AssemblerFlags, TemporaryPrefix}
-use Rattle.implib_driver.specs.declared.options.Switch.TheVariants.{KillAt, NoDelete, NoLeadingUnderscore, Verbose}
+use Rattle.implib_driver.specs.declared.options.Switch.TheVariants.{CompatImplib, KillAt, NoDelete, NoLeadingUnderscore, Verbose}
 use Rattle.implib_driver.specs.Arguments.{OccurrenceView, Given, Switched, IsFile, IsUnknown, IsUnsupported, LacksValue, last_given, read_words}
 
 -- as rustc calls a dlltool for I386
@@ -44,6 +44,7 @@ pub record CallsRead : Type 0 where
   pub bundle : read_words (codes "-kvd" ∷ codes "a.def" ∷ codes "-nkla.lib" ∷ codes "-kv" ∷ [])
       ≡ Ok (Switched KillAt ∷ Switched Verbose ∷ Given Definition (codes "a.def") ∷ Switched NoDelete ∷ Switched KillAt
       ∷ Given Output (codes "a.lib") ∷ Switched KillAt ∷ Switched Verbose ∷ [])
+  pub bundle_of_capitals : read_words (codes "-kCdb.def" ∷ []) ≡ Ok (Switched KillAt ∷ Switched CompatImplib ∷ Given Definition (codes "b.def") ∷ [])
   pub bundle_lacks_value : read_words (codes "-kd" ∷ []) ≡ Err (LacksValue Definition)
   pub bundle_unsupported : read_words (codes "-kx" ∷ []) ≡ Err (IsUnsupported (codes "-kx"))
   pub bundle_unknown : read_words (codes "-k=1" ∷ []) ≡ Err (IsUnknown (codes "-k=1"))

@@ -5,13 +5,13 @@ use Rattle.implib.specs.declared.flavor.Flavor.TheVariants.{Msvc, Gnu}
 use Rattle.implib.specs.declared.machine.MachineType.{MachineType}
 use Rattle.implib.specs.declared.machine.MachineType.TheVariants.{I386, ARMNT, AMD64, ARM64}
 use Rattle.implib_driver.specs.declared.options.Setting.TheVariants.{Assembler, AssemblerFlags, Definition, Dll, Flavor as FlavorSetting, Machine, Output, TemporaryPrefix, FurtherPrefix, Identify}
-use Rattle.implib_driver.specs.declared.options.Switch.TheVariants.{Help, IdentifyStrict, LeadingUnderscore, NoLeadingUnderscore, Version, ExportAs, KillAt, AddUnderscore, AddStdcallUnderscore, AddStdcallAlias}
+use Rattle.implib_driver.specs.declared.options.Switch.TheVariants.{Help, IdentifyStrict, LeadingUnderscore, NoLeadingUnderscore, Version, ExportAs, KillAt, AddUnderscore, AddStdcallUnderscore, AddStdcallAlias, CompatImplib}
 use Rattle.implib_driver.specs.declared.request.CalledAs.{CalledAs}
 use Rattle.implib_driver.specs.declared.request.CalledAs.TheVariants as called
 use Rattle.implib_driver.specs.Arguments.{Given, OccurrenceView, Switched}
 use Rattle.implib_driver.specs.declared.identity.NotIdentified.TheVariants.{NoDll, NoLibrary, SeveralDlls}
 use Rattle.implib_driver.specs.Identity.{fault_of, lines_unless, named_of}
-use Rattle.implib_driver.specs.Request.{Asked, AsksHelp, AsksIdentity, AsksVersion, GoesToStandard, HasEmptyDll, HasEmptyOutput, HasNoUnderscore, ReplacesDefinition, IsOtherArchitecture, IsUnknownFlavor, IsUnknownMachine, LacksDefinition, caller_of, default_flavor, flavor_in, machine_in, naming_in, additions_in, task_of}
+use Rattle.implib_driver.specs.Request.{Asked, AsksHelp, AsksIdentity, AsksVersion, GoesToStandard, HasEmptyDll, HasEmptyOutput, HasNoOlderSymbols, HasNoUnderscore, ReplacesDefinition, IsOtherArchitecture, IsUnknownFlavor, IsUnknownMachine, LacksDefinition, caller_of, default_flavor, flavor_in, machine_in, naming_in, additions_in, older_symbols_in, task_of}
 use Rattle.implib_driver.specs.WorkedCalls.{itself}
 use Rattle.implib_rules.specs.WorkedNames.{plain, usual}
 use Rattle.implib_rules.specs.Additions.{no_additions}
@@ -106,6 +106,11 @@ pub record FaultsOrdered : Type 0 where
   pub flavor_first : task_of itself (given ∷ Given Dll [] ∷ Given FlavorSetting (codes "x") ∷ []) ≡ Err (IsUnknownFlavor (codes "x"))
   pub dll_first : task_of itself (given ∷ Switched LeadingUnderscore ∷ Given Dll [] ∷ []) ≡ Err HasEmptyDll
   pub no_underscore : task_of itself (given ∷ Switched LeadingUnderscore ∷ []) ≡ Err HasNoUnderscore
+  pub underscore_first : task_of itself (given ∷ Switched CompatImplib ∷ Given FlavorSetting (codes "msvc") ∷ Switched LeadingUnderscore ∷ [])
+      ≡ Err HasNoUnderscore
+  pub no_older_symbols : task_of itself (given ∷ Given FlavorSetting (codes "msvc") ∷ Switched CompatImplib ∷ []) ≡ Err HasNoOlderSymbols
+  pub no_older_symbols_by_ending : task_of itself (Switched CompatImplib ∷ given ∷ Given Output (codes "b.lib") ∷ []) ≡ Err HasNoOlderSymbols
+  pub no_older_symbols_by_machine : task_of itself (given ∷ Switched CompatImplib ∷ Given Machine (codes "arm64") ∷ []) ≡ Err HasNoOlderSymbols
   pub other_architecture : machine_in None [] ≡ Err IsOtherArchitecture
   pub named_machine : machine_in None (Given Machine (codes "arm64") ∷ []) ≡ Ok ARM64
   pub plain_by_the_last : naming_in I386 (Switched LeadingUnderscore ∷ Switched NoLeadingUnderscore ∷ []) ≡ Ok plain
@@ -118,5 +123,7 @@ pub record FaultsOrdered : Type 0 where
   pub stdcall_underscore_added : additions_in (Switched AddStdcallUnderscore ∷ [])
       ≡ record { prefix = None; underscore = false; stdcall_underscore = true }
   pub nothing_added : additions_in (Switched AddStdcallAlias ∷ []) ≡ no_additions
+  pub older_symbols : map (λ flavor. older_symbols_in flavor (Switched CompatImplib ∷ [])) (Msvc ∷ Gnu ∷ []) ≡ Err HasNoOlderSymbols ∷ Ok true ∷ []
+  pub no_symbols_more : map (λ flavor. older_symbols_in flavor (Switched ExportAs ∷ [])) (Msvc ∷ Gnu ∷ []) ≡ Ok false ∷ Ok false ∷ []
   pub exports_as_anywhere : naming_in AMD64 (Switched ExportAs ∷ []) ≡ Ok exporting
   pub exports_as_and_kills : naming_in I386 (Switched ExportAs ∷ Switched KillAt ∷ []) ≡ Ok killing_and_exporting

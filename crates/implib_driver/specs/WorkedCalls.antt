@@ -5,7 +5,7 @@ use Rattle.implib.specs.declared.flavor.Flavor.TheVariants.{Msvc, Gnu}
 use Rattle.implib.specs.declared.machine.MachineType.TheVariants.{I386, AMD64, ARM64}
 use Rattle.implib_driver.specs.declared.options.Setting.TheVariants.{Definition, Output, Machine, Dll}
 use Rattle.implib_driver.specs.declared.options.Setting.TheVariants.{Flavor as FlavorSetting}
-use Rattle.implib_driver.specs.declared.options.Switch.TheVariants.{Help, Verbose}
+use Rattle.implib_driver.specs.declared.options.Switch.TheVariants.{CompatImplib, Help, Verbose}
 use Rattle.implib_driver.specs.declared.request.CalledAs.TheVariants.{Itself}
 use Rattle.implib_driver.specs.declared.request.Caller.{Caller}
 use Rattle.implib_driver.specs.Arguments.{Given, Switched}
@@ -40,31 +40,43 @@ pub record CallsAnswered : Type 0 where
     definition = codes "F.def";
     output = Some (codes "F.lib");
     library = record { machine = I386; flavor = Gnu; dll = Some (codes "zoo.dll"); naming = plain; additions = no_additions };
+    older_symbols = false;
     is_verbose = false;
   }))
   pub mingw : task_of for_i386 mingw_options ≡ Ok (Asks (record {
     definition = codes "X.def";
     output = Some (codes "X.a");
     library = record { machine = AMD64; flavor = Gnu; dll = None; naming = killing; additions = no_additions };
+    older_symbols = false;
     is_verbose = false;
   }))
   pub by_ending : task_of itself (Given Definition (codes "-") ∷ Given Output (codes "a.lib") ∷ []) ≡ Ok (Asks (record {
     definition = codes "-";
     output = Some (codes "a.lib");
     library = record { machine = AMD64; flavor = Msvc; dll = None; naming = usual; additions = no_additions };
+    older_symbols = false;
     is_verbose = false;
   }))
   pub arm64 : task_of itself (Given Definition (codes "a") ∷ Given Machine (codes "AArch64") ∷ []) ≡ Ok (Asks (record {
     definition = codes "a";
     output = None;
     library = record { machine = ARM64; flavor = Msvc; dll = None; naming = usual; additions = no_additions };
+    older_symbols = false;
     is_verbose = false;
   }))
   pub verbose : task_of itself (Given Definition (codes "a") ∷ Switched Verbose ∷ []) ≡ Ok (Asks (record {
     definition = codes "a";
     output = None;
     library = record { machine = AMD64; flavor = Gnu; dll = None; naming = usual; additions = no_additions };
+    older_symbols = false;
     is_verbose = true;
+  }))
+  pub older_symbols : task_of itself (Given Definition (codes "a") ∷ Switched CompatImplib ∷ []) ≡ Ok (Asks (record {
+    definition = codes "a";
+    output = None;
+    library = record { machine = AMD64; flavor = Gnu; dll = None; naming = usual; additions = no_additions };
+    older_symbols = true;
+    is_verbose = false;
   }))
   pub help : task_of itself (Switched Help ∷ []) ≡ Ok AsksHelp
   pub no_definition : task_of itself (Given Output (codes "a.lib") ∷ []) ≡ Err LacksDefinition
@@ -79,6 +91,7 @@ asked_for output = record {
   definition = codes "a.def";
   output = output;
   library = record { machine = AMD64; flavor = Gnu; dll = None; naming = usual; additions = no_additions };
+  older_symbols = false;
   is_verbose = false;
 }
 

@@ -119,6 +119,7 @@ pub record LibWordsRead : Type 0 where
     definition = codes "a.def";
     output = Some (codes "b.a");
     library = record { machine = I386; flavor = Msvc; dll = Some (codes "zoo.dll"); naming = decorated; additions = no_additions };
+    older_symbols = false;
     is_verbose = false;
   }))
   -- without a machine it is that of the program's name
@@ -126,6 +127,7 @@ pub record LibWordsRead : Type 0 where
     definition = codes "a";
     output = Some (codes "b");
     library = record { machine = ARM64; flavor = Msvc; dll = None; naming = decorated; additions = no_additions };
+    older_symbols = false;
     is_verbose = true;
   }))
   pub called : map is_lib_name lib_names ≡ map (λ name. true) lib_names

@@ -152,6 +152,9 @@ impl<'a> fmt::Display for CallFault<'a> {
             CallFault::NoUnderscore => {
                 f.write_str("--leading-underscore: C's symbols have one on i386 alone")
             }
+            CallFault::NoOlderSymbols => f.write_str(
+                "--compat-implib: not supported for Microsoft's linker; --flavor gnu can",
+            ),
         }
     }
 }

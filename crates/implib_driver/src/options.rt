@@ -58,6 +58,9 @@ pub enum Switch {
     IdentifyStrict,
     /// Of LIB's words, and of no option: on I386 a word with an `@` is a symbol as it is.
     KeepsDecorated,
+    /// `-C`, `--compat-implib`: for GNU's linker each export's object has the older symbol of its
+    /// address too.
+    CompatImplib,
     /// `-v`, `--verbose`: warnings are written.
     Verbose,
     /// `-h`, `--help`
@@ -114,6 +117,7 @@ impl Switch {
             Switch::AddStdcallAlias => 12,
             Switch::IdentifyStrict => 13,
             Switch::KeepsDecorated => 14,
+            Switch::CompatImplib => 15,
         }
     }
 
@@ -144,7 +148,7 @@ fn is_unsupported(name: &str) -> bool
 {
     match name {
         "output-exp" | "output-def" | "output-delaylib" | "base-file" => true,
-        "no-idata4" | "no-idata5" | "add-indirect" | "compat-implib" => true,
+        "no-idata4" | "no-idata5" | "add-indirect" => true,
         "export-all-symbols" | "no-export-all-symbols" | "exclude-symbols" => true,
         "no-default-excludes" | "use-nul-prefixed-import-tables" => true,
         _ => false,
@@ -173,6 +177,7 @@ pub fn option_named(name: &str) -> Meaning
         "add-underscore" => Meaning::Switches(Switch::AddUnderscore),
         "add-stdcall-underscore" => Meaning::Switches(Switch::AddStdcallUnderscore),
         "add-stdcall-alias" => Meaning::Switches(Switch::AddStdcallAlias),
+        "compat-implib" => Meaning::Switches(Switch::CompatImplib),
         "deterministic-libraries" => Meaning::Switches(Switch::DeterministicLibraries),
         "non-deterministic-libraries" => Meaning::Switches(Switch::NonDeterministicLibraries),
         "no-delete" => Meaning::Switches(Switch::NoDelete),
@@ -202,12 +207,12 @@ pub fn option_lettered(letter: u8) -> Meaning
         b'k' => Meaning::Switches(Switch::KillAt),
         b'U' => Meaning::Switches(Switch::AddUnderscore),
         b'A' => Meaning::Switches(Switch::AddStdcallAlias),
+        b'C' => Meaning::Switches(Switch::CompatImplib),
         b'n' => Meaning::Switches(Switch::NoDelete),
         b'v' => Meaning::Switches(Switch::Verbose),
         b'h' => Meaning::Switches(Switch::Help),
         b'V' => Meaning::Switches(Switch::Version),
-        b'e' | b'z' | b'y' | b'b' | b'x' | b'c' => Meaning::Unsupported,
-        b'a' | b'C' => Meaning::Unsupported,
+        b'e' | b'z' | b'y' | b'b' | b'x' | b'c' | b'a' => Meaning::Unsupported,
         _ => Meaning::Unknown,
     }
 }

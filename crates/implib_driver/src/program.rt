@@ -29,7 +29,7 @@ use crate::request::{CallError, Identification, Request, Task, caller_of, task_o
 use crate::verbose::warnings_for;
 use implib::def::ModuleDef;
 use implib::{Flavor, ParseError};
-use implib_rules::library::{LibraryError, Refusal, members_for};
+use implib_rules::library::{LibraryError, Refusal, members_asked};
 use implib_rules::members::LibraryMembers;
 use implib_rules::places::{Place, export_lines, read_with_places};
 use implib_rules::text::DefinitionText;
@@ -68,6 +68,8 @@ Makes the import library of a module definition.
                            the same of names with @
       --export-as          for Microsoft's linker, and for lld from 18 on, write a
                            name that is not made of its symbol beside it
+  -C, --compat-implib      for GNU's linker, name each address by ___imp and its
+                           symbol too, as in Cygwin's libraries before 2000
   -v, --verbose            write warnings of FILE on standard error
   -I, --identify LIB       print the names of the DLLs that LIB imports from, and
                            make nothing
@@ -341,7 +343,7 @@ fn answer<D: Disk, T: Reporter>(
     ensures { Finishes D.is_known bytes.now (request_view request.now)
         (D.view disk.old) (D.view disk.new) (T.said reporter.old) (T.said reporter.new) result }
 {
-    match members_for(alloc, bytes, &request.library) {
+    match members_asked(alloc, bytes, &request.library, request.older_symbols) {
         Ok(members) => finish(alloc, bytes, members, disk, request, reporter),
         Err(refusal) => refuse(alloc, bytes, refusal, request, reporter),
     }

@@ -11,7 +11,8 @@ ghost use Rattle.implib_driver.specs.Request.{flavor_in};
 ghost use Rattle.implib_driver.specs.Request.{has_gnu_habits, holds_text, is_other_architecture};
 ghost use Rattle.implib_driver.specs.Request.{machine_in, machine_named, machine_of_architecture};
 ghost use Rattle.implib_driver.specs.Request.{machine_of_name};
-ghost use Rattle.implib_driver.specs.Request.{naming_in, output_in, request_in, request_view};
+ghost use Rattle.implib_driver.specs.Request.{naming_in, older_symbols_in, output_in, request_in};
+ghost use Rattle.implib_driver.specs.Request.{request_view};
 ghost use Rattle.implib_driver.specs.Request.{task_of, task_view};
 ghost use Rattle.std.specs.Option.{option_map};
 ghost use Rattle.std.specs.Prelude.{◌≡◌, Err, IfErr, IfOk, Ok, map};
@@ -36,6 +37,8 @@ pub struct Request<'a> {
     pub output: Option<&'a str>,
     /// What the library is made for.
     pub library: LibraryOptions<'a>,
+    /// Whether addresses have their older symbols too (`-C`).
+    pub older_symbols: bool,
     /// Whether warnings are written (`-v`).
     pub is_verbose: bool,
 }
@@ -82,6 +85,8 @@ pub enum CallFault<'a> {
     OtherArchitecture,
     /// `--leading-underscore` where C's symbols have none.
     NoUnderscore,
+    /// `--compat-implib` for Microsoft's linker, whose short imports cannot declare its symbols.
+    NoOlderSymbols,
     /// The library would take the definition's place.
     OutputIsDefinition,
 }
@@ -388,6 +393,20 @@ fn naming_in<'a>(options: &[Occurrence<'a>], machine: MachineType) -> Result<Nam
     })
 }
 
+// Whether the options ask for older symbols of addresses, which are for GNU's linker.
+fn older_symbols_in<'a>(options: &[Occurrence<'a>], flavor: Flavor) -> Result<bool, CallFault<'a>>
+    ensures ok { IfOk result (λ asked.
+        older_symbols_in flavor (map occurrence_view options.now) ≡ Ok asked) }
+    ensures refused { IfErr result (λ fault.
+        older_symbols_in flavor (map occurrence_view options.now) ≡ Err (call_fault_view fault)) }
+{
+    let is_asked = is_switched(options, Switch::CompatImplib);
+    match flavor {
+        Flavor::Msvc if is_asked => Err(CallFault::NoOlderSymbols),
+        Flavor::Msvc | Flavor::Gnu => Ok(is_asked),
+    }
+}
+
 // What the options add to the exports.
 fn additions_in<'a>(options: &[Occurrence<'a>]) -> Additions<'a>
     ensures { additions_view result ≡ additions_in (map occurrence_view options.now) }
@@ -418,6 +437,7 @@ fn request_in<'a>(
     let flavor = flavor_in(options, caller.called_as, machine, output)?;
     let dll = dll_in(options)?;
     let naming = naming_in(options, machine)?;
+    let older_symbols = older_symbols_in(options, flavor)?;
     let additions = additions_in(options);
     Ok(Request {
         definition,
@@ -429,6 +449,7 @@ fn request_in<'a>(
             naming,
             additions,
         },
+        older_symbols,
         is_verbose: is_switched(options, Switch::Verbose),
     })
 }
@@ -441,8 +462,8 @@ fn request_in<'a>(
 /// What is wrong first: no definition; the library to standard output, to a file without a name or
 /// to the definition's;
 /// an unknown machine, or none where the program's name is of another architecture; an unknown
-/// flavour; an empty name of the DLL; an underscore where C's symbols have none. `OutOfMemory` may
-/// come before the last four.
+/// flavour; an empty name of the DLL; an underscore where C's symbols have none; older symbols for
+/// Microsoft's linker. `OutOfMemory` may come before the last five.
 pub fn task_of<'a>(
     alloc: Global,
     options: &[Occurrence<'a>],

@@ -1,5 +1,5 @@
 -- From the definition of bytes to its members and its library.
-use Rattle.std.proofs.Common.{◌≡◌, ◌++◌, ◌∙◌, ℕ, Err, List, [], Ok, Result, Some, false, true, if◌then◌else◌, ap, map, refl, subst, sym}
+use Rattle.std.proofs.Common.{◌≡◌, ◌++◌, ◌∙◌, ℕ, Bool, Err, List, [], Ok, Result, Some, false, true, if◌then◌else◌, ap, map, refl, subst, sym}
 use Rattle.std.specs.Prelude.{IfOk}
 use Rattle.std.proofs.lemmas.List.{map-append}
 use Rattle.std.specs.List.{AllByRecursion}
@@ -24,6 +24,7 @@ use Rattle.implib.specs.Renaming.{renamed}
 use Rattle.implib.proofs.Members.Renaming.{renamed_twice}
 use Rattle.implib_rules.specs.Exports.{DefinitionOfExports, MembersOfExports, of_exports}
 use Rattle.implib_rules.specs.Library.{DefinitionFor, MembersFor, RefusesMembers, definition_text}
+use Rattle.implib_rules.specs.Older.{AreMadeWith, MembersWith, RefusesWith, refusal_with}
 use Rattle.implib_rules.specs.ExportAs.{AreMadeFor, IsExportAsLibrary, all_export_as_specs, definition_made, export_as_library, export_as_refusal, kept_definition, refusal_made, specs_made}
 use Rattle.implib_rules.specs.Linked.{NamingView}
 use Rattle.implib_rules.specs.Order.{AreInOrder, LibraryReads, library_specs, msvc_specs}
@@ -177,6 +178,30 @@ members_refused bytes text options d cause found meant refused = record {
   of_text = subst (λ (t : List ℕ). DefinitionFor t options d) found.0 meant;
   refused = refused;
 }
+
+-- with older symbols or without, the members of the definition are those for the options
+pub members_asked : (older : Bool) (bytes text : List ℕ) (options : LibraryOptionsView) (d : DefinitionView) (members : List MemberView)
+    → (text ≡ definition_text bytes) × IsUtf8 (definition_text bytes) → DefinitionFor text options d
+    → AreMadeWith older options (renamed d) members → MembersWith older bytes options members
+members_asked true bytes text options d members found meant made = record {
+  utf8 = found.1;
+  definition = d;
+  of_text = subst (λ (t : List ℕ). DefinitionFor t options d) found.0 meant;
+  made = made;
+}
+members_asked false bytes text options d members found meant made = members_made bytes text options d members found meant made
+
+-- and so is a refusal of them
+pub refused_asked : (older : Bool) (bytes text : List ℕ) (options : LibraryOptionsView) (d : DefinitionView) (cause : Cause)
+    → (text ≡ definition_text bytes) × IsUtf8 (definition_text bytes) → DefinitionFor text options d
+    → refusal_with older options (renamed d) ≡ Some cause → RefusesWith older bytes options cause
+refused_asked true bytes text options d cause found meant refused = record {
+  utf8 = found.1;
+  definition = d;
+  of_text = subst (λ (t : List ℕ). DefinitionFor t options d) found.0 meant;
+  refused = refused;
+}
+refused_asked false bytes text options d cause found meant refused = members_refused bytes text options d cause found meant refused
 
 -- the members of exports, in order
 pub members_of_exports : (exports : List ExportView) (options : LibraryOptionsView) (d : DefinitionView) (members : List MemberView)

@@ -10,6 +10,7 @@ pub mod Order
 pub mod ExportAs
 pub mod Plain
 pub mod Library
+pub mod Older
 pub mod Exports
 pub mod Places
 pub mod Heard

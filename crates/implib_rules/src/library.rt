@@ -3,6 +3,7 @@
 ghost use Rattle.implib.specs.Definition.{definition_view};
 ghost use Rattle.implib.specs.Fault.{IfInvalid};
 ghost use Rattle.implib.specs.Members.Members.{refusal};
+ghost use Rattle.implib.specs.Members.OlderSymbols.{AreOlderMembersOf, older_refusal};
 ghost use Rattle.implib.specs.Renaming.{renamed};
 ghost use Rattle.implib.specs.declared.flavor.Flavor.TheVariants.{Gnu, Msvc};
 ghost use Rattle.implib_archive.specs.Refusal.{refusal_of};
@@ -16,6 +17,8 @@ ghost use Rattle.implib_rules.specs.Library.{IfBrokenOff, IfRefused, IsRefusalOf
 ghost use Rattle.implib_rules.specs.Library.{MembersFor, WritesLibrary};
 ghost use Rattle.implib_rules.specs.Library.{definition_for, is_out_of_memory, kind_for, kind_of};
 ghost use Rattle.implib_rules.specs.Names.{lacks_name};
+ghost use Rattle.implib_rules.specs.Older.{AreMadeWith, IsRefusalOfAsked, MembersAsked};
+ghost use Rattle.implib_rules.specs.Older.{has_older, refusal_with};
 ghost use Rattle.implib_rules.specs.Order.{AreInOrder};
 ghost use Rattle.implib_rules.specs.Options.{library_options_view};
 ghost use Rattle.std.specs.Prelude.{◌≡◌, ◌⊎◌, IfErr, IfOk, MatchOption, None, OnOk, Some, false, true};
@@ -270,6 +273,21 @@ fn gnu_members(def: ModuleDef, machine: MachineType) -> Result<LibraryMembers, E
     Ok(LibraryMembers::new(before, MadeLater::Objects(objects), after)?)
 }
 
+// The members for GNU's linker, those of exports with the older symbols of their addresses.
+fn gnu_members_with_older_symbols(
+    def: ModuleDef,
+    machine: MachineType,
+) -> Result<LibraryMembers, Error>
+    ensures ok { IfOk result (λ members. AreOlderMembersOf (renamed (definition_view def)) machine
+        members) }
+    ensures refused { IfInvalid result
+        (λ cause. older_refusal (renamed (definition_view def)) machine ≡ Some cause) }
+{
+    let after = Vec::new(*def.exports.allocator());
+    let members = GnuImportLibrary::new(def, machine).members_with_older_symbols()?;
+    Ok(LibraryMembers::new(members, MadeLater::Nothing, after)?)
+}
+
 /// The members of a definition in the order in which an archive is to have them.
 pub(crate) fn members_in_order(
     def: ModuleDef,
@@ -289,6 +307,27 @@ pub(crate) fn members_in_order(
     }
 }
 
+// The members of a definition, with the older symbols of addresses where they are asked for and the
+// flavour has them.
+fn members_of(
+    def: ModuleDef,
+    options: &LibraryOptions,
+    older_symbols: bool,
+) -> Result<LibraryMembers, Error>
+    ensures ok { IfOk result (AreMadeWith (has_older older_symbols options.now.flavor)
+        (library_options_view options.now) (renamed (definition_view def))) }
+    ensures refused { IfInvalid result
+        (λ cause. refusal_with (has_older older_symbols options.now.flavor)
+        (library_options_view options.now) (renamed (definition_view def)) ≡ Some cause) }
+{
+    match options.flavor {
+        Flavor::Gnu if older_symbols => gnu_members_with_older_symbols(def, options.machine),
+        Flavor::Msvc | Flavor::Gnu => {
+            members_in_order(def, options.machine, options.flavor, options.naming)
+        }
+    }
+}
+
 /// The members of the library that is asked for.
 ///
 /// # Errors
@@ -303,13 +342,34 @@ pub fn members_for(
         members) }
     ensures refused { IfErr result (IsRefusalOfMembers bytes.now (library_options_view options.now)) }
 {
+    members_asked(alloc, bytes, options, false)
+}
+
+/// The members of the library that is asked for, with the older symbols of addresses where they are
+/// asked for and the flavour is GNU's: `___imp` and the symbol beside `__imp_` and it. They are then
+/// all held.
+///
+/// # Errors
+///
+/// Those of [`members_for`].
+pub fn members_asked(
+    alloc: Global,
+    bytes: &[u8],
+    options: &LibraryOptions,
+    older_symbols: bool,
+) -> Result<LibraryMembers, Refusal>
+    ensures made { IfOk result (λ members. MembersAsked older_symbols bytes.now
+        (library_options_view options.now) members) }
+    ensures refused { IfErr result
+        (IsRefusalOfAsked older_symbols bytes.now (library_options_view options.now)) }
+{
     let read = DefinitionText::new(alloc, bytes)?;
     let text = match read.text() {
         Ok(text) => text,
         Err(position) => return Err(Refusal::NotUtf8(position)),
     };
     let def = definition_for(alloc, text, options)?;
-    match members_in_order(def, options.machine, options.flavor, options.naming) {
+    match members_of(def, options, older_symbols) {
         Ok(members) => Ok(members),
         Err(Error::Invalid(fault)) => {
             // The export is one of the text: the targets after them break no rule on names that

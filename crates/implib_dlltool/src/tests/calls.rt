@@ -140,6 +140,11 @@ fn wrong_calls_are_told(rt: HostRuntime) -> Result<(), Fail> {
             "implib_dlltool: --leading-underscore: C's symbols have one on i386 alone\n",
         ),
         (
+            ["-Cd", "-", "--flavor", "msvc"].as_slice(),
+            "implib_dlltool: --compat-implib: not supported for Microsoft's linker; --flavor gnu \
+             can\n",
+        ),
+        (
             ["-d", "-", "a.o"].as_slice(),
             "implib_dlltool: a.o: no option; objects are not supported\n",
         ),

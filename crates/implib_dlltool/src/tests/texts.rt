@@ -88,6 +88,8 @@ fn the_help_has_options_and_statuses(rt: HostRuntime) -> Result<(), Fail> {
         "\n  -p, --ext-prefix-alias P a further import of each export, by P and its symbol\n",
         "\n  -U, --add-underscore     ask for each name with _ in front, but for fastcall's\n",
         "\n      --export-as          for Microsoft's linker, and for lld from 18 on, write a\n",
+        "\n  -C, --compat-implib      for GNU's linker, name each address by ___imp and its\n",
+        "\n                           symbol too, as in Cygwin's libraries before 2000\n",
         "\n  -v, --verbose            write warnings of FILE on standard error\n",
         "\n  -h, --help\n",
         "\n  -V, --version\n",

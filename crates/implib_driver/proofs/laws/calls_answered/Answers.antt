@@ -11,6 +11,7 @@ worked = record {
   by_ending = refl;
   arm64 = refl;
   verbose = refl;
+  older_symbols = refl;
   help = refl;
   no_definition = refl;
   to_standard = refl;

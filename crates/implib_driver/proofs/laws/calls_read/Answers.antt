@@ -17,6 +17,7 @@ calls = record {
   empty_value = refl;
   value_as_option = refl;
   bundle = refl;
+  bundle_of_capitals = refl;
   bundle_lacks_value = refl;
   bundle_unsupported = refl;
   bundle_unknown = refl;

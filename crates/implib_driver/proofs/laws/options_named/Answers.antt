@@ -34,6 +34,7 @@ options = record {
   add_stdcall_alias = refl;
   identify_strict = refl;
   keeps_decorated = refl;
+  compat_implib = refl;
   i386 = refl;
   amd64 = refl;
   armnt = refl;

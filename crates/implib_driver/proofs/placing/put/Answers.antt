@@ -8,7 +8,7 @@ returns g c = λ bytes made.
     let members = c.args.members.now in
     record {
       file = archive_of (kind_of c.args.request.now.library.flavor members) members;
-      is_library = record { members = members; members_for = made; accepted = c.in_ok-archive.ensures.accepted; is = search rules };
+      is_library = record { members = members; members_asked = made; accepted = c.in_ok-archive.ensures.accepted; is = search rules };
       unplaced = c.in-Err.ensures.unplaced;
     }
 
@@ -18,6 +18,6 @@ returns-in-Ok g c = λ bytes made.
     let placed = rw c.in_ok-archive.ensures.holds at c.in-Ok.ensures.put in
     record {
       file = archive_of (kind_of c.args.request.now.library.flavor members) members;
-      is_library = record { members = members; members_for = made; accepted = c.in_ok-archive.ensures.accepted; is = search rules };
+      is_library = record { members = members; members_asked = made; accepted = c.in_ok-archive.ensures.accepted; is = search rules };
       is_put = placed;
     }

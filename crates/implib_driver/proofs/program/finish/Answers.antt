@@ -1,4 +1,4 @@
-use Rattle.std.proofs.Common.{◌≡◌, ◌∙◌, ap, inl, length, subst, sym}
+use Rattle.std.proofs.Common.{◌≡◌, ◌∙◌, ap, inl, length, refl, subst, sym}
 use Rattle.implib_rules.specs.Library.{CountsMembers}
 use Rattle.implib_rules.specs.Options.{library_options_view}
 use Rattle.implib_driver.specs.Program.{members_counted}
@@ -12,7 +12,7 @@ returns-in-Ok g c = λ made.
     let members = c.args.members in
     let count : c.members_counted.result ≡ members_counted library.flavor (length members) =
     c.members_counted.ensures ∙ ap (members_counted library.flavor) c.len.ensures in
-    let counts = subst (λ n. CountsMembers bytes library library.flavor n) (sym count) (counts_with bytes library library.flavor members made) in
+    let counts = subst (λ n. CountsMembers bytes library library.flavor n) (sym count) (counts_with c.args.request.now.older_symbols bytes library library.flavor members refl made) in
     inl (record {
       warned = g.T.Reporter.said c.warn.new.reporter;
       warns = c.in-Ok.ensures.warned counts;

@@ -8,12 +8,13 @@ pub returns-in-Ok : goal.returns-in-Ok
 returns-in-Ok g c = λ refused known disk.
     let bytes = c.args.bytes.now in
     let library = library_options_view c.args.request.now.library in
+    let asked = c.args.request.now.older_symbols in
     let memory = has_memory c.args.refusal c.in_default.not-OutOfMemory in
     inl (record {
       warned = g.T.Reporter.said c.warn.new.reporter;
-      warns = c.in-Ok.ensures.warned (counts_without bytes library library.flavor c.args.refusal refused memory);
+      warns = c.in-Ok.ensures.warned (counts_without asked bytes library library.flavor c.args.refusal refl refused memory);
       answer = Err (Refused c.args.refusal);
-      answers = record { refused = without_members bytes library c.args.refusal refused; same = refl };
+      answers = record { refused = without_members asked bytes library c.args.refusal refused; same = refl };
       says = c.conclude.ensures.said;
       is_status = c.conclude.ensures.status;
     })
