@@ -3,10 +3,11 @@ use Rattle.std.specs.Prelude.{◌≡◌, ℕ, Bool, true, false, ◌&&◌, List,
 use Rattle.std.specs.Str.{IsUtf8}
 use Rattle.implib.specs.declared.flavor.Flavor.{Flavor}
 use Rattle.implib.specs.declared.flavor.Flavor.TheVariants.{Msvc, Gnu}
+use Rattle.implib.specs.declared.machine.MachineType.{MachineType}
 use Rattle.implib.specs.Definition.{DefinitionView}
 use Rattle.implib.specs.Fault.{Cause, cause_of}
 use Rattle.implib.specs.Members.MemberSpec.{MemberView}
-use Rattle.implib.specs.Members.OlderSymbols.{AreOlderMembersOf, older_refusal}
+use Rattle.implib.specs.Members.OlderSymbols.{AreOlderMembersOf, OlderReadBack, older_refusal}
 use Rattle.implib.specs.Renaming.{renamed}
 use Rattle.implib_archive.specs.declared.error.Fault.{Fault as ArchiveFault}
 use Rattle.implib_archive.specs.Archive.{archive_of}
@@ -28,9 +29,14 @@ may_have_older Gnu = true
 abbrev pub has_older : Bool → Flavor → Bool
 has_older asked flavor = asked && may_have_older flavor
 
+-- the members of a definition with older symbols, and what they are read as
+pub record AreOlderMade (definition : DefinitionView) (machine : MachineType) (members : List MemberView) : Type 0 where
+  pub made : AreOlderMembersOf definition machine members
+  pub reads : OlderReadBack definition machine members
+
 -- the members of a definition, with older symbols or without
 abbrev pub AreMadeWith : Bool → LibraryOptionsView → DefinitionView → List MemberView → Type 0
-AreMadeWith true options definition members = AreOlderMembersOf definition options.machine members
+AreMadeWith true options definition members = AreOlderMade definition options.machine members
 AreMadeWith false options definition members = AreMadeFor options.naming definition options.machine options.flavor members
 
 -- why a definition has no such members, if it has none
@@ -38,12 +44,13 @@ abbrev pub refusal_with : Bool → LibraryOptionsView → DefinitionView → Opt
 refusal_with true options definition = older_refusal definition options.machine
 refusal_with false options definition = refusal_made options.naming options.machine options.flavor definition
 
--- the members of the library that is asked for, with older symbols: those of the definition of the bytes
+-- the members of the library that is asked for, with older symbols: those of the definition of the bytes; they are read
+-- as its imports, each with its older symbol
 pub record OlderMembersFor (bytes : List ℕ) (options : LibraryOptionsView) (members : List MemberView) : Type 0 where
   pub utf8 : IsUtf8 (definition_text bytes)
   pub definition : DefinitionView
   pub of_text : DefinitionFor (definition_text bytes) options definition
-  pub made : AreOlderMembersOf (renamed definition) options.machine members
+  pub made : AreOlderMade (renamed definition) options.machine members
 
 -- the bytes have a definition for this, whose members with older symbols are refused
 pub record RefusesOlderMembers (bytes : List ℕ) (options : LibraryOptionsView) (cause : Cause) : Type 0 where

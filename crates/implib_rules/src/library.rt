@@ -3,7 +3,7 @@
 ghost use Rattle.implib.specs.Definition.{definition_view};
 ghost use Rattle.implib.specs.Fault.{IfInvalid};
 ghost use Rattle.implib.specs.Members.Members.{refusal};
-ghost use Rattle.implib.specs.Members.OlderSymbols.{AreOlderMembersOf, older_refusal};
+ghost use Rattle.implib.specs.Members.OlderSymbols.{older_refusal};
 ghost use Rattle.implib.specs.Renaming.{renamed};
 ghost use Rattle.implib.specs.declared.flavor.Flavor.TheVariants.{Gnu, Msvc};
 ghost use Rattle.implib_archive.specs.Refusal.{refusal_of};
@@ -17,8 +17,8 @@ ghost use Rattle.implib_rules.specs.Library.{IfBrokenOff, IfRefused, IsRefusalOf
 ghost use Rattle.implib_rules.specs.Library.{MembersFor, WritesLibrary};
 ghost use Rattle.implib_rules.specs.Library.{definition_for, is_out_of_memory, kind_for, kind_of};
 ghost use Rattle.implib_rules.specs.Names.{lacks_name};
-ghost use Rattle.implib_rules.specs.Older.{AreMadeWith, IsRefusalOfAsked, MembersAsked};
-ghost use Rattle.implib_rules.specs.Older.{has_older, refusal_with};
+ghost use Rattle.implib_rules.specs.Older.{AreMadeWith, AreOlderMade, IsRefusalOfAsked};
+ghost use Rattle.implib_rules.specs.Older.{MembersAsked, has_older, refusal_with};
 ghost use Rattle.implib_rules.specs.Order.{AreInOrder};
 ghost use Rattle.implib_rules.specs.Options.{library_options_view};
 ghost use Rattle.std.specs.Prelude.{◌≡◌, ◌⊎◌, IfErr, IfOk, MatchOption, None, OnOk, Some, false, true};
@@ -278,8 +278,7 @@ fn gnu_members_with_older_symbols(
     def: ModuleDef,
     machine: MachineType,
 ) -> Result<LibraryMembers, Error>
-    ensures ok { IfOk result (λ members. AreOlderMembersOf (renamed (definition_view def)) machine
-        members) }
+    ensures ok { IfOk result (AreOlderMade (renamed (definition_view def)) machine) }
     ensures refused { IfInvalid result
         (λ cause. older_refusal (renamed (definition_view def)) machine ≡ Some cause) }
 {
