@@ -1,9 +1,10 @@
 -- Bytes that are appended, one after another.
-use Rattle.std.proofs.Common.{◌≡◌, ℕ, ◌+◌, ◌<◌, ◌≤◌, List, [], ◌∷◌, ◌++◌, Result, Ok, Err, OnOk, is_ok, if◌then◌else◌, take, replicate, flat_map, get_or, length, suc, zero, refl, sym, ap, ◌∙◌, append_assoc, append-nil, arith}
+use Rattle.std.proofs.Common.{◌≡◌, ℕ, ◌+◌, ◌<◌, ◌≤◌, List, [], ◌∷◌, ◌++◌, Result, Ok, Err, OnOk, is_ok, if◌then◌else◌, take, drop, replicate, flat_map, get_or, length, suc, zero, refl, sym, ap, subst, ◌∙◌, append_assoc, append-nil, arith}
 use Rattle.std.specs.Borrow.{Bor}
 use Rattle.std.specs.List.{All}
 use Rattle.std.proofs.lemmas.Grind.{flat_map-append}
-use Rattle.std.proofs.lemmas.List.{take_more}
+use Rattle.std.proofs.lemmas.List.{drop-map, take-map, take_more}
+use Rattle.std.proofs.lemmas.List.Elements.{All-drop, All-take}
 use Rattle.std.proofs.lemmas.List.Folds.{flat_map-map}
 use Rattle.implib_archive.specs.Pushed.{Pushes, shown}
 
@@ -64,3 +65,9 @@ pub number_at : (P : ℕ → Type 0) (xs : List (Bor (List ℕ) × ℕ)) (i : �
 number_at P [] i d within all = absurd (omega arith)
 number_at P (x ∷ xs) zero d within all = all 0 (d.0.now, d.1) (omega arith)
 number_at P (x ∷ xs) (suc i) d within all = let w : i < length xs = omega arith in number_at P xs i d w (λ k e h. all (suc k) e (omega (arith, h)))
+
+-- a fact of all entries, of some of them
+pub all_between : (P : List ℕ × ℕ → Type 0) (n m : ℕ) (xs : List (Bor (List ℕ) × ℕ)) → All P (shown xs) → All P (shown (take n (drop m xs)))
+all_between P n m xs all =
+    let seen : Bor (List ℕ) × ℕ → List ℕ × ℕ = λ e. (e.0.now, e.1) in
+    subst (All P) (ap (take n) (drop-map seen m xs) ∙ take-map seen n (drop m xs)) (All-take P n (drop m (shown xs)) (All-drop P m (shown xs) all))

@@ -1,4 +1,5 @@
 pub mod Appended
+pub mod Behind
 pub mod Chosen
 pub mod Distinct
 pub mod FoundIndex

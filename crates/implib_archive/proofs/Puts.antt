@@ -26,10 +26,6 @@ appends_nothing (Some xs) = sym (append-nil xs)
 pub begins_nothing : (a : Option (List ℕ)) (bytes : List ℕ) → AppendsBeginning a a bytes
 begins_nothing a bytes = record { taken = []; left = bytes; whole = refl; written = appends_nothing a }
 
--- all bytes are a beginning
-pub begins_all : (a b : Option (List ℕ)) (x y : List ℕ) → Appends a b x → AppendsBeginning a b (x ++ y)
-begins_all a b x y p = record { taken = x; left = y; whole = refl; written = p }
-
 -- a beginning is one of more bytes
 pub begins_more : (a b : Option (List ℕ)) (x y : List ℕ) → AppendsBeginning a b x → AppendsBeginning a b (x ++ y)
 begins_more a b x y p = record { taken = p.taken; left = p.left ++ y; whole = ap (λ t. t ++ y) p.whole ∙ append_assoc p.taken p.left y; written = p.written }

@@ -65,15 +65,18 @@ unfolding padding
 length-padding byte size = length-replicate (size % 2) byte
 
 -- a part whose padding is within its data, piece by piece
+pub padded_is : (l : Label) (byte size : ℕ) (contents : List ℕ) → length contents ≡ size → header_bytes l (size + size % 2) ++ contents ++ padding byte size ≡ padded_part_bytes l byte contents
+unfolding padded_part_bytes
+padded_is l byte size contents long =
+    let whole : length (contents ++ padding byte size) ≡ size + size % 2 = omega (arith, length-append contents (padding byte size), length-padding byte size, long) in
+    append_assoc (header_bytes l (size + size % 2)) contents (padding byte size)
+    ∙ (ap (λ n. header_bytes l n ++ (contents ++ padding byte size)) (sym whole)
+    ∙ ap (λ n. header_bytes l (length (contents ++ padding byte n)) ++ (contents ++ padding byte n)) (sym long))
+
 pub on_padded : {T E : Type 0} (r : Result T E) (l : Label) (byte size : ℕ) (contents : List ℕ) {a b c : List ℕ} (d : List ℕ) → length contents ≡ size
     → Pushes a b (header_bytes l (size + size % 2)) → Pushes b c contents → OnOk r (Pushes c d (padding byte size)) → OnOk r (Pushes a d (padded_part_bytes l byte contents))
-unfolding padded_part_bytes
 on_padded r l byte size contents {a} {b} {c} d long header inside last =
-    let whole : length (contents ++ padding byte size) ≡ size + size % 2 = omega (arith, length-append contents (padding byte size), length-padding byte size, long) in
-    on_as r a d (append_assoc (header_bytes l (size + size % 2)) contents (padding byte size)
-    ∙ (ap (λ n. header_bytes l n ++ (contents ++ padding byte size)) (sym whole)
-    ∙ ap (λ n. header_bytes l (length (contents ++ padding byte n)) ++ (contents ++ padding byte n)) (sym long)))
-    (on_then r d (padding byte size) (pushes_then header inside) last)
+    on_as r a d (padded_is l byte size contents long) (on_then r d (padding byte size) (pushes_then header inside) last)
 
 -- the long names member, and none
 pub names_part-some : (names : List ℕ) → 0 < length names → padded_part_bytes names_label 10 names ≡ names_part names

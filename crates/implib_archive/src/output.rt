@@ -2,10 +2,18 @@
 
 ghost use Rattle.implib_archive.specs.Parts.{padding};
 ghost use Rattle.implib_archive.specs.Written.{Writes};
-ghost use Rattle.std.specs.Prelude.{◌++◌, length};
+ghost use Rattle.std.specs.Prelude.{◌≡◌, ◌++◌, [], OnOk, length};
 
+use crate::error::WriteError;
 use std::io;
 use std::io::ErrorKind;
+
+// How many bytes of a table are made before they are written. A `BufWriter` with a buffer of less
+// passes them on, and does not copy them.
+pub(crate) const PIECE: usize = 131_072;
+
+// The memory for a piece and for what goes before it: padding, a header and a count.
+pub(crate) const PIECE_MEMORY: u64 = 131_328;
 
 // Writes bytes. A call that fails is not repeated.
 pub(crate) fn put<W: io::Write>(writer: &mut W, bytes: &[u8]) -> io::Result<()>
@@ -19,6 +27,16 @@ pub(crate) fn put<W: io::Write>(writer: &mut W, bytes: &[u8]) -> io::Result<()>
         }
         rest = &rest[count..];
     }
+    Ok(())
+}
+
+// Writes what a buffer has, and empties it.
+pub(crate) fn put_piece<W: io::Write>(writer: &mut W, piece: &mut Vec<u8>) -> Result<(), WriteError>
+    ensures written { Writes (W.contents writer.old) (W.contents writer.new) piece.old.items result }
+    ensures empty { OnOk result (piece.new.items ≡ []) }
+{
+    put(writer, piece.as_slice())?;
+    piece.clear();
     Ok(())
 }
 

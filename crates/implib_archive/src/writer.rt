@@ -16,7 +16,7 @@ use crate::front::{push_front, write_front};
 use crate::kind::Kind;
 use crate::long_names::LongNames;
 use crate::offsets::{Places, front_size, place_members, strings_size};
-use crate::output::put_part;
+use crate::output::{PIECE_MEMORY, put_part};
 use crate::refusal::source_refusal;
 use crate::source::{Members, Source};
 use implib::Member;
@@ -102,10 +102,11 @@ impl<'a, S: Source<'a>> Archive<'a, S> {
         Ok(bytes)
     }
 
-    /// Writes the archive. The members are made one at a time, in one buffer.
+    /// Writes the archive. The linker members are made in a buffer of 128 KiB, and the members one at
+    /// a time in another.
     ///
-    /// It calls `write` for each linker member, and two or three times for each member, so a writer to a
-    /// file wants a `BufWriter` before it. It does not flush.
+    /// It calls `write` for each piece of a linker member, of 128 KiB or less, and two or three times for
+    /// each member, so a writer to a file wants a `BufWriter` before it. It does not flush.
     ///
     /// # Errors
     ///
@@ -115,7 +116,11 @@ impl<'a, S: Source<'a>> Archive<'a, S> {
         ensures { Writes (W.contents writer.old) (W.contents writer.new)
             (archive_of self.now.kind self.now.members) result }
     {
-        let mut piece = Vec::with_capacity(alloc, self.places.first as usize)?;
+        // All that the front needs, unless a symbol is longer than a piece.
+        let memory = PIECE_MEMORY
+            .saturating_add(self.names.size)
+            .min(self.places.first);
+        let mut piece = Vec::with_capacity(alloc, memory as usize)?;
         self.write_start(writer, &mut piece)?;
         write_members(alloc, writer, &mut piece, &self.names, &self.source)
     }
