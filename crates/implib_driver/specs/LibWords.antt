@@ -1,5 +1,5 @@
 -- The words of a command line as Microsoft's LIB has them (its documentation, and what llvm-lib 19 does).
-use Rattle.std.specs.Prelude.{ℕ, Bool, true, false, not, ◌&&◌, ◌||◌, ◌==◌, List, [], ◌∷◌, length, drop, map, Option, None, Some, Ok, Err, codes, if◌then◌else◌, is_some, nat_eq, nat_lt, slice_index}
+use Rattle.std.specs.Prelude.{ℕ, Bool, true, false, not, ◌||◌, ◌==◌, List, [], ◌∷◌, length, drop, map, Option, None, Some, Ok, Err, codes, if◌then◌else◌, is_some, nat_eq, nat_lt, slice_index}
 use Rattle.std.specs.Char.{to_ascii_lowercase}
 use Rattle.std.specs.List.{after_first, before_first, ends_with, position_or_len}
 use Rattle.std.specs.Str.{byte, bytes_eq}

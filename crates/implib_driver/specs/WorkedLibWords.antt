@@ -1,13 +1,13 @@
 -- LIB's words, and the names by which the program is called as LIB is, worked by hand.
-use Rattle.std.specs.Prelude.{◌≡◌, ℕ, Bool, List, [], ◌∷◌, true, false, None, Some, Ok, Err, codes, map}
+use Rattle.std.specs.Prelude.{◌≡◌, ℕ, List, [], ◌∷◌, true, false, None, Some, Ok, Err, codes, map}
 use Rattle.std.specs.Str.{bytes_eq}
 use Rattle.implib.specs.declared.flavor.Flavor.TheVariants.{Msvc}
 use Rattle.implib.specs.declared.machine.MachineType.{MachineType}
-use Rattle.implib.specs.declared.machine.MachineType.TheVariants.{I386, ARMNT, AMD64, ARM64}
+use Rattle.implib.specs.declared.machine.MachineType.TheVariants.{I386, ARM64}
 use Rattle.implib_driver.specs.declared.options.Setting.TheVariants.{Definition, Output, Machine, Dll, Flavor as FlavorSetting}
 use Rattle.implib_driver.specs.declared.options.Switch.TheVariants.{ExportAs, Help, KeepsDecorated, Verbose}
 use Rattle.implib_driver.specs.Arguments.{Given, IsFile, IsUnknown, IsUnsupported, LacksValueIn, NamesNoMachine, OccurrenceView, Reading, Switched, WantsDefinition, WantsOutput, read_words}
-use Rattle.implib_driver.specs.LibWords.{Adds, LibWordView, Nothing, Refuses, is_lib_name, lib_word_of, machine_text, read_lib_words, words_read}
+use Rattle.implib_driver.specs.LibWords.{Adds, Nothing, Refuses, is_lib_name, lib_word_of, machine_text, read_lib_words, words_read}
 use Rattle.implib_driver.specs.Request.{Asked, Asks, AsksHelp, TaskView, caller_of, machine_named, task_of}
 use Rattle.implib_rules.specs.Additions.{no_additions}
 use Rattle.implib_rules.specs.WorkedNames.{decorated}

@@ -3,6 +3,7 @@
 use crate::console::Console;
 use crate::files::SystemDisk;
 use implib_driver::program::run;
+use implib_driver::request::holds_text;
 use std::io::Write;
 use std::test::Fail;
 use std::{env, fs, io};
@@ -311,6 +312,39 @@ fn words_of_lib_make_a_library(rt: HostRuntime) -> Result<(), Fail> {
     let (got, _) = ran(&rt, words.as_slice(), text)?;
     assert_eq!(rt; got, 0);
     assert!(rt; fs::read(&rt, file.as_path())?.as_slice() == library.as_slice());
+    fs::remove_file(&rt, file.as_path())?;
+    Ok(())
+}
+
+// With `-C` the address of each import has its older symbol too, in the archive's index and in its
+// object, and that of a private export has none; without it none has.
+#[test]
+fn addresses_have_older_symbols(rt: HostRuntime) -> Result<(), Fail> {
+    let file = env::temp_dir(&rt)?.join(rt.alloc(), "implib_dlltool_older.a")?;
+    let text = b"LIBRARY zoo\nEXPORTS\n feed\n oats DATA\n hide PRIVATE\n".as_slice();
+    for (machine, symbols, hidden) in [
+        ("i386", "__imp__feed\0___imp_feed\0", "___imp_hide"),
+        ("i386:x86-64", "__imp_feed\0___impfeed\0", "___imphide"),
+        ("i386:x86-64", "__imp_oats\0___impoats\0", "___imphide"),
+    ] {
+        for (words, is_asked) in [
+            (["-C", "-d", "-"].as_slice(), true),
+            (["-d", "-"].as_slice(), false),
+        ] {
+            let mut all = Vec::new(rt.alloc());
+            all.extend_from_slice(words)?;
+            all.extend_from_slice(&["-m", machine, "-l", file.as_str()])?;
+            let (got, wrote) = ran(&rt, all.as_slice(), text)?;
+            assert_eq!(rt; wrote.as_str(), "");
+            assert_eq!(rt; got, 0);
+            let library = fs::read(&rt, file.as_path())?;
+            assert_eq!(rt;
+                holds_text(library.as_slice(), symbols.as_bytes()),
+                is_asked
+            );
+            assert!(rt; !holds_text(library.as_slice(), hidden.as_bytes()));
+        }
+    }
     fs::remove_file(&rt, file.as_path())?;
     Ok(())
 }
