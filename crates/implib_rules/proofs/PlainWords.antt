@@ -7,7 +7,7 @@ use Rattle.implib_rules.specs.declared.plain.Before.{Before}
 use Rattle.implib_rules.specs.declared.plain.Part.{Part}
 use Rattle.implib_rules.specs.declared.plain.Part.TheVariants.{Word}
 use Rattle.implib_rules.specs.declared.plain.Reading.{Reading}
-use Rattle.implib_rules.specs.Plain.{after_all, between_step, is_of_word, plain_from, put, step_of}
+use Rattle.implib_rules.specs.Plain.{after_all, between_step, is_of_word, plain_from, put}
 
 -- a word that stays is being read
 abbrev in_word : Before → Reading
