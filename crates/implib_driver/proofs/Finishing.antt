@@ -1,9 +1,12 @@
 -- Lemmas on what is done with the bytes of a definition: how many members the warnings are of, and why there is no library.
-use Rattle.std.proofs.Common.{◌≡◌, ℕ, Bool, true, false, List, ap, inl, inr, length, refl, subst}
+use Rattle.std.proofs.Common.{◌≡◌, ℕ, ◌&&◌, Bool, true, false, List, ap, inl, inr, length, refl, subst}
 use Rattle.implib.specs.declared.flavor.Flavor.{Flavor}
 use Rattle.implib.specs.declared.flavor.Flavor.TheVariants.{Gnu, Msvc}
 use Rattle.implib.specs.Members.MemberSpec.{MemberView}
+use Rattle.implib.specs.declared.machine.MachineType.{MachineType}
+use Rattle.std.specs.List.{list_any}
 use Rattle.implib_driver.specs.Program.{members_counted}
+use Rattle.implib_driver.specs.Stubs.{has_stub, stubs_fail}
 use Rattle.implib_rules.specs.declared.library.Refusal.{Refusal}
 use Rattle.implib_rules.specs.declared.library.Refusal.TheVariants.{Archive, Members, NoName, NotUtf8, OutOfMemory, Syntax}
 use Rattle.implib_rules.specs.Library.{CountsMembers, IsRefusalOfMembers, is_out_of_memory}
@@ -64,3 +67,9 @@ has_memory NoName other = refl
 has_memory (Members fault position) other = refl
 has_memory (Archive fault) other = refl
 has_memory OutOfMemory other = absurd (other refl)
+
+-- where stubs cannot run the flavour is GNU's, of which no warning counts members
+pub counts_failing : (bytes : List ℕ) (options : LibraryOptionsView) (flavor : Flavor) (machine : MachineType) (members : List MemberView)
+    → (stubs_fail flavor machine && list_any has_stub members) ≡ true → CountsMembers bytes options flavor 0
+counts_failing bytes options Gnu machine members fails = refl
+counts_failing bytes options Msvc machine members fails = cc

@@ -6,6 +6,7 @@ pub mod LibWords
 pub mod Verbose
 pub mod Disk
 pub mod Reports
+pub mod Stubs
 pub mod Placing
 pub mod Program
 pub mod Worked

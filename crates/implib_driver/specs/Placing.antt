@@ -1,8 +1,9 @@
 -- Where the library of a definition is put (this project's own).
-use Rattle.std.specs.Prelude.{◌≡◌, ◌⊎◌, ℕ, Bool, true, List, Option, None, Some, Result, Ok, Err}
+use Rattle.std.specs.Prelude.{◌≡◌, ◌⊎◌, ℕ, Bool, true, false, List, Option, None, Some, Result, Ok, Err}
 use Rattle.implib.specs.Members.MemberSpec.{MemberView}
 use Rattle.implib_driver.specs.Disk.{DiskView}
 use Rattle.implib_driver.specs.Request.{RequestView}
+use Rattle.implib_driver.specs.Stubs.{has_failing_stub}
 use Rattle.implib_rules.specs.declared.library.LibraryError.{LibraryError}
 use Rattle.implib_rules.specs.declared.library.LibraryError.TheVariants.{Refused, Writing}
 use Rattle.implib_rules.specs.declared.library.Refusal.{Refusal}
@@ -29,6 +30,7 @@ IsPut known before after (Some path) file = IsPlaced known before after path fil
 pub record Puts (known : Bool) (before after : DiskView) (bytes : List ℕ) (request : RequestView) : Type 0 where
   pub file : List ℕ
   pub is_library : IsLibraryAsked request.older_symbols bytes request.library file
+  pub runs : has_failing_stub request.library is_library.members ≡ false
   pub is_put : IsPut known before after request.output file
 
 -- the bytes have no library for this reason, and the disk is as it was
@@ -40,6 +42,7 @@ pub record PutsNone (before after : DiskView) (bytes : List ℕ) (request : Requ
 pub record FailsToPut (before after : DiskView) (bytes : List ℕ) (request : RequestView) : Type 0 where
   pub file : List ℕ
   pub is_library : IsLibraryAsked request.older_symbols bytes request.library file
+  pub runs : has_failing_stub request.library is_library.members ≡ false
   pub unplaced : IsUnplaced before after
 
 -- what a call for a library answers
@@ -52,7 +55,8 @@ Answers known before after bytes request (Ok made) = Puts known before after byt
 Answers known before after bytes request (Err (Refused refusal)) = PutsNone before after bytes request refusal
 Answers known before after bytes request (Err (Writing cause)) = FailsToPut before after bytes request
 
--- what an answer says of the library of any bytes that have these members, and of the disk
+-- what an answer says of the library of any bytes that have these members, whose stubs can run, and of the disk
 abbrev pub AnswersWith : Bool → DiskView → DiskView → List MemberView → RequestView → Answer → Type 0
 AnswersWith known before after members request answer =
-    (bytes : List ℕ) → MembersAsked request.older_symbols bytes request.library members → Answers known before after bytes request answer
+    (bytes : List ℕ) → MembersAsked request.older_symbols bytes request.library members → has_failing_stub request.library members ≡ false
+    → Answers known before after bytes request answer

@@ -16,9 +16,10 @@ use Rattle.implib_driver.specs.Disk.{DiskView}
 use Rattle.implib_driver.specs.declared.identity.NotIdentified.{NotIdentified}
 use Rattle.implib_driver.specs.Identity.{identified}
 use Rattle.implib_driver.specs.Placing.{Answer, Answers}
-use Rattle.implib_driver.specs.Reports.{ComplaintView, Complains, Line, OfArguments, OfCall, OfIdentity, OfMemory, OfSystem, OfWord, OfWriting, Refuses, Says, Warns}
+use Rattle.implib_driver.specs.Reports.{ComplaintView, Complains, Line, OfArguments, OfCall, OfIdentity, OfMemory, OfStub, OfSystem, OfWord, OfWriting, Refuses, Says, Warns}
 use Rattle.implib_driver.specs.LibWords.{words_read}
 use Rattle.implib_driver.specs.Request.{Asked, AsksHelp, AsksIdentity, AsksVersion, Asks, RequestView, TaskView, caller_of, task_of}
+use Rattle.implib_driver.specs.Stubs.{has_failing_stub}
 use Rattle.implib_driver.specs.Verbose.{warnings_for}
 use Rattle.implib_rules.specs.declared.library.LibraryError.TheVariants.{Refused, Writing}
 use Rattle.implib_rules.specs.declared.library.Refusal.{Refusal}
@@ -124,15 +125,35 @@ pub record IsUnwarned (request : RequestView) (disk put : DiskView) (before afte
   pub says : Says before after (Refuses request.definition OutOfMemory ∷ [])
   pub is_status : status ≡ 3
 
+-- the warnings that are asked for were said, and then that the library would have stubs that cannot run; nothing was put
+pub record HasFailingStub (bytes : List ℕ) (request : RequestView) (disk put : DiskView) (before after : Option (List Line)) (status : ℕ)
+    : Type 0 where
+  pub warned : Option (List Line)
+  pub warns : Warned request.is_verbose bytes request before warned
+  pub members : List MemberView
+  pub members_asked : MembersAsked request.older_symbols bytes request.library members
+  pub fails : has_failing_stub request.library members ≡ true
+  pub same_disk : put ≡ disk
+  pub says : Says warned after (Complains request.definition OfStub ∷ [])
+  pub is_status : status ≡ 1
+
 -- what is done with the bytes of a definition
 abbrev pub Finishes : Bool → List ℕ → RequestView → DiskView → DiskView → Option (List Line) → Option (List Line) → ℕ → Type 0
 Finishes known bytes request disk put before after status =
     IsAnswered known bytes request disk put before after status ⊎ IsUnwarned request disk put before after status
+    ⊎ HasFailingStub bytes request disk put before after status
 
--- what is done with the bytes of a definition that has these members
+-- what is done with the bytes of a definition that has these members, whose stubs can run
 abbrev pub FinishesWith : Bool → List ℕ → List MemberView → RequestView → DiskView → DiskView → Option (List Line) → Option (List Line) → ℕ → Type 0
 FinishesWith known bytes members request disk put before after status =
-    MembersAsked request.older_symbols bytes request.library members → Finishes known bytes request disk put before after status
+    MembersAsked request.older_symbols bytes request.library members → has_failing_stub request.library members ≡ false
+    → Finishes known bytes request disk put before after status
+
+-- what is done with the bytes of a definition that has these members, whose stubs cannot: nothing with any disk
+abbrev pub FinishesFailing : List ℕ → List MemberView → RequestView → Option (List Line) → Option (List Line) → ℕ → Type 0
+FinishesFailing bytes members request before after status =
+    MembersAsked request.older_symbols bytes request.library members → has_failing_stub request.library members ≡ true →
+    (known : Bool) (disk : DiskView) → Finishes known bytes request disk disk before after status
 
 -- what is done with the bytes of a definition that has no members for this: nothing with any disk
 abbrev pub FinishesWithout : List ℕ → Refusal → RequestView → Option (List Line) → Option (List Line) → ℕ → Type 0

@@ -24,6 +24,8 @@ pub data ComplaintView : Type 0 where
   OfWriting : ComplaintView
   -- a library whose DLLs are not named
   OfIdentity : NotIdentified → ComplaintView
+  -- stubs that cannot run
+  OfStub : ComplaintView
 
 -- the view of a complaint of the program
 abbrev pub complaint_view : Complaint → ComplaintView
@@ -34,6 +36,7 @@ complaint_view complaint.OutOfMemory = OfMemory
 complaint_view (complaint.System cause) = OfSystem
 complaint_view (complaint.Writing cause) = OfWriting
 complaint_view (complaint.Identity fault) = OfIdentity fault
+complaint_view complaint.FailingStub = OfStub
 
 -- what is said at once
 pub data Line : Type 0 where

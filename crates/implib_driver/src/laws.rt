@@ -4,6 +4,7 @@ ghost use Rattle.implib_driver.specs.Worked.{CallsRead};
 ghost use Rattle.implib_driver.specs.WorkedCallers.{CallersNamed, FaultsOrdered, FlavorsChosen};
 ghost use Rattle.implib_driver.specs.WorkedCalls.{AnswersTold, CallsAnswered};
 ghost use Rattle.implib_driver.specs.WorkedLibWords.{LibWordsRead};
+ghost use Rattle.implib_driver.specs.Stubs.{StubsTold};
 ghost use Rattle.implib_driver.specs.WorkedOptions.{OptionsNamed};
 
 /// Command lines as rustc and mingw-w64 write them, and wrong ones, are read as was worked by hand.
@@ -47,4 +48,10 @@ pub fn faults_ordered()
 /// are the names by which the program is called as LIB is, and without either all is read as before.
 pub fn lib_words_read()
     ensures { LibWordsRead }
+{}
+
+/// Members that have the stub of a function, and machines on which stubs cannot run, are those that
+/// were worked by hand.
+pub fn stubs_told()
+    ensures { StubsTold }
 {}

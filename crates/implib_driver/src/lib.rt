@@ -16,4 +16,5 @@ pub mod placing;
 pub mod program;
 pub mod reporter;
 pub mod request;
+pub mod stubs;
 pub mod verbose;

@@ -173,6 +173,10 @@ impl<'a> fmt::Display for Complaint<'a> {
                 NotIdentified::NoDll => "no import of a DLL is in it",
                 NotIdentified::SeveralDlls => "it imports from two DLLs or more",
             }),
+            Complaint::FailingStub => f.write_str(
+                "functions for GNU's linker cannot run on arm, by the stubs that they have there; \
+                 --flavor msvc can",
+            ),
         }
     }
 }

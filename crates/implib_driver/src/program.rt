@@ -2,7 +2,7 @@
 
 ghost use Rattle.implib.specs.Definition.{definition_view};
 ghost use Rattle.implib_driver.specs.Program.{DoesWords, Finishes, FinishesWith};
-ghost use Rattle.implib_driver.specs.Program.{FinishesWithout, members_counted};
+ghost use Rattle.implib_driver.specs.Program.{FinishesFailing, FinishesWithout, members_counted};
 ghost use Rattle.implib_driver.specs.Identity.{identified};
 ghost use Rattle.implib_driver.specs.Program.{Identifies, IsUncalled, KeepsFiles, Makes};
 ghost use Rattle.implib_driver.specs.Program.{NamesDlls, OnlyComplains, Prints, Runs};
@@ -26,6 +26,7 @@ use crate::lib_words::words_read;
 use crate::placing::put;
 use crate::reporter::{Complaint, Reporter};
 use crate::request::{CallError, Identification, Request, Task, caller_of, task_of};
+use crate::stubs::has_failing_stub;
 use crate::verbose::warnings_for;
 use implib::def::ModuleDef;
 use implib::{Flavor, ParseError};
@@ -310,6 +311,29 @@ fn finish<D: Disk, T: Reporter>(
     }
 }
 
+// Warns of a definition whose members have a stub that cannot run, and says that; gives the exit
+// status.
+fn refuse_stub<T: Reporter>(
+    alloc: Global,
+    bytes: &[u8],
+    members: &LibraryMembers,
+    request: &Request<'_>,
+    reporter: &mut T,
+) -> u8
+    ensures { FinishesFailing bytes.now members.now (request_view request.now)
+        (T.said reporter.old) (T.said reporter.new) result }
+{
+    // No warning of GNU's flavour counts members.
+    let counted = Counted { bytes, members: 0 };
+    match warn(alloc, counted, request, reporter) {
+        Ok(()) => {
+            reporter.complain(request.definition, Complaint::FailingStub);
+            1
+        }
+        Err(_) => give_up(reporter, request),
+    }
+}
+
 // Warns of a definition that has no members for this, and says it; gives the exit status.
 fn refuse<T: Reporter>(
     alloc: Global,
@@ -344,6 +368,9 @@ fn answer<D: Disk, T: Reporter>(
         (D.view disk.old) (D.view disk.new) (T.said reporter.old) (T.said reporter.new) result }
 {
     match members_asked(alloc, bytes, &request.library, request.older_symbols) {
+        Ok(members) if has_failing_stub(&members, &request.library) => {
+            refuse_stub(alloc, bytes, &members, request, reporter)
+        }
         Ok(members) => finish(alloc, bytes, members, disk, request, reporter),
         Err(refusal) => refuse(alloc, bytes, refusal, request, reporter),
     }

@@ -29,6 +29,8 @@ pub enum Complaint<'a> {
     Writing(WriteError),
     /// The DLLs of a library are not named.
     Identity(NotIdentified),
+    /// A library would have stubs that cannot run.
+    FailingStub,
 }
 
 /// Who says what is wrong, each a line.

@@ -207,6 +207,31 @@ fn wrong_calls_are_told(rt: HostRuntime) -> Result<(), Fail> {
     Ok(())
 }
 
+// For GNU's linker on ARM, where the stub of a function cannot run, data alone has a library, with
+// the older symbols of addresses too.
+#[test]
+fn functions_for_gnu_on_arm_are_refused(rt: HostRuntime) -> Result<(), Fail> {
+    let words = ["-d", "-", "-m", "arm", "--flavor", "gnu"];
+    let (got, wrote) = ran(
+        &rt,
+        words.as_slice(),
+        b"LIBRARY zoo\nEXPORTS\n a DATA\n b\n",
+    )?;
+    assert_eq!(rt;
+        wrote.as_str(),
+        "-: functions for GNU's linker cannot run on arm, by the stubs \
+        that they have there; --flavor msvc can\n"
+    );
+    assert_eq!(rt; got, 1);
+    let data = b"LIBRARY zoo\nEXPORTS\n a DATA\n b PRIVATE\n";
+    let (got, wrote) = ran(&rt, words.as_slice(), data)?;
+    assert_eq!(rt; (got, wrote.as_str()), (0, ""));
+    let older = ["-Cd", "-", "-m", "arm", "--flavor", "gnu"];
+    let (got, wrote) = ran(&rt, older.as_slice(), data)?;
+    assert_eq!(rt; (got, wrote.as_str()), (0, ""));
+    Ok(())
+}
+
 // A word after `==` is taken in both flavours. A name that no name type makes of the symbol is
 // refused for Microsoft's linker where `-k` makes it of the export's own word, and a null byte in
 // both, at the export.

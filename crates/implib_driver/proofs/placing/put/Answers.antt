@@ -4,20 +4,22 @@ use Rattle.implib_rules.specs.Library.{kind_of}
 use Rattle.implib_driver.proofs.placing.put.Goals as goal
 
 pub returns : goal.returns
-returns g c = λ bytes made.
+returns g c = λ bytes made runs.
     let members = c.args.members.now in
     record {
       file = archive_of (kind_of c.args.request.now.library.flavor members) members;
       is_library = record { members = members; members_asked = made; accepted = c.in_ok-archive.ensures.accepted; is = search rules };
+      runs = runs;
       unplaced = c.in-Err.ensures.unplaced;
     }
 
 pub returns-in-Ok : goal.returns-in-Ok
-returns-in-Ok g c = λ bytes made.
+returns-in-Ok g c = λ bytes made runs.
     let members = c.args.members.now in
     let placed = rw c.in_ok-archive.ensures.holds at c.in-Ok.ensures.put in
     record {
       file = archive_of (kind_of c.args.request.now.library.flavor members) members;
       is_library = record { members = members; members_asked = made; accepted = c.in_ok-archive.ensures.accepted; is = search rules };
+      runs = runs;
       is_put = placed;
     }

@@ -6,7 +6,7 @@ use Rattle.implib_driver.proofs.Finishing.{counts_with}
 use Rattle.implib_driver.proofs.program.finish.Goals as goal
 
 pub returns-in-Ok : goal.returns-in-Ok
-returns-in-Ok g c = λ made.
+returns-in-Ok g c = λ made runs.
     let bytes = c.args.bytes.now in
     let library = library_options_view c.args.request.now.library in
     let members = c.args.members in
@@ -17,7 +17,7 @@ returns-in-Ok g c = λ made.
       warned = g.T.Reporter.said c.warn.new.reporter;
       warns = c.in-Ok.ensures.warned counts;
       answer = c.put-put.result;
-      answers = c.put-put.ensures bytes made;
+      answers = c.put-put.ensures bytes made runs;
       says = c.conclude.ensures.said;
       is_status = c.conclude.ensures.status;
     })
