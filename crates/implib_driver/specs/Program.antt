@@ -16,7 +16,7 @@ use Rattle.implib_driver.specs.Disk.{DiskView}
 use Rattle.implib_driver.specs.declared.identity.NotIdentified.{NotIdentified}
 use Rattle.implib_driver.specs.Identity.{identified}
 use Rattle.implib_driver.specs.Placing.{Answer, Answers}
-use Rattle.implib_driver.specs.Reports.{ComplaintView, Complains, Line, OfArguments, OfCall, OfIdentity, OfMemory, OfStub, OfSystem, OfWord, OfWriting, Refuses, Says, Warns}
+use Rattle.implib_driver.specs.Reports.{ComplaintView, Complains, Line, OfArgument, OfCall, OfIdentity, OfMemory, OfStub, OfSystem, OfWord, OfWriting, Refuses, Says, Warns}
 use Rattle.implib_driver.specs.LibWords.{words_read}
 use Rattle.implib_driver.specs.Request.{Asked, AsksHelp, AsksIdentity, AsksVersion, Asks, RequestView, TaskView, caller_of, task_of}
 use Rattle.implib_driver.specs.Stubs.{has_failing_stub}
@@ -305,7 +305,7 @@ abbrev pub Runs : Bool → Texts → List (List ℕ) → Devices → Devices →
 Runs known texts arguments before after printed prints status =
     DoesWords known texts (called_by arguments) (drop 1 arguments) before after printed prints status
 
--- the command line cannot be read: it is not UTF-8, or the system failed
-abbrev pub IsUncalled : ErrorKind → Devices → Devices → Option (List ℕ) → Option (List ℕ) → ℕ → Type 0
-IsUncalled InvalidData before after printed prints status = Complained OfArguments 2 before after printed prints status
-IsUncalled _ before after printed prints status = Complained OfSystem 3 before after printed prints status
+-- the command line cannot be read: an argument, which is told, is not UTF-8, or the system failed
+abbrev pub IsUncalled : ErrorKind → List ℕ → Devices → Devices → Option (List ℕ) → Option (List ℕ) → ℕ → Type 0
+IsUncalled InvalidData unread before after printed prints status = Complained (OfArgument unread) 2 before after printed prints status
+IsUncalled _ unread before after printed prints status = Complained OfSystem 3 before after printed prints status

@@ -14,8 +14,8 @@ pub data ComplaintView : Type 0 where
   OfWord : WordFaultView → ComplaintView
   -- what the options ask for
   OfCall : CallFaultView → ComplaintView
-  -- arguments that are not UTF-8
-  OfArguments : ComplaintView
+  -- an argument that is not UTF-8, as far as it can be shown
+  OfArgument : List ℕ → ComplaintView
   -- want of memory
   OfMemory : ComplaintView
   -- a failed call of the system
@@ -31,7 +31,7 @@ pub data ComplaintView : Type 0 where
 abbrev pub complaint_view : Complaint → ComplaintView
 complaint_view (complaint.Word fault) = OfWord (word_fault_view fault)
 complaint_view (complaint.Call fault) = OfCall (call_fault_view fault)
-complaint_view complaint.NotUtf8 = OfArguments
+complaint_view (complaint.NotUtf8 text) = OfArgument text.now
 complaint_view complaint.OutOfMemory = OfMemory
 complaint_view (complaint.System cause) = OfSystem
 complaint_view (complaint.Writing cause) = OfWriting

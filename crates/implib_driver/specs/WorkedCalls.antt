@@ -13,7 +13,7 @@ use Rattle.implib_driver.specs.Disk.{DiskView}
 use Rattle.std.specs.declared.io.ErrorKind.TheVariants.{InvalidData, NotFound}
 use Rattle.implib_driver.specs.Placing.{IsUnplaced}
 use Rattle.implib_driver.specs.Program.{Devices, IsUncalled, IsUnread, answer_status, definition_in, verdict}
-use Rattle.implib_driver.specs.Reports.{Complains, OfWriting, Refuses}
+use Rattle.implib_driver.specs.Reports.{Complains, OfArgument, OfWriting, Refuses, Says}
 use Rattle.implib_driver.specs.Request.{Asks, AsksHelp, GoesToStandard, HasEmptyDll, IsUnknownFlavor, IsUnknownMachine, LacksDefinition, RequestView, task_of}
 use Rattle.implib_driver.specs.Worked.{mingw_options, rustc_options}
 use Rattle.implib_archive.specs.declared.error.WriteError.{WriteError}
@@ -115,9 +115,12 @@ pub record AnswersTold : Type 0 where
   pub failure_said : (cause : WriteError) → verdict (asked_for (Some (codes "b.lib"))) (Err (Writing cause))
       ≡ Complains (codes "b.lib") OfWriting ∷ []
   pub no_text : (before after : Devices) (printed prints : Option (List ℕ)) (status : ℕ)
-      → IsUncalled InvalidData before after printed prints status → status ≡ 2
+      → IsUncalled InvalidData (codes "x") before after printed prints status → status ≡ 2
+  pub no_text_said : (before after : Devices) (printed prints : Option (List ℕ)) (status : ℕ)
+      → IsUncalled InvalidData (codes "x") before after printed prints status
+      → Says before.said after.said (Complains (codes "implib_dlltool") (OfArgument (codes "x")) ∷ [])
   pub no_arguments : (before after : Devices) (printed prints : Option (List ℕ)) (status : ℕ)
-      → IsUncalled NotFound before after printed prints status → status ≡ 3
+      → IsUncalled NotFound [] before after printed prints status → status ≡ 3
   pub unread : (before after : Devices) (status : ℕ) → IsUnread (asked_for None) before after status → status ≡ 3
   pub nothing_left : (before after : DiskView) → IsUnplaced before after → after.is_stuck ≡ false → after.left ≡ None
   pub failure_of_none_said : (cause : WriteError) → verdict (asked_for None) (Err (Writing cause)) ≡ Complains (codes "-") OfWriting ∷ []

@@ -164,7 +164,8 @@ impl<'a> fmt::Display for Complaint<'a> {
         match self {
             Complaint::Word(fault) => write!(f, "{fault}"),
             Complaint::Call(fault) => write!(f, "{fault}"),
-            Complaint::NotUtf8 => f.write_str("an argument is not UTF-8"),
+            Complaint::NotUtf8("") => f.write_str("an argument is not UTF-8"),
+            Complaint::NotUtf8(text) => write!(f, "{}: not UTF-8", Shown(text)),
             Complaint::OutOfMemory => f.write_str("out of memory"),
             Complaint::System(cause) => write!(f, "{cause}"),
             Complaint::Writing(cause) => write!(f, "{cause}"),

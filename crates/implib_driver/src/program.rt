@@ -559,31 +559,42 @@ fn perform_list<D: Disk, I: Read, O: Write, T: Reporter>(
     }
 }
 
-/// Runs the program with a command line, as [`run`] does. Arguments that are not UTF-8 are a wrong
-/// call, and others that cannot be read a failure.
+/// What a process was called with.
+#[derive(Drop)]
+pub struct CommandLine<'a> {
+    /// The arguments; one that is not UTF-8 is an error, `InvalidData`.
+    pub arguments: io::Result<Args>,
+    /// That argument, as far as it can be shown.
+    pub unread: &'a str,
+}
+
+/// Runs the program with a command line, as [`run`] does. An argument that is not UTF-8 is a wrong
+/// call, and told; others that cannot be read are a failure.
 pub fn perform<D: Disk, I: Read, O: Write, T: Reporter>(
     alloc: Global,
-    command_line: io::Result<Args>,
+    command_line: CommandLine<'_>,
     disk: &mut D,
     input: &mut I,
     printer: &mut O,
     reporter: &mut T,
 ) -> u8
     requires { (D.view disk.old).left ≡ None }
-    ensures runs { IfOk command_line (λ list. Runs D.is_known (texts HELP.now VERSION.now)
+    ensures runs { IfOk command_line.entry.arguments (λ list. Runs D.is_known (texts HELP.now VERSION.now)
         (map string_bytes (into_iter_items list))
         (devices (I.remaining input.old) (D.view disk.old) (T.said reporter.old))
         (devices (I.remaining input.new) (D.view disk.new) (T.said reporter.new))
         (O.contents printer.old) (O.contents printer.new) result) }
-    ensures unread { IfErr command_line (λ cause. IsUncalled (error_kind cause)
+    ensures unread { IfErr command_line.entry.arguments (λ cause.
+        IsUncalled (error_kind cause) command_line.entry.unread.now
         (devices (I.remaining input.old) (D.view disk.old) (T.said reporter.old))
         (devices (I.remaining input.new) (D.view disk.new) (T.said reporter.new))
         (O.contents printer.old) (O.contents printer.new) result) }
 {
-    match command_line {
+    let CommandLine { arguments, unread } = command_line;
+    match arguments {
         Ok(list) => perform_list(alloc, list, disk, input, printer, reporter),
         Err(error) => match error.kind() {
-            ErrorKind::InvalidData => complain(reporter, Complaint::NotUtf8, 2),
+            ErrorKind::InvalidData => complain(reporter, Complaint::NotUtf8(unread), 2),
             _ => complain(reporter, Complaint::System(error), 3),
         },
     }

@@ -19,8 +19,8 @@ pub enum Complaint<'a> {
     Word(WordFault<'a>),
     /// What the options ask for is refused.
     Call(CallFault<'a>),
-    /// An argument is not UTF-8.
-    NotUtf8,
+    /// An argument is not UTF-8: this one, as far as it can be shown.
+    NotUtf8(&'a str),
     /// An allocation failed.
     OutOfMemory,
     /// A call of the system failed.

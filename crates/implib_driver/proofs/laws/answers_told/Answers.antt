@@ -25,6 +25,7 @@ worked = record {
   refusal_said = λ position. refl;
   failure_said = λ cause. refl;
   no_text = λ before after printed prints status called. called.is_status;
+  no_text_said = λ before after printed prints status called. called.says;
   no_arguments = λ before after printed prints status called. called.is_status;
   unread = λ before after status read. read.is_status;
   nothing_left = none_left;
