@@ -341,32 +341,34 @@ fn words_of_lib_make_a_library(rt: HostRuntime) -> Result<(), Fail> {
     Ok(())
 }
 
+// The status and the library of a function, of data and of a private export, under an option.
+fn library_under(rt: &HostRuntime, option: &str, machine: &str) -> Result<(u8, Vec<u8>), Fail> {
+    let file = env::temp_dir(rt)?.join(rt.alloc(), "implib_dlltool_older.a")?;
+    let words = [option, "-d", "-", "-m", machine, "-l", file.as_str()];
+    let text = b"LIBRARY zoo\nEXPORTS\n feed\n oats DATA\n hide PRIVATE\n".as_slice();
+    let (got, _) = ran(rt, words.as_slice(), text)?;
+    let library = fs::read(rt, file.as_path())?;
+    fs::remove_file(rt, file.as_path())?;
+    Ok((got, library))
+}
+
 // With `-C` the address of each import has its older symbol too, in the archive's index and in its
-// object, and that of a private export has none; without it none has.
+// object, and that of a private export has none; without it, as under `-n`, none has.
 #[test]
 fn addresses_have_older_symbols(rt: HostRuntime) -> Result<(), Fail> {
-    let file = env::temp_dir(&rt)?.join(rt.alloc(), "implib_dlltool_older.a")?;
-    let text = b"LIBRARY zoo\nEXPORTS\n feed\n oats DATA\n hide PRIVATE\n".as_slice();
     for (machine, symbols, hidden) in [
         ("i386", "__imp__feed\0___imp_feed\0", "___imp_hide"),
         ("i386:x86-64", "__imp_feed\0___impfeed\0", "___imphide"),
         ("i386:x86-64", "__imp_oats\0___impoats\0", "___imphide"),
     ] {
-        // `-n` has no effect.
-        for (option, is_asked) in [("-C", true), ("-n", false)] {
-            let words = [option, "-d", "-", "-m", machine, "-l", file.as_str()];
-            let (got, wrote) = ran(&rt, words.as_slice(), text)?;
-            assert_eq!(rt; wrote.as_str(), "");
-            assert_eq!(rt; got, 0);
-            let library = fs::read(&rt, file.as_path())?;
-            assert_eq!(rt;
-                holds_text(library.as_slice(), symbols.as_bytes()),
-                is_asked
-            );
-            assert!(rt; !holds_text(library.as_slice(), hidden.as_bytes()));
-        }
+        let (first, older) = library_under(&rt, "-C", machine)?;
+        let (second, plain) = library_under(&rt, "-n", machine)?;
+        assert_eq!(rt; first, 0);
+        assert_eq!(rt; second, 0);
+        assert!(rt; holds_text(older.as_slice(), symbols.as_bytes()));
+        assert!(rt; !holds_text(older.as_slice(), hidden.as_bytes()));
+        assert!(rt; !holds_text(plain.as_slice(), symbols.as_bytes()));
     }
-    fs::remove_file(&rt, file.as_path())?;
     Ok(())
 }
 
