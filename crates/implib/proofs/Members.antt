@@ -14,6 +14,7 @@ pub mod KeptObjects
 pub mod KeptLoop
 pub mod MembersLoop
 pub mod Asked
+pub mod GnuReading
 pub mod GnuObjects
 pub mod GnuNames
 pub mod GnuLoop

@@ -1,12 +1,16 @@
 -- What the exports of a text ask their DLL for: the words of the text; and those of a definition made by hand,
 -- the names that they give.
-use Rattle.std.specs.Prelude.{◌≡◌, ℕ, false, List, [], ◌∷◌, Some}
+use Rattle.std.specs.Prelude.{◌≡◌, ◌⊎◌, ℕ, false, true, List, [], ◌∷◌, Some}
 use Rattle.std.specs.List.{AllByRecursion, flat_map}
 use Rattle.implib.specs.declared.flavor.Flavor.{Flavor}
 use Rattle.implib.specs.declared.machine.MachineType.{MachineType}
 use Rattle.implib.specs.Definition.{DefinitionView, ExportView}
+use Rattle.implib.specs.Formats.GnuReading.{ask_by_gnu}
+use Rattle.implib.specs.Formats.ShortImport.{ask_of_short_import}
 use Rattle.implib.specs.Text.Grammar.{Export, Statement}
 use Rattle.implib.specs.Import.{Name, expected_ask, name_asked, public_exports}
+use Rattle.implib.specs.Machine.{has_leading_underscore}
+use Rattle.implib.specs.Members.Msvc.{short_import_of}
 use Rattle.implib.specs.Text.Meaning.{exports_in}
 use Rattle.implib.specs.Members.NameRules.{asked_in}
 use Rattle.implib.specs.Text.Parses.{Parses}
@@ -51,3 +55,11 @@ pub record AsksForGiven (flavor : Flavor) (machine : MachineType) (e : ExportVie
 -- each export of a definition that is not private, under its name to link by, asks for the name that it gives
 abbrev pub AskForGivenNames : Flavor → MachineType → DefinitionView → Type 0
 AskForGivenNames flavor machine d = AllByRecursion (AsksForGiven flavor machine) (public_exports (renamed d))
+
+-- By the short import of an export that gives no symbol name, or on I386, GNU `ld` asks the DLL for what lld does.
+-- For example, on AMD64 no short import of `__f` is made to ask for `_f`: lld would, and GNU `ld` ask for `__f`.
+abbrev pub LinkersAskAlike : Type 0
+LinkersAskAlike =
+    (machine : MachineType) (dll : List ℕ) (e : ExportView) →
+    (e.symbol_name ≡ []) ⊎ (has_leading_underscore machine ≡ true) →
+    ask_by_gnu (short_import_of machine dll e) ≡ ask_of_short_import (short_import_of machine dll e)

@@ -3,6 +3,7 @@
 pub mod Constants
 pub mod Bytes
 pub mod ShortImport
+pub mod GnuReading
 pub mod Object
 pub mod File
 pub mod Pass

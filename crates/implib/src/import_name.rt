@@ -81,7 +81,7 @@ pub(crate) fn name_type(export: &ShortExport, machine: MachineType) -> u16
     if export.no_name {
         IMPORT_ORDINAL
     } else if export.asked_name.is_some() {
-        name_type_asking(symbol.as_bytes(), given_name(export).as_bytes())
+        name_type_asking(machine, symbol.as_bytes(), given_name(export).as_bytes())
     } else if begins_with(name, b'_') && name.as_bytes().contains(&b'@') {
         IMPORT_NAME
     } else if symbol != name {
@@ -94,12 +94,13 @@ pub(crate) fn name_type(export: &ShortExport, machine: MachineType) -> u16
 }
 
 // The first of name, no prefix and undecorate by which a short import of the symbol asks for the
-// name; undecorate where none does.
-fn name_type_asking(symbol: &[u8], name: &[u8]) -> u16
-    ensures number { result ≡ name_type_asking symbol.now name.now }
+// name; undecorate where none does. Where symbols have no underscore it is name: linkers cut a
+// symbol alike on I386 alone.
+fn name_type_asking(machine: MachineType, symbol: &[u8], name: &[u8]) -> u16
+    ensures number { result ≡ name_type_asking machine symbol.now name.now }
     ensures at_most { result ≤ IMPORT_NAME_UNDECORATE }
 {
-    if symbol == name {
+    if !machine.has_leading_underscore() || symbol == name {
         IMPORT_NAME
     } else if without_prefix(symbol) == name {
         IMPORT_NAME_NOPREFIX

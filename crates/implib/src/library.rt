@@ -192,6 +192,8 @@ impl ImportLibrary {
             self.now.definition self.now.machine (map member_view members.items)) }
         ensures refused { IfInvalid result
             (λ cause. older_refusal self.now.definition self.now.machine ≡ Some cause) }
+        ensures names_refused_always { RefusesAlways
+            self.now.definition self.now.machine Gnu result }
     {
         older_members(&self.def, self.machine)
     }

@@ -128,8 +128,10 @@ worked_name_types = record {
   given_own_name = refl;
   given_of_fastcall = refl;
   given_with_underscore = refl;
-  given_on_amd64 = refl;
   given_of_symbol_name = refl;
+  given_on_armnt = refl;
+  given_on_amd64 = refl;
+  given_on_arm64 = refl;
   given_beside_ordinal = refl;
 }
 
@@ -147,5 +149,14 @@ worked_asked_names = record {
   given_whole = refl;
   given_without_prefix = refl;
   given_undecorated = refl;
+  given_on_amd64 = refl;
+  by_gnu_on_i386 = refl;
+  by_gnu_on_armnt = refl;
+  by_gnu_on_amd64 = refl;
+  by_gnu_on_arm64 = refl;
+  by_gnu_question_mark = refl;
+  by_gnu_whole = refl;
+  by_gnu_of_symbol_name = refl;
+  by_lld_of_symbol_name = refl;
   given_of_no_name_type = refl;
 }

@@ -1,6 +1,6 @@
 -- The short import of an export, as a table (docs/FORMATS.md, "Short imports" and "Members for Microsoft's
 -- linker").
-use Rattle.std.specs.Prelude.{ℕ, ◌+◌, ◌*◌, ◌&&◌, not, List, [], ◌∷◌, ◌++◌, Option, None, Some, length, bytes_eq, if◌then◌else◌, is_some, option_map}
+use Rattle.std.specs.Prelude.{ℕ, ◌+◌, ◌*◌, ◌&&◌, ◌||◌, not, List, [], ◌∷◌, ◌++◌, Option, None, Some, length, bytes_eq, if◌then◌else◌, is_some, option_map}
 use Rattle.implib.specs.declared.machine.MachineType.{MachineType}
 use Rattle.implib.specs.declared.msvc.short_import.ShortImport.{ShortImport as Written}
 use Rattle.implib.specs.Formats.Bytes.{u16_bytes, u32_bytes}
@@ -22,11 +22,12 @@ abbrev pub short_import_symbol : ExportView → List ℕ
 short_import_symbol e = symbol_or_name e.symbol_name e.name
 
 -- The first of the name types name, no prefix and undecorate by which a symbol asks for a name; undecorate
--- where none does. For example, `_f@8` asks for `_f@8` by name (1), for `f@8` by no prefix (2) and for f by
--- undecorate (3).
-abbrev pub name_type_asking : List ℕ → List ℕ → ℕ
-name_type_asking symbol name =
-    if bytes_eq symbol name then import_name
+-- where none does. For example, on I386 `_f@8` asks for `_f@8` by name (1), for `f@8` by no prefix (2) and for f
+-- by undecorate (3). Where symbols have no underscore it is name, and any other name is refused: there GNU `ld`
+-- takes no underscore off, and lld does, so a name type that cuts would ask for two names.
+abbrev pub name_type_asking : MachineType → List ℕ → List ℕ → ℕ
+name_type_asking machine symbol name =
+    if not (has_leading_underscore machine) || bytes_eq symbol name then import_name
     else if bytes_eq (without_prefix symbol) name then import_name_noprefix
     else import_name_undecorate
 
@@ -35,7 +36,7 @@ name_type_asking symbol name =
 abbrev pub name_type_of : MachineType → ExportView → ℕ
 name_type_of machine e =
     if e.no_name then import_ordinal
-    else if is_some e.asked_name then name_type_asking (short_import_symbol e) (given_name e)
+    else if is_some e.asked_name then name_type_asking machine (short_import_symbol e) (given_name e)
     else if begins_with underscore e.name && holds at_sign e.name then import_name
     else if not (bytes_eq (short_import_symbol e) e.name) then import_name_undecorate
     else if has_leading_underscore machine && begins_with underscore (short_import_symbol e)

@@ -228,6 +228,11 @@ pub record WorkedRefusals : Type 0 where
       (record empty_export { name = codes "f"; symbol_name = codes "_@8"; alias_target = nul } ∷ [])) AMD64
       (NulInExport 0)
   pub no_name_type : IsRefused (foo_asking (codes "a") (codes "b")) AMD64 (NoNameType 0)
+  -- a name type cuts a symbol on I386 alone
+  pub no_prefix_on_i386 : refusal (foo_asking (codes "__f") (codes "_f")) I386 Msvc ≡ None
+  pub no_prefix_on_armnt : IsRefused (foo_asking (codes "__f") (codes "_f")) ARMNT (NoNameType 0)
+  pub no_prefix_on_amd64 : IsRefused (foo_asking (codes "__f") (codes "_f")) AMD64 (NoNameType 0)
+  pub no_prefix_on_arm64 : IsRefused (foo_asking (codes "__f") (codes "_f")) ARM64 (NoNameType 0)
   -- this symbol asks for an empty name by undecorate, and not for x by any name type
   pub no_name_type_of_symbol_name : IsRefused
       (of_dll (codes "foo.dll")

@@ -3,13 +3,16 @@ use Rattle.std.specs.Prelude.{◌≡◌, ℕ, true, List, [], ◌∷◌, ◌++�
 use Rattle.implib.specs.declared.machine.MachineType.{MachineType}
 use Rattle.implib.specs.declared.machine.MachineType.TheVariants.{I386, ARMNT, AMD64, ARM64}
 use Rattle.implib.specs.Definition.{ExportView, empty_export}
+use Rattle.implib.specs.Import.{Name}
 use Rattle.implib.specs.Members.Gnu.{export_object, five_digits, head_name, head_object, head_symbol, iname_symbol}
 use Rattle.implib.specs.Members.Gnu.{mangled_name, numbered_name, tail_name, tail_object}
 use Rattle.implib.specs.Members.Msvc.{asked_by_short_import, short_import_bytes, short_import_of}
 use Rattle.implib.specs.Members.MsvcObjects.{base_name}
 use Rattle.implib.specs.Members.WeakExternal.{weak_object}
 use Rattle.implib.specs.Members.MsvcObjects as msvc
+use Rattle.implib.specs.Formats.GnuReading.{ask_by_gnu, asked_by_gnu}
 use Rattle.implib.specs.Formats.Layout.{ObjectLayout}
+use Rattle.implib.specs.Formats.ShortImport.{ask_of_short_import}
 use Rattle.implib.specs.Formats.Writer.{layout_of}
 use Rattle.implib.specs.Worked.Digits.{hex}
 use Rattle.implib.specs.Worked.Machines.{numbers}
@@ -194,10 +197,13 @@ pub record WorkedNameTypes : Type 0 where
   pub given_own_name : types_of AMD64 (asking (codes "f") (codes "f")) ≡ hex "04 00"
   pub given_of_fastcall : types_of I386 (asking (codes "@F@8") (codes "F")) ≡ hex "0c 00"
   pub given_with_underscore : types_of I386 (asking (codes "_f") (codes "_f")) ≡ hex "04 00"
-  pub given_on_amd64 : types_of AMD64 (asking (codes "_f") (codes "f")) ≡ hex "08 00"
   pub given_of_symbol_name :
-      types_of AMD64 (record (under_symbol (codes "a") (codes "_b@4")) { asked_name = Some (codes "b") })
+      types_of I386 (record (under_symbol (codes "a") (codes "_b@4")) { asked_name = Some (codes "b") })
       ≡ hex "0c 00"
+  -- where symbols have no underscore none is cut
+  pub given_on_armnt : types_of ARMNT (asking (codes "_f") (codes "f")) ≡ hex "04 00"
+  pub given_on_amd64 : types_of AMD64 (asking (codes "_f") (codes "f")) ≡ hex "04 00"
+  pub given_on_arm64 : types_of ARM64 (asking (codes "_f@4") (codes "f")) ≡ hex "04 00"
   pub given_beside_ordinal : types_of I386 (record (asking (codes "_F@8") (codes "F")) { no_name = true })
       ≡ hex "00 00"
 
@@ -215,5 +221,19 @@ pub record WorkedAskedNames : Type 0 where
   pub given_whole : asked_by_short_import I386 (asking (codes "_F@8") (codes "_F@8")) ≡ codes "_F@8"
   pub given_without_prefix : asked_by_short_import I386 (asking (codes "_F@8") (codes "F@8")) ≡ codes "F@8"
   pub given_undecorated : asked_by_short_import I386 (asking (codes "_F@8") (codes "F")) ≡ codes "F"
+  -- where symbols have no underscore, a short import asks for its symbol whole: such a definition is refused
+  pub given_on_amd64 : asked_by_short_import AMD64 (asking (codes "__f") (codes "_f")) ≡ codes "__f"
+  -- GNU `ld` takes an underscore off on I386 alone
+  pub by_gnu_on_i386 : asked_by_gnu 0x14C 2 (codes "__f") ≡ codes "_f"
+  pub by_gnu_on_armnt : asked_by_gnu 0x1C4 2 (codes "__f") ≡ codes "__f"
+  pub by_gnu_on_amd64 : asked_by_gnu 0x8664 3 (codes "_f@8") ≡ codes "_f"
+  pub by_gnu_on_arm64 : asked_by_gnu 0xAA64 2 (codes "@f@8") ≡ codes "f@8"
+  pub by_gnu_question_mark : asked_by_gnu 0x8664 3 (codes "?f@@YAXXZ") ≡ codes "f"
+  pub by_gnu_whole : asked_by_gnu 0x14C 1 (codes "_f") ≡ codes "_f"
+  -- so by a symbol name the two can ask for two names
+  pub by_gnu_of_symbol_name : ask_by_gnu (short_import_of AMD64 (codes "foo.dll") (under_symbol (codes "foo") (codes "_foo@8")))
+      ≡ Name (codes "_foo") 0
+  pub by_lld_of_symbol_name : ask_of_short_import (short_import_of AMD64 (codes "foo.dll") (under_symbol (codes "foo") (codes "_foo@8")))
+      ≡ Name (codes "foo") 0
   -- no name type makes b of a: such a definition is refused
   pub given_of_no_name_type : asked_by_short_import AMD64 (asking (codes "a") (codes "b")) ≡ codes "a"

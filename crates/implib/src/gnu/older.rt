@@ -8,7 +8,8 @@ ghost use Rattle.implib.specs.Library.{member_view};
 ghost use Rattle.implib.specs.LibraryName.{linked_name};
 ghost use Rattle.implib.specs.Members.Gnu.{head_symbol};
 ghost use Rattle.implib.specs.Members.Members.{has_u16_ordinal};
-ghost use Rattle.implib.specs.Members.NameRules.{definition_names_refusal, holds_nul};
+ghost use Rattle.implib.specs.Members.NameRules.{RefusesAlways, definition_names_refusal};
+ghost use Rattle.implib.specs.Members.NameRules.{holds_nul};
 ghost use Rattle.implib.specs.Members.OlderSymbols.{AreOlderMembersOf, OlderReadBack, numbered_older_specs};
 ghost use Rattle.implib.specs.Members.OlderSymbols.{older_refusal, older_spec, older_specs};
 ghost use Rattle.implib.specs.Members.OlderSymbols.{older_specs_of, older_symbol};
@@ -42,6 +43,7 @@ pub(crate) fn older_members(def: &ModuleDef, machine: MachineType) -> Result<Vec
         (definition_view def.now) machine (map member_view members.items)) }
     ensures refused { IfInvalid result
         (λ cause. older_refusal (definition_view def.now) machine ≡ Some cause) }
+    ensures names_refused_always { RefusesAlways (definition_view def.now) machine Gnu result }
 {
     match names_fault(def, machine, Flavor::Gnu) {
         Some(fault) => Err(Error::Invalid(fault)),

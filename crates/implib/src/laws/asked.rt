@@ -1,6 +1,6 @@
 //! The laws of the names that are asked for.
 
-ghost use Rattle.implib.specs.Asked.{AskForGivenNames, AsksForWords};
+ghost use Rattle.implib.specs.Asked.{AskForGivenNames, AsksForWords, LinkersAskAlike};
 ghost use Rattle.implib.specs.Definition.{DefinitionView};
 ghost use Rattle.implib.specs.Members.MemberSpec.{MemberView};
 ghost use Rattle.implib.specs.Members.Members.{AreMembersOf};
@@ -23,4 +23,10 @@ pub fn given_name_is_asked(machine: MachineType, flavor: Flavor)
     ensures { (definition : DefinitionView) (members : List MemberView) →
         AreMembersOf definition machine flavor members →
         AskForGivenNames flavor machine definition }
+{}
+
+/// GNU `ld` and lld ask the DLL for the same by the short import of an export that gives no symbol
+/// name, as none of a text does, and on I386 by each.
+pub fn linkers_ask_alike()
+    ensures { LinkersAskAlike }
 {}

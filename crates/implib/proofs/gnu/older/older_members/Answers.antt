@@ -1,6 +1,8 @@
 use Rattle.std.proofs.Common.{map}
 use Rattle.implib.specs.Definition.{definition_view}
 use Rattle.implib.specs.Library.{member_view}
+use Rattle.implib.specs.declared.flavor.Flavor.TheVariants.{Gnu}
+use Rattle.implib.proofs.Members.MembersOfDefinition.{no_refusal_by_names, same_refusal_by_names}
 use Rattle.implib.proofs.Members.OlderMembers.{made_of, refused_by_length, refused_by_names}
 use Rattle.implib.proofs.Members.Renaming.{renamed_same}
 use Rattle.implib.proofs.Members.OlderReadings.{older_read_of}
@@ -33,3 +35,13 @@ returns-in-None-clause-refused c =
     let d = definition_view c.args.def.now in
     refused_by_length d c.args.machine (renamed_same d c.requires) c.named_members.result (c.in-None.ensures {u = tt})
     c.named_members.ensures.made.too_long
+
+pub returns-in-Some-clause-names_refused_always : goal.returns-in-Some-clause-names_refused_always
+returns-in-Some-clause-names_refused_always c = λ cause refused.
+    let d = definition_view c.args.def.now in
+    same_refusal_by_names d c.args.machine Gnu _ cause (renamed_same d c.requires) (c.in-Some.ensures {u = tt}) refused
+
+pub returns-in-None-clause-names_refused_always : goal.returns-in-None-clause-names_refused_always
+returns-in-None-clause-names_refused_always c =
+    let d = definition_view c.args.def.now in
+    no_refusal_by_names d c.args.machine Gnu c.named_members.result (renamed_same d c.requires) (c.in-None.ensures {u = tt})
