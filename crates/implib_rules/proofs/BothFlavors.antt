@@ -131,7 +131,7 @@ module _ (machine : MachineType) (naming : NamingView) (exports : List ExportVie
     -- it has a word after `==`, and asks for that in GNU's flavour
     asks : name_asked machine (linked_import machine naming e) ≡ e.alias_target
     asks =
-        let target : has_target e ≡ true = (and_parts (has_target e) (not e.private && (not e.no_name && not (makes (symbol_linked machine naming e) e.alias_target))) apart).0 in
+        let target : has_target e ≡ true = (and_parts (has_target e) (not e.private && (not e.no_name && not (makes machine (symbol_linked machine naming e) e.alias_target))) apart).0 in
         asks_as_linked machine naming e
         ∙ ap (λ b. if b then word_asked machine naming (word_of e) else e.alias_target) (not_true (is_empty_text e.alias_target) target)
 

@@ -16,6 +16,7 @@ use Rattle.implib.specs.Formats.ShortImport.{before_at_sign, without_prefix}
 use Rattle.implib.specs.Import.{is_alias, is_empty_text, public_exports}
 use Rattle.implib.specs.Library.{LibraryView}
 use Rattle.implib.specs.LibraryName.{NamesOfDll, names_for}
+use Rattle.implib.specs.Machine.{has_leading_underscore}
 use Rattle.implib.specs.Members.MemberLists.{AreListsOf, ListsView, alias_specs, all_alias_specs, all_import_specs, has_code, is_weak}
 use Rattle.implib.specs.Members.Members.{is_too_long, length_refusal, member_specs, refusal}
 use Rattle.implib.specs.Members.MemberSpec.{MemberSpec, MemberView, member_of}
@@ -55,31 +56,31 @@ kept_renamed_by : (o : Option (List ℕ)) (e : ExportView) → renamed_export (k
 kept_renamed_by None e = refl
 kept_renamed_by (Some name) e = refl
 
-kept_renamed_all : (exports : List ExportView) → map renamed_export (map kept exports) ≡ map kept (map renamed_export exports)
-kept_renamed_all [] = refl
-kept_renamed_all (e ∷ exports) =
-    ap (λ l. renamed_export (kept e) ∷ l) (kept_renamed_all exports)
-    ∙ ap (λ (x : ExportView). x ∷ map kept (map renamed_export exports)) (kept_renamed_by (exported_name e) e)
+kept_renamed_all : (machine : MachineType) (exports : List ExportView) → map renamed_export (map (kept machine) exports) ≡ map (kept machine) (map renamed_export exports)
+kept_renamed_all machine [] = refl
+kept_renamed_all machine (e ∷ exports) =
+    ap (λ l. renamed_export (kept machine e) ∷ l) (kept_renamed_all machine exports)
+    ∙ ap (λ (x : ExportView). x ∷ map (kept machine) (map renamed_export exports)) (kept_renamed_by (exported_name machine e) e)
 
-pub kept_renamed : (d : DefinitionView) → renamed (kept_definition d) ≡ kept_definition (renamed d)
-kept_renamed d = ap (λ (exports : List ExportView). record d { exports = exports }) (kept_renamed_all d.exports)
+pub kept_renamed : (machine : MachineType) (d : DefinitionView) → renamed (kept_definition machine d) ≡ kept_definition machine (renamed d)
+kept_renamed machine d = ap (λ (exports : List ExportView). record d { exports = exports }) (kept_renamed_all machine d.exports)
 
 -- a name that is exported is not empty, and no symbol
-name_of : (symbol : List ℕ) (asked : Option (List ℕ)) (name : List ℕ) → name_apart symbol asked ≡ Some name
-    → (is_empty_text name ≡ false) × (makes symbol name ≡ false)
-name_of symbol None name is = absurd (none-some name is)
-name_of symbol (Some asked) name is =
-    elim (cases_Bool (is_empty_text asked || makes symbol asked)) [
+name_of : (machine : MachineType) (symbol : List ℕ) (asked : Option (List ℕ)) (name : List ℕ) → name_apart machine symbol asked ≡ Some name
+    → (is_empty_text name ≡ false) × (makes machine symbol name ≡ false)
+name_of machine symbol None name is = absurd (none-some name is)
+name_of machine symbol (Some asked) name is =
+    elim (cases_Bool (is_empty_text asked || makes machine symbol asked)) [
       | inl refused ↦ absurd (none-some name (ap (λ b. if b then None else Some asked) (sym refused) ∙ is))
       | inr passed ↦
           let same : asked ≡ name = same_Some asked name (ap (λ b. if b then None else Some asked) (sym passed) ∙ is) in
-          subst (λ n. (is_empty_text n ≡ false) × (makes symbol n ≡ false)) same (neither (is_empty_text asked) (makes symbol asked) passed)
+          subst (λ n. (is_empty_text n ≡ false) × (makes machine symbol n ≡ false)) same (neither (is_empty_text asked) (makes machine symbol asked) passed)
     ]
 
 -- so it is another symbol than the export's
-other_symbol : (symbol name : List ℕ) → is_empty_text name ≡ false → makes symbol name ≡ false → is_alias name symbol ≡ true
-other_symbol symbol name full apart =
-    let parts = neither (bytes_eq symbol name) (bytes_eq (without_prefix symbol) name || bytes_eq (before_at_sign (without_prefix symbol)) name) apart in
+other_symbol : (machine : MachineType) (symbol name : List ℕ) → is_empty_text name ≡ false → makes machine symbol name ≡ false → is_alias name symbol ≡ true
+other_symbol machine symbol name full apart =
+    let parts = neither (bytes_eq symbol name) (has_leading_underscore machine && (bytes_eq (without_prefix symbol) name || bytes_eq (before_at_sign (without_prefix symbol)) name)) apart in
     let differs : bytes_eq name symbol ≡ false =
     elim (cases_Bool (bytes_eq name symbol)) [
       | inl same ↦ absurd (true≢false (sym ((bytes_eq-Decides symbol name).1 (sym ((bytes_eq-Decides name symbol).0 same))) ∙ parts.0))
@@ -87,15 +88,15 @@ other_symbol symbol name full apart =
     ] in
     ap (λ b. not b && not (bytes_eq name symbol)) full ∙ ap not differs
 
-exported_alias : (e : ExportView) (name : List ℕ) → exported_name (renamed_export e) ≡ Some name → is_alias name (short_import_symbol (renamed_export e)) ≡ true
-exported_alias e name is =
+exported_alias : (machine : MachineType) (e : ExportView) (name : List ℕ) → exported_name machine (renamed_export e) ≡ Some name → is_alias name (short_import_symbol (renamed_export e)) ≡ true
+exported_alias machine e name is =
     elim (cases_Bool (e.private || (e.no_name || has_target e))) [
-      | inl none ↦ absurd (none-some name (ap (λ b. if b then None else name_apart (symbol_made (renamed_export e)) e.asked_name) (sym none) ∙ is))
+      | inl none ↦ absurd (none-some name (ap (λ b. if b then None else name_apart machine (symbol_made (renamed_export e)) e.asked_name) (sym none) ∙ is))
       | inr passed ↦
-          let apart : name_apart (symbol_made (renamed_export e)) e.asked_name ≡ Some name =
-          ap (λ b. if b then None else name_apart (symbol_made (renamed_export e)) e.asked_name) (sym passed) ∙ is in
-          let found = name_of (symbol_made (renamed_export e)) e.asked_name name apart in
-          other_symbol (symbol_made (renamed_export e)) name found.0 found.1
+          let apart : name_apart machine (symbol_made (renamed_export e)) e.asked_name ≡ Some name =
+          ap (λ b. if b then None else name_apart machine (symbol_made (renamed_export e)) e.asked_name) (sym passed) ∙ is in
+          let found = name_of machine (symbol_made (renamed_export e)) e.asked_name name apart in
+          other_symbol machine (symbol_made (renamed_export e)) name found.0 found.1
     ]
 
 kept_private : (o : Option (List ℕ)) (e : ExportView) → (kept_by o e).private ≡ e.private
@@ -137,7 +138,7 @@ module _ (machine : MachineType) (dll : NamesOfDll) where
   Public exports = filter (λ e. not e.private) (map renamed_export exports)
 
   abbrev KeptPublic : List ExportView → List ExportView
-  KeptPublic exports = filter (λ e. not e.private) (map kept (map renamed_export exports))
+  KeptPublic exports = filter (λ e. not e.private) (map (kept machine) (map renamed_export exports))
 
   -- what all exports have after all imports
   pub placed_all : (exports : List ExportView)
@@ -146,15 +147,15 @@ module _ (machine : MachineType) (dll : NamesOfDll) where
   placed_all [] = refl
   placed_all (e ∷ exports) =
       ap (λ p. placed (flat_map (later_of machine dll) (if not e.private then renamed_export e ∷ Public exports else Public exports))
-      (map member_of (flat_map (alias_specs machine dll.linked) (if not p then kept (renamed_export e) ∷ KeptPublic exports else KeptPublic exports))))
-      (kept_private (exported_name (renamed_export e)) (renamed_export e))
+      (map member_of (flat_map (alias_specs machine dll.linked) (if not p then kept machine (renamed_export e) ∷ KeptPublic exports else KeptPublic exports))))
+      (kept_private (exported_name machine (renamed_export e)) (renamed_export e))
       ∙ by (placed_all exports) e.private
     where
       by : placed (flat_map (later_of machine dll) (Public exports)) (map member_of (flat_map (alias_specs machine dll.linked) (KeptPublic exports)))
           ≡ map member_of (flat_map (later_specs machine dll) (Public exports))
           → (p : Bool)
           → placed (flat_map (later_of machine dll) (if not p then renamed_export e ∷ Public exports else Public exports))
-          (map member_of (flat_map (alias_specs machine dll.linked) (if not p then kept (renamed_export e) ∷ KeptPublic exports else KeptPublic exports)))
+          (map member_of (flat_map (alias_specs machine dll.linked) (if not p then kept machine (renamed_export e) ∷ KeptPublic exports else KeptPublic exports)))
           ≡ map member_of (flat_map (later_specs machine dll) (if not p then renamed_export e ∷ Public exports else Public exports))
       by others_are true = others_are
       by others_are false =
@@ -162,8 +163,8 @@ module _ (machine : MachineType) (dll : NamesOfDll) where
           let others = Public exports in
           let kept_others = KeptPublic exports in
           ap (placed (later_of machine dll x ++ flat_map (later_of machine dll) others))
-          (map-append member_of (alias_specs machine dll.linked (kept x)) (flat_map (alias_specs machine dll.linked) kept_others))
-          ∙ here x (flat_map (later_of machine dll) others) (map member_of (flat_map (alias_specs machine dll.linked) kept_others)) (exported_name x) (exported_alias e)
+          (map-append member_of (alias_specs machine dll.linked (kept machine x)) (flat_map (alias_specs machine dll.linked) kept_others))
+          ∙ here x (flat_map (later_of machine dll) others) (map member_of (flat_map (alias_specs machine dll.linked) kept_others)) (exported_name machine x) (exported_alias machine e)
           ∙ ap (λ l. map member_of (later_specs machine dll x) ++ l) others_are
           ∙ sym (map-append member_of (later_specs machine dll x) (flat_map (later_specs machine dll) others))
 
@@ -176,19 +177,19 @@ module _ (d : DefinitionView) (machine : MachineType) where
 
   -- lists of the definition with aliases, and what stands in their place
   pub is_export_as_library : (library : LibraryView) (lists : ListsView) (names : NamesOfDll) (exports : List ExportView) (laters : List LaterView) (members : List MemberView)
-      → library ≡ held_by (kept_definition d) machine Msvc → AreListsOf library.definition library.machine lists
+      → library ≡ held_by (kept_definition machine d) machine Msvc → AreListsOf library.definition library.machine lists
       → names ≡ names_for Msvc d → exports ≡ d.exports
       → laters ≡ flat_map (later_unless_private machine names) exports
       → list_any is_too_long (flat_map (export_as_unless_private machine names) exports) ≡ false
       → members ≡ lists.header ++ (lists.imports ++ placed laters lists.aliases) → IsExportAsLibrary (renamed d) machine members
   is_export_as_library library lists names exports laters members held lists_of named exports_are later fits is =
       let e = renamed d in
-      let k = kept_definition e in
+      let k = kept_definition machine e in
       let dll = names_for Msvc d in
       let library_is : library ≡ record { definition = k; machine = machine; flavor = Msvc } =
-      held ∙ ap (λ (x : DefinitionView). record { definition = x; machine = machine; flavor = Msvc }) (kept_renamed d) in
+      held ∙ ap (λ (x : DefinitionView). record { definition = x; machine = machine; flavor = Msvc }) (kept_renamed machine d) in
       let are = subst (λ (l : LibraryView). AreListsOf l.definition l.machine lists) library_is lists_of in
-      let once : renamed k ≡ k = kept_renamed e ∙ ap kept_definition (renamed_twice d) in
+      let once : renamed k ≡ k = kept_renamed machine e ∙ ap (kept_definition machine) (renamed_twice d) in
       let header = header_specs machine dll in
       let imports = all_import_specs machine k in
       let others = flat_map (later_specs machine dll) (public_exports e) in
@@ -212,21 +213,21 @@ module _ (d : DefinitionView) (machine : MachineType) where
       }
 
   -- why the members of such a definition are refused
-  pub names_refused : (library : LibraryView) (cause : Cause) → library ≡ held_by (kept_definition d) machine Msvc
+  pub names_refused : (library : LibraryView) (cause : Cause) → library ≡ held_by (kept_definition machine d) machine Msvc
       → refusal library.definition library.machine Msvc ≡ Some cause → export_as_refusal (renamed d) machine ≡ Some cause
   names_refused library cause held refused =
-      let library_is : library ≡ record { definition = kept_definition (renamed d); machine = machine; flavor = Msvc } =
-      held ∙ ap (λ (x : DefinitionView). record { definition = x; machine = machine; flavor = Msvc }) (kept_renamed d) in
+      let library_is : library ≡ record { definition = kept_definition machine (renamed d); machine = machine; flavor = Msvc } =
+      held ∙ ap (λ (x : DefinitionView). record { definition = x; machine = machine; flavor = Msvc }) (kept_renamed machine d) in
       ap (λ o. first_of_both o (length_refusal (all_export_as_specs machine (renamed d))))
       (sym (ap (λ (l : LibraryView). refusal l.definition l.machine Msvc) library_is) ∙ refused)
 
-  pub too_long_refused : (library : LibraryView) (lists : ListsView) (names : NamesOfDll) (exports : List ExportView) (cause : Cause) → names ≡ names_for Msvc d → exports ≡ d.exports → library ≡ held_by (kept_definition d) machine Msvc
+  pub too_long_refused : (library : LibraryView) (lists : ListsView) (names : NamesOfDll) (exports : List ExportView) (cause : Cause) → names ≡ names_for Msvc d → exports ≡ d.exports → library ≡ held_by (kept_definition machine d) machine Msvc
       → AreListsOf library.definition library.machine lists → cause ≡ MemberTooLong
       → list_any is_too_long (flat_map (export_as_unless_private machine names) exports) ≡ true
       → export_as_refusal (renamed d) machine ≡ Some cause
   too_long_refused library lists names exports cause named exports_are held lists_of is long =
-      let library_is : library ≡ record { definition = kept_definition (renamed d); machine = machine; flavor = Msvc } =
-      held ∙ ap (λ (x : DefinitionView). record { definition = x; machine = machine; flavor = Msvc }) (kept_renamed d) in
+      let library_is : library ≡ record { definition = kept_definition machine (renamed d); machine = machine; flavor = Msvc } =
+      held ∙ ap (λ (x : DefinitionView). record { definition = x; machine = machine; flavor = Msvc }) (kept_renamed machine d) in
       let are = subst (λ (l : LibraryView). AreListsOf l.definition l.machine lists) library_is lists_of in
       ap (λ o. first_of_both o (length_refusal (all_export_as_specs machine (renamed d)))) are.accepted
       ∙ ap (λ b. if b then Some MemberTooLong else None) (ap (list_any is_too_long) (sym (export_as_of_public machine (names_for Msvc d) d)) ∙ sym (same_specs names exports named exports_are) ∙ long)
@@ -244,5 +245,5 @@ handed_on P Q error (Err e) is so holds = subst (λ x. OfCause Q x) (sym is) (mo
 
 -- exports that are kept are those of the definition that is
 pub held_kept : (d : DefinitionView) (machine : MachineType) (library : LibraryView) (exports : List ExportView)
-    → library ≡ held_by (record d { exports = exports }) machine Msvc → exports ≡ map kept d.exports → library ≡ held_by (kept_definition d) machine Msvc
+    → library ≡ held_by (record d { exports = exports }) machine Msvc → exports ≡ map (kept machine) d.exports → library ≡ held_by (kept_definition machine d) machine Msvc
 held_kept d machine library exports held kept_are = held ∙ ap (λ (l : List ExportView). held_by (record d { exports = l }) machine Msvc) kept_are

@@ -101,9 +101,9 @@ read_in d machine Msvc all members made reads plain is =
 read_in d machine Gnu all members made reads plain is = tt
 
 -- without third texts the definition that is made is the one that is meant
-pub made_is : (naming : NamingView) (flavor : Flavor) (d : DefinitionView) → naming.exports_as ≡ false → definition_made naming flavor d ≡ d
-made_is naming Msvc d off = ap (λ b. if b then kept_definition d else d) off
-made_is naming Gnu d off = refl
+pub made_is : (naming : NamingView) (machine : MachineType) (flavor : Flavor) (d : DefinitionView) → naming.exports_as ≡ false → definition_made naming machine flavor d ≡ d
+made_is naming machine Msvc d off = ap (λ b. if b then kept_definition machine d else d) off
+made_is naming machine Gnu d off = refl
 
 -- and so are the members of its library
 pub specs_are : (naming : NamingView) (machine : MachineType) (flavor : Flavor) (d : DefinitionView) → naming.exports_as ≡ false
@@ -115,7 +115,7 @@ read_for : (naming : NamingView) (d : DefinitionView) (machine : MachineType) (f
     → AreMadeFor naming (renamed d) machine flavor members → naming.exports_as ≡ false
     → AllByRecursion IsPlain (public_exports (renamed d)) → LibraryReads (renamed d) machine flavor members
 read_for naming d machine flavor members made off plain =
-    let is = made_is naming flavor (renamed d) off in
+    let is = made_is naming machine flavor (renamed d) off in
     read_in d machine flavor made.all members
     (subst (λ (x : DefinitionView). AreMembersOf x machine flavor made.all) is made.made)
     (subst (λ (x : DefinitionView). ReadBack x machine flavor made.all) is made.reads)
@@ -127,8 +127,8 @@ pub made_in_order : (naming : NamingView) (d : DefinitionView) (machine : Machin
 made_in_order naming d machine members off ordered = record {
   accepted = ap (λ b. if b then export_as_refusal d machine else refusal d machine Msvc) off ∙ ordered.made.accepted;
   all = ordered.all;
-  made = subst (λ (x : DefinitionView). AreMembersOf x machine Msvc ordered.all) (sym (made_is naming Msvc d off)) ordered.made;
-  reads = subst (λ (x : DefinitionView). ReadBack x machine Msvc ordered.all) (sym (made_is naming Msvc d off)) ordered.reads;
+  made = subst (λ (x : DefinitionView). AreMembersOf x machine Msvc ordered.all) (sym (made_is naming machine Msvc d off)) ordered.made;
+  reads = subst (λ (x : DefinitionView). ReadBack x machine Msvc ordered.all) (sym (made_is naming machine Msvc d off)) ordered.reads;
   is = ordered.is ∙ sym (ap (map member_of) (specs_are naming machine Msvc d off));
 }
 
@@ -151,8 +151,8 @@ made_with_texts naming d machine members on made = record {
       ap (λ b. if b then export_as_refusal d machine else refusal d machine Msvc) on
       ∙ ap (λ o. first_of_both o (length_refusal (all_export_as_specs machine d))) made.made.accepted ∙ made.fit;
   all = made.all;
-  made = subst (λ (x : DefinitionView). AreMembersOf x machine Msvc made.all) (sym (ap (λ b. if b then kept_definition d else d) on)) made.made;
-  reads = subst (λ (x : DefinitionView). ReadBack x machine Msvc made.all) (sym (ap (λ b. if b then kept_definition d else d) on)) made.reads;
+  made = subst (λ (x : DefinitionView). AreMembersOf x machine Msvc made.all) (sym (ap (λ b. if b then kept_definition machine d else d) on)) made.made;
+  reads = subst (λ (x : DefinitionView). ReadBack x machine Msvc made.all) (sym (ap (λ b. if b then kept_definition machine d else d) on)) made.reads;
   is = made.is ∙ sym (ap (λ b. map member_of (if b then export_as_library machine d else library_specs d machine Msvc)) on);
 }
 

@@ -12,7 +12,7 @@ use Rattle.implib_rules.specs.declared.plain.Before.TheVariants.{LineStart, Name
 use Rattle.implib_rules.specs.declared.plain.Decimal.{Decimal}
 use Rattle.implib_rules.specs.declared.plain.Reading.{Reading}
 use Rattle.implib_rules.specs.declared.plain.Step.{Step}
-use Rattle.implib_rules.specs.Plain.{after_digit, after_sign, before_line, begins_sections, begins_statement, beginning, between_step, digit_of, first_step, hex_number, ignored, is_after_name, is_closed, is_export_as, is_number_next, is_space, is_wide_space, name_step, number_step, ordinal_step, plain_from, put, step_in, step_of, word_step}
+use Rattle.implib_rules.specs.Plain.{after_digit, after_sign, as_number, as_ordinal, before_line, begins_sections, begins_statement, beginning, between_step, digit_of, first_step, hex_number, ignored, is_after_name, is_closed, is_export_as, is_number_next, is_space, is_wide_space, name_step, number_step, ordinal_step, plain_from, put, step_in, step_of, word_step}
 use Rattle.implib_rules.specs.PlainLaws.{KeepsPlaces}
 
 -- a text has as many bytes as it is made of
@@ -52,14 +52,14 @@ number_feed before b text (Some number) other = digit_feed number
 name_feed : (before : Before) (b : ℕ) (text rest : List ℕ) → is_line_feed b ≡ false → is_line_feed (name_step before b text rest).byte ≡ false
 unfolding name_step
 name_feed before b text rest other =
-    let ordinal = ordinal_step before b text (hex_number rest) in
-    let number = number_step before b text (hex_number text) in
+    let ordinal = ordinal_step before b text (as_ordinal (hex_number rest)) in
+    let number = number_step before b text (as_number before (hex_number text)) in
     let word = word_step before b text in
     let counted = if is_number_next before then number else word in
     let placed = if is_after_name before && b == 64 then ordinal else counted in
     chosen (is_after_name before && is_export_as text) (put 61 SecondSign Sign) placed refl
-    (chosen (is_after_name before && b == 64) ordinal counted (ordinal_feed before b text (hex_number rest) other)
-    (chosen (is_number_next before) number word (number_feed before b text (hex_number text) other) other))
+    (chosen (is_after_name before && b == 64) ordinal counted (ordinal_feed before b text (as_ordinal (hex_number rest)) other)
+    (chosen (is_number_next before) number word (number_feed before b text (as_number before (hex_number text)) other) other))
 
 first_feed : (before : Before) (b : ℕ) (text rest : List ℕ) → is_line_feed b ≡ false → is_line_feed (first_step before b text rest).byte ≡ false
 unfolding first_step

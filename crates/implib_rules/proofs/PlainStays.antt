@@ -7,10 +7,10 @@ use Rattle.implib.specs.Text.Token.{is_delimiter}
 use Rattle.implib_rules.specs.declared.plain.Part.TheVariants.{Between, Word, Quotes, Apostrophes, Comment, Skipped, Ended, SecondSign, Blank, Digits}
 use Rattle.implib_rules.specs.declared.plain.Part.{Part}
 use Rattle.implib_rules.specs.declared.plain.Before.{Before}
-use Rattle.implib_rules.specs.declared.plain.Before.TheVariants.{AtSign, LineStart, Name, Number, SectionStart, Sign}
+use Rattle.implib_rules.specs.declared.plain.Before.TheVariants.{AtSign, Counted, LineStart, Name, Number, SectionStart, Sign}
 use Rattle.implib_rules.specs.declared.plain.Reading.{Reading}
 use Rattle.implib_rules.specs.declared.plain.Step.{Step}
-use Rattle.implib_rules.specs.Plain.{after_all, after_number, after_sign, after_this_word, before_line, begins_sections, begins_statement, begins_word, beginning, between_step, first_step, fitting, hex_number, hex_on, ignored, is_after_name, is_blank, is_closed, is_export_as, is_line_start, is_name_next, is_number_next, is_of_word, is_program_type, is_quoted_after, is_quoted_next, is_section_line, is_section_start, is_sections, is_space, is_statement, is_system, is_wide_space, name_step, number_step, ordinal_step, plain_from, put, step_in, step_of, wants_name, wants_number, word_step}
+use Rattle.implib_rules.specs.Plain.{after_all, after_number, after_sign, after_this_word, as_number, as_ordinal, before_line, begins_sections, begins_statement, begins_word, beginning, between_step, first_step, fitting, hex_number, hex_on, ignored, is_after_name, is_blank, is_closed, is_export_as, is_line_start, is_name_next, is_number_next, is_of_word, is_program_type, is_quoted_after, is_quoted_next, is_section_line, is_section_start, is_sections, is_space, is_statement, is_system, is_wide_space, name_step, number_step, ordinal_step, plain_from, put, step_in, step_of, wants_name, wants_number, word_step}
 use Rattle.implib_rules.specs.PlainLaws.{PlainTextsStay, begins_form, begins_keyword, has_form}
 use Rattle.implib_rules.proofs.Targets.{neither}
 
@@ -34,6 +34,7 @@ plain_before LineStart = true
 plain_before Name = true
 plain_before Sign = true
 plain_before Number = true
+plain_before Counted = true
 plain_before AtSign = true
 
 -- a step keeps its byte, and reads no form after it
@@ -61,6 +62,7 @@ sign_plain LineStart = refl
 sign_plain Name = refl
 sign_plain Sign = refl
 sign_plain Number = refl
+sign_plain Counted = refl
 sign_plain AtSign = refl
 
 line_plain : (before : Before) → plain_before before ≡ true → plain_before (before_line before) ≡ true
@@ -69,6 +71,7 @@ line_plain LineStart plain = refl
 line_plain Name plain = refl
 line_plain Sign plain = refl
 line_plain Number plain = refl
+line_plain Counted plain = refl
 line_plain AtSign plain = refl
 
 number_plain : (before : Before) → plain_before (after_number before) ≡ true
@@ -77,6 +80,7 @@ number_plain LineStart = refl
 number_plain Name = refl
 number_plain Sign = refl
 number_plain Number = refl
+number_plain Counted = refl
 number_plain AtSign = refl
 
 no_section : (before : Before) → plain_before before ≡ true → is_section_start before ≡ false
@@ -85,6 +89,7 @@ no_section LineStart plain = refl
 no_section Name plain = refl
 no_section Sign plain = refl
 no_section Number plain = refl
+no_section Counted plain = refl
 no_section AtSign plain = refl
 
 either_plain : (is : Bool) (x y : Before) → plain_before x ≡ true → plain_before y ≡ true → plain_before (if is then x else y) ≡ true
@@ -162,6 +167,15 @@ no_number text none =
     let digits = take_while is_of_word (drop 2 text) in
     ap (λ is. if is && nat_lt 0 (length digits) then fitting (fold hex_on (Some (record { value = 0; power = 10 })) digits) else None) none
 
+no_next : (before : Before) → as_number before None ≡ None
+no_next SectionStart = refl
+no_next LineStart = refl
+no_next Name = refl
+no_next Sign = refl
+no_next Number = refl
+no_next Counted = refl
+no_next AtSign = refl
+
 word_stays : (before : Before) (b : ℕ) (text : List ℕ) → Stays b (word_step before b text)
 word_stays before b text = puts b Word (after_this_word before text) refl (word_plain before text)
 
@@ -169,13 +183,13 @@ name_stays : (before : Before) (b : ℕ) (text rest : List ℕ) → NoKeyword te
 unfolding name_step
 name_stays before b text rest none here after =
     let word = word_stays before b text in
-    let ordinal = ordinal_step before b text (hex_number rest) in
-    let number = number_step before b text (hex_number text) in
+    let ordinal = ordinal_step before b text (as_ordinal (hex_number rest)) in
+    let number = number_step before b text (as_number before (hex_number text)) in
     let counted = if is_number_next before then number else word_step before b text in
     let placed = if is_after_name before && b == 64 then ordinal else counted in
     second_stays (is_after_name before && is_export_as text) b (put 61 SecondSign Sign) placed (both_false (is_after_name before) (is_export_as text) (first_false (begins_word (codes "EXPORTAS") text) (is_name_next (drop 8 text)) none.export_as))
-    (either_stays (is_after_name before && b == 64) b ordinal counted (subst (λ n. Stays b (ordinal_step before b text n)) (sym after) word)
-    (either_stays (is_number_next before) b number (word_step before b text) (subst (λ n. Stays b (number_step before b text n)) (sym here) word) word))
+    (either_stays (is_after_name before && b == 64) b ordinal counted (subst (λ n. Stays b (ordinal_step before b text (as_ordinal n))) (sym after) word)
+    (either_stays (is_number_next before) b number (word_step before b text) (subst (λ n. Stays b (number_step before b text n)) (sym (ap (as_number before) here ∙ no_next before)) word) word))
 
 first_stays : (before : Before) (b : ℕ) (text rest : List ℕ) → plain_before before ≡ true → NoKeyword text → hex_number text ≡ None → hex_number rest ≡ None
     → Stays b (first_step before b text rest)

@@ -149,11 +149,11 @@ module _ (machine : MachineType) (naming : NamingView) where
 
   -- an export without a word after `==` is no alias
   plain : (all : List ExportView) (e : ExportView) → has_target e ≡ false → alias_symbol machine naming Msvc all e ≡ None
-  plain all e none = ap (λ b. if b && (not e.private && (not e.no_name && not (makes (symbol_linked machine naming e) e.alias_target))) then target_symbol machine naming all e.alias_target else None) none
+  plain all e none = ap (λ b. if b && (not e.private && (not e.no_name && not (makes machine (symbol_linked machine naming e) e.alias_target))) then target_symbol machine naming all e.alias_target else None) none
 
   -- nor adds it a target
   adds_none : (all : List ExportView) (e : ExportView) → has_target e ≡ false → adds_target machine naming all e ≡ false
-  adds_none all e none = ap (λ b. (b && (not e.private && (not e.no_name && not (makes (symbol_linked machine naming e) e.alias_target)))) && (not (is_asked machine naming all e.alias_target) && not (is_taken naming all e.alias_target))) none
+  adds_none all e none = ap (λ b. (b && (not e.private && (not e.no_name && not (makes machine (symbol_linked machine naming e) e.alias_target)))) && (not (is_asked machine naming all e.alias_target) && not (is_taken naming all e.alias_target))) none
 
   -- without a word after `==` each export is an import
   pub linked_by-plain : (all exports : List ExportView) → list_any has_target exports ≡ false → linked_by machine naming [] exports ≡ map (linked_export machine naming Msvc all) exports

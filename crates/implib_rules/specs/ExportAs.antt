@@ -30,27 +30,27 @@ import_name_export_as = 4
 abbrev pub symbol_made : ExportView → List ℕ
 symbol_made e = symbol_or_name e.symbol_name (word_of e)
 
--- a name, unless it is empty or another name type makes it of the symbol
-abbrev pub name_apart : List ℕ → Option (List ℕ) → Option (List ℕ)
-name_apart symbol None = None
-name_apart symbol (Some name) = if is_empty_text name || makes symbol name then None else Some name
+-- a name, unless it is empty or on the machine another name type makes it of the symbol
+abbrev pub name_apart : MachineType → List ℕ → Option (List ℕ) → Option (List ℕ)
+name_apart machine symbol None = None
+name_apart machine symbol (Some name) = if is_empty_text name || makes machine symbol name then None else Some name
 
 -- The name that an export, as it is linked, has as the third text of its short import, if it has one: it is public, by
 -- name and no alias, and no other name type makes the name of its symbol. For example, of a, which asks for b, it is b.
-abbrev pub exported_name : ExportView → Option (List ℕ)
-exported_name e = if e.private || (e.no_name || has_target e) then None else name_apart (symbol_made e) e.asked_name
+abbrev pub exported_name : MachineType → ExportView → Option (List ℕ)
+exported_name machine e = if e.private || (e.no_name || has_target e) then None else name_apart machine (symbol_made e) e.asked_name
 
 -- an export with such a name as an alias of that name, which has weak externals where its short import is to be
 abbrev pub kept_by : Option (List ℕ) → ExportView → ExportView
 kept_by None e = e
 kept_by (Some name) e = record e { alias_target = name; asked_name = Some (symbol_made e) }
 
-abbrev pub kept : ExportView → ExportView
-kept e = kept_by (exported_name e) e
+abbrev pub kept : MachineType → ExportView → ExportView
+kept machine e = kept_by (exported_name machine e) e
 
 -- a definition with such exports as aliases
-abbrev pub kept_definition : DefinitionView → DefinitionView
-kept_definition d = record d { exports = map kept d.exports }
+abbrev pub kept_definition : MachineType → DefinitionView → DefinitionView
+kept_definition machine d = record d { exports = map (kept machine) d.exports }
 
 -- the short import of an export with a third text, which follows the NUL of the DLL's name
 abbrev pub export_as_import : MachineType → List ℕ → ExportView → List ℕ → ShortImport
@@ -73,7 +73,7 @@ export_as_specs_by machine dll e None = []
 export_as_specs_by machine dll e (Some name) = export_as_spec machine dll e name ∷ []
 
 abbrev pub export_as_specs : MachineType → NamesOfDll → ExportView → List MemberSpec
-export_as_specs machine dll e = export_as_specs_by machine dll e (exported_name e)
+export_as_specs machine dll e = export_as_specs_by machine dll e (exported_name machine e)
 
 -- the specifications of what an export has after all imports: a short import with a third text, or the weak externals
 -- of an alias
@@ -82,7 +82,7 @@ later_specs_by machine dll e None = alias_specs machine dll.linked e
 later_specs_by machine dll e (Some name) = export_as_spec machine dll e name ∷ []
 
 abbrev pub later_specs : MachineType → NamesOfDll → ExportView → List MemberSpec
-later_specs machine dll e = later_specs_by machine dll e (exported_name e)
+later_specs machine dll e = later_specs_by machine dll e (exported_name machine e)
 
 -- the short imports with a third text of a definition, in the order of its exports
 abbrev pub all_export_as_specs : MachineType → DefinitionView → List MemberSpec
@@ -93,12 +93,12 @@ all_export_as_specs machine d = flat_map (export_as_specs machine (names_for Msv
 abbrev pub export_as_library : MachineType → DefinitionView → List MemberSpec
 export_as_library machine d =
     header_specs machine (names_for Msvc d)
-    ++ (all_import_specs machine (kept_definition d) ++ flat_map (later_specs machine (names_for Msvc d)) (public_exports d))
+    ++ (all_import_specs machine (kept_definition machine d) ++ flat_map (later_specs machine (names_for Msvc d)) (public_exports d))
 
 -- the first rule that refuses a definition whose exports may have a third text: one on names, or on lengths
 abbrev pub export_as_refusal : DefinitionView → MachineType → Option Cause
 export_as_refusal d machine =
-    first_of_both (refusal (kept_definition d) machine Msvc) (length_refusal (all_export_as_specs machine d))
+    first_of_both (refusal (kept_definition machine d) machine Msvc) (length_refusal (all_export_as_specs machine d))
 
 -- The members are those of a definition whose exports may have a third text, in order.
 pub record IsExportAsLibrary (d : DefinitionView) (machine : MachineType) (members : List MemberView) : Type 0 where
@@ -106,15 +106,15 @@ pub record IsExportAsLibrary (d : DefinitionView) (machine : MachineType) (membe
   pub fit : length_refusal (all_export_as_specs machine d) ≡ None
   -- all members of the definition with aliases in their place, which is not refused
   pub all : List MemberView
-  pub made : AreMembersOf (kept_definition d) machine Msvc all
-  pub reads : ReadBack (kept_definition d) machine Msvc all
+  pub made : AreMembersOf (kept_definition machine d) machine Msvc all
+  pub reads : ReadBack (kept_definition machine d) machine Msvc all
   -- those of the library
   pub is : members ≡ map member_of (export_as_library machine d)
 
 -- the definition whose members are made for a flavour: an export with a third text is an alias there
-abbrev pub definition_made : NamingView → Flavor → DefinitionView → DefinitionView
-definition_made naming Msvc d = if naming.exports_as then kept_definition d else d
-definition_made naming Gnu d = d
+abbrev pub definition_made : NamingView → MachineType → Flavor → DefinitionView → DefinitionView
+definition_made naming machine Msvc d = if naming.exports_as then kept_definition machine d else d
+definition_made naming machine Gnu d = d
 
 -- the members of the library of a definition
 abbrev pub specs_made : NamingView → MachineType → Flavor → DefinitionView → List MemberSpec
@@ -133,8 +133,8 @@ pub record AreMadeFor (naming : NamingView) (d : DefinitionView) (machine : Mach
   pub accepted : refusal_made naming machine flavor d ≡ None
   -- all members of the definition that is made
   pub all : List MemberView
-  pub made : AreMembersOf (definition_made naming flavor d) machine flavor all
-  pub reads : ReadBack (definition_made naming flavor d) machine flavor all
+  pub made : AreMembersOf (definition_made naming machine flavor d) machine flavor all
+  pub reads : ReadBack (definition_made naming machine flavor d) machine flavor all
   -- those of the library
   pub is : members ≡ map member_of (specs_made naming machine flavor d)
 
@@ -192,7 +192,7 @@ later_by machine dll e (Some name) =
     record { has_code = has_code e; instead = Some (member_of (export_as_spec machine dll e name)) } ∷ []
 
 abbrev pub later_of : MachineType → NamesOfDll → ExportView → List LaterView
-later_of machine dll e = later_by machine dll e (exported_name e)
+later_of machine dll e = later_by machine dll e (exported_name machine e)
 
 -- the same of an export under whichever name, which is passed over if it is private
 abbrev pub later_unless_private : MachineType → NamesOfDll → ExportView → List LaterView

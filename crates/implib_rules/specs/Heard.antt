@@ -2,9 +2,14 @@
 use Rattle.std.specs.Prelude.{◌≡◌, ℕ, ◌+◌, ◌<◌, List, Option, None, Some, get_or, length, map}
 use Rattle.implib.specs.Text.Heard.{Heard, names_of}
 use Rattle.implib.specs.Text.Token.{TokenView}
+use Rattle.std.specs.Option.{option_map}
 use Rattle.std.specs.String.{string_bytes}
 use Rattle.implib_rules.specs.declared.name.FirstHeading.{FirstHeading}
+use Rattle.implib_rules.specs.declared.form.FirstMisplaced.{FirstMisplaced}
+use Rattle.implib_rules.specs.declared.form.Misplaced.{Misplaced as Kept}
+use Rattle.implib_rules.specs.declared.form.DefinitionHeard.{DefinitionHeard}
 use Rattle.implib_rules.specs.declared.places.NameOffset.{NameOffset}
+use Rattle.implib_rules.specs.Forms.{Formed, Misplaced, formed_by_all}
 use Rattle.implib_rules.specs.Names.{Headed, headed_by_all}
 use Rattle.implib_rules.specs.declared.places.Places.{Places}
 use Rattle.implib_rules.specs.Places.{walked}
@@ -31,3 +36,20 @@ headed_view h = record { opened = h.opened; name = string_bytes h.name; is_progr
 -- unless an allocation failed, this is known of the headings among the tokens
 abbrev pub HasHeading : FirstHeading → FirstHeading → List Heard → Type 0
 HasHeading start heading heard = heading.failure ≡ None → headed_view heading ≡ headed_by_all heard
+
+-- the views of a wrong word, and of a listener for the first
+abbrev pub misplaced_view : Kept → Misplaced
+misplaced_view m = record { problem = m.problem; word = string_bytes m.word; at = m.at }
+
+abbrev pub formed_view : FirstMisplaced → Formed
+formed_view f = record { point = f.point; misplaced = option_map misplaced_view f.misplaced }
+
+-- the text is the one of the start and, unless an allocation failed, this is known of its tokens
+pub record HasForm (start form : FirstMisplaced) (heard : List Heard) : Type 0 where
+  pub text : form.text.now ≡ start.text.now
+  pub formed : form.failure ≡ None → formed_view form ≡ formed_by_all start.text.now heard
+
+-- both is known of a definition's tokens
+pub record HasDefinition (start both : DefinitionHeard) (heard : List Heard) : Type 0 where
+  pub heading : HasHeading start.heading both.heading heard
+  pub form : HasForm start.form both.form heard

@@ -9,6 +9,7 @@ pub mod LibraryName
 pub mod Order
 pub mod ExportAs
 pub mod Plain
+pub mod Forms
 pub mod Library
 pub mod Older
 pub mod Exports
@@ -30,5 +31,6 @@ pub mod BothFlavors
 pub mod WorkedLibraryNames
 pub mod WorkedExports
 pub mod WorkedPlain
+pub mod WorkedForms
 pub mod WorkedTextWarnings
 pub mod PlainLaws

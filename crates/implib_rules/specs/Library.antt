@@ -36,6 +36,7 @@ use Rattle.implib_rules.specs.LibraryName.{with_library_name}
 use Rattle.implib_rules.specs.Linked.{linked}
 use Rattle.implib_rules.specs.Names.{dll_name, is_program, lacks_name, own_name}
 use Rattle.implib_rules.specs.ExportAs.{AreMadeFor, refusal_made}
+use Rattle.implib_rules.specs.Forms.{IsFormed, IsMisplacedAt, IsOpenAt, open_quote}
 use Rattle.implib_rules.specs.Order.{LibraryReads}
 use Rattle.implib_rules.specs.Places.{IsAtFault}
 use Rattle.implib_rules.specs.Plain.{plain_text}
@@ -76,6 +77,8 @@ pub record DefinitionFor (text : List ℕ) (options : LibraryOptionsView) (defin
   pub parses : Parses text AMD64 parsed
   pub heard : List Heard
   pub is_heard : IsHeard text heard
+  -- its quotes are closed in their lines, and its ordinals are ordinals
+  pub formed : IsFormed text heard
   pub named : lacks_name options.dll (own_name heard) ≡ false
   pub is : definition ≡ definition_for options parsed (own_name heard) (is_program heard)
 
@@ -85,13 +88,20 @@ pub record LacksName (text : List ℕ) (options : LibraryOptionsView) : Type 0 w
   pub parses : Parses text AMD64 parsed
   pub heard : List Heard
   pub is_heard : IsHeard text heard
+  pub formed : IsFormed text heard
   pub unnamed : lacks_name options.dll (own_name heard) ≡ true
+
+-- a syntax error of a text: a quote that its line does not close; else the parser's; else a wrong ordinal
+abbrev pub IsSyntaxErrorAt : List ℕ → Cause → Position → Type 0
+IsSyntaxErrorAt text cause position =
+    IsOpenAt text cause position
+    ⊎ (((open_quote text ≡ None) × (RefusesAt text cause position.offset × (position ≡ position_at text position.offset)))
+    ⊎ IsMisplacedAt text cause position)
 
 -- why a text has no definition for these options
 abbrev pub IsRefusalOfText : List ℕ → LibraryOptionsView → Refusal → Type 0
 IsRefusalOfText text options (NotUtf8 position) = ⊥
-IsRefusalOfText text options (Syntax fault position) =
-    RefusesAt text (cause_of fault) position.offset × (position ≡ position_at text position.offset)
+IsRefusalOfText text options (Syntax fault position) = IsSyntaxErrorAt text (cause_of fault) position
 IsRefusalOfText text options NoName = LacksName text options
 IsRefusalOfText text options (Members fault position) = ⊥
 IsRefusalOfText text options (Archive fault) = ⊥

@@ -126,12 +126,14 @@ AsksAsLinked =
     (machine : MachineType) (naming : NamingView) (e : ExportView)
     → name_asked machine (linked_import machine naming e) ≡ export_asked machine naming e
 
--- Whether a name type, which is name, no prefix or undecorate, makes a name of the symbol. For example, of
--- `_f@8` they make `_f@8`, `f@8` and f.
-abbrev pub makes : List ℕ → List ℕ → Bool
-makes symbol name =
+-- Whether a name type, which is name, no prefix or undecorate, makes a name of the symbol, whichever linker reads it.
+-- For example, on I386 they make `_f@8`, `f@8` and f of `_f@8`. On other machines, where linkers do not take off the
+-- same prefixes, only name is used.
+abbrev pub makes : MachineType → List ℕ → List ℕ → Bool
+makes machine symbol name =
     bytes_eq symbol name
-    || (bytes_eq (without_prefix symbol) name || bytes_eq (before_at_sign (without_prefix symbol)) name)
+    || (has_leading_underscore machine
+    && (bytes_eq (without_prefix symbol) name || bytes_eq (before_at_sign (without_prefix symbol)) name))
 
 -- whether an export has a word after `==`
 abbrev pub has_target : ExportView → Bool
@@ -139,12 +141,13 @@ has_target e = not (is_empty_text e.alias_target)
 
 -- Whether an export of this symbol cannot be an import by name for Microsoft's linker: it has a word after `==`
 -- that no name type makes of the symbol. One that is private is left out, and one by ordinal asks for no name.
-abbrev pub asks_apart : List ℕ → ExportView → Bool
-asks_apart symbol e = has_target e && (not e.private && (not e.no_name && not (makes symbol e.alias_target)))
+abbrev pub asks_apart : MachineType → List ℕ → ExportView → Bool
+asks_apart machine symbol e =
+    has_target e && (not e.private && (not e.no_name && not (makes machine symbol e.alias_target)))
 
 -- whether an export cannot be an import by name for Microsoft's linker
 abbrev pub is_apart : MachineType → NamingView → ExportView → Bool
-is_apart machine naming e = asks_apart (symbol_linked machine naming e) e
+is_apart machine naming e = asks_apart machine (symbol_linked machine naming e) e
 
 -- whether Microsoft's linker imports an export by name: it is not private, not by ordinal, and not apart
 abbrev pub is_named_import : MachineType → NamingView → ExportView → Bool

@@ -7,7 +7,7 @@ use Rattle.std.specs.List.{fold, starts_with}
 use Rattle.implib.specs.Ascii.{begins}
 use Rattle.implib.specs.Text.Token.{is_delimiter}
 use Rattle.implib_rules.specs.declared.plain.Before.{Before}
-use Rattle.implib_rules.specs.declared.plain.Before.TheVariants.{LineStart, SectionStart, Name, Sign, Number, AtSign}
+use Rattle.implib_rules.specs.declared.plain.Before.TheVariants.{LineStart, SectionStart, Name, Sign, Number, Counted, AtSign}
 use Rattle.implib_rules.specs.declared.plain.Decimal.{Decimal}
 use Rattle.implib_rules.specs.declared.plain.Part.{Part}
 use Rattle.implib_rules.specs.declared.plain.Part.TheVariants.{Between, Word, Quotes, Apostrophes, Comment, Skipped, Ended, SecondSign, Blank, Digits}
@@ -129,6 +129,11 @@ hex_number text =
     if starts_with nat_eq text (codes "0x") && nat_lt 0 (length (take_while is_of_word (drop 2 text)))
     then fitting (fold hex_on (Some (record { value = 0; power = 10 })) (take_while is_of_word (drop 2 text))) else None
 
+-- a number that is an ordinal: of 16 bits
+abbrev pub as_ordinal : Option Decimal → Option Decimal
+as_ordinal None = None
+as_ordinal (Some number) = if nat_lt number.value 65536 then Some number else None
+
 -- ---- where in a line a byte stands
 
 -- what stands before the next line: the lines of SECTIONS may go on after it
@@ -154,18 +159,24 @@ is_after_name _ = false
 -- a word that a number follows, or a number of several, is before this, in the line
 abbrev pub is_after_number : Before → Bool
 is_after_number Number = true
+is_after_number Counted = true
 is_after_number _ = false
 
--- a number may be next: one of a keyword's, or an ordinal after a lone `@`
+-- a number may be next: one of a keyword's, or an ordinal after a lone `@`; after a number a sign comes first
 abbrev pub is_number_next : Before → Bool
 is_number_next Number = true
 is_number_next AtSign = true
 is_number_next _ = false
 
--- after a number: after an ordinal what follows a name, and else further numbers
+-- a number that may be next: an ordinal after a lone `@`
+abbrev pub as_number : Before → Option Decimal → Option Decimal
+as_number AtSign number = as_ordinal number
+as_number _ number = number
+
+-- after a number: after an ordinal what follows a name, and else a sign and further numbers
 abbrev pub after_number : Before → Before
 after_number AtSign = Name
-after_number _ = Number
+after_number _ = Counted
 
 -- after a sign
 abbrev pub after_sign : Before → Before
@@ -225,8 +236,8 @@ number_step before b text (Some number) = put (digit_of number) (Digits (after_d
 unfoldable pub name_step : Before → ℕ → List ℕ → List ℕ → Step
 name_step before b text rest =
     if is_after_name before && is_export_as text then put 61 SecondSign Sign
-    else if is_after_name before && b == 64 then ordinal_step before b text (hex_number rest)
-    else if is_number_next before then number_step before b text (hex_number text)
+    else if is_after_name before && b == 64 then ordinal_step before b text (as_ordinal (hex_number rest))
+    else if is_number_next before then number_step before b text (as_number before (hex_number text))
     else word_step before b text
 
 -- a statement of one line, at the beginning of a line

@@ -94,6 +94,10 @@ pub data NoticeView : Type 0 where
   EndsEarly : NoticeView
   -- the word begins a statement elsewhere, or names what an export asks for, and is a name here
   StandsAlone : List ℕ → NoticeView
+  -- an attribute stands behind the name of EXPORTAS
+  IsLate : List ℕ → NoticeView
+  -- a name begins as a comment of other tools
+  IsCommentLike : List ℕ → NoticeView
 
 -- the view of a notice of the program
 abbrev pub notice_view : Notice → NoticeView
@@ -110,6 +114,8 @@ notice_view notice.SecondHeading = IsSecondHeading
 notice_view notice.Skipped = IsSkipped
 notice_view notice.EndsEarly = EndsEarly
 notice_view (notice.StandsAlone word) = StandsAlone word.now
+notice_view (notice.Late word) = IsLate word.now
+notice_view (notice.CommentLike word) = IsCommentLike word.now
 
 -- a warning: what it says, and where it is
 pub record WarningView : Type 0 where

@@ -3,7 +3,7 @@
 use Rattle.std.specs.Prelude.{◌≡◌, ℕ, ◌<◌, ◌≤◌, ◌^◌, List, [], ◌∷◌, true, false, None, Some, codes, drop, map}
 use Rattle.implib.specs.declared.flavor.Flavor.TheVariants.{Msvc}
 use Rattle.implib.specs.declared.machine.MachineType.{MachineType}
-use Rattle.implib.specs.declared.machine.MachineType.TheVariants.{I386, AMD64}
+use Rattle.implib.specs.declared.machine.MachineType.TheVariants.{I386, ARMNT, AMD64, ARM64}
 use Rattle.implib.specs.Definition.{DefinitionView, ExportView, empty_definition}
 use Rattle.implib.specs.Fault.{EmptyAskedName, NoNameType}
 use Rattle.implib.specs.Import.{Name, holds, import_symbols}
@@ -73,19 +73,23 @@ pub record ExportAsWorked : Type 0 where
       ∷ 0x5F ∷ 0x66 ∷ 0 ∷ 0x66 ∷ 0x6F ∷ 0x6F ∷ 0x2E ∷ 0x64 ∷ 0x6C ∷ 0x6C ∷ 0 ∷ 0x67 ∷ 0 ∷ [])
       ∷ []
   -- no third text for a name that another name type makes, for an empty one, for an ordinal, for an alias
-  pub by_name : exported_name (record (line (codes "_f@4") []) { asked_name = Some (codes "f@4") }) ≡ None
-  pub undecorated : exported_name (record (line (codes "_f@4") []) { asked_name = Some (codes "f") }) ≡ None
-  pub other : exported_name (record (line (codes "_f@4") []) { asked_name = Some (codes "_f") }) ≡ Some (codes "_f")
-  pub symbol_named : exported_name (record (line (codes "g") []) { symbol_name = codes "_f@4"; asked_name = Some (codes "f") }) ≡ None
-  pub empty_name : exported_name (record (line (codes "f") []) { asked_name = Some [] }) ≡ None
-  pub by_ordinal : exported_name (record (line (codes "f") []) { asked_name = Some (codes "g"); no_name = true }) ≡ None
-  pub alias : exported_name (record (line (codes "f") (codes "h")) { asked_name = Some (codes "g") }) ≡ None
+  pub by_name : exported_name I386 (record (line (codes "_f@4") []) { asked_name = Some (codes "f@4") }) ≡ None
+  pub undecorated : exported_name I386 (record (line (codes "_f@4") []) { asked_name = Some (codes "f") }) ≡ None
+  pub other : exported_name I386 (record (line (codes "_f@4") []) { asked_name = Some (codes "_f") }) ≡ Some (codes "_f")
+  pub symbol_named : exported_name I386 (record (line (codes "g") []) { symbol_name = codes "_f@4"; asked_name = Some (codes "f") }) ≡ None
+  -- on other machines than I386 no name type cuts, so that such a name is a third text
+  pub uncut_on_armnt : exported_name ARMNT (record (line (codes "__f") []) { asked_name = Some (codes "_f") }) ≡ Some (codes "_f")
+  pub uncut_on_amd64 : exported_name AMD64 (record (line (codes "__f") []) { asked_name = Some (codes "_f") }) ≡ Some (codes "_f")
+  pub uncut_on_arm64 : exported_name ARM64 (record (line (codes "f@8") []) { asked_name = Some (codes "f") }) ≡ Some (codes "f")
+  pub empty_name : exported_name AMD64 (record (line (codes "f") []) { asked_name = Some [] }) ≡ None
+  pub by_ordinal : exported_name AMD64 (record (line (codes "f") []) { asked_name = Some (codes "g"); no_name = true }) ≡ None
+  pub alias : exported_name AMD64 (record (line (codes "f") (codes "h")) { asked_name = Some (codes "g") }) ≡ None
   -- without the option the same name is refused, and an empty one is with it
   pub refused : refusal_made (record exporting { exports_as = false }) AMD64 Msvc (record empty_definition {
     import_name = codes "foo.dll";
     exports = record (line (codes "f") []) { asked_name = Some (codes "g") } ∷ [];
   }) ≡ Some (NoNameType 0)
-  pub accepted : definition_names_refusal (definition_made exporting Msvc (record empty_definition {
+  pub accepted : definition_names_refusal (definition_made exporting AMD64 Msvc (record empty_definition {
     import_name = codes "foo.dll";
     exports = record (line (codes "f") []) { asked_name = Some (codes "g") } ∷ [];
   })) AMD64 Msvc ≡ None

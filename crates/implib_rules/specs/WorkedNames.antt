@@ -156,6 +156,15 @@ pub record AliasesLinked : Type 0 where
       ≡ an_import (codes "_X@4") (codes "X") ∷ []
   pub not_undecorated : linked_exports I386 usual Msvc (line (codes "X@4") (codes "_X") ∷ [])
       ≡ an_alias (codes "_X@4") (codes "__X") ∷ an_import (codes "__X") (codes "_X") ∷ []
+  -- a name type cuts on I386 alone; on other machines `__f` is weak for the import of `_f`
+  pub cut_on_i386 : linked_exports I386 plain Msvc (line (codes "__f") (codes "_f") ∷ [])
+      ≡ an_import (codes "__f") (codes "_f") ∷ []
+  pub uncut_on_armnt : linked_exports ARMNT usual Msvc (line (codes "__f") (codes "_f") ∷ [])
+      ≡ an_alias (codes "__f") (codes "_f") ∷ an_import (codes "_f") (codes "_f") ∷ []
+  pub uncut_on_amd64 : linked_exports AMD64 usual Msvc (line (codes "__f") (codes "_f") ∷ [])
+      ≡ an_alias (codes "__f") (codes "_f") ∷ an_import (codes "_f") (codes "_f") ∷ []
+  pub uncut_on_arm64 : linked_exports ARM64 usual Msvc (line (codes "f@8") (codes "f") ∷ [])
+      ≡ an_alias (codes "f@8") (codes "f") ∷ an_import (codes "f") (codes "f") ∷ []
   pub as_symbol : linked_exports I386 usual Msvc (line (codes "swab") (codes "_swab") ∷ [])
       ≡ an_import (codes "_swab") (codes "_swab") ∷ []
   pub by_ordinal : linked_exports AMD64 usual Msvc

@@ -47,24 +47,24 @@ fn symbol_made(export: &ShortExport) -> &str
 
 /// The name that an export, as it is linked, has as the third text of its short import, if it has
 /// one: no other name type makes it of the symbol.
-pub(crate) fn exported_name(export: &ShortExport) -> Option<&str>
-    ensures { option_map (λ name. name.now) result ≡ exported_name (export_view export.now) }
+pub(crate) fn exported_name(machine: MachineType, export: &ShortExport) -> Option<&str>
+    ensures { option_map (λ name. name.now) result ≡ exported_name machine (export_view export.now) }
 {
     if export.private || export.no_name || !export.alias_target.is_empty() {
         return None;
     }
     let name = export.asked_name.as_ref()?.as_str();
-    if name.is_empty() || makes(symbol_made(export).as_bytes(), name.as_bytes()) {
+    if name.is_empty() || makes(machine, symbol_made(export).as_bytes(), name.as_bytes()) {
         return None;
     }
     Some(name)
 }
 
 // Makes an export that has such a name an alias of the name.
-fn keep(alloc: Global, export: &mut ShortExport) -> Result<(), AllocError>
-    ensures { OnOk result (export_view export.new ≡ kept (export_view export.old)) }
+fn keep(alloc: Global, machine: MachineType, export: &mut ShortExport) -> Result<(), AllocError>
+    ensures { OnOk result (export_view export.new ≡ kept machine (export_view export.old)) }
 {
-    let Some(name) = exported_name(export) else {
+    let Some(name) = exported_name(machine, export) else {
         return Ok(());
     };
     let target = String::from_str(alloc, name)?;
@@ -80,12 +80,16 @@ fn keep(alloc: Global, export: &mut ShortExport) -> Result<(), AllocError>
 /// # Errors
 ///
 /// An allocation failed; then some exports may be as they were.
-pub(crate) fn keep_exports(alloc: Global, exports: &mut Vec<ShortExport>) -> Result<(), AllocError>
+pub(crate) fn keep_exports(
+    alloc: Global,
+    machine: MachineType,
+    exports: &mut Vec<ShortExport>,
+) -> Result<(), AllocError>
     ensures { OnOk result (map export_view exports.new.items
-        ≡ map kept (map export_view exports.old.items)) }
+        ≡ map (kept machine) (map export_view exports.old.items)) }
 {
     for export in exports.iter_mut() {
-        keep(alloc, export)?;
+        keep(alloc, machine, export)?;
     }
     Ok(())
 }
@@ -177,7 +181,7 @@ fn later_of(
         (record { linked = linked.now; text = dll.now }) (export_view export.now)) ≡ true)) }
 {
     let has_code = !export.is_data && !export.constant;
-    match exported_name(export) {
+    match exported_name(machine, export) {
         Some(name) => {
             let member = export_as_member(alloc, machine, linked, dll, export, name)?;
             Ok(Some(Later {

@@ -20,6 +20,7 @@ ghost use Rattle.implib_rules.specs.WorkedNames.{AliasesLinked, DllsNamed, Expor
 ghost use Rattle.implib_rules.specs.WorkedNames.{MachinesNamed, MembersInOrder};
 ghost use Rattle.implib_rules.specs.PlainLaws.{PlacesAreKept, PlainTextsStay};
 ghost use Rattle.implib_rules.specs.Utf8.{TextsAreNotUtf8Once};
+ghost use Rattle.implib_rules.specs.WorkedForms.{MalformedWorked};
 ghost use Rattle.implib_rules.specs.WorkedPlain.{FormsWorked, PlainTextsWorked};
 ghost use Rattle.implib_rules.specs.WorkedTextWarnings.{TextWarningsWorked};
 ghost use Rattle.implib_rules.specs.WorkedUtf8.{BytesFound};
@@ -164,6 +165,11 @@ pub fn plain_texts_worked()
 /// The forms of definitions have the warnings that were worked by hand.
 pub fn text_warnings_worked()
     ensures { TextWarningsWorked }
+{}
+
+/// Quotes are not closed in their lines, and ordinals are wrong, where it was worked by hand.
+pub fn malformed_worked()
+    ensures { MalformedWorked }
 {}
 
 /// What options add to exports is as was worked by hand.

@@ -13,6 +13,7 @@ pub mod aliases;
 pub mod export_as;
 pub mod exports;
 pub mod firsts;
+pub mod form;
 pub mod laws;
 pub mod library;
 pub mod library_name;

@@ -20,12 +20,14 @@ ghost use Rattle.implib_rules.specs.Names.{lacks_name};
 ghost use Rattle.implib_rules.specs.Older.{AreMadeWith, AreOlderMade, IsRefusalOfAsked};
 ghost use Rattle.implib_rules.specs.Older.{MembersAsked, has_older, refusal_with};
 ghost use Rattle.implib_rules.specs.Order.{AreInOrder};
-ghost use Rattle.implib_rules.specs.Options.{library_options_view};
+ghost use Rattle.implib_rules.specs.Forms.{open_quote};
+ghost use Rattle.implib_rules.specs.Options.{LibraryOptionsView, library_options_view};
 ghost use Rattle.std.specs.Prelude.{◌≡◌, ◌⊎◌, IfErr, IfOk, MatchOption, None, OnOk, Some, false, true};
 
 use crate::additions::extend_exports;
 use crate::aliases::link_with_targets;
 use crate::export_as::{keep_exports, laters_of, place};
+use crate::form::{DefinitionHeard, FirstMisplaced, open_quote};
 use crate::library_name::library_name_for;
 use crate::linked::Naming;
 use crate::members::{LibraryMembers, MadeLater};
@@ -34,6 +36,7 @@ use crate::options::LibraryOptions;
 use crate::places::position_of_fault;
 use crate::repeats::leave_out_repeats;
 use crate::text::DefinitionText;
+use implib::def::lexer::TokenKind;
 use implib::def::{ModuleDef, Position};
 use implib::gnu::{GnuImportLibrary, GnuMembers};
 use implib::msvc::{MemberLists, MsvcImportLibrary, linked_dll};
@@ -185,13 +188,33 @@ pub(crate) fn by_rules(
     Ok(Some(def))
 }
 
+/// Whether each quoted name of a text is closed in its line.
+///
+/// # Errors
+///
+/// One is not: where the first such quote is.
+pub fn test_quotes(text: &str) -> Result<(), Refusal>
+    ensures closed { OnOk result (open_quote text.now ≡ None) }
+    ensures open { IfErr result (λ refusal. (options : LibraryOptionsView)
+        → IsRefusalOfText text.now options refusal) }
+{
+    match open_quote(text.as_bytes()) {
+        Some(offset) => {
+            let fault = Fault::ExpectedIdentifier(TokenKind::Unknown);
+            Err(Refusal::Syntax(fault, Position::at(text, offset)))
+        }
+        None => Ok(()),
+    }
+}
+
 /// The definition that a text means for a DLL of the name that is given, or of its own: of the
 /// exports of one word the first alone, each as it is linked on the machine, and with the name of
 /// its library for the linker.
 ///
 /// # Errors
 ///
-/// A syntax error; else that no name is given.
+/// A quote that its line does not close; else a syntax error; else an ordinal that is none, or a
+/// second one of an export; else that no name is given.
 pub fn definition_for(
     alloc: Global,
     text: &str,
@@ -201,10 +224,21 @@ pub fn definition_for(
         (λ def. DefinitionFor text.now (library_options_view options.now) (definition_view def)) }
     ensures refused { IfErr result (IsRefusalOfText text.now (library_options_view options.now)) }
 {
+    if let Err(refusal) = test_quotes(text) {
+        return Err(refusal);
+    }
     // The words are read as they are written, as on a machine without an underscore.
-    let mut heading = FirstHeading::new(alloc);
-    let def = ModuleDef::parse_with(alloc, text, MachineType::AMD64, &mut heading)?;
+    let mut heard = DefinitionHeard {
+        heading: FirstHeading::new(alloc),
+        form: FirstMisplaced::new(alloc, text),
+    };
+    let def = ModuleDef::parse_with(alloc, text, MachineType::AMD64, &mut heard)?;
+    let DefinitionHeard { heading, form } = heard;
     let (own, is_program) = heading.finish()?;
+    if let Some(misplaced) = form.finish()? {
+        let position = Position::at(text, misplaced.at);
+        return Err(Refusal::Syntax(misplaced.fault(), position));
+    }
     match by_rules(alloc, def, own.as_str(), is_program, options)? {
         Some(def) => Ok(def),
         None => Err(Refusal::NoName),
@@ -248,7 +282,7 @@ fn msvc_members_exported_as(
         def.import_name.as_str(),
         def.exports.as_slice(),
     );
-    keep_exports(alloc, &mut def.exports)?;
+    keep_exports(alloc, machine, &mut def.exports)?;
     let lists = MsvcImportLibrary::new(def, machine).into_member_lists()?;
     let MemberLists {
         header,

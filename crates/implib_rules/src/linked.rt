@@ -154,23 +154,27 @@ pub fn symbol_linked(
     symbol_of(alloc, machine, naming, word_of(export))
 }
 
-// Whether a name type makes a name of the symbol.
-pub(crate) fn makes(symbol: &[u8], name: &[u8]) -> bool
-    ensures { result ≡ makes symbol.now name.now }
+// Whether a name type makes a name of the symbol, whichever linker reads it: one that cuts does on
+// I386 alone.
+pub(crate) fn makes(machine: MachineType, symbol: &[u8], name: &[u8]) -> bool
+    ensures { result ≡ makes machine symbol.now name.now }
 {
+    if symbol == name {
+        return true;
+    }
     let plain = without_prefix(symbol);
-    symbol == name || plain == name || before_at_sign(plain) == name
+    machine.has_leading_underscore() && (plain == name || before_at_sign(plain) == name)
 }
 
 // Whether an export of this symbol cannot be an import by name for Microsoft's linker: it has a word
 // after `==` that no short import of the symbol can ask for.
-fn asks_apart(symbol: &str, export: &ShortExport) -> bool
-    ensures { result ≡ asks_apart symbol.now (export_view export.now) }
+fn asks_apart(machine: MachineType, symbol: &str, export: &ShortExport) -> bool
+    ensures { result ≡ asks_apart machine symbol.now (export_view export.now) }
 {
     !export.alias_target.is_empty()
         && !export.private
         && !export.no_name
-        && !makes(symbol.as_bytes(), export.alias_target.as_bytes())
+        && !makes(machine, symbol.as_bytes(), export.alias_target.as_bytes())
 }
 
 /// Whether an export cannot be an import by name for Microsoft's linker.
@@ -191,7 +195,7 @@ pub fn is_apart(
         return Ok(false);
     }
     let symbol = symbol_linked(alloc, machine, naming, export)?;
-    Ok(asks_apart(symbol.as_str(), export))
+    Ok(asks_apart(machine, symbol.as_str(), export))
 }
 
 /// Whether Microsoft's linker imports an export by name.

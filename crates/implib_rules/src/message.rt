@@ -17,7 +17,8 @@ struct Written(TokenKind);
 impl fmt::Display for Written {
     fn fmt<W: fmt::Write>(&self, f: &mut fmt::Formatter<W>) -> fmt::Result {
         f.write_str(match self.0 {
-            TokenKind::Unknown => "something unknown",
+            // The lexer gives no such token: it is a quote without its end.
+            TokenKind::Unknown => "a quote that its line does not close",
             TokenKind::Eof => "the end of the file",
             TokenKind::Identifier => "a name",
             TokenKind::Comma => "`,`",

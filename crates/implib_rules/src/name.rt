@@ -14,7 +14,7 @@ use implib::def::listener::{Listener, Role};
 use std::alloc::{AllocError, Global};
 
 // Whether a token is a word that may be a name.
-fn is_identifier(kind: TokenKind) -> bool
+pub(crate) fn is_identifier(kind: TokenKind) -> bool
     ensures { result ≡ is_identifier kind }
 {
     match kind {

@@ -3,7 +3,7 @@
 
 ghost use Rattle.implib.specs.Ascii.{begins};
 ghost use Rattle.implib_rules.specs.Plain.{after_all, after_digit, after_number, after_sign};
-ghost use Rattle.implib_rules.specs.Plain.{after_this_word};
+ghost use Rattle.implib_rules.specs.Plain.{after_this_word, as_number, as_ordinal};
 ghost use Rattle.implib_rules.specs.Plain.{begins_sections, begins_statement};
 ghost use Rattle.implib_rules.specs.Plain.{before_line, begins_word, beginning, between_step};
 ghost use Rattle.implib_rules.specs.Plain.{digit_of, ends_word, first_step, fitting, hex_digit};
@@ -70,8 +70,10 @@ pub enum Before {
     Name,
     /// A sign, or a keyword that a name follows.
     Sign,
-    /// A word that a number follows, or a number.
+    /// A word that a number follows, or a sign after that or after a number.
     Number,
+    /// A number of those that signs part.
+    Counted,
     /// An `@` of its own after a name, which the ordinal follows.
     AtSign,
 }
@@ -109,7 +111,7 @@ fn is_blank_or_comma(byte: u8) -> bool
 }
 
 // White space of one byte.
-fn is_space(byte: u8) -> bool
+pub(crate) fn is_space(byte: u8) -> bool
     ensures { result ≡ is_space byte }
 {
     matches!(byte, b' ' | b'\t' | b'\n' | 0x0B | 0x0C | b'\r')
@@ -140,7 +142,7 @@ fn blanks_len(text: &[u8]) -> usize
 }
 
 // A text after the blanks in front.
-fn after_blanks(text: &[u8]) -> &[u8]
+pub(crate) fn after_blanks(text: &[u8]) -> &[u8]
     ensures { result.now ≡ after_all is_blank text.now }
 {
     &text[blanks_len(text)..]
@@ -184,7 +186,7 @@ fn word_len(text: &[u8]) -> usize
 }
 
 // A text after the word in front.
-fn after_word(text: &[u8]) -> &[u8]
+pub(crate) fn after_word(text: &[u8]) -> &[u8]
     ensures { result.now ≡ after_all is_of_word text.now }
 {
     &text[word_len(text)..]
@@ -393,9 +395,12 @@ fn before_line(before: Before) -> Before
 {
     match before {
         Before::SectionStart => Before::SectionStart,
-        Before::LineStart | Before::Name | Before::Sign | Before::Number | Before::AtSign => {
-            Before::LineStart
-        }
+        Before::LineStart
+        | Before::Name
+        | Before::Sign
+        | Before::Number
+        | Before::Counted
+        | Before::AtSign => Before::LineStart,
     }
 }
 
@@ -424,7 +429,7 @@ pub(crate) fn is_after_name(before: Before) -> bool
 fn is_after_number(before: Before) -> bool
     ensures { result ≡ is_after_number before }
 {
-    matches!(before, Before::Number)
+    matches!(before, Before::Number | Before::Counted)
 }
 
 // Whether a number may be next.
@@ -441,7 +446,27 @@ fn after_number(before: Before) -> Before
     if matches!(before, Before::AtSign) {
         Before::Name
     } else {
-        Before::Number
+        Before::Counted
+    }
+}
+
+// A number, if it is an ordinal: one of 16 bits.
+fn as_ordinal(number: Option<Decimal>) -> Option<Decimal>
+    ensures { result ≡ as_ordinal number }
+{
+    match number {
+        Some(number) if number.value < 65536 => Some(number),
+        _ => None,
+    }
+}
+
+// A number, if it may be next: after a lone `@`, an ordinal.
+fn as_number(before: Before, number: Option<Decimal>) -> Option<Decimal>
+    ensures { result ≡ as_number before number }
+{
+    match before {
+        Before::AtSign => as_ordinal(number),
+        _ => number,
     }
 }
 
@@ -580,10 +605,10 @@ fn name_step(before: Before, text: &[u8], byte: u8, rest: &[u8]) -> Step
         return put(b'=', Part::SecondSign, Before::Sign);
     }
     if is_after_name(before) && byte == b'@' {
-        return ordinal_step(before, text, byte, hex_number(rest));
+        return ordinal_step(before, text, byte, as_ordinal(hex_number(rest)));
     }
     if is_number_next(before) {
-        return number_step(before, text, byte, hex_number(text));
+        return number_step(before, text, byte, as_number(before, hex_number(text)));
     }
     word_step(before, text, byte)
 }

@@ -58,6 +58,10 @@ pub enum Notice<'a> {
     EndsEarly,
     /// The word begins a statement elsewhere, or names what an export asks for, and is a name here.
     StandsAlone(&'a str),
+    /// The attribute stands behind the name of EXPORTAS, where `llvm-dlltool` refuses it.
+    Late(&'a str),
+    /// The name of an export begins as a comment of other tools.
+    CommentLike(&'a str),
 }
 
 /// A warning.
@@ -198,7 +202,7 @@ fn heading_notice<'a>(dll: Option<&str>) -> Option<Notice<'a>>
 }
 
 // That there is no export.
-fn no_export_notice<'a>(exports: &[ShortExport]) -> Option<Notice<'a>>
+pub(crate) fn no_export_notice<'a>(exports: &[ShortExport]) -> Option<Notice<'a>>
     ensures { option_map notice_view result ≡ no_export_notice (map export_view exports.now) }
 {
     if exports.is_empty() {
@@ -481,6 +485,14 @@ impl<'a> fmt::Display for NoticeMessage<'a> {
                 f,
                 "`{}` is an export's name here, not a keyword; quote it to name an export",
                 Shown(word)
+            ),
+            Notice::Late(word) => write!(
+                f,
+                "`{word}` follows the name of EXPORTAS; llvm-dlltool refuses it there"
+            ),
+            Notice::CommentLike(word) => write!(
+                f,
+                "`{word}` begins an export's name here; a comment begins with `;`"
             ),
         }
     }

@@ -1,11 +1,11 @@
 use Rattle.std.proofs.Common.{refl}
 use Rattle.implib_rules.specs.Plain.{begins_sections, begins_statement, first_step, is_system, name_step}
-use Rattle.implib_rules.specs.TextWarnings.{alone_notice, keyword_of, text_warnings_from}
+use Rattle.implib_rules.specs.TextWarnings.{alone_notice, attribute_in, comment_in, follows_exports, keyword_of, text_warnings_from}
 use Rattle.implib_rules.specs.WorkedTextWarnings.{TextWarningsWorked}
 use Rattle.implib_rules.proofs.laws.text_warnings_worked.Goals as goal
 
 worked : TextWarningsWorked
-unfolding alone_notice begins_sections begins_statement first_step is_system keyword_of name_step text_warnings_from
+unfolding alone_notice attribute_in comment_in follows_exports begins_sections begins_statement first_step is_system keyword_of name_step text_warnings_from
 worked = record {
   none = refl;
   alone = refl;
@@ -17,6 +17,17 @@ worked = record {
   ended = refl;
   ended_last = refl;
   in_a_comment = refl;
+  late = refl;
+  late_after_quotes = refl;
+  late_ordinal = refl;
+  late_constant = refl;
+  late_noname = refl;
+  not_late = refl;
+  comments = refl;
+  nothing_follows = refl;
+  comment_follows = refl;
+  export_follows = refl;
+  no_exports = refl;
   marked = refl;
 }
 
