@@ -1,4 +1,5 @@
 pub mod ArchiveParts
+pub mod CutParts
 pub mod Declarers
 pub mod Entries
 pub mod FieldNames
@@ -16,3 +17,4 @@ pub mod OwnMsvc
 pub mod OwnWorked
 pub mod OwnGnu
 pub mod OwnGnuLibrary
+pub mod Symbols

@@ -1,5 +1,5 @@
 -- The members that `implib` makes for Microsoft's linker, as this reader has them.
-use Rattle.std.proofs.Common.{arith, ◌≡◌, ◌∙◌, ℕ, ◌-◌, ◌==◌, Bool, true, false, not, ◌&&◌, List, [], ◌∷◌, ◌++◌, Option, None, Some, ap, append_assoc, bytes_eq, drop, if◌then◌else◌, length, map, nat_le, refl, sym, take, is_some}
+use Rattle.std.proofs.Common.{arith, ◌≡◌, ◌∙◌, ℕ, ◌-◌, ◌==◌, Bool, true, false, not, ◌&&◌, List, [], ◌∷◌, ◌++◌, Option, None, Some, ap, append_assoc, bytes_eq, drop, if◌then◌else◌, length, map, nat_le, refl, sym, take, is_some, ◌||◌}
 use Rattle.std.specs.List.{cons_option, filter_map, flat_map, list_all}
 use Rattle.std.specs.Option.{option_and_then, option_map}
 use Rattle.std.proofs.lemmas.Bool.{leb-true, true≢false}
@@ -189,15 +189,15 @@ either_name_type : (b : Bool) (x y : ℕ) → (x == 4) ≡ false → (y == 4) �
 either_name_type true x y first second = first
 either_name_type false x y first second = second
 
-asking_plain : (symbol name : List ℕ) → (name_type_asking symbol name == 4) ≡ false
-asking_plain symbol name =
+asking_plain : (machine : MachineType) (symbol name : List ℕ) → (name_type_asking machine symbol name == 4) ≡ false
+asking_plain machine symbol name =
     let prefix = bytes_eq (without_prefix symbol) name in
-    either_name_type (bytes_eq symbol name) 1 (if prefix then 2 else 3) refl (either_name_type prefix 2 3 refl refl)
+    either_name_type (not (has_leading_underscore machine) || bytes_eq symbol name) 1 (if prefix then 2 else 3) refl (either_name_type prefix 2 3 refl refl)
 
 name_type_plain : (machine : MachineType) (e : ExportView) → (name_type_of machine e == 4) ≡ false
 name_type_plain machine e =
     let symbol = short_import_symbol e in
-    let asking = name_type_asking symbol (given_name e) in
+    let asking = name_type_asking machine symbol (given_name e) in
     let led = has_leading_underscore machine && begins_with underscore symbol in
     let other = not (bytes_eq symbol e.name) in
     let stdcall = begins_with underscore e.name && holds at_sign e.name in
@@ -206,7 +206,7 @@ name_type_plain machine e =
     let third : ℕ = if stdcall then 1 else fourth in
     let second : ℕ = if is_some e.asked_name then asking else third in
     either_name_type e.no_name 0 second refl
-    (either_name_type (is_some e.asked_name) asking third (asking_plain symbol (given_name e))
+    (either_name_type (is_some e.asked_name) asking third (asking_plain machine symbol (given_name e))
     (either_name_type stdcall 1 fourth refl
     (either_name_type other 3 last refl
     (either_name_type led 2 1 refl refl))))
@@ -323,15 +323,15 @@ either_at_most false x y n first second = second
 import_type_low : (e : ExportView) → nat_le (import_type_of e) 2 ≡ true
 import_type_low e = either_at_most e.is_data 1 (if e.constant then 2 else 0) 2 refl (either_at_most e.constant 2 0 2 refl refl)
 
-asking_low : (symbol name : List ℕ) → nat_le (name_type_asking symbol name) 3 ≡ true
-asking_low symbol name =
+asking_low : (machine : MachineType) (symbol name : List ℕ) → nat_le (name_type_asking machine symbol name) 3 ≡ true
+asking_low machine symbol name =
     let prefix = bytes_eq (without_prefix symbol) name in
-    either_at_most (bytes_eq symbol name) 1 (if prefix then 2 else 3) 3 refl (either_at_most prefix 2 3 3 refl refl)
+    either_at_most (not (has_leading_underscore machine) || bytes_eq symbol name) 1 (if prefix then 2 else 3) 3 refl (either_at_most prefix 2 3 3 refl refl)
 
 name_type_low : (machine : MachineType) (e : ExportView) → nat_le (name_type_of machine e) 3 ≡ true
 name_type_low machine e =
     let symbol = short_import_symbol e in
-    let asking = name_type_asking symbol (given_name e) in
+    let asking = name_type_asking machine symbol (given_name e) in
     let led = has_leading_underscore machine && begins_with underscore symbol in
     let other = not (bytes_eq symbol e.name) in
     let stdcall = begins_with underscore e.name && holds at_sign e.name in
@@ -340,7 +340,7 @@ name_type_low machine e =
     let third : ℕ = if stdcall then 1 else fourth in
     let second : ℕ = if is_some e.asked_name then asking else third in
     either_at_most e.no_name 0 second 3 refl
-    (either_at_most (is_some e.asked_name) asking third 3 (asking_low symbol (given_name e))
+    (either_at_most (is_some e.asked_name) asking third 3 (asking_low machine symbol (given_name e))
     (either_at_most stdcall 1 fourth 3 refl
     (either_at_most other 3 last 3 refl
     (either_at_most led 2 1 3 refl refl))))

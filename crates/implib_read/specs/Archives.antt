@@ -39,6 +39,23 @@ parts_from zero offset (x ∷ rest) = option_and_then
 unfoldable pub parts_in : List ℕ → Option (List Part)
 parts_in bytes = if bytes_eq (take 8 bytes) (codes "!<arch>\n") then parts_from 0 8 (drop 8 bytes) else None
 
+-- where a header is cut off, or what follows it
+abbrev pub cut_or : ℕ → (Stored → Option ℕ) → Option Stored → Option ℕ
+cut_or offset more None = Some offset
+cut_or offset more (Some s) = more s
+
+-- Where the parts after the next bytes are cut off: the offset of the first header that is none, or whose data leads
+-- out of the bytes.
+unfoldable pub cut_from : ℕ → ℕ → List ℕ → Option ℕ
+cut_from zero offset [] = None
+cut_from (suc left) offset [] = None
+cut_from (suc left) offset (x ∷ rest) = cut_from left (suc offset) rest
+cut_from zero offset (x ∷ rest) = cut_or offset (λ s. cut_from (59 + length s.contents + length s.contents % 2) (suc offset) rest) (stored_at (x ∷ rest) 0)
+
+-- where bytes that begin as an archive are cut off, if they are
+unfoldable pub cut_in : List ℕ → Option ℕ
+cut_in bytes = if bytes_eq (take 8 bytes) (codes "!<arch>\n") then cut_from 0 8 (drop 8 bytes) else None
+
 -- the data of the long names, given what is found after a part
 abbrev pub long_names_or : MemberName → List ℕ → List ℕ → List ℕ
 long_names_or LinkerMember contents others = others

@@ -4,6 +4,7 @@ ghost use Rattle.std.specs.Prelude.{◌≡◌, ℕ, [], ◌∷◌, ◌+◌, ◌<
 ghost use Rattle.std.specs.List.{filter_map};
 ghost use Rattle.std.specs.Option.{option_map};
 ghost use Rattle.implib_archive.specs.Reader.{data_at, stored_at};
+ghost use Rattle.implib_read.specs.Archives.{cut_from, cut_in};
 ghost use Rattle.implib_read.specs.Archives.{archive_in, long_names_in, member_of, parts_from, parts_in, said};
 ghost use Rattle.implib_read.specs.ArchiveViews.{archive_view, member_view, part_view};
 ghost use Rattle.implib_read.specs.NameViews.{name_view};
@@ -103,6 +104,34 @@ fn parts_behind<'a>(alloc: Global, bytes: &'a [u8]) -> Result<Option<Vec<Part<'a
         rest = behind(rest, 60 + contents.len() + contents.len() % 2);
     }
     Ok(Some(parts))
+}
+
+/// The offset of the first header behind the signature that is none, or whose data leads out of the bytes.
+fn cut_behind(bytes: &[u8]) -> Option<usize>
+    requires { 8 ≤ length bytes.now }
+    ensures { result ≡ cut_from 0 8 (drop 8 bytes.now) }
+{
+    let mut rest = behind(bytes, 8);
+    while rest.len() > 0 {
+        let Some((_, contents)) = stored_at(rest) else {
+            return Some(bytes.len() - rest.len());
+        };
+        rest = behind(rest, 60 + contents.len() + contents.len() % 2);
+    }
+    None
+}
+
+/// The offset of the header at which bytes that begin as an archive are cut off: the first that is none, or whose data
+/// leads out of the bytes. There is none where they are a whole archive, or do not begin as one.
+#[tactic(auto, unfolding(crate::specs::Archives::cut_in))]
+pub fn cut_at(bytes: &[u8]) -> Option<usize>
+    ensures { result ≡ cut_in bytes.now }
+{
+    if is_archive(bytes) {
+        cut_behind(bytes)
+    } else {
+        None
+    }
 }
 
 /// Whether the bytes begin as an archive.

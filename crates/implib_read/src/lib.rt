@@ -37,7 +37,7 @@ mod short_meaning;
 mod symbol;
 
 pub use alias::AliasFound;
-pub use archive::{Archive, Part, StoredMember};
+pub use archive::{Archive, Part, StoredMember, cut_at};
 pub use class::{MemberClass, MemberRead};
 pub use file::FileFound;
 pub use identity::{dll_of, dlls_of};
@@ -48,4 +48,4 @@ pub use library::Library;
 pub use names::MemberName;
 pub use object::{Entry, Object, Section, Symbol};
 pub use short_import::ShortImport;
-pub use symbol::{linked_symbol, without_imp};
+pub use symbol::{begins_imp, linked_symbol, without_imp};

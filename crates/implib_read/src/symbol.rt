@@ -1,8 +1,10 @@
 //! The symbol by which an import is linked.
 
-ghost use Rattle.std.specs.Prelude.{◌≡◌};
+ghost use Rattle.std.specs.List.{find};
+ghost use Rattle.std.specs.Option.{option_map};
+ghost use Rattle.std.specs.Prelude.{◌≡◌, ◌++◌, IfSome, None, map, true};
 ghost use Rattle.implib_read.specs.ImportViews.{declared_view};
-ghost use Rattle.implib_read.specs.Symbols.{linked_symbol, without_imp};
+ghost use Rattle.implib_read.specs.Symbols.{begins_imp, linked_by, linked_symbol, without_imp};
 
 use crate::import::DeclaredFound;
 
@@ -16,17 +18,54 @@ pub fn without_imp(symbol: &[u8]) -> &[u8]
     }
 }
 
-/// The symbol by which an import is linked: that of its address, or else that of its code, without `__imp_`.
+/// Whether a symbol begins with `__imp_`.
+pub fn begins_imp(symbol: &[u8]) -> bool
+    ensures { result ≡ begins_imp symbol.now }
+{
+    symbol.starts_with(b"__imp_")
+}
+
+/// The first of some symbols that begins with `__imp_`.
+fn first_address<'a>(symbols: &[&'a [u8]]) -> Option<&'a [u8]>
+    ensures found { option_map (λ symbol. symbol.now) result
+        ≡ find begins_imp (map (λ symbol. symbol.now) symbols.now) }
+    ensures begins { IfSome result (λ symbol. begins_imp symbol.now ≡ true) }
+{
+    for symbol in symbols {
+        if begins_imp(symbol) {
+            return Some(*symbol);
+        }
+    }
+    None
+}
+
+/// The first of some symbols, and then of others; empty where there is none.
+fn first_of<'a>(symbols: &[&'a [u8]], others: &[&'a [u8]]) -> &'a [u8]
+    ensures { result.now ≡ linked_by None (map (λ symbol. symbol.now) symbols.now
+        ++ map (λ symbol. symbol.now) others.now) }
+{
+    match symbols.first() {
+        Some(symbol) => symbol,
+        None => match others.first() {
+            Some(symbol) => symbol,
+            None => b"",
+        },
+    }
+}
+
+/// The symbol by which an import is linked: the first with `__imp_`, which is that of its address, without that; where
+/// none has it, the first.
+#[tactic(auto, using(crate::proofs::Symbols::find_both, crate::proofs::Symbols::named))]
 pub fn linked_symbol<'a>(declared: &DeclaredFound<'a>) -> &'a [u8]
     ensures { result.now ≡ linked_symbol (declared_view declared.now) }
 {
     match declared {
         DeclaredFound::OfName(name, _) => name,
-        DeclaredFound::OfObject(addresses, code) => match addresses.first() {
+        DeclaredFound::OfObject(addresses, code) => match first_address(addresses) {
             Some(address) => without_imp(address),
-            None => match code.first() {
-                Some(symbol) => without_imp(symbol),
-                None => b"",
+            None => match first_address(code) {
+                Some(address) => without_imp(address),
+                None => first_of(addresses, code),
             },
         },
     }
