@@ -3,3 +3,4 @@ pub mod Counting
 pub mod FirstEntries
 pub mod KeyTexts
 pub mod Matching
+pub mod Declared

@@ -1,10 +1,11 @@
 -- What two libraries are compared by: the imports and the aliases of their members (this project's choice).
 use Rattle.std.specs.Prelude.{◌≡◌, ℕ, ◌/◌, ◌%◌, Bool, true, false, not, ◌&&◌, List, [], ◌∷◌, ◌++◌, Option, Some, None, if◌then◌else◌, map}
 use Rattle.std.specs.Char.{to_ascii_lowercase}
-use Rattle.std.specs.List.{filter_map, flat_map, list_any}
+use Rattle.std.specs.List.{filter, filter_map, flat_map, list_any}
 use Rattle.std.specs.Option.{option_map_or}
 use Rattle.implib.specs.Import.{Alias, Ask, Name, Ordinal}
 use Rattle.implib_read.specs.Classes.{Class, AnImport, AnAlias, Descriptor, NullDescriptor, NullThunk, Head, Tail, DelayImport, Other, NotUnderstood, Imported, MemberRead}
+use Rattle.implib_read.specs.Symbols.{begins_imp}
 use Rattle.implib_read.specs.declared.import.ImportKind.{ImportKind}
 use Rattle.implib_read.specs.declared.import.ImportKind.TheVariants.{Code, CodeOrConst, Const, Data}
 
@@ -39,11 +40,21 @@ kind_compared told Code = if told then Code else CodeOrConst
 kind_compared told Const = if told then Const else CodeOrConst
 kind_compared told CodeOrConst = CodeOrConst
 
+-- whether a symbol is of an address, by `__imp_`, or is not
+abbrev pub is_wanted : Bool → List ℕ → Bool
+is_wanted true symbol = begins_imp symbol
+is_wanted false symbol = not (begins_imp symbol)
+
+-- Symbols with those of addresses first. For example, `___impf`, which GNU dlltool's `-C` has before `__imp_f`, comes
+-- behind it.
+abbrev pub addresses_first : List (List ℕ) → List (List ℕ)
+addresses_first symbols = filter (is_wanted true) symbols ++ filter (is_wanted false) symbols
+
 -- what an import says. The case of letters in the DLL's name does not count (names of files for Windows).
 abbrev pub import_fact : Bool → Imported → ImportFact
 import_fact told i = record {
   dll = map to_ascii_lowercase i.imports.dll;
-  declared = i.imports.declared;
+  declared = addresses_first i.imports.declared;
   asked = asked_by i.imports.ask;
   kind = kind_compared told i.kind;
   machine = i.machine;
@@ -113,6 +124,10 @@ listed_key text = 1 ∷ text_key text
 -- texts in a key: each of them, and 0 at the end
 abbrev pub texts_key : List (List ℕ) → List ℕ
 texts_key texts = flat_map listed_key texts ++ 0 ∷ []
+
+-- a text of a list in a key, if it is of an address, or is not
+abbrev pub listed_if : Bool → List ℕ → List ℕ
+listed_if wanted text = if is_wanted wanted text then listed_key text else []
 
 -- a number of 16 bits in a key
 abbrev pub number_key : ℕ → List ℕ

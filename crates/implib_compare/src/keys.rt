@@ -5,6 +5,7 @@ ghost use Rattle.std.specs.Char.{to_ascii_lowercase};
 ghost use Rattle.std.specs.List.{flat_map, list_any};
 ghost use Rattle.std.specs.Option.{option_map, option_map_or};
 ghost use Rattle.implib_compare.specs.Facts.{asked_by, asked_key, both_tell, bytes_key, fact_key, has_untold, import_fact, is_untold};
+ghost use Rattle.implib_compare.specs.Facts.{addresses_first, is_wanted, listed_if};
 ghost use Rattle.implib_compare.specs.Facts.{keys_of, kind_compared, kind_number, listed_key, member_key, number_key};
 ghost use Rattle.implib_compare.specs.Facts.{tells_constants, text_key, texts_key, Imports, Aliases};
 ghost use Rattle.implib.specs.Import.{import_symbols};
@@ -13,7 +14,7 @@ ghost use Rattle.implib_read.specs.ClassViews.{class_view, imported_view, member
 ghost use Rattle.implib_read.specs.ImportViews.{ask_view, declared_view};
 
 use implib_read::{
-    AliasFound, AskFound, DeclaredFound, ImportFound, ImportKind, MemberClass, MemberRead,
+    AliasFound, AskFound, DeclaredFound, ImportFound, ImportKind, MemberClass, MemberRead, begins_imp,
 };
 use std::alloc::{AllocError, Global};
 
@@ -73,12 +74,29 @@ fn push_parts(key: &mut Vec<u8>, front: &[u8], text: &[u8]) -> Result<(), AllocE
     push_text(key, text)
 }
 
-// Adds the texts of a list, without its end.
-fn push_texts(key: &mut Vec<u8>, texts: &[&[u8]]) -> Result<(), AllocError>
-    ensures { OnOk result (key.new.items ≡ key.old.items ++ flat_map listed_key (map (λ t. t.now) texts.now)) }
+// Whether a symbol is of an address, or is not.
+fn is_wanted(wanted: bool, symbol: &[u8]) -> bool
+    ensures { result ≡ is_wanted wanted symbol.now }
+{
+    begins_imp(symbol) == wanted
+}
+
+// Adds a text of a list, if it is of an address, or is not.
+fn push_if(key: &mut Vec<u8>, wanted: bool, text: &[u8]) -> Result<(), AllocError>
+    ensures { OnOk result (key.new.items ≡ key.old.items ++ listed_if wanted text.now) }
+{
+    if is_wanted(wanted, text) {
+        push_parts(key, b"", text)?;
+    }
+    Ok(())
+}
+
+// Adds the texts of a list that are of addresses, or those that are not, without its end.
+fn push_texts(key: &mut Vec<u8>, wanted: bool, texts: &[&[u8]]) -> Result<(), AllocError>
+    ensures { OnOk result (key.new.items ≡ key.old.items ++ flat_map (listed_if wanted) (map (λ t. t.now) texts.now)) }
 {
     for text in texts {
-        push_parts(key, b"", text)?;
+        push_if(key, wanted, text)?;
     }
     Ok(())
 }
@@ -95,15 +113,19 @@ fn push_symbols(key: &mut Vec<u8>, symbol: &[u8], is_data: bool) -> Result<(), A
     Ok(())
 }
 
-// Adds the symbols that an import declares, without the end of the list.
+// Adds the symbols that an import declares, those of addresses first, without the end of the list.
+#[tactic(auto, using(crate::proofs::Declared::own_first, crate::proofs::Declared::both_lists))]
 fn push_declared(key: &mut Vec<u8>, declared: &DeclaredFound) -> Result<(), AllocError>
-    ensures { OnOk result (key.new.items ≡ key.old.items ++ flat_map listed_key (declared_view declared.now)) }
+    ensures { OnOk result (key.new.items ≡ key.old.items
+        ++ flat_map listed_key (addresses_first (declared_view declared.now))) }
 {
     match declared {
         DeclaredFound::OfName(symbol, is_data) => push_symbols(key, symbol, *is_data),
         DeclaredFound::OfObject(addresses, code) => {
-            push_texts(key, addresses)?;
-            push_texts(key, code)
+            push_texts(key, true, addresses)?;
+            push_texts(key, true, code)?;
+            push_texts(key, false, addresses)?;
+            push_texts(key, false, code)
         }
     }
 }
