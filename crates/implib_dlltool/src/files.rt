@@ -1,4 +1,8 @@
 //! The disk of the system. A library is made beside the old one, and renamed.
+//!
+//! A new file is named after the one whose place it is to take, and after the process: of a process
+//! that was killed it stays, and the next call for the same file removes it. That is a file of just
+//! this name, of no process that runs; on a system without `/proc` none is removed.
 
 ghost use Rattle.implib_dlltool.specs.Disk.{state_view};
 ghost use Rattle.std.specs.Prelude.{◌≡◌, IfOk, None, false};
@@ -49,24 +53,76 @@ fn followed<R: Files + AllocGlobal>(
     Err(no_file())
 }
 
-// The name of a new file beside another.
-fn beside(alloc: Global, path: &str, id: u32, number: u32) -> io::Result<String> {
-    let name = format!(in alloc; ".implib_dlltool-{id}-{number}")?;
+// The longest name of a file, in bytes, that is in the names of new files beside it: those of longer
+// names would pass what a name may have.
+const LONGEST: usize = 200;
+
+// What the names of new files beside another begin with.
+fn front_of(alloc: Global, path: &str) -> io::Result<String> {
+    let name = Path::new(path).file_name().unwrap_or("");
+    let part = if name.len() <= LONGEST { name } else { "" };
+    Ok(format!(in alloc; ".{part}.implib_dlltool-")?)
+}
+
+// The name of a new file beside another, whose names begin so.
+fn beside(alloc: Global, path: &str, front: &str, id: u32, number: u32) -> io::Result<String> {
+    let name = format!(in alloc; "{front}{id}-{number}")?;
     let path = Path::new(path).with_file_name(alloc, name.as_str())?;
     Ok(path.into_string())
 }
 
+// Whether a text is a number in decimal.
+fn is_number(text: &str) -> bool {
+    !text.is_empty() && text.as_bytes().iter().all(|byte| byte.is_ascii_digit())
+}
+
+// The process that made a file of this name, if the name is that of a new file that begins so.
+fn maker_of<'a>(name: &'a str, front: &str) -> Option<&'a str> {
+    let (process, number) = name.strip_prefix(front)?.split_once('-')?;
+    if is_number(process) && is_number(number) {
+        Some(process)
+    } else {
+        None
+    }
+}
+
+// Whether no process of a number runs; where the system does not tell, one does.
+fn is_gone<R: Files + AllocGlobal>(rt: &R, process: &str) -> io::Result<bool> {
+    let path = format!(in rt.alloc(); "/proc/{process}")?;
+    Ok(fs::exists(rt, "/proc/self")? && !fs::exists(rt, path.as_str())?)
+}
+
+// Removes the new files beside another, whose names begin so, that killed processes left.
+fn sweep<R: Files + AllocGlobal + Clone + Drop>(rt: &R, path: &str, front: &str) -> io::Result<()> {
+    let folder = match Path::new(path).parent() {
+        Some(parent) if !parent.as_str().is_empty() => parent.as_str(),
+        _ => ".",
+    };
+    for entry in fs::read_dir(rt, folder)? {
+        let entry = entry?;
+        if let Some(process) = maker_of(entry.file_name(), front) {
+            if is_gone(rt, process)? {
+                fs::remove_file(rt, entry.path())?;
+            }
+        }
+    }
+    Ok(())
+}
+
 // A new file beside another, and its name.
-fn open_beside<R: Files + AllocGlobal>(
+fn open_beside<R: Files + AllocGlobal + Clone + Drop>(
     rt: &R,
     path: &str,
     id: u32,
 ) -> io::Result<(R::File, String)> {
+    let front = front_of(rt.alloc(), path)?;
+    // What cannot be removed is in nobody's way.
+    let _ = sweep(rt, path, front.as_str());
     let mut how = OpenOptions::new();
     how.write(true);
     how.create_new(true);
     for number in 0..NAMES {
-        let name = beside(rt.alloc(), path, id, number)?;
+        let name = beside(rt.alloc(), path, front.as_str(), id, number)?;
         match how.open(rt, name.as_str()) {
             Ok(file) => return Ok((file, name)),
             Err(error) if error.kind() == ErrorKind::AlreadyExists => {}
@@ -98,7 +154,11 @@ struct State {
 
 // Makes a file beside the one that a path leads to. It gets the mode of the one whose place it
 // takes. Where there is something that is no file, it is an error.
-fn make_file<R: Files + AllocGlobal>(rt: &R, id: u32, path: &str) -> io::Result<(R::File, Made)>
+fn make_file<R: Files + AllocGlobal + Clone + Drop>(
+    rt: &R,
+    id: u32,
+    path: &str,
+) -> io::Result<(R::File, Made)>
     ensures { IfOk result (λ new. string_bytes new.1.path ≡ path.now) }
 {
     let own = String::from_str(rt.alloc(), path)?;
@@ -131,13 +191,13 @@ fn settle<R: Files, F: OpenFile + Drop>(rt: &R, made: &Made, file: F) -> io::Res
 ///
 /// A new file is made beside the one that its path leads to, and gets its mode.
 #[derive(Drop)]
-pub struct SystemDisk<'a, R: Files + AllocGlobal> {
+pub struct SystemDisk<'a, R: Files + AllocGlobal + Clone + Drop> {
     rt: &'a R,
     id: u32,
     state: State,
 }
 
-impl<'a, R: Files + AllocGlobal> SystemDisk<'a, R> {
+impl<'a, R: Files + AllocGlobal + Clone + Drop> SystemDisk<'a, R> {
     /// The system's files; `id` is a number for the names of new ones.
     pub fn new(rt: &'a R, id: u32) -> SystemDisk<'a, R>
         ensures { (state_view result.state).left ≡ None }
@@ -154,7 +214,7 @@ impl<'a, R: Files + AllocGlobal> SystemDisk<'a, R> {
     }
 }
 
-impl<'a, R: Files + AllocGlobal> Disk for SystemDisk<'a, R> {
+impl<'a, R: Files + AllocGlobal + Clone + Drop> Disk for SystemDisk<'a, R> {
     type File = R::File;
 
     ghost view = { λ disk. state_view disk.state };

@@ -1,7 +1,7 @@
 -- The words of a command line as Microsoft's LIB has them (its documentation, and what llvm-lib 19 does).
-use Rattle.std.specs.Prelude.{ℕ, Bool, true, false, not, ◌||◌, ◌==◌, List, [], ◌∷◌, length, drop, map, Option, None, Some, Ok, Err, codes, if◌then◌else◌, is_some, nat_eq, nat_lt, slice_index}
+use Rattle.std.specs.Prelude.{ℕ, Bool, true, false, not, ◌&&◌, ◌||◌, ◌==◌, List, [], ◌∷◌, length, drop, map, Option, None, Some, Ok, Err, codes, if◌then◌else◌, is_some, nat_eq, nat_lt, slice_index}
 use Rattle.std.specs.Char.{to_ascii_lowercase}
-use Rattle.std.specs.List.{after_first, before_first, ends_with, position_or_len}
+use Rattle.std.specs.List.{after_first, before_first, ends_with, list_any, position_or_len}
 use Rattle.std.specs.Str.{byte, bytes_eq}
 use Rattle.implib.specs.declared.machine.MachineType.{MachineType}
 use Rattle.implib.specs.declared.machine.MachineType.TheVariants.{I386, ARMNT, AMD64, ARM64}
@@ -119,6 +119,16 @@ lib_machine_word (named.Known machine) word = Adds (Given Machine (machine_text 
 lib_machine_word named.Unsupported word = Refuses (IsUnsupported word)
 lib_machine_word named.Unknown word = Refuses (NamesNoMachine word)
 
+-- a word without a meaning and a colon is the path of a file: after its `/` (47) is another one or a full stop (46),
+-- and no `=` (61)
+abbrev pub is_path : List ℕ → Bool
+is_path [] = false
+is_path (b ∷ rest) = b == 47 && not (list_any (λ x. x == 61) rest) && (list_any (λ x. x == 47) rest || list_any (λ x. x == 46) rest)
+
+-- Why a word is refused that has no meaning. For example, `/home/a.obj` is a file, and `/foo` no option.
+abbrev pub unknown_fault : List ℕ → WordFaultView
+unknown_fault word = if is_path word then IsFile word else IsUnknown word
+
 -- an option that is given with a colon and a value, which is not empty
 abbrev pub lib_valued : LibMeaning → List ℕ → List ℕ → LibWordView
 lib_valued (meaning.Takes setting) word value =
@@ -137,7 +147,7 @@ lib_bare meaning.Machine word = Refuses (LacksValueIn word)
 lib_bare (meaning.Switches switch) word = Adds (Switched switch)
 lib_bare meaning.Ignored word = Nothing
 lib_bare meaning.Unsupported word = Refuses (IsUnsupported word)
-lib_bare meaning.Unknown word = Refuses (IsUnknown word)
+lib_bare meaning.Unknown word = Refuses (unknown_fault word)
 
 -- the byte is `:`
 abbrev pub is_colon : ℕ → Bool

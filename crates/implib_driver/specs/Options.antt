@@ -1,5 +1,5 @@
 -- The names of options and machines on the command line (this project's choice, after GNU dlltool's).
-use Rattle.std.specs.Prelude.{ℕ, Bool, true, false, ◌==◌, List, codes, if◌then◌else◌}
+use Rattle.std.specs.Prelude.{ℕ, Bool, true, false, ◌==◌, List, codes, if◌then◌else◌, ◌||◌}
 use Rattle.std.specs.Str.{byte, bytes_eq}
 use Rattle.implib_driver.specs.declared.options.Meaning.{Meaning}
 use Rattle.implib_driver.specs.declared.options.Meaning.TheVariants.{Takes, Switches, Unsupported, Unknown}
@@ -33,7 +33,7 @@ option_named name =
     else if bytes_eq name (codes "output-lib") then Takes Output
     else if bytes_eq name (codes "machine") then Takes Machine
     else if bytes_eq name (codes "dllname") then Takes Dll
-    else if bytes_eq name (codes "flavor") then Takes Flavor
+    else if bytes_eq name (codes "flavor") || bytes_eq name (codes "flavour") then Takes Flavor
     else if bytes_eq name (codes "as") then Takes Assembler
     else if bytes_eq name (codes "as-flags") then Takes AssemblerFlags
     else if bytes_eq name (codes "temp-prefix") then Takes TemporaryPrefix

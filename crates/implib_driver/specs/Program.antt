@@ -1,5 +1,6 @@
 -- What a run of the program does (this project's own).
-use Rattle.std.specs.Prelude.{◌≡◌, ◌⊎◌, ℕ, Bool, true, false, List, [], ◌∷◌, ◌++◌, Option, None, Some, Result, Ok, Err, IfSome, codes, drop, map, if◌then◌else◌}
+use Rattle.std.specs.Prelude.{◌≡◌, ◌⊎◌, ℕ, Bool, true, false, List, [], ◌∷◌, ◌++◌, Option, None, Some, Result, Ok, Err, IfSome, codes, drop, length, map, nat_eq, nat_lt, ◌||◌, if◌then◌else◌}
+use Rattle.std.specs.List.{starts_with}
 use Rattle.std.specs.Io.KnownBytes.{Appends}
 use Rattle.std.specs.Str.{IsUtf8, bytes_eq}
 use Rattle.std.specs.declared.io.ErrorKind.{ErrorKind}
@@ -9,6 +10,7 @@ use Rattle.implib.specs.declared.flavor.Flavor.TheVariants.{Gnu, Msvc}
 use Rattle.implib.specs.declared.machine.MachineType.TheVariants.{AMD64}
 use Rattle.implib.specs.Definition.{DefinitionView}
 use Rattle.implib.specs.Fault.{Cause}
+use Rattle.implib.specs.Import.{is_empty_text}
 use Rattle.implib.specs.Members.MemberSpec.{MemberView}
 use Rattle.implib.specs.Text.Parses.{Parses, RefusesAt}
 use Rattle.implib_driver.specs.Arguments.{OccurrenceView, WordFaultView}
@@ -16,7 +18,7 @@ use Rattle.implib_driver.specs.Disk.{DiskView}
 use Rattle.implib_driver.specs.declared.identity.NotIdentified.{NotIdentified}
 use Rattle.implib_driver.specs.Identity.{identified}
 use Rattle.implib_driver.specs.Placing.{Answer, Answers}
-use Rattle.implib_driver.specs.Reports.{ComplaintView, Complains, Line, OfArgument, OfCall, OfIdentity, OfMemory, OfStub, OfSystem, OfWord, OfWriting, Refuses, Says, Warns}
+use Rattle.implib_driver.specs.Reports.{ComplaintView, Complains, Line, OfArgument, OfCall, OfIdentity, OfMemory, OfStub, OfSystem, OfUtf16, OfWord, OfWriting, Refuses, Says, Warns}
 use Rattle.implib_driver.specs.LibWords.{words_read}
 use Rattle.implib_driver.specs.Request.{Asked, AsksHelp, AsksIdentity, AsksVersion, Asks, RequestView, TaskView, caller_of, task_of}
 use Rattle.implib_driver.specs.Stubs.{has_failing_stub}
@@ -25,10 +27,11 @@ use Rattle.implib_rules.specs.declared.library.LibraryError.TheVariants.{Refused
 use Rattle.implib_rules.specs.declared.library.Refusal.{Refusal}
 use Rattle.implib_rules.specs.declared.library.Refusal.TheVariants.{OutOfMemory}
 use Rattle.implib_rules.specs.declared.places.Place.{Place}
-use Rattle.implib_rules.specs.Library.{CountsMembers, definition_text, status_of}
+use Rattle.implib_rules.specs.Library.{CountsMembers, definition_text, is_out_of_memory, status_of}
+use Rattle.implib_rules.specs.Names.{last_part}
 use Rattle.implib_rules.specs.Older.{IsRefusalOfAsked, MembersAsked}
 use Rattle.implib_rules.specs.Places.{ArePlacesOf, export_lines}
-use Rattle.implib_rules.specs.TextWarnings.{text_warnings}
+use Rattle.implib_rules.specs.TextWarnings.{none_warnings, text_warnings}
 use Rattle.implib_rules.specs.Warnings.{WarningView}
 
 -- what is known of all that a run uses but standard output: the bytes that standard input has left, the disk, and
@@ -87,10 +90,40 @@ pub record IsNoDefinition (bytes : List ℕ) (before after : Option (List Line))
   pub refused : (¬ (IsUtf8 (definition_text bytes))) ⊎ HasSyntaxError (definition_text bytes)
   pub silent : after ≡ before
 
--- the warnings of bytes were said, if they are asked for
-abbrev pub Warned : Bool → List ℕ → RequestView → Option (List Line) → Option (List Line) → Type 0
-Warned false bytes request before after = after ≡ before
-Warned true bytes request before after = WarnsOf bytes request before after ⊎ IsNoDefinition bytes before after
+-- the bytes are a definition, and it was said if it has no export though something follows EXPORTS
+pub record WarnsOfNone (bytes : List ℕ) (request : RequestView) (before after : Option (List Line)) : Type 0 where
+  pub utf8 : IsUtf8 (definition_text bytes)
+  pub definition : DefinitionView
+  pub parses : Parses (definition_text bytes) AMD64 definition
+  pub says : Says before after (warning_lines request.definition [] (none_warnings (definition_text bytes) definition.exports))
+
+-- the warnings of bytes were said, if they are asked for; of a library that has the members of its DLL alone, that its
+-- definition has no export is said without that
+abbrev pub Warned : Bool → Bool → List ℕ → RequestView → Option (List Line) → Option (List Line) → Type 0
+Warned false false bytes request before after = after ≡ before
+Warned false true bytes request before after = WarnsOfNone bytes request before after ⊎ IsNoDefinition bytes before after
+Warned true bare bytes request before after = WarnsOf bytes request before after ⊎ IsNoDefinition bytes before after
+
+-- whether a library of this many members has no more than those of its DLL, of which each flavour has at most three
+abbrev pub is_bare : ℕ → Bool
+is_bare count = nat_lt count 4
+
+-- a library was made, which is bare or not by the number of its members
+pub record CountsMade (bytes : List ℕ) (request : RequestView) (bare : Bool) : Type 0 where
+  pub members : List MemberView
+  pub members_asked : MembersAsked request.older_symbols bytes request.library members
+  pub is : bare ≡ is_bare (length members)
+
+-- there is none
+pub record CountsNone (bytes : List ℕ) (request : RequestView) (bare : Bool) : Type 0 where
+  pub refusal : Refusal
+  pub refused : IsRefusalOfAsked request.older_symbols bytes request.library refusal
+  pub has_memory : is_out_of_memory refusal ≡ false
+  pub is : bare ≡ false
+
+-- whether the library of a definition is bare; where there is none, it is not
+abbrev pub CountsBare : List ℕ → RequestView → Bool → Type 0
+CountsBare bytes request bare = CountsMade bytes request bare ⊎ CountsNone bytes request bare
 
 -- the path that the library was to go to
 abbrev pub output_or_none : Option (List ℕ) → List ℕ
@@ -109,11 +142,26 @@ answer_status (Ok made) = 0
 answer_status (Err (Refused refusal)) = status_of refusal
 answer_status (Err (Writing cause)) = 3
 
+-- whether bytes begin as a text in UTF-16 with a byte order mark (the Unicode Standard, "Byte Order Mark")
+abbrev pub begins_utf16 : List ℕ → Bool
+begins_utf16 bytes = starts_with nat_eq bytes (0xFF ∷ 0xFE ∷ []) || starts_with nat_eq bytes (0xFE ∷ 0xFF ∷ [])
+
+-- that the definition is in UTF-16 was said, and nothing else was done
+pub record IsInUtf16 (bytes : List ℕ) (request : RequestView) (disk put : DiskView) (before after : Option (List Line)) (status : ℕ)
+    : Type 0 where
+  pub begins : begins_utf16 bytes ≡ true
+  pub same_disk : put ≡ disk
+  pub says : Says before after (Complains request.definition OfUtf16 ∷ [])
+  pub is_status : status ≡ 1
+
 -- the warnings that are asked for were said, the library was put, and then the answer was said
 pub record IsAnswered (known : Bool) (bytes : List ℕ) (request : RequestView) (disk put : DiskView)
     (before after : Option (List Line)) (status : ℕ) : Type 0 where
+  pub no_utf16 : begins_utf16 bytes ≡ false
+  pub bare : Bool
+  pub counts : CountsBare bytes request bare
   pub warned : Option (List Line)
-  pub warns : Warned request.is_verbose bytes request before warned
+  pub warns : Warned request.is_verbose bare bytes request before warned
   pub answer : Answer
   pub answers : Answers known disk put bytes request answer
   pub says : Says warned after (verdict request answer)
@@ -129,7 +177,7 @@ pub record IsUnwarned (request : RequestView) (disk put : DiskView) (before afte
 pub record HasFailingStub (bytes : List ℕ) (request : RequestView) (disk put : DiskView) (before after : Option (List Line)) (status : ℕ)
     : Type 0 where
   pub warned : Option (List Line)
-  pub warns : Warned request.is_verbose bytes request before warned
+  pub warns : Warned request.is_verbose false bytes request before warned
   pub members : List MemberView
   pub members_asked : MembersAsked request.older_symbols bytes request.library members
   pub fails : has_failing_stub request.library members ≡ true
@@ -141,13 +189,13 @@ pub record HasFailingStub (bytes : List ℕ) (request : RequestView) (disk put :
 abbrev pub Finishes : Bool → List ℕ → RequestView → DiskView → DiskView → Option (List Line) → Option (List Line) → ℕ → Type 0
 Finishes known bytes request disk put before after status =
     IsAnswered known bytes request disk put before after status ⊎ IsUnwarned request disk put before after status
-    ⊎ HasFailingStub bytes request disk put before after status
+    ⊎ HasFailingStub bytes request disk put before after status ⊎ IsInUtf16 bytes request disk put before after status
 
 -- what is done with the bytes of a definition that has these members, whose stubs can run
 abbrev pub FinishesWith : Bool → List ℕ → List MemberView → RequestView → DiskView → DiskView → Option (List Line) → Option (List Line) → ℕ → Type 0
 FinishesWith known bytes members request disk put before after status =
-    MembersAsked request.older_symbols bytes request.library members → has_failing_stub request.library members ≡ false
-    → Finishes known bytes request disk put before after status
+    begins_utf16 bytes ≡ false → MembersAsked request.older_symbols bytes request.library members
+    → has_failing_stub request.library members ≡ false → Finishes known bytes request disk put before after status
 
 -- what is done with the bytes of a definition that has these members, whose stubs cannot: nothing with any disk
 abbrev pub FinishesFailing : List ℕ → List MemberView → RequestView → Option (List Line) → Option (List Line) → ℕ → Type 0
@@ -158,7 +206,7 @@ FinishesFailing bytes members request before after status =
 -- what is done with the bytes of a definition that has no members for this: nothing with any disk
 abbrev pub FinishesWithout : List ℕ → Refusal → RequestView → Option (List Line) → Option (List Line) → ℕ → Type 0
 FinishesWithout bytes refusal request before after status =
-    IsRefusalOfAsked request.older_symbols bytes request.library refusal →
+    begins_utf16 bytes ≡ false → IsRefusalOfAsked request.older_symbols bytes request.library refusal →
     (known : Bool) (disk : DiskView) → Finishes known bytes request disk disk before after status
 
 -- the definition was read, and this was done with its bytes
@@ -181,13 +229,18 @@ Makes known request before after status = IsRead known request before after stat
 abbrev pub own_name : List ℕ
 own_name = codes "implib_dlltool"
 
+-- The name that the program says of itself: the one that it is called by, without its directory; its own where that is
+-- none. For example, called as `d/llvm-lib` it says llvm-lib.
+abbrev pub subject_of : List ℕ → List ℕ
+subject_of program = if is_empty_text (last_part program) then own_name else last_part program
+
 -- one complaint was said, and nothing else was done
-pub record Complained (complaint : ComplaintView) (number : ℕ) (before after : Devices) (printed prints : Option (List ℕ))
+pub record Complained (name : List ℕ) (complaint : ComplaintView) (number : ℕ) (before after : Devices) (printed prints : Option (List ℕ))
     (status : ℕ) : Type 0 where
   pub same_disk : after.disk ≡ before.disk
   pub same_input : after.input ≡ before.input
   pub same_output : prints ≡ printed
-  pub says : Says before.said after.said (Complains own_name complaint ∷ [])
+  pub says : Says before.said after.said (Complains name complaint ∷ [])
   pub is_status : status ≡ number
 
 -- the text is on standard output, and nothing was said
@@ -198,20 +251,20 @@ pub record IsPrinted (text : List ℕ) (before after : Option (List Line)) (prin
   pub is_status : status ≡ 0
 
 -- writing the text failed
-pub record IsUnprinted (before after : Option (List Line)) (status : ℕ) : Type 0 where
-  pub says : Says before after (Complains own_name OfSystem ∷ [])
+pub record IsUnprinted (name : List ℕ) (before after : Option (List Line)) (status : ℕ) : Type 0 where
+  pub says : Says before after (Complains name OfSystem ∷ [])
   pub is_status : status ≡ 3
 
 -- what is done for a text that is asked for
-abbrev pub Prints : List ℕ → Option (List Line) → Option (List Line) → Option (List ℕ) → Option (List ℕ) → ℕ → Type 0
-Prints text before after printed prints status =
-    IsPrinted text before after printed prints status ⊎ IsUnprinted before after status
+abbrev pub Prints : List ℕ → List ℕ → Option (List Line) → Option (List Line) → Option (List ℕ) → Option (List ℕ) → ℕ → Type 0
+Prints name text before after printed prints status =
+    IsPrinted text before after printed prints status ⊎ IsUnprinted name before after status
 
 -- a text was printed, or that failed, and nothing else was done
-pub record OnlyPrints (text : List ℕ) (before after : Devices) (printed prints : Option (List ℕ)) (status : ℕ) : Type 0 where
+pub record OnlyPrints (name text : List ℕ) (before after : Devices) (printed prints : Option (List ℕ)) (status : ℕ) : Type 0 where
   pub same_disk : after.disk ≡ before.disk
   pub same_input : after.input ≡ before.input
-  pub outcome : Prints text before.said after.said printed prints status
+  pub outcome : Prints name text before.said after.said printed prints status
 
 -- what was asked for was made, and nothing printed
 pub record OnlyMakes (known : Bool) (request : RequestView) (before after : Devices) (printed prints : Option (List ℕ))
@@ -227,20 +280,20 @@ pub record OnlyComplains (path : List ℕ) (complaint : ComplaintView) (number :
   pub is_status : status ≡ number
 
 -- the DLLs of a library were printed, or that there are none was said
-abbrev pub NamesDlls : List ℕ → Result (List ℕ) NotIdentified → Option (List Line) → Option (List Line) → Option (List ℕ) → Option (List ℕ) → ℕ → Type 0
-NamesDlls path (Ok lines) before after printed prints status = Prints lines before after printed prints status
-NamesDlls path (Err fault) before after printed prints status =
+abbrev pub NamesDlls : List ℕ → List ℕ → Result (List ℕ) NotIdentified → Option (List Line) → Option (List Line) → Option (List ℕ) → Option (List ℕ) → ℕ → Type 0
+NamesDlls name path (Ok lines) before after printed prints status = Prints name lines before after printed prints status
+NamesDlls name path (Err fault) before after printed prints status =
     OnlyComplains path (OfIdentity fault) 1 before after printed prints status
 
 -- a library was read, and its DLLs named, unless memory was refused
-pub record IsIdentified (path : List ℕ) (is_strict : Bool) (before after : Devices) (printed prints : Option (List ℕ))
+pub record IsIdentified (name path : List ℕ) (is_strict : Bool) (before after : Devices) (printed prints : Option (List ℕ))
     (status : ℕ) : Type 0 where
   pub bytes : List ℕ
   pub read : IfSome (before.disk.seen path) (λ file. bytes ≡ file)
   pub same_disk : after.disk ≡ before.disk
   pub outcome :
-      NamesDlls path (identified is_strict bytes) before.said after.said printed prints status
-      ⊎ OnlyComplains own_name OfMemory 3 before.said after.said printed prints status
+      NamesDlls name path (identified is_strict bytes) before.said after.said printed prints status
+      ⊎ OnlyComplains name OfMemory 3 before.said after.said printed prints status
 
 -- a library could not be read
 pub record IsUnidentified (path : List ℕ) (before after : Devices) (printed prints : Option (List ℕ)) (status : ℕ)
@@ -249,11 +302,11 @@ pub record IsUnidentified (path : List ℕ) (before after : Devices) (printed pr
   pub complains : OnlyComplains path OfSystem 3 before.said after.said printed prints status
 
 -- what is done for a library whose DLLs are asked for
-pub record Identifies (path : List ℕ) (is_strict : Bool) (before after : Devices) (printed prints : Option (List ℕ))
+pub record Identifies (name path : List ℕ) (is_strict : Bool) (before after : Devices) (printed prints : Option (List ℕ))
     (status : ℕ) : Type 0 where
   pub same_input : after.input ≡ before.input
   pub outcome :
-      IsIdentified path is_strict before after printed prints status
+      IsIdentified name path is_strict before after printed prints status
       ⊎ IsUnidentified path before after printed prints status
 
 -- the texts of the help and of the version
@@ -265,35 +318,35 @@ abbrev pub texts : List ℕ → List ℕ → Texts
 texts help version = record { help = help; version = version }
 
 -- what is done for what options ask for
-abbrev pub DoesTask : Bool → Texts → Asked TaskView → Devices → Devices → Option (List ℕ) → Option (List ℕ) → ℕ → Type 0
-DoesTask known texts (Ok AsksHelp) before after printed prints status = OnlyPrints texts.help before after printed prints status
-DoesTask known texts (Ok AsksVersion) before after printed prints status =
-    OnlyPrints texts.version before after printed prints status
-DoesTask known texts (Ok (AsksIdentity path is_strict)) before after printed prints status =
-    Identifies path is_strict before after printed prints status
-DoesTask known texts (Ok (Asks request)) before after printed prints status =
+abbrev pub DoesTask : Bool → Texts → List ℕ → Asked TaskView → Devices → Devices → Option (List ℕ) → Option (List ℕ) → ℕ → Type 0
+DoesTask known texts name (Ok AsksHelp) before after printed prints status = OnlyPrints name texts.help before after printed prints status
+DoesTask known texts name (Ok AsksVersion) before after printed prints status =
+    OnlyPrints name texts.version before after printed prints status
+DoesTask known texts name (Ok (AsksIdentity path is_strict)) before after printed prints status =
+    Identifies name path is_strict before after printed prints status
+DoesTask known texts name (Ok (Asks request)) before after printed prints status =
     OnlyMakes known request before after printed prints status
-DoesTask known texts (Err fault) before after printed prints status =
-    Complained (OfCall fault) 2 before after printed prints status
+DoesTask known texts name (Err fault) before after printed prints status =
+    Complained name (OfCall fault) 2 before after printed prints status
 
 -- what is done for options, where the program is called so, unless memory is refused
 abbrev pub DoesOptions : Bool → Texts → List ℕ → List OccurrenceView → Devices → Devices → Option (List ℕ) → Option (List ℕ) → ℕ → Type 0
 DoesOptions known texts program options before after printed prints status =
-    DoesTask known texts (task_of (caller_of program) options) before after printed prints status
-    ⊎ Complained OfMemory 3 before after printed prints status
+    DoesTask known texts (subject_of program) (task_of (caller_of program) options) before after printed prints status
+    ⊎ Complained (subject_of program) OfMemory 3 before after printed prints status
 
 -- what is done for words that are read so
 abbrev pub DoesRead : Bool → Texts → List ℕ → Result (List OccurrenceView) WordFaultView → Devices → Devices → Option (List ℕ) → Option (List ℕ) → ℕ → Type 0
 DoesRead known texts program (Ok options) before after printed prints status =
     DoesOptions known texts program options before after printed prints status
 DoesRead known texts program (Err fault) before after printed prints status =
-    Complained (OfWord fault) 2 before after printed prints status
+    Complained (subject_of program) (OfWord fault) 2 before after printed prints status
 
 -- what is done for words, where the program is called so, unless memory is refused
 abbrev pub DoesWords : Bool → Texts → List ℕ → List (List ℕ) → Devices → Devices → Option (List ℕ) → Option (List ℕ) → ℕ → Type 0
 DoesWords known texts program words before after printed prints status =
     DoesRead known texts program (words_read program words) before after printed prints status
-    ⊎ Complained OfMemory 3 before after printed prints status
+    ⊎ Complained (subject_of program) OfMemory 3 before after printed prints status
 
 -- the name that the program is called by: the first argument
 abbrev pub called_by : List (List ℕ) → List ℕ
@@ -305,7 +358,13 @@ abbrev pub Runs : Bool → Texts → List (List ℕ) → Devices → Devices →
 Runs known texts arguments before after printed prints status =
     DoesWords known texts (called_by arguments) (drop 1 arguments) before after printed prints status
 
+-- what is done for the arguments of a process: where memory for them is refused, the program goes by its own name
+abbrev pub Performs : Bool → Texts → List (List ℕ) → Devices → Devices → Option (List ℕ) → Option (List ℕ) → ℕ → Type 0
+Performs known texts arguments before after printed prints status =
+    Runs known texts arguments before after printed prints status
+    ⊎ Complained own_name OfMemory 3 before after printed prints status
+
 -- the command line cannot be read: an argument, which is told, is not UTF-8, or the system failed
 abbrev pub IsUncalled : ErrorKind → List ℕ → Devices → Devices → Option (List ℕ) → Option (List ℕ) → ℕ → Type 0
-IsUncalled InvalidData unread before after printed prints status = Complained (OfArgument unread) 2 before after printed prints status
-IsUncalled _ unread before after printed prints status = Complained OfSystem 3 before after printed prints status
+IsUncalled InvalidData unread before after printed prints status = Complained own_name (OfArgument unread) 2 before after printed prints status
+IsUncalled _ unread before after printed prints status = Complained own_name OfSystem 3 before after printed prints status

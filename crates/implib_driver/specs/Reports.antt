@@ -26,6 +26,8 @@ pub data ComplaintView : Type 0 where
   OfIdentity : NotIdentified → ComplaintView
   -- stubs that cannot run
   OfStub : ComplaintView
+  -- a definition in UTF-16
+  OfUtf16 : ComplaintView
 
 -- the view of a complaint of the program
 abbrev pub complaint_view : Complaint → ComplaintView
@@ -37,6 +39,7 @@ complaint_view (complaint.System cause) = OfSystem
 complaint_view (complaint.Writing cause) = OfWriting
 complaint_view (complaint.Identity fault) = OfIdentity fault
 complaint_view complaint.FailingStub = OfStub
+complaint_view complaint.Utf16 = OfUtf16
 
 -- what is said at once
 pub data Line : Type 0 where

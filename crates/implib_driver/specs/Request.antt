@@ -76,6 +76,7 @@ pub data CallFaultView : Type 0 where
   HasEmptyDll : CallFaultView
   GoesToStandard : CallFaultView
   HasEmptyOutput : CallFaultView
+  HasEmptyDefinition : CallFaultView
   IsOtherArchitecture : CallFaultView
   HasNoUnderscore : CallFaultView
   HasNoOlderSymbols : CallFaultView
@@ -89,6 +90,7 @@ call_fault_view (fault.UnknownFlavor name) = IsUnknownFlavor name.now
 call_fault_view fault.EmptyDll = HasEmptyDll
 call_fault_view fault.OutputToStandard = GoesToStandard
 call_fault_view fault.EmptyOutput = HasEmptyOutput
+call_fault_view fault.EmptyDefinition = HasEmptyDefinition
 call_fault_view fault.OtherArchitecture = IsOtherArchitecture
 call_fault_view fault.NoUnderscore = HasNoUnderscore
 call_fault_view fault.NoOlderSymbols = HasNoOlderSymbols
@@ -316,10 +318,15 @@ older_symbols_or Gnu asked = Ok asked
 abbrev pub older_symbols_in : Flavor → List OccurrenceView → Asked Bool
 older_symbols_in flavor options = older_symbols_or flavor (is_switched CompatImplib options)
 
+-- the definition's file, which has a name
+abbrev pub definition_or : Option (List ℕ) → Asked (List ℕ)
+definition_or None = Err LacksDefinition
+definition_or (Some path) = if bytes_eq path [] then Err HasEmptyDefinition else Ok path
+
 -- the library that is asked for, of this definition
 abbrev pub request_of : Caller → List OccurrenceView → Option (List ℕ) → Asked RequestView
-request_of caller options None = Err LacksDefinition
-request_of caller options (Some definition) =
+request_of caller options given =
+    with (definition_or given) (λ definition.
     with (output_in definition options) (λ output.
     with (machine_in caller.machine options) (λ machine.
     with (flavor_in caller.called_as machine output options) (λ flavor.
@@ -332,7 +339,7 @@ request_of caller options (Some definition) =
       library = record { machine = machine; flavor = flavor; dll = dll; naming = naming; additions = additions_in options };
       older_symbols = older_symbols;
       is_verbose = is_switched Verbose options;
-    })))))))
+    }))))))))
 
 -- the library that options ask for
 abbrev pub request_in : Caller → List OccurrenceView → Asked RequestView

@@ -54,7 +54,11 @@ unsupported =
 abbrev pub unknown : List (List ℕ)
 unknown =
     codes "/outx:a.lib" ∷ codes "/de:a.def" ∷ codes "/" ∷ codes "-" ∷ codes "/:a" ∷ codes "/verbose:a" ∷ codes "/nologo:" ∷ codes "/help:" ∷ codes "--def:a.def"
-    ∷ codes "-d" ∷ codes "--lib" ∷ codes "/out=a.lib" ∷ codes "/home/a.obj" ∷ []
+    ∷ codes "-d" ∷ codes "--lib" ∷ codes "/out=a.lib" ∷ codes "/out=d/a.lib" ∷ codes "-home/a.obj" ∷ []
+
+-- paths that begin as an option does
+abbrev pub paths : List (List ℕ)
+paths = codes "/home/a.obj" ∷ codes "/a.obj" ∷ codes "//a" ∷ []
 
 -- options that lack their colon or their value
 abbrev pub lacking : List (List ℕ)
@@ -107,6 +111,7 @@ pub record LibWordsRead : Type 0 where
   pub without_values : map lib_word_of lacking ≡ map (λ word. Refuses (LacksValueIn word)) lacking
   pub without_machines : map lib_word_of no_machines ≡ map (λ word. Refuses (NamesNoMachine word)) no_machines
   pub no_options : map lib_word_of files ≡ map (λ word. Refuses (IsFile word)) files
+  pub paths_are_files : map lib_word_of paths ≡ map (λ word. Refuses (IsFile word)) paths
   pub usual : read_lib_words usual_words ≡ Ok usual_options
   pub first_fault : read_lib_words (codes "/def:a" ∷ codes "/list" ∷ codes "b.obj" ∷ []) ≡ Err (IsUnsupported (codes "/list"))
   pub fault_before_help : read_lib_words (codes "/help" ∷ codes "/x" ∷ []) ≡ Err (IsUnknown (codes "/x"))

@@ -2,6 +2,7 @@
 
 ghost use Rattle.implib_driver.specs.Arguments.{IsRefusalOf, occurrence_view, word_fault_view};
 ghost use Rattle.implib_driver.specs.LibWords.{is_lib_called, is_lib_machine_unsupported};
+ghost use Rattle.implib_driver.specs.LibWords.{is_path, unknown_fault};
 ghost use Rattle.implib_driver.specs.LibWords.{is_lib_name, is_lib_unsupported, is_mark, lack_of};
 ghost use Rattle.implib_driver.specs.LibWords.{lib_bare, lib_machine_named, lib_machine_word};
 ghost use Rattle.implib_driver.specs.LibWords.{lib_option_named, lib_text, lib_valued};
@@ -142,6 +143,30 @@ fn lib_machine_word<'a>(word: &'a str, name: &str) -> LibWord<'a>
     }
 }
 
+// Whether a word without a meaning and a colon is the path of a file: after its `/` is another one or
+// a full stop, and no `=`.
+fn is_path(word: &str) -> bool
+    ensures { result ≡ is_path word.now }
+{
+    match word.as_bytes() {
+        [b'/', rest @ ..] => {
+            !rest.contains(&b'=') && (rest.contains(&b'/') || rest.contains(&b'.'))
+        }
+        _ => false,
+    }
+}
+
+// Why a word is refused that has no meaning: it is a file, or no option.
+fn unknown_fault(word: &str) -> WordFault<'_>
+    ensures { word_fault_view result ≡ unknown_fault word.now }
+{
+    if is_path(word) {
+        WordFault::File(word)
+    } else {
+        WordFault::Unknown(word)
+    }
+}
+
 // What a word says that has an option of this meaning, a colon and this value.
 fn lib_valued<'a>(
     alloc: Global,
@@ -178,7 +203,7 @@ fn lib_bare(meaning: LibMeaning, word: &str) -> LibWord<'_>
         LibMeaning::Switches(switch) => LibWord::Adds(Occurrence::Switched(switch)),
         LibMeaning::Ignored => LibWord::Nothing,
         LibMeaning::Unsupported => LibWord::Refuses(WordFault::Unsupported(word)),
-        LibMeaning::Unknown => LibWord::Refuses(WordFault::Unknown(word)),
+        LibMeaning::Unknown => LibWord::Refuses(unknown_fault(word)),
     }
 }
 

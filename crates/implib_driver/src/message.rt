@@ -141,6 +141,9 @@ impl<'a> fmt::Display for CallFault<'a> {
             CallFault::OutputToStandard => {
                 f.write_str("the library cannot go to standard output")
             }
+            CallFault::EmptyDefinition => {
+                f.write_str("the name of the definition's file is empty")
+            }
             CallFault::EmptyOutput => f.write_str("the name of the library's file is empty"),
             CallFault::OtherArchitecture => f.write_str(
                 "the program's name is of a machine that is not supported: expected the option -m, or \
@@ -174,6 +177,7 @@ impl<'a> fmt::Display for Complaint<'a> {
                 NotIdentified::NoDll => "no import of a DLL is in it",
                 NotIdentified::SeveralDlls => "it imports from two DLLs or more",
             }),
+            Complaint::Utf16 => f.write_str("the definition is UTF-16; expected UTF-8"),
             Complaint::FailingStub => f.write_str(
                 "functions for GNU's linker cannot run on arm, by the stubs that they have there; \
                  --flavor msvc can",

@@ -164,7 +164,7 @@ pub fn option_named(name: &str) -> Meaning
         "output-lib" => Meaning::Takes(Setting::Output),
         "machine" => Meaning::Takes(Setting::Machine),
         "dllname" => Meaning::Takes(Setting::Dll),
-        "flavor" => Meaning::Takes(Setting::Flavor),
+        "flavor" | "flavour" => Meaning::Takes(Setting::Flavor),
         "as" => Meaning::Takes(Setting::Assembler),
         "as-flags" => Meaning::Takes(Setting::AssemblerFlags),
         "temp-prefix" => Meaning::Takes(Setting::TemporaryPrefix),

@@ -4,9 +4,10 @@ ghost use Rattle.implib.specs.Definition.{definition_view};
 ghost use Rattle.implib_driver.specs.Program.{DoesWords, Finishes, FinishesWith};
 ghost use Rattle.implib_driver.specs.Program.{FinishesFailing, FinishesWithout, members_counted};
 ghost use Rattle.implib_driver.specs.Identity.{identified};
-ghost use Rattle.implib_driver.specs.Program.{Identifies, IsUncalled, KeepsFiles, Makes};
+ghost use Rattle.implib_driver.specs.Program.{Identifies, IsUncalled, KeepsFiles, Makes, Performs};
 ghost use Rattle.implib_driver.specs.Program.{NamesDlls, OnlyComplains, Prints, Runs};
 ghost use Rattle.implib_driver.specs.Program.{SaysWarnings, Warned, answer_status, definition_in};
+ghost use Rattle.implib_driver.specs.Program.{begins_utf16, is_bare, subject_of};
 ghost use Rattle.implib_driver.specs.Program.{devices, own_name, texts};
 ghost use Rattle.implib_driver.specs.Program.{verdict, warning_lines};
 ghost use Rattle.implib_driver.specs.Reports.{Complains, OfMemory, Refuses, Says, complaint_view};
@@ -15,7 +16,7 @@ ghost use Rattle.implib_driver.specs.Request.{request_view};
 ghost use Rattle.implib_rules.specs.Library.{CountsMembers, status_of};
 ghost use Rattle.implib_rules.specs.Warnings.{warning_view};
 ghost use Rattle.std.specs.IoError.{error_kind};
-ghost use Rattle.std.specs.Prelude.{◌≡◌, ◌⊎◌, [], ◌∷◌, IfErr, IfOk, IfSome, List, None, OnErr, OnOk, Option, map, ℕ};
+ghost use Rattle.std.specs.Prelude.{◌≡◌, ◌⊎◌, [], ◌∷◌, IfErr, IfOk, IfSome, List, None, OnErr, OnOk, Option, false, map, true, ℕ};
 ghost use Rattle.std.specs.String.{string_bytes};
 ghost use Rattle.std.specs.Vec.Iter.{into_iter_items};
 
@@ -29,12 +30,13 @@ use crate::request::{CallError, Identification, Request, Task, caller_of, task_o
 use crate::stubs::has_failing_stub;
 use crate::verbose::warnings_for;
 use implib::def::ModuleDef;
-use implib::{Flavor, ParseError};
+use implib::{Flavor, MachineType, ParseError};
 use implib_rules::library::{LibraryError, Refusal, members_asked};
 use implib_rules::members::LibraryMembers;
+use implib_rules::name::last_part;
 use implib_rules::places::{Place, export_lines, read_with_places};
 use implib_rules::text::DefinitionText;
-use implib_rules::text_warnings::text_warnings;
+use implib_rules::text_warnings::{none_warnings, text_warnings};
 use implib_rules::warnings::Warning;
 use std::alloc::{AllocError, Global};
 use std::env::Args;
@@ -104,29 +106,45 @@ Status: 0 made; 1 FILE or LIB is refused; 2 wrong call; 3 a file or memory faile
 // What the program prints for `--version`.
 const VERSION: &str = "implib_dlltool 0.1.0\n";
 
-// The name of the program in what it says.
+// The name of the program.
 const NAME: &str = "implib_dlltool";
 
+// The name that the program says of itself, by the one that it is called by.
+fn subject_of(program: &str) -> &str
+    ensures { result.now ≡ subject_of program.now }
+{
+    let name = last_part(program);
+    if name.is_empty() {
+        return NAME;
+    }
+    name
+}
+
 // Prints bytes. A failure is status 3.
-fn print_bytes<O: Write, T: Reporter>(printer: &mut O, reporter: &mut T, bytes: &[u8]) -> u8
-    ensures { Prints bytes.now (T.said reporter.old) (T.said reporter.new)
+fn print_bytes<O: Write, T: Reporter>(
+    printer: &mut O,
+    reporter: &mut T,
+    name: &str,
+    bytes: &[u8],
+) -> u8
+    ensures { Prints name.now bytes.now (T.said reporter.old) (T.said reporter.new)
         (O.contents printer.old) (O.contents printer.new) result }
 {
     match printer.write_all(bytes) {
         Ok(()) => 0,
         Err(error) => {
-            reporter.complain(NAME, Complaint::System(error));
+            reporter.complain(name, Complaint::System(error));
             3
         }
     }
 }
 
 // Prints a text. A failure is status 3.
-fn print<O: Write, T: Reporter>(printer: &mut O, reporter: &mut T, text: &str) -> u8
-    ensures { Prints text.now (T.said reporter.old) (T.said reporter.new)
+fn print<O: Write, T: Reporter>(printer: &mut O, reporter: &mut T, name: &str, text: &str) -> u8
+    ensures { Prints name.now text.now (T.said reporter.old) (T.said reporter.new)
         (O.contents printer.old) (O.contents printer.new) result }
 {
-    print_bytes(printer, reporter, text.as_bytes())
+    print_bytes(printer, reporter, name, text.as_bytes())
 }
 
 // The exit status for a refusal.
@@ -154,11 +172,46 @@ fn say_warnings<T: Reporter>(
     }
 }
 
-// The bytes of a definition, and how many members its warnings are of.
+// The bytes of a definition, how many members its warnings are of, and whether its library has no
+// more members than those of its DLL.
 #[derive(Clone, Copy, Debug)]
 struct Counted<'a> {
     bytes: &'a [u8],
     members: usize,
+    is_bare: bool,
+}
+
+// Whether a library of this many members has no more than those of its DLL.
+fn is_bare(count: usize) -> bool
+    ensures { result ≡ is_bare count }
+{
+    count < 4
+}
+
+// Says that a definition has no export though something follows EXPORTS, where that is so.
+fn warn_of_none<T: Reporter>(
+    alloc: Global,
+    bytes: &[u8],
+    request: &Request<'_>,
+    reporter: &mut T,
+) -> Result<(), AllocError>
+    ensures warned { OnOk result (Warned false true bytes.now (request_view request.now)
+        (T.said reporter.old) (T.said reporter.new)) }
+    ensures silent { OnErr result (T.said reporter.new ≡ T.said reporter.old) }
+{
+    let read = DefinitionText::new(alloc, bytes)?;
+    let Ok(text) = read.text() else {
+        return Ok(());
+    };
+    match ModuleDef::parse_with_position(alloc, text, MachineType::AMD64) {
+        Ok(def) => {
+            let warnings = none_warnings(alloc, text, def.exports.as_slice())?;
+            say_warnings(reporter, request.definition, warnings.as_slice(), &[]);
+            Ok(())
+        }
+        Err(ParseError::Invalid(..)) => Ok(()),
+        Err(ParseError::OutOfMemory(refused)) => Err(refused),
+    }
 }
 
 // Says the warnings of a definition, of which these are the places.
@@ -190,7 +243,8 @@ fn warn_of<T: Reporter>(
     Ok(())
 }
 
-// Says the warnings of a definition, where they are asked for. What is no definition has none.
+// Says the warnings of a definition, where they are asked for, and of a bare library that there is no
+// export. What is no definition has none.
 fn warn<T: Reporter>(
     alloc: Global,
     counted: Counted<'_>,
@@ -199,10 +253,13 @@ fn warn<T: Reporter>(
 ) -> Result<(), AllocError>
     ensures warned { CountsMembers counted.entry.bytes.now (request_view request.now).library
         (request_view request.now).library.flavor counted.entry.members
-        → OnOk result (Warned request.now.is_verbose counted.entry.bytes.now
+        → OnOk result (Warned request.now.is_verbose counted.entry.is_bare counted.entry.bytes.now
         (request_view request.now) (T.said reporter.old) (T.said reporter.new)) }
     ensures silent { OnErr result (T.said reporter.new ≡ T.said reporter.old) }
 {
+    if !request.is_verbose && counted.is_bare {
+        return warn_of_none(alloc, counted.bytes, request, reporter);
+    }
     if !request.is_verbose {
         return Ok(());
     }
@@ -299,6 +356,7 @@ fn finish<D: Disk, T: Reporter>(
     let counted = Counted {
         bytes,
         members: members_counted(request.library.flavor, members.len()),
+        is_bare: is_bare(members.len()),
     };
     match warn(alloc, counted, request, reporter) {
         Ok(()) => {
@@ -324,7 +382,11 @@ fn refuse_stub<T: Reporter>(
         (T.said reporter.old) (T.said reporter.new) result }
 {
     // No warning of GNU's flavour counts members.
-    let counted = Counted { bytes, members: 0 };
+    let counted = Counted {
+        bytes,
+        members: 0,
+        is_bare: false,
+    };
     match warn(alloc, counted, request, reporter) {
         Ok(()) => {
             reporter.complain(request.definition, Complaint::FailingStub);
@@ -348,11 +410,22 @@ fn refuse<T: Reporter>(
     if let Refusal::OutOfMemory = refusal {
         return give_up(reporter, request);
     }
-    let counted = Counted { bytes, members: 0 };
+    let counted = Counted {
+        bytes,
+        members: 0,
+        is_bare: false,
+    };
     match warn(alloc, counted, request, reporter) {
         Ok(()) => conclude(reporter, request, Err(LibraryError::Refused(refusal))),
         Err(_) => give_up(reporter, request),
     }
+}
+
+// Whether bytes begin as a text in UTF-16.
+fn begins_utf16(bytes: &[u8]) -> bool
+    ensures { result ≡ begins_utf16 bytes.now }
+{
+    bytes.starts_with(&[0xFF, 0xFE]) || bytes.starts_with(&[0xFE, 0xFF])
 }
 
 // Warns of a definition that is read, and puts its library; gives the exit status.
@@ -367,6 +440,10 @@ fn answer<D: Disk, T: Reporter>(
     ensures { Finishes D.is_known bytes.now (request_view request.now)
         (D.view disk.old) (D.view disk.new) (T.said reporter.old) (T.said reporter.new) result }
 {
+    if begins_utf16(bytes) {
+        reporter.complain(request.definition, Complaint::Utf16);
+        return 1;
+    }
     match members_asked(alloc, bytes, &request.library, request.older_symbols) {
         Ok(members) if has_failing_stub(&members, &request.library) => {
             refuse_stub(alloc, bytes, &members, request, reporter)
@@ -398,54 +475,66 @@ fn make<D: Disk, I: Read, T: Reporter>(
     }
 }
 
-// Says a complaint of the command line, and gives the exit status.
-fn complain<T: Reporter>(reporter: &mut T, complaint: Complaint<'_>, status: u8) -> u8
+// Says a complaint of the command line under the program's name, and gives the exit status.
+fn complain<T: Reporter>(reporter: &mut T, name: &str, complaint: Complaint<'_>, status: u8) -> u8
+    ensures said { Says (T.said reporter.old) (T.said reporter.new)
+        (Complains name.now (complaint_view complaint.entry) ∷ []) }
+    ensures status { result ≡ status }
+{
+    reporter.complain(name, complaint);
+    status
+}
+
+// Says a complaint under the program's own name, where it is not known what it is called, and gives the
+// exit status.
+fn complain_uncalled<T: Reporter>(reporter: &mut T, complaint: Complaint<'_>, status: u8) -> u8
     ensures said { Says (T.said reporter.old) (T.said reporter.new)
         (Complains own_name (complaint_view complaint.entry) ∷ []) }
     ensures status { result ≡ status }
 {
-    reporter.complain(NAME, complaint);
-    status
+    complain(reporter, NAME, complaint, status)
 }
 
 // Names the DLLs in a library's bytes, and gives the exit status.
 fn name_dlls<O: Write, T: Reporter>(
     alloc: Global,
+    name: &str,
     bytes: &[u8],
     wish: Identification<'_>,
     printer: &mut O,
     reporter: &mut T,
 ) -> u8
-    ensures { NamesDlls wish.entry.library.now (identified wish.entry.is_strict bytes.now)
+    ensures { NamesDlls name.now wish.entry.library.now (identified wish.entry.is_strict bytes.now)
         (T.said reporter.old) (T.said reporter.new) (O.contents printer.old) (O.contents printer.new) result
-        ⊎ OnlyComplains own_name OfMemory 3 (T.said reporter.old) (T.said reporter.new)
+        ⊎ OnlyComplains name.now OfMemory 3 (T.said reporter.old) (T.said reporter.new)
         (O.contents printer.old) (O.contents printer.new) result }
 {
     match identify(alloc, bytes, wish.is_strict) {
-        Ok(lines) => print_bytes(printer, reporter, lines.as_slice()),
+        Ok(lines) => print_bytes(printer, reporter, name, lines.as_slice()),
         Err(IdentifyError::Refused(fault)) => {
             reporter.complain(wish.library, Complaint::Identity(fault));
             1
         }
-        Err(IdentifyError::OutOfMemory) => complain(reporter, Complaint::OutOfMemory, 3),
+        Err(IdentifyError::OutOfMemory) => complain(reporter, name, Complaint::OutOfMemory, 3),
     }
 }
 
 // Names the DLLs of a library, and gives the exit status.
 fn identify_library<D: Disk, O: Write, T: Reporter>(
     alloc: Global,
+    name: &str,
     disk: &mut D,
     wish: Identification<'_>,
     printer: &mut O,
     reporter: &mut T,
 ) -> u8
-    ensures { (input : Option (List ℕ)) → Identifies wish.entry.library.now wish.entry.is_strict
+    ensures { (input : Option (List ℕ)) → Identifies name.now wish.entry.library.now wish.entry.is_strict
         (devices input (D.view disk.old) (T.said reporter.old))
         (devices input (D.view disk.new) (T.said reporter.new))
         (O.contents printer.old) (O.contents printer.new) result }
 {
     match disk.read(alloc, wish.library) {
-        Ok(bytes) => name_dlls(alloc, bytes.as_slice(), wish, printer, reporter),
+        Ok(bytes) => name_dlls(alloc, name, bytes.as_slice(), wish, printer, reporter),
         Err(error) => {
             reporter.complain(wish.library, Complaint::System(error));
             3
@@ -476,20 +565,23 @@ fn perform_call<D: Disk, I: Read, O: Write, T: Reporter>(
         (devices (I.remaining input.new) (D.view disk.new) (T.said reporter.new))
         (O.contents printer.old) (O.contents printer.new) result }
 {
+    let name = subject_of(call.program);
     let options = match words_read(alloc, call.program, call.words) {
         Ok(options) => options,
         Err(ReadWordsError::Refused(fault)) => {
-            return complain(reporter, Complaint::Word(fault), 2);
+            return complain(reporter, name, Complaint::Word(fault), 2);
         }
-        Err(ReadWordsError::OutOfMemory) => return complain(reporter, Complaint::OutOfMemory, 3),
+        Err(ReadWordsError::OutOfMemory) => {
+            return complain(reporter, name, Complaint::OutOfMemory, 3);
+        }
     };
     match task_of(alloc, options.as_slice(), caller_of(call.program)) {
-        Ok(Task::Help) => print(printer, reporter, HELP),
-        Ok(Task::Version) => print(printer, reporter, VERSION),
-        Ok(Task::Identify(wish)) => identify_library(alloc, disk, wish, printer, reporter),
+        Ok(Task::Help) => print(printer, reporter, name, HELP),
+        Ok(Task::Version) => print(printer, reporter, name, VERSION),
+        Ok(Task::Identify(wish)) => identify_library(alloc, name, disk, wish, printer, reporter),
         Ok(Task::Make(request)) => make(alloc, disk, &request, input, reporter),
-        Err(CallError::Refused(fault)) => complain(reporter, Complaint::Call(fault), 2),
-        Err(CallError::OutOfMemory) => complain(reporter, Complaint::OutOfMemory, 3),
+        Err(CallError::Refused(fault)) => complain(reporter, name, Complaint::Call(fault), 2),
+        Err(CallError::OutOfMemory) => complain(reporter, name, Complaint::OutOfMemory, 3),
     }
 }
 
@@ -545,7 +637,7 @@ fn perform_list<D: Disk, I: Read, O: Write, T: Reporter>(
     reporter: &mut T,
 ) -> u8
     requires { (D.view disk.old).left ≡ None }
-    ensures { Runs D.is_known (texts HELP.now VERSION.now) (map string_bytes (into_iter_items list))
+    ensures { Performs D.is_known (texts HELP.now VERSION.now) (map string_bytes (into_iter_items list))
         (devices (I.remaining input.old) (D.view disk.old) (T.said reporter.old))
         (devices (I.remaining input.new) (D.view disk.new) (T.said reporter.new))
         (O.contents printer.old) (O.contents printer.new) result }
@@ -555,7 +647,7 @@ fn perform_list<D: Disk, I: Read, O: Write, T: Reporter>(
             let arguments = arguments.as_slice();
             run(alloc, arguments, disk, input, printer, reporter)
         }
-        Err(_) => complain(reporter, Complaint::OutOfMemory, 3),
+        Err(_) => complain_uncalled(reporter, Complaint::OutOfMemory, 3),
     }
 }
 
@@ -579,7 +671,7 @@ pub fn perform<D: Disk, I: Read, O: Write, T: Reporter>(
     reporter: &mut T,
 ) -> u8
     requires { (D.view disk.old).left ≡ None }
-    ensures runs { IfOk command_line.entry.arguments (λ list. Runs D.is_known (texts HELP.now VERSION.now)
+    ensures runs { IfOk command_line.entry.arguments (λ list. Performs D.is_known (texts HELP.now VERSION.now)
         (map string_bytes (into_iter_items list))
         (devices (I.remaining input.old) (D.view disk.old) (T.said reporter.old))
         (devices (I.remaining input.new) (D.view disk.new) (T.said reporter.new))
@@ -594,8 +686,8 @@ pub fn perform<D: Disk, I: Read, O: Write, T: Reporter>(
     match arguments {
         Ok(list) => perform_list(alloc, list, disk, input, printer, reporter),
         Err(error) => match error.kind() {
-            ErrorKind::InvalidData => complain(reporter, Complaint::NotUtf8(unread), 2),
-            _ => complain(reporter, Complaint::System(error), 3),
+            ErrorKind::InvalidData => complain_uncalled(reporter, Complaint::NotUtf8(unread), 2),
+            _ => complain_uncalled(reporter, Complaint::System(error), 3),
         },
     }
 }

@@ -31,6 +31,8 @@ pub enum Complaint<'a> {
     Identity(NotIdentified),
     /// A library would have stubs that cannot run.
     FailingStub,
+    /// A definition is in UTF-16.
+    Utf16,
 }
 
 /// Who says what is wrong, each a line.

@@ -80,6 +80,8 @@ pub enum CallFault<'a> {
     OutputToStandard,
     /// The name of the library's file is empty.
     EmptyOutput,
+    /// The name of the definition's file is empty.
+    EmptyDefinition,
     /// No machine is named, and the program's name begins with an architecture that is not
     /// supported.
     OtherArchitecture,
@@ -432,6 +434,9 @@ fn request_in<'a>(
     let Some(definition) = last_given(options, Setting::Definition) else {
         return Err(CallError::Refused(CallFault::NoDefinition));
     };
+    if definition.is_empty() {
+        return Err(CallError::Refused(CallFault::EmptyDefinition));
+    }
     let output = output_in(options, definition)?;
     let machine = machine_in(alloc, options, caller.machine)?;
     let flavor = flavor_in(options, caller.called_as, machine, output)?;
@@ -459,7 +464,7 @@ fn request_in<'a>(
 ///
 /// # Errors
 ///
-/// What is wrong first: no definition; the library to standard output, to a file without a name or
+/// What is wrong first: no definition, or one in a file without a name; the library to standard output, to a file without a name or
 /// to the definition's;
 /// an unknown machine, or none where the program's name is of another architecture; an unknown
 /// flavour; an empty name of the DLL; an underscore where C's symbols have none; older symbols for

@@ -5,24 +5,55 @@ use std::io::{ErrorKind, Write};
 use std::os::unix::fs::{PermissionsExt, symlink};
 use std::path::PathBuf;
 use std::test::Fail;
-use std::{env, fs, io};
+use std::{env, fs, io, process};
 
-// A folder of this name, where the system keeps temporary files.
+// A new folder of this name and the process's number, where the system keeps temporary files.
 fn folder(rt: &HostRuntime, name: &str) -> Result<PathBuf, Fail> {
-    let folder = env::temp_dir(rt)?.join(rt.alloc(), name)?;
-    let _ = fs::create_dir(rt, folder.as_path());
+    let id = process::id(rt.process());
+    let name = format!(in rt.alloc(); "{name}-{id}")?;
+    let folder = env::temp_dir(rt)?.join(rt.alloc(), name.as_str())?;
+    let _ = fs::remove_dir_all(rt, folder.as_path());
+    fs::create_dir(rt, folder.as_path())?;
     Ok(folder)
+}
+
+// Of files beside zoo.a that look like new ones, the one of a process that is gone is removed, and
+// those of a process that runs, of another library or of another form stay. 1 is the number of the
+// first process, and no process has the number 4194305, which is beyond the greatest.
+#[test]
+fn files_of_killed_processes_are_removed(rt: HostRuntime) -> Result<(), Fail> {
+    let folder = folder(&rt, "implib_dlltool_stale")?;
+    let left = [
+        (".zoo.a.implib_dlltool-4194305-0", false),
+        (".zoo.a.implib_dlltool-1-0", true),
+        (".zoo.lib.implib_dlltool-4194305-0", true),
+        (".zoo.a.implib_dlltool-4194305-", true),
+        (".zoo.a.implib_dlltool-4194305-0~", true),
+    ];
+    for (name, _) in &left {
+        fs::write(&rt, folder.join(rt.alloc(), *name)?.as_path(), b"stale")?;
+    }
+    let file = folder.join(rt.alloc(), "zoo.a")?;
+    let mut disk = SystemDisk::new(&rt, 7);
+    let made = disk.begin(file.as_str())?;
+    disk.replace(made)?;
+    for (name, stays) in &left {
+        let path = folder.join(rt.alloc(), *name)?;
+        assert_eq!(rt; fs::exists(&rt, path.as_path())?, *stays);
+    }
+    fs::remove_dir_all(&rt, folder.as_path())?;
+    Ok(())
 }
 
 // A file that a run of the same number left is passed over: the next name is tried.
 #[test]
 fn a_stale_file_is_passed_over(rt: HostRuntime) -> Result<(), Fail> {
-    let folder = folder(&rt, "implib_dlltool_stale")?;
+    let folder = folder(&rt, "implib_dlltool_over")?;
     let file = folder.join(rt.alloc(), "zoo.a")?;
-    let mut killed = SystemDisk::new(&rt, 7);
+    let mut killed = SystemDisk::new(&rt, 1);
     let mut stale = killed.begin(file.as_str())?;
     stale.write_all(b"stale")?;
-    let mut disk = SystemDisk::new(&rt, 7);
+    let mut disk = SystemDisk::new(&rt, 1);
     let mut made = disk.begin(file.as_str())?;
     made.write_all(b"new")?;
     disk.replace(made)?;
@@ -30,11 +61,47 @@ fn a_stale_file_is_passed_over(rt: HostRuntime) -> Result<(), Fail> {
         fs::read(&rt, file.as_path())?.as_slice(),
         b"new".as_slice()
     );
-    let left = folder.join(rt.alloc(), ".implib_dlltool-7-0")?;
+    let left = folder.join(rt.alloc(), ".zoo.a.implib_dlltool-1-0")?;
     assert_eq!(rt;
         fs::read(&rt, left.as_path())?.as_slice(),
         b"stale".as_slice()
     );
+    fs::remove_dir_all(&rt, folder.as_path())?;
+    Ok(())
+}
+
+// A new file cannot be made in a folder that is not there.
+#[test]
+fn no_file_is_made_in_no_folder(rt: HostRuntime) -> Result<(), Fail> {
+    let folder = folder(&rt, "implib_dlltool_none")?;
+    let file = folder.join(rt.alloc(), "none/zoo.a")?;
+    let mut disk = SystemDisk::new(&rt, 7);
+    let is_missing = match disk.begin(file.as_str()) {
+        Ok(_) => false,
+        Err(error) => error.kind() == ErrorKind::NotFound,
+    };
+    assert!(rt; is_missing);
+    fs::remove_dir_all(&rt, folder.as_path())?;
+    Ok(())
+}
+
+// A new file that is removed is gone, and the old one stays.
+#[test]
+fn a_removed_file_leaves_the_old_one(rt: HostRuntime) -> Result<(), Fail> {
+    let folder = folder(&rt, "implib_dlltool_remove")?;
+    let file = folder.join(rt.alloc(), "zoo.a")?;
+    fs::write(&rt, file.as_path(), b"old")?;
+    let mut disk = SystemDisk::new(&rt, 1);
+    let mut made = disk.begin(file.as_str())?;
+    made.write_all(b"new")?;
+    drop(made);
+    disk.remove()?;
+    assert_eq!(rt;
+        fs::read(&rt, file.as_path())?.as_slice(),
+        b"old".as_slice()
+    );
+    let new = folder.join(rt.alloc(), ".zoo.a.implib_dlltool-1-0")?;
+    assert!(rt; !fs::exists(&rt, new.as_path())?);
     fs::remove_dir_all(&rt, folder.as_path())?;
     Ok(())
 }
@@ -46,6 +113,8 @@ fn a_link_is_followed_from_its_folder(rt: HostRuntime) -> Result<(), Fail> {
     let file = folder.join(rt.alloc(), "zoo.a")?;
     let link = folder.join(rt.alloc(), "link.a")?;
     symlink(&rt, "zoo.a", link.as_path())?;
+    fs::write(&rt, file.as_path(), b"old")?;
+    fs::set_permissions(&rt, file.as_path(), Permissions::from_mode(0o604))?;
     let mut disk = SystemDisk::new(&rt, 9);
     let mut made = disk.begin(link.as_str())?;
     made.write_all(b"new")?;
@@ -55,6 +124,8 @@ fn a_link_is_followed_from_its_folder(rt: HostRuntime) -> Result<(), Fail> {
         b"new".as_slice()
     );
     assert!(rt; fs::symlink_metadata(&rt, link.as_path())?.is_symlink());
+    let mode = fs::metadata(&rt, file.as_path())?.permissions().mode();
+    assert_eq!(rt; mode % 0o1000, 0o604);
     fs::remove_dir_all(&rt, folder.as_path())?;
     Ok(())
 }

@@ -10,8 +10,18 @@ use std::{env, fs, io};
 
 // Runs the program with words and standard input; the status, and what it wrote on standard error.
 fn ran(rt: &HostRuntime, words: &[&str], input: &[u8]) -> Result<(u8, String), Fail> {
+    ran_as(rt, "implib_dlltool", words, input)
+}
+
+// The same of the program under another name.
+fn ran_as(
+    rt: &HostRuntime,
+    program: &str,
+    words: &[&str],
+    input: &[u8],
+) -> Result<(u8, String), Fail> {
     let mut arguments = Vec::new(rt.alloc());
-    arguments.push(String::from_str(rt.alloc(), "implib_dlltool")?)?;
+    arguments.push(String::from_str(rt.alloc(), program)?)?;
     for word in words {
         arguments.push(String::from_str(rt.alloc(), *word)?)?;
     }
@@ -135,6 +145,22 @@ fn wrong_calls_are_told(rt: HostRuntime) -> Result<(), Fail> {
         (
             ["-d", "-", "-l", ""].as_slice(),
             "implib_dlltool: the name of the library's file is empty\n",
+        ),
+        (
+            ["-d", ""].as_slice(),
+            "implib_dlltool: the name of the definition's file is empty\n",
+        ),
+        (
+            ["--lib", "/out:a.lib", "/home/x.obj"].as_slice(),
+            "implib_dlltool: /home/x.obj: no option; objects are not supported\n",
+        ),
+        (
+            ["--lib", "/frobnicate"].as_slice(),
+            "implib_dlltool: /frobnicate: no such option\n",
+        ),
+        (
+            ["-d", "-", "--flavour=x"].as_slice(),
+            "implib_dlltool: x: no such flavour: expected msvc or gnu\n",
         ),
         (
             ["-d", "-", "--leading-underscore"].as_slice(),
@@ -531,16 +557,23 @@ fn warnings_are_told(rt: HostRuntime) -> Result<(), Fail> {
         ),
         (
             amd64,
-            "LIBRARY zoo\nEXPORTS @1\n a @65536\n b @0x10\n @g@8\n c @5\n",
+            "LIBRARY zoo\nEXPORTS @1\n a\n @65536\n b @0x10\n @g@8\n c @5\n",
             "-:2:9: warning: `@1` is an export's name here: an ordinal is a number from 0 to 65535, \
              behind a name\n\
-             -:3:4: warning: `@65536` is an export's name here: an ordinal is a number from 0 to \
+             -:4:2: warning: `@65536` is an export's name here: an ordinal is a number from 0 to \
              65535, behind a name\n",
         ),
         (
             i386,
             "LIBRARY zoo\nEXPORTS F@8\n @g@8\n h@@8\n ?i@8\n j@a\n k@4 == k\n l@4 PRIVATE\n m@4 @9 NONAME\n",
             "-:2:9: warning: the DLL is asked for `F@8`; -k asks for `F`\n",
+        ),
+        (
+            amd64,
+            "LIBRARY zoo\nEXPORTS\n// a\n# b\n c EXPORTAS d DATA\n",
+            "-:3:1: warning: `//` begins an export's name here; a comment begins with `;`\n\
+             -:4:1: warning: `#` begins an export's name here; a comment begins with `;`\n\
+             -:5:4: warning: `DATA` follows the name of EXPORTAS; llvm-dlltool refuses it there\n",
         ),
         (killing, "LIBRARY zoo\nEXPORTS F@8\n", ""),
         (amd64, "LIBRARY zoo\nEXPORTS F@8\n a == b\n", ""),
@@ -654,5 +687,75 @@ fn messages_are_lines_of_one_write(rt: HostRuntime) -> Result<(), Fail> {
         wanted.as_str()
     );
     assert_eq!(rt; counted.calls, 1);
+    Ok(())
+}
+
+// What the grammar takes and nobody means is refused, with its place and the file's own words; and of
+// a definition that lists nothing it is told, without `-v` too.
+#[test]
+fn malformed_definitions_are_refused(rt: HostRuntime) -> Result<(), Fail> {
+    let words = ["-d", "-", "-D", "zoo.dll"].as_slice();
+    for (text, said, status) in [
+        (
+            "LIBRARY \"zoo\nEXPORTS\nopen\n",
+            "-:1:9: expected a name, not a quote that its line does not close\n",
+            1,
+        ),
+        (
+            "EXPORTS\nopen @65536\n",
+            "-:2:6: expected an ordinal from 0 to 65535, not `@65536`\n",
+            1,
+        ),
+        (
+            "EXPORTS\nopen @0x10000\n",
+            "-:2:6: expected an ordinal from 0 to 65535, not `@0x10000`\n",
+            1,
+        ),
+        (
+            "EXPORTS\nopen @ 0x10000\n",
+            "-:2:8: expected an ordinal from 0 to 65535, not `0x10000`\n",
+            1,
+        ),
+        (
+            "EXPORTS\nopen @1 @2\n",
+            "-:2:9: expected a statement, as LIBRARY or EXPORTS, not `@2`\n",
+            1,
+        ),
+        (
+            "HEAPSIZE 0x10 0x20\n",
+            "-:1:15: expected a statement, as LIBRARY or EXPORTS, not `0x20`\n",
+            1,
+        ),
+        ("EXPORTS\n; open\n", "-: warning: no export\n", 0),
+        ("EXPORTS\n", "", 0),
+    ] {
+        let (got, wrote) = ran(&rt, words, text.as_bytes())?;
+        assert_eq!(rt; wrote.as_str(), said);
+        assert_eq!(rt; got, status, "{text}");
+    }
+    let (got, wrote) = ran(&rt, words, b"\xff\xfeE\0X\0")?;
+    assert_eq!(rt;
+        wrote.as_str(),
+        "-: the definition is UTF-16; expected UTF-8\n"
+    );
+    assert_eq!(rt; got, 1);
+    Ok(())
+}
+
+// Lines begin with the name that the program is called by, without its folder.
+#[test]
+fn lines_begin_with_the_programs_name(rt: HostRuntime) -> Result<(), Fail> {
+    for (program, said) in [
+        ("/usr/bin/llvm-dlltool", "llvm-dlltool: -z: not supported\n"),
+        (
+            "i686-w64-mingw32-dlltool",
+            "i686-w64-mingw32-dlltool: -z: not supported\n",
+        ),
+        ("", "implib_dlltool: -z: not supported\n"),
+    ] {
+        let (got, wrote) = ran_as(&rt, program, ["-z"].as_slice(), b"")?;
+        assert_eq!(rt; wrote.as_str(), said);
+        assert_eq!(rt; got, 2);
+    }
     Ok(())
 }

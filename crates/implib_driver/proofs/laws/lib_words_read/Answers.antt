@@ -27,6 +27,7 @@ worked = record {
   without_values = refl;
   without_machines = refl;
   no_options = refl;
+  paths_are_files = refl;
   usual = refl;
   first_fault = refl;
   fault_before_help = refl;

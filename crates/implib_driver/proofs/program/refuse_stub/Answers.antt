@@ -1,4 +1,4 @@
-use Rattle.std.proofs.Common.{inr, refl}
+use Rattle.std.proofs.Common.{inl, inr, refl}
 use Rattle.implib_rules.specs.Options.{library_options_view}
 use Rattle.implib_driver.proofs.Finishing.{counts_failing}
 use Rattle.implib_driver.proofs.program.refuse_stub.Goals as goal
@@ -6,7 +6,7 @@ use Rattle.implib_driver.proofs.program.refuse_stub.Goals as goal
 pub returns-in-Ok : goal.returns-in-Ok
 returns-in-Ok g c = λ made fails known disk.
     let library = library_options_view c.args.request.now.library in
-    inr (inr (record {
+    inr (inr (inl (record {
       warned = g.T.Reporter.said c.warn.new.reporter;
       warns = c.in-Ok.ensures.warned (counts_failing c.args.bytes.now library library.flavor library.machine c.args.members.now fails);
       members = c.args.members.now;
@@ -15,4 +15,4 @@ returns-in-Ok g c = λ made fails known disk.
       same_disk = refl;
       says = c.complain.ensures;
       is_status = refl;
-    }))
+    })))
