@@ -241,7 +241,7 @@ static inline uint32_t implib_write(const struct implib_options *options, const 
  * numbers and texts as that of implib_members:
  *
  *     number               how many warnings there are, and then of each, those of the form of the text (kinds 11
- *                          to 13) before the others, and both in the order of their offsets
+ *                          to 15) before the others, and both in the order of their offsets
  *       number             its kind, an IMPLIB_WARNING_..
  *       number             its offset in the text, for implib_position
  *       number, number     its line and its column as the program writes them, in which a byte order mark does not
@@ -268,6 +268,8 @@ static inline uint32_t implib_warnings(const struct implib_options *options, con
 #define IMPLIB_WARNING_SKIPPED 11u         /* a statement is skipped: an import library has no use for it */
 #define IMPLIB_WARNING_ENDS_EARLY 12u      /* a NUL ends the text, and something follows it */
 #define IMPLIB_WARNING_STANDS_ALONE 13u    /* a keyword of other tools is a name here */
+#define IMPLIB_WARNING_LATE         14u    /* an attribute follows the name of EXPORTAS */
+#define IMPLIB_WARNING_COMMENT_LIKE 15u    /* a name begins as a comment of other tools */
 
 /*
  * Puts what each member of a library is for, and imports, at the beginning of the buffer, and returns a status:

@@ -1,12 +1,12 @@
 -- The places that C has of refused texts are those of the refusals.
-use Rattle.std.proofs.Common.{◌≡◌, ◌∙◌, ℕ, ◌+◌, ◌-◌, List, Option, None, Some, ap, arith, sym, take}
+use Rattle.std.proofs.Common.{◌≡◌, ◌∙◌, ℕ, ◌+◌, ◌-◌, List, Option, None, Some, ap, arith, inl, inr, sym, take}
 use Rattle.std.proofs.lemmas.Option.{none-some, same_Some}
 use Rattle.implib.specs.declared.def.position.Position.{Position}
-use Rattle.implib.specs.Fault.{cause_of, export_index}
+use Rattle.implib.specs.Fault.{Cause, cause_of, export_index}
 use Rattle.implib.specs.Text.Position.{line_and_column, position_at}
 use Rattle.implib_rules.specs.declared.library.Refusal.TheVariants as refusal
 use Rattle.implib_rules.proofs.PlainPlaces.{places_kept}
-use Rattle.implib_rules.specs.Library.{definition_text, position_of_export, without_mark}
+use Rattle.implib_rules.specs.Library.{IsSyntaxErrorAt, definition_text, position_of_export, without_mark}
 use Rattle.implib_rules.specs.Places.{IsAtExport}
 use Rattle.implib_c.specs.LibraryWith.{mark_length, place_of_export}
 use Rattle.implib_c.specs.Place.{PlacesAreOfRefusals, text_before}
@@ -29,11 +29,17 @@ of_export text None at position is some = absurd (none-some position some)
 of_export text (Some index) at position is some =
     in_bytes text at (own_offset (definition_text text) _ at is.is) ∙ ap (λ (p : Position). (p.line, p.column)) (same_Some at position some)
 
+-- a syntax error is at the position of its offset
+syntax_there : (text : List ℕ) (cause : Cause) (position : Position) → IsSyntaxErrorAt text cause position → position ≡ position_at text position.offset
+syntax_there text cause position (inl open) = open.there
+syntax_there text cause position (inr (inl parsed)) = parsed.1.1
+syntax_there text cause position (inr (inr misplaced)) = own_offset text misplaced.misplaced.at position misplaced.there
+
 pub places_are_of_refusals : PlacesAreOfRefusals
 places_are_of_refusals text options (refusal.NotUtf8 at) position is some =
     in_bytes text at is.is ∙ ap (λ (p : Position). (p.line, p.column)) (same_Some at position some)
 places_are_of_refusals text options (refusal.Syntax fault at) position is some =
-    in_bytes text at is.refused.1 ∙ ap (λ (p : Position). (p.line, p.column)) (same_Some at position some)
+    in_bytes text at (syntax_there (definition_text text) (cause_of fault) at is.refused) ∙ ap (λ (p : Position). (p.line, p.column)) (same_Some at position some)
 places_are_of_refusals text options refusal.NoName position is some = absurd (none-some position some)
 places_are_of_refusals text options (refusal.Members fault at) position is some = of_export text (export_index (cause_of fault)) at position is.1 some
 places_are_of_refusals text options (refusal.Archive fault) position is some = absurd (none-some position some)

@@ -28,4 +28,6 @@ worked_warnings = record {
   skipped = refl;
   ends_early = refl;
   stands_alone = λ word. refl;
+  late = λ word. refl;
+  comment_like = λ word. refl;
 }

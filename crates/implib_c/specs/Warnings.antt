@@ -33,6 +33,8 @@ kind_number rules.IsSecondHeading = 10
 kind_number rules.IsSkipped = 11
 kind_number rules.EndsEarly = 12
 kind_number (rules.StandsAlone word) = 13
+kind_number (rules.IsLate word) = 14
+kind_number (rules.IsCommentLike word) = 15
 
 -- a warning of a text whose byte order mark has this length
 abbrev pub warned_of : ℕ → WarningView → Warned

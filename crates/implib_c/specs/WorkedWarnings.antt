@@ -51,3 +51,5 @@ pub record WorkedWarnings : Type 0 where
   pub skipped : kind_number rules.IsSkipped ≡ 11
   pub ends_early : kind_number rules.EndsEarly ≡ 12
   pub stands_alone : (word : List ℕ) → kind_number (rules.StandsAlone word) ≡ 13
+  pub late : (word : List ℕ) → kind_number (rules.IsLate word) ≡ 14
+  pub comment_like : (word : List ℕ) → kind_number (rules.IsCommentLike word) ≡ 15

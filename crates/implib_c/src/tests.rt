@@ -494,6 +494,41 @@ fn a_call_with_exports_puts_the_library_of_a_text_that_says_the_same(
     Ok(())
 }
 
+#[test]
+fn an_export_without_a_name_is_told_by_its_index(rt: HostRuntime) -> Result<(), Fail> {
+    let exports = [
+        Export {
+            name: b"feed",
+            target: b"",
+            ordinal: 0,
+            flags: 0,
+        },
+        Export {
+            name: b"",
+            target: b"",
+            ordinal: 0,
+            flags: 0,
+        },
+    ];
+    let mut buffer = room(rt.alloc(), 4096)?;
+    let mut answer = (12_345, 67_890);
+    let status = implib_library_of_nonnull(
+        rt.alloc(),
+        &exports,
+        b"zoo",
+        1,
+        0x8664,
+        0,
+        0,
+        buffer.as_mut_slice(),
+        &mut answer.0,
+        &mut answer.1,
+    );
+    assert_eq!(rt; (status, answer), (24, (0, 1)));
+    assert!(rt; is_untouched(buffer.as_slice()));
+    Ok(())
+}
+
 // How a linker member begins in an archive.
 const LINKER_MEMBER: &[u8] = b"/               0           0     0     0       ";
 

@@ -42,17 +42,17 @@ kept_private : (o : Option (List ℕ)) (e : ExportView) → (kept_by o e).privat
 kept_private None e = refl
 kept_private (Some name) e = refl
 
-public_here : (p : Bool) (e : ExportView) (exports : List ExportView) → filter (λ x. not x.private) (map kept exports) ≡ map kept (filter (λ x. not x.private) exports)
-    → (if not p then kept e ∷ filter (λ x. not x.private) (map kept exports) else filter (λ x. not x.private) (map kept exports))
-    ≡ map kept (if not p then e ∷ filter (λ x. not x.private) exports else filter (λ x. not x.private) exports)
-public_here true e exports rest = rest
-public_here false e exports rest = ap (λ l. kept e ∷ l) rest
+public_here : (machine : MachineType) (p : Bool) (e : ExportView) (exports : List ExportView) → filter (λ x. not x.private) (map (kept machine) exports) ≡ map (kept machine) (filter (λ x. not x.private) exports)
+    → (if not p then kept machine e ∷ filter (λ x. not x.private) (map (kept machine) exports) else filter (λ x. not x.private) (map (kept machine) exports))
+    ≡ map (kept machine) (if not p then e ∷ filter (λ x. not x.private) exports else filter (λ x. not x.private) exports)
+public_here machine true e exports rest = rest
+public_here machine false e exports rest = ap (λ l. kept machine e ∷ l) rest
 
-pub public_kept : (exports : List ExportView) → filter (λ e. not e.private) (map kept exports) ≡ map kept (filter (λ e. not e.private) exports)
-public_kept [] = refl
-public_kept (e ∷ exports) =
-    ap (λ p. if not p then kept e ∷ filter (λ x. not x.private) (map kept exports) else filter (λ x. not x.private) (map kept exports)) (kept_private (exported_name e) e)
-    ∙ public_here e.private e exports (public_kept exports)
+pub public_kept : (machine : MachineType) (exports : List ExportView) → filter (λ e. not e.private) (map (kept machine) exports) ≡ map (kept machine) (filter (λ e. not e.private) exports)
+public_kept machine [] = refl
+public_kept machine (e ∷ exports) =
+    ap (λ p. if not p then kept machine e ∷ filter (λ x. not x.private) (map (kept machine) exports) else filter (λ x. not x.private) (map (kept machine) exports)) (kept_private (exported_name machine e) e)
+    ∙ public_here machine e.private e exports (public_kept machine exports)
 
 -- the aliases of an export's weak externals
 abbrev pub aliases_named : ExportView → List Alias
@@ -68,7 +68,7 @@ later_meanings_by machine dll e None = map MeansAlias (aliases_named e)
 later_meanings_by machine dll e (Some name) = MeansImport (expected_import machine dll e) ∷ []
 
 abbrev pub later_meanings : MachineType → List ℕ → ExportView → List Meaning
-later_meanings machine dll e = later_meanings_by machine dll e (exported_name e)
+later_meanings machine dll e = later_meanings_by machine dll e (exported_name machine e)
 
 module _ (machine : MachineType) (dll : NamesOfDll) where
   one_length : (code alias : Bool) (first second : MemberSpec) (a b : Alias)
@@ -92,7 +92,7 @@ module _ (machine : MachineType) (dll : NamesOfDll) where
   module _ (M : MemberSpec → Option Meaning) where
     -- the short import with the third text of an export means the import of the export
     abbrev pub ThirdMeans : ExportView → Type 0
-    ThirdMeans e = (name : List ℕ) → exported_name e ≡ Some name → M (export_as_spec machine dll e name) ≡ Some (MeansImport (expected_import machine dll.text e))
+    ThirdMeans e = (name : List ℕ) → exported_name machine e ≡ Some name → M (export_as_spec machine dll e name) ≡ Some (MeansImport (expected_import machine dll.text e))
 
     one_later : (o : Option (List ℕ)) (e : ExportView) → ((name : List ℕ) → o ≡ Some name → M (export_as_spec machine dll e name) ≡ Some (MeansImport (expected_import machine dll.text e)))
         → map M (alias_specs machine dll.linked (kept_by o e)) ≡ map means_alias (aliases_named (kept_by o e))
@@ -102,17 +102,17 @@ module _ (machine : MachineType) (dll : NamesOfDll) where
 
     -- so of all exports, where the weak externals of those that are aliases mean these
     pub all_later : (exports : List ExportView) → AllByRecursion (λ e. e.symbol_name ≡ []) exports → AllByRecursion ThirdMeans exports
-        → map M (flat_map (alias_specs machine dll.linked) (map kept exports)) ≡ map means_alias (flat_map aliases_named (map kept exports))
+        → map M (flat_map (alias_specs machine dll.linked) (map (kept machine) exports)) ≡ map means_alias (flat_map aliases_named (map (kept machine) exports))
         → map M (flat_map (later_specs machine dll) exports) ≡ map Some (flat_map (later_meanings machine dll.text) exports)
     all_later [] plain third same = refl
     all_later (e ∷ exports) plain third same =
-        let k = kept e in
-        let parts = cut M means_alias (alias_specs machine dll.linked k) (flat_map (alias_specs machine dll.linked) (map kept exports)) (aliases_named k) (flat_map aliases_named (map kept exports))
-        (length_aliases k (kept_symbol_name (exported_name e) e plain.0)) same in
+        let k = kept machine e in
+        let parts = cut M means_alias (alias_specs machine dll.linked k) (flat_map (alias_specs machine dll.linked) (map (kept machine) exports)) (aliases_named k) (flat_map aliases_named (map (kept machine) exports))
+        (length_aliases k (kept_symbol_name (exported_name machine e) e plain.0)) same in
         let specs = flat_map (later_specs machine dll) exports in
         let meanings = flat_map (later_meanings machine dll.text) exports in
         map-append M (later_specs machine dll e) specs
-        ∙ ap (λ l. l ++ map M specs) (one_later (exported_name e) e third.0 parts.0)
+        ∙ ap (λ l. l ++ map M specs) (one_later (exported_name machine e) e third.0 parts.0)
         ∙ ap (λ l. map Some (later_meanings machine dll.text e) ++ l) (all_later exports plain.1 third.1 parts.1)
         ∙ sym (map-append Some (later_meanings machine dll.text e) meanings)
 
@@ -129,8 +129,8 @@ module _ (machine : MachineType) (dll : NamesOfDll) where
 -- The imports and the aliases among these.
 
 -- an export with a third text is an alias of the name that it asks for
-abbrev pub WeakForText : ExportView → Type 0
-WeakForText e = (name : List ℕ) → exported_name e ≡ Some name → is_weak (kept_by (Some name) e) ≡ true
+abbrev pub WeakForText : MachineType → ExportView → Type 0
+WeakForText machine e = (name : List ℕ) → exported_name machine e ≡ Some name → is_weak (kept_by (Some name) e) ≡ true
 
 module _ (E : ExportView → Import) where
   plain_first : (b : Bool) (e : ExportView) (ks xs : List ExportView) → map E ks ≡ map E xs → map E (if not b then e ∷ ks else ks) ≡ map E (if true && not b then e ∷ xs else xs)
@@ -142,11 +142,11 @@ module _ (E : ExportView → Import) where
   one_first None e ks xs weak rest = plain_first (is_weak e) e ks xs rest
   one_first (Some name) e ks xs weak rest = ap (λ b. map E (if not b then kept_by (Some name) e ∷ ks else ks)) (weak name refl) ∙ rest
 
-  pub first_imports : (exports : List ExportView) → AllByRecursion WeakForText exports
-      → map E (filter (λ e. not (is_weak e)) (map kept exports)) ≡ map E (filter (λ e. not (has_third_text e) && not (is_weak e)) exports)
-  first_imports [] weak = refl
-  first_imports (e ∷ exports) weak =
-      one_first (exported_name e) e (filter (λ x. not (is_weak x)) (map kept exports)) (filter (λ x. not (has_third_text x) && not (is_weak x)) exports) weak.0 (first_imports exports weak.1)
+  pub first_imports : (machine : MachineType) (exports : List ExportView) → AllByRecursion (WeakForText machine) exports
+      → map E (filter (λ e. not (is_weak e)) (map (kept machine) exports)) ≡ map E (filter (λ e. not (has_third_text machine e) && not (is_weak e)) exports)
+  first_imports machine [] weak = refl
+  first_imports machine (e ∷ exports) weak =
+      one_first (exported_name machine e) e (filter (λ x. not (is_weak x)) (map (kept machine) exports)) (filter (λ x. not (has_third_text machine x) && not (is_weak x)) exports) weak.0 (first_imports machine exports weak.1)
 
 module _ (machine : MachineType) (dll : List ℕ) where
   one_text : (o : Option (List ℕ)) (e : ExportView) (rest : List Meaning) (xs : List ExportView) → filter_map import_among rest ≡ map (expected_import machine dll) xs
@@ -157,9 +157,9 @@ module _ (machine : MachineType) (dll : List ℕ) where
       ∙ same
   one_text (Some name) e rest xs same = ap (λ l. expected_import machine dll e ∷ l) same
 
-  pub text_imports : (exports : List ExportView) → filter_map import_among (flat_map (later_meanings machine dll) exports) ≡ map (expected_import machine dll) (filter has_third_text exports)
+  pub text_imports : (exports : List ExportView) → filter_map import_among (flat_map (later_meanings machine dll) exports) ≡ map (expected_import machine dll) (filter (has_third_text machine) exports)
   text_imports [] = refl
-  text_imports (e ∷ exports) = one_text (exported_name e) e (flat_map (later_meanings machine dll) exports) (filter has_third_text exports) (text_imports exports)
+  text_imports (e ∷ exports) = one_text (exported_name machine e) e (flat_map (later_meanings machine dll) exports) (filter (has_third_text machine) exports) (text_imports exports)
 
   none_kept : (b : Bool) (aliases : List Alias) → aliases ≡ [] → (if b then aliases else drop 1 aliases) ≡ []
   none_kept true aliases none = none
@@ -182,7 +182,7 @@ module _ (machine : MachineType) (dll : List ℕ) where
   pub later_aliases : (exports : List ExportView) → filter_map alias_among (flat_map (later_meanings machine dll) exports) ≡ flat_map aliases_named exports
   later_aliases [] = refl
   later_aliases (e ∷ exports) =
-      one_alias (exported_name e) e (flat_map (later_meanings machine dll) exports) (flat_map aliases_named exports) (λ name is. (asks_by_text e name is).no_target) (later_aliases exports)
+      one_alias (exported_name machine e) e (flat_map (later_meanings machine dll) exports) (flat_map aliases_named exports) (λ name is. (asks_by_text machine e name is).no_target) (later_aliases exports)
 
 -- imports before other meanings
 pub imports_then : (imports : List Import) (rest : List Meaning) → filter_map import_among (map MeansImport imports ++ rest) ≡ imports ++ filter_map import_among rest

@@ -159,23 +159,23 @@ module _ (machine : MachineType) (dll : NamesOfDll) where
   one_declares None e third same = same
   one_declares (Some name) e third same = ap (λ symbols. symbols ∷ []) (third name refl)
 
-  later_declare : (exports : List ExportView) → AllByRecursion (λ e. (name : List ℕ) → exported_name e ≡ Some name → ThirdDeclares e name) exports
-      → Declare (flat_map (alias_specs machine dll.linked) (map kept exports)) → Declare (flat_map (later_specs machine dll) exports)
+  later_declare : (exports : List ExportView) → AllByRecursion (λ e. (name : List ℕ) → exported_name machine e ≡ Some name → ThirdDeclares e name) exports
+      → Declare (flat_map (alias_specs machine dll.linked) (map (kept machine) exports)) → Declare (flat_map (later_specs machine dll) exports)
   later_declare [] third same = refl
   later_declare (e ∷ exports) third same =
-      let parts = parts_declare (alias_specs machine dll.linked (kept e)) (flat_map (alias_specs machine dll.linked) (map kept exports)) same in
+      let parts = parts_declare (alias_specs machine dll.linked (kept machine e)) (flat_map (alias_specs machine dll.linked) (map (kept machine) exports)) same in
       both_declare (later_specs machine dll e) (flat_map (later_specs machine dll) exports)
-      (one_declares (exported_name e) e third.0 parts.0) (later_declare exports third.1 parts.1)
+      (one_declares (exported_name machine e) e third.0 parts.0) (later_declare exports third.1 parts.1)
 
 texts_declare : SameShortImports → SameObjects → (d : DefinitionView) (machine : MachineType) (members : List MemberView)
     → MadeByTexts (renamed d) machine members → AllByRecursion (λ e. e.symbol_name ≡ []) (public_exports (renamed d)) → Declare (export_as_library machine (renamed d))
 texts_declare imports objects d machine members made plain =
     let x = renamed d in
-    let k = kept_definition x in
+    let k = kept_definition machine x in
     let dll = names_for Msvc x in
-    let once : renamed k ≡ k = kept_renamed x ∙ ap kept_definition (renamed_twice d) in
+    let once : renamed k ≡ k = kept_renamed machine x ∙ ap (kept_definition machine) (renamed_twice d) in
     let own = map member_of (msvc_specs machine k) in
-    let reads = reads_in_order k machine made.all own made.made made.reads.files once (plain_public_kept x plain) refl in
+    let reads = reads_in_order k machine made.all own made.made made.reads.files once (plain_public_kept machine x plain) refl in
     let has = msvc_files k machine made.all own made.made made.reads.files once refl reads in
     let all = by_members own (msvc_specs machine k) refl (files_declare imports objects own has) in
     let header = header_specs machine dll in
@@ -183,8 +183,8 @@ texts_declare imports objects d machine members made plain =
     let aliases = flat_map (alias_specs machine dll.linked) (public_exports k) in
     let parts = parts_declare header (i ++ aliases) all in
     let others = parts_declare i aliases parts.1 in
-    let kept_aliases : Declare (flat_map (alias_specs machine dll.linked) (map kept (public_exports x))) =
-    subst (λ (exports : List ExportView). Declare (flat_map (alias_specs machine dll.linked) exports)) (public_kept x.exports) others.1 in
+    let kept_aliases : Declare (flat_map (alias_specs machine dll.linked) (map (kept machine) (public_exports x))) =
+    subst (λ (exports : List ExportView). Declare (flat_map (alias_specs machine dll.linked) exports)) (public_kept machine x.exports) others.1 in
     let third = texts_are machine dll (ThirdDeclares machine dll)
     (λ e name text. text_declares machine dll.text e name text.plain text.sound (import_name_is_free k machine Msvc made.all made.made) text.fits)
     (public_exports x) (texts_of x machine members made once plain) in

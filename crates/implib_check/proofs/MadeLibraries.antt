@@ -55,8 +55,8 @@ use Rattle.implib_check.proofs.ThirdTexts.{asks_by_text, text_means}
 -- the members of a library with third texts
 pub record MadeByTexts (d : DefinitionView) (machine : MachineType) (members : List MemberView) : Type 0 where
   pub all : List MemberView
-  pub made : AreMembersOf (kept_definition d) machine Msvc all
-  pub reads : ReadBack (kept_definition d) machine Msvc all
+  pub made : AreMembersOf (kept_definition machine d) machine Msvc all
+  pub reads : ReadBack (kept_definition machine d) machine Msvc all
   pub is : members ≡ map member_of (export_as_library machine d)
   pub fit : list_any is_too_long (all_export_as_specs machine d) ≡ false
 
@@ -70,14 +70,14 @@ none_too_long specs none = by (list_any is_too_long specs) none
 pub made_by_texts : (naming : NamingView) (d : DefinitionView) (machine : MachineType) (members : List MemberView)
     → AreMadeFor naming d machine Msvc members → naming.exports_as ≡ true → MadeByTexts d machine members
 made_by_texts naming d machine members made on =
-    let is_made : definition_made naming Msvc d ≡ kept_definition d = ap (λ b. if b then kept_definition d else d) on in
+    let is_made : definition_made naming machine Msvc d ≡ kept_definition machine d = ap (λ b. if b then kept_definition machine d else d) on in
     let refused : export_as_refusal d machine ≡ None = sym (ap (λ b. if b then export_as_refusal d machine else refusal d machine Msvc) on) ∙ made.accepted in
     record {
       all = made.all;
       made = subst (λ (x : DefinitionView). AreMembersOf x machine Msvc made.all) is_made made.made;
       reads = subst (λ (x : DefinitionView). ReadBack x machine Msvc made.all) is_made made.reads;
       is = made.is ∙ ap (λ b. map member_of (if b then export_as_library machine d else msvc_specs machine d)) on;
-      fit = none_too_long (all_export_as_specs machine d) (first_none (refusal (kept_definition d) machine Msvc) (length_refusal (all_export_as_specs machine d)) refused).1;
+      fit = none_too_long (all_export_as_specs machine d) (first_none (refusal (kept_definition machine d) machine Msvc) (length_refusal (all_export_as_specs machine d)) refused).1;
     }
 
 -- what the members of a library are for, where any member may define the externals of another
@@ -113,36 +113,36 @@ classes_of own kind specs members meant is accepted there =
     }
 
 -- each of the exports is linked by its name, and is weak for its text
-weak_for_texts : (exports : List ExportView) → AllByRecursion WeakForText (filter (λ e. not e.private) (map renamed_export exports))
-weak_for_texts [] = tt
-weak_for_texts (e ∷ exports) = by e.private (weak_for_texts exports)
+weak_for_texts : (machine : MachineType) (exports : List ExportView) → AllByRecursion (WeakForText machine) (filter (λ e. not e.private) (map renamed_export exports))
+weak_for_texts machine [] = tt
+weak_for_texts machine (e ∷ exports) = by e.private (weak_for_texts machine exports)
   where
-    by : (b : Bool) → AllByRecursion WeakForText (filter (λ x. not x.private) (map renamed_export exports))
-        → AllByRecursion WeakForText (if not b then renamed_export e ∷ filter (λ x. not x.private) (map renamed_export exports) else filter (λ x. not x.private) (map renamed_export exports))
+    by : (b : Bool) → AllByRecursion (WeakForText machine) (filter (λ x. not x.private) (map renamed_export exports))
+        → AllByRecursion (WeakForText machine) (if not b then renamed_export e ∷ filter (λ x. not x.private) (map renamed_export exports) else filter (λ x. not x.private) (map renamed_export exports))
     by true rest = rest
-    by false rest = ((λ name is. (asks_by_text (renamed_export e) name is).other), rest)
+    by false rest = ((λ name is. (asks_by_text machine (renamed_export e) name is).other), rest)
 
-plain_kept : (exports : List ExportView) → AllByRecursion (λ e. e.symbol_name ≡ []) exports → AllByRecursion (λ e. e.symbol_name ≡ []) (map kept exports)
-plain_kept [] plain = tt
-plain_kept (e ∷ exports) plain = (kept_symbol_name (exported_name e) e plain.0, plain_kept exports plain.1)
+plain_kept : (machine : MachineType) (exports : List ExportView) → AllByRecursion (λ e. e.symbol_name ≡ []) exports → AllByRecursion (λ e. e.symbol_name ≡ []) (map (kept machine) exports)
+plain_kept machine [] plain = tt
+plain_kept machine (e ∷ exports) plain = (kept_symbol_name (exported_name machine e) e plain.0, plain_kept machine exports plain.1)
 
-pub plain_public_kept : (d : DefinitionView) → AllByRecursion (λ e. e.symbol_name ≡ []) (public_exports d) → AllByRecursion (λ e. e.symbol_name ≡ []) (public_exports (kept_definition d))
-plain_public_kept d plain = subst (λ (x : List ExportView). AllByRecursion (λ e. e.symbol_name ≡ []) x) (sym (public_kept d.exports)) (plain_kept (public_exports d) plain)
+pub plain_public_kept : (machine : MachineType) (d : DefinitionView) → AllByRecursion (λ e. e.symbol_name ≡ []) (public_exports d) → AllByRecursion (λ e. e.symbol_name ≡ []) (public_exports (kept_definition machine d))
+plain_public_kept machine d plain = subst (λ (x : List ExportView). AllByRecursion (λ e. e.symbol_name ≡ []) x) (sym (public_kept machine d.exports)) (plain_kept machine (public_exports d) plain)
 
 -- Short imports with third texts.
 
 -- such a short import of an export is sound and short enough
 pub record IsTextOf (machine : MachineType) (dll : NamesOfDll) (e : ExportView) (name : List ℕ) : Type 0 where
-  pub is : exported_name e ≡ Some name
+  pub is : exported_name machine e ≡ Some name
   pub plain : e.symbol_name ≡ []
   pub sound : Sound (kept_by (Some name) e)
   pub fits : short_import_size (export_as_import machine dll.text e name) ≤ 0xFFFF_FFFF
 
 -- each of the exports has such a short import, if it has a third text
 abbrev pub HasTexts : MachineType → NamesOfDll → ExportView → Type 0
-HasTexts machine dll e = (name : List ℕ) → exported_name e ≡ Some name → IsTextOf machine dll e name
+HasTexts machine dll e = (name : List ℕ) → exported_name machine e ≡ Some name → IsTextOf machine dll e name
 
-have_texts : (machine : MachineType) (dll : NamesOfDll) (exports : List ExportView) → AllByRecursion (λ e. e.symbol_name ≡ []) exports → AllByRecursion Sound (map kept exports)
+have_texts : (machine : MachineType) (dll : NamesOfDll) (exports : List ExportView) → AllByRecursion (λ e. e.symbol_name ≡ []) exports → AllByRecursion Sound (map (kept machine) exports)
     → list_any is_too_long (flat_map (export_as_specs machine dll) exports) ≡ false → AllByRecursion (HasTexts machine dll) exports
 have_texts machine dll [] plain sound fit = tt
 have_texts machine dll (e ∷ exports) plain sound fit =
@@ -162,17 +162,17 @@ have_texts machine dll (e ∷ exports) plain sound fit =
 
 -- what all such short imports are, by what each is
 pub texts_are : (machine : MachineType) (dll : NamesOfDll) (P : ExportView → List ℕ → Type 0) → ((e : ExportView) (name : List ℕ) → IsTextOf machine dll e name → P e name)
-    → (exports : List ExportView) → AllByRecursion (HasTexts machine dll) exports → AllByRecursion (λ e. (name : List ℕ) → exported_name e ≡ Some name → P e name) exports
+    → (exports : List ExportView) → AllByRecursion (HasTexts machine dll) exports → AllByRecursion (λ e. (name : List ℕ) → exported_name machine e ≡ Some name → P e name) exports
 texts_are machine dll P each [] texts = tt
 texts_are machine dll P each (e ∷ exports) texts = ((λ name is. each e name (texts.0 name is)), texts_are machine dll P each exports texts.1)
 
 -- those of a library
-pub texts_of : (d : DefinitionView) (machine : MachineType) (members : List MemberView) → MadeByTexts d machine members → renamed (kept_definition d) ≡ kept_definition d
+pub texts_of : (d : DefinitionView) (machine : MachineType) (members : List MemberView) → MadeByTexts d machine members → renamed (kept_definition machine d) ≡ kept_definition machine d
     → AllByRecursion (λ e. e.symbol_name ≡ []) (public_exports d) → AllByRecursion (HasTexts machine (names_for Msvc d)) (public_exports d)
 texts_of d machine members made once plain =
-    let k = kept_definition d in
-    let sound : AllByRecursion Sound (map kept (public_exports d)) =
-    subst (λ (x : List ExportView). AllByRecursion Sound x) (public_kept d.exports)
+    let k = kept_definition machine d in
+    let sound : AllByRecursion Sound (map (kept machine) (public_exports d)) =
+    subst (λ (x : List ExportView). AllByRecursion Sound x) (public_kept machine d.exports)
     (subst (λ (x : DefinitionView). AllByRecursion Sound (public_exports x)) once (exports_sound k machine Msvc made.all made.made)) in
     have_texts machine (names_for Msvc d) (public_exports d) plain sound made.fit
 
@@ -182,9 +182,9 @@ module _ (defined : List ℕ → Option Place) where
   means p = meaning_of_class (class_of_spec defined p)
 
   module _ (imports : SameShortImports) (objects : SameObjects) (d : DefinitionView) (machine : MachineType) (members : List MemberView)
-      (made : MadeByTexts d machine members) (once : renamed (kept_definition d) ≡ kept_definition d) (plain : AllByRecursion (λ e. e.symbol_name ≡ []) (public_exports d)) where
+      (made : MadeByTexts d machine members) (once : renamed (kept_definition machine d) ≡ kept_definition machine d) (plain : AllByRecursion (λ e. e.symbol_name ≡ []) (public_exports d)) where
     abbrev k : DefinitionView
-    k = kept_definition d
+    k = kept_definition machine d
 
     abbrev specs : List MemberSpec
     specs = msvc_specs machine k
@@ -209,7 +209,7 @@ module _ (defined : List ℕ → Option Place) where
     kept_means : map meaning_of_class (drop 3 (map (class_of_spec defined) specs)) ≡ map Some kept_meanings
     kept_means =
         let own = map member_of specs in
-        let reads = reads_in_order k machine made.all own made.made made.reads.files once (plain_public_kept d plain) refl in
+        let reads = reads_in_order k machine made.all own made.made made.reads.files once (plain_public_kept machine d plain) refl in
         let fs = files_of_specs specs in
         let means_these : map meaning_of (drop 3 fs) ≡ map Some kept_meanings =
         sym (read_meanings (drop 3 fs))
@@ -230,7 +230,7 @@ module _ (defined : List ℕ → Option Place) where
     after_header_specs ps = map_twice meaning_of_class (class_of_spec defined) ps
 
     kept_parts : (map means (all_import_specs machine k) ≡ map (λ i. Some (MeansImport i)) (own_imports machine k))
-        × (map means (flat_map (alias_specs machine (names_for Msvc d).linked) (map kept (public_exports d))) ≡ map means_alias (flat_map aliases_named (map kept (public_exports d))))
+        × (map means (flat_map (alias_specs machine (names_for Msvc d).linked) (map (kept machine) (public_exports d))) ≡ map means_alias (flat_map aliases_named (map (kept machine) (public_exports d))))
     kept_parts =
         let i = all_import_specs machine k in
         let a = flat_map (alias_specs machine (names_for Msvc d).linked) (public_exports k) in
@@ -238,7 +238,7 @@ module _ (defined : List ℕ → Option Place) where
         let parts = cut means Some i a (map MeansImport (own_imports machine k)) (map MeansAlias (own_aliases k))
         (length_imports machine (names_for Msvc d) (public_exports k) ∙ sym (length-map (own_imports machine k) MeansImport)) both in (
           parts.0 ∙ map_twice Some MeansImport (own_imports machine k),
-          subst (λ (x : List ExportView). map means (flat_map (alias_specs machine (names_for Msvc d).linked) x) ≡ map means_alias (flat_map aliases_named x)) (public_kept d.exports)
+          subst (λ (x : List ExportView). map means (flat_map (alias_specs machine (names_for Msvc d).linked) x) ≡ map means_alias (flat_map aliases_named x)) (public_kept machine d.exports)
               (parts.1 ∙ map_twice Some MeansAlias (own_aliases k)),
         )
 
@@ -277,10 +277,10 @@ pub header_by_texts : OwnMembersFound → SameShortImports → SameObjects → (
     → MadeByTexts (renamed d) machine members → AllByRecursion (λ e. e.symbol_name ≡ []) (public_exports (renamed d))
     → refusal_of kind members ≡ None → library_in (archive_of kind members) ≡ Some meant
     → HasHeader 3 (Descriptor ∷ NullDescriptor ∷ NullThunk ∷ []) meant
-    (map MeansImport (own_imports machine (kept_definition (renamed d))) ++ flat_map (later_meanings machine (renamed d).import_name) (public_exports (renamed d)))
+    (map MeansImport (own_imports machine (kept_definition machine (renamed d))) ++ flat_map (later_meanings machine (renamed d).import_name) (public_exports (renamed d)))
 header_by_texts own imports objects kind d machine members meant made plain accepted there =
     let x = renamed d in
-    let once : renamed (kept_definition x) ≡ kept_definition x = kept_renamed x ∙ ap kept_definition (renamed_twice d) in
+    let once : renamed (kept_definition machine x) ≡ kept_definition machine x = kept_renamed machine x ∙ ap (kept_definition machine) (renamed_twice d) in
     let cs = classes_of own kind (export_as_library machine x) members meant made.is accepted there in
     has_header cs.defined imports objects x machine members made once plain meant cs.are
 
@@ -291,19 +291,19 @@ says_by_texts : OwnMembersFound → SameShortImports → SameObjects → (kind :
     × ((filter_map alias_among (meanings_read meant) ≡ own_aliases (renamed d)) × ((has_unread meant ≡ false) × (has_other meant ≡ false)))
 says_by_texts own imports objects kind d machine members meant made plain accepted there =
     let x = renamed d in
-    let k = kept_definition x in
+    let k = kept_definition machine x in
     let exports = public_exports x in
     let has = header_by_texts own imports objects kind d machine members meant made plain accepted there in
     let later = flat_map (later_meanings machine x.import_name) exports in
     let whole = after_header 3 (Descriptor ∷ NullDescriptor ∷ NullThunk ∷ []) meant (map MeansImport (own_imports machine k) ++ later) refl refl refl has.first has.rest in
     let expected = expected_import machine x.import_name in
-    let first : own_imports machine k ≡ map expected (filter (λ e. not (has_third_text e) && not (is_weak e)) exports) =
-    ap (λ l. map expected (filter (λ e. not (is_weak e)) l)) (public_kept x.exports)
-    ∙ first_imports expected exports (weak_for_texts d.exports) in (
+    let first : own_imports machine k ≡ map expected (filter (λ e. not (has_third_text machine e) && not (is_weak e)) exports) =
+    ap (λ l. map expected (filter (λ e. not (is_weak e)) l)) (public_kept machine x.exports)
+    ∙ first_imports expected machine exports (weak_for_texts machine d.exports) in (
       ap (filter_map import_among) whole.meanings
           ∙ imports_then (own_imports machine k) later
           ∙ ap (λ l. l ++ filter_map import_among later) first
-          ∙ ap (λ l. map expected (filter (λ e. not (has_third_text e) && not (is_weak e)) exports) ++ l) (text_imports machine x.import_name exports),
+          ∙ ap (λ l. map expected (filter (λ e. not (has_third_text machine e) && not (is_weak e)) exports) ++ l) (text_imports machine x.import_name exports),
       (
         ap (filter_map alias_among) whole.meanings
             ∙ aliases_after (own_imports machine k) later

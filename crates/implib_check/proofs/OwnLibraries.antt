@@ -310,7 +310,7 @@ pub record MadePlainly (d : DefinitionView) (machine : MachineType) (flavor : Fl
 pub made_plainly : (naming : NamingView) (d : DefinitionView) (machine : MachineType) (flavor : Flavor) (members : List MemberView)
     → AreMadeFor naming d machine flavor members → naming.exports_as ≡ false → MadePlainly d machine flavor members
 made_plainly naming d machine flavor members made off =
-    let is_made = made_is naming flavor d off in
+    let is_made = made_is naming machine flavor d off in
     record {
       all = made.all;
       made = subst (λ (x : DefinitionView). AreMembersOf x machine flavor made.all) is_made made.made;

@@ -238,8 +238,8 @@ expected_of_dll machine dll (e ∷ exports) = (refl, expected_of_dll machine dll
 
 texts_of_dll : (b : Bool) (machine : MachineType) (d : DefinitionView) → AllByRecursion (λ (i : Import). i.dll ≡ d.import_name) (if b then imports_by_texts machine d else own_imports machine d)
 texts_of_dll true machine d =
-    all_append (λ (i : Import). i.dll ≡ d.import_name) (map (expected_import machine d.import_name) (filter (λ e. not (has_third_text e) && not (is_weak e)) (public_exports d)))
-    (map (expected_import machine d.import_name) (filter has_third_text (public_exports d)))
+    all_append (λ (i : Import). i.dll ≡ d.import_name) (map (expected_import machine d.import_name) (filter (λ e. not (has_third_text machine e) && not (is_weak e)) (public_exports d)))
+    (map (expected_import machine d.import_name) (filter (has_third_text machine) (public_exports d)))
     (expected_of_dll machine d.import_name _) (expected_of_dll machine d.import_name _)
 texts_of_dll false machine d = expected_of_dll machine d.import_name _
 

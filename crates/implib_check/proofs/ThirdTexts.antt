@@ -11,7 +11,7 @@ use Rattle.implib.specs.Formats.File.{AnImport as MeansImport}
 use Rattle.implib.specs.Formats.Object.{u16_at}
 use Rattle.implib.specs.Formats.ShortImport.{before_at_sign, is_short_import, short_import_header_size, text_in, without_prefix}
 use Rattle.implib.specs.Import.{Ask, Name, Ordinal, expected_import, holds, import_symbols, is_alias, is_empty_text}
-use Rattle.implib.specs.Machine.{machine_number}
+use Rattle.implib.specs.Machine.{has_leading_underscore, machine_number}
 use Rattle.implib.specs.Members.Msvc.{short_import_bytes, short_import_size, short_import_symbol, short_import_symbols, symbol_or_name}
 use Rattle.implib.specs.Underscore.{asked_name}
 use Rattle.implib.proofs.Members.NotRefused.{Sound}
@@ -122,9 +122,9 @@ module _ (defined : List ℕ → Option Place) (bytes : List ℕ) (r : ExportAsR
   is_read is = by_tests (is_short_import bytes) (nat_le 16 (u16_at bytes 18)) (nat_le (u16_at bytes 18) 18) refl refl refl is
 
 -- a name that is asked for by a third text is another symbol than that of the export
-other_symbol : (symbol name : List ℕ) → is_empty_text name ≡ false → makes symbol name ≡ false → is_alias name symbol ≡ true
-other_symbol symbol name full apart =
-    let differs = (neither (bytes_eq symbol name) (bytes_eq (without_prefix symbol) name || bytes_eq (before_at_sign (without_prefix symbol)) name) apart).0 in
+other_symbol : (machine : MachineType) (symbol name : List ℕ) → is_empty_text name ≡ false → makes machine symbol name ≡ false → is_alias name symbol ≡ true
+other_symbol machine symbol name full apart =
+    let differs = (neither (bytes_eq symbol name) (has_leading_underscore machine && (bytes_eq (without_prefix symbol) name || bytes_eq (before_at_sign (without_prefix symbol)) name)) apart).0 in
     let other : bytes_eq name symbol ≡ false =
     elim (cases_Bool (bytes_eq name symbol)) [
       | inl same ↦ absurd (true≢false (sym ((bytes_eq-Decides symbol name).1 (sym ((bytes_eq-Decides name symbol).0 same))) ∙ differs))
@@ -132,15 +132,15 @@ other_symbol symbol name full apart =
     ] in
     ap (λ b. not b && not (bytes_eq name symbol)) full ∙ ap not other
 
-apart_by : (symbol : List ℕ) (asked : Option (List ℕ)) (name : List ℕ) → name_apart symbol asked ≡ Some name → (asked ≡ Some name) × (is_alias name symbol ≡ true)
-apart_by symbol None name is = absurd (none-some name is)
-apart_by symbol (Some asked) name is =
-    elim (cases_Bool (is_empty_text asked || makes symbol asked)) [
+apart_by : (machine : MachineType) (symbol : List ℕ) (asked : Option (List ℕ)) (name : List ℕ) → name_apart machine symbol asked ≡ Some name → (asked ≡ Some name) × (is_alias name symbol ≡ true)
+apart_by machine symbol None name is = absurd (none-some name is)
+apart_by machine symbol (Some asked) name is =
+    elim (cases_Bool (is_empty_text asked || makes machine symbol asked)) [
       | inl refused ↦ absurd (none-some name (ap (λ b. if b then None else Some asked) (sym refused) ∙ is))
       | inr passed ↦
           let same : asked ≡ name = same_Some asked name (ap (λ b. if b then None else Some asked) (sym passed) ∙ is) in
-          let parts = neither (is_empty_text asked) (makes symbol asked) passed in
-          (ap Some same, subst (λ n. is_alias n symbol ≡ true) same (other_symbol symbol asked parts.0 parts.1))
+          let parts = neither (is_empty_text asked) (makes machine symbol asked) passed in
+          (ap Some same, subst (λ n. is_alias n symbol ≡ true) same (other_symbol machine symbol asked parts.0 parts.1))
     ]
 
 -- an export with a third text asks for that name, and is no alias, though its symbol would be weak for the name
@@ -150,14 +150,14 @@ pub record AsksByText (e : ExportView) (name : List ℕ) : Type 0 where
   pub asked : e.asked_name ≡ Some name
   pub other : is_alias name (symbol_made e) ≡ true
 
-pub asks_by_text : (e : ExportView) (name : List ℕ) → exported_name e ≡ Some name → AsksByText e name
-asks_by_text e name is =
+pub asks_by_text : (machine : MachineType) (e : ExportView) (name : List ℕ) → exported_name machine e ≡ Some name → AsksByText e name
+asks_by_text machine e name is =
     elim (cases_Bool (e.private || (e.no_name || has_target e))) [
-      | inl none ↦ absurd (none-some name (ap (λ b. if b then None else name_apart (symbol_made e) e.asked_name) (sym none) ∙ is))
+      | inl none ↦ absurd (none-some name (ap (λ b. if b then None else name_apart machine (symbol_made e) e.asked_name) (sym none) ∙ is))
       | inr passed ↦
           let parts = neither e.private (e.no_name || has_target e) passed in
           let others = neither e.no_name (has_target e) parts.1 in
-          let apart = apart_by (symbol_made e) e.asked_name name (ap (λ b. if b then None else name_apart (symbol_made e) e.asked_name) (sym passed) ∙ is) in
+          let apart = apart_by machine (symbol_made e) e.asked_name name (ap (λ b. if b then None else name_apart machine (symbol_made e) e.asked_name) (sym passed) ∙ is) in
           record { by_name = others.0; no_target = others.1; asked = apart.0; other = apart.1 }
     ]
 
@@ -191,11 +191,11 @@ text_read defined machine dll e name plain sound dll_free fits =
     is_read defined (short_import_bytes (export_as_import machine dll e name)) (read_of_text machine dll e name) (not_other (machine_number machine == arm64ec) (machine_plain machine).0) read
 
 pub text_means : (defined : List ℕ → Option Place) (machine : MachineType) (dll : List ℕ) (e : ExportView) (name : List ℕ)
-    → exported_name e ≡ Some name → e.symbol_name ≡ [] → Sound (kept_by (Some name) e) → holds 0 dll ≡ false → short_import_size (export_as_import machine dll e name) ≤ 0xFFFF_FFFF
+    → exported_name machine e ≡ Some name → e.symbol_name ≡ [] → Sound (kept_by (Some name) e) → holds 0 dll ≡ false → short_import_size (export_as_import machine dll e name) ≤ 0xFFFF_FFFF
     → meaning_of_class (class_of_file defined (file_found (short_import_bytes (export_as_import machine dll e name)))) ≡ Some (MeansImport (expected_import machine dll e))
 text_means defined machine dll e name is plain sound dll_free fits =
     (text_read defined machine dll e name plain sound dll_free fits).means
-    ∙ ap (λ i. Some (MeansImport i)) (expected_by_text machine dll e name (asks_by_text e name is) plain)
+    ∙ ap (λ i. Some (MeansImport i)) (expected_by_text machine dll e name (asks_by_text machine e name is) plain)
 
 pub text_declares : (machine : MachineType) (dll : List ℕ) (e : ExportView) (name : List ℕ)
     → e.symbol_name ≡ [] → Sound (kept_by (Some name) e) → holds 0 dll ≡ false → short_import_size (export_as_import machine dll e name) ≤ 0xFFFF_FFFF

@@ -105,7 +105,7 @@ with_option option r =
     else if bytes_eq option (codes "--machine") then Some (record r { waiting = Some setting.Machine })
     else if bytes_eq option (codes "-D") then Some (record r { waiting = Some setting.Dll })
     else if bytes_eq option (codes "--dllname") then Some (record r { waiting = Some setting.Dll })
-    else if bytes_eq option (codes "--flavor") then Some (record r { waiting = Some setting.Flavor })
+    else if bytes_eq option (codes "--flavor") || bytes_eq option (codes "--flavour") then Some (record r { waiting = Some setting.Flavor })
     else None
 
 -- after the name of a file: the first is the library, the second the definition

@@ -22,17 +22,17 @@ use Rattle.implib_compare.specs.Comparison.{AreTheSame, has_other, has_unread}
 use Rattle.implib_compare.specs.Meant.{IsVerdictOn}
 use Rattle.implib_check.specs.OwnLibraries.{aliases_meant, by_export, meanings_read}
 
--- whether the short import of an export, as it is linked, has a third text
-abbrev pub has_third_text : ExportView → Bool
-has_third_text e = is_some (exported_name e)
+-- whether on a machine the short import of an export, as it is linked, has a third text
+abbrev pub has_third_text : MachineType → ExportView → Bool
+has_third_text machine e = is_some (exported_name machine e)
 
 -- The imports of a definition whose short imports may have a third text: those of the exports that are no aliases, as
 -- each export means its import. First come those without a third text, then those with one, each in the order of the
 -- exports. For example, of `a == b` and bar: bar, and a, which asks for b.
 abbrev pub imports_by_texts : MachineType → DefinitionView → List Import
 imports_by_texts machine d =
-    map (expected_import machine d.import_name) (filter (λ e. not (has_third_text e) && not (is_weak e)) (public_exports d))
-    ++ map (expected_import machine d.import_name) (filter has_third_text (public_exports d))
+    map (expected_import machine d.import_name) (filter (λ e. not (has_third_text machine e) && not (is_weak e)) (public_exports d))
+    ++ map (expected_import machine d.import_name) (filter (has_third_text machine) (public_exports d))
 
 -- the imports that a definition means by these rules for names
 abbrev pub imports_made : NamingView → Flavor → MachineType → DefinitionView → List Import

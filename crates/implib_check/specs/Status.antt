@@ -1,11 +1,12 @@
 -- The exit status of the program (this project's choice).
-use Rattle.std.specs.Prelude.{ℕ, Bool, ◌==◌, ◌&&◌, ◌||◌, not, if◌then◌else◌}
+use Rattle.std.specs.Prelude.{ℕ, Bool, ◌==◌, ◌&&◌, ◌||◌, List, not, if◌then◌else◌, is_some}
 use Rattle.implib_compare.specs.declared.compare.Verdict.{Verdict}
 use Rattle.implib_compare.specs.declared.compare.Verdict.TheVariants.{Different, NotDecided, Same}
 use Rattle.implib_check.specs.declared.defining.Undefined.{Undefined}
 use Rattle.implib_check.specs.declared.defining.Undefined.TheVariants as undefined
 use Rattle.implib_compare.specs.declared.working.Working.{Working}
 use Rattle.implib_compare.specs.Working.{working_status}
+use Rattle.implib_read.specs.Archives.{cut_in}
 use Rattle.implib_rules.specs.declared.library.Refusal.{Refusal}
 use Rattle.implib_rules.specs.Library.{status_of}
 
@@ -45,3 +46,7 @@ undefined_status (undefined.Failed failure) = 3
 -- of libraries in one link: 4 where a member may import what is not read, and 1 where two clash
 abbrev pub together_status : Bool → Bool → ℕ
 together_status unread clash = if unread then 4 else if clash then 1 else 0
+
+-- of bytes that are no library: 1, as of a broken one, where they begin as an archive and are cut off; else 3
+abbrev pub no_library_status : List ℕ → ℕ
+no_library_status bytes = if is_some (cut_in bytes) then 1 else 3

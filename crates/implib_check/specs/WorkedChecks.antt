@@ -53,7 +53,7 @@ pub record WorkedChecks : Type 0 where
   pub no_definition_of_lib : define_called (codes "a.lib" ∷ codes "--lib" ∷ []) ≡ None
   pub no_definition_of_export_as : define_called (codes "a.lib" ∷ codes "--export-as" ∷ []) ≡ None
   pub task : task_named (codes "a.lib" ∷ codes "a.def" ∷ []) ≡ Some (Checks plain_check)
-  pub task_of_more : task_named (codes "a.lib" ∷ codes "a.def" ∷ codes "--flavor" ∷ codes "msvc" ∷ []) ≡ Some (Checks (record plain_check { flavor = Some Msvc }))
+  pub task_of_more : task_named (codes "a.lib" ∷ codes "a.def" ∷ codes "--flavour" ∷ codes "msvc" ∷ []) ≡ Some (Checks (record plain_check { flavor = Some Msvc }))
   pub same : task_named (codes "--same" ∷ codes "a.lib" ∷ codes "b.lib" ∷ []) ≡ Some (Compares (codes "a.lib") (codes "b.lib"))
   -- in JSON
   pub json : call_named (codes "a.lib" ∷ codes "--json" ∷ codes "a.def" ∷ []) ≡ Some (Checks plain_check)

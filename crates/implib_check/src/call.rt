@@ -159,7 +159,7 @@ fn with_option<'a>(option: &str, reading: Reading<'a>) -> Option<Reading<'a>>
             waiting: Some(Setting::Dll),
             ..reading
         }),
-        "--flavor" => Some(Reading {
+        "--flavor" | "--flavour" => Some(Reading {
             waiting: Some(Setting::Flavor),
             ..reading
         }),

@@ -1,7 +1,7 @@
 //! The program: its arguments, its files, what it writes, and its exit status.
 
 ghost use Rattle.std.specs.Prelude.{◌≡◌};
-ghost use Rattle.implib_check.specs.Status.{refusal_status, undefined_status};
+ghost use Rattle.implib_check.specs.Status.{no_library_status, refusal_status, undefined_status};
 
 use crate::call::{Check, Define};
 use crate::defining::{Undefined, definition_of};
@@ -22,7 +22,7 @@ use implib_compare::compare::{Comparison, Verdict, compare, has_unread};
 use implib_compare::working::{
     Examined, IndexFound, Piece, Working, both_work, examine, has_one, working_status,
 };
-use implib_read::{Library, MemberRead, dlls_of};
+use implib_read::{Library, MemberRead, cut_at, dlls_of};
 use implib_rules::library::Refusal;
 use implib_rules::{ShownPlace, position_of};
 use indexmap::IndexSet;
@@ -167,8 +167,39 @@ fn library_of<'a, E: Write>(
 ) -> Result<Library<'a>, u8> {
     match Library::read(alloc, bytes) {
         Ok(Some(library)) => Ok(library),
-        Ok(None) => Err(complain(faults, path, "not an archive, or a thin one", 3)),
+        Ok(None) => Err(complain(
+            faults,
+            path,
+            NoLibrary(cut_at(bytes)),
+            no_library_status(bytes),
+        )),
         Err(_) => Err(complain(faults, path, "out of memory", 3)),
+    }
+}
+
+// Why bytes are no library: they are cut off at this offset, or do not begin as an archive.
+#[derive(Drop)]
+struct NoLibrary(Option<usize>);
+
+impl fmt::Display for NoLibrary {
+    fn fmt<W: fmt::Write>(&self, f: &mut fmt::Formatter<W>) -> fmt::Result {
+        match self.0 {
+            Some(offset) => write!(
+                f,
+                "the library is cut off: the member at {offset:#x} passes the end of the file"
+            ),
+            None => f.write_str("not an archive, or a thin one"),
+        }
+    }
+}
+
+// The exit status of bytes that are no library: that of a broken one where they are cut off.
+fn no_library_status(bytes: &[u8]) -> u8
+    ensures { result ≡ no_library_status bytes.now }
+{
+    match cut_at(bytes) {
+        Some(_) => 1,
+        None => 3,
     }
 }
 
@@ -362,6 +393,10 @@ fn run_check<R: Files + AllocGlobal, O: Write, E: Write>(
         Ok(library) => library,
         Err(status) => return status,
     };
+    if definition.as_slice().starts_with(b"!<arch>\n") {
+        let message = "a library, and no definition; --same LIB LIB compares two libraries";
+        return complain(faults, check.definition, message, 2);
+    }
     let members = library.members.as_slice();
     let options = options_for(check, members);
     doubt(faults, check.library, members, true);
@@ -728,6 +763,17 @@ fn run_together<R: Files + AllocGlobal, O: Write, E: Write>(
     }
 }
 
+// What is said of words that ask for nothing.
+fn wrong_call(words: &[String]) -> &'static str {
+    match words {
+        [word] if !word.as_str().starts_with('-') => {
+            "a definition or an option is missing, as in implib_check LIB DEF or \
+             implib_check --list LIB"
+        }
+        _ => "wrong call; --help says how to call it",
+    }
+}
+
 // Does what a command line asks for, and gives the exit status.
 fn run<R: Files + AllocGlobal, O: Write, E: Write>(
     rt: &R,
@@ -749,7 +795,7 @@ fn run<R: Files + AllocGlobal, O: Write, E: Write>(
         Some(Task::Together(paths)) => run_together(rt, form, printer, faults, paths),
         Some(Task::Check(check)) => run_check(rt, form, printer, faults, &check),
         Some(Task::Define(define)) => run_define(rt, printer, faults, &define),
-        None => complain(faults, NAME, "wrong call; --help says how to call it", 2),
+        None => complain(faults, NAME, wrong_call(&command_line.words), 2),
     }
 }
 

@@ -18,6 +18,10 @@ exports = line (codes "symbol") [] ∷ line (codes "F@8") [] ∷ line (codes "@g
 abbrev pub datum : ExportView
 datum = record (line (codes "d") []) { ordinal = 7; no_name = true; is_data = true }
 
+-- a constant with its ordinal
+abbrev pub fixed : ExportView
+fixed = record (line (codes "c") []) { ordinal = 9; constant = true }
+
 -- what is added
 abbrev pub with_prefix : AdditionsView
 with_prefix = record { prefix = Some (codes "prefix"); underscore = false; stdcall_underscore = false }
@@ -56,6 +60,13 @@ pub record AdditionsWorked : Type 0 where
         ordinal = 7;
         no_name = true;
         is_data = true;
+      } ∷ []
+  pub prefix_constant : extended_exports AMD64 usual with_prefix (fixed ∷ [])
+      ≡ fixed ∷ record empty_export {
+        name = codes "prefixc";
+        alias_target = codes "c";
+        ordinal = 9;
+        constant = true;
       } ∷ []
   pub underscores : names AMD64 usual with_underscore exports
       ≡ codes "_symbol" ∷ codes "_F@8" ∷ codes "@g@8" ∷ codes "b" ∷ codes "_hidden" ∷ []

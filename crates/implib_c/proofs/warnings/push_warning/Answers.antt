@@ -21,6 +21,8 @@ kind_fits rules_of.IsSecondHeading = omega arith
 kind_fits rules_of.IsSkipped = omega arith
 kind_fits rules_of.EndsEarly = omega arith
 kind_fits (rules_of.StandsAlone word) = omega arith
+kind_fits (rules_of.IsLate word) = omega arith
+kind_fits (rules_of.IsCommentLike word) = omega arith
 
 pub returns : goal.returns
 unfolding encoded_said

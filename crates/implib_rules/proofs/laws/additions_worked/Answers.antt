@@ -10,6 +10,7 @@ worked = record {
   prefix_plain = refl;
   prefix_amd64 = refl;
   prefix_datum = refl;
+  prefix_constant = refl;
   underscores = refl;
   underscored_symbols = refl;
   stdcall_underscores = refl;
