@@ -1,13 +1,6 @@
 pub mod Corollaries
 pub mod InBytes
-pub mod WorkedLibraries
-pub mod WorkedSearches
 pub mod Way
 pub mod LldEnds
 pub mod LldWay
 pub mod BothWay
-pub mod WorkedWay
-pub mod WorkedLldWay
-pub mod WorkedBothWay
-pub mod NearMisses
-pub mod NearBothWay

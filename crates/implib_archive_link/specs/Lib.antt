@@ -1,11 +1,5 @@
 pub mod InBytes
 pub mod Results
-pub mod Worked
 pub mod Way
 pub mod LldWay
 pub mod BothWay
-pub mod WorkedWay
-pub mod WorkedLldWay
-pub mod WorkedBothWay
-pub mod NearMisses
-pub mod NearBothWay

@@ -14,18 +14,9 @@ ghost use Rattle.implib_archive_link.specs.BothWay.{AreLinkedForBoth, BothArrive
 ghost use Rattle.implib_archive_link.specs.InBytes.{LinkerMember, asks_for, asks_on, asks_with};
 ghost use Rattle.implib_archive_link.specs.InBytes.{asks_with_on};
 ghost use Rattle.implib_archive_link.specs.LldWay.{AreCalledAlike, LldArrives, asks_of_lld};
-ghost use Rattle.implib_archive_link.specs.NearMisses.{NearAreSearched, NearCallsArrive, NearIsBuiltByLld};
-ghost use Rattle.implib_archive_link.specs.NearMisses.{NearIsWantedBy, NearLeadsToFirst, NearLldArrives};
-ghost use Rattle.implib_archive_link.specs.NearMisses.{NearHaveArchive, NearIsHeaderOf};
-ghost use Rattle.implib_archive_link.specs.NearMisses.{NearPullsInAt, WorkedIndexes, WorkedReads};
-ghost use Rattle.implib_archive_link.specs.NearBothWay.{NearAreLinkedForBoth, NearBothArrive};
 ghost use Rattle.implib_archive_link.specs.Results.{AreFoundInBytes, AreSearched, HaveArchive};
 ghost use Rattle.implib_archive_link.specs.Results.{IsEnding, TakesJust};
 ghost use Rattle.implib_archive_link.specs.Way.{CallsArrive};
-ghost use Rattle.implib_archive_link.specs.Worked.{WorkedLibraries, WorkedSearches};
-ghost use Rattle.implib_archive_link.specs.WorkedBothWay.{WorkedBothWay};
-ghost use Rattle.implib_archive_link.specs.WorkedLldWay.{WorkedLldWay};
-ghost use Rattle.implib_archive_link.specs.WorkedWay.{WorkedWay};
 ghost use Rattle.implib_link.specs.Flavors.Expansion.{descriptor_symbol_by_name};
 ghost use Rattle.implib_link.specs.Gnu.Program.{ClaimsNone};
 ghost use Rattle.implib_link.specs.Search.Archives.{IsArchive, Library, NamesNoHeadOrTailOf};
@@ -200,52 +191,4 @@ pub fn bytes_of_both_flavors_lead_to_calls()
         IsFlavorArchive machine libraries →
         AreGivenForBoth machine libraries own →
         IsEnding kind linker (archive_of_both libraries) (asks_with_on machine own) }
-{}
-
-/// Searches by hand in the bytes of archives of two members, of a definition's members, and of
-/// libraries.
-pub fn worked_searches()
-    ensures members { WorkedSearches }
-    ensures libraries { WorkedLibraries }
-{}
-
-/// The whole way by hand: from the bytes of the archive of foo.dll, which exports `bar`, to the
-/// call in a program's code that arrives at what foo.dll gives for it.
-pub fn worked_way()
-    ensures { WorkedWay }
-{}
-
-/// The way for lld by hand, of a program that lld wrote: from the bytes of the archive of foo.dll's
-/// short imports to two calls that arrive at what foo.dll gives for `bar`.
-pub fn worked_lld_way()
-    ensures { WorkedLldWay }
-{}
-
-/// The whole way by hand for libraries of both flavours: from the bytes of an archive to a call of
-/// each flavour's import, which arrive at what their DLLs give.
-pub fn worked_both_way()
-    ensures { WorkedBothWay }
-{}
-
-/// Near misses of searches in bytes, two indexes that differ, and what a reader finds after the
-/// headers that a search takes.
-pub fn near_misses_in_bytes()
-    ensures pulls { NearPullsInAt }
-    ensures headers { NearIsHeaderOf }
-    ensures archives { NearHaveArchive }
-    ensures indexes { WorkedIndexes }
-    ensures reads { WorkedReads }
-    ensures leads { NearLeadsToFirst }
-    ensures searched { NearAreSearched }
-{}
-
-/// Near misses of the ways: exports that are not wanted, images that lld did not write, an export
-/// that was not taken, and imports without a library.
-pub fn near_misses_of_ways()
-    ensures wanted { NearIsWantedBy }
-    ensures built { NearIsBuiltByLld }
-    ensures arrives { NearLldArrives }
-    ensures calls { NearCallsArrive }
-    ensures both { NearBothArrive }
-    ensures linked_for_both { NearAreLinkedForBoth }
 {}

@@ -8,4 +8,3 @@ pub mod LoadedPrograms
 pub mod TablesInMemory
 pub mod ProgramsInMemory
 pub mod CodeOfPrograms
-pub mod Worked

@@ -5,4 +5,3 @@ pub mod Gnu
 pub mod Flavors
 pub mod Search
 pub mod Tables
-pub mod Worked

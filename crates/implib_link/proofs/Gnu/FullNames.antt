@@ -4,18 +4,16 @@ use Rattle.std.specs.List.{AllByRecursion}
 use Rattle.std.proofs.lemmas.List.{map-append}
 use Rattle.std.proofs.lemmas.List.Elements.{filter_map-append}
 use Rattle.implib.specs.declared.machine.MachineType.{MachineType}
-use Rattle.implib.specs.Formats.Bytes.{u16_bytes, u32_bytes}
 use Rattle.implib.specs.Definition.{ExportView}
 use Rattle.implib.specs.Members.Gnu.{export_object, head_object, tail_object}
 use Rattle.implib.specs.Link.LinkedMembers.{IsMade, LinkInput, all_linked, chosen_exports, linked_members, objects_in}
 use Rattle.implib.specs.Members.MemberSpec.{MemberView}
-use Rattle.implib.specs.Formats.Object.{Object, before_nul, bytes_at, data_at, each_at, entries_at, object_in, object_of_header, section_at, section_of, strings_at, u16_at, u32_at, up_to_nul}
+use Rattle.implib.specs.Formats.Object.{Object, object_in}
 use Rattle.implib.proofs.Link.Linked.{all_append}
 use Rattle.implib.proofs.Link.LinkedBlocks.{linked_objects}
 use Rattle.implib.proofs.Link.LinkedMembers.{members_read, objects_are}
 use Rattle.implib.proofs.Link.Placement.{export, head, tail}
-use Rattle.implib_link.specs.FullNames.{WorkedFullNames, decimal_in, digits_behind, full_name, object_by_full_names, sections_by_full_names, strings_of}
-use Rattle.implib_link.specs.Gnu.Program.{has_tables}
+use Rattle.implib_link.specs.FullNames.{full_name, object_by_full_names, sections_by_full_names, strings_of}
 use Rattle.implib.specs.LibraryName.{NamesOfDll, names_for}
 use Rattle.implib.specs.declared.flavor.Flavor.TheVariants.{Gnu}
 
@@ -75,7 +73,3 @@ members_by_full_names machine (p ∷ inputs) made =
     ∙ ap (λ read. map Some (objects_in own) ++ read) (members_by_full_names machine inputs made.1)
     ∙ sym (map-append Some (objects_in own) (objects_in (all_linked machine inputs)))
     ∙ ap (map Some) (sym (filter_map-append (λ (m : MemberView). object_in m.bytes) own (all_linked machine inputs)))
-
-pub worked_full_names : WorkedFullNames
-unfolding u16_bytes u32_bytes u16_at u32_at bytes_at data_at each_at entries_at object_in object_of_header section_at section_of strings_at up_to_nul before_nul strings_of object_by_full_names sections_by_full_names full_name decimal_in digits_behind has_tables
-worked_full_names = record { table = refl; by_header = refl; other = refl; plain = refl; no_number = refl; beyond = refl }

@@ -23,7 +23,6 @@ ghost use Rattle.implib_link.specs.Gnu.Operands.{AllLeadTo};
 ghost use Rattle.implib_link.specs.Gnu.Pointers.{HasLoad, LoadArrives};
 ghost use Rattle.implib_link.specs.Gnu.Program.{IsProgram};
 ghost use Rattle.implib_link.specs.Stub.{CanJump};
-ghost use Rattle.implib_link.specs.Worked.Aliases.{OverriddenAlias, WorkedAlias, WorkedFlavorAlias};
 ghost use Rattle.std.specs.List.{AllByRecursion, Contains};
 ghost use Rattle.std.specs.Prelude.{◌≡◌, ◌+◌, ◌∷◌, ◌++◌, [], ℕ, List, Some, length, map, slice_get};
 
@@ -179,13 +178,4 @@ pub fn aliases_of_flavors_reach_their_targets()
         (written ++ (image_of machine bases (placed_from bases objects)
         ++ ranges_of_codes codes)) (c.position + offset)
         (gives (dll_of p) (ask_in p.flavor machine e)) }
-{}
-
-/// A call by an alias of a program that was linked by hand goes to what the DLL gives for the
-/// alias's target, and so does a pointer; in a program of both flavours, too. A name that is defined
-/// is no alias.
-pub fn worked_alias()
-    ensures one { WorkedAlias }
-    ensures flavors { WorkedFlavorAlias }
-    ensures overridden { OverriddenAlias }
 {}

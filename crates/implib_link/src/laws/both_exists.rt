@@ -14,7 +14,6 @@ ghost use Rattle.implib_link.specs.Search.BothFlavors.{IsFlavorArchive, msvc_amo
 ghost use Rattle.implib_link.specs.Search.Closed.{unresolved};
 ghost use Rattle.implib_link.specs.Search.Exists.{LieWithin};
 ghost use Rattle.implib_link.specs.Search.MsvcArchives.{short_inputs};
-ghost use Rattle.implib_link.specs.Worked.BothExists.{WorkedBothExists, WorkedReversedExists};
 ghost use Rattle.std.specs.List.{AllByRecursion};
 ghost use Rattle.std.specs.Prelude.{◌≡◌, ◌<◌, ◌^◌, ℕ, List, false, length};
 
@@ -50,11 +49,4 @@ pub fn closed_program_of_both_flavors_exists()
         0 < first →
         tables_end_of_both first libraries < 2 ^ 31 →
         HasClosedForBoth machine libraries own first }
-{}
-
-/// The closed programs of both flavours that were linked by hand, as the law says that there are
-/// such.
-pub fn worked_both_existence()
-    ensures worked { WorkedBothExists }
-    ensures reversed { WorkedReversedExists }
 {}

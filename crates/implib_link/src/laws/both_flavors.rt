@@ -20,13 +20,6 @@ ghost use Rattle.implib_link.specs.Search.MsvcArchives.{first_null, short_inputs
 ghost use Rattle.implib_link.specs.Search.MsvcArchives.{weak_in};
 ghost use Rattle.implib_link.specs.Search.MsvcClosed.{TakesIntoFor};
 ghost use Rattle.implib_link.specs.Search.Search.{HaveSame};
-ghost use Rattle.implib_link.specs.Worked.BothFlavors.{NearAreClosedForBoth, NearIsClosedForBoth};
-ghost use Rattle.implib_link.specs.Worked.BothFlavors.{NearIsFlavorArchive, NearIsImportedOfBoth};
-ghost use Rattle.implib_link.specs.Worked.BothFlavors.{NearIsUsedIn, NearLinksClosedForBoth};
-ghost use Rattle.implib_link.specs.Worked.BothFlavors.{NearNamesNoMembers, NearTakesOfBoth};
-ghost use Rattle.implib_link.specs.Worked.BothFlavors.{NearAreGivenForBoth, WorkedBoth};
-ghost use Rattle.implib_link.specs.Worked.BothFlavors.{WorkedGivenForBoth};
-ghost use Rattle.implib_link.specs.Worked.BothReversed.{WorkedReversed};
 ghost use Rattle.std.specs.List.{filter};
 ghost use Rattle.std.specs.Prelude.{◌≡◌, ◌<◌, ◌^◌, ◌++◌, ℕ, IsPermutation, List, length, not};
 
@@ -90,25 +83,4 @@ pub fn objects_given_for_both_flavors_are_closed()
         filter has_tables objects
         ≡ objects_taken machine (before ++ (first_null machine (msvc_among libraries) ++ behind)) →
         AreClosedForBoth machine libraries own taken arranged objects }
-{}
-
-/// A closed program by hand, of an object that names data of one library by an alias and a function
-/// of another, of the other flavour, by its pointer; and with the libraries in the other order.
-pub fn worked_both_flavors()
-    ensures worked { WorkedBoth }
-    ensures given { WorkedGivenForBoth }
-    ensures reversed { WorkedReversed }
-{}
-
-/// What is no archive of both flavours, is not taken of it, and closes no program.
-pub fn near_misses_of_both_flavors()
-    ensures archive { NearIsFlavorArchive }
-    ensures names { NearNamesNoMembers }
-    ensures takes { NearTakesOfBoth }
-    ensures given { NearAreGivenForBoth }
-    ensures objects { NearAreClosedForBoth }
-    ensures closed { NearIsClosedForBoth }
-    ensures imported { NearIsImportedOfBoth }
-    ensures used { NearIsUsedIn }
-    ensures links { NearLinksClosedForBoth }
 {}

@@ -6,9 +6,8 @@ ghost use Rattle.implib.specs.Link.Placement.{Bases};
 ghost use Rattle.implib.specs.declared.machine.MachineType.{MachineType};
 ghost use Rattle.implib_link.specs.Gnu.Bounds.{AreBounded, HaveEvenHints};
 ghost use Rattle.implib_link.specs.Gnu.Program.{IsProgram};
-ghost use Rattle.implib_link.specs.Worked.Bounds.{WorkedBounds};
 ghost use Rattle.std.specs.List.{AllByRecursion};
-ghost use Rattle.std.specs.Prelude.{◌<◌, ℕ, List, length};
+ghost use Rattle.std.specs.Prelude.{◌<◌, List, length};
 
 /// The address tables of a program with a DLL are exactly one range of its image, from the symbol
 /// `.idata$5` of the first member on, and its directory is exactly another; each hint is at an even
@@ -25,9 +24,4 @@ pub fn tables_are_bounded()
         AllByRecursion (IsMade machine) inputs →
         IsProgram machine bases inputs objects →
         HaveEvenHints machine bases objects }
-{}
-
-/// The programs that were linked by hand are bounded as the law says, on each machine.
-pub fn worked_bounds()
-    ensures { WorkedBounds }
 {}

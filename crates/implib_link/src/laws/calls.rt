@@ -21,11 +21,6 @@ ghost use Rattle.implib_link.specs.Gnu.Pages.{HasPage, HasPageOffset, PageArrive
 ghost use Rattle.implib_link.specs.Gnu.Pointers.{HasLoad, LoadArrives};
 ghost use Rattle.implib_link.specs.Gnu.Program.{IsProgram};
 ghost use Rattle.implib_link.specs.Stub.{CanJump};
-ghost use Rattle.implib_link.specs.Worked.DirectCalls.{WorkedBranch, WorkedFlavorDirect};
-ghost use Rattle.implib_link.specs.Worked.Pages.{WorkedFlavorPages, WorkedPages};
-ghost use Rattle.implib_link.specs.Worked.Pointers.{WorkedPointers};
-ghost use Rattle.implib_link.specs.Worked.Calls.{WorkedCalls, WorkedDirectCall, WorkedFlavorCall};
-ghost use Rattle.implib_link.specs.Worked.Calls.{WorkedReading};
 ghost use Rattle.std.specs.List.{AllByRecursion, Contains};
 ghost use Rattle.std.specs.Prelude.{◌≡◌, ◌<◌, ◌+◌, ◌++◌, ℕ, List, Some, false, length, map};
 ghost use Rattle.std.specs.Prelude.{slice_get};
@@ -257,19 +252,4 @@ pub fn pages_and_offsets_of_flavors_reach_entries()
         ++ ranges_of_codes codes))
         (c.position + first) (c.position + second) paged loaded
         (gives (dll_of p) (ask_in p.flavor ARM64 e)) }
-{}
-
-/// Calls that were relocated by hand arrive, on three machines; a loader that reads the image of a
-/// program that was linked by hand loads it, and one that reads an image without the DLL's name
-/// does not.
-pub fn worked_calls()
-    ensures calls { WorkedCalls }
-    ensures flavors { WorkedFlavorCall }
-    ensures direct { WorkedDirectCall }
-    ensures branch { WorkedBranch }
-    ensures flavor_direct { WorkedFlavorDirect }
-    ensures pointers { WorkedPointers }
-    ensures pages { WorkedPages }
-    ensures flavor_pages { WorkedFlavorPages }
-    ensures reading { WorkedReading }
 {}

@@ -12,7 +12,6 @@ ghost use Rattle.implib_link.specs.Gnu.Fields.{AreBeside, IsRelocated, LinkedCod
 ghost use Rattle.implib_link.specs.Gnu.Moves.{CanBeMoved, IsAtBase};
 ghost use Rattle.implib_link.specs.Gnu.Program.{IsProgram};
 ghost use Rattle.implib_link.specs.Gnu.Rebased.{CanMove};
-ghost use Rattle.implib_link.specs.Worked.Choices.{WorkedChoices};
 ghost use Rattle.std.specs.List.{AllByRecursion};
 ghost use Rattle.std.specs.Prelude.{◌≡◌, ℕ, List, map};
 
@@ -57,10 +56,4 @@ pub fn programs_of_flavors_can_be_rebased()
         CanBeMoved machine codes →
         CanMove machine from to bases →
         (memory : List Range) × IsAtBase machine from to bases objects codes targets memory }
-{}
-
-/// Code that was placed by hand has addresses for its symbols, and memory at another base; a stub
-/// that is placed twice leaves no choice, and base relocations on one another no memory.
-pub fn worked_choices()
-    ensures { WorkedChoices }
 {}

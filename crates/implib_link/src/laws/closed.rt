@@ -7,7 +7,6 @@ ghost use Rattle.implib.specs.declared.machine.MachineType.{MachineType};
 ghost use Rattle.implib_link.specs.Search.Archives.{IsArchive, Library, archive_of};
 ghost use Rattle.implib_link.specs.Search.Closed.{AreLinkedFor, IsClosed, LinksClosed, TakesInto};
 ghost use Rattle.implib_link.specs.Search.Given.{AreGiven};
-ghost use Rattle.implib_link.specs.Worked.Closed.{WorkedClosed, WorkedGiven};
 ghost use Rattle.std.specs.Prelude.{List};
 
 /// Given objects, what a linker takes for them of an archive of several libraries, and the null
@@ -41,11 +40,4 @@ pub fn given_objects_are_closed()
         TakesInto (archive_of libraries) own taken →
         AreLinkedFor machine libraries own taken arranged bases objects →
         IsClosed machine libraries own taken arranged bases objects }
-{}
-
-/// A closed program by hand, of an object that names data by an alias, a function by its pointer
-/// and a function of another library, and has a function of its own that a library exports, too.
-pub fn worked_closed_program()
-    ensures closed { WorkedClosed }
-    ensures given { WorkedGiven }
 {}

@@ -11,7 +11,6 @@ ghost use Rattle.implib_link.specs.Search.Archives.{IsArchive, Library, archive_
 ghost use Rattle.implib_link.specs.Search.Closed.{IsClosed, TakesInto};
 ghost use Rattle.implib_link.specs.Search.Exists.{AreChosenFor, HasClosed, LieWithin, tables_end};
 ghost use Rattle.implib_link.specs.Search.Given.{AreGiven};
-ghost use Rattle.implib_link.specs.Worked.Exists.{WorkedExists};
 ghost use Rattle.std.specs.List.{AllByRecursion};
 ghost use Rattle.std.specs.Prelude.{◌≡◌, ◌<◌, ◌^◌, ℕ, List, false};
 
@@ -46,9 +45,4 @@ pub fn closed_program_exists()
         0 < first →
         tables_end first libraries < 2 ^ 31 →
         HasClosed machine libraries own first }
-{}
-
-/// The closed program that was linked by hand, as the law says that there is one.
-pub fn worked_existence()
-    ensures worked { WorkedExists }
 {}

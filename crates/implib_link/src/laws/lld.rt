@@ -16,7 +16,6 @@ ghost use Rattle.implib_link.specs.Flavors.LldTables.{
   lookups_at,
   names_at,
 };
-ghost use Rattle.implib_link.specs.Worked.Lld.{WorkedLld};
 ghost use Rattle.std.specs.List.{AllByRecursion, Contains};
 ghost use Rattle.std.specs.Prelude.{◌<◌, ◌^◌, ℕ, List};
 
@@ -52,9 +51,4 @@ pub fn lld_links()
         (taken : List ShortImport) (image : List Range) (linked : List Placed) →
         IsLldProgram machine descriptors addresses taken image linked →
         LldLinks machine descriptors addresses taken image linked }
-{}
-
-/// Tables that lld 19 wrote are those of the definitions, byte for byte.
-pub fn worked_lld()
-    ensures { WorkedLld }
 {}

@@ -16,9 +16,6 @@ ghost use Rattle.implib_link.specs.Gnu.Moves.{AreInMemory};
 ghost use Rattle.implib_link.specs.Gnu.Operands.{AllLead, AreKept, HasBranch};
 ghost use Rattle.implib_link.specs.Gnu.Reading.{ReadsAndWrites};
 ghost use Rattle.implib_link.specs.Tables.{AreSteady, CanReadFrom};
-ghost use Rattle.implib_link.specs.Worked.LldPrograms.{RefusedCalls, RefusedLoads};
-ghost use Rattle.implib_link.specs.Worked.LldPrograms.{RefusedTables, RefusedThunks};
-ghost use Rattle.implib_link.specs.Worked.LldPrograms.{WorkedLldPrograms};
 ghost use Rattle.std.specs.List.{Contains};
 ghost use Rattle.std.specs.Prelude.{◌≡◌, ◌+◌, ◌++◌, ℕ, List, length};
 
@@ -134,20 +131,4 @@ pub fn fields_lead_to_lld_entries()
         CanBranch machine (c.position + offset) d.position →
         BranchArrivesByThunk machine image_base (written ++ memory) (c.position + offset) after
         (gives r.dll (ask_of_short_import r)) }
-{}
-
-/// Programs that lld wrote for I386, AMD64 and ARM64, byte for byte: their tables are those of the
-/// definitions, and their code, their thunks and their memory at two bases meet all that the laws
-/// ask for.
-pub fn worked_lld_programs()
-    ensures worked { WorkedLldPrograms }
-{}
-
-/// Near misses of import tables, of thunks and calls, and of what a loader leaves, each with one
-/// thing wrong.
-pub fn refused_lld_programs()
-    ensures tables { RefusedTables }
-    ensures thunks { RefusedThunks }
-    ensures calls { RefusedCalls }
-    ensures loads { RefusedLoads }
 {}

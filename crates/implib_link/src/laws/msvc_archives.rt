@@ -6,7 +6,6 @@ ghost use Rattle.implib_link.specs.Search.Archives.{Library, archive_of};
 ghost use Rattle.implib_link.specs.Search.Msvc.{TakesFor};
 ghost use Rattle.implib_link.specs.Search.MsvcArchives.{IsMsvcArchive, NamesNoHeaderOf};
 ghost use Rattle.implib_link.specs.Search.MsvcArchives.{TakesOfShorts, wanted_with_weak};
-ghost use Rattle.implib_link.specs.Worked.MsvcArchives.{WorkedMsvcArchives};
 ghost use Rattle.std.specs.Prelude.{ℕ, List};
 
 /// A linker takes of an archive of several libraries' members for Microsoft's linker exactly the
@@ -23,9 +22,4 @@ pub fn short_libraries_are_searched()
         NamesNoHeaderOf libraries (wanted_with_weak machine wanted taken) →
         TakesFor machine (archive_of libraries) wanted taken →
         TakesOfShorts machine libraries wanted taken }
-{}
-
-/// Searches by hand of two libraries, one of which has an alias.
-pub fn worked_short_libraries()
-    ensures worked { WorkedMsvcArchives }
 {}

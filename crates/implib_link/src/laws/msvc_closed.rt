@@ -7,7 +7,6 @@ ghost use Rattle.implib.specs.declared.machine.MachineType.{MachineType};
 ghost use Rattle.implib_link.specs.Search.Archives.{Library};
 ghost use Rattle.implib_link.specs.Search.MsvcArchives.{IsMsvcArchive};
 ghost use Rattle.implib_link.specs.Search.MsvcClosed.{IsClosedForMsvc, LinksClosedForMsvc};
-ghost use Rattle.implib_link.specs.Worked.MsvcClosed.{WorkedMsvcClosed};
 ghost use Rattle.std.specs.Prelude.{List};
 
 /// Given objects and what Microsoft's linker takes for them of an archive of several libraries are
@@ -25,10 +24,4 @@ pub fn msvc_closed_program_links()
         IsMsvcArchive machine libraries →
         IsClosedForMsvc machine libraries own taken arranged bases objects →
         LinksClosedForMsvc machine libraries own taken arranged bases objects }
-{}
-
-/// A closed program by hand, of an object that names data by an alias, a function by its pointer
-/// and a function of another library, and has a function of its own that a library exports, too.
-pub fn worked_msvc_closed_program()
-    ensures worked { WorkedMsvcClosed }
 {}

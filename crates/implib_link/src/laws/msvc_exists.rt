@@ -14,7 +14,6 @@ ghost use Rattle.implib_link.specs.Search.MsvcArchives.{IsMsvcArchive, short_inp
 ghost use Rattle.implib_link.specs.Search.MsvcClosed.{AreClosedForMsvc, IsClosedForMsvc};
 ghost use Rattle.implib_link.specs.Search.MsvcExists.{HasClosedForMsvc, msvc_tables_end};
 ghost use Rattle.implib_link.specs.Search.MsvcGiven.{AreGivenForMsvc};
-ghost use Rattle.implib_link.specs.Worked.MsvcExists.{WorkedMsvcExists};
 ghost use Rattle.std.specs.List.{AllByRecursion};
 ghost use Rattle.std.specs.Prelude.{◌≡◌, ◌<◌, ◌^◌, ℕ, List, false, length};
 
@@ -48,10 +47,4 @@ pub fn msvc_closed_program_exists()
         0 < first →
         msvc_tables_end first libraries < 2 ^ 31 →
         HasClosedForMsvc machine libraries own first }
-{}
-
-/// The closed program for Microsoft's linker that was linked by hand, as the law says that there is
-/// one.
-pub fn worked_msvc_existence()
-    ensures worked { WorkedMsvcExists }
 {}

@@ -12,7 +12,6 @@ ghost use Rattle.implib_link.specs.Flavors.Program.{IsFoundByName};
 ghost use Rattle.implib_link.specs.Search.Msvc.{AreTakenInTurn, NamesNoHeader, TakesFor};
 ghost use Rattle.implib_link.specs.Search.Msvc.{msvc_if_any, shorts_wanted};
 ghost use Rattle.implib_link.specs.Search.Search.{HaveSame};
-ghost use Rattle.implib_link.specs.Worked.Found.{WorkedFound};
 ghost use Rattle.std.specs.List.{IsDistinct, flat_map};
 ghost use Rattle.std.specs.Prelude.{◌≡◌, ◌≤◌, ℕ, List, Some, bytes_eq, length};
 
@@ -50,5 +49,4 @@ pub fn named_by_stem_is_found()
     ensures found { (d : DefinitionView) →
         d.library_name ≡ Some (before_last_stop d.import_name) →
         IsFoundByName Msvc (names_for Msvc d) }
-    ensures worked { WorkedFound }
 {}

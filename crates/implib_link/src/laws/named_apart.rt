@@ -3,7 +3,6 @@
 ghost use Rattle.implib.specs.declared.machine.MachineType.{MachineType};
 ghost use Rattle.implib_link.specs.Search.Archives.{IsArchive, IsLibrary, Library};
 ghost use Rattle.implib_link.specs.Search.NamedApart.{AreNamedApart};
-ghost use Rattle.implib_link.specs.Worked.NamedApart.{WorkedNamedApart};
 ghost use Rattle.std.specs.List.{AllByRecursion};
 ghost use Rattle.std.specs.Prelude.{List};
 
@@ -15,9 +14,4 @@ pub fn libraries_named_apart_are_archive()
         AllByRecursion (IsLibrary machine) libraries →
         AreNamedApart machine libraries →
         IsArchive machine libraries }
-{}
-
-/// Libraries that are named apart, and some that are not, by hand.
-pub fn worked_named_apart()
-    ensures worked { WorkedNamedApart }
 {}

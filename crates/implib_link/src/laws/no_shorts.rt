@@ -12,7 +12,6 @@ ghost use Rattle.implib_link.specs.Search.Closed.{listed_in, unresolved};
 ghost use Rattle.implib_link.specs.Search.Given.{AreGiven};
 ghost use Rattle.implib_link.specs.Search.MsvcClosed.{TakesIntoFor};
 ghost use Rattle.implib_link.specs.Search.NoShorts.{WantsNoShort};
-ghost use Rattle.implib_link.specs.Worked.NoShorts.{WorkedNoShorts};
 ghost use Rattle.std.specs.List.{Contains};
 ghost use Rattle.std.specs.Prelude.{ℕ, List};
 
@@ -57,10 +56,4 @@ pub fn objects_that_want_no_short_import_are_closed()
         AreLinkedFor machine (gnu_among libraries) own taken arranged bases objects →
         (name : List ℕ) → Contains (unresolved objects) name →
         Contains (listed_in (archive_of_both libraries)) name → ⊥ }
-{}
-
-/// The closed program of two libraries for GNU's linker that was linked by hand, with one for
-/// Microsoft's between them of which nothing is wanted.
-pub fn worked_no_shorts()
-    ensures worked { WorkedNoShorts }
 {}

@@ -27,13 +27,6 @@ ghost use Rattle.implib_link.specs.Gnu.Program.{IsProgram};
 ghost use Rattle.implib_link.specs.Gnu.Reading.{ReadsAndWrites};
 ghost use Rattle.implib_link.specs.Gnu.Rebased.{StubArrives};
 ghost use Rattle.implib_link.specs.Stub.{CanJump};
-ghost use Rattle.implib_link.specs.Worked.Operands.{AdjacentCalls, MovableCode, PassingFields};
-ghost use Rattle.implib_link.specs.Worked.Operands.{WorkedFlavorFields, WorkedOperands};
-ghost use Rattle.implib_link.specs.Worked.RefusedFields.{RefusedBranches, RefusedCode};
-ghost use Rattle.implib_link.specs.Worked.RefusedFields.{RefusedFieldsOfTypes};
-ghost use Rattle.implib_link.specs.Worked.RefusedFields.{RefusedInstructions, RefusedMoves};
-ghost use Rattle.implib_link.specs.Worked.RefusedFields.{RefusedOperands, RefusedPairs};
-ghost use Rattle.implib_link.specs.Worked.RefusedFields.{RefusedPointers};
 ghost use Rattle.std.specs.List.{AllByRecursion, Contains};
 ghost use Rattle.std.specs.Prelude.{◌≡◌, ◌+◌, ◌++◌, ◌<◌, ◌^◌, ℕ, List, Some, false, length, map};
 ghost use Rattle.std.specs.Prelude.{slice_get};
@@ -359,28 +352,4 @@ pub fn linked_programs_can_be_moved()
         (memory : List Range) ×
         AreInMemory machine to (image_of machine bases (placed_from bases objects))
         (placed_from bases objects) codes targets memory }
-{}
-
-/// Code as compilers write it, worked by hand on AMD64, I386 and ARM64: fields that follow one
-/// another without a gap, some of types of which nothing is said, are in memory at two bases, and
-/// lead to the entry.
-pub fn worked_operands()
-    ensures fields { PassingFields }
-    ensures calls { AdjacentCalls }
-    ensures programs { WorkedOperands }
-    ensures moving { MovableCode }
-    ensures flavors { WorkedFlavorFields }
-{}
-
-/// Near misses: bytes that no linker makes of the worked code, and memory in which no field leads to
-/// the entry, each with one thing wrong.
-pub fn refused_fields()
-    ensures code { RefusedCode }
-    ensures types { RefusedFieldsOfTypes }
-    ensures operands { RefusedOperands }
-    ensures instructions { RefusedInstructions }
-    ensures pointers { RefusedPointers }
-    ensures branches { RefusedBranches }
-    ensures pairs { RefusedPairs }
-    ensures moves { RefusedMoves }
 {}

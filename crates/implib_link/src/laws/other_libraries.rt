@@ -6,7 +6,6 @@ ghost use Rattle.implib.specs.Formats.Object.{Object};
 ghost use Rattle.implib.specs.declared.machine.MachineType.{MachineType};
 ghost use Rattle.implib_link.specs.Gnu.OtherLibraries.{IsProgramBeside, LinksBeside, Run};
 ghost use Rattle.implib_link.specs.Gnu.Program.{IsProgram};
-ghost use Rattle.implib_link.specs.Worked.OtherLibraries.{WorkedBeside};
 ghost use Rattle.std.specs.List.{AllByRecursion};
 ghost use Rattle.std.specs.Prelude.{◌∷◌, List, []};
 
@@ -27,9 +26,4 @@ pub fn programs_are_beside_none()
         IsProgram machine bases inputs objects →
         IsProgramBeside machine bases
         (record { objects = []; imports = []; inputs = inputs } ∷ []) objects }
-{}
-
-/// A program of members between two libraries of GNU dlltool, as GNU `ld` wrote it.
-pub fn worked_beside()
-    ensures { WorkedBeside }
 {}

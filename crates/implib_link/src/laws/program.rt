@@ -7,7 +7,7 @@ ghost use Rattle.implib.specs.Formats.Object.{Object};
 ghost use Rattle.implib.specs.Link.Placement.{Bases};
 ghost use Rattle.implib.specs.declared.machine.MachineType.{MachineType};
 ghost use Rattle.implib_link.specs.Directory.{DirectoryAt, Imported, WalkFinds};
-ghost use Rattle.implib_link.specs.FullNames.{WorkedFullNames, object_by_full_names};
+ghost use Rattle.implib_link.specs.FullNames.{object_by_full_names};
 ghost use Rattle.implib_link.specs.Gnu.Program.{IsProgram, LinksAmong, linked_symbols};
 ghost use Rattle.implib_link.specs.Gnu.Program.{null_descriptor};
 ghost use Rattle.std.specs.List.{AllByRecursion, IsDistinct};
@@ -61,5 +61,4 @@ pub fn members_have_full_names()
         AllByRecursion (IsMade machine) inputs →
         map (λ m. object_by_full_names m.bytes) (all_linked machine inputs)
         ≡ map Some (objects_in (all_linked machine inputs)) }
-    ensures worked { WorkedFullNames }
 {}

@@ -20,8 +20,6 @@ ghost use Rattle.implib_link.specs.Gnu.Loaded.{IsLoaded};
 ghost use Rattle.implib_link.specs.Gnu.Program.{IsProgram};
 ghost use Rattle.implib_link.specs.Gnu.Reading.{ReadsAndWrites};
 ghost use Rattle.implib_link.specs.Gnu.Rebased.{StubArrives};
-ghost use Rattle.implib_link.specs.Worked.Rebased.{WorkedFlavorMove, WorkedFlavorRebase};
-ghost use Rattle.implib_link.specs.Worked.Rebased.{WorkedMoves, WorkedPlaces};
 ghost use Rattle.std.specs.List.{AllByRecursion, Contains};
 ghost use Rattle.std.specs.Prelude.{◌≡◌, ◌+◌, ◌++◌, ℕ, List, Some, false, length, slice_get};
 
@@ -186,14 +184,4 @@ pub fn rebased_programs_of_flavors_reach()
         CanBranch machine (c.position + offset) d.position →
         DirectCallArrives machine to (written ++ memory) (c.position + offset)
         (gives (dll_of p) (ask_in p.flavor machine e)) }
-{}
-
-/// A program that was linked by hand, on three machines, is moved to another base by hand, with the
-/// base relocations that it needs there, and its call and its stub arrive; without them, or with
-/// the difference added twice, it is none. A program of both flavours is moved so on two machines.
-pub fn worked_moves()
-    ensures moves { WorkedMoves }
-    ensures flavors { WorkedFlavorMove }
-    ensures flavors_by_field { WorkedFlavorRebase }
-    ensures places { WorkedPlaces }
 {}

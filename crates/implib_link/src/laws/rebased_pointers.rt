@@ -18,7 +18,6 @@ ghost use Rattle.implib_link.specs.Gnu.Pages.{HasPage, HasPageOffset, PageArrive
 ghost use Rattle.implib_link.specs.Gnu.Pointers.{HasLoad, LoadArrives};
 ghost use Rattle.implib_link.specs.Gnu.Program.{IsProgram};
 ghost use Rattle.implib_link.specs.Gnu.Reading.{ReadsAndWrites};
-ghost use Rattle.implib_link.specs.Worked.RebasedPointers.{WorkedPointerMoves};
 ghost use Rattle.std.specs.List.{AllByRecursion, Contains};
 ghost use Rattle.std.specs.Prelude.{◌≡◌, ◌+◌, ◌<◌, ◌++◌, ℕ, List, Some, length, slice_get};
 
@@ -102,10 +101,4 @@ pub fn rebased_pointers_of_flavors_are_read()
         HasPageOffset (placed_code c) second paged loaded (imp_symbol (symbol_in p.flavor e)) →
         PageArrives to (written ++ memory) (c.position + first) (c.position + second) paged loaded
         (gives (dll_of p) (ask_in p.flavor ARM64 e)) }
-{}
-
-/// Programs that were linked by hand, on three machines and in both flavours, read their pointers
-/// at another base; an instruction that was left as it was linked reads elsewhere.
-pub fn worked_pointer_moves()
-    ensures { WorkedPointerMoves }
 {}

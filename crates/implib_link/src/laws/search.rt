@@ -9,8 +9,6 @@ ghost use Rattle.implib.specs.Formats.Object.{Object};
 ghost use Rattle.implib.specs.Link.Placement.{Bases};
 ghost use Rattle.implib.specs.declared.flavor.Flavor.TheVariants.{Gnu};
 ghost use Rattle.implib.specs.declared.machine.MachineType.{MachineType};
-ghost use Rattle.implib_link.specs.Worked.Archives.{WorkedArchives};
-ghost use Rattle.implib_link.specs.Worked.Search.{WorkedSearch};
 ghost use Rattle.implib_link.specs.Search.Archives.{IsArchive, Library, NamesNoHeadOrTailOf};
 ghost use Rattle.implib_link.specs.Search.Archives.{TakesOfLibraries, archive_of, inputs_wanted};
 ghost use Rattle.implib_link.specs.Search.Archives.{wanted_with};
@@ -100,10 +98,4 @@ pub fn search_ends()
         (taken : List MemberView) × Takes archive wanted taken }
     ensures bounded { (archive taken : List MemberView) (wanted : List (List ℕ)) →
         IsTakenInTurn archive wanted taken → length taken ≤ length archive }
-{}
-
-/// Searches by hand: of the members of three exports, and of two libraries with an alias.
-pub fn worked_search()
-    ensures one { WorkedSearch }
-    ensures two { WorkedArchives }
 {}

@@ -17,7 +17,6 @@ ghost use Rattle.implib_link.specs.Gnu.Moves.{AreInMemory};
 ghost use Rattle.implib_link.specs.Gnu.Program.{IsProgram, thunks_before};
 ghost use Rattle.implib_link.specs.Gnu.Reading.{ReadsAndWrites};
 ghost use Rattle.implib_link.specs.Stub.{CallReaches, CanJump, JumpsThrough};
-ghost use Rattle.implib_link.specs.Worked.A32.{NearA32JumpReads, WorkedArmntStubs};
 ghost use Rattle.std.specs.List.{AllByRecursion, Contains};
 ghost use Rattle.std.specs.Prelude.{◌≡◌, ◌+◌, ◌*◌, ◌^◌, ◌≤◌, ◌++◌, ℕ, List, Some, false, length};
 ghost use Rattle.std.specs.Prelude.{map};
@@ -109,11 +108,4 @@ pub fn armnt_stubs_miss_their_entries()
         A32JumpReads (written ++ memory) d.position
         (image_base + (bases.addresses + thunk_width ARMNT * thunks_before i inputs + thunk_width ARMNT * j)) →
         ⊥ }
-{}
-
-/// ARMNT's stub by hand, behind the import tables and in front of them, and code that is no such
-/// jump.
-pub fn worked_armnt_stubs()
-    ensures worked { WorkedArmntStubs }
-    ensures refused { NearA32JumpReads }
 {}

@@ -17,7 +17,6 @@ ghost use Rattle.implib_link.specs.Gnu.Loaded.{IsLoaded};
 ghost use Rattle.implib_link.specs.Gnu.Program.{IsProgram};
 ghost use Rattle.implib_link.specs.Gnu.Reading.{ReadsAndWrites};
 ghost use Rattle.implib_link.specs.Gnu.Writing.{AreAlike, WritesAsItGoes};
-ghost use Rattle.implib_link.specs.Worked.Writing.{WorkedWritings};
 ghost use Rattle.std.specs.List.{AllByRecursion};
 ghost use Rattle.std.specs.Prelude.{◌≡◌, ◌++◌, ℕ, List, length, map};
 
@@ -130,11 +129,4 @@ pub fn loader_of_flavors_writes_at_base()
         ((dll : List ℕ) (ask : Ask) → length (gives dll ask) ≡ thunk_width machine) →
         (after : List Range) × WritesAsItGoes (thunk_width machine) gives bases.descriptors
         memory (map (imported_in machine) inputs) after }
-{}
-
-/// Such a loader leaves exactly this of the programs that were linked by hand, on each machine, and
-/// of those in memory at another base. Of an image whose address table lies on its lookup table it
-/// asks less than one that first reads, and without a null descriptor it does not stop.
-pub fn worked_writings()
-    ensures { WorkedWritings }
 {}

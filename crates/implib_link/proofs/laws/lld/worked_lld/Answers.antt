@@ -1,5 +1,0 @@
-use Rattle.implib_link.proofs.Worked.Lld.{worked_lld}
-use Rattle.implib_link.proofs.laws.lld.worked_lld.Goals as goal
-
-pub returns : goal.returns
-returns c = worked_lld

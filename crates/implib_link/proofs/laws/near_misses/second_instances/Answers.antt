@@ -1,5 +1,0 @@
-use Rattle.implib_link.proofs.Worked.Instances.{code_instances, machine_instances, program_instances, section_instances, type_instances}
-use Rattle.implib_link.proofs.laws.near_misses.second_instances.Goals as goal
-
-pub returns : goal.returns
-returns c = record { sections = section_instances; types = type_instances; programs = program_instances; machines = machine_instances; codes = code_instances }

@@ -1,0 +1,8 @@
+-- The same, computed.
+pub mod WorkedLibraries
+pub mod WorkedSearches
+pub mod WorkedWay
+pub mod WorkedLldWay
+pub mod WorkedBothWay
+pub mod NearMisses
+pub mod NearBothWay

@@ -1,0 +1,251 @@
+-- The whole way for libraries of both flavours by hand, by computing and by the laws.
+use Rattle.std.proofs.Common.{◌≡◌, ℕ, ◌^◌, ◌<◌, ◌+◌, List, [], ◌∷◌, ◌++◌, codes, map, refl, ap, sym, ◌∙◌, subst, Some, arith}
+use Rattle.std.specs.Prelude.{slice_get}
+use Rattle.std.specs.List.{AllByRecursion, Contains, flat_map}
+use Rattle.implib.specs.declared.flavor.Flavor.TheVariants.{Gnu, Msvc}
+use Rattle.implib.specs.declared.machine.MachineType.TheVariants.{AMD64}
+use Rattle.implib.specs.Formats.Constants.{class_external}
+use Rattle.implib.specs.Link.Image.{image_of}
+use Rattle.implib.specs.Members.MsvcObjects.{null_descriptor_symbol}
+use Rattle.implib.specs.Worked.Statements.{plain_export}
+use Rattle.implib.proofs.Link.LinkedMembers.{among_contains}
+use Rattle.implib.proofs.Link.Ranges.{among_back, apart_as_they_rise}
+use Rattle.implib_archive.specs.Archive.{entries_from, entries_of, first_linker_size, first_place, front_size, is_long, long_names as archive_long_names, name_end, names_bytes, names_size, offset_of, places_from, second_linker_size, strings_of, with_first, with_name as archive_with_name}
+use Rattle.implib_archive.specs.Refusal.{has_short_places, has_too_many, member_refusal, members_refusal, name_refusal, places_refusal, refusal_of, symbol_refusal, symbols_refusal}
+use Rattle.implib_archive.specs.declared.kind.Kind.TheVariants.{Coff}
+use Rattle.implib_archive_link.specs.BothWay.{AreLinkedForBoth, BothArrive}
+use Rattle.implib_archive_link.specs.InBytes.{Second}
+use Rattle.implib_archive_link.specs.Results.{HaveArchive}
+use Rattle.implib_link_instances.specs.Archives.WorkedBothWay.{WorkedBothWay, bar_for_gnu, bases, before_null, both, calls_bar, calls_queue, code_at, linked, objects, own, placed, queue_for_msvc, taken}
+use Rattle.implib_link_instances.specs.Archives.WorkedWay.{code}
+use Rattle.implib_archive_link.proofs.BothWay.{both_arrive}
+use Rattle.implib_archive_link.proofs.Corollaries.{are_found_in_bytes}
+use Rattle.implib_link.specs.Flavors.Program.{FlavorInput}
+use Rattle.implib_link.specs.Gnu.Calls.{CallArrives, HasCall, PlacedCode}
+use Rattle.implib_link.specs.Gnu.Choices.{AreSections, DefineOnce, plain_range}
+use Rattle.implib_link.specs.Gnu.Fields.{AreBeside, LinkedCode, placed_code, ranges_of_codes}
+use Rattle.implib_link.specs.Gnu.Packed.{group_end, packed_end, sections_end}
+use Rattle.implib_link.specs.Gnu.Program.{ClaimsNone}
+use Rattle.implib_link.specs.Search.Archives.{symbols_of_library}
+use Rattle.implib_link.specs.Search.BothFlavors.{AreGivenForBoth, IsClosedForBoth, IsFlavorArchive, archive_of_both, gnu_among, kept_of_both, msvc_among}
+use Rattle.implib_link.specs.Search.Closed.{listed_in, unresolved}
+use Rattle.implib_link.specs.Search.Msvc.{AreTakenInTurn, TakesFor, left_in}
+use Rattle.implib_link.specs.Search.MsvcArchives.{symbols_of_shorts}
+use Rattle.implib_link.specs.Search.MsvcClosed.{TakesIntoFor}
+use Rattle.implib_link_instances.specs.Worked.Calls.{first_bytes, given_on, last_bytes}
+use Rattle.implib_link_instances.specs.Worked.MsvcArchives.{thunk_named}
+use Rattle.implib_link_instances.specs.Worked.Programs.{symbol_of_class}
+use Rattle.implib_link.proofs.Gnu.Choices.{found, found_in}
+use Rattle.implib_link.proofs.Gnu.LinkedCodes.{codes_can_be_linked}
+use Rattle.implib_link.proofs.Gnu.Loaded.{mapped_at}
+use Rattle.implib_link.proofs.Search.BothClosed.{packed_both}
+use Rattle.implib_link.proofs.Search.BothGiven.{both_given_closes}
+use Rattle.implib_link.proofs.Search.Closed.{claims_apart}
+use Rattle.implib_link.proofs.Search.Lists.{among_at}
+use Rattle.implib_link.proofs.Search.MsvcClosed.{takes_into}
+use Rattle.implib_link_instances.proofs.Worked.BothFlavors.{apart_by}
+use Rattle.implib_link_instances.proofs.Worked.Calls.{wide}
+use Rattle.implib_link_instances.proofs.Worked.Choices.{once_by}
+use Rattle.implib_link_instances.proofs.Worked.MsvcSearch.{pulls_in_now, settled_ends}
+use Rattle.implib_link_instances.proofs.Worked.NearSearches.{searched}
+use Rattle.implib_link_instances.proofs.Worked.Programs.{claims_none_by, distinct_by}
+use Rattle.implib_link_instances.proofs.Worked.Searched.{below_limit}
+
+archive : IsFlavorArchive AMD64 both
+unfolding searched
+archive = record {
+  gnu = record {
+    made = (record { accepted = refl; made = refl; ordinals = refl }, tt);
+    distinct = distinct_by (flat_map (symbols_of_library AMD64) (gnu_among both)) refl;
+  };
+  msvc = record {
+    made = (record { accepted = refl; made = refl; ordinals = refl }, tt);
+    distinct = distinct_by (null_descriptor_symbol ∷ flat_map symbols_of_shorts (msvc_among both)) refl;
+    found = (refl, tt);
+  };
+  apart = apart_by (null_descriptor_symbol ∷ flat_map symbols_of_shorts (msvc_among both)) (flat_map (symbols_of_library AMD64) (gnu_among both)) refl;
+}
+
+ready : HaveArchive Coff Second (archive_of_both both)
+unfolding searched entries_from entries_of first_linker_size first_place front_size is_long archive_long_names name_end names_bytes names_size offset_of places_from second_linker_size strings_of with_first archive_with_name has_short_places has_too_many member_refusal members_refusal name_refusal places_refusal refusal_of symbol_refusal symbols_refusal
+ready = record { accepted = refl; has = tt }
+
+given : AreGivenForBoth AMD64 both own
+unfolding searched
+given = record {
+  claims = (claims_none_by (kept_of_both AMD64 both own) calls_bar refl, (claims_none_by (kept_of_both AMD64 both own) calls_queue refl, tt));
+  names = record { gnu = (record { head = refl; name = refl }, tt); msvc = (record { descriptor = refl; null_descriptor = refl; null_thunk = refl }, tt) };
+}
+
+wanted_takes : TakesFor AMD64 (archive_of_both both) (unresolved own) taken
+unfolding searched AreTakenInTurn
+wanted_takes = record {
+  in_turn = (
+    (0x7F ∷ codes "zed_NULL_THUNK_DATA", pulls_in_now _ _ _ _ _ _ refl refl refl refl),
+    (
+      (codes "__NULL_IMPORT_DESCRIPTOR", pulls_in_now _ _ _ _ _ _ refl refl refl refl),
+      (
+        (codes "__IMPORT_DESCRIPTOR_zed", pulls_in_now _ _ _ _ _ _ refl refl refl refl),
+        (
+          (codes "__imp_queue", pulls_in_now _ _ _ _ _ _ refl refl refl refl),
+          (
+            (codes "foo_dll_iname", pulls_in_now _ _ _ _ _ _ refl refl refl refl),
+            (
+              (codes "_head_foo_dll", pulls_in_now _ _ _ _ _ _ refl refl refl refl),
+              ((codes "__imp_bar", pulls_in_now _ _ _ _ _ _ refl refl refl refl), tt),
+            ),
+          ),
+        ),
+      ),
+    ),
+  );
+  ended = settled_ends AMD64 (archive_of_both both) (unresolved own) taken refl;
+}
+
+claims : AllByRecursion (ClaimsNone (listed_in taken ++ left_in AMD64 taken)) own
+unfolding searched
+claims = (claims_none_by (listed_in taken ++ left_in AMD64 taken) calls_bar refl, (claims_none_by (listed_in taken ++ left_in AMD64 taken) calls_queue refl, tt))
+
+takes : TakesIntoFor AMD64 (archive_of_both both) own taken
+unfolding left_in
+takes =
+    takes_into AMD64 (archive_of_both both) own taken (λ name left. claims_apart (listed_in taken ++ left_in AMD64 taken) own claims name (among_back name (listed_in taken) (left_in AMD64 taken) left)) wanted_takes
+
+closed : IsClosedForBoth AMD64 both own taken both bases objects
+unfolding searched group_end sections_end
+closed =
+    packed_both AMD64 both own taken both 0x2000 objects archive
+    (both_given_closes AMD64 both own taken both objects before_null (thunk_named (codes "zed.dll") ∷ []) archive given takes (omega arith) (record { moves = []; below = tt; is = refl }) (λ o. (λ held. held, λ held. held)) refl refl)
+    (omega arith) (below_limit (packed_end 0x2000 objects) refl)
+
+linked_for : AreLinkedForBoth AMD64 both own taken both bases objects
+unfolding searched
+linked_for = record {
+  order = record { moves = []; below = tt; is = refl };
+  others = λ o. (λ held. held, λ held. held);
+  before = before_null;
+  behind = thunk_named (codes "zed.dll") ∷ [];
+  members = refl;
+  tables = refl;
+  admissible = closed.admissible;
+  lookups = closed.lookups;
+  addresses = closed.addresses;
+  follows = closed.follows;
+}
+
+sections : AreSections AMD64 bases objects placed
+unfolding searched group_end sections_end
+sections = record {
+  held = ((0, omega arith, refl), ((1, omega arith, refl), tt));
+  sections = (refl, (refl, tt));
+  ends = (omega arith, (omega arith, tt));
+  apart = apart_as_they_rise (2 ^ 31) (image_of AMD64 bases linked ++ map plain_range placed) refl;
+}
+
+once : DefineOnce linked placed
+unfolding searched group_end sections_end found found_in
+once = once_by linked placed refl refl
+
+bar_called : HasCall AMD64 (code_at calls_bar 0x3000) 4 (codes "__imp_bar")
+bar_called = record {
+  front = first_bytes AMD64;
+  back = last_bytes AMD64;
+  instructions = refl;
+  here = refl;
+  index = 1;
+  before = [];
+  behind = [];
+  relocated = refl;
+  aside_before = tt;
+  aside_behind = tt;
+  symbol = symbol_of_class (codes "__imp_bar") 0 class_external;
+  target = refl;
+  undefined = refl;
+  named = refl;
+}
+
+queue_called : HasCall AMD64 (code_at calls_queue 0x3020) 4 (codes "__imp_queue")
+queue_called = record {
+  front = first_bytes AMD64;
+  back = last_bytes AMD64;
+  instructions = refl;
+  here = refl;
+  index = 1;
+  before = [];
+  behind = [];
+  relocated = refl;
+  aside_before = tt;
+  aside_behind = tt;
+  symbol = symbol_of_class (codes "__imp_queue") 0 class_external;
+  target = refl;
+  undefined = refl;
+  named = refl;
+}
+
+beside : (codes : List LinkedCode) × ((targets : LinkedCode → ℕ → ℕ) × ((map placed_code codes ≡ placed) × AreBeside AMD64 0x1_4000_0000 bases objects codes targets))
+unfolding searched group_end sections_end
+beside =
+    let small : AllByRecursion (λ (b : ℕ). b < 256) code.bytes = (omega arith, (omega arith, (omega arith, (omega arith, (omega arith, (omega arith, (omega arith, (omega arith, (omega arith, (omega arith, (omega arith, (omega arith, (omega arith, (omega arith, (omega arith, tt))))))))))))))) in
+    codes_can_be_linked AMD64 0x1_4000_0000 bases objects placed sections once (small, (small, tt))
+
+-- the linked code of a placed one
+record Linked (codes : List LinkedCode) (c : PlacedCode) : Type 0 where
+  own : LinkedCode
+  held : Contains codes own
+  is : placed_code own ≡ c
+
+linked_code : (codes : List LinkedCode) (i : ℕ) (c : PlacedCode) → map placed_code codes ≡ placed → slice_get placed i ≡ Some c → Linked codes c
+linked_code codes i c same at =
+    let found = mapped_at placed_code codes i c (ap (λ xs. slice_get xs i) same ∙ at) in
+    record { own = found.0; held = among_contains found.0 codes (among_at found.0 codes i found.1.0); is = found.1.1 }
+
+arrive : BothArrive AMD64 both own taken both bases objects
+unfolding searched
+arrive = both_arrive AMD64 both own taken both bases objects archive given (omega arith) takes linked_for
+
+abbrev bar_input : FlavorInput
+bar_input = record { flavor = Gnu; input = record { definition = bar_for_gnu.library.definition; members = bar_for_gnu.library.members; chosen = 0 ∷ [] } }
+
+abbrev queue_input : FlavorInput
+queue_input = record { flavor = Msvc; input = record { definition = queue_for_msvc.library.definition; members = queue_for_msvc.library.members; chosen = 0 ∷ [] } }
+
+pub worked_both_way : WorkedBothWay
+unfolding searched group_end sections_end
+worked_both_way =
+    let bar = linked_code beside.0 0 (code_at calls_bar 0x3000) beside.1.1.0 refl in
+    let queue = linked_code beside.0 1 (code_at calls_queue 0x3020) beside.1.1.0 refl in
+    let bar_has : HasCall AMD64 (placed_code bar.own) 4 (codes "__imp_bar") = subst (λ c. HasCall AMD64 c 4 (codes "__imp_bar")) (sym bar.is) bar_called in
+    let queue_has : HasCall AMD64 (placed_code queue.own) 4 (codes "__imp_queue") = subst (λ c. HasCall AMD64 c 4 (codes "__imp_queue")) (sym queue.is) queue_called in
+    record {
+      archive = archive;
+      ready = ready;
+      given = given;
+      leaves = refl;
+      wants = omega arith;
+      takes = (are_found_in_bytes Coff Second (archive_of_both both) ready).given_short AMD64 own taken takes;
+      linked_for = linked_for;
+      sections = sections;
+      bar_called = bar_called;
+      queue_called = queue_called;
+      bar_entry = refl;
+      queue_entry = refl;
+      arrive = (
+        beside.0,
+        (
+          beside.1.0,
+          (
+            beside.1.1.0,
+            (
+              beside.1.1.1,
+              λ n written reads. (
+                arrive.ends (given_on AMD64) n written (wide AMD64) reads,
+                subst (λ a. CallArrives AMD64 0x1_4000_0000 (written ++ (image_of AMD64 bases linked ++ ranges_of_codes beside.0)) a (0x30 ∷ 0 ∷ 0 ∷ 0x10 ∷ 0 ∷ 0 ∷ 0 ∷ 0 ∷ [])) (ap (λ (c : PlacedCode). c.position + 4) bar.is)
+                    (arrive.calls 0x1_4000_0000 beside.0 beside.1.0 (given_on AMD64) n written 0 0 bar_input (plain_export (codes "bar")) bar.own 4 tt beside.1.1.1 (wide AMD64) reads refl refl bar.held bar_has),
+                subst (λ a. CallArrives AMD64 0x1_4000_0000 (written ++ (image_of AMD64 bases linked ++ ranges_of_codes beside.0)) a (0x50 ∷ 0 ∷ 0 ∷ 0x10 ∷ 0 ∷ 0 ∷ 0 ∷ 0 ∷ [])) (ap (λ (c : PlacedCode). c.position + 4) queue.is)
+                    (arrive.calls 0x1_4000_0000 beside.0 beside.1.0 (given_on AMD64) n written 1 0 queue_input (plain_export (codes "queue")) queue.own 4 tt beside.1.1.1 (wide AMD64) reads refl refl queue.held queue_has),
+              ),
+            ),
+          ),
+        ),
+      );
+    }

@@ -1,0 +1,255 @@
+-- The way for lld by hand, by computing and by the law.
+use Rattle.std.proofs.Common.{◌≡◌, ℕ, true, false, List, [], ◌∷◌, codes, map, refl, ap, sym, ◌∙◌, subst, inl, inr, arith}
+use Rattle.std.specs.Prelude.{bytes_eq}
+use Rattle.std.specs.List.{Contains, list_any}
+use Rattle.std.proofs.lemmas.Bool.{true≢false}
+use Rattle.implib.specs.declared.machine.MachineType.TheVariants.{AMD64}
+use Rattle.implib.specs.Formats.Constants.{amd64_rel32, class_external}
+use Rattle.implib.specs.Formats.Layout.{encoded_size}
+use Rattle.implib.specs.Link.Load.{BytesAt}
+use Rattle.implib.specs.Members.MemberSpec.{MemberView}
+use Rattle.implib.specs.Members.Members.{refusal, renamed_refusal}
+use Rattle.implib.specs.Members.MsvcMembers.{descriptor_spec, header_specs, null_descriptor_spec, null_thunk_spec, weak_specs}
+use Rattle.implib.specs.Members.MsvcObjects.{base_name, descriptor, descriptor_symbol, null_descriptor, null_descriptor_symbol, null_thunk, null_thunk_symbol}
+use Rattle.implib.specs.Worked.Statements.{plain_export}
+use Rattle.implib.proofs.Link.LinkedMembers.{among_contains}
+use Rattle.implib.proofs.Link.Ranges.{Among}
+use Rattle.implib_archive.specs.Archive.{entries_from, entries_of, first_linker_size, first_place, front_size, is_long, long_names as archive_long_names, name_end, names_bytes, names_size, offset_of, places_from, second_linker_size, strings_of, with_first, with_name as archive_with_name}
+use Rattle.implib_archive.specs.Refusal.{has_short_places, has_too_many, member_refusal, members_refusal, name_refusal, places_refusal, refusal_of, symbol_refusal, symbols_refusal}
+use Rattle.implib_archive.specs.declared.kind.Kind.TheVariants.{Coff}
+use Rattle.implib_archive_link.specs.InBytes.{Second}
+use Rattle.implib_archive_link.specs.LldWay.{AreCalledAlike, IsBuiltByLld, IsWantedBy, LldArrives, asks_of_lld, shorts_in}
+use Rattle.implib_archive_link.specs.Results.{HaveArchive}
+use Rattle.implib_link_instances.specs.Archives.WorkedLldWay.{WorkedLldWay, bar_short, calls_linked, is_live, live_shorts, lld_codes, lld_image, lld_libraries, lld_library, lld_linked, lld_memory, lld_own, lld_tables, lld_taken, lld_targets, loud_library, placed_calls, thunk_linked, two_calls}
+use Rattle.implib_archive_link.proofs.InBytes.{AreTakenBy, TakesBy, search_of}
+use Rattle.implib_archive_link.proofs.LldWay.{lld_arrives}
+use Rattle.implib_link.specs.Flavors.Expansion.{descriptor_symbol_by_name, expanded_in, import_object}
+use Rattle.implib_link.specs.Flavors.LldImports.{imports_of_lld}
+use Rattle.implib_link.specs.Flavors.LldTables.{ArePiecesAt, built, built_bytes}
+use Rattle.implib_link.specs.Flavors.LldThunks.{placed_thunk, thunk_section}
+use Rattle.implib_link.specs.Flavors.SectionSymbols.{with_section_symbols}
+use Rattle.implib_link.specs.Gnu.Fields.{AreLinkedBeside, range_of_code}
+use Rattle.implib_link.specs.Gnu.Moves.{AreInMemory, AreMoved}
+use Rattle.implib_link.specs.Gnu.Operands.{HasBranch, HasInstruction}
+use Rattle.implib_link.specs.Gnu.Rebased.{table_places}
+use Rattle.implib_link.specs.Search.Archives.{Library, archive_of}
+use Rattle.implib_link.specs.Search.Closed.{claims_of, references_of, unresolved}
+use Rattle.implib_link.specs.Search.MsvcArchives.{IsMsvcArchive, symbols_of_shorts}
+use Rattle.implib_link.specs.Search.Search.{undefined_in}
+use Rattle.implib_link.specs.Tables.{AreSteady}
+use Rattle.implib_link_instances.specs.Worked.Calls.{given_on}
+use Rattle.implib_link_instances.specs.Worked.MsvcArchives.{short_named}
+use Rattle.implib_link_instances.specs.Worked.Programs.{symbol_of_class}
+use Rattle.implib_link.proofs.Flavors.LldTables.{built_pieces}
+use Rattle.implib_link.proofs.Search.Lists.{among_any, contains_among}
+use Rattle.implib_link_instances.proofs.Worked.Calls.{wide}
+use Rattle.implib_link_instances.proofs.Worked.LinkedCode.{all_needed, only_absolute, rebased_by, relocated_by, relocated_test}
+use Rattle.implib_link_instances.proofs.Worked.Lld.{lld_opened}
+use Rattle.implib_link_instances.proofs.Worked.LldPrograms.{disjoint, meet_test, takes_with_thunk}
+use Rattle.implib_link_instances.proofs.Worked.Programs.{distinct_by, opened}
+use Rattle.implib_link_instances.proofs.Worked.RefusedFields.{value}
+use Rattle.implib_link_instances.proofs.Worked.RefusedLinks.{differ}
+
+-- what the computing has to open
+unfoldable way_opened : Unit {0}
+unfolding opened lld_opened refusal renamed_refusal encoded_size expanded_in import_object descriptor_symbol_by_name with_section_symbols descriptor null_descriptor null_thunk descriptor_symbol null_descriptor_symbol null_thunk_symbol base_name descriptor_spec null_descriptor_spec null_thunk_spec header_specs weak_specs undefined_in references_of claims_of archive_of symbols_of_shorts
+way_opened = tt
+
+archive : IsMsvcArchive AMD64 lld_libraries
+unfolding way_opened
+archive = record {
+  made = (record { accepted = refl; made = refl; ordinals = refl }, tt);
+  distinct = distinct_by _ refl;
+  found = (refl, tt);
+}
+
+alike : AreCalledAlike lld_libraries
+unfolding Among
+alike l k first second same =
+    only_library l (contains_among l lld_libraries first) ∙ sym (only_library k (contains_among k lld_libraries second))
+  where
+    only_library : (x : Library) → Among x lld_libraries → x.definition.import_name ≡ codes "foo.dll"
+    only_library x (inl is) = ap (λ (y : Library). y.definition.import_name) is
+    only_library x (inr none) = absurd none
+
+loud : AreCalledAlike (lld_library ∷ loud_library ∷ []) → ⊥
+unfolding way_opened
+loud same_names =
+    let same : codes "foo.dll" ≡ codes "FOO.dll" = same_names lld_library loud_library (0, omega arith, refl) (1, omega arith, refl) refl in
+    true≢false (ap (bytes_eq (codes "foo.dll")) same)
+
+ready : HaveArchive Coff Second (archive_of lld_libraries)
+unfolding way_opened entries_from entries_of first_linker_size first_place front_size is_long archive_long_names name_end names_bytes names_size offset_of places_from second_linker_size strings_of with_first archive_with_name has_short_places has_too_many member_refusal members_refusal name_refusal places_refusal refusal_of symbol_refusal symbols_refusal
+ready = record { accepted = refl; has = tt }
+
+settled : (name : List ℕ) → asks_of_lld AMD64 lld_own (map (λ (m : MemberView). m.bytes) lld_taken) name → ⊥
+unfolding way_opened Among
+settled name asks = by (contains_among name (codes "__imp_bar" ∷ codes "bar" ∷ []) asks.0)
+  where
+    claimed : (name : List ℕ) → list_any (bytes_eq name) (codes "main" ∷ codes "__imp_bar" ∷ codes "bar" ∷ []) ≡ true → asks_of_lld AMD64 lld_own (map (λ (m : MemberView). m.bytes) lld_taken) name → ⊥
+    claimed name is asks = true≢false (sym is ∙ asks.1)
+
+    by : Among name (codes "__imp_bar" ∷ codes "bar" ∷ []) → ⊥
+    by (inl is) = claimed name (subst (λ n. list_any (bytes_eq n) (codes "main" ∷ codes "__imp_bar" ∷ codes "bar" ∷ []) ≡ true) (sym is) refl) asks
+    by (inr (inl is)) = claimed name (subst (λ n. list_any (bytes_eq n) (codes "main" ∷ codes "__imp_bar" ∷ codes "bar" ∷ []) ≡ true) (sym is) refl) asks
+    by (inr (inr none)) = none
+
+asked : asks_of_lld AMD64 lld_own [] (codes "bar")
+unfolding way_opened
+asked = ((1, omega arith, refl), refl)
+
+takes : TakesBy (archive_of lld_libraries) (asks_of_lld AMD64 lld_own) lld_taken
+unfolding way_opened AreTakenBy Among
+takes = record {
+  in_turn = ((codes "bar", record { asked = asked; listed = refl; new = λ has. absurd (contains_among (short_named (codes "foo.dll") (codes "bar")) [] has) }), tt);
+  ended = λ name m pulls. settled name pulls.asked;
+}
+
+wanted : IsWantedBy lld_libraries lld_own lld_library (plain_export (codes "bar"))
+unfolding way_opened
+wanted = record { library = (0, omega arith, refl); export = (0, omega arith, refl); plain = refl; name = codes "__imp_bar"; listed = (0, omega arith, refl); left = (0, omega arith, refl) }
+
+unwanted : IsWantedBy lld_libraries lld_own lld_library (plain_export (codes "baz")) → ⊥
+unfolding way_opened Among
+unwanted want = by (contains_among want.name (codes "__imp_baz" ∷ codes "baz" ∷ []) want.listed)
+  where
+    not_left : (name : List ℕ) → list_any (bytes_eq name) (codes "__imp_bar" ∷ codes "bar" ∷ []) ≡ false → Contains (unresolved lld_own) name → ⊥
+    not_left name none left = true≢false (sym (among_any name (codes "__imp_bar" ∷ codes "bar" ∷ []) (contains_among name (codes "__imp_bar" ∷ codes "bar" ∷ []) left)) ∙ none)
+
+    by : Among want.name (codes "__imp_baz" ∷ codes "baz" ∷ []) → ⊥
+    by (inl is) = not_left (codes "__imp_baz") refl (subst (Contains (unresolved lld_own)) is want.left)
+    by (inr (inl is)) = not_left (codes "baz") refl (subst (Contains (unresolved lld_own)) is want.left)
+    by (inr (inr none)) = none
+
+read : shorts_in AMD64 lld_taken ≡ bar_short ∷ []
+unfolding way_opened
+read = refl
+
+written : built_bytes AMD64 0x2000 (imports_of_lld live_shorts) ≡ lld_tables
+unfolding way_opened
+written = refl
+
+pieces : ArePiecesAt AMD64 lld_image 0x2000 0x2028 0x2038 0x2048 0x204E (imports_of_lld live_shorts)
+unfolding way_opened Among
+pieces =
+    built_pieces AMD64 0x2000 (imports_of_lld live_shorts) lld_image (tt, tt)
+    (among_contains (built AMD64 0x2000 (imports_of_lld live_shorts)) lld_image (inl (ap (λ bytes. record { start = 0x2000; bytes = bytes }) written)))
+
+built_by_lld : IsBuiltByLld AMD64 0x2000 0x2038 live_shorts lld_image lld_linked
+unfolding way_opened
+built_by_lld = record {
+  before = placed_calls ∷ [];
+  behind = placed_thunk AMD64 bar_short ∷ [];
+  placed = refl;
+  none_before = (refl, tt);
+  none_behind = (refl, tt);
+  lookups = 0x2028;
+  hints = 0x2048;
+  names = 0x204E;
+  pieces = pieces;
+  starts = (omega arith, tt);
+  ends = (omega arith, tt);
+}
+
+steady : AreSteady AMD64 lld_linked
+unfolding way_opened
+steady = refl
+
+beside : AreLinkedBeside AMD64 0x1_4000_0000 lld_image lld_linked lld_codes lld_targets
+unfolding way_opened relocated_test meet_test
+beside = record {
+  held = ((0, omega arith, refl), ((2, omega arith, refl), tt));
+  sections = (refl, (refl, tt));
+  ends = (omega arith, (omega arith, tt));
+  apart = (
+    (disjoint (record { start = 0x2000; bytes = lld_tables }) (range_of_code calls_linked) (inr (omega arith)), (disjoint (record { start = 0x2000; bytes = lld_tables }) (range_of_code thunk_linked) (inr (omega arith)), tt)),
+    ((disjoint (range_of_code calls_linked) (range_of_code thunk_linked) (inl (omega arith)), tt), (tt, tt)),
+  );
+  relocated = (
+    relocated_by AMD64 0x1_4000_0000 (lld_targets calls_linked) 0x1000 two_calls calls_linked.bytes refl,
+    (relocated_by AMD64 0x1_4000_0000 (lld_targets thunk_linked) 0x1010 (thunk_section AMD64) thunk_linked.bytes refl, tt),
+  );
+  resolved = takes_with_thunk 0x1010 lld_linked lld_codes refl;
+}
+
+at : AreInMemory AMD64 0x1_4000_0000 lld_image lld_linked lld_codes lld_targets lld_memory
+at = inl (beside, refl)
+
+moves : AreMoved AMD64 0x1_4000_0000 0x7FF6_1234_0000 lld_image lld_linked lld_codes lld_targets [] lld_memory
+unfolding way_opened
+moves = record {
+  beside = beside;
+  within = (tt, (tt, tt));
+  needed = λ c r width address entry held m is symbol placed. all_needed AMD64 lld_codes c r width held m is;
+  only = λ a byte is covered. only_absolute a (table_places AMD64 lld_linked) [] covered;
+  rebased = rebased_by 0x1_4000_0000 0x7FF6_1234_0000 [] lld_memory tt tt;
+}
+
+moved : AreInMemory AMD64 0x7FF6_1234_0000 lld_image lld_linked lld_codes lld_targets lld_memory
+moved = inr (0x1_4000_0000, ([], (tt, moves)))
+
+call : HasInstruction AMD64 calls_linked 0 (0xFF ∷ 0x15 ∷ []) [] (codes "__imp_bar")
+call = record {
+  type = amd64_rel32;
+  symbol = 1;
+  alone = refl;
+  names = record { symbol = symbol_of_class (codes "__imp_bar") 0 class_external; target = refl; undefined = refl; named = refl };
+  field = 0 ∷ 0 ∷ 0 ∷ 0 ∷ [];
+  four = refl;
+  code = refl;
+  counts = (0, (omega arith, (refl, refl)));
+}
+
+branch : HasBranch AMD64 calls_linked 7 0 (codes "bar")
+branch = record {
+  type = amd64_rel32;
+  field = record {
+    symbol = 2;
+    alone = refl;
+    inside = omega arith;
+    names = record { symbol = symbol_of_class (codes "bar") 0 class_external; target = refl; undefined = refl; named = refl };
+  };
+  counts = (0, (omega arith, (refl, refl)));
+  within = omega arith;
+}
+
+arrive : LldArrives AMD64 lld_libraries lld_own lld_taken
+arrive = lld_arrives AMD64 lld_libraries archive alike lld_own lld_taken takes
+
+-- lld's tables of nothing are 20 zeros, and no image that begins with another byte
+dead : IsBuiltByLld AMD64 0x2000 0x2038 [] lld_image lld_linked → ⊥
+unfolding way_opened BytesAt
+dead built = differ 0 0x28 (value 0 0x28 (sym built.pieces.directory.0)) (omega arith)
+
+pub worked_lld_way : WorkedLldWay
+unfolding way_opened
+worked_lld_way = record {
+  archive = archive;
+  alike = alike;
+  ready = ready;
+  takes = search_of Coff Second (archive_of lld_libraries) (asks_of_lld AMD64 lld_own) lld_taken ready takes;
+  wanted = wanted;
+  read = read;
+  built = built_by_lld;
+  steady = steady;
+  at = at;
+  moved = moved;
+  thunk = record { from = refl; number = refl };
+  call = call;
+  branch = branch;
+  leads = λ n written reads. (
+    (arrive.loads is_live 0x2000 0x2038 lld_image lld_linked built_by_lld 0x1_4000_0000 lld_codes lld_targets lld_memory (given_on AMD64) steady at n written (wide AMD64) reads).0,
+    arrive.leads is_live 0x2000 0x2038 lld_image lld_linked built_by_lld 0x1_4000_0000 lld_codes lld_targets lld_memory (given_on AMD64) steady at n written (wide AMD64) reads lld_library (plain_export (codes "bar")) wanted refl tt,
+  );
+  leads_moved = λ n written reads.
+      arrive.leads is_live 0x2000 0x2038 lld_image lld_linked built_by_lld 0x7FF6_1234_0000 lld_codes lld_targets lld_memory (given_on AMD64) steady moved n written (wide AMD64) reads lld_library (plain_export (codes "bar")) wanted refl tt;
+  calls = λ n written reads.
+      arrive.calls is_live 0x2000 0x2038 lld_image lld_linked built_by_lld 0x1_4000_0000 lld_codes lld_targets lld_memory (given_on AMD64) steady at n written (wide AMD64) reads lld_library (plain_export (codes "bar")) wanted refl tt
+      calls_linked thunk_linked 7 0 (0, omega arith, refl) (1, omega arith, refl) (record { from = refl; number = refl }) branch tt;
+  unwanted = unwanted;
+  asked = asked;
+  settled = settled (codes "bar");
+  no_descriptor = settled (codes "__IMPORT_DESCRIPTOR_foo");
+  loud = loud;
+  dead = dead;
+}

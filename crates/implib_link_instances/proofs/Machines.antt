@@ -1,0 +1,8 @@
+-- The same, computed.
+pub mod Gnu
+pub mod Msvc
+pub mod Mixed
+pub mod Way
+pub mod GnuWay
+pub mod LldWay
+pub mod Crossed

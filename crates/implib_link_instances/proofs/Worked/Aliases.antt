@@ -1,0 +1,318 @@
+-- The calls and the pointer by an alias by hand, by computing and by the law.
+use Rattle.implib_link.specs.Gnu.Fields.{LinkedCode}
+use Rattle.std.proofs.Common.{◌≡◌, ℕ, ◌^◌, Bool, true, List, [], ◌∷◌, ◌++◌, codes, Option, None, Some, refl, ap, sym, ◌∙◌, subst, arith, true≢false}
+use Rattle.std.specs.Prelude.{drop, take, ◌==◌, if◌then◌else◌, slice_get}
+use Rattle.std.specs.List.{list_all}
+use Rattle.std.specs.Option.{option_and_then}
+use Rattle.std.proofs.lemmas.Bool.{eqb-true}
+use Rattle.implib.specs.declared.machine.MachineType.TheVariants.{AMD64}
+use Rattle.implib.specs.Formats.Bytes.{u32_bytes}
+use Rattle.implib.specs.Formats.Constants.{class_external}
+use Rattle.implib.specs.Formats.Layout.{encoded_size, entries_of, name_text, object_of}
+use Rattle.implib.specs.Formats.Object.{ASymbol, Auxiliary, Entry, u32_at, ObjectSymbol}
+use Rattle.implib.specs.Formats.ShortImport.{short_import_in}
+use Rattle.implib.specs.Import.{imp_symbol}
+use Rattle.implib.specs.Link.Image.{image_of}
+use Rattle.implib.specs.Link.Placement.{Placed, placed_from}
+use Rattle.implib.specs.Link.Resolution.{definitions_of, first_address, is_undefined_external, symbol_address, SymbolDefinition}
+use Rattle.implib.specs.Members.GnuMembers.{alias_specs}
+use Rattle.implib.specs.Members.Members.{refusal, renamed_refusal}
+use Rattle.implib.specs.Members.MsvcMembers.{descriptor_spec, header_specs, null_descriptor_spec, null_thunk_spec, weak_specs}
+use Rattle.implib.specs.Members.MsvcObjects.{base_name, descriptor, descriptor_symbol, null_descriptor, null_descriptor_symbol, null_thunk, null_thunk_symbol}
+use Rattle.implib.specs.Members.WeakExternal.{weak_object}
+use Rattle.implib.proofs.Link.Ranges.{apart_as_they_rise, ends_below}
+use Rattle.implib_link.specs.Flavors.Expansion.{descriptor_symbol_by_name, expanded_in, import_object}
+use Rattle.implib_link.specs.Flavors.Program.{IsFlavorProgram, all_members, symbols_listed}
+use Rattle.implib_link.specs.Flavors.SectionSymbols.{with_section_symbols}
+use Rattle.implib_link.specs.Gnu.Aliases.{ResolvesAliases, weak_target}
+use Rattle.implib_link.specs.Gnu.Calls.{HasCall, PlacedCode, Resolves}
+use Rattle.implib_link.specs.Gnu.Packed.{group_end, sections_end}
+use Rattle.implib_link.specs.Gnu.Pointers.{HasLoad}
+use Rattle.implib_link.specs.Gnu.Program.{IsProgram, has_tables, linked_symbols}
+use Rattle.implib_link_instances.specs.Worked.Aliases.{WorkedAlias, WorkedFlavorAlias, alias_at, alias_calling, alias_codes, alias_flavors, alias_load_at, alias_loading, alias_objects, alias_placed, all_at, opened_flavors, opened_name, opened_placed, OverriddenAlias, overridden_code, overridden_placed}
+use Rattle.implib_link_instances.specs.Worked.Calls.{first_bytes, given_on, last_bytes}
+use Rattle.implib_link_instances.specs.Worked.Flavors.{both_inputs as flavor_inputs, flavor_bases_8, foo_input as msvc_input}
+use Rattle.implib_link_instances.specs.Worked.Programs.{another, both_inputs, foo_input, symbol_of_class, touching_8}
+use Rattle.implib_link_instances.proofs.Worked.Relocated.{flavors_calls_by_alias, flavors_loads_by_alias}
+use Rattle.implib_link.proofs.Gnu.Aliases.{weak_is_weak}
+use Rattle.implib_link_instances.proofs.Worked.Relocated.{calls_by_alias, loads_by_alias}
+use Rattle.implib_link.proofs.Search.Lists.{among_at, contains_among}
+use Rattle.implib_link_instances.proofs.Worked.Calls.{is_none, open_export, wide, one_of, second_at}
+use Rattle.implib_link.proofs.Search.Lists.{each_of}
+use Rattle.implib_link_instances.proofs.Worked.Flavors.{worked_flavors}
+use Rattle.implib_link_instances.proofs.Worked.Programs.{claims_none_by, distinct_by, opened, worked_programs}
+use Rattle.implib_link_instances.proofs.Worked.Rebased.{all_unwanted, none_wanted}
+use Rattle.implib_link_instances.specs.Worked.Relocated.{CodesBeside, code_ranges, linked_codes, as_placed, linked_by}
+use Rattle.implib_link_instances.proofs.Worked.Relocated.{beside_by, codes_tested}
+use Rattle.implib_link_instances.proofs.Worked.LinkedCode.{relocated_test}
+
+program : IsProgram AMD64 touching_8 (both_inputs AMD64) alias_objects
+unfolding opened alias_specs encoded_size weak_object has_tables object_of entries_of name_text u32_bytes
+program = record {
+  distinct = distinct_by (linked_symbols AMD64 (both_inputs AMD64)) refl;
+  tables = refl;
+  others = (
+    claims_none_by (linked_symbols AMD64 (both_inputs AMD64)) alias_calling refl,
+    (
+      claims_none_by (linked_symbols AMD64 (both_inputs AMD64)) alias_loading refl,
+      (claims_none_by (linked_symbols AMD64 (both_inputs AMD64)) (object_of (weak_object AMD64 opened_name (imp_symbol (codes "open")))) refl, tt),
+    ),
+  );
+  admissible = record {
+    descriptors = (omega arith, refl);
+    directory_ends = (omega arith, refl);
+    lookups = (omega arith, refl);
+    addresses = (omega arith, refl);
+    hint_names = (omega arith, refl);
+    dll_names = (omega arith, refl);
+    ends = ends_below (2 ^ 31) (image_of AMD64 touching_8 alias_placed) refl;
+    apart = apart_as_they_rise (2 ^ 31) (image_of AMD64 touching_8 alias_placed) refl;
+  };
+}
+
+-- Code of which no entry is in the tables, and whose symbols no placed code defines: its symbols may be taken to be anywhere.
+
+abbrev in_no_table : List Placed → PlacedCode → Bool
+in_no_table linked c = list_all (λ x. is_none (symbol_address linked c.from x)) c.from.object.entries
+
+resolves_anywhere : (linked : List Placed) (codes : List PlacedCode) (targets : PlacedCode → ℕ → ℕ) → list_all (in_no_table linked) codes ≡ true →
+    list_all (λ (c : PlacedCode). all_unwanted codes c.from.object.entries) codes ≡ true → Resolves linked codes targets
+resolves_anywhere linked codes targets outside unwanted = record {
+  tables = λ c index address entry held at is.
+      let all : in_no_table linked c ≡ true = each_of (in_no_table linked) c codes outside (contains_among c codes held) in
+      let none : is_none (symbol_address linked c.from entry) ≡ true =
+      each_of (λ x. is_none (symbol_address linked c.from x)) entry c.from.object.entries all (among_at entry c.from.object.entries index at) in
+      absurd (true≢false (sym none ∙ ap is_none is));
+  code = λ c d index s t c_held d_held at undefined defines named. absurd (none_wanted codes unwanted c d index s t c_held d_held at undefined defines named);
+}
+
+-- Where the targets of aliases are at one address, if anywhere, they are resolved to it.
+
+abbrev is_at : ℕ → Option ℕ → Bool
+is_at address None = true
+is_at address (Some n) = address == n
+
+abbrev address_of : List Placed → List ℕ → Option ℕ
+address_of linked target = first_address (definitions_of target linked)
+
+abbrev leads_to : ℕ → List Placed → Entry → Bool
+leads_to address linked (Auxiliary bytes) = true
+leads_to address linked (ASymbol s) =
+    if is_undefined_external s then is_at address (option_and_then (address_of linked) (weak_target s.name linked)) else true
+
+aliases_at : (linked : List Placed) (codes : List LinkedCode) (n : ℕ) → list_all (λ (c : LinkedCode). list_all (leads_to n linked) c.from.object.entries) codes ≡ true →
+    ResolvesAliases linked codes (λ c index. n)
+aliases_at linked codes n all c index address s target held at undefined none weak there =
+    let own : list_all (leads_to n linked) c.from.object.entries ≡ true =
+    each_of (λ (x : LinkedCode). list_all (leads_to n linked) x.from.object.entries) c codes all (contains_among c codes held) in
+    let one : leads_to n linked (ASymbol s) ≡ true = each_of (leads_to n linked) (ASymbol s) c.from.object.entries own (among_at (ASymbol s) c.from.object.entries index at) in
+    let two : is_at n (option_and_then (address_of linked) (weak_target s.name linked)) ≡ true = rw undefined at one in
+    let three : is_at n (address_of linked target) ≡ true = subst (λ o. is_at n (option_and_then (address_of linked) o) ≡ true) weak two in
+    eqb-true n address (subst (λ o. is_at n o ≡ true) there three)
+
+beside : CodesBeside AMD64 0x1_4000_0000 touching_8 alias_objects alias_codes (all_at 0x80)
+unfolding opened alias_specs encoded_size weak_object has_tables object_of entries_of name_text u32_bytes relocated_test codes_tested
+beside =
+    beside_by AMD64 0x1_4000_0000 touching_8 alias_objects alias_codes (all_at 0x80)
+    (record {
+      held = ((0, omega arith, refl), ((1, omega arith, refl), tt));
+      sections = (refl, (refl, tt));
+      ends = (omega arith, (omega arith, tt));
+      apart = apart_as_they_rise (2 ^ 31) (image_of AMD64 touching_8 alias_placed ++ code_ranges AMD64 0x1_4000_0000 (all_at 0x80) alias_codes) refl;
+      resolved = resolves_anywhere alias_placed alias_codes (all_at 0x80) refl refl;
+    })
+    refl
+
+weak_is : weak_target opened_name alias_placed ≡ Some (imp_symbol (codes "open"))
+unfolding opened alias_specs encoded_size weak_object has_tables object_of entries_of name_text u32_bytes u32_at
+weak_is = refl
+
+resolves : ResolvesAliases alias_placed (linked_codes AMD64 0x1_4000_0000 (all_at 0x80) alias_codes) (as_placed (all_at 0x80))
+unfolding opened alias_specs encoded_size weak_object has_tables object_of entries_of name_text u32_bytes u32_at
+resolves = aliases_at alias_placed (linked_codes AMD64 0x1_4000_0000 (all_at 0x80) alias_codes) 0x80 refl
+
+has : HasCall AMD64 alias_at 4 opened_name
+has = record {
+  front = first_bytes AMD64;
+  back = last_bytes AMD64;
+  instructions = refl;
+  here = refl;
+  index = 1;
+  before = [];
+  behind = [];
+  relocated = refl;
+  aside_before = tt;
+  aside_behind = tt;
+  symbol = symbol_of_class opened_name 0 class_external;
+  target = refl;
+  undefined = refl;
+  named = refl;
+}
+
+loads : HasLoad AMD64 alias_load_at 4 opened_name
+loads = record {
+  front = first_bytes AMD64;
+  back = last_bytes AMD64;
+  instructions = refl;
+  here = refl;
+  index = 1;
+  before = [];
+  behind = [];
+  relocated = refl;
+  aside_before = tt;
+  aside_behind = tt;
+  symbol = symbol_of_class opened_name 0 class_external;
+  target = refl;
+  undefined = refl;
+  named = refl;
+}
+
+undefined : definitions_of opened_name alias_placed ≡ []
+unfolding opened alias_specs encoded_size weak_object has_tables object_of entries_of name_text u32_bytes
+undefined = refl
+
+pub worked_alias : WorkedAlias
+unfolding opened alias_specs encoded_size weak_object has_tables object_of entries_of name_text u32_bytes u32_at
+worked_alias = record {
+  program = program;
+  beside = beside;
+  resolves = resolves;
+  undefined = undefined;
+  weak = weak_is;
+  other = refl;
+  target = refl;
+  calls = has;
+  loads = loads;
+  call_is = refl;
+  load_is = refl;
+  call_arrives = λ written writes.
+      calls_by_alias AMD64 0x1_4000_0000 touching_8 (both_inputs AMD64) alias_objects alias_codes (all_at 0x80) (given_on AMD64) written 0 1 (foo_input AMD64) (open_export AMD64) alias_at 4 opened_name
+      worked_programs.amd64.made program tt beside resolves (wide AMD64) writes refl refl (0, omega arith, refl) undefined weak_is has;
+  load_arrives = λ written writes.
+      loads_by_alias AMD64 0x1_4000_0000 touching_8 (both_inputs AMD64) alias_objects alias_codes (all_at 0x80) (given_on AMD64) written 0 1 (foo_input AMD64) (open_export AMD64) alias_load_at 4 opened_name
+      worked_programs.amd64.made program tt beside resolves (wide AMD64) writes refl refl (1, omega arith, refl) undefined weak_is loads;
+  member = weak_is_weak AMD64 (codes "__imp_bar") (codes "__imp_baz") [] alias_placed;
+}
+
+-- The program of both flavours.
+
+flavors_program : IsFlavorProgram AMD64 flavor_bases_8 (flavor_inputs AMD64) opened_flavors
+unfolding opened refusal renamed_refusal alias_specs encoded_size weak_object has_tables expanded_in short_import_in import_object descriptor_symbol_by_name with_section_symbols descriptor null_descriptor null_thunk descriptor_symbol null_descriptor_symbol null_thunk_symbol base_name descriptor_spec null_descriptor_spec null_thunk_spec header_specs weak_specs group_end sections_end object_of entries_of name_text u32_bytes u32_at
+flavors_program =
+    let symbols : List (List ℕ) = null_descriptor_symbol ∷ symbols_listed (all_members AMD64 (flavor_inputs AMD64)) in
+    record {
+      held = record {
+        distinct = distinct_by symbols refl;
+        null_from = msvc_input AMD64;
+        null_held = (0, omega arith, refl);
+        null_flavor = refl;
+        before = take 0 (all_members AMD64 (flavor_inputs AMD64));
+        behind = drop 0 (all_members AMD64 (flavor_inputs AMD64));
+        members = refl;
+        tables = refl;
+        others = (
+          claims_none_by symbols alias_calling refl,
+          (
+            claims_none_by symbols alias_loading refl,
+            (claims_none_by symbols (object_of (weak_object AMD64 opened_name (imp_symbol (codes "open")))) refl, (claims_none_by symbols (another AMD64) refl, tt)),
+          ),
+        );
+        found = (refl, (tt, tt));
+      };
+      admissible = record {
+        descriptors = (omega arith, refl);
+        directory_ends = (omega arith, refl);
+        lookups = (omega arith, refl);
+        addresses = (omega arith, refl);
+        hint_names = (omega arith, refl);
+        dll_names = (omega arith, refl);
+        ends = ends_below (2 ^ 31) (image_of AMD64 flavor_bases_8 opened_placed) refl;
+        apart = apart_as_they_rise (2 ^ 31) (image_of AMD64 flavor_bases_8 opened_placed) refl;
+      };
+      lookups = refl;
+      addresses = refl;
+      follows = refl;
+    }
+
+flavors_beside : CodesBeside AMD64 0x1_4000_0000 flavor_bases_8 opened_flavors alias_codes (all_at 0x88)
+unfolding opened refusal renamed_refusal alias_specs encoded_size weak_object has_tables expanded_in short_import_in import_object descriptor_symbol_by_name with_section_symbols descriptor null_descriptor null_thunk descriptor_symbol null_descriptor_symbol null_thunk_symbol base_name descriptor_spec null_descriptor_spec null_thunk_spec header_specs weak_specs group_end sections_end object_of entries_of name_text u32_bytes u32_at relocated_test codes_tested
+flavors_beside =
+    beside_by AMD64 0x1_4000_0000 flavor_bases_8 opened_flavors alias_codes (all_at 0x88)
+    (record {
+      held = ((0, omega arith, refl), ((1, omega arith, refl), tt));
+      sections = (refl, (refl, tt));
+      ends = (omega arith, (omega arith, tt));
+      apart = apart_as_they_rise (2 ^ 31) (image_of AMD64 flavor_bases_8 opened_placed ++ code_ranges AMD64 0x1_4000_0000 (all_at 0x88) alias_codes) refl;
+      resolved = resolves_anywhere opened_placed alias_codes (all_at 0x88) refl refl;
+    })
+    refl
+
+flavors_resolves : ResolvesAliases opened_placed (linked_codes AMD64 0x1_4000_0000 (all_at 0x88) alias_codes) (as_placed (all_at 0x88))
+unfolding opened refusal renamed_refusal alias_specs encoded_size weak_object has_tables expanded_in short_import_in import_object descriptor_symbol_by_name with_section_symbols descriptor null_descriptor null_thunk descriptor_symbol null_descriptor_symbol null_thunk_symbol base_name descriptor_spec null_descriptor_spec null_thunk_spec header_specs weak_specs group_end sections_end object_of entries_of name_text u32_bytes u32_at
+flavors_resolves = aliases_at opened_placed (linked_codes AMD64 0x1_4000_0000 (all_at 0x88) alias_codes) 0x88 refl
+
+flavors_undefined : definitions_of opened_name opened_placed ≡ []
+unfolding opened refusal renamed_refusal alias_specs encoded_size weak_object has_tables expanded_in short_import_in import_object descriptor_symbol_by_name with_section_symbols descriptor null_descriptor null_thunk descriptor_symbol null_descriptor_symbol null_thunk_symbol base_name descriptor_spec null_descriptor_spec null_thunk_spec header_specs weak_specs group_end sections_end object_of entries_of name_text u32_bytes u32_at
+flavors_undefined = refl
+
+flavors_weak : weak_target opened_name opened_placed ≡ Some (imp_symbol (codes "open"))
+unfolding opened refusal renamed_refusal alias_specs encoded_size weak_object has_tables expanded_in short_import_in import_object descriptor_symbol_by_name with_section_symbols descriptor null_descriptor null_thunk descriptor_symbol null_descriptor_symbol null_thunk_symbol base_name descriptor_spec null_descriptor_spec null_thunk_spec header_specs weak_specs group_end sections_end object_of entries_of name_text u32_bytes u32_at
+flavors_weak = refl
+
+not_same : (n m : ℕ) → n ≡ 0x88 → m ≡ 0x90 → n ≡ m → ⊥
+not_same n m first second same = omega arith
+
+astray : ResolvesAliases (placed_from flavor_bases_8 (alias_flavors (imp_symbol (codes "stat")))) (linked_codes AMD64 0x1_4000_0000 (all_at 0x88) alias_codes) (as_placed (all_at 0x88)) → ⊥
+unfolding opened refusal renamed_refusal alias_specs encoded_size weak_object has_tables expanded_in short_import_in import_object descriptor_symbol_by_name with_section_symbols descriptor null_descriptor null_thunk descriptor_symbol null_descriptor_symbol null_thunk_symbol base_name descriptor_spec null_descriptor_spec null_thunk_spec header_specs weak_specs group_end sections_end object_of entries_of name_text u32_bytes u32_at
+astray resolves =
+    not_same 0x88 0x90 refl refl
+    (resolves (linked_by AMD64 0x1_4000_0000 (all_at 0x88) alias_at) 1 0x90 (symbol_of_class opened_name 0 class_external) (imp_symbol (codes "stat")) (0, omega arith, refl) refl refl refl refl refl)
+
+pub worked_flavor_alias : WorkedFlavorAlias
+unfolding opened refusal renamed_refusal alias_specs encoded_size weak_object has_tables expanded_in short_import_in import_object descriptor_symbol_by_name with_section_symbols descriptor null_descriptor null_thunk descriptor_symbol null_descriptor_symbol null_thunk_symbol base_name descriptor_spec null_descriptor_spec null_thunk_spec header_specs weak_specs group_end sections_end object_of entries_of name_text u32_bytes u32_at
+worked_flavor_alias = record {
+  program = flavors_program;
+  beside = flavors_beside;
+  resolves = flavors_resolves;
+  undefined = flavors_undefined;
+  weak = flavors_weak;
+  calls = has;
+  loads = loads;
+  call_is = refl;
+  call_reads_it = refl;
+  load_is = refl;
+  load_reads_it = refl;
+  call_arrives = λ written writes.
+      flavors_calls_by_alias AMD64 0x1_4000_0000 flavor_bases_8 (flavor_inputs AMD64) opened_flavors alias_codes (all_at 0x88) (given_on AMD64) written 0 1 (msvc_input AMD64) (open_export AMD64) alias_at 4 opened_name
+      worked_flavors.amd64.made flavors_program tt flavors_beside flavors_resolves (wide AMD64) writes refl refl (0, omega arith, refl) flavors_undefined flavors_weak has;
+  load_arrives = λ written writes.
+      flavors_loads_by_alias AMD64 0x1_4000_0000 flavor_bases_8 (flavor_inputs AMD64) opened_flavors alias_codes (all_at 0x88) (given_on AMD64) written 0 1 (msvc_input AMD64) (open_export AMD64) alias_load_at 4
+      opened_name worked_flavors.amd64.made flavors_program tt flavors_beside flavors_resolves (wide AMD64) writes refl refl (1, omega arith, refl) flavors_undefined flavors_weak loads;
+  astray = astray;
+}
+
+-- A name that is weak, and defined.
+
+stat_defined : definitions_of (imp_symbol (codes "stat")) overridden_placed ≡ record { name = imp_symbol (codes "stat"); address = Some 0x88 } ∷ []
+unfolding opened alias_specs encoded_size weak_object has_tables object_of entries_of name_text u32_bytes
+stat_defined = refl
+
+not_nothing : (d : SymbolDefinition) → d ∷ [] ≡ [] → ⊥
+not_nothing d none = cc
+
+stat_resolves : ResolvesAliases overridden_placed (overridden_code ∷ []) (λ c index. 0x88)
+stat_resolves c index address s target held at undefined none weak there =
+    let c_is : c ≡ overridden_code = one_of c overridden_code (contains_among c (overridden_code ∷ []) held) in
+    let u : ObjectSymbol = symbol_of_class (imp_symbol (codes "stat")) 0 class_external in
+    let s_is : s ≡ u = second_at (symbol_of_class (codes "main") 1 class_external) u s index refl undefined (subst (λ (x : LinkedCode). slice_get x.from.object.entries index ≡ Some (ASymbol s)) c_is at) in
+    absurd (not_nothing (record { name = imp_symbol (codes "stat"); address = Some 0x88 }) (sym stat_defined ∙ subst (λ (x : ObjectSymbol). definitions_of x.name overridden_placed ≡ []) s_is none))
+
+pub overridden_alias : OverriddenAlias
+unfolding opened alias_specs encoded_size weak_object has_tables object_of entries_of name_text u32_bytes u32_at
+overridden_alias = record {
+  weak = refl;
+  defined = stat_defined;
+  target = refl;
+  resolves = stat_resolves;
+  taken = λ targets takes. takes.tables overridden_code 1 0x88 (ASymbol (symbol_of_class (imp_symbol (codes "stat")) 0 class_external)) (0, omega arith, refl) refl refl;
+}

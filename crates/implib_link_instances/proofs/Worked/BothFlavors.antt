@@ -1,0 +1,345 @@
+-- The closed program of both flavours that was linked by hand, and near misses of it, by computing and by the laws.
+use Rattle.std.proofs.Common.{◌≡◌, ℕ, ◌+◌, ◌*◌, ◌⊎◌, Bool, true, false, List, [], ◌∷◌, ◌++◌, codes, length, map, Some, refl, ap, sym, ◌∙◌, subst, inl, inr, arith}
+use Rattle.std.specs.Prelude.{bytes_eq, not, slice_get}
+use Rattle.std.specs.List.{AllByRecursion, Contains, flat_map, list_all, list_any}
+use Rattle.std.proofs.lemmas.Bool.{and_parts, not-true, true≢false}
+use Rattle.std.proofs.lemmas.Grind.{flat_map-append}
+use Rattle.implib.specs.declared.machine.MachineType.TheVariants.{AMD64}
+use Rattle.implib.specs.Definition.{ExportView}
+use Rattle.implib.specs.Formats.Object.{Object}
+use Rattle.implib.specs.Import.{imp_symbol}
+use Rattle.implib.specs.Link.Linked.{IsDefinedOnce}
+use Rattle.implib.specs.Link.Placement.{Descriptors, Placed, next_multiple, placed_from}
+use Rattle.implib.specs.Link.Resolution.{definitions_of}
+use Rattle.implib.specs.Members.Gnu.{archive_symbols}
+use Rattle.implib.specs.Members.ImportTables.{thunk_width}
+use Rattle.implib.specs.Members.MemberSpec.{MemberView}
+use Rattle.implib.specs.Members.Msvc.{short_import_symbols}
+use Rattle.implib.specs.Members.MsvcObjects.{null_descriptor_symbol}
+use Rattle.implib.specs.Worked.Statements.{plain_export}
+use Rattle.implib.proofs.Link.LinkedMembers.{among_contains, among_map}
+use Rattle.implib.proofs.Link.Ranges.{Among, all_among, among_back, among_front}
+use Rattle.implib_link.specs.Flavors.Program.{FlavorInput, exports_chosen, objects_taken, symbol_in, thunks_of}
+use Rattle.implib_link.specs.Gnu.Packed.{group_end, packed_end, sections_end}
+use Rattle.implib_link.specs.Gnu.Program.{ClaimsNone, claimed_names}
+use Rattle.implib_link.specs.Search.Archives.{IsArchive, symbols_of_library}
+use Rattle.implib_link.specs.Search.BothFlavors.{AreClosedForBoth, AreGivenForBoth, FlavorLibrary, IsClosedForBoth, IsFlavorArchive, NamesNoMembers, archive_of_both, gnu_among, kept_of_both, msvc_among}
+use Rattle.implib_link.specs.Search.Closed.{listed_in, unresolved}
+use Rattle.implib_link.specs.Search.Msvc.{AreTakenInTurn, TakesFor, left_in}
+use Rattle.implib_link.specs.Search.MsvcArchives.{IsMsvcArchive, first_null, symbols_of_shorts, wanted_with_weak}
+use Rattle.implib_link.specs.Search.MsvcClosed.{PullsIntoFor, TakesIntoFor, wanted_for}
+use Rattle.implib_link.specs.Search.Search.{undefined_in}
+use Rattle.implib_link_instances.specs.Worked.BothFlavors.{NearAreClosedForBoth, NearAreGivenForBoth, NearIsClosedForBoth, NearIsFlavorArchive, NearIsImportedOfBoth, NearIsUsedIn, NearLinksClosedForBoth, NearNamesNoMembers, NearTakesOfBoth, WorkedBoth, WorkedGivenForBoth, foo_and_zed, foo_members_taken, mixed_bases, mixed_inputs, mixed_objects, mixed_taken, mixed_without_last, zed_and_foo}
+use Rattle.implib_link_instances.specs.Worked.Closed.{choosing, clashing, foo_alias, foo_linked}
+use Rattle.implib_link_instances.specs.Worked.MsvcArchives.{descriptor_named, null_named, short_named, thunk_named}
+use Rattle.implib_link_instances.specs.Worked.MsvcClosed.{zed_members}
+use Rattle.implib_link_instances.specs.Worked.NearSearches.{again}
+use Rattle.implib_link.proofs.Search.BothArchives.{both_taken}
+use Rattle.implib_link.proofs.Search.BothClosed.{closed_links_of_both, packed_both}
+use Rattle.implib_link.proofs.Search.BothGiven.{both_given_ends}
+use Rattle.implib_link.proofs.Search.Closed.{claims_apart, unresolved_parts}
+use Rattle.implib_link.proofs.Search.Lists.{among_any, among_at, any_among, contains_among}
+use Rattle.implib_link.proofs.Search.MsvcClosed.{takes_into}
+use Rattle.implib_link_instances.proofs.Worked.MsvcSearch.{pulls_in_now, settled_ends}
+use Rattle.implib_link_instances.proofs.Worked.NearMisses.{in_one_alone, none_passes, some_passes}
+use Rattle.implib_link_instances.proofs.Worked.NearPrograms.{no_eights}
+use Rattle.implib_link_instances.proofs.Worked.NearResults.{more_taken, no_length, no_order, none_taken}
+use Rattle.implib_link_instances.proofs.Worked.NearSearches.{none_in, not_address, searched, twice, weak_data, weak_short}
+use Rattle.implib_link_instances.proofs.Worked.Programs.{claims_none_by, distinct_by}
+use Rattle.implib_link_instances.proofs.Worked.RefusedLinks.{differ}
+use Rattle.implib_link_instances.proofs.Worked.Searched.{below_limit}
+
+abbrev own : List Object
+own = choosing ∷ []
+
+-- no name of the ones is one of the others
+pub apart_by : (others texts : List (List ℕ)) → list_all (λ name. not (list_any (bytes_eq name) others)) texts ≡ true → AllByRecursion (λ name. list_any (bytes_eq name) others ≡ false) texts
+apart_by others [] all = tt
+apart_by others (name ∷ texts) all =
+    let parts = and_parts (not (list_any (bytes_eq name) others)) (list_all (λ n. not (list_any (bytes_eq n) others)) texts) all in
+    (not-true (list_any (bytes_eq name) others) parts.0, apart_by others texts parts.1)
+
+pub gnu_archive : IsArchive AMD64 (gnu_among foo_and_zed)
+unfolding searched
+gnu_archive = record {
+  made = (record { accepted = refl; made = refl; ordinals = refl }, tt);
+  distinct = distinct_by (flat_map (symbols_of_library AMD64) (gnu_among foo_and_zed)) refl;
+}
+
+pub msvc_archive : IsMsvcArchive AMD64 (msvc_among foo_and_zed)
+unfolding searched
+msvc_archive = record {
+  made = (record { accepted = refl; made = refl; ordinals = refl }, tt);
+  distinct = distinct_by (null_descriptor_symbol ∷ flat_map symbols_of_shorts (msvc_among foo_and_zed)) refl;
+  found = (refl, tt);
+}
+
+archive : IsFlavorArchive AMD64 foo_and_zed
+unfolding searched
+archive = record {
+  gnu = gnu_archive;
+  msvc = msvc_archive;
+  apart = apart_by (null_descriptor_symbol ∷ flat_map symbols_of_shorts (msvc_among foo_and_zed)) (flat_map (symbols_of_library AMD64) (gnu_among foo_and_zed)) refl;
+}
+
+abbrev members : List MemberView
+members = archive_of_both foo_and_zed
+
+abbrev wants : List (List ℕ)
+wants = unresolved (choosing ∷ [])
+
+takes_wanted : TakesFor AMD64 (archive_of_both foo_and_zed) (unresolved (choosing ∷ [])) mixed_taken
+unfolding searched AreTakenInTurn
+takes_wanted =
+    let zed : List ℕ = codes "zed.dll" in
+    let queue : MemberView = short_named (codes "zed.dll") (codes "queue") in
+    let null : List ℕ = codes "__NULL_IMPORT_DESCRIPTOR" in
+    record {
+      in_turn = (
+        (0x7F ∷ codes "zed_NULL_THUNK_DATA", pulls_in_now AMD64 members wants mixed_without_last (0x7F ∷ codes "zed_NULL_THUNK_DATA") (thunk_named zed) refl refl refl refl),
+        (
+          (codes "__NULL_IMPORT_DESCRIPTOR", pulls_in_now AMD64 members wants (descriptor_named zed ∷ queue ∷ foo_members_taken) null (null_named zed) refl refl refl refl),
+          (
+            (codes "__IMPORT_DESCRIPTOR_zed", pulls_in_now AMD64 members wants (queue ∷ foo_members_taken) (codes "__IMPORT_DESCRIPTOR_zed") (descriptor_named zed) refl refl refl refl),
+            (
+              (codes "__imp_queue", pulls_in_now AMD64 members wants foo_members_taken (codes "__imp_queue") queue refl refl refl refl),
+              (
+                (codes "foo_dll_iname", pulls_in_now AMD64 members wants _ (codes "foo_dll_iname") _ refl refl refl refl),
+                (
+                  (codes "_head_foo_dll", pulls_in_now AMD64 members wants _ (codes "_head_foo_dll") _ refl refl refl refl),
+                  (
+                    (codes "baz", pulls_in_now AMD64 members wants (foo_alias ∷ []) (codes "baz") _ refl refl refl refl),
+                    ((codes "bar", pulls_in_now AMD64 members wants [] (codes "bar") foo_alias refl refl refl refl), tt),
+                  ),
+                ),
+              ),
+            ),
+          ),
+        ),
+      );
+      ended = settled_ends AMD64 members wants mixed_taken refl;
+    }
+
+pub claims : AllByRecursion (ClaimsNone (listed_in mixed_taken ++ left_in AMD64 mixed_taken)) (choosing ∷ [])
+unfolding searched
+claims = (claims_none_by (listed_in mixed_taken ++ left_in AMD64 mixed_taken) choosing refl, tt)
+
+-- what the members that are taken leave, the object does not claim
+pub left_apart : (name : List ℕ) → Among name (flat_map undefined_in (objects_taken AMD64 mixed_taken)) → Among name (flat_map claimed_names own) → ⊥
+unfolding left_in
+left_apart name left = claims_apart (listed_in mixed_taken ++ left_in AMD64 mixed_taken) own claims name (among_back name (listed_in mixed_taken) (left_in AMD64 mixed_taken) left)
+
+takes : TakesIntoFor AMD64 (archive_of_both foo_and_zed) (choosing ∷ []) mixed_taken
+takes = takes_into AMD64 members own mixed_taken left_apart takes_wanted
+
+names : NamesNoMembers AMD64 foo_and_zed (wanted_for AMD64 (choosing ∷ []) mixed_taken)
+unfolding searched
+names = record { gnu = (record { head = refl; name = refl }, tt); msvc = (record { descriptor = refl; null_descriptor = refl; null_thunk = refl }, tt) }
+
+closed_objects : AreClosedForBoth AMD64 foo_and_zed (choosing ∷ []) mixed_taken zed_and_foo mixed_objects
+unfolding searched
+closed_objects = record {
+  takes = takes;
+  some = omega arith;
+  order = record { moves = (0, 1) ∷ []; below = (omega arith, omega arith, tt); is = refl };
+  others = λ o. (λ held. held, λ held. held);
+  before = zed_members;
+  behind = foo_linked;
+  members = refl;
+  tables = refl;
+  claims = claims;
+  names = names;
+}
+
+closed : IsClosedForBoth AMD64 foo_and_zed (choosing ∷ []) mixed_taken zed_and_foo mixed_bases mixed_objects
+unfolding searched group_end sections_end
+closed = packed_both AMD64 foo_and_zed own mixed_taken zed_and_foo 0x2000 mixed_objects archive closed_objects (omega arith) (below_limit (packed_end 0x2000 mixed_objects) refl)
+
+-- the first symbol that a member is listed for
+abbrev first_of : List (List ℕ) → List ℕ
+first_of [] = []
+first_of (name ∷ rest) = name
+
+abbrev first_symbol : MemberView → List ℕ
+first_symbol m = first_of m.symbols
+
+new_by : (taken : List MemberView) (m : MemberView) → list_any (bytes_eq (first_symbol m)) (map first_symbol taken) ≡ false → Contains taken m → ⊥
+new_by taken m new has = true≢false (sym (among_any (first_symbol m) (map first_symbol taken) (among_map first_symbol m taken (contains_among m taken has))) ∙ new)
+
+stopped : TakesIntoFor AMD64 (archive_of_both foo_and_zed) (choosing ∷ []) mixed_without_last → ⊥
+unfolding searched
+stopped taken_so_far =
+    let name : List ℕ = 0x7F ∷ codes "zed_NULL_THUNK_DATA" in
+    taken_so_far.ended (0x7F ∷ codes "zed_NULL_THUNK_DATA") (thunk_named (codes "zed.dll")) (record {
+      named = among_contains name (unresolved (own ++ objects_taken AMD64 mixed_without_last)) (any_among name (unresolved (own ++ objects_taken AMD64 mixed_without_last)) refl);
+      listed = refl;
+      new = new_by mixed_without_last (thunk_named (codes "zed.dll")) refl;
+    })
+
+claimed : (taken : List MemberView) (m : MemberView) → PullsIntoFor AMD64 (archive_of_both foo_and_zed) (choosing ∷ []) taken (codes "stack") m → ⊥
+claimed taken m pulls =
+    let name : List ℕ = codes "stack" in
+    let objects : List Object = objects_taken AMD64 taken in
+    (unresolved_parts (own ++ objects_taken AMD64 taken) name (contains_among name (unresolved (own ++ objects_taken AMD64 taken)) pulls.named)).1
+    (subst (Among name) (sym (flat_map-append claimed_names own objects))
+    (among_front name (flat_map claimed_names own) (flat_map claimed_names objects) (any_among name (flat_map claimed_names own) refl)))
+
+clashes : (arranged : List FlavorLibrary) (objects : List Object) → AreClosedForBoth AMD64 foo_and_zed (clashing ∷ []) mixed_taken arranged objects → ⊥
+unfolding searched
+clashes arranged objects is =
+    let none : list_any (bytes_eq (codes "queue")) (claimed_names clashing) ≡ false =
+    all_among (λ name. list_any (bytes_eq name) (claimed_names clashing) ≡ false) (codes "queue") (listed_in mixed_taken ++ left_in AMD64 mixed_taken)
+    (any_among (codes "queue") (listed_in mixed_taken ++ left_in AMD64 mixed_taken) refl) is.claims.0 in
+    true≢false none
+
+pub worked_both : WorkedBoth
+unfolding searched group_end sections_end
+worked_both = record {
+  archive = archive;
+  takes = takes;
+  wanted = refl;
+  just = both_taken AMD64 foo_and_zed archive wants mixed_taken names takes_wanted;
+  chosen = refl;
+  closed = closed;
+  links = closed_links_of_both AMD64 foo_and_zed own mixed_taken zed_and_foo mixed_bases mixed_objects archive closed;
+  left = refl;
+  queue = refl;
+  baz = refl;
+  stopped = stopped;
+  claimed = claimed;
+  clashes = clashes;
+}
+
+given : AreGivenForBoth AMD64 foo_and_zed (choosing ∷ [])
+unfolding searched
+given = record {
+  claims = (claims_none_by (kept_of_both AMD64 foo_and_zed own) choosing refl, tt);
+  names = record { gnu = (record { head = refl; name = refl }, tt); msvc = (record { descriptor = refl; null_descriptor = refl; null_thunk = refl }, tt) };
+}
+
+pub worked_given_for_both : WorkedGivenForBoth
+unfolding searched
+worked_given_for_both = record { given = given; kept = refl; wants = omega arith; ends = both_given_ends AMD64 foo_and_zed own archive given }
+
+-- Near misses.
+
+pub near_are_given_for_both : NearAreGivenForBoth
+unfolding searched
+near_are_given_for_both = record {
+  claims = λ x.
+      let kept : List (List ℕ) = kept_of_both AMD64 foo_and_zed (clashing ∷ []) in
+      true≢false (all_among (λ name. list_any (bytes_eq name) (claimed_names clashing) ≡ false) (codes "queue") (kept_of_both AMD64 foo_and_zed (clashing ∷ [])) (any_among (codes "queue") kept refl) x.claims.0);
+}
+
+pub near_is_flavor_archive : NearIsFlavorArchive
+unfolding searched
+near_is_flavor_archive = record { apart = λ x. true≢false x.apart.1.1.0 }
+
+pub near_names_no_members : NearNamesNoMembers
+unfolding searched
+near_names_no_members = record { gnu = λ x. true≢false x.gnu.0.head; msvc = λ x. true≢false x.msvc.0.null_descriptor }
+
+pub near_takes_of_both : NearTakesOfBoth
+unfolding searched
+near_takes_of_both = record {
+  inputs = λ x. none_in _ ((x.inputs _).1 (0, omega arith, refl));
+  weak = λ x. elim x.weak.0 [
+    | inl short ↦ weak_short (msvc_among foo_and_zed) (wanted_with_weak AMD64 (codes "__imp_queue" ∷ []) mixed_taken) foo_alias refl short
+    | inr data_alias ↦ weak_data (gnu_among foo_and_zed) (wanted_with_weak AMD64 (codes "__imp_queue" ∷ []) mixed_taken) foo_alias refl data_alias
+  ];
+}
+
+one_null : length (objects_taken AMD64 (first_null AMD64 (msvc_among foo_and_zed))) ≡ 1
+unfolding searched
+one_null = refl
+
+-- whether an object claims `main`
+is_main : Object → Bool
+is_main o = list_any (bytes_eq (codes "main")) (claimed_names o)
+
+no_main : Contains (objects_taken AMD64 (foo_alias ∷ [])) choosing → ⊥
+unfolding searched is_main
+no_main held = none_passes is_main choosing (objects_taken AMD64 (foo_alias ∷ [])) refl held refl
+
+pub near_are_closed_for_both : NearAreClosedForBoth
+unfolding searched
+near_are_closed_for_both = record {
+  some = λ x. no_length 0 refl x.some;
+  order = λ x. no_order _ _ x.order;
+  others = λ x. no_main ((x.others choosing).1 (0, omega arith, refl));
+  tables = λ x. none_taken x.before (first_null AMD64 (msvc_among foo_and_zed)) x.behind one_null x.tables;
+  members = λ x. more_taken x.before (first_null AMD64 (msvc_among foo_and_zed)) x.behind _ one_null (ap (λ ms. length (objects_taken AMD64 ms)) x.members) (omega arith) (ap length x.tables);
+}
+
+descriptors_end : group_end Descriptors 0x2000 mixed_objects ≡ 0x2028
+unfolding searched group_end sections_end
+descriptors_end = refl
+
+descriptors_begin : mixed_bases.descriptors ≡ 0x2000
+unfolding next_multiple
+descriptors_begin = refl
+
+pub near_is_closed_for_both : NearIsClosedForBoth
+near_is_closed_for_both = record {
+  admissible = λ x. no_length 0 refl x.admissible.hint_names.0;
+  lookups = λ x. no_eights 0x2044 x.lookups refl;
+  addresses = λ x. no_eights 0x2044 x.addresses refl;
+  follows = λ x.
+      let at : group_end Descriptors mixed_bases.descriptors mixed_objects ≡ 0x2028 = ap (λ n. group_end Descriptors n mixed_objects) descriptors_begin ∙ descriptors_end in
+      differ 0x2028 0x2030 (sym at ∙ sym x.follows) (omega arith);
+}
+
+queue_twice : length (definitions_of (codes "queue") (again ∷ placed_from mixed_bases mixed_objects)) ≡ 2
+unfolding searched group_end sections_end
+queue_twice = refl
+
+name_once : (linked : List Placed) → length (definitions_of (codes "queue") linked) ≡ 2 → (address : ℕ) (symbol : List ℕ) (is_data : Bool) →
+    ((codes "queue" ≡ imp_symbol symbol) × (definitions_of (codes "queue") linked ≡ record { name = codes "queue"; address = Some address } ∷ []))
+    ⊎ ((codes "queue" ≡ symbol) × (is_data ≡ false) × IsDefinedOnce linked (codes "queue")) → ⊥
+name_once linked two address symbol is_data (inl by) = not_address 113 (codes "ueue") symbol (omega arith) by.0
+name_once linked two address symbol is_data (inr by) = twice (codes "queue") linked two by.2
+
+-- the symbol of an export is a name that is linked under its own
+own_symbol : (linked : List Placed) (address : ℕ) (symbol : List ℕ) (is_data : Bool) →
+    ((codes "printf" ≡ imp_symbol symbol) × (definitions_of (codes "printf") linked ≡ record { name = codes "printf"; address = Some address } ∷ []))
+    ⊎ ((codes "printf" ≡ symbol) × (is_data ≡ false) × IsDefinedOnce linked (codes "printf")) → symbol ≡ codes "printf"
+own_symbol linked address symbol is_data (inl by) = absurd (not_address 112 (codes "rintf") symbol (omega arith) by.0)
+own_symbol linked address symbol is_data (inr by) = sym by.0
+
+-- whether an input has an export of a symbol
+has_symbol : List ℕ → FlavorInput → Bool
+has_symbol name p = list_any (λ (e : ExportView). bytes_eq (symbol_in p.flavor e) name) (exports_chosen p)
+
+no_symbol : (inputs : List FlavorInput) (name : List ℕ) (number index : ℕ) (p : FlavorInput) (e : ExportView) → list_any (has_symbol name) inputs ≡ false → bytes_eq name name ≡ true →
+    slice_get inputs number ≡ Some p → slice_get (exports_chosen p) index ≡ Some e → symbol_in p.flavor e ≡ name → ⊥
+unfolding has_symbol
+no_symbol inputs name number index p e none same input_is export_is is =
+    let passes : bytes_eq (symbol_in p.flavor e) name ≡ true = subst (λ n. bytes_eq n name ≡ true) (sym is) same in
+    none_passes (has_symbol name) p inputs none (among_contains p inputs (among_at p inputs number input_is))
+    (some_passes (λ (x : ExportView). bytes_eq (symbol_in p.flavor x) name) e (exports_chosen p) (among_contains e (exports_chosen p) (among_at e (exports_chosen p) index export_is)) passes)
+
+no_printf : list_any (has_symbol (codes "printf")) mixed_inputs ≡ false
+unfolding searched has_symbol
+no_printf = refl
+
+pub near_is_imported_of_both : NearIsImportedOfBoth
+near_is_imported_of_both = record {
+  by = λ x.
+      name_once (again ∷ placed_from mixed_bases mixed_objects) queue_twice (mixed_bases.addresses + thunk_width AMD64 * thunks_of x.number mixed_inputs + thunk_width AMD64 * x.index)
+      (symbol_in x.input.flavor x.export) x.export.is_data x.by;
+  input_is_and_export_is = λ x.
+      no_symbol mixed_inputs (codes "printf") x.number x.index x.input x.export no_printf refl x.input_is x.export_is
+      (own_symbol (again ∷ []) (mixed_bases.addresses + thunk_width AMD64 * thunks_of x.number mixed_inputs + thunk_width AMD64 * x.index) (symbol_in x.input.flavor x.export) x.export.is_data x.by);
+}
+
+pub near_is_used_in : NearIsUsedIn
+near_is_used_in = record {
+  gnu = λ x. in_one_alone x.0 (archive_symbols (plain_export (codes "baz"))) (codes "bar" ∷ codes "printf" ∷ []) refl x.1 x.2;
+  msvc = λ x. in_one_alone x.0 (short_import_symbols (plain_export (codes "queue"))) (codes "bar" ∷ codes "printf" ∷ []) refl x.1 x.2;
+}
+
+pub near_links_closed_for_both : NearLinksClosedForBoth
+unfolding searched
+near_links_closed_for_both =
+    let listed : List (List ℕ) = listed_in (archive_of_both foo_and_zed) in
+    record { closed = λ x. x.closed (codes "bar") (0, omega arith, refl) (among_contains (codes "bar") listed (any_among (codes "bar") listed refl)) }

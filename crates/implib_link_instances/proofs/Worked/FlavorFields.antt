@@ -1,0 +1,84 @@
+-- Fields of code in a program of both flavours, by computing and by the law.
+use Rattle.std.proofs.Common.{◌^◌, [], ◌∷◌, refl, inl, inr, arith}
+use Rattle.implib.specs.declared.machine.MachineType.TheVariants.{AMD64}
+use Rattle.implib.specs.Formats.Constants.{amd64_rel32, class_external}
+use Rattle.implib.specs.Formats.Layout.{encoded_size}
+use Rattle.implib.specs.Formats.ShortImport.{short_import_in}
+use Rattle.implib.specs.Link.Image.{image_of}
+use Rattle.implib.specs.Members.GnuMembers.{alias_specs}
+use Rattle.implib.specs.Members.Members.{refusal, renamed_refusal}
+use Rattle.implib.specs.Members.MsvcMembers.{descriptor_spec, header_specs, null_descriptor_spec, null_thunk_spec, weak_specs}
+use Rattle.implib.specs.Members.MsvcObjects.{base_name, descriptor, descriptor_symbol, null_descriptor, null_descriptor_symbol, null_thunk, null_thunk_symbol}
+use Rattle.implib.specs.Members.WeakExternal.{weak_object}
+use Rattle.implib.proofs.Link.Ranges.{apart_as_they_rise}
+use Rattle.implib_link.specs.Flavors.Expansion.{descriptor_symbol_by_name, expanded_in, import_object}
+use Rattle.implib_link.specs.Flavors.SectionSymbols.{with_section_symbols}
+use Rattle.implib_link.specs.Gnu.Fields.{AreLinkedBeside}
+use Rattle.implib_link.specs.Gnu.Moves.{AreInMemory, AreMoved}
+use Rattle.implib_link.specs.Gnu.Operands.{HasInstruction}
+use Rattle.implib_link.specs.Gnu.Packed.{group_end, sections_end}
+use Rattle.implib_link.specs.Gnu.Program.{has_tables}
+use Rattle.implib_link.specs.Gnu.Rebased.{table_places}
+use Rattle.implib_link_instances.specs.Worked.Calls.{calling_flavors, flavors_placed, given_on}
+use Rattle.implib_link_instances.specs.Worked.Flavors.{both_inputs as flavor_inputs, flavor_bases_8, foo_input as msvc_input}
+use Rattle.implib_link_instances.specs.Worked.Operands.{WorkedFlavorFields, calling_linked, flavors_linked, imp_open, linked_targets}
+use Rattle.implib_link_instances.specs.Worked.Programs.{symbol_of_class}
+use Rattle.implib_link.proofs.ProgramsInMemory.{flavors_lead_in_memory}
+use Rattle.implib_link_instances.proofs.Worked.Calls.{flavors_program, open_export, wide}
+use Rattle.implib_link_instances.proofs.Worked.Flavors.{worked_flavors}
+use Rattle.implib_link_instances.proofs.Worked.LinkedCode.{all_needed, only_absolute, relocated_by, relocated_test, takes_by}
+use Rattle.implib_link_instances.proofs.Worked.Programs.{opened}
+use Rattle.implib_link_instances.proofs.Worked.Rebased.{none_rebased}
+
+beside : AreLinkedBeside AMD64 0x1_4000_0000 (image_of AMD64 flavor_bases_8 flavors_placed) flavors_placed (calling_linked ∷ []) linked_targets
+unfolding opened refusal renamed_refusal alias_specs encoded_size weak_object has_tables expanded_in short_import_in import_object descriptor_symbol_by_name with_section_symbols descriptor null_descriptor null_thunk descriptor_symbol null_descriptor_symbol null_thunk_symbol base_name descriptor_spec null_descriptor_spec null_thunk_spec header_specs weak_specs group_end sections_end relocated_test
+beside = record {
+  held = ((0, omega arith, refl), tt);
+  sections = (refl, tt);
+  ends = (omega arith, tt);
+  apart = apart_as_they_rise (2 ^ 31) flavors_linked refl;
+  relocated = (relocated_by AMD64 0x1_4000_0000 (linked_targets calling_linked) 0x1000 calling_linked.code calling_linked.bytes refl, tt);
+  resolved = takes_by AMD64 flavors_placed (calling_linked ∷ []) refl refl;
+}
+
+moves : AreMoved AMD64 0x1_4000_0000 0x2_0000_0000 (image_of AMD64 flavor_bases_8 flavors_placed) flavors_placed (calling_linked ∷ []) linked_targets [] flavors_linked
+moves = record {
+  beside = beside;
+  within = (tt, tt);
+  needed = λ c r width address entry held m is symbol placed. all_needed AMD64 (calling_linked ∷ []) c r width held m is;
+  only = λ a byte is covered. only_absolute a (table_places AMD64 flavors_placed) [] covered;
+  rebased = none_rebased 0x1_4000_0000 0x2_0000_0000 flavors_linked;
+}
+
+call : HasInstruction AMD64 calling_linked 4 (0xFF ∷ 0x15 ∷ []) [] (imp_open AMD64)
+call = record {
+  type = amd64_rel32;
+  symbol = 1;
+  alone = refl;
+  names = record { symbol = symbol_of_class (imp_open AMD64) 0 class_external; target = refl; undefined = refl; named = refl };
+  field = 0 ∷ 0 ∷ 0 ∷ 0 ∷ [];
+  four = refl;
+  code = refl;
+  counts = (0, (omega arith, (refl, refl)));
+}
+
+in_linked : AreInMemory AMD64 0x1_4000_0000 (image_of AMD64 flavor_bases_8 flavors_placed) flavors_placed (calling_linked ∷ []) linked_targets flavors_linked
+in_linked = inl (beside, refl)
+
+in_moved : AreInMemory AMD64 0x2_0000_0000 (image_of AMD64 flavor_bases_8 flavors_placed) flavors_placed (calling_linked ∷ []) linked_targets flavors_linked
+in_moved = inr (0x1_4000_0000, ([], (tt, moves)))
+
+pub worked_flavor_fields : WorkedFlavorFields
+unfolding opened refusal renamed_refusal alias_specs encoded_size weak_object has_tables expanded_in short_import_in import_object descriptor_symbol_by_name with_section_symbols descriptor null_descriptor null_thunk descriptor_symbol null_descriptor_symbol null_thunk_symbol base_name descriptor_spec null_descriptor_spec null_thunk_spec header_specs weak_specs group_end sections_end
+worked_flavor_fields = record {
+  program = flavors_program;
+  linked = in_linked;
+  moved = in_moved;
+  call = call;
+  arrives = λ n written reads.
+      (flavors_lead_in_memory AMD64 0x1_4000_0000 flavor_bases_8 (flavor_inputs AMD64) calling_flavors (calling_linked ∷ []) linked_targets flavors_linked (given_on AMD64) worked_flavors.amd64.made flavors_program in_linked
+      n written 0 1 (msvc_input AMD64) (open_export AMD64) tt (wide AMD64) reads refl refl).instructions calling_linked 4 (0xFF ∷ 0x15 ∷ []) [] (0, omega arith, refl) call;
+  arrives_moved = λ n written reads.
+      (flavors_lead_in_memory AMD64 0x2_0000_0000 flavor_bases_8 (flavor_inputs AMD64) calling_flavors (calling_linked ∷ []) linked_targets flavors_linked (given_on AMD64) worked_flavors.amd64.made flavors_program in_moved
+      n written 0 1 (msvc_input AMD64) (open_export AMD64) tt (wide AMD64) reads refl refl).instructions calling_linked 4 (0xFF ∷ 0x15 ∷ []) [] (0, omega arith, refl) call;
+}

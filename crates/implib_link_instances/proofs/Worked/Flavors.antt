@@ -1,0 +1,253 @@
+-- Programs of DLLs in both flavours, by computing.
+use Rattle.std.proofs.Common.{◌≡◌, ℕ, ◌+◌, ◌^◌, List, [], ◌∷◌, refl, ◌∙◌, arith, subst}
+use Rattle.std.specs.Prelude.{drop, take}
+use Rattle.implib.specs.declared.machine.MachineType.TheVariants.{I386, ARMNT, AMD64, ARM64}
+use Rattle.implib.specs.Link.Image.{Range, with_address}
+use Rattle.std.specs.Fmt.{digits}
+use Rattle.implib.specs.Formats.Bytes.{u16_bytes, u32_bytes}
+use Rattle.implib.specs.Members.Gnu.{export_object, five_digits, head_name, head_object, head_symbol, hint_name, iname_symbol, numbered_name, relocations_of_stub, relocations_of_thunk, mangled_name, stub, tail_name, tail_object, thunk}
+use Rattle.implib.specs.Members.GnuMembers.{alias_specs, export_spec, head_spec, tail_spec}
+use Rattle.implib.specs.Formats.Object.{before_nul, bytes_at, data_at, each_at, entries_at, name_of, object_in, object_of_header, relocation_at, relocation_of, section_at, section_of, strings_at, symbol_of, u16_at, u32_at, up_to_nul}
+use Rattle.implib.specs.Formats.Layout.{auxiliary_bytes, auxiliary_count, contents, contents_offset, contents_size, header_bytes, encoded, encoded_size, name_field, offsets_from, pointer_or_zero, record_count, records, relocation_bytes, section_header, section_headers, string_bytes_of, string_offsets, string_size, string_table, strings_size, symbol_bytes, symbol_table_offset}
+use Rattle.implib.specs.Link.Placement.{next_multiple}
+use Rattle.implib.specs.Formats.Writer.{long_names, name_location, layout_of, symbol_written, with_long_name, with_name}
+use Rattle.implib.specs.Link.Load.{IsWhole, LoadsStrictly, NumberAt, WholeTableAt}
+use Rattle.implib.specs.Members.Members.{refusal, renamed_refusal}
+use Rattle.implib.specs.Members.MsvcMembers.{descriptor_spec, header_specs, null_descriptor_spec, null_thunk_spec, weak_specs}
+use Rattle.implib.specs.Members.MsvcObjects.{base_name, descriptor, descriptor_symbol, null_descriptor, null_descriptor_symbol, null_thunk, null_thunk_symbol}
+use Rattle.implib.specs.Formats.ShortImport.{short_import_in}
+use Rattle.implib.specs.Members.WeakExternal.{weak_object}
+use Rattle.implib.proofs.Link.Loading.{number_once}
+use Rattle.implib.proofs.Link.Ranges.{apart_as_they_rise, ends_below}
+use Rattle.implib_link.specs.Flavors.Expansion.{import_object, descriptor_symbol_by_name, expanded_in}
+use Rattle.implib_link.specs.Flavors.Program.{all_members, symbols_listed}
+use Rattle.implib_link.specs.Gnu.Packed.{group_end, sections_end}
+use Rattle.implib_link.specs.Gnu.Program.{has_tables}
+use Rattle.implib_link.specs.Flavors.SectionSymbols.{with_section_symbols}
+use Rattle.implib_link_instances.specs.Worked.Flavors.{RefusedTables, WorkedFlavorProgram, WorkedFlavors, both_inputs, flavor_bases_4, flavor_bases_8, flavor_expected_4, flavor_expected_8, flavor_image, foo_asks, foo_input, shifted_bases}
+use Rattle.implib_link_instances.specs.Worked.Programs.{another, caller}
+use Rattle.implib_link_instances.proofs.Worked.RefusedLinks.{differ, number}
+use Rattle.implib_link_instances.proofs.Worked.Programs.{claims_none_by, distinct_by}
+
+-- what the computing has to open
+unfoldable pub opened : Unit {0}
+unfolding digits u16_bytes u32_bytes export_object five_digits head_name head_object head_symbol hint_name iname_symbol numbered_name relocations_of_stub relocations_of_thunk mangled_name stub tail_name tail_object thunk next_multiple with_address export_spec head_spec tail_spec before_nul bytes_at data_at each_at entries_at name_of object_in object_of_header relocation_at relocation_of section_at section_of strings_at symbol_of u16_at u32_at up_to_nul auxiliary_bytes auxiliary_count contents contents_offset contents_size header_bytes encoded name_field offsets_from pointer_or_zero record_count records relocation_bytes section_header section_headers string_bytes_of string_offsets string_size string_table strings_size symbol_bytes symbol_table_offset long_names name_location layout_of symbol_written with_long_name with_name
+opened = tt
+
+amd64 : WorkedFlavorProgram AMD64 0 flavor_bases_8 flavor_expected_8
+unfolding opened refusal renamed_refusal alias_specs encoded_size weak_object has_tables expanded_in short_import_in import_object descriptor_symbol_by_name with_section_symbols descriptor null_descriptor null_thunk descriptor_symbol null_descriptor_symbol null_thunk_symbol base_name descriptor_spec null_descriptor_spec null_thunk_spec header_specs weak_specs group_end sections_end
+amd64 = record {
+  made = (record { accepted = refl; made = refl; ordinals = refl }, (record { accepted = refl; made = refl; ordinals = refl }, tt));
+  program = record {
+    held = record {
+      distinct = distinct_by (null_descriptor_symbol ∷ symbols_listed (all_members AMD64 (both_inputs AMD64))) refl;
+      null_from = foo_input AMD64;
+      null_held = (0, omega arith, refl);
+      null_flavor = refl;
+      before = take 0 (all_members AMD64 (both_inputs AMD64));
+      behind = drop 0 (all_members AMD64 (both_inputs AMD64));
+      members = refl;
+      tables = refl;
+      others = (
+        claims_none_by (null_descriptor_symbol ∷ symbols_listed (all_members AMD64 (both_inputs AMD64))) (caller AMD64) refl,
+        (claims_none_by (null_descriptor_symbol ∷ symbols_listed (all_members AMD64 (both_inputs AMD64))) (another AMD64) refl, tt),
+      );
+      found = (refl, (tt, tt));
+    };
+    admissible = record {
+      descriptors = (omega arith, refl);
+      directory_ends = (omega arith, refl);
+      lookups = (omega arith, refl);
+      addresses = (omega arith, refl);
+      hint_names = (omega arith, refl);
+      dll_names = (omega arith, refl);
+      ends = ends_below (2 ^ 31) (flavor_image AMD64 0 flavor_bases_8) refl;
+      apart = apart_as_they_rise (2 ^ 31) (flavor_image AMD64 0 flavor_bases_8) refl;
+    };
+    lookups = refl;
+    addresses = refl;
+    follows = refl;
+  };
+  descriptors = refl;
+  lookups = refl;
+  addresses = refl;
+  hints = refl;
+  zed = refl;
+  entries = refl;
+  named = refl;
+}
+
+i386 : WorkedFlavorProgram I386 2 flavor_bases_4 flavor_expected_4
+unfolding opened refusal renamed_refusal alias_specs encoded_size weak_object has_tables expanded_in short_import_in import_object descriptor_symbol_by_name with_section_symbols descriptor null_descriptor null_thunk descriptor_symbol null_descriptor_symbol null_thunk_symbol base_name descriptor_spec null_descriptor_spec null_thunk_spec header_specs weak_specs group_end sections_end
+i386 = record {
+  made = (record { accepted = refl; made = refl; ordinals = refl }, (record { accepted = refl; made = refl; ordinals = refl }, tt));
+  program = record {
+    held = record {
+      distinct = distinct_by (null_descriptor_symbol ∷ symbols_listed (all_members I386 (both_inputs I386))) refl;
+      null_from = foo_input I386;
+      null_held = (0, omega arith, refl);
+      null_flavor = refl;
+      before = take 2 (all_members I386 (both_inputs I386));
+      behind = drop 2 (all_members I386 (both_inputs I386));
+      members = refl;
+      tables = refl;
+      others = (
+        claims_none_by (null_descriptor_symbol ∷ symbols_listed (all_members I386 (both_inputs I386))) (caller I386) refl,
+        (claims_none_by (null_descriptor_symbol ∷ symbols_listed (all_members I386 (both_inputs I386))) (another I386) refl, tt),
+      );
+      found = (refl, (tt, tt));
+    };
+    admissible = record {
+      descriptors = (omega arith, refl);
+      directory_ends = (omega arith, refl);
+      lookups = (omega arith, refl);
+      addresses = (omega arith, refl);
+      hint_names = (omega arith, refl);
+      dll_names = (omega arith, refl);
+      ends = ends_below (2 ^ 31) (flavor_image I386 2 flavor_bases_4) refl;
+      apart = apart_as_they_rise (2 ^ 31) (flavor_image I386 2 flavor_bases_4) refl;
+    };
+    lookups = refl;
+    addresses = refl;
+    follows = refl;
+  };
+  descriptors = refl;
+  lookups = refl;
+  addresses = refl;
+  hints = refl;
+  zed = refl;
+  entries = refl;
+  named = refl;
+}
+
+arm64 : WorkedFlavorProgram ARM64 9 flavor_bases_8 flavor_expected_8
+unfolding opened refusal renamed_refusal alias_specs encoded_size weak_object has_tables expanded_in short_import_in import_object descriptor_symbol_by_name with_section_symbols descriptor null_descriptor null_thunk descriptor_symbol null_descriptor_symbol null_thunk_symbol base_name descriptor_spec null_descriptor_spec null_thunk_spec header_specs weak_specs group_end sections_end
+arm64 = record {
+  made = (record { accepted = refl; made = refl; ordinals = refl }, (record { accepted = refl; made = refl; ordinals = refl }, tt));
+  program = record {
+    held = record {
+      distinct = distinct_by (null_descriptor_symbol ∷ symbols_listed (all_members ARM64 (both_inputs ARM64))) refl;
+      null_from = foo_input ARM64;
+      null_held = (0, omega arith, refl);
+      null_flavor = refl;
+      before = take 9 (all_members ARM64 (both_inputs ARM64));
+      behind = drop 9 (all_members ARM64 (both_inputs ARM64));
+      members = refl;
+      tables = refl;
+      others = (
+        claims_none_by (null_descriptor_symbol ∷ symbols_listed (all_members ARM64 (both_inputs ARM64))) (caller ARM64) refl,
+        (claims_none_by (null_descriptor_symbol ∷ symbols_listed (all_members ARM64 (both_inputs ARM64))) (another ARM64) refl, tt),
+      );
+      found = (refl, (tt, tt));
+    };
+    admissible = record {
+      descriptors = (omega arith, refl);
+      directory_ends = (omega arith, refl);
+      lookups = (omega arith, refl);
+      addresses = (omega arith, refl);
+      hint_names = (omega arith, refl);
+      dll_names = (omega arith, refl);
+      ends = ends_below (2 ^ 31) (flavor_image ARM64 9 flavor_bases_8) refl;
+      apart = apart_as_they_rise (2 ^ 31) (flavor_image ARM64 9 flavor_bases_8) refl;
+    };
+    lookups = refl;
+    addresses = refl;
+    follows = refl;
+  };
+  descriptors = refl;
+  lookups = refl;
+  addresses = refl;
+  hints = refl;
+  zed = refl;
+  entries = refl;
+  named = refl;
+}
+
+armnt : WorkedFlavorProgram ARMNT 2 flavor_bases_4 flavor_expected_4
+unfolding opened refusal renamed_refusal alias_specs encoded_size weak_object has_tables expanded_in short_import_in import_object descriptor_symbol_by_name with_section_symbols descriptor null_descriptor null_thunk descriptor_symbol null_descriptor_symbol null_thunk_symbol base_name descriptor_spec null_descriptor_spec null_thunk_spec header_specs weak_specs group_end sections_end
+armnt = record {
+  made = (record { accepted = refl; made = refl; ordinals = refl }, (record { accepted = refl; made = refl; ordinals = refl }, tt));
+  program = record {
+    held = record {
+      distinct = distinct_by (null_descriptor_symbol ∷ symbols_listed (all_members ARMNT (both_inputs ARMNT))) refl;
+      null_from = foo_input ARMNT;
+      null_held = (0, omega arith, refl);
+      null_flavor = refl;
+      before = take 2 (all_members ARMNT (both_inputs ARMNT));
+      behind = drop 2 (all_members ARMNT (both_inputs ARMNT));
+      members = refl;
+      tables = refl;
+      others = (
+        claims_none_by (null_descriptor_symbol ∷ symbols_listed (all_members ARMNT (both_inputs ARMNT))) (caller ARMNT) refl,
+        (claims_none_by (null_descriptor_symbol ∷ symbols_listed (all_members ARMNT (both_inputs ARMNT))) (another ARMNT) refl, tt),
+      );
+      found = (refl, (tt, tt));
+    };
+    admissible = record {
+      descriptors = (omega arith, refl);
+      directory_ends = (omega arith, refl);
+      lookups = (omega arith, refl);
+      addresses = (omega arith, refl);
+      hint_names = (omega arith, refl);
+      dll_names = (omega arith, refl);
+      ends = ends_below (2 ^ 31) (flavor_image ARMNT 2 flavor_bases_4) refl;
+      apart = apart_as_they_rise (2 ^ 31) (flavor_image ARMNT 2 flavor_bases_4) refl;
+    };
+    lookups = refl;
+    addresses = refl;
+    follows = refl;
+  };
+  descriptors = refl;
+  lookups = refl;
+  addresses = refl;
+  hints = refl;
+  zed = refl;
+  entries = refl;
+  named = refl;
+}
+
+pub worked_flavors : WorkedFlavors
+worked_flavors = record { amd64 = amd64; i386 = i386; arm64 = arm64; armnt = armnt }
+
+abbrev shifted : List Range
+shifted = flavor_image AMD64 0 shifted_bases
+
+here : NumberAt (flavor_image AMD64 0 shifted_bases) 4 8 68
+unfolding opened refusal renamed_refusal alias_specs encoded_size weak_object has_tables expanded_in short_import_in import_object descriptor_symbol_by_name with_section_symbols descriptor null_descriptor null_thunk descriptor_symbol null_descriptor_symbol null_thunk_symbol base_name descriptor_spec null_descriptor_spec null_thunk_spec header_specs weak_specs group_end sections_end
+here = number shifted 4 8 68 (68 ∷ 0 ∷ 0 ∷ 0 ∷ []) refl refl refl
+
+there : NumberAt (flavor_image AMD64 0 shifted_bases) 8 68 0x9_0000_0000
+unfolding opened refusal renamed_refusal alias_specs encoded_size weak_object has_tables expanded_in short_import_in import_object descriptor_symbol_by_name with_section_symbols descriptor null_descriptor null_thunk descriptor_symbol null_descriptor_symbol null_thunk_symbol base_name descriptor_spec null_descriptor_spec null_thunk_spec header_specs weak_specs group_end sections_end
+there = number shifted 8 68 0x9_0000_0000 (0 ∷ 0 ∷ 0 ∷ 0 ∷ 9 ∷ 0 ∷ 0 ∷ 0 ∷ []) refl refl refl
+
+-- the first thunk would have to ask for the ordinal 9
+not_nine : (image : List Range) (table thunk : ℕ) → NumberAt image 4 8 68 → NumberAt image 4 8 table → NumberAt image 8 68 0x9_0000_0000 → NumberAt image 8 table thunk →
+    thunk ≡ 2 ^ 63 + 9 → ⊥
+not_nine image table thunk field other number_there located whole =
+    let place : table ≡ 68 = number_once image 4 8 table 68 other field in
+    let same : 0x9_0000_0000 ≡ thunk = number_once image 8 68 0x9_0000_0000 thunk number_there (subst (λ n. NumberAt image 8 n thunk) place located) in
+    differ 0x9_0000_0000 (2 ^ 63 + 9) (same ∙ whole) (omega arith)
+
+nine_refused : (image : List Range) → NumberAt image 4 8 68 → NumberAt image 8 68 0x9_0000_0000 → (dll : List ℕ) → LoadsStrictly image 8 8 dll foo_asks → ⊥
+unfolding WholeTableAt IsWhole
+nine_refused image field number_there dll loads =
+    let first = loads.whole_lookups.0 in
+    not_nine image loads.plain.lookups first.thunk field loads.plain.lookups_field number_there first.located first.whole
+
+pub refused_tables : RefusedTables
+unfolding opened refusal renamed_refusal alias_specs encoded_size weak_object has_tables expanded_in short_import_in import_object descriptor_symbol_by_name with_section_symbols descriptor null_descriptor null_thunk descriptor_symbol null_descriptor_symbol null_thunk_symbol base_name descriptor_spec null_descriptor_spec null_thunk_spec header_specs weak_specs group_end sections_end
+refused_tables = record {
+  admissible = record {
+    descriptors = (omega arith, refl);
+    directory_ends = (omega arith, refl);
+    lookups = (omega arith, refl);
+    addresses = (omega arith, refl);
+    hint_names = (omega arith, refl);
+    dll_names = (omega arith, refl);
+    ends = ends_below (2 ^ 31) shifted refl;
+    apart = apart_as_they_rise (2 ^ 31) shifted refl;
+  };
+  field = refl;
+  thunk = refl;
+  refused = nine_refused shifted here there _;
+}

@@ -1,0 +1,711 @@
+-- The programs that lld wrote, by computing and by the laws.
+use Rattle.std.proofs.Common.{◌≡◌, ℕ, ◌+◌, ◌*◌, ◌^◌, ◌<◌, ◌≤◌, ◌⊎◌, true, List, [], ◌∷◌, codes, length, None, Some, refl, ap, sym, ◌∙◌, subst, inl, inr, arith}
+use Rattle.std.specs.Prelude.{Bool, bytes_eq, slice_get, ◌&&◌, ◌==◌, if◌then◌else◌}
+use Rattle.std.specs.List.{Contains, filter_map, list_all}
+use Rattle.std.proofs.lemmas.Bool.{and_from, eq-eqb, eqb-true}
+use Rattle.implib.specs.declared.machine.MachineType.TheVariants.{I386, AMD64, ARM64}
+use Rattle.implib.specs.Formats.Constants.{amd64_rel32, class_external, i386_dir32}
+use Rattle.implib.specs.Formats.File.{is_defined_external}
+use Rattle.implib.specs.Formats.Object.{ASymbol, Auxiliary, Entry}
+use Rattle.implib.specs.Import.{Name, Ordinal, imp_symbol}
+use Rattle.implib.specs.Link.Image.{AreApart, Range, byte_at, range_end}
+use Rattle.implib.specs.Link.Load.{BytesAt, NumberAt}
+use Rattle.implib.specs.Link.Placement.{Placed}
+use Rattle.implib.specs.Link.Resolution.{definitions_of, is_undefined_external, symbol_address}
+use Rattle.implib.proofs.Link.Definitions.{same_text}
+use Rattle.implib.proofs.Link.LinkedMembers.{among_contains}
+use Rattle.implib.proofs.Link.Loading.{dll_once, number_once}
+use Rattle.implib.proofs.Link.Ranges.{Among, apart_as_they_rise}
+use Rattle.implib_link.specs.Directory.{DirectoryAt}
+use Rattle.implib_link.specs.Flavors.LldImports.{IsLldProgram, imp_symbols_of, imports_of_lld, short_for}
+use Rattle.implib_link.specs.Flavors.LldTables.{ArePiecesAt, IsAskable, built, built_bytes}
+use Rattle.implib_link.specs.Flavors.LldThunks.{BranchArrivesByThunk, ThunkArrives, placed_thunk, thunk_section}
+use Rattle.implib_link.specs.Gnu.Calls.{arm64_branch26, i386_rel32}
+use Rattle.implib_link.specs.Gnu.Fields.{AreLinkedBeside, LinkedCode, TakesSymbols, range_of_code}
+use Rattle.implib_link.specs.Gnu.Moves.{AreInMemory, AreMoved}
+use Rattle.implib_link.specs.Gnu.Operands.{HasBranch, branch_leads, Names}
+use Rattle.implib_link.specs.Gnu.Rebased.{IsRebased, table_places}
+use Rattle.implib_link.specs.Stub.{jump_reads}
+use Rattle.implib_link.specs.Tables.{AreSteady, AreTables, IsInTable, RiseFrom, Table}
+use Rattle.implib_link_instances.specs.Worked.Calls.{given_on}
+use Rattle.implib_link_instances.specs.Worked.LldPrograms.{RefusedCalls, RefusedLoads, RefusedTables, RefusedThunks, WorkedLldProgram, WorkedLldPrograms, call_memory, code_of_object, code_of_thunk, eight_bytes, four_bytes, gee_on, linked_code, linked_thunk, lld_codes, lld_image_on, lld_linked_on, lld_memory, lld_moved_memory, lld_places, lld_targets, mid_on, object_section, or_thunk, own_tables, placed_object, short_files, shorts_on, tables_on, taken_address, thunk_address, zeta_on}
+use Rattle.implib_link_instances.specs.Worked.Programs.{symbol_of_class, symbol_on}
+use Rattle.implib_link.proofs.Flavors.LldPrograms.{lld_calls, lld_ends_in_memory, lld_leads, lld_loads_in_memory}
+use Rattle.implib_link.proofs.Flavors.LldTables.{built_pieces}
+use Rattle.implib_link.proofs.Gnu.Memory.{byte_first, within_bounds}
+use Rattle.implib_link.proofs.Gnu.Stubs.{same_address}
+use Rattle.implib_link.proofs.Search.Lists.{among_at, contains_among}
+use Rattle.implib_link.proofs.TablesOfPrograms.{lld_tables}
+use Rattle.implib_link_instances.proofs.Worked.Calls.{wide}
+use Rattle.implib_link.proofs.Search.Lists.{each_of}
+use Rattle.implib_link_instances.proofs.Worked.LinkedCode.{all_needed, only_absolute, rebased_by, relocated_by, relocated_test}
+use Rattle.implib_link_instances.proofs.Worked.Lld.{alike, lld_opened}
+use Rattle.implib_link_instances.proofs.Worked.Programs.{distinct_by}
+use Rattle.implib_link_instances.proofs.Worked.RefusedFields.{other_byte, value}
+use Rattle.implib_link_instances.proofs.Worked.RefusedLinks.{are_located, differ, number}
+use Rattle.implib_link_instances.proofs.Worked.Rules.{same_bytes}
+
+-- Ranges of which none meets another, in any order.
+
+pub disjoint : (r s : Range) → (range_end r ≤ s.start) ⊎ (range_end s ≤ r.start) → AreApart r s
+disjoint r s (inl before) a first second =
+    let one = within_bounds a r first in
+    let two = within_bounds a s second in
+    let under : a < range_end r = one.1 in
+    let above : s.start ≤ a = two.0 in
+    omega arith
+disjoint r s (inr behind) a first second =
+    let one = within_bounds a r first in
+    let two = within_bounds a s second in
+    let under : a < range_end s = two.1 in
+    let above : r.start ≤ a = one.0 in
+    omega arith
+
+-- Symbols: those that the tables define are there, the only other one is the thunk's.
+
+meets_up : ℕ → List Placed → LinkedCode → Entry → Placed → Entry → Bool
+meets_up thunk linked d (Auxiliary bytes) p x = true
+meets_up thunk linked d (ASymbol t) p (Auxiliary bytes) = true
+meets_up thunk linked d (ASymbol t) p (ASymbol s) =
+    if is_undefined_external s && (is_defined_external t && ((t.section == d.number) && bytes_eq t.name s.name))
+    then or_thunk thunk (symbol_address linked p (ASymbol s)) == d.position + t.value else true
+
+passes : (b x : Bool) → b ≡ true → (if b then x else true) ≡ true → x ≡ true
+passes b x is test = rw is at test
+
+unfoldable pub meet_test : ℕ → List Placed → List LinkedCode → Bool
+unfolding meets_up
+meet_test thunk linked codes =
+    list_all (λ (c : LinkedCode). list_all (λ (d : LinkedCode). list_all (λ t. list_all (meets_up thunk linked d t c.from) c.from.object.entries) d.from.object.entries) codes) codes
+
+pub takes_with_thunk : (thunk : ℕ) (linked : List Placed) (codes : List LinkedCode) → meet_test thunk linked codes ≡ true →
+    TakesSymbols linked codes (λ c index. taken_address thunk linked c.from (slice_get c.from.object.entries index))
+unfolding meets_up meet_test
+takes_with_thunk thunk linked codes test = record {
+  tables = λ c index address entry held at is. rw at (in_tables c.from entry address is);
+  code = λ c d index s t c_held d_held at undefined defines named.
+      let one = each_of (λ (x : LinkedCode). list_all (λ (y : LinkedCode). list_all (λ u. list_all (meets_up thunk linked y u x.from) x.from.object.entries) y.from.object.entries) codes) c codes test (contains_among c codes c_held) in
+      let two = each_of (λ (y : LinkedCode). list_all (λ u. list_all (meets_up thunk linked y u c.from) c.from.object.entries) y.from.object.entries) d codes one (contains_among d codes d_held) in
+      let three = each_of (λ u. list_all (meets_up thunk linked d u c.from) c.from.object.entries) (ASymbol t) d.from.object.entries two (contains_among (ASymbol t) d.from.object.entries defines.held) in
+      let four : meets_up thunk linked d (ASymbol t) c.from (ASymbol s) ≡ true = each_of (meets_up thunk linked d (ASymbol t) c.from) (ASymbol s) c.from.object.entries three (among_at (ASymbol s) c.from.object.entries index at) in
+      let external : is_defined_external t ≡ true = defines.external in
+      let here : (t.section == d.number) ≡ true = eq-eqb t.section d.number defines.here in
+      let same : bytes_eq t.name s.name ≡ true = subst (λ n. bytes_eq t.name n ≡ true) named (same_text t.name) in
+      let met : (or_thunk thunk (symbol_address linked c.from (ASymbol s)) == d.position + t.value) ≡ true =
+      passes (is_undefined_external s && (is_defined_external t && ((t.section == d.number) && bytes_eq t.name s.name))) (or_thunk thunk (symbol_address linked c.from (ASymbol s)) == d.position + t.value)
+      (and_from (is_undefined_external s) (is_defined_external t && ((t.section == d.number) && bytes_eq t.name s.name)) undefined
+      (and_from (is_defined_external t) ((t.section == d.number) && bytes_eq t.name s.name) external (and_from (t.section == d.number) (bytes_eq t.name s.name) here same)))
+      four in
+      rw at (eqb-true (or_thunk thunk (symbol_address linked c.from (ASymbol s))) (d.position + t.value) met);
+}
+  where
+    in_tables : (p : Placed) (entry : Entry) (address : ℕ) → symbol_address linked p entry ≡ Some address → taken_address thunk linked p (Some entry) ≡ address
+    in_tables p (Auxiliary bytes) address is = cc
+    in_tables p (ASymbol s) address is = rw is refl
+
+-- I386.
+
+i386_shorts : filter_map (short_for I386) (short_files I386) ≡ shorts_on I386
+unfolding lld_opened
+i386_shorts = refl
+
+i386_written : built_bytes I386 0x2000 (imports_of_lld (shorts_on I386)) ≡ tables_on I386
+unfolding lld_opened
+i386_written = refl
+
+i386_pieces : ArePiecesAt I386 (lld_image_on I386) 0x2000 0x203C 0x2050 0x2064 0x2072 (imports_of_lld (shorts_on I386))
+unfolding lld_opened Among
+i386_pieces =
+    built_pieces I386 0x2000 (imports_of_lld (shorts_on I386)) (lld_image_on I386) (tt, tt)
+    (among_contains (built I386 0x2000 (imports_of_lld (shorts_on I386))) (lld_image_on I386) (inl (ap (λ bytes. record { start = 0x2000; bytes = bytes }) i386_written)))
+
+i386_program : IsLldProgram I386 0x2000 0x2050 (shorts_on I386) (lld_image_on I386) (lld_linked_on I386)
+unfolding lld_opened IsAskable
+i386_program = record {
+  writable = (record { name = refl; asks = (omega arith, tt) }, (record { name = refl; asks = ((omega arith, refl), tt) }, (record { name = refl; asks = ((omega arith, refl), tt) }, tt)));
+  distinct = distinct_by (imp_symbols_of (shorts_on I386)) refl;
+  agree = alike (shorts_on I386) (
+    ((λ e. refl), ((λ e. cc), ((λ e. refl), tt))),
+    (((λ e. cc), ((λ e. refl), ((λ e. cc), tt))), (((λ e. refl), ((λ e. cc), ((λ e. refl), tt))), tt)),
+  );
+  before = placed_object I386 ∷ [];
+  behind = placed_thunk I386 (mid_on I386) ∷ [];
+  placed = refl;
+  none_before = (refl, (refl, (refl, tt)));
+  none_behind = (refl, (refl, (refl, tt)));
+  lookups = 0x203C;
+  hints = 0x2064;
+  names = 0x2072;
+  pieces = i386_pieces;
+  starts = (omega arith, tt);
+  ends = (omega arith, tt);
+}
+
+i386_steady : AreSteady I386 (lld_linked_on I386)
+unfolding lld_opened
+i386_steady = refl
+
+i386_beside : AreLinkedBeside I386 0x40_0000 (lld_image_on I386) (lld_linked_on I386) (lld_codes I386) (lld_targets I386)
+unfolding lld_opened relocated_test meets_up meet_test
+i386_beside = record {
+  held = ((0, omega arith, refl), ((2, omega arith, refl), tt));
+  sections = (refl, (refl, tt));
+  ends = (omega arith, (omega arith, tt));
+  apart = ((disjoint (record { start = 0x2000; bytes = tables_on I386 }) (range_of_code (code_of_object I386)) (inr (omega arith)), (disjoint (record { start = 0x2000; bytes = tables_on I386 }) (range_of_code (code_of_thunk I386)) (inr (omega arith)), tt)), ((disjoint (range_of_code (code_of_object I386)) (range_of_code (code_of_thunk I386)) (inl (omega arith)), tt), (tt, tt)));
+  relocated = (
+    relocated_by I386 0x40_0000 (lld_targets I386 (code_of_object I386)) 0x1000 (object_section I386) (linked_code I386) refl,
+    (relocated_by I386 0x40_0000 (lld_targets I386 (code_of_thunk I386)) 0x1011 (thunk_section I386) (linked_thunk I386) refl, tt),
+  );
+  resolved = takes_with_thunk (thunk_address I386) (lld_linked_on I386) (lld_codes I386) refl;
+}
+
+i386_fronts : List Range
+i386_fronts =
+    record { start = 0x1002; bytes = 0x54 ∷ 0x20 ∷ 0 ∷ 0x10 ∷ [] } ∷ record { start = 0x1007; bytes = 0x5C ∷ 0x20 ∷ 0 ∷ 0x10 ∷ [] } ∷ record { start = 0x1013; bytes = 0x50 ∷ 0x20 ∷ 0 ∷ 0x10 ∷ [] } ∷ []
+
+i386_rebased : IsRebased 0x40_0000 0x1000_0000 (lld_places I386) (lld_memory I386) (lld_moved_memory I386)
+unfolding lld_opened i386_fronts
+i386_rebased =
+    rebased_by 0x40_0000 0x1000_0000 i386_fronts (lld_memory I386)
+    (apart_as_they_rise (2 ^ 31) i386_fronts refl) (
+      (0x40_2054, (number (lld_memory I386) 4 0x1002 0x40_2054 (0x54 ∷ 0x20 ∷ 0x40 ∷ 0 ∷ []) refl refl refl, refl)),
+      (
+        (0x40_205C, (number (lld_memory I386) 4 0x1007 0x40_205C (0x5C ∷ 0x20 ∷ 0x40 ∷ 0 ∷ []) refl refl refl, refl)),
+        (
+          (0x40_2050, (number (lld_memory I386) 4 0x1013 0x40_2050 (0x50 ∷ 0x20 ∷ 0x40 ∷ 0 ∷ []) refl refl refl, refl)),
+          tt,
+        ),
+      ),
+    )
+
+i386_moved : AreMoved I386 0x40_0000 0x1000_0000 (lld_image_on I386) (lld_linked_on I386) (lld_codes I386) (lld_targets I386) (lld_places I386) (lld_moved_memory I386)
+unfolding lld_opened
+i386_moved = record {
+  beside = i386_beside;
+  within = ((omega arith, (omega arith, tt)), ((omega arith, tt), tt));
+  needed = λ c r width address entry held m is symbol placed. all_needed I386 (lld_codes I386) c r width held m is;
+  only = λ a byte is covered. only_absolute a (table_places I386 (lld_linked_on I386)) (lld_places I386) covered;
+  rebased = i386_rebased;
+}
+
+i386_zeta : Names (placed_object I386) 1 (imp_symbol (symbol_on I386 (codes "zeta")))
+i386_zeta = record { symbol = symbol_of_class (imp_symbol (symbol_on I386 (codes "zeta"))) 0 class_external; target = refl; undefined = refl; named = refl }
+
+i386_gee : Names (placed_object I386) 2 (imp_symbol (symbol_on I386 (codes "gee")))
+i386_gee = record { symbol = symbol_of_class (imp_symbol (symbol_on I386 (codes "gee"))) 0 class_external; target = refl; undefined = refl; named = refl }
+
+i386_branch : HasBranch I386 (code_of_object I386) 12 0 (symbol_on I386 (codes "mid"))
+i386_branch = record {
+  type = i386_rel32;
+  field = record {
+    symbol = 3;
+    alone = refl;
+    inside = omega arith;
+    names = record { symbol = symbol_of_class (symbol_on I386 (codes "mid")) 0 class_external; target = refl; undefined = refl; named = refl };
+  };
+  counts = (refl, refl);
+  within = omega arith;
+}
+
+i386_at : AreInMemory I386 0x40_0000 (lld_image_on I386) (lld_linked_on I386) (lld_codes I386) (lld_targets I386) (lld_memory I386)
+i386_at = inl (i386_beside, refl)
+
+i386_worked : WorkedLldProgram I386 0x40_0000 (lld_memory I386) 12 (four_bytes 0x40) (four_bytes 0x30) (four_bytes 0)
+unfolding lld_opened
+i386_worked = record {
+  program = i386_program;
+  steady = i386_steady;
+  at = i386_at;
+  thunk = record { from = refl; number = refl };
+  branch = i386_branch;
+  loads = λ n written reads. lld_loads_in_memory I386 0x2000 0x2050 (shorts_on I386) (lld_image_on I386) (lld_linked_on I386) i386_program 0x40_0000 (lld_codes I386) (lld_targets I386) (lld_memory I386) (given_on I386) i386_steady i386_at n written (wide I386) reads;
+  leads_zeta = λ n written reads.
+      lld_leads I386 0x2000 0x2050 (shorts_on I386) (lld_image_on I386) (lld_linked_on I386) i386_program 0x40_0000 (lld_codes I386) (lld_targets I386) (lld_memory I386) (given_on I386) i386_steady i386_at n written (wide I386) reads (zeta_on I386) (2, omega arith, refl) (omega arith);
+  leads_gee = λ n written reads.
+      lld_leads I386 0x2000 0x2050 (shorts_on I386) (lld_image_on I386) (lld_linked_on I386) i386_program 0x40_0000 (lld_codes I386) (lld_targets I386) (lld_memory I386) (given_on I386) i386_steady i386_at n written (wide I386) reads (gee_on I386) (1, omega arith, refl) (omega arith);
+  calls = λ n written reads.
+      lld_calls I386 0x2000 0x2050 (shorts_on I386) (lld_image_on I386) (lld_linked_on I386) i386_program 0x40_0000 (lld_codes I386) (lld_targets I386) (lld_memory I386) (given_on I386) i386_steady i386_at n written (wide I386) reads (mid_on I386) (code_of_thunk I386) (0, omega arith, refl) (omega arith)
+      (1, omega arith, refl) (record { from = refl; number = refl }) (code_of_object I386) 12 0 (0, omega arith, refl) i386_branch tt;
+  ends = lld_ends_in_memory I386 0x2000 0x2050 (shorts_on I386) (lld_image_on I386) (lld_linked_on I386) i386_program 0x40_0000 (lld_codes I386) (lld_targets I386) (lld_memory I386) (given_on I386) i386_steady i386_at;
+}
+
+i386_moved_at : AreInMemory I386 0x1000_0000 (lld_image_on I386) (lld_linked_on I386) (lld_codes I386) (lld_targets I386) (lld_moved_memory I386)
+i386_moved_at = inr (0x40_0000, (lld_places I386, (tt, i386_moved)))
+
+i386_moved_worked : WorkedLldProgram I386 0x1000_0000 (lld_moved_memory I386) 12 (four_bytes 0x40) (four_bytes 0x30) (four_bytes 0)
+unfolding lld_opened
+i386_moved_worked = record {
+  program = i386_program;
+  steady = i386_steady;
+  at = i386_moved_at;
+  thunk = record { from = refl; number = refl };
+  branch = i386_branch;
+  loads = λ n written reads. lld_loads_in_memory I386 0x2000 0x2050 (shorts_on I386) (lld_image_on I386) (lld_linked_on I386) i386_program 0x1000_0000 (lld_codes I386) (lld_targets I386) (lld_moved_memory I386) (given_on I386) i386_steady i386_moved_at n written (wide I386) reads;
+  leads_zeta = λ n written reads.
+      lld_leads I386 0x2000 0x2050 (shorts_on I386) (lld_image_on I386) (lld_linked_on I386) i386_program 0x1000_0000 (lld_codes I386) (lld_targets I386) (lld_moved_memory I386) (given_on I386) i386_steady i386_moved_at n written (wide I386) reads (zeta_on I386) (2, omega arith, refl) (omega arith);
+  leads_gee = λ n written reads.
+      lld_leads I386 0x2000 0x2050 (shorts_on I386) (lld_image_on I386) (lld_linked_on I386) i386_program 0x1000_0000 (lld_codes I386) (lld_targets I386) (lld_moved_memory I386) (given_on I386) i386_steady i386_moved_at n written (wide I386) reads (gee_on I386) (1, omega arith, refl) (omega arith);
+  calls = λ n written reads.
+      lld_calls I386 0x2000 0x2050 (shorts_on I386) (lld_image_on I386) (lld_linked_on I386) i386_program 0x1000_0000 (lld_codes I386) (lld_targets I386) (lld_moved_memory I386) (given_on I386) i386_steady i386_moved_at n written (wide I386) reads (mid_on I386) (code_of_thunk I386) (0, omega arith, refl) (omega arith)
+      (1, omega arith, refl) (record { from = refl; number = refl }) (code_of_object I386) 12 0 (0, omega arith, refl) i386_branch tt;
+  ends = lld_ends_in_memory I386 0x2000 0x2050 (shorts_on I386) (lld_image_on I386) (lld_linked_on I386) i386_program 0x1000_0000 (lld_codes I386) (lld_targets I386) (lld_moved_memory I386) (given_on I386) i386_steady i386_moved_at;
+}
+
+-- AMD64.
+
+amd64_shorts : filter_map (short_for AMD64) (short_files AMD64) ≡ shorts_on AMD64
+unfolding lld_opened
+amd64_shorts = refl
+
+amd64_written : built_bytes AMD64 0x2000 (imports_of_lld (shorts_on AMD64)) ≡ tables_on AMD64
+unfolding lld_opened
+amd64_written = refl
+
+amd64_pieces : ArePiecesAt AMD64 (lld_image_on AMD64) 0x2000 0x2040 0x2068 0x2090 0x209E (imports_of_lld (shorts_on AMD64))
+unfolding lld_opened Among
+amd64_pieces =
+    built_pieces AMD64 0x2000 (imports_of_lld (shorts_on AMD64)) (lld_image_on AMD64) (tt, tt)
+    (among_contains (built AMD64 0x2000 (imports_of_lld (shorts_on AMD64))) (lld_image_on AMD64) (inl (ap (λ bytes. record { start = 0x2000; bytes = bytes }) amd64_written)))
+
+amd64_program : IsLldProgram AMD64 0x2000 0x2068 (shorts_on AMD64) (lld_image_on AMD64) (lld_linked_on AMD64)
+unfolding lld_opened IsAskable
+amd64_program = record {
+  writable = (record { name = refl; asks = (omega arith, tt) }, (record { name = refl; asks = ((omega arith, refl), tt) }, (record { name = refl; asks = ((omega arith, refl), tt) }, tt)));
+  distinct = distinct_by (imp_symbols_of (shorts_on AMD64)) refl;
+  agree = alike (shorts_on AMD64) (
+    ((λ e. refl), ((λ e. cc), ((λ e. refl), tt))),
+    (((λ e. cc), ((λ e. refl), ((λ e. cc), tt))), (((λ e. refl), ((λ e. cc), ((λ e. refl), tt))), tt)),
+  );
+  before = placed_object AMD64 ∷ [];
+  behind = placed_thunk AMD64 (mid_on AMD64) ∷ [];
+  placed = refl;
+  none_before = (refl, (refl, (refl, tt)));
+  none_behind = (refl, (refl, (refl, tt)));
+  lookups = 0x2040;
+  hints = 0x2090;
+  names = 0x209E;
+  pieces = amd64_pieces;
+  starts = (omega arith, tt);
+  ends = (omega arith, tt);
+}
+
+amd64_steady : AreSteady AMD64 (lld_linked_on AMD64)
+unfolding lld_opened
+amd64_steady = refl
+
+amd64_beside : AreLinkedBeside AMD64 0x1_4000_0000 (lld_image_on AMD64) (lld_linked_on AMD64) (lld_codes AMD64) (lld_targets AMD64)
+unfolding lld_opened relocated_test meets_up meet_test
+amd64_beside = record {
+  held = ((0, omega arith, refl), ((2, omega arith, refl), tt));
+  sections = (refl, (refl, tt));
+  ends = (omega arith, (omega arith, tt));
+  apart = ((disjoint (record { start = 0x2000; bytes = tables_on AMD64 }) (range_of_code (code_of_object AMD64)) (inr (omega arith)), (disjoint (record { start = 0x2000; bytes = tables_on AMD64 }) (range_of_code (code_of_thunk AMD64)) (inr (omega arith)), tt)), ((disjoint (range_of_code (code_of_object AMD64)) (range_of_code (code_of_thunk AMD64)) (inl (omega arith)), tt), (tt, tt)));
+  relocated = (
+    relocated_by AMD64 0x1_4000_0000 (lld_targets AMD64 (code_of_object AMD64)) 0x1000 (object_section AMD64) (linked_code AMD64) refl,
+    (relocated_by AMD64 0x1_4000_0000 (lld_targets AMD64 (code_of_thunk AMD64)) 0x1020 (thunk_section AMD64) (linked_thunk AMD64) refl, tt),
+  );
+  resolved = takes_with_thunk (thunk_address AMD64) (lld_linked_on AMD64) (lld_codes AMD64) refl;
+}
+
+amd64_rebased : IsRebased 0x1_4000_0000 0x7FF6_1234_0000 (lld_places AMD64) (lld_memory AMD64) (lld_moved_memory AMD64)
+amd64_rebased = rebased_by 0x1_4000_0000 0x7FF6_1234_0000 [] (lld_memory AMD64) tt tt
+
+amd64_moved : AreMoved AMD64 0x1_4000_0000 0x7FF6_1234_0000 (lld_image_on AMD64) (lld_linked_on AMD64) (lld_codes AMD64) (lld_targets AMD64) (lld_places AMD64) (lld_moved_memory AMD64)
+unfolding lld_opened
+amd64_moved = record {
+  beside = amd64_beside;
+  within = (tt, (tt, tt));
+  needed = λ c r width address entry held m is symbol placed. all_needed AMD64 (lld_codes AMD64) c r width held m is;
+  only = λ a byte is covered. only_absolute a (table_places AMD64 (lld_linked_on AMD64)) (lld_places AMD64) covered;
+  rebased = amd64_rebased;
+}
+
+amd64_zeta : Names (placed_object AMD64) 1 (imp_symbol (symbol_on AMD64 (codes "zeta")))
+amd64_zeta = record { symbol = symbol_of_class (imp_symbol (symbol_on AMD64 (codes "zeta"))) 0 class_external; target = refl; undefined = refl; named = refl }
+
+amd64_gee : Names (placed_object AMD64) 2 (imp_symbol (symbol_on AMD64 (codes "gee")))
+amd64_gee = record { symbol = symbol_of_class (imp_symbol (symbol_on AMD64 (codes "gee"))) 0 class_external; target = refl; undefined = refl; named = refl }
+
+amd64_branch : HasBranch AMD64 (code_of_object AMD64) 14 0 (symbol_on AMD64 (codes "mid"))
+amd64_branch = record {
+  type = amd64_rel32;
+  field = record {
+    symbol = 3;
+    alone = refl;
+    inside = omega arith;
+    names = record { symbol = symbol_of_class (symbol_on AMD64 (codes "mid")) 0 class_external; target = refl; undefined = refl; named = refl };
+  };
+  counts = (0, (omega arith, (refl, refl)));
+  within = omega arith;
+}
+
+amd64_at : AreInMemory AMD64 0x1_4000_0000 (lld_image_on AMD64) (lld_linked_on AMD64) (lld_codes AMD64) (lld_targets AMD64) (lld_memory AMD64)
+amd64_at = inl (amd64_beside, refl)
+
+amd64_worked : WorkedLldProgram AMD64 0x1_4000_0000 (lld_memory AMD64) 14 (eight_bytes 0x40) (eight_bytes 0x30) (eight_bytes 0)
+unfolding lld_opened
+amd64_worked = record {
+  program = amd64_program;
+  steady = amd64_steady;
+  at = amd64_at;
+  thunk = record { from = refl; number = refl };
+  branch = amd64_branch;
+  loads = λ n written reads. lld_loads_in_memory AMD64 0x2000 0x2068 (shorts_on AMD64) (lld_image_on AMD64) (lld_linked_on AMD64) amd64_program 0x1_4000_0000 (lld_codes AMD64) (lld_targets AMD64) (lld_memory AMD64) (given_on AMD64) amd64_steady amd64_at n written (wide AMD64) reads;
+  leads_zeta = λ n written reads.
+      lld_leads AMD64 0x2000 0x2068 (shorts_on AMD64) (lld_image_on AMD64) (lld_linked_on AMD64) amd64_program 0x1_4000_0000 (lld_codes AMD64) (lld_targets AMD64) (lld_memory AMD64) (given_on AMD64) amd64_steady amd64_at n written (wide AMD64) reads (zeta_on AMD64) (2, omega arith, refl) tt;
+  leads_gee = λ n written reads.
+      lld_leads AMD64 0x2000 0x2068 (shorts_on AMD64) (lld_image_on AMD64) (lld_linked_on AMD64) amd64_program 0x1_4000_0000 (lld_codes AMD64) (lld_targets AMD64) (lld_memory AMD64) (given_on AMD64) amd64_steady amd64_at n written (wide AMD64) reads (gee_on AMD64) (1, omega arith, refl) tt;
+  calls = λ n written reads.
+      lld_calls AMD64 0x2000 0x2068 (shorts_on AMD64) (lld_image_on AMD64) (lld_linked_on AMD64) amd64_program 0x1_4000_0000 (lld_codes AMD64) (lld_targets AMD64) (lld_memory AMD64) (given_on AMD64) amd64_steady amd64_at n written (wide AMD64) reads (mid_on AMD64) (code_of_thunk AMD64) (0, omega arith, refl) tt
+      (1, omega arith, refl) (record { from = refl; number = refl }) (code_of_object AMD64) 14 0 (0, omega arith, refl) amd64_branch tt;
+  ends = lld_ends_in_memory AMD64 0x2000 0x2068 (shorts_on AMD64) (lld_image_on AMD64) (lld_linked_on AMD64) amd64_program 0x1_4000_0000 (lld_codes AMD64) (lld_targets AMD64) (lld_memory AMD64) (given_on AMD64) amd64_steady amd64_at;
+}
+
+amd64_moved_at : AreInMemory AMD64 0x7FF6_1234_0000 (lld_image_on AMD64) (lld_linked_on AMD64) (lld_codes AMD64) (lld_targets AMD64) (lld_moved_memory AMD64)
+amd64_moved_at = inr (0x1_4000_0000, (lld_places AMD64, (tt, amd64_moved)))
+
+amd64_moved_worked : WorkedLldProgram AMD64 0x7FF6_1234_0000 (lld_moved_memory AMD64) 14 (eight_bytes 0x40) (eight_bytes 0x30) (eight_bytes 0)
+unfolding lld_opened
+amd64_moved_worked = record {
+  program = amd64_program;
+  steady = amd64_steady;
+  at = amd64_moved_at;
+  thunk = record { from = refl; number = refl };
+  branch = amd64_branch;
+  loads = λ n written reads. lld_loads_in_memory AMD64 0x2000 0x2068 (shorts_on AMD64) (lld_image_on AMD64) (lld_linked_on AMD64) amd64_program 0x7FF6_1234_0000 (lld_codes AMD64) (lld_targets AMD64) (lld_moved_memory AMD64) (given_on AMD64) amd64_steady amd64_moved_at n written (wide AMD64) reads;
+  leads_zeta = λ n written reads.
+      lld_leads AMD64 0x2000 0x2068 (shorts_on AMD64) (lld_image_on AMD64) (lld_linked_on AMD64) amd64_program 0x7FF6_1234_0000 (lld_codes AMD64) (lld_targets AMD64) (lld_moved_memory AMD64) (given_on AMD64) amd64_steady amd64_moved_at n written (wide AMD64) reads (zeta_on AMD64) (2, omega arith, refl) tt;
+  leads_gee = λ n written reads.
+      lld_leads AMD64 0x2000 0x2068 (shorts_on AMD64) (lld_image_on AMD64) (lld_linked_on AMD64) amd64_program 0x7FF6_1234_0000 (lld_codes AMD64) (lld_targets AMD64) (lld_moved_memory AMD64) (given_on AMD64) amd64_steady amd64_moved_at n written (wide AMD64) reads (gee_on AMD64) (1, omega arith, refl) tt;
+  calls = λ n written reads.
+      lld_calls AMD64 0x2000 0x2068 (shorts_on AMD64) (lld_image_on AMD64) (lld_linked_on AMD64) amd64_program 0x7FF6_1234_0000 (lld_codes AMD64) (lld_targets AMD64) (lld_moved_memory AMD64) (given_on AMD64) amd64_steady amd64_moved_at n written (wide AMD64) reads (mid_on AMD64) (code_of_thunk AMD64) (0, omega arith, refl) tt
+      (1, omega arith, refl) (record { from = refl; number = refl }) (code_of_object AMD64) 14 0 (0, omega arith, refl) amd64_branch tt;
+  ends = lld_ends_in_memory AMD64 0x2000 0x2068 (shorts_on AMD64) (lld_image_on AMD64) (lld_linked_on AMD64) amd64_program 0x7FF6_1234_0000 (lld_codes AMD64) (lld_targets AMD64) (lld_moved_memory AMD64) (given_on AMD64) amd64_steady amd64_moved_at;
+}
+
+-- ARM64.
+
+arm64_shorts : filter_map (short_for ARM64) (short_files ARM64) ≡ shorts_on ARM64
+unfolding lld_opened
+arm64_shorts = refl
+
+arm64_written : built_bytes ARM64 0x2000 (imports_of_lld (shorts_on ARM64)) ≡ tables_on ARM64
+unfolding lld_opened
+arm64_written = refl
+
+arm64_pieces : ArePiecesAt ARM64 (lld_image_on ARM64) 0x2000 0x2040 0x2068 0x2090 0x209E (imports_of_lld (shorts_on ARM64))
+unfolding lld_opened Among
+arm64_pieces =
+    built_pieces ARM64 0x2000 (imports_of_lld (shorts_on ARM64)) (lld_image_on ARM64) (tt, tt)
+    (among_contains (built ARM64 0x2000 (imports_of_lld (shorts_on ARM64))) (lld_image_on ARM64) (inl (ap (λ bytes. record { start = 0x2000; bytes = bytes }) arm64_written)))
+
+arm64_program : IsLldProgram ARM64 0x2000 0x2068 (shorts_on ARM64) (lld_image_on ARM64) (lld_linked_on ARM64)
+unfolding lld_opened IsAskable
+arm64_program = record {
+  writable = (record { name = refl; asks = (omega arith, tt) }, (record { name = refl; asks = ((omega arith, refl), tt) }, (record { name = refl; asks = ((omega arith, refl), tt) }, tt)));
+  distinct = distinct_by (imp_symbols_of (shorts_on ARM64)) refl;
+  agree = alike (shorts_on ARM64) (
+    ((λ e. refl), ((λ e. cc), ((λ e. refl), tt))),
+    (((λ e. cc), ((λ e. refl), ((λ e. cc), tt))), (((λ e. refl), ((λ e. cc), ((λ e. refl), tt))), tt)),
+  );
+  before = placed_object ARM64 ∷ [];
+  behind = placed_thunk ARM64 (mid_on ARM64) ∷ [];
+  placed = refl;
+  none_before = (refl, (refl, (refl, tt)));
+  none_behind = (refl, (refl, (refl, tt)));
+  lookups = 0x2040;
+  hints = 0x2090;
+  names = 0x209E;
+  pieces = arm64_pieces;
+  starts = (omega arith, tt);
+  ends = (omega arith, tt);
+}
+
+arm64_steady : AreSteady ARM64 (lld_linked_on ARM64)
+unfolding lld_opened
+arm64_steady = refl
+
+arm64_beside : AreLinkedBeside ARM64 0x1_4000_0000 (lld_image_on ARM64) (lld_linked_on ARM64) (lld_codes ARM64) (lld_targets ARM64)
+unfolding lld_opened relocated_test meets_up meet_test
+arm64_beside = record {
+  held = ((0, omega arith, refl), ((2, omega arith, refl), tt));
+  sections = (refl, (refl, tt));
+  ends = (omega arith, (omega arith, tt));
+  apart = ((disjoint (record { start = 0x2000; bytes = tables_on ARM64 }) (range_of_code (code_of_object ARM64)) (inr (omega arith)), (disjoint (record { start = 0x2000; bytes = tables_on ARM64 }) (range_of_code (code_of_thunk ARM64)) (inr (omega arith)), tt)), ((disjoint (range_of_code (code_of_object ARM64)) (range_of_code (code_of_thunk ARM64)) (inl (omega arith)), tt), (tt, tt)));
+  relocated = (
+    relocated_by ARM64 0x1_4000_0000 (lld_targets ARM64 (code_of_object ARM64)) 0x1000 (object_section ARM64) (linked_code ARM64) refl,
+    (relocated_by ARM64 0x1_4000_0000 (lld_targets ARM64 (code_of_thunk ARM64)) 0x101C (thunk_section ARM64) (linked_thunk ARM64) refl, tt),
+  );
+  resolved = takes_with_thunk (thunk_address ARM64) (lld_linked_on ARM64) (lld_codes ARM64) refl;
+}
+
+arm64_rebased : IsRebased 0x1_4000_0000 0x4000_0000 (lld_places ARM64) (lld_memory ARM64) (lld_moved_memory ARM64)
+arm64_rebased = rebased_by 0x1_4000_0000 0x4000_0000 [] (lld_memory ARM64) tt tt
+
+arm64_moved : AreMoved ARM64 0x1_4000_0000 0x4000_0000 (lld_image_on ARM64) (lld_linked_on ARM64) (lld_codes ARM64) (lld_targets ARM64) (lld_places ARM64) (lld_moved_memory ARM64)
+unfolding lld_opened
+arm64_moved = record {
+  beside = arm64_beside;
+  within = (tt, (tt, tt));
+  needed = λ c r width address entry held m is symbol placed. all_needed ARM64 (lld_codes ARM64) c r width held m is;
+  only = λ a byte is covered. only_absolute a (table_places ARM64 (lld_linked_on ARM64)) (lld_places ARM64) covered;
+  rebased = arm64_rebased;
+}
+
+arm64_gee : Names (placed_object ARM64) 2 (imp_symbol (symbol_on ARM64 (codes "gee")))
+arm64_gee = record { symbol = symbol_of_class (imp_symbol (symbol_on ARM64 (codes "gee"))) 0 class_external; target = refl; undefined = refl; named = refl }
+
+arm64_branch : HasBranch ARM64 (code_of_object ARM64) 20 0 (symbol_on ARM64 (codes "mid"))
+arm64_branch = record {
+  type = arm64_branch26;
+  field = record {
+    symbol = 3;
+    alone = refl;
+    inside = omega arith;
+    names = record { symbol = symbol_of_class (symbol_on ARM64 (codes "mid")) 0 class_external; target = refl; undefined = refl; named = refl };
+  };
+  counts = (refl, refl);
+  within = omega arith;
+}
+
+arm64_at : AreInMemory ARM64 0x1_4000_0000 (lld_image_on ARM64) (lld_linked_on ARM64) (lld_codes ARM64) (lld_targets ARM64) (lld_memory ARM64)
+arm64_at = inl (arm64_beside, refl)
+
+arm64_worked : WorkedLldProgram ARM64 0x1_4000_0000 (lld_memory ARM64) 20 (eight_bytes 0x40) (eight_bytes 0x30) (eight_bytes 0)
+unfolding lld_opened
+arm64_worked = record {
+  program = arm64_program;
+  steady = arm64_steady;
+  at = arm64_at;
+  thunk = record { from = refl; number = refl };
+  branch = arm64_branch;
+  loads = λ n written reads. lld_loads_in_memory ARM64 0x2000 0x2068 (shorts_on ARM64) (lld_image_on ARM64) (lld_linked_on ARM64) arm64_program 0x1_4000_0000 (lld_codes ARM64) (lld_targets ARM64) (lld_memory ARM64) (given_on ARM64) arm64_steady arm64_at n written (wide ARM64) reads;
+  leads_zeta = λ n written reads.
+      lld_leads ARM64 0x2000 0x2068 (shorts_on ARM64) (lld_image_on ARM64) (lld_linked_on ARM64) arm64_program 0x1_4000_0000 (lld_codes ARM64) (lld_targets ARM64) (lld_memory ARM64) (given_on ARM64) arm64_steady arm64_at n written (wide ARM64) reads (zeta_on ARM64) (2, omega arith, refl) (refl, refl);
+  leads_gee = λ n written reads.
+      lld_leads ARM64 0x2000 0x2068 (shorts_on ARM64) (lld_image_on ARM64) (lld_linked_on ARM64) arm64_program 0x1_4000_0000 (lld_codes ARM64) (lld_targets ARM64) (lld_memory ARM64) (given_on ARM64) arm64_steady arm64_at n written (wide ARM64) reads (gee_on ARM64) (1, omega arith, refl) (refl, refl);
+  calls = λ n written reads.
+      lld_calls ARM64 0x2000 0x2068 (shorts_on ARM64) (lld_image_on ARM64) (lld_linked_on ARM64) arm64_program 0x1_4000_0000 (lld_codes ARM64) (lld_targets ARM64) (lld_memory ARM64) (given_on ARM64) arm64_steady arm64_at n written (wide ARM64) reads (mid_on ARM64) (code_of_thunk ARM64) (0, omega arith, refl) (refl, refl)
+      (1, omega arith, refl) (record { from = refl; number = refl }) (code_of_object ARM64) 20 0 (0, omega arith, refl) arm64_branch (refl, refl, omega arith, omega arith);
+  ends = lld_ends_in_memory ARM64 0x2000 0x2068 (shorts_on ARM64) (lld_image_on ARM64) (lld_linked_on ARM64) arm64_program 0x1_4000_0000 (lld_codes ARM64) (lld_targets ARM64) (lld_memory ARM64) (given_on ARM64) arm64_steady arm64_at;
+}
+
+arm64_moved_at : AreInMemory ARM64 0x4000_0000 (lld_image_on ARM64) (lld_linked_on ARM64) (lld_codes ARM64) (lld_targets ARM64) (lld_moved_memory ARM64)
+arm64_moved_at = inr (0x1_4000_0000, (lld_places ARM64, (refl, arm64_moved)))
+
+arm64_moved_worked : WorkedLldProgram ARM64 0x4000_0000 (lld_moved_memory ARM64) 20 (eight_bytes 0x40) (eight_bytes 0x30) (eight_bytes 0)
+unfolding lld_opened
+arm64_moved_worked = record {
+  program = arm64_program;
+  steady = arm64_steady;
+  at = arm64_moved_at;
+  thunk = record { from = refl; number = refl };
+  branch = arm64_branch;
+  loads = λ n written reads. lld_loads_in_memory ARM64 0x2000 0x2068 (shorts_on ARM64) (lld_image_on ARM64) (lld_linked_on ARM64) arm64_program 0x4000_0000 (lld_codes ARM64) (lld_targets ARM64) (lld_moved_memory ARM64) (given_on ARM64) arm64_steady arm64_moved_at n written (wide ARM64) reads;
+  leads_zeta = λ n written reads.
+      lld_leads ARM64 0x2000 0x2068 (shorts_on ARM64) (lld_image_on ARM64) (lld_linked_on ARM64) arm64_program 0x4000_0000 (lld_codes ARM64) (lld_targets ARM64) (lld_moved_memory ARM64) (given_on ARM64) arm64_steady arm64_moved_at n written (wide ARM64) reads (zeta_on ARM64) (2, omega arith, refl) (refl, refl);
+  leads_gee = λ n written reads.
+      lld_leads ARM64 0x2000 0x2068 (shorts_on ARM64) (lld_image_on ARM64) (lld_linked_on ARM64) arm64_program 0x4000_0000 (lld_codes ARM64) (lld_targets ARM64) (lld_moved_memory ARM64) (given_on ARM64) arm64_steady arm64_moved_at n written (wide ARM64) reads (gee_on ARM64) (1, omega arith, refl) (refl, refl);
+  calls = λ n written reads.
+      lld_calls ARM64 0x2000 0x2068 (shorts_on ARM64) (lld_image_on ARM64) (lld_linked_on ARM64) arm64_program 0x4000_0000 (lld_codes ARM64) (lld_targets ARM64) (lld_moved_memory ARM64) (given_on ARM64) arm64_steady arm64_moved_at n written (wide ARM64) reads (mid_on ARM64) (code_of_thunk ARM64) (0, omega arith, refl) (refl, refl)
+      (1, omega arith, refl) (record { from = refl; number = refl }) (code_of_object ARM64) 20 0 (0, omega arith, refl) arm64_branch (refl, refl, omega arith, omega arith);
+  ends = lld_ends_in_memory ARM64 0x2000 0x2068 (shorts_on ARM64) (lld_image_on ARM64) (lld_linked_on ARM64) arm64_program 0x4000_0000 (lld_codes ARM64) (lld_targets ARM64) (lld_moved_memory ARM64) (given_on ARM64) arm64_steady arm64_moved_at;
+}
+
+pub worked_lld_programs : WorkedLldPrograms
+worked_lld_programs = record {
+  i386 = i386_worked;
+  i386_moved = i386_moved_worked;
+  amd64 = amd64_worked;
+  amd64_moved = amd64_moved_worked;
+  arm64 = arm64_worked;
+  arm64_moved = arm64_moved_worked;
+  i386_call = record { type = i386_dir32; symbol = 1; alone = refl; names = i386_zeta; field = 0 ∷ 0 ∷ 0 ∷ 0 ∷ []; four = refl; code = refl; counts = (refl, refl) };
+  i386_load = record { type = i386_dir32; symbol = 2; alone = refl; names = i386_gee; field = 0 ∷ 0 ∷ 0 ∷ 0 ∷ []; four = refl; code = refl; counts = (refl, refl) };
+  amd64_call = record { type = amd64_rel32; symbol = 1; alone = refl; names = amd64_zeta; field = 0 ∷ 0 ∷ 0 ∷ 0 ∷ []; four = refl; code = refl; counts = (0, (omega arith, (refl, refl))) };
+  amd64_load = record { type = amd64_rel32; symbol = 2; alone = refl; names = amd64_gee; field = 0 ∷ 0 ∷ 0 ∷ 0 ∷ []; four = refl; code = refl; counts = (0, (omega arith, (refl, refl))) };
+  arm64_page = record { field = record { symbol = 2; alone = refl; inside = omega arith; names = arm64_gee }; empty = refl };
+  arm64_offset = record { field = record { symbol = 2; alone = refl; inside = omega arith; names = arm64_gee }; eight = refl; empty = refl };
+  i386_shorts = i386_shorts;
+  amd64_shorts = amd64_shorts;
+  arm64_shorts = arm64_shorts;
+  i386_written = i386_written;
+  amd64_written = amd64_written;
+  arm64_written = arm64_written;
+}
+
+-- Near misses.
+
+own_stand : AreTables AMD64 own_tables
+own_stand = lld_tables AMD64 0x2000 0x2068 (shorts_on AMD64) (lld_image_on AMD64) (lld_linked_on AMD64) amd64_program
+
+first_table : Table
+first_table = record { dll = codes "beta.dll"; address = 0x2068; entries = record { ask = Ordinal 7; symbol = Some (codes "__imp_mid") } ∷ record { ask = Name (codes "zeta") 5; symbol = Some (codes "__imp_zeta") } ∷ [] }
+
+second_table : Table
+second_table = record { dll = codes "alpha.dll"; address = 0x2080; entries = record { ask = Name (codes "gee") 258; symbol = Some (codes "__imp_gee") } ∷ [] }
+
+both_tables : own_tables.tables ≡ first_table ∷ second_table ∷ []
+unfolding lld_opened first_table second_table
+both_tables = refl
+
+one_of_both : (x : Table) → Contains own_tables.tables x → (x ≡ first_table) ⊎ (x ≡ second_table)
+unfolding Among
+one_of_both x held =
+    elim (contains_among x (first_table ∷ second_table ∷ []) (subst (λ ts. Contains ts x) both_tables held)) [
+      | inl first ↦ inl first
+      | inr later ↦ elim later [ inl second ↦ inr second | inr none ↦ absurd none ]
+    ]
+
+in_neither : (r : Range) → (0x2068 ≤ r.start → range_end r ≤ 0x2078 → ⊥) → (0x2080 ≤ r.start → range_end r ≤ 0x2088 → ⊥) → IsInTable 8 own_tables.tables r → ⊥
+unfolding first_table second_table
+in_neither r not_first not_second has =
+    let fits : (0x2068 ≤ r.start) × (range_end r ≤ 0x2078) ⊎ ((0x2080 ≤ r.start) × (range_end r ≤ 0x2088)) =
+    elim (one_of_both has.table has.held) [
+      | inl is ↦ inl (subst (λ (x : Table). (x.address ≤ r.start) × (range_end r ≤ x.address + 8 * length x.entries)) is (has.from, has.to))
+      | inr is ↦ inr (subst (λ (x : Table). (x.address ≤ r.start) × (range_end r ≤ x.address + 8 * length x.entries)) is (has.from, has.to))
+    ] in
+    elim fits [ inl both ↦ not_first both.0 both.1 | inr both ↦ not_second both.0 both.1 ]
+
+pub refused_tables : RefusedTables
+unfolding lld_opened RiseFrom DirectoryAt first_table second_table
+refused_tables = record {
+  stand = own_stand;
+  starts = λ t. let low : 0 < 0 = t.starts.0 in omega arith;
+  ends = λ t. let high : 0x8000_0000 < 2 ^ 31 = t.ends.0 in omega arith;
+  directory = λ t.
+      let same : codes "alpha.dll" ≡ codes "beta.dll" =
+      dll_once (lld_image_on AMD64) 8 0x2000 (codes "alpha.dll") (codes "beta.dll") (Name (codes "gee") 258 ∷ []) (Ordinal 7 ∷ Name (codes "zeta") 5 ∷ []) t.directory.0.plain own_stand.directory.0.plain in
+      differ 8 9 (sym (ap length same)) (omega arith);
+  addresses = λ t.
+      let same : 0x2070 ≡ 0x2068 = number_once (lld_image_on AMD64) 4 0x2010 0x2070 0x2068 (t.addresses 0 (record first_table { address = 0x2070 }) refl) (own_stand.addresses 0 first_table refl) in
+      differ 0x2068 0x2070 (sym same) (omega arith);
+  rise = λ r. let back : 0x2068 ≤ 0x2060 = r.1.0 in omega arith;
+  symbols = λ t.
+      let none : [] ≡ record { name = codes "__imp_mid"; address = Some 0x2068 } ∷ [] =
+      t.symbols 0 0 first_table (record { ask = Ordinal 7; symbol = Some (codes "__imp_mid") }) (codes "__imp_mid") refl refl refl in
+      cc;
+  in_table = record { table = first_table; held = (0, omega arith, refl); from = omega arith; to = omega arith };
+  before_table = in_neither (record { start = 0x2060; bytes = eight_bytes 0 }) (λ from to. omega arith) (λ from to. omega arith);
+  behind_table = in_neither (record { start = 0x2078; bytes = eight_bytes 0 }) (λ from to. omega arith) (λ from to. omega arith);
+  arm64_table = λ can. differ 0 4 (sym can.1) (omega arith);
+  arm64_base = λ can. differ 0 4 (sym can.0) (omega arith);
+  i386_base = λ can. let fits : 0x8000_0001 + 2 ^ 31 ≤ 2 ^ 32 = can in omega arith;
+  armnt = λ can. can;
+}
+
+-- the bytes that are there are the thunk's
+thunk_code_is : (memory : List Range) (code found : List ℕ) → BytesAt memory 0x1020 code → BytesAt memory 0x1020 found → length found ≡ 6 → length code ≡ 6 → found ≡ code
+thunk_code_is memory code found there other six also = same_bytes memory found code 0x1020 other there (six ∙ sym also)
+
+entry_is : (n m : ℕ) → Some (0x1_4000_0000 + n) ≡ Some (0x1_4000_0000 + m) → n ≡ m
+entry_is n m is = (let same : 0x1_4000_0000 + n ≡ 0x1_4000_0000 + m = value (0x1_4000_0000 + n) (0x1_4000_0000 + m) is in omega arith)
+
+fourth_byte : (memory : List Range) (a : ℕ) → byte_at memory (a + 1 + 1 + 1) ≡ Some 0 → BytesAt memory a (eight_bytes 0) → ⊥
+unfolding BytesAt
+fourth_byte memory a is located = differ 0 0x10 (value 0 0x10 (sym is ∙ located.1.1.1.0)) (omega arith)
+
+name_size : Placed → ℕ
+name_size p = size p.object.entries
+  where
+    size : List Entry → ℕ
+    size [] = 0
+    size (Auxiliary bytes ∷ entries) = 0
+    size (ASymbol s ∷ entries) = length s.name
+
+pub refused_thunks : RefusedThunks
+unfolding lld_opened relocated_test name_size
+refused_thunks = record {
+  arrives =
+      let memory : List Range = record { start = 0x1020; bytes = linked_thunk AMD64 } ∷ record { start = 0x2068; bytes = eight_bytes 0 } ∷ [] in
+      record { code = linked_thunk AMD64; there = are_located memory (linked_thunk AMD64) 0x1020 refl; whole = refl; entry = 0x2068; reads = refl; located = are_located memory (eight_bytes 0) 0x2068 refl };
+  there = λ x.
+      let memory : List Range = record { start = 0x1021; bytes = linked_thunk AMD64 } ∷ record { start = 0x2068; bytes = eight_bytes 0 } ∷ [] in
+      let six : length x.code ≡ 6 = x.whole in
+      let first = byte_first memory x.code 0x1020 x.there (omega arith) in
+      let is : None ≡ Some first.0 = first.1 in
+      cc;
+  jump = λ x.
+      let memory : List Range = record { start = 0x1020; bytes = 0xFF ∷ 0x15 ∷ 0x42 ∷ 0x10 ∷ 0 ∷ 0 ∷ [] } ∷ record { start = 0x2068; bytes = eight_bytes 0 } ∷ [] in
+      let code : x.code ≡ 0xFF ∷ 0x15 ∷ 0x42 ∷ 0x10 ∷ 0 ∷ 0 ∷ [] =
+      thunk_code_is memory (0xFF ∷ 0x15 ∷ 0x42 ∷ 0x10 ∷ 0 ∷ 0 ∷ []) x.code (are_located memory (0xFF ∷ 0x15 ∷ 0x42 ∷ 0x10 ∷ 0 ∷ 0 ∷ []) 0x1020 refl) x.there x.whole refl in
+      let none : None ≡ Some (0x1_4000_0000 + x.entry) = ap (jump_reads AMD64 0x1_4000_1020) (sym code) ∙ x.reads in
+      cc;
+  reads = λ x.
+      let memory : List Range = record { start = 0x1020; bytes = 0xFF ∷ 0x25 ∷ 0x46 ∷ 0x10 ∷ 0 ∷ 0 ∷ [] } ∷ record { start = 0x2068; bytes = eight_bytes 0 } ∷ [] in
+      let code : x.code ≡ 0xFF ∷ 0x25 ∷ 0x46 ∷ 0x10 ∷ 0 ∷ 0 ∷ [] =
+      thunk_code_is memory (0xFF ∷ 0x25 ∷ 0x46 ∷ 0x10 ∷ 0 ∷ 0 ∷ []) x.code (are_located memory (0xFF ∷ 0x25 ∷ 0x46 ∷ 0x10 ∷ 0 ∷ 0 ∷ []) 0x1020 refl) x.there x.whole refl in
+      let led : Some (0x1_4000_0000 + 0x206C) ≡ Some (0x1_4000_0000 + x.entry) = ap (jump_reads AMD64 0x1_4000_1020) (sym code) ∙ x.reads in
+      let entry : 0x206C ≡ x.entry = entry_is 0x206C x.entry led in
+      fourth_byte memory 0x206C refl (subst (λ a. BytesAt memory a (eight_bytes 0)) (sym entry) x.located);
+  located = λ x.
+      let memory : List Range = record { start = 0x1020; bytes = linked_thunk AMD64 } ∷ record { start = 0x2068; bytes = eight_bytes 1 } ∷ [] in
+      let code : x.code ≡ linked_thunk AMD64 = thunk_code_is memory (linked_thunk AMD64) x.code (are_located memory (linked_thunk AMD64) 0x1020 refl) x.there x.whole refl in
+      let led : Some (0x1_4000_0000 + 0x2068) ≡ Some (0x1_4000_0000 + x.entry) = ap (jump_reads AMD64 0x1_4000_1020) (sym code) ∙ x.reads in
+      let entry : 0x2068 ≡ x.entry = entry_is 0x2068 x.entry led in
+      other_byte memory 0x2068 0 1 (0 ∷ 0 ∷ 0x10 ∷ 0 ∷ 0 ∷ 0 ∷ 0 ∷ []) refl (omega arith) (subst (λ a. BytesAt memory a (eight_bytes 0)) (sym entry) x.located);
+  of_zeta = λ thunk. differ 3 4 (ap name_size thunk.from) (omega arith);
+  linked = λ r. let is : 0x104A ≡ 0x1042 = (r.fields (record { offset = 2; symbol = 1; kind = amd64_rel32 }) refl (omega arith)).rel32 0 (omega arith) refl in differ 0x1042 0x104A (sym is) (omega arith);
+}
+
+no_sixth : (memory : List Range) (a : ℕ) (bytes : List ℕ) → byte_at memory (a + 1 + 1 + 1 + 1 + 1) ≡ None → length bytes ≡ 6 → BytesAt memory a bytes → ⊥
+unfolding BytesAt
+no_sixth memory a [] none six located = omega arith
+no_sixth memory a (b ∷ []) none six located = omega arith
+no_sixth memory a (b ∷ c ∷ []) none six located = omega arith
+no_sixth memory a (b ∷ c ∷ d ∷ []) none six located = omega arith
+no_sixth memory a (b ∷ c ∷ d ∷ e ∷ []) none six located = omega arith
+no_sixth memory a (b ∷ c ∷ d ∷ e ∷ f ∷ []) none six located = omega arith
+no_sixth memory a (b ∷ c ∷ d ∷ e ∷ f ∷ g ∷ rest) none six located = (let is : None ≡ Some g = sym none ∙ located.1.1.1.1.1.0 in cc)
+
+pub refused_loads : RefusedLoads
+unfolding lld_opened
+refused_loads = record {
+  nothing = λ x.
+      let holds = x.entries (zeta_on AMD64) (2, omega arith, refl) in
+      let entry : holds.address ≡ 0x2070 = same_address (codes "__imp_zeta") holds.address 0x2070 (definitions_of (codes "__imp_zeta") (lld_linked_on AMD64)) holds.once refl in
+      other_byte (lld_image_on AMD64) 0x2070 0x40 0x90 (0 ∷ 0 ∷ 0x10 ∷ 0 ∷ 0 ∷ 0 ∷ 0 ∷ []) refl (omega arith) (subst (λ a. BytesAt (lld_image_on AMD64) a (eight_bytes 0x40)) entry holds.located);
+  before = λ x. let low : 0x2068 ≤ 0x2060 = x.within.0.0 in omega arith;
+  behind = λ x. let high : 0x2098 ≤ 0x2090 = x.within.0.1 in omega arith;
+  whole = λ x.
+      no_sixth (record { start = 0x1020; bytes = 0xFF ∷ 0x25 ∷ 0x42 ∷ 0x10 ∷ 0 ∷ [] } ∷ record { start = 0x2068; bytes = eight_bytes 0 } ∷ []) 0x1020 x.code refl x.whole x.there;
+  number = λ thunk. differ 1 2 (sym thunk.number) (omega arith);
+}
+
+-- where a call by a field leads
+leads_to : (n : ℕ) (field code : List ℕ) (place : ℕ) (x : BranchArrivesByThunk AMD64 0x1_4000_0000 (call_memory 0x100E field code) 0x100E 0 (eight_bytes 0)) →
+    NumberAt (call_memory 0x100E field code) 4 0x100E n → branch_leads AMD64 0x1_4000_100E 0 n ≡ Some (0x1_4000_0000 + place) → place ≡ x.thunk
+leads_to n field code place x there is =
+    let same : x.leads.number ≡ n = number_once (call_memory 0x100E field code) 4 0x100E x.leads.number n x.leads.there there in
+    entry_is place x.thunk (sym is ∙ ap (branch_leads AMD64 0x1_4000_100E 0) (sym same) ∙ x.leads.leads)
+
+pub refused_calls : RefusedCalls
+unfolding lld_opened
+refused_calls = record {
+  arrives =
+      let memory : List Range = call_memory 0x100E (0x0E ∷ 0 ∷ 0 ∷ 0 ∷ []) (linked_thunk AMD64) in
+      record {
+        thunk = 0x1020;
+        leads = record { number = 0x0E; there = number memory 4 0x100E 0x0E (0x0E ∷ 0 ∷ 0 ∷ 0 ∷ []) refl refl refl; leads = refl };
+        jumps = record { code = linked_thunk AMD64; there = are_located memory (linked_thunk AMD64) 0x1020 refl; whole = refl; entry = 0x2068; reads = refl; located = are_located memory (eight_bytes 0) 0x2068 refl };
+      };
+  there = λ x.
+      let memory : List Range = call_memory 0x100F (0x0E ∷ 0 ∷ 0 ∷ 0 ∷ []) (linked_thunk AMD64) in
+      let count : length x.leads.there.bytes ≡ 4 = x.leads.there.count in
+      let first = byte_first memory x.leads.there.bytes 0x100E x.leads.there.located (omega arith) in
+      let is : None ≡ Some first.0 = first.1 in
+      cc;
+  leads = λ x.
+      let memory : List Range = call_memory 0x100E (0x0F ∷ 0 ∷ 0 ∷ 0 ∷ []) (linked_thunk AMD64) in
+      let place : 0x1021 ≡ x.thunk = leads_to 0x0F (0x0F ∷ 0 ∷ 0 ∷ 0 ∷ []) (linked_thunk AMD64) 0x1021 x (number memory 4 0x100E 0x0F (0x0F ∷ 0 ∷ 0 ∷ 0 ∷ []) refl refl refl) refl in
+      no_sixth memory 0x1021 x.jumps.code refl x.jumps.whole (subst (λ a. BytesAt memory a x.jumps.code) (sym place) x.jumps.there);
+  jumps = λ x.
+      let code : List ℕ = 0xFF ∷ 0x15 ∷ 0x42 ∷ 0x10 ∷ 0 ∷ 0 ∷ [] in
+      let memory : List Range = call_memory 0x100E (0x0E ∷ 0 ∷ 0 ∷ 0 ∷ []) (0xFF ∷ 0x15 ∷ 0x42 ∷ 0x10 ∷ 0 ∷ 0 ∷ []) in
+      let place : 0x1020 ≡ x.thunk =
+      leads_to 0x0E (0x0E ∷ 0 ∷ 0 ∷ 0 ∷ []) (0xFF ∷ 0x15 ∷ 0x42 ∷ 0x10 ∷ 0 ∷ 0 ∷ []) 0x1020 x (number memory 4 0x100E 0x0E (0x0E ∷ 0 ∷ 0 ∷ 0 ∷ []) refl refl refl) refl in
+      let jumps : ThunkArrives AMD64 0x1_4000_0000 memory 0x1020 (eight_bytes 0) = subst (λ a. ThunkArrives AMD64 0x1_4000_0000 memory a (eight_bytes 0)) (sym place) x.jumps in
+      let is : jumps.code ≡ 0xFF ∷ 0x15 ∷ 0x42 ∷ 0x10 ∷ 0 ∷ 0 ∷ [] = thunk_code_is memory code jumps.code (are_located memory (0xFF ∷ 0x15 ∷ 0x42 ∷ 0x10 ∷ 0 ∷ 0 ∷ []) 0x1020 refl) jumps.there jumps.whole refl in
+      let none : None ≡ Some (0x1_4000_0000 + jumps.entry) = ap (jump_reads AMD64 0x1_4000_1020) (sym is) ∙ jumps.reads in
+      cc;
+}

@@ -1,0 +1,161 @@
+-- The programs by hand, loaded and called, by computing and by the laws.
+use Rattle.std.proofs.Common.{◌≡◌, ℕ, ◌+◌, ◌^◌, ◌≤◌, List, [], ◌∷◌, codes, length, map, refl, arith}
+use Rattle.implib.specs.declared.machine.MachineType.TheVariants.{I386, ARMNT, AMD64, ARM64}
+use Rattle.implib.specs.Import.{Ask, Name, Ordinal}
+use Rattle.implib.specs.Members.GnuMembers.{alias_specs}
+use Rattle.implib.specs.Members.ImportTables.{thunk_width}
+use Rattle.implib.specs.Members.WeakExternal.{weak_object}
+use Rattle.implib.specs.Formats.Layout.{encoded_size}
+use Rattle.implib.specs.Worked.Statements.{plain_export}
+use Rattle.implib_link.specs.Directory.{imported}
+use Rattle.implib_link.specs.Gnu.Loaded.{Writes, entries_written}
+use Rattle.implib_link.specs.Gnu.Program.{has_tables}
+use Rattle.implib_link.specs.Stub.{CanJump}
+use Rattle.implib_link_instances.specs.Worked.Loads.{WorkedCall, WorkedCalls, WorkedLoad, WorkedLoads, gives_by_hand, written_4, written_8}
+use Rattle.implib_link_instances.specs.Worked.Programs.{both_inputs, foo_input, program_image, program_objects, symbol_on, touching_4, touching_8, zed_input}
+use Rattle.implib_link.proofs.Gnu.Directory.{directory_walk}
+use Rattle.implib_link.proofs.LoadedPrograms.{program_loads}
+use Rattle.implib_link.proofs.Gnu.Program.{program_links}
+use Rattle.implib_link.proofs.Gnu.Stubs.{stubs_jump}
+use Rattle.implib_link.proofs.LoadedPrograms.{calls_reach}
+use Rattle.implib_link_instances.proofs.Worked.Programs.{opened, worked_programs}
+use Rattle.implib_link_instances.proofs.Worked.RefusedLinks.{number}
+
+pub amd64_given : (dll : List ℕ) (ask : Ask) → length (gives_by_hand AMD64 dll ask) ≡ thunk_width AMD64
+amd64_given dll (Ordinal n) = refl
+amd64_given dll (Name text hint) = refl
+
+amd64_writes : Writes (program_image AMD64 touching_8) (thunk_width AMD64) (gives_by_hand AMD64) touching_8.descriptors (map (imported AMD64) (both_inputs AMD64)) (written_8 AMD64)
+unfolding opened alias_specs encoded_size weak_object has_tables Writes entries_written
+amd64_writes = (
+  120,
+  (number (program_image AMD64 touching_8) 4 20 120 (120 ∷ 0 ∷ 0 ∷ 0 ∷ []) refl refl refl, (_, (refl, (160, (number (program_image AMD64 touching_8) 4 40 160 (160 ∷ 0 ∷ 0 ∷ 0 ∷ []) refl refl refl, ([], (refl, refl))))))),
+)
+
+amd64 : WorkedLoad AMD64 touching_8 (written_8 AMD64)
+amd64 =
+    let links = program_links AMD64 touching_8 (both_inputs AMD64) (program_objects AMD64) worked_programs.amd64.made worked_programs.amd64.program in
+    record {
+      links = links;
+      walk = directory_walk (program_image AMD64 touching_8) (thunk_width AMD64) touching_8.descriptors (map (imported AMD64) (both_inputs AMD64)) links.directory;
+      given = amd64_given;
+      writes = amd64_writes;
+      loaded = program_loads AMD64 touching_8 (both_inputs AMD64) (program_objects AMD64) (gives_by_hand AMD64) (written_8 AMD64) worked_programs.amd64.made worked_programs.amd64.program amd64_given amd64_writes;
+    }
+
+amd64_can : CanJump AMD64 0x1_4000_0000 touching_8
+amd64_can = tt
+
+amd64_call : WorkedCall AMD64 0x1_4000_0000 touching_8 (written_8 AMD64) 128 160
+amd64_call = record {
+  can = amd64_can;
+  open_jumps = stubs_jump AMD64 0x1_4000_0000 touching_8 (both_inputs AMD64) (program_objects AMD64) 0 1 (foo_input AMD64) (record (plain_export (symbol_on AMD64 (codes "open"))) { ordinal = 258 }) worked_programs.amd64.made worked_programs.amd64.program amd64_can refl refl refl;
+  queue_jumps = stubs_jump AMD64 0x1_4000_0000 touching_8 (both_inputs AMD64) (program_objects AMD64) 1 0 (zed_input AMD64) (plain_export (symbol_on AMD64 (codes "queue"))) worked_programs.amd64.made worked_programs.amd64.program amd64_can refl refl refl;
+  reaches = calls_reach AMD64 0x1_4000_0000 touching_8 (both_inputs AMD64) (program_objects AMD64) (gives_by_hand AMD64) (written_8 AMD64) 1 0 (zed_input AMD64) (plain_export (symbol_on AMD64 (codes "queue"))) worked_programs.amd64.made worked_programs.amd64.program amd64_can amd64_given amd64_writes refl refl refl;
+}
+
+pub arm64_given : (dll : List ℕ) (ask : Ask) → length (gives_by_hand ARM64 dll ask) ≡ thunk_width ARM64
+arm64_given dll (Ordinal n) = refl
+arm64_given dll (Name text hint) = refl
+
+arm64_writes : Writes (program_image ARM64 touching_8) (thunk_width ARM64) (gives_by_hand ARM64) touching_8.descriptors (map (imported ARM64) (both_inputs ARM64)) (written_8 ARM64)
+unfolding opened alias_specs encoded_size weak_object has_tables Writes entries_written
+arm64_writes = (
+  120,
+  (number (program_image ARM64 touching_8) 4 20 120 (120 ∷ 0 ∷ 0 ∷ 0 ∷ []) refl refl refl, (_, (refl, (160, (number (program_image ARM64 touching_8) 4 40 160 (160 ∷ 0 ∷ 0 ∷ 0 ∷ []) refl refl refl, ([], (refl, refl))))))),
+)
+
+arm64 : WorkedLoad ARM64 touching_8 (written_8 ARM64)
+arm64 =
+    let links = program_links ARM64 touching_8 (both_inputs ARM64) (program_objects ARM64) worked_programs.arm64.made worked_programs.arm64.program in
+    record {
+      links = links;
+      walk = directory_walk (program_image ARM64 touching_8) (thunk_width ARM64) touching_8.descriptors (map (imported ARM64) (both_inputs ARM64)) links.directory;
+      given = arm64_given;
+      writes = arm64_writes;
+      loaded = program_loads ARM64 touching_8 (both_inputs ARM64) (program_objects ARM64) (gives_by_hand ARM64) (written_8 ARM64) worked_programs.arm64.made worked_programs.arm64.program arm64_given arm64_writes;
+    }
+
+arm64_can : CanJump ARM64 0x1_4000_0000 touching_8
+arm64_can = (refl, refl)
+
+arm64_call : WorkedCall ARM64 0x1_4000_0000 touching_8 (written_8 ARM64) 128 160
+arm64_call = record {
+  can = arm64_can;
+  open_jumps = stubs_jump ARM64 0x1_4000_0000 touching_8 (both_inputs ARM64) (program_objects ARM64) 0 1 (foo_input ARM64) (record (plain_export (symbol_on ARM64 (codes "open"))) { ordinal = 258 }) worked_programs.arm64.made worked_programs.arm64.program arm64_can refl refl refl;
+  queue_jumps = stubs_jump ARM64 0x1_4000_0000 touching_8 (both_inputs ARM64) (program_objects ARM64) 1 0 (zed_input ARM64) (plain_export (symbol_on ARM64 (codes "queue"))) worked_programs.arm64.made worked_programs.arm64.program arm64_can refl refl refl;
+  reaches = calls_reach ARM64 0x1_4000_0000 touching_8 (both_inputs ARM64) (program_objects ARM64) (gives_by_hand ARM64) (written_8 ARM64) 1 0 (zed_input ARM64) (plain_export (symbol_on ARM64 (codes "queue"))) worked_programs.arm64.made worked_programs.arm64.program arm64_can arm64_given arm64_writes refl refl refl;
+}
+
+pub i386_given : (dll : List ℕ) (ask : Ask) → length (gives_by_hand I386 dll ask) ≡ thunk_width I386
+i386_given dll (Ordinal n) = refl
+i386_given dll (Name text hint) = refl
+
+i386_writes : Writes (program_image I386 touching_4) (thunk_width I386) (gives_by_hand I386) touching_4.descriptors (map (imported I386) (both_inputs I386)) (written_4 I386)
+unfolding opened alias_specs encoded_size weak_object has_tables Writes entries_written
+i386_writes = (
+  92,
+  (number (program_image I386 touching_4) 4 20 92 (92 ∷ 0 ∷ 0 ∷ 0 ∷ []) refl refl refl, (_, (refl, (112, (number (program_image I386 touching_4) 4 40 112 (112 ∷ 0 ∷ 0 ∷ 0 ∷ []) refl refl refl, ([], (refl, refl))))))),
+)
+
+i386 : WorkedLoad I386 touching_4 (written_4 I386)
+i386 =
+    let links = program_links I386 touching_4 (both_inputs I386) (program_objects I386) worked_programs.i386.made worked_programs.i386.program in
+    record {
+      links = links;
+      walk = directory_walk (program_image I386 touching_4) (thunk_width I386) touching_4.descriptors (map (imported I386) (both_inputs I386)) links.directory;
+      given = i386_given;
+      writes = i386_writes;
+      loaded = program_loads I386 touching_4 (both_inputs I386) (program_objects I386) (gives_by_hand I386) (written_4 I386) worked_programs.i386.made worked_programs.i386.program i386_given i386_writes;
+    }
+
+i386_can : CanJump I386 0x40_0000 touching_4
+i386_can = omega arith
+
+i386_call : WorkedCall I386 0x40_0000 touching_4 (written_4 I386) 96 112
+i386_call = record {
+  can = i386_can;
+  open_jumps = stubs_jump I386 0x40_0000 touching_4 (both_inputs I386) (program_objects I386) 0 1 (foo_input I386) (record (plain_export (symbol_on I386 (codes "open"))) { ordinal = 258 }) worked_programs.i386.made worked_programs.i386.program i386_can refl refl refl;
+  queue_jumps = stubs_jump I386 0x40_0000 touching_4 (both_inputs I386) (program_objects I386) 1 0 (zed_input I386) (plain_export (symbol_on I386 (codes "queue"))) worked_programs.i386.made worked_programs.i386.program i386_can refl refl refl;
+  reaches = calls_reach I386 0x40_0000 touching_4 (both_inputs I386) (program_objects I386) (gives_by_hand I386) (written_4 I386) 1 0 (zed_input I386) (plain_export (symbol_on I386 (codes "queue"))) worked_programs.i386.made worked_programs.i386.program i386_can i386_given i386_writes refl refl refl;
+}
+
+pub armnt_given : (dll : List ℕ) (ask : Ask) → length (gives_by_hand ARMNT dll ask) ≡ thunk_width ARMNT
+armnt_given dll (Ordinal n) = refl
+armnt_given dll (Name text hint) = refl
+
+armnt_writes : Writes (program_image ARMNT touching_4) (thunk_width ARMNT) (gives_by_hand ARMNT) touching_4.descriptors (map (imported ARMNT) (both_inputs ARMNT)) (written_4 ARMNT)
+unfolding opened alias_specs encoded_size weak_object has_tables Writes entries_written
+armnt_writes = (
+  92,
+  (number (program_image ARMNT touching_4) 4 20 92 (92 ∷ 0 ∷ 0 ∷ 0 ∷ []) refl refl refl, (_, (refl, (112, (number (program_image ARMNT touching_4) 4 40 112 (112 ∷ 0 ∷ 0 ∷ 0 ∷ []) refl refl refl, ([], (refl, refl))))))),
+)
+
+armnt : WorkedLoad ARMNT touching_4 (written_4 ARMNT)
+armnt =
+    let links = program_links ARMNT touching_4 (both_inputs ARMNT) (program_objects ARMNT) worked_programs.armnt.made worked_programs.armnt.program in
+    record {
+      links = links;
+      walk = directory_walk (program_image ARMNT touching_4) (thunk_width ARMNT) touching_4.descriptors (map (imported ARMNT) (both_inputs ARMNT)) links.directory;
+      given = armnt_given;
+      writes = armnt_writes;
+      loaded = program_loads ARMNT touching_4 (both_inputs ARMNT) (program_objects ARMNT) (gives_by_hand ARMNT) (written_4 ARMNT) worked_programs.armnt.made worked_programs.armnt.program armnt_given armnt_writes;
+    }
+
+pub worked_loads : WorkedLoads
+worked_loads = record { amd64 = amd64; arm64 = arm64; i386 = i386; armnt = armnt }
+
+not_four : (n : ℕ) → n ≡ 4 → n ≡ 0 → ⊥
+not_four n is none = omega arith
+
+pub worked_calls : WorkedCalls
+worked_calls = record {
+  amd64 = amd64_call;
+  arm64 = arm64_call;
+  i386 = i386_call;
+  i386_at_most = omega arith;
+  i386_above = λ (can : 0x8000_0001 + 2 ^ 31 ≤ 2 ^ 32). omega arith;
+  arm64_image = λ can. not_four 4 refl can.0;
+  arm64_tables = λ can. not_four 4 refl can.1;
+  armnt = λ can. can;
+}

@@ -1,0 +1,264 @@
+-- Near misses of instructions in code and of what arrives, by computing.
+use Rattle.std.proofs.Common.{◌≡◌, ℕ, ◌+◌, ◌<◌, ◌≤◌, ◌⊎◌, false, List, [], ◌∷◌, ◌++◌, codes, length, Some, None, refl, ap, sym, ◌∙◌, subst, inl, inr, arith}
+use Rattle.std.specs.Prelude.{Bool, bytes_eq, slice_get, slice_index}
+use Rattle.std.specs.List.{AllByRecursion}
+use Rattle.std.proofs.lemmas.Bool.{true≢false}
+use Rattle.implib.specs.declared.coff.object.Relocation.{Relocation}
+use Rattle.implib.specs.declared.machine.MachineType.TheVariants.{AMD64}
+use Rattle.implib.specs.Formats.Bytes.{u32_bytes}
+use Rattle.implib.specs.Formats.Constants.{amd64_rel32, arm64_pagebase_rel21, class_external}
+use Rattle.implib.specs.Formats.Object.{ASymbol, Auxiliary, Entry, ObjectSymbol}
+use Rattle.implib.specs.Link.Image.{Range, byte_at}
+use Rattle.implib.specs.Link.Load.{BytesAt}
+use Rattle.implib.specs.Link.Resolution.{is_undefined_external}
+use Rattle.implib_link.specs.Gnu.Calls.{IsAside, call_reads, direct_leads}
+use Rattle.implib_link.specs.Gnu.Pointers.{load_reads}
+use Rattle.implib_link.specs.Stub.{jump_reads}
+use Rattle.implib_link_instances.specs.Worked.NearCode.{NearCallArrives, NearDefines, NearDirectCallArrives, NearHasDirectCall, NearHasInstructions, NearHasLoad, NearHasPage, NearLoadArrives, NearStubArrives, call_code, imp_f, jump_code, left, page_code}
+use Rattle.implib_link_instances.specs.Worked.Operands.{field}
+use Rattle.implib_link_instances.specs.Worked.Programs.{symbol_of_class}
+use Rattle.implib_link_instances.specs.Worked.RefusedFields.{open_address, two_ranges}
+use Rattle.implib_link.proofs.Gnu.Memory.{byte_within}
+use Rattle.implib_link_instances.proofs.Worked.NearMisses.{none_passes}
+use Rattle.implib_link_instances.proofs.Worked.RefusedFields.{value}
+use Rattle.implib_link_instances.proofs.Worked.RefusedLinks.{are_located, differ}
+use Rattle.implib_link_instances.proofs.Worked.Rules.{entry_is, same_bytes}
+
+-- Instructions.
+
+-- code begins with what is at its offset 0
+begins : (code front rest : List ℕ) → code ≡ front ++ rest → length front ≡ 0 → code ≡ rest
+begins code [] rest is none = is
+begins code (b ∷ front) rest is none = absurd (omega arith)
+
+none_there : (q : Relocation) (before behind : List Relocation) → [] ≡ before ++ q ∷ behind → ⊥
+none_there q [] behind is = cc
+none_there q (r ∷ before) behind is = cc
+
+-- the only relocation is the one that is looked for
+of_one : (r q : Relocation) (before behind : List Relocation) → r ∷ [] ≡ before ++ q ∷ behind → r ≡ q
+of_one r q [] behind is = cc
+of_one r q (s ∷ before) behind is = absurd (none_there q before behind cc)
+
+-- of two it is the first or the second
+of_two : (r s q : Relocation) (before behind : List Relocation) → r ∷ s ∷ [] ≡ before ++ q ∷ behind → ((r ≡ q) × (behind ≡ s ∷ [])) ⊎ ((before ≡ r ∷ []) × (s ≡ q))
+of_two r s q [] behind is = inl (cc, cc)
+of_two r s q (t ∷ []) behind is = inr (cc, cc)
+of_two r s q (t ∷ u ∷ before) behind is = absurd (none_there q before behind cc)
+
+kind_is : (r q : Relocation) → r ≡ q → r.kind ≡ q.kind
+kind_is r q is = ap (λ (x : Relocation). x.kind) is
+
+symbol_is : (r q : Relocation) → r ≡ q → r.symbol ≡ q.symbol
+symbol_is r q is = ap (λ (x : Relocation). x.symbol) is
+
+offset_is : (r q : Relocation) → r ≡ q → r.offset ≡ q.offset
+offset_is r q is = ap (λ (x : Relocation). x.offset) is
+
+over_it : IsAside AMD64 0 6 (field 0 1 11) → ⊥
+over_it (inl before) = let is : 0 + 4 ≤ 0 = before in omega arith
+over_it (inr behind) = let is : 0 + 6 ≤ 0 = behind in omega arith
+
+-- the symbol of index 1
+same_symbol : (main s t : ObjectSymbol) (index : ℕ) → 1 ≡ index → slice_get (ASymbol main ∷ ASymbol s ∷ []) index ≡ Some (ASymbol t) → t ≡ s
+same_symbol main s t index is at =
+    let here : Some (ASymbol s) ≡ Some (ASymbol t) = subst (λ n. slice_get (ASymbol main ∷ ASymbol s ∷ []) n ≡ Some (ASymbol t)) (sym is) at in
+    cc
+
+main_symbol : ObjectSymbol
+main_symbol = symbol_of_class (codes "main") 1 class_external
+
+-- a symbol of another name, or one that is defined
+other_name : (s t : ObjectSymbol) (index : ℕ) (name : List ℕ) → 1 ≡ index → slice_get (ASymbol main_symbol ∷ ASymbol s ∷ []) index ≡ Some (ASymbol t) → t.name ≡ name → s.name ≡ name
+other_name s t index name is at named = sym (ap (λ (x : ObjectSymbol). x.name) (same_symbol main_symbol s t index is at)) ∙ named
+
+last_letter : (n : ℕ) (first second : List ℕ) → first ≡ second → slice_index first n ≡ slice_index second n
+last_letter n first second is = ap (λ (text : List ℕ). slice_index text n) is
+
+pub near_has_instructions : NearHasInstructions
+unfolding main_symbol
+near_has_instructions = record {
+  instructions = λ x. differ 0x15 0x25 (sym (last_letter 1 jump_code _ (begins jump_code x.front _ x.instructions x.here))) (omega arith);
+  here = λ x. differ 0x90 0xFF (last_letter 0 (0x90 ∷ call_code) _ (begins (0x90 ∷ call_code) x.front _ x.instructions x.here)) (omega arith);
+  relocated = λ x. none_there _ x.before x.behind x.relocated;
+  relocated_type = λ x. differ 4 5 (sym (kind_is (field 2 1 5) (field 2 x.index amd64_rel32) (of_one _ _ x.before x.behind x.relocated))) (omega arith);
+  relocated_offset = λ x. differ 1 2 (offset_is (field 1 1 amd64_rel32) (field 2 x.index amd64_rel32) (of_one _ _ x.before x.behind x.relocated)) (omega arith);
+  aside_before = λ x. elim (of_two (field 0 1 11) (field 2 1 amd64_rel32) (field 2 x.index amd64_rel32) x.before x.behind x.relocated) [
+    | inl first ↦ differ 0 2 (offset_is (field 0 1 11) (field 2 x.index amd64_rel32) first.0) (omega arith)
+    | inr second ↦ over_it (subst (AllByRecursion (IsAside AMD64 0 6)) second.0 x.aside_before).0
+  ];
+  aside_behind = λ x. elim (of_two (field 2 1 amd64_rel32) (field 0 1 11) (field 2 x.index amd64_rel32) x.before x.behind x.relocated) [
+    | inl first ↦ over_it (subst (AllByRecursion (IsAside AMD64 0 6)) first.1 x.aside_behind).0
+    | inr second ↦ differ 0 2 (offset_is (field 0 1 11) (field 2 x.index amd64_rel32) second.1) (omega arith)
+  ];
+  target = λ x.
+      let is : 2 ≡ x.index = symbol_is (field 2 2 amd64_rel32) (field 2 x.index amd64_rel32) (of_one _ _ x.before x.behind x.relocated) in
+      let none : None ≡ Some (ASymbol x.symbol) = subst (λ n. slice_get (ASymbol main_symbol ∷ ASymbol (left imp_f) ∷ []) n ≡ Some (ASymbol x.symbol)) (sym is) x.target in
+      cc;
+  undefined = λ x.
+      let is : 1 ≡ x.index = symbol_is (field 2 1 amd64_rel32) (field 2 x.index amd64_rel32) (of_one _ _ x.before x.behind x.relocated) in
+      let same : x.symbol ≡ symbol_of_class imp_f 1 class_external = same_symbol main_symbol (symbol_of_class imp_f 1 class_external) x.symbol x.index is x.target in
+      true≢false (sym x.undefined ∙ ap is_undefined_external same);
+  named = λ x.
+      let is : 1 ≡ x.index = symbol_is (field 2 1 amd64_rel32) (field 2 x.index amd64_rel32) (of_one _ _ x.before x.behind x.relocated) in
+      differ 102 103 (sym (last_letter 6 (codes "__imp_g") imp_f (other_name (left (codes "__imp_g")) x.symbol x.index imp_f is x.target x.named))) (omega arith);
+}
+
+pub near_has_direct_call : NearHasDirectCall
+unfolding main_symbol
+near_has_direct_call = record {
+  instructions = λ x. differ 0xE8 0xFF (sym (last_letter 0 call_code _ (begins call_code x.front _ x.instructions x.here))) (omega arith);
+  relocated = λ x. differ 1 2 (sym (offset_is (field 2 1 amd64_rel32) (field 1 x.index amd64_rel32) (of_one _ _ x.before x.behind x.relocated))) (omega arith);
+  named = λ x.
+      let is : 1 ≡ x.index = symbol_is (field 1 1 amd64_rel32) (field 1 x.index amd64_rel32) (of_one _ _ x.before x.behind x.relocated) in
+      differ 102 103 (sym (last_letter 0 (codes "g") (codes "f") (other_name (left (codes "g")) x.symbol x.index (codes "f") is x.target x.named))) (omega arith);
+}
+
+pub near_has_load : NearHasLoad
+unfolding main_symbol
+near_has_load = record {
+  instructions = λ x. differ 0x48 0xFF (sym (last_letter 0 call_code _ (begins call_code x.front _ x.instructions x.here))) (omega arith);
+  relocated = λ x. differ 2 3 (offset_is (field 2 1 amd64_rel32) (field 3 x.index amd64_rel32) (of_one _ _ x.before x.behind x.relocated)) (omega arith);
+  named = λ x.
+      let is : 1 ≡ x.index = symbol_is (field 3 1 amd64_rel32) (field 3 x.index amd64_rel32) (of_one _ _ x.before x.behind x.relocated) in
+      differ 102 103 (sym (last_letter 6 (codes "__imp_g") imp_f (other_name (left (codes "__imp_g")) x.symbol x.index imp_f is x.target x.named))) (omega arith);
+}
+
+pub near_has_page : NearHasPage
+unfolding main_symbol u32_bytes
+near_has_page = record {
+  instructions = λ x. differ 8 9 (sym (last_letter 0 page_code _ (begins page_code x.front _ x.instructions x.here))) (omega arith);
+  relocated = λ x. differ 4 7 (sym (kind_is (field 0 1 7) (field 0 x.index arm64_pagebase_rel21) (of_one _ _ x.before x.behind x.relocated))) (omega arith);
+  named = λ x.
+      let is : 1 ≡ x.index = symbol_is (field 0 1 arm64_pagebase_rel21) (field 0 x.index arm64_pagebase_rel21) (of_one _ _ x.before x.behind x.relocated) in
+      differ 102 103 (sym (last_letter 6 (codes "__imp_g") imp_f (other_name (left (codes "__imp_g")) x.symbol x.index imp_f is x.target x.named))) (omega arith);
+}
+
+abbrev pub entry_named : List ℕ → Entry → Bool
+entry_named name (Auxiliary bytes) = false
+entry_named name (ASymbol s) = bytes_eq s.name name
+
+pub near_defines : NearDefines
+near_defines = record {
+  held = λ x. none_passes (entry_named (codes "f")) (ASymbol (symbol_of_class (codes "f") 1 class_external)) (ASymbol (symbol_of_class (codes "main") 1 class_external) ∷ ASymbol (left imp_f) ∷ []) refl x.held refl;
+  external = λ x. true≢false (sym x.external);
+  here = λ x. differ 1 2 (sym x.here) (omega arith);
+}
+
+-- What arrives.
+
+-- a byte is missing
+pub missing : (memory : List Range) (bytes : List ℕ) (a b : ℕ) → BytesAt memory a bytes → a ≤ b → b < a + length bytes → byte_at memory b ≡ None → ⊥
+missing memory bytes a b located from to none =
+    let byte = byte_within memory bytes a b located from to in
+    let is : None ≡ Some byte.0 = sym none ∙ byte.1 in
+    cc
+
+-- at the byte after the entry is another one
+pub beside_entry : (memory : List Range) (entry : ℕ) → entry ≡ 0x81 → byte_at memory 0x81 ≡ Some 0 → BytesAt memory entry open_address → ⊥
+unfolding BytesAt
+beside_entry memory entry is there located =
+    let at : BytesAt memory 0x81 open_address = subst (λ e. BytesAt memory e open_address) is located in
+    differ 0 0x40 (value 0 0x40 (sym there ∙ at.0)) (omega arith)
+
+-- where the call at 0x1026 leads
+stub_at : (memory : List Range) (instruction : List ℕ) (stub : ℕ) → BytesAt memory 0x1026 instruction → BytesAt memory 0x1026 (0xE8 ∷ 0x15 ∷ 0 ∷ 0 ∷ 0 ∷ []) → length instruction ≡ 5 →
+    direct_leads AMD64 0x1_4000_1026 instruction ≡ Some (0x1_4000_0000 + stub) → stub ≡ 0x1040
+stub_at memory instruction stub here there whole leads =
+    let same : instruction ≡ 0xE8 ∷ 0x15 ∷ 0 ∷ 0 ∷ 0 ∷ [] = same_bytes memory instruction (0xE8 ∷ 0x15 ∷ 0 ∷ 0 ∷ 0 ∷ []) 0x1026 here there whole in
+    entry_is 0x1_4000_0000 stub 0x1040 (sym (ap (direct_leads AMD64 0x1_4000_1026) same) ∙ leads)
+
+pub near_call_arrives : NearCallArrives
+near_call_arrives = record {
+  here = λ x.
+      let code : List ℕ = 0xFF ∷ 0x25 ∷ 0x6F ∷ 0xF0 ∷ 0xFF ∷ 0xFF ∷ [] in
+      let memory : List Range = two_ranges 0x100B (0xFF ∷ 0x25 ∷ 0x6F ∷ 0xF0 ∷ 0xFF ∷ 0xFF ∷ []) open_address in
+      let same : x.instructions ≡ code = same_bytes memory x.instructions code 0x100B x.here (are_located memory code 0x100B refl) x.whole in
+      let none : None ≡ Some (0x1_4000_0000 + x.entry) = sym (ap (call_reads AMD64 0x1_4000_100B) same) ∙ x.reads in
+      cc;
+  whole = λ x.
+      let long : length x.instructions ≡ 6 = x.whole in
+      missing (record { start = 0x100B; bytes = 0xFF ∷ 0x15 ∷ [] } ∷ record { start = 0x1011; bytes = open_address } ∷ []) x.instructions 0x100B 0x100D x.here (omega arith) (omega arith) refl;
+  reads = λ x.
+      let code : List ℕ = 0xFF ∷ 0x15 ∷ 0x70 ∷ 0xF0 ∷ 0xFF ∷ 0xFF ∷ [] in
+      let memory : List Range = two_ranges 0x100B (0xFF ∷ 0x15 ∷ 0x70 ∷ 0xF0 ∷ 0xFF ∷ 0xFF ∷ []) open_address in
+      let same : x.instructions ≡ code = same_bytes memory x.instructions code 0x100B x.here (are_located memory code 0x100B refl) x.whole in
+      beside_entry memory x.entry (entry_is 0x1_4000_0000 x.entry 0x81 (sym (ap (call_reads AMD64 0x1_4000_100B) same) ∙ x.reads)) refl x.located;
+}
+
+pub near_stub_arrives : NearStubArrives
+near_stub_arrives = record {
+  there = λ x.
+      let code : List ℕ = 0xFF ∷ 0x15 ∷ 0x3A ∷ 0xF0 ∷ 0xFF ∷ 0xFF ∷ 0x90 ∷ 0x90 ∷ [] in
+      let memory : List Range = two_ranges 0x1040 (0xFF ∷ 0x15 ∷ 0x3A ∷ 0xF0 ∷ 0xFF ∷ 0xFF ∷ 0x90 ∷ 0x90 ∷ []) open_address in
+      let same : x.code ≡ code = same_bytes memory x.code code 0x1040 x.there (are_located memory code 0x1040 refl) x.whole in
+      let none : None ≡ Some (0x1_4000_0000 + x.entry) = sym (ap (jump_reads AMD64 0x1_4000_1040) same) ∙ x.reads in
+      cc;
+  whole = λ x.
+      let long : length x.code ≡ 8 = x.whole in
+      missing (record { start = 0x1040; bytes = 0xFF ∷ 0x25 ∷ [] } ∷ record { start = 0x1046; bytes = open_address } ∷ []) x.code 0x1040 0x1042 x.there (omega arith) (omega arith) refl;
+  reads = λ x.
+      let code : List ℕ = 0xFF ∷ 0x25 ∷ 0x3B ∷ 0xF0 ∷ 0xFF ∷ 0xFF ∷ 0x90 ∷ 0x90 ∷ [] in
+      let memory : List Range = two_ranges 0x1040 (0xFF ∷ 0x25 ∷ 0x3B ∷ 0xF0 ∷ 0xFF ∷ 0xFF ∷ 0x90 ∷ 0x90 ∷ []) open_address in
+      let same : x.code ≡ code = same_bytes memory x.code code 0x1040 x.there (are_located memory code 0x1040 refl) x.whole in
+      beside_entry memory x.entry (entry_is 0x1_4000_0000 x.entry 0x81 (sym (ap (jump_reads AMD64 0x1_4000_1040) same) ∙ x.reads)) refl x.located;
+}
+
+pub near_load_arrives : NearLoadArrives
+near_load_arrives = record {
+  here = λ x.
+      let code : List ℕ = 0x48 ∷ 0x8B ∷ 0x0D ∷ 0x5A ∷ 0xF0 ∷ 0xFF ∷ 0xFF ∷ [] in
+      let memory : List Range = two_ranges 0x101F (0x48 ∷ 0x8B ∷ 0x0D ∷ 0x5A ∷ 0xF0 ∷ 0xFF ∷ 0xFF ∷ []) open_address in
+      let same : x.instructions ≡ code = same_bytes memory x.instructions code 0x101F x.here (are_located memory code 0x101F refl) x.whole in
+      let none : None ≡ Some (0x1_4000_0000 + x.entry) = sym (ap (load_reads AMD64 0x1_4000_101F) same) ∙ x.reads in
+      cc;
+  whole = λ x.
+      let long : length x.instructions ≡ 7 = x.whole in
+      missing (record { start = 0x101F; bytes = 0x48 ∷ 0x8B ∷ 5 ∷ [] } ∷ record { start = 0x1026; bytes = open_address } ∷ []) x.instructions 0x101F 0x1022 x.here (omega arith) (omega arith) refl;
+  reads = λ x.
+      let code : List ℕ = 0x48 ∷ 0x8B ∷ 5 ∷ 0x5B ∷ 0xF0 ∷ 0xFF ∷ 0xFF ∷ [] in
+      let memory : List Range = two_ranges 0x101F (0x48 ∷ 0x8B ∷ 5 ∷ 0x5B ∷ 0xF0 ∷ 0xFF ∷ 0xFF ∷ []) open_address in
+      let same : x.instructions ≡ code = same_bytes memory x.instructions code 0x101F x.here (are_located memory code 0x101F refl) x.whole in
+      beside_entry memory x.entry (entry_is 0x1_4000_0000 x.entry 0x81 (sym (ap (load_reads AMD64 0x1_4000_101F) same) ∙ x.reads)) refl x.located;
+}
+
+pub near_direct_call_arrives : NearDirectCallArrives
+near_direct_call_arrives = record {
+  here = λ x.
+      let instruction : List ℕ = 0xE9 ∷ 0x15 ∷ 0 ∷ 0 ∷ 0 ∷ [] in
+      let memory : List Range = record { start = 0x1026; bytes = 0xE9 ∷ 0x15 ∷ 0 ∷ 0 ∷ 0 ∷ [] } ∷ two_ranges 0x1040 (0xFF ∷ 0x25 ∷ 0x3A ∷ 0xF0 ∷ 0xFF ∷ 0xFF ∷ 0x90 ∷ 0x90 ∷ []) open_address in
+      let same : x.instruction ≡ instruction = same_bytes memory x.instruction instruction 0x1026 x.here (are_located memory instruction 0x1026 refl) x.whole in
+      let none : None ≡ Some (0x1_4000_0000 + x.stub) = sym (ap (direct_leads AMD64 0x1_4000_1026) same) ∙ x.leads in
+      cc;
+  whole = λ x.
+      let long : length x.instruction ≡ 5 = x.whole in
+      missing (record { start = 0x1026; bytes = 0xE8 ∷ [] } ∷ two_ranges 0x102B (0xFF ∷ 0x25 ∷ 0x4F ∷ 0xF0 ∷ 0xFF ∷ 0xFF ∷ 0x90 ∷ 0x90 ∷ []) open_address) x.instruction 0x1026 0x1027 x.here
+      (omega arith) (omega arith) refl;
+  leads = λ x.
+      let instruction : List ℕ = 0xE8 ∷ 0x19 ∷ 0 ∷ 0 ∷ 0 ∷ [] in
+      let memory : List Range = record { start = 0x1026; bytes = 0xE8 ∷ 0x19 ∷ 0 ∷ 0 ∷ 0 ∷ [] } ∷ two_ranges 0x1040 (0xFF ∷ 0x25 ∷ 0x3A ∷ 0xF0 ∷ 0xFF ∷ 0xFF ∷ 0x90 ∷ 0x90 ∷ []) open_address in
+      let same : x.instruction ≡ instruction = same_bytes memory x.instruction instruction 0x1026 x.here (are_located memory instruction 0x1026 refl) x.whole in
+      let at : x.stub ≡ 0x1044 = entry_is 0x1_4000_0000 x.stub 0x1044 (sym (ap (direct_leads AMD64 0x1_4000_1026) same) ∙ x.leads) in
+      let long : length x.code ≡ 8 = x.whole_stub in
+      missing memory x.code 0x1044 0x1048 (subst (λ a. BytesAt memory a x.code) at x.there) (omega arith) (omega arith) refl;
+  there = λ x.
+      let code : List ℕ = 0xFF ∷ 0x15 ∷ 0x3A ∷ 0xF0 ∷ 0xFF ∷ 0xFF ∷ 0x90 ∷ 0x90 ∷ [] in
+      let memory : List Range = record { start = 0x1026; bytes = 0xE8 ∷ 0x15 ∷ 0 ∷ 0 ∷ 0 ∷ [] } ∷ two_ranges 0x1040 (0xFF ∷ 0x15 ∷ 0x3A ∷ 0xF0 ∷ 0xFF ∷ 0xFF ∷ 0x90 ∷ 0x90 ∷ []) open_address in
+      let at : x.stub ≡ 0x1040 = stub_at memory x.instruction x.stub x.here (are_located memory (0xE8 ∷ 0x15 ∷ 0 ∷ 0 ∷ 0 ∷ []) 0x1026 refl) x.whole x.leads in
+      let same : x.code ≡ code = same_bytes memory x.code code 0x1040 (subst (λ a. BytesAt memory a x.code) at x.there) (are_located memory code 0x1040 refl) x.whole_stub in
+      let none : None ≡ Some (0x1_4000_0000 + x.entry) = sym (ap (λ a. jump_reads AMD64 (0x1_4000_0000 + a) code) at) ∙ sym (ap (jump_reads AMD64 (0x1_4000_0000 + x.stub)) same) ∙ x.reads in
+      cc;
+  whole_stub = λ x.
+      let memory : List Range = record { start = 0x1026; bytes = 0xE8 ∷ 0x15 ∷ 0 ∷ 0 ∷ 0 ∷ [] } ∷ record { start = 0x1040; bytes = 0xFF ∷ 0x25 ∷ [] } ∷ record { start = 0x1046; bytes = open_address } ∷ [] in
+      let at : x.stub ≡ 0x1040 = stub_at memory x.instruction x.stub x.here (are_located memory (0xE8 ∷ 0x15 ∷ 0 ∷ 0 ∷ 0 ∷ []) 0x1026 refl) x.whole x.leads in
+      let long : length x.code ≡ 8 = x.whole_stub in
+      missing memory x.code 0x1040 0x1042 (subst (λ a. BytesAt memory a x.code) at x.there) (omega arith) (omega arith) refl;
+  reads = λ x.
+      let code : List ℕ = 0xFF ∷ 0x25 ∷ 0x3B ∷ 0xF0 ∷ 0xFF ∷ 0xFF ∷ 0x90 ∷ 0x90 ∷ [] in
+      let memory : List Range = record { start = 0x1026; bytes = 0xE8 ∷ 0x15 ∷ 0 ∷ 0 ∷ 0 ∷ [] } ∷ two_ranges 0x1040 (0xFF ∷ 0x25 ∷ 0x3B ∷ 0xF0 ∷ 0xFF ∷ 0xFF ∷ 0x90 ∷ 0x90 ∷ []) open_address in
+      let at : x.stub ≡ 0x1040 = stub_at memory x.instruction x.stub x.here (are_located memory (0xE8 ∷ 0x15 ∷ 0 ∷ 0 ∷ 0 ∷ []) 0x1026 refl) x.whole x.leads in
+      let same : x.code ≡ code = same_bytes memory x.code code 0x1040 (subst (λ a. BytesAt memory a x.code) at x.there) (are_located memory code 0x1040 refl) x.whole_stub in
+      let read : jump_reads AMD64 0x1_4000_1040 code ≡ Some (0x1_4000_0000 + x.entry) =
+      sym (ap (λ a. jump_reads AMD64 (0x1_4000_0000 + a) code) at) ∙ sym (ap (jump_reads AMD64 (0x1_4000_0000 + x.stub)) same) ∙ x.reads in
+      beside_entry memory x.entry (entry_is 0x1_4000_0000 x.entry 0x81 read) refl x.located;
+}

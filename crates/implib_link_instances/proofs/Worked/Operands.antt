@@ -1,0 +1,749 @@
+-- Code as compilers write it, by computing and by the laws.
+use Rattle.std.proofs.Common.{◌≡◌, ℕ, ◌+◌, ◌^◌, ◌<◌, ◌≤◌, ◌⊎◌, true, List, [], ◌∷◌, codes, refl, ap, inl, inr, arith}
+use Rattle.std.specs.Prelude.{Bool, drop, nat_le, take, ◌&&◌}
+use Rattle.std.specs.List.{AllByRecursion}
+use Rattle.std.proofs.lemmas.Bool.{and_parts, leb-true}
+use Rattle.implib.specs.declared.coff.object.Relocation.{Relocation}
+use Rattle.implib.specs.declared.machine.MachineType.TheVariants.{I386, AMD64, ARM64}
+use Rattle.implib.specs.Formats.Constants.{amd64_rel32, arm64_pagebase_rel21, arm64_pageoffset_12l, class_external, i386_dir32}
+use Rattle.implib.specs.Formats.Bytes.{u32_bytes}
+use Rattle.implib.specs.Link.Image.{Range}
+use Rattle.implib.specs.Members.GnuMembers.{alias_specs}
+use Rattle.implib.specs.Members.Members.{refusal, renamed_refusal}
+use Rattle.implib.specs.Members.WeakExternal.{weak_object}
+use Rattle.implib.specs.Formats.Layout.{encoded_size}
+use Rattle.implib.proofs.Link.Ranges.{apart_as_they_rise, ends_below}
+use Rattle.implib_link.specs.Gnu.Calls.{HasCall, HasDirectCall, amd64_addr64, arm64_addr64, arm64_branch26, field_width, i386_rel32}
+use Rattle.implib_link.specs.Gnu.Fields.{AreLinkedBeside, placed_code}
+use Rattle.implib_link.specs.Gnu.Moves.{AreInMemory, AreMoved, CanBeMoved, places_of_code}
+use Rattle.implib_link.specs.Gnu.Operands.{HasBranch, HasInstruction, HasOffsetField, HasOperand, HasPageField, HasPointer, IsOperand, Names}
+use Rattle.implib_link.specs.Gnu.Pages.{HasPage, HasPageOffset}
+use Rattle.implib_link.specs.Gnu.Program.{IsProgram, has_tables, linked_symbols}
+use Rattle.implib_link.specs.Gnu.Choices.{ArePlacesApart}
+use Rattle.implib_link.specs.Gnu.Rebased.{IsRebased, Place, covers, table_places}
+use Rattle.implib_link_instances.specs.Worked.Operands.{AdjacentCalls, MovableCode, PassingFields, WorkedFields, WorkedOperands, amd64_rel32_1, field, imp_open, arm64_pageoffset_12a, arm64_secrel, moved_memory, open_on, passing, passing_at, passing_bytes, passing_codes, passing_image, passing_memory, passing_objects, passing_placed, passing_places, passing_targets, stub_of_open, x86_secrel}
+use Rattle.implib_link_instances.specs.Worked.Calls.{given_on}
+use Rattle.implib_link_instances.specs.Worked.Programs.{another, both_inputs, foo_input, symbol_of_class, touching_4, touching_8}
+use Rattle.implib_link.proofs.Gnu.Moved.{covered_bounds}
+use Rattle.implib_link.proofs.Gnu.MovedPrograms.{moved_memory_exists}
+use Rattle.implib_link.proofs.Gnu.Operands.{operand_width}
+use Rattle.implib_link.proofs.Gnu.Steady.{program_tables_none}
+use Rattle.implib_link.proofs.ProgramsInMemory.{branches_in_memory, ends_in_memory, kept_in_memory, leads_in_memory, stays_in_memory, stubs_in_memory}
+use Rattle.implib_link_instances.proofs.Worked.Calls.{open_export, wide}
+use Rattle.implib_link_instances.proofs.Worked.LinkedCode.{all_needed, only_absolute, rebased_by, relocated_by, relocated_test, takes_by}
+use Rattle.implib_link_instances.proofs.Worked.Programs.{claims_none_by, distinct_by, opened, worked_programs}
+use Rattle.implib_link_instances.proofs.Worked.RefusedLinks.{differ, number}
+
+amd64_program : IsProgram AMD64 touching_8 (both_inputs AMD64) (passing_objects AMD64)
+unfolding opened refusal renamed_refusal alias_specs encoded_size weak_object has_tables relocated_test
+amd64_program = record {
+  distinct = distinct_by (linked_symbols AMD64 (both_inputs AMD64)) refl;
+  tables = refl;
+  others = (claims_none_by (linked_symbols AMD64 (both_inputs AMD64)) (passing AMD64) refl, (claims_none_by (linked_symbols AMD64 (both_inputs AMD64)) (another AMD64) refl, tt));
+  admissible = record {
+    descriptors = (omega arith, refl);
+    directory_ends = (omega arith, refl);
+    lookups = (omega arith, refl);
+    addresses = (omega arith, refl);
+    hint_names = (omega arith, refl);
+    dll_names = (omega arith, refl);
+    ends = ends_below (2 ^ 31) (passing_image AMD64 touching_8) refl;
+    apart = apart_as_they_rise (2 ^ 31) (passing_image AMD64 touching_8) refl;
+  };
+}
+
+amd64_beside : AreLinkedBeside AMD64 0x1_4000_0000 (passing_image AMD64 touching_8) (passing_placed AMD64 touching_8) (passing_codes AMD64 touching_8) (passing_targets AMD64 touching_8)
+unfolding opened refusal renamed_refusal alias_specs encoded_size weak_object has_tables relocated_test
+amd64_beside = record {
+  held = ((0, omega arith, refl), ((3, omega arith, refl), tt));
+  sections = (refl, (refl, tt));
+  ends = (omega arith, (omega arith, tt));
+  apart = apart_as_they_rise (2 ^ 31) (passing_memory AMD64 touching_8) refl;
+  relocated = (
+    relocated_by AMD64 0x1_4000_0000 (passing_targets AMD64 touching_8 (passing_at AMD64)) 0x1000 (passing_at AMD64).code (passing_at AMD64).bytes refl,
+    (relocated_by AMD64 0x1_4000_0000 (passing_targets AMD64 touching_8 (stub_of_open AMD64 touching_8)) 0x1040 (stub_of_open AMD64 touching_8).code (stub_of_open AMD64 touching_8).bytes refl, tt),
+  );
+  resolved = takes_by AMD64 (passing_placed AMD64 touching_8) (passing_codes AMD64 touching_8) refl refl;
+}
+
+i386_program : IsProgram I386 touching_4 (both_inputs I386) (passing_objects I386)
+unfolding opened refusal renamed_refusal alias_specs encoded_size weak_object has_tables relocated_test
+i386_program = record {
+  distinct = distinct_by (linked_symbols I386 (both_inputs I386)) refl;
+  tables = refl;
+  others = (claims_none_by (linked_symbols I386 (both_inputs I386)) (passing I386) refl, (claims_none_by (linked_symbols I386 (both_inputs I386)) (another I386) refl, tt));
+  admissible = record {
+    descriptors = (omega arith, refl);
+    directory_ends = (omega arith, refl);
+    lookups = (omega arith, refl);
+    addresses = (omega arith, refl);
+    hint_names = (omega arith, refl);
+    dll_names = (omega arith, refl);
+    ends = ends_below (2 ^ 31) (passing_image I386 touching_4) refl;
+    apart = apart_as_they_rise (2 ^ 31) (passing_image I386 touching_4) refl;
+  };
+}
+
+i386_beside : AreLinkedBeside I386 0x40_0000 (passing_image I386 touching_4) (passing_placed I386 touching_4) (passing_codes I386 touching_4) (passing_targets I386 touching_4)
+unfolding opened refusal renamed_refusal alias_specs encoded_size weak_object has_tables relocated_test
+i386_beside = record {
+  held = ((0, omega arith, refl), ((3, omega arith, refl), tt));
+  sections = (refl, (refl, tt));
+  ends = (omega arith, (omega arith, tt));
+  apart = apart_as_they_rise (2 ^ 31) (passing_memory I386 touching_4) refl;
+  relocated = (
+    relocated_by I386 0x40_0000 (passing_targets I386 touching_4 (passing_at I386)) 0x1000 (passing_at I386).code (passing_at I386).bytes refl,
+    (relocated_by I386 0x40_0000 (passing_targets I386 touching_4 (stub_of_open I386 touching_4)) 0x1040 (stub_of_open I386 touching_4).code (stub_of_open I386 touching_4).bytes refl, tt),
+  );
+  resolved = takes_by I386 (passing_placed I386 touching_4) (passing_codes I386 touching_4) refl refl;
+}
+
+arm64_program : IsProgram ARM64 touching_8 (both_inputs ARM64) (passing_objects ARM64)
+unfolding opened refusal renamed_refusal alias_specs encoded_size weak_object has_tables relocated_test
+arm64_program = record {
+  distinct = distinct_by (linked_symbols ARM64 (both_inputs ARM64)) refl;
+  tables = refl;
+  others = (claims_none_by (linked_symbols ARM64 (both_inputs ARM64)) (passing ARM64) refl, (claims_none_by (linked_symbols ARM64 (both_inputs ARM64)) (another ARM64) refl, tt));
+  admissible = record {
+    descriptors = (omega arith, refl);
+    directory_ends = (omega arith, refl);
+    lookups = (omega arith, refl);
+    addresses = (omega arith, refl);
+    hint_names = (omega arith, refl);
+    dll_names = (omega arith, refl);
+    ends = ends_below (2 ^ 31) (passing_image ARM64 touching_8) refl;
+    apart = apart_as_they_rise (2 ^ 31) (passing_image ARM64 touching_8) refl;
+  };
+}
+
+arm64_beside : AreLinkedBeside ARM64 0x1_4000_0000 (passing_image ARM64 touching_8) (passing_placed ARM64 touching_8) (passing_codes ARM64 touching_8) (passing_targets ARM64 touching_8)
+unfolding opened refusal renamed_refusal alias_specs encoded_size weak_object has_tables relocated_test
+arm64_beside = record {
+  held = ((0, omega arith, refl), ((3, omega arith, refl), tt));
+  sections = (refl, (refl, tt));
+  ends = (omega arith, (omega arith, tt));
+  apart = apart_as_they_rise (2 ^ 31) (passing_memory ARM64 touching_8) refl;
+  relocated = (
+    relocated_by ARM64 0x1_4000_0000 (passing_targets ARM64 touching_8 (passing_at ARM64)) 0x1000 (passing_at ARM64).code (passing_at ARM64).bytes refl,
+    (relocated_by ARM64 0x1_4000_0000 (passing_targets ARM64 touching_8 (stub_of_open ARM64 touching_8)) 0x1040 (stub_of_open ARM64 touching_8).code (stub_of_open ARM64 touching_8).bytes refl, tt),
+  );
+  resolved = takes_by ARM64 (passing_placed ARM64 touching_8) (passing_codes ARM64 touching_8) refl refl;
+}
+
+-- Moved: base relocations where the code stores addresses whole.
+
+amd64_fronts : List Range
+amd64_fronts = record { start = 0x1034; bytes = 0x80 ∷ 0 ∷ 0x34 ∷ 0x12 ∷ 0xF6 ∷ 0x7F ∷ 0 ∷ 0 ∷ [] } ∷ []
+
+amd64_rebased : IsRebased 0x1_4000_0000 0x7FF6_1234_0000 (passing_places AMD64) (passing_memory AMD64 touching_8) (moved_memory AMD64 touching_8)
+unfolding opened refusal renamed_refusal alias_specs encoded_size weak_object has_tables relocated_test amd64_fronts
+amd64_rebased =
+    rebased_by 0x1_4000_0000 0x7FF6_1234_0000 amd64_fronts (passing_memory AMD64 touching_8) (apart_as_they_rise (2 ^ 31) amd64_fronts refl)
+    ((0x1_4000_0080, (number (passing_memory AMD64 touching_8) 8 0x1034 0x1_4000_0080 (0x80 ∷ 0 ∷ 0 ∷ 0x40 ∷ 1 ∷ 0 ∷ 0 ∷ 0 ∷ []) refl refl refl, refl)), tt)
+
+amd64_moved : AreMoved AMD64 0x1_4000_0000 0x7FF6_1234_0000 (passing_image AMD64 touching_8) (passing_placed AMD64 touching_8) (passing_codes AMD64 touching_8) (passing_targets AMD64 touching_8) (passing_places AMD64) (moved_memory AMD64 touching_8)
+unfolding opened refusal renamed_refusal alias_specs encoded_size weak_object has_tables relocated_test
+amd64_moved = record {
+  beside = amd64_beside;
+  within = ((omega arith, tt), (tt, tt));
+  needed = λ c r width address entry held m is symbol placed. all_needed AMD64 (passing_codes AMD64 touching_8) c r width held m is;
+  only = λ a byte is covered. only_absolute a (table_places AMD64 (passing_placed AMD64 touching_8)) (passing_places AMD64) covered;
+  rebased = amd64_rebased;
+}
+
+i386_fronts : List Range
+i386_fronts = record { start = 0x1005; bytes = 0x10 ∷ 0x20 ∷ 0 ∷ 0x10 ∷ [] } ∷ record { start = 0x100B; bytes = 0x60 ∷ 0 ∷ 0 ∷ 0x10 ∷ [] } ∷ record { start = 0x1011; bytes = 0x60 ∷ 0 ∷ 0 ∷ 0x10 ∷ [] } ∷ record { start = 0x1018; bytes = 0x60 ∷ 0 ∷ 0 ∷ 0x10 ∷ [] } ∷ record { start = 0x101C; bytes = 0x60 ∷ 0 ∷ 0 ∷ 0x10 ∷ [] } ∷ record { start = 0x1042; bytes = 0x60 ∷ 0 ∷ 0 ∷ 0x10 ∷ [] } ∷ []
+
+i386_rebased : IsRebased 0x40_0000 0x1000_0000 (passing_places I386) (passing_memory I386 touching_4) (moved_memory I386 touching_4)
+unfolding opened refusal renamed_refusal alias_specs encoded_size weak_object has_tables relocated_test i386_fronts
+i386_rebased =
+    rebased_by 0x40_0000 0x1000_0000 i386_fronts (passing_memory I386 touching_4) (apart_as_they_rise (2 ^ 31) i386_fronts refl)
+    ((0x40_2010, (number (passing_memory I386 touching_4) 4 0x1005 0x40_2010 (0x10 ∷ 0x20 ∷ 0x40 ∷ 0 ∷ []) refl refl refl, refl)), ((0x40_0060, (number (passing_memory I386 touching_4) 4 0x100B 0x40_0060 (0x60 ∷ 0 ∷ 0x40 ∷ 0 ∷ []) refl refl refl, refl)), ((0x40_0060, (number (passing_memory I386 touching_4) 4 0x1011 0x40_0060 (0x60 ∷ 0 ∷ 0x40 ∷ 0 ∷ []) refl refl refl, refl)), ((0x40_0060, (number (passing_memory I386 touching_4) 4 0x1018 0x40_0060 (0x60 ∷ 0 ∷ 0x40 ∷ 0 ∷ []) refl refl refl, refl)), ((0x40_0060, (number (passing_memory I386 touching_4) 4 0x101C 0x40_0060 (0x60 ∷ 0 ∷ 0x40 ∷ 0 ∷ []) refl refl refl, refl)), ((0x40_0060, (number (passing_memory I386 touching_4) 4 0x1042 0x40_0060 (0x60 ∷ 0 ∷ 0x40 ∷ 0 ∷ []) refl refl refl, refl)), tt))))))
+
+i386_moved : AreMoved I386 0x40_0000 0x1000_0000 (passing_image I386 touching_4) (passing_placed I386 touching_4) (passing_codes I386 touching_4) (passing_targets I386 touching_4) (passing_places I386) (moved_memory I386 touching_4)
+unfolding opened refusal renamed_refusal alias_specs encoded_size weak_object has_tables relocated_test
+i386_moved = record {
+  beside = i386_beside;
+  within = ((omega arith, (omega arith, (omega arith, (omega arith, (omega arith, tt))))), ((omega arith, tt), tt));
+  needed = λ c r width address entry held m is symbol placed. all_needed I386 (passing_codes I386 touching_4) c r width held m is;
+  only = λ a byte is covered. only_absolute a (table_places I386 (passing_placed I386 touching_4)) (passing_places I386) covered;
+  rebased = i386_rebased;
+}
+
+arm64_fronts : List Range
+arm64_fronts = record { start = 0x1020; bytes = 0x80 ∷ 0 ∷ 0 ∷ 0x40 ∷ 0 ∷ 0 ∷ 0 ∷ 0 ∷ [] } ∷ []
+
+arm64_rebased : IsRebased 0x1_4000_0000 0x4000_0000 (passing_places ARM64) (passing_memory ARM64 touching_8) (moved_memory ARM64 touching_8)
+unfolding opened refusal renamed_refusal alias_specs encoded_size weak_object has_tables relocated_test arm64_fronts
+arm64_rebased =
+    rebased_by 0x1_4000_0000 0x4000_0000 arm64_fronts (passing_memory ARM64 touching_8) (apart_as_they_rise (2 ^ 31) arm64_fronts refl)
+    ((0x1_4000_0080, (number (passing_memory ARM64 touching_8) 8 0x1020 0x1_4000_0080 (0x80 ∷ 0 ∷ 0 ∷ 0x40 ∷ 1 ∷ 0 ∷ 0 ∷ 0 ∷ []) refl refl refl, refl)), tt)
+
+arm64_moved : AreMoved ARM64 0x1_4000_0000 0x4000_0000 (passing_image ARM64 touching_8) (passing_placed ARM64 touching_8) (passing_codes ARM64 touching_8) (passing_targets ARM64 touching_8) (passing_places ARM64) (moved_memory ARM64 touching_8)
+unfolding opened refusal renamed_refusal alias_specs encoded_size weak_object has_tables relocated_test
+arm64_moved = record {
+  beside = arm64_beside;
+  within = ((omega arith, tt), (tt, tt));
+  needed = λ c r width address entry held m is symbol placed. all_needed ARM64 (passing_codes ARM64 touching_8) c r width held m is;
+  only = λ a byte is covered. only_absolute a (table_places ARM64 (passing_placed ARM64 touching_8)) (passing_places ARM64) covered;
+  rebased = arm64_rebased;
+}
+
+-- The fields of the code.
+
+amd64_names_1 : Names (passing_at AMD64).from 1 (imp_open AMD64)
+amd64_names_1 = record { symbol = symbol_of_class (imp_open AMD64) 0 class_external; target = refl; undefined = refl; named = refl }
+
+amd64_names_3 : Names (passing_at AMD64).from 3 (open_on AMD64)
+amd64_names_3 = record { symbol = symbol_of_class (open_on AMD64) 0 class_external; target = refl; undefined = refl; named = refl }
+
+i386_names_1 : Names (passing_at I386).from 1 (imp_open I386)
+i386_names_1 = record { symbol = symbol_of_class (imp_open I386) 0 class_external; target = refl; undefined = refl; named = refl }
+
+i386_names_3 : Names (passing_at I386).from 3 (open_on I386)
+i386_names_3 = record { symbol = symbol_of_class (open_on I386) 0 class_external; target = refl; undefined = refl; named = refl }
+
+arm64_names_1 : Names (passing_at ARM64).from 1 (imp_open ARM64)
+arm64_names_1 = record { symbol = symbol_of_class (imp_open ARM64) 0 class_external; target = refl; undefined = refl; named = refl }
+
+arm64_names_3 : Names (passing_at ARM64).from 3 (open_on ARM64)
+arm64_names_3 = record { symbol = symbol_of_class (open_on ARM64) 0 class_external; target = refl; undefined = refl; named = refl }
+
+amd64_call : HasInstruction AMD64 (passing_at AMD64) 11 (0xFF ∷ 0x15 ∷ []) ([]) (imp_open AMD64)
+amd64_call = record {
+  type = amd64_rel32;
+  symbol = 1;
+  alone = refl;
+  names = amd64_names_1;
+  field = 0 ∷ 0 ∷ 0 ∷ 0 ∷ [];
+  four = refl;
+  code = refl;
+  counts = (0, (omega arith, (refl, refl)));
+}
+
+amd64_compare : HasInstruction AMD64 (passing_at AMD64) 17 (0x83 ∷ 0x3D ∷ []) (1 ∷ []) (imp_open AMD64)
+amd64_compare = record {
+  type = amd64_rel32_1;
+  symbol = 1;
+  alone = refl;
+  names = amd64_names_1;
+  field = 0 ∷ 0 ∷ 0 ∷ 0 ∷ [];
+  four = refl;
+  code = refl;
+  counts = (1, (omega arith, (refl, refl)));
+}
+
+amd64_again : HasInstruction AMD64 (passing_at AMD64) 24 (0x83 ∷ 0x3D ∷ []) (1 ∷ []) (imp_open AMD64)
+amd64_again = record {
+  type = amd64_rel32;
+  symbol = 1;
+  alone = refl;
+  names = amd64_names_1;
+  field = 0xFF ∷ 0xFF ∷ 0xFF ∷ 0xFF ∷ [];
+  four = refl;
+  code = refl;
+  counts = (0, (omega arith, (refl, refl)));
+}
+
+amd64_move : HasInstruction AMD64 (passing_at AMD64) 31 (0x4C ∷ 0x8B ∷ 0x1D ∷ []) ([]) (imp_open AMD64)
+amd64_move = record {
+  type = amd64_rel32;
+  symbol = 1;
+  alone = refl;
+  names = amd64_names_1;
+  field = 0 ∷ 0 ∷ 0 ∷ 0 ∷ [];
+  four = refl;
+  code = refl;
+  counts = (0, (omega arith, (refl, refl)));
+}
+
+i386_call : HasInstruction I386 (passing_at I386) 9 (0xFF ∷ 0x15 ∷ []) ([]) (imp_open I386)
+i386_call = record {
+  type = i386_dir32;
+  symbol = 1;
+  alone = refl;
+  names = i386_names_1;
+  field = 0 ∷ 0 ∷ 0 ∷ 0 ∷ [];
+  four = refl;
+  code = refl;
+  counts = (refl, refl);
+}
+
+i386_compare : HasInstruction I386 (passing_at I386) 15 (0x83 ∷ 0x3D ∷ []) (1 ∷ []) (imp_open I386)
+i386_compare = record {
+  type = i386_dir32;
+  symbol = 1;
+  alone = refl;
+  names = i386_names_1;
+  field = 0 ∷ 0 ∷ 0 ∷ 0 ∷ [];
+  four = refl;
+  code = refl;
+  counts = (refl, refl);
+}
+
+i386_move : HasInstruction I386 (passing_at I386) 22 (0x8B ∷ 0x0D ∷ []) ([]) (imp_open I386)
+i386_move = record {
+  type = i386_dir32;
+  symbol = 1;
+  alone = refl;
+  names = i386_names_1;
+  field = 0 ∷ 0 ∷ 0 ∷ 0 ∷ [];
+  four = refl;
+  code = refl;
+  counts = (refl, refl);
+}
+
+amd64_operand : HasOperand AMD64 (passing_at AMD64) 19 1 (imp_open AMD64)
+amd64_operand = record {
+  type = amd64_rel32_1;
+  field = record { symbol = 1; alone = refl; inside = omega arith; names = amd64_names_1 };
+  counts = (1, (omega arith, (refl, refl)));
+  within = omega arith;
+}
+
+i386_operand : HasOperand I386 (passing_at I386) 17 1 (imp_open I386)
+i386_operand = record {
+  type = i386_dir32;
+  field = record { symbol = 1; alone = refl; inside = omega arith; names = i386_names_1 };
+  counts = (refl, refl);
+  within = omega arith;
+}
+
+amd64_branch : HasBranch AMD64 (passing_at AMD64) 39 0 (open_on AMD64)
+amd64_branch = record {
+  type = amd64_rel32;
+  field = record { symbol = 3; alone = refl; inside = omega arith; names = amd64_names_3 };
+  counts = (0, (omega arith, (refl, refl)));
+  within = omega arith;
+}
+
+i386_branch : HasBranch I386 (passing_at I386) 37 0 (open_on I386)
+i386_branch = record {
+  type = i386_rel32;
+  field = record { symbol = 3; alone = refl; inside = omega arith; names = i386_names_3 };
+  counts = (refl, refl);
+  within = omega arith;
+}
+
+arm64_branch : HasBranch ARM64 (passing_at ARM64) 28 0 (open_on ARM64)
+arm64_branch = record {
+  type = arm64_branch26;
+  field = record { symbol = 3; alone = refl; inside = omega arith; names = arm64_names_3 };
+  counts = (refl, refl);
+  within = omega arith;
+}
+
+amd64_pointer : HasPointer AMD64 (passing_at AMD64) 52 (imp_open AMD64)
+amd64_pointer = record {
+  type = amd64_addr64;
+  field = record { symbol = 1; alone = refl; inside = omega arith; names = amd64_names_1 };
+  stores = refl;
+  empty = refl;
+}
+
+i386_pointer : HasPointer I386 (passing_at I386) 28 (imp_open I386)
+i386_pointer = record {
+  type = i386_dir32;
+  field = record { symbol = 1; alone = refl; inside = omega arith; names = i386_names_1 };
+  stores = refl;
+  empty = refl;
+}
+
+arm64_pointer : HasPointer ARM64 (passing_at ARM64) 32 (imp_open ARM64)
+arm64_pointer = record {
+  type = arm64_addr64;
+  field = record { symbol = 1; alone = refl; inside = omega arith; names = arm64_names_1 };
+  stores = refl;
+  empty = refl;
+}
+
+arm64_page : HasPageField (passing_at ARM64) 12 (imp_open ARM64)
+arm64_page = record { field = record { symbol = 1; alone = refl; inside = omega arith; names = arm64_names_1 }; empty = refl }
+
+arm64_offset : HasOffsetField (passing_at ARM64) 16 (imp_open ARM64)
+arm64_offset = record { field = record { symbol = 1; alone = refl; inside = omega arith; names = arm64_names_1 }; eight = refl; empty = refl }
+
+-- What is no such field.
+
+first_type : (a b : Relocation) → a ∷ [] ≡ b ∷ [] → a.kind ≡ b.kind
+first_type a b is = let same : a ≡ b = cc in ap (λ (x : Relocation). x.kind) same
+
+byte_follows : IsOperand AMD64 amd64_rel32 1 0 → ⊥
+byte_follows (further, (small, (is, counts))) = let own : amd64_rel32 ≡ amd64_rel32 + further = is in let ends : 1 ≡ further = counts in omega arith
+
+none_follows : IsOperand AMD64 amd64_rel32_1 0 0 → ⊥
+none_follows (further, (small, (is, counts))) = let own : amd64_rel32_1 ≡ amd64_rel32 + further = is in let ends : 0 ≡ further = counts in omega arith
+
+of_a_section : HasOperand AMD64 (passing_at AMD64) 43 0 (codes "hello") → ⊥
+of_a_section has =
+    let wide : field_width AMD64 has.type ≡ 4 = operand_width AMD64 has.type 0 0 has.counts in
+    let own : x86_secrel ≡ has.type = first_type (field 43 2 x86_secrel) (record { offset = 43; symbol = has.field.symbol; kind = has.type }) (rw wide at has.field.alone) in
+    let counts = has.counts in
+    let small : counts.0 ≤ 5 = counts.1.0 in
+    let type : has.type ≡ amd64_rel32 + counts.0 = counts.1.1.0 in
+    omega arith
+
+of_16_bytes : HasOffsetField (passing_at ARM64) 24 (codes "hello") → ⊥
+of_16_bytes has = differ 0 3 has.eight (omega arith)
+
+pub passing_fields : PassingFields
+passing_fields = record {
+  amd64_call = amd64_call;
+  amd64_compare = amd64_compare;
+  amd64_again = amd64_again;
+  amd64_move = amd64_move;
+  amd64_operand = amd64_operand;
+  amd64_branch = amd64_branch;
+  amd64_pointer = amd64_pointer;
+  i386_call = i386_call;
+  i386_compare = i386_compare;
+  i386_move = i386_move;
+  i386_operand = i386_operand;
+  i386_pointer = i386_pointer;
+  i386_branch = i386_branch;
+  arm64_page = arm64_page;
+  arm64_offset = arm64_offset;
+  arm64_branch = arm64_branch;
+  arm64_pointer = arm64_pointer;
+  byte_follows = byte_follows;
+  none_follows = none_follows;
+  of_a_section = of_a_section;
+  of_16_bytes = of_16_bytes;
+}
+
+-- The calls of the laws over placed code.
+
+amd64_adjacent : HasCall AMD64 (placed_code (passing_at AMD64)) 11 (imp_open AMD64)
+amd64_adjacent = record {
+  front = take 11 (passing_bytes AMD64);
+  back = drop 17 (passing_bytes AMD64);
+  instructions = refl;
+  here = refl;
+  index = 1;
+  before = field 7 2 amd64_rel32 ∷ [];
+  behind = field 19 1 amd64_rel32_1 ∷ field 26 1 amd64_rel32 ∷ field 34 1 amd64_rel32 ∷ field 39 3 amd64_rel32 ∷ field 43 2 x86_secrel ∷ field 52 1 amd64_addr64 ∷ [];
+  relocated = refl;
+  aside_before = (inl (omega arith), tt);
+  aside_behind = (inr (omega arith), (inr (omega arith), (inr (omega arith), (inr (omega arith), (inr (omega arith), (inr (omega arith), tt))))));
+  symbol = symbol_of_class (imp_open AMD64) 0 class_external;
+  target = refl;
+  undefined = refl;
+  named = refl;
+}
+
+amd64_direct : HasDirectCall AMD64 (placed_code (passing_at AMD64)) 38 (open_on AMD64)
+amd64_direct = record {
+  front = take 38 (passing_bytes AMD64);
+  back = drop 43 (passing_bytes AMD64);
+  instructions = refl;
+  here = refl;
+  index = 3;
+  before = field 7 2 amd64_rel32 ∷ field 13 1 amd64_rel32 ∷ field 19 1 amd64_rel32_1 ∷ field 26 1 amd64_rel32 ∷ field 34 1 amd64_rel32 ∷ [];
+  behind = field 43 2 x86_secrel ∷ field 52 1 amd64_addr64 ∷ [];
+  relocated = refl;
+  aside_before = (inl (omega arith), (inl (omega arith), (inl (omega arith), (inl (omega arith), (inl (omega arith), tt)))));
+  aside_behind = (inr (omega arith), (inr (omega arith), tt));
+  symbol = symbol_of_class (open_on AMD64) 0 class_external;
+  target = refl;
+  undefined = refl;
+  named = refl;
+}
+
+i386_adjacent : HasCall I386 (placed_code (passing_at I386)) 9 (imp_open I386)
+i386_adjacent = record {
+  front = take 9 (passing_bytes I386);
+  back = drop 15 (passing_bytes I386);
+  instructions = refl;
+  here = refl;
+  index = 1;
+  before = field 5 2 i386_dir32 ∷ [];
+  behind = field 17 1 i386_dir32 ∷ field 24 1 i386_dir32 ∷ field 28 1 i386_dir32 ∷ field 32 2 x86_secrel ∷ field 37 3 i386_rel32 ∷ [];
+  relocated = refl;
+  aside_before = (inl (omega arith), tt);
+  aside_behind = (inr (omega arith), (inr (omega arith), (inr (omega arith), (inr (omega arith), (inr (omega arith), tt)))));
+  symbol = symbol_of_class (imp_open I386) 0 class_external;
+  target = refl;
+  undefined = refl;
+  named = refl;
+}
+
+arm64_paged : HasPage (placed_code (passing_at ARM64)) 12 8 (imp_open ARM64)
+unfolding u32_bytes
+arm64_paged = record {
+  front = take 12 (passing_bytes ARM64);
+  back = drop 16 (passing_bytes ARM64);
+  instructions = refl;
+  here = refl;
+  index = 1;
+  before = field 4 2 arm64_pagebase_rel21 ∷ field 8 2 arm64_pageoffset_12a ∷ [];
+  behind = field 16 1 arm64_pageoffset_12l ∷ field 24 2 arm64_pageoffset_12l ∷ field 28 3 arm64_branch26 ∷ field 32 1 arm64_addr64 ∷ field 40 2 arm64_secrel ∷ [];
+  relocated = refl;
+  aside_before = (inl (omega arith), (inl (omega arith), tt));
+  aside_behind = (inr (omega arith), (inr (omega arith), (inr (omega arith), (inr (omega arith), (inr (omega arith), tt)))));
+  symbol = symbol_of_class (imp_open ARM64) 0 class_external;
+  target = refl;
+  undefined = refl;
+  named = refl;
+}
+
+arm64_placed : HasPageOffset (placed_code (passing_at ARM64)) 16 8 8 (imp_open ARM64)
+unfolding u32_bytes
+arm64_placed = record {
+  front = take 16 (passing_bytes ARM64);
+  back = drop 20 (passing_bytes ARM64);
+  instructions = refl;
+  here = refl;
+  index = 1;
+  before = field 4 2 arm64_pagebase_rel21 ∷ field 8 2 arm64_pageoffset_12a ∷ field 12 1 arm64_pagebase_rel21 ∷ [];
+  behind = field 24 2 arm64_pageoffset_12l ∷ field 28 3 arm64_branch26 ∷ field 32 1 arm64_addr64 ∷ field 40 2 arm64_secrel ∷ [];
+  relocated = refl;
+  aside_before = (inl (omega arith), (inl (omega arith), (inl (omega arith), tt)));
+  aside_behind = (inr (omega arith), (inr (omega arith), (inr (omega arith), (inr (omega arith), tt))));
+  symbol = symbol_of_class (imp_open ARM64) 0 class_external;
+  target = refl;
+  undefined = refl;
+  named = refl;
+}
+
+arm64_direct : HasDirectCall ARM64 (placed_code (passing_at ARM64)) 28 (open_on ARM64)
+arm64_direct = record {
+  front = take 28 (passing_bytes ARM64);
+  back = drop 32 (passing_bytes ARM64);
+  instructions = refl;
+  here = refl;
+  index = 3;
+  before = field 4 2 arm64_pagebase_rel21 ∷ field 8 2 arm64_pageoffset_12a ∷ field 12 1 arm64_pagebase_rel21 ∷ field 16 1 arm64_pageoffset_12l ∷ field 24 2 arm64_pageoffset_12l ∷ [];
+  behind = field 32 1 arm64_addr64 ∷ field 40 2 arm64_secrel ∷ [];
+  relocated = refl;
+  aside_before = (inl (omega arith), (inl (omega arith), (inl (omega arith), (inl (omega arith), (inl (omega arith), tt)))));
+  aside_behind = (inr (omega arith), (inr (omega arith), tt));
+  symbol = symbol_of_class (open_on ARM64) 0 class_external;
+  target = refl;
+  undefined = refl;
+  named = refl;
+}
+
+neither : (a b : ℕ) → (a ≤ b → ⊥) → (c d : ℕ) → (c ≤ d → ⊥) → (a ≤ b) ⊎ (c ≤ d) → ⊥
+neither a b first c d second (inl is) = first is
+neither a b first c d second (inr is) = second is
+
+pub adjacent_calls : AdjacentCalls
+adjacent_calls = record {
+  amd64_call = amd64_adjacent;
+  amd64_direct = amd64_direct;
+  i386_call = i386_adjacent;
+  arm64_page = arm64_paged;
+  arm64_offset = arm64_placed;
+  arm64_direct = arm64_direct;
+  addr64 = neither 15 11 (λ is. omega arith) 17 7 (λ is. omega arith);
+}
+
+-- The programs, by the laws.
+
+amd64_at : AreInMemory AMD64 0x1_4000_0000 (passing_image AMD64 touching_8) (passing_placed AMD64 touching_8) (passing_codes AMD64 touching_8) (passing_targets AMD64 touching_8) (passing_memory AMD64 touching_8)
+amd64_at = inl (amd64_beside, refl)
+
+amd64_fields : WorkedFields AMD64 0x1_4000_0000 touching_8 (passing_memory AMD64 touching_8) 39 (0x40 ∷ 0 ∷ 0 ∷ 0x10 ∷ 0 ∷ 0 ∷ 0 ∷ 0 ∷ [])
+unfolding opened refusal renamed_refusal alias_specs encoded_size weak_object has_tables
+amd64_fields = record {
+  program = amd64_program;
+  at = amd64_at;
+  leads = λ n written reads.
+      leads_in_memory AMD64 0x1_4000_0000 touching_8 (both_inputs AMD64) (passing_objects AMD64) (passing_codes AMD64 touching_8) (passing_targets AMD64 touching_8) (passing_memory AMD64 touching_8) (given_on AMD64) worked_programs.amd64.made amd64_program amd64_at n written 0 1 (foo_input AMD64) (open_export AMD64) tt (wide AMD64) reads refl refl;
+  branches = λ n written reads.
+      branches_in_memory AMD64 0x1_4000_0000 touching_8 (both_inputs AMD64) (passing_objects AMD64) (passing_codes AMD64 touching_8) (passing_targets AMD64 touching_8) (passing_memory AMD64 touching_8) (given_on AMD64) worked_programs.amd64.made amd64_program amd64_at n written (passing_at AMD64) (stub_of_open AMD64 touching_8) 39 0 (open_on AMD64) (symbol_of_class (open_on AMD64) 1 class_external) (wide AMD64) reads
+      (0, omega arith, refl) amd64_branch (1, omega arith, refl) (record { held = (1, omega arith, refl); external = refl; here = refl }) refl (omega arith) tt;
+  stays = λ n written reads.
+      stays_in_memory AMD64 0x1_4000_0000 touching_8 (both_inputs AMD64) (passing_objects AMD64) (passing_codes AMD64 touching_8) (passing_targets AMD64 touching_8) (passing_memory AMD64 touching_8) (given_on AMD64) worked_programs.amd64.made amd64_program amd64_at n written (passing_at AMD64) (stub_of_open AMD64 touching_8) 39 0 (open_on AMD64) (symbol_of_class (open_on AMD64) 1 class_external) (wide AMD64) reads
+      (0, omega arith, refl) amd64_branch (1, omega arith, refl) (record { held = (1, omega arith, refl); external = refl; here = refl }) refl tt;
+  stub = λ n written reads.
+      (stubs_in_memory AMD64 0x1_4000_0000 touching_8 (both_inputs AMD64) (passing_objects AMD64) (passing_codes AMD64 touching_8) (passing_targets AMD64 touching_8) (passing_memory AMD64 touching_8) (given_on AMD64) worked_programs.amd64.made amd64_program amd64_at n written 0 1 (foo_input AMD64) (open_export AMD64) (stub_of_open AMD64 touching_8) (symbol_of_class (open_on AMD64) 1 class_external) tt (wide AMD64) reads refl refl refl
+      (1, omega arith, refl) (record { held = (1, omega arith, refl); external = refl; here = refl }) refl).1;
+  kept = λ n written reads. kept_in_memory AMD64 0x1_4000_0000 touching_8 (both_inputs AMD64) (passing_objects AMD64) (passing_codes AMD64 touching_8) (passing_targets AMD64 touching_8) (passing_memory AMD64 touching_8) (given_on AMD64) worked_programs.amd64.made amd64_program amd64_at n written (wide AMD64) reads;
+  ends = ends_in_memory AMD64 0x1_4000_0000 touching_8 (both_inputs AMD64) (passing_objects AMD64) (passing_codes AMD64 touching_8) (passing_targets AMD64 touching_8) (passing_memory AMD64 touching_8) (given_on AMD64) worked_programs.amd64.made amd64_program amd64_at;
+}
+
+amd64_moved_at : AreInMemory AMD64 0x7FF6_1234_0000 (passing_image AMD64 touching_8) (passing_placed AMD64 touching_8) (passing_codes AMD64 touching_8) (passing_targets AMD64 touching_8) (moved_memory AMD64 touching_8)
+amd64_moved_at = inr (0x1_4000_0000, (passing_places AMD64, (tt, amd64_moved)))
+
+amd64_moved_fields : WorkedFields AMD64 0x7FF6_1234_0000 touching_8 (moved_memory AMD64 touching_8) 39 (0x40 ∷ 0 ∷ 0 ∷ 0x10 ∷ 0 ∷ 0 ∷ 0 ∷ 0 ∷ [])
+unfolding opened refusal renamed_refusal alias_specs encoded_size weak_object has_tables
+amd64_moved_fields = record {
+  program = amd64_program;
+  at = amd64_moved_at;
+  leads = λ n written reads.
+      leads_in_memory AMD64 0x7FF6_1234_0000 touching_8 (both_inputs AMD64) (passing_objects AMD64) (passing_codes AMD64 touching_8) (passing_targets AMD64 touching_8) (moved_memory AMD64 touching_8) (given_on AMD64) worked_programs.amd64.made amd64_program amd64_moved_at n written 0 1 (foo_input AMD64) (open_export AMD64) tt (wide AMD64) reads refl refl;
+  branches = λ n written reads.
+      branches_in_memory AMD64 0x7FF6_1234_0000 touching_8 (both_inputs AMD64) (passing_objects AMD64) (passing_codes AMD64 touching_8) (passing_targets AMD64 touching_8) (moved_memory AMD64 touching_8) (given_on AMD64) worked_programs.amd64.made amd64_program amd64_moved_at n written (passing_at AMD64) (stub_of_open AMD64 touching_8) 39 0 (open_on AMD64) (symbol_of_class (open_on AMD64) 1 class_external) (wide AMD64) reads
+      (0, omega arith, refl) amd64_branch (1, omega arith, refl) (record { held = (1, omega arith, refl); external = refl; here = refl }) refl (omega arith) tt;
+  stays = λ n written reads.
+      stays_in_memory AMD64 0x7FF6_1234_0000 touching_8 (both_inputs AMD64) (passing_objects AMD64) (passing_codes AMD64 touching_8) (passing_targets AMD64 touching_8) (moved_memory AMD64 touching_8) (given_on AMD64) worked_programs.amd64.made amd64_program amd64_moved_at n written (passing_at AMD64) (stub_of_open AMD64 touching_8) 39 0 (open_on AMD64) (symbol_of_class (open_on AMD64) 1 class_external) (wide AMD64) reads
+      (0, omega arith, refl) amd64_branch (1, omega arith, refl) (record { held = (1, omega arith, refl); external = refl; here = refl }) refl tt;
+  stub = λ n written reads.
+      (stubs_in_memory AMD64 0x7FF6_1234_0000 touching_8 (both_inputs AMD64) (passing_objects AMD64) (passing_codes AMD64 touching_8) (passing_targets AMD64 touching_8) (moved_memory AMD64 touching_8) (given_on AMD64) worked_programs.amd64.made amd64_program amd64_moved_at n written 0 1 (foo_input AMD64) (open_export AMD64) (stub_of_open AMD64 touching_8) (symbol_of_class (open_on AMD64) 1 class_external) tt (wide AMD64) reads refl refl refl
+      (1, omega arith, refl) (record { held = (1, omega arith, refl); external = refl; here = refl }) refl).1;
+  kept = λ n written reads. kept_in_memory AMD64 0x7FF6_1234_0000 touching_8 (both_inputs AMD64) (passing_objects AMD64) (passing_codes AMD64 touching_8) (passing_targets AMD64 touching_8) (moved_memory AMD64 touching_8) (given_on AMD64) worked_programs.amd64.made amd64_program amd64_moved_at n written (wide AMD64) reads;
+  ends = ends_in_memory AMD64 0x7FF6_1234_0000 touching_8 (both_inputs AMD64) (passing_objects AMD64) (passing_codes AMD64 touching_8) (passing_targets AMD64 touching_8) (moved_memory AMD64 touching_8) (given_on AMD64) worked_programs.amd64.made amd64_program amd64_moved_at;
+}
+
+i386_at : AreInMemory I386 0x40_0000 (passing_image I386 touching_4) (passing_placed I386 touching_4) (passing_codes I386 touching_4) (passing_targets I386 touching_4) (passing_memory I386 touching_4)
+i386_at = inl (i386_beside, refl)
+
+i386_fields : WorkedFields I386 0x40_0000 touching_4 (passing_memory I386 touching_4) 37 (0x40 ∷ 0 ∷ 0 ∷ 0x10 ∷ [])
+unfolding opened refusal renamed_refusal alias_specs encoded_size weak_object has_tables
+i386_fields = record {
+  program = i386_program;
+  at = i386_at;
+  leads = λ n written reads.
+      leads_in_memory I386 0x40_0000 touching_4 (both_inputs I386) (passing_objects I386) (passing_codes I386 touching_4) (passing_targets I386 touching_4) (passing_memory I386 touching_4) (given_on I386) worked_programs.i386.made i386_program i386_at n written 0 1 (foo_input I386) (open_export I386) (omega arith) (wide I386) reads refl refl;
+  branches = λ n written reads.
+      branches_in_memory I386 0x40_0000 touching_4 (both_inputs I386) (passing_objects I386) (passing_codes I386 touching_4) (passing_targets I386 touching_4) (passing_memory I386 touching_4) (given_on I386) worked_programs.i386.made i386_program i386_at n written (passing_at I386) (stub_of_open I386 touching_4) 37 0 (open_on I386) (symbol_of_class (open_on I386) 1 class_external) (wide I386) reads
+      (0, omega arith, refl) i386_branch (1, omega arith, refl) (record { held = (1, omega arith, refl); external = refl; here = refl }) refl (omega arith) tt;
+  stays = λ n written reads.
+      stays_in_memory I386 0x40_0000 touching_4 (both_inputs I386) (passing_objects I386) (passing_codes I386 touching_4) (passing_targets I386 touching_4) (passing_memory I386 touching_4) (given_on I386) worked_programs.i386.made i386_program i386_at n written (passing_at I386) (stub_of_open I386 touching_4) 37 0 (open_on I386) (symbol_of_class (open_on I386) 1 class_external) (wide I386) reads
+      (0, omega arith, refl) i386_branch (1, omega arith, refl) (record { held = (1, omega arith, refl); external = refl; here = refl }) refl tt;
+  stub = λ n written reads.
+      (stubs_in_memory I386 0x40_0000 touching_4 (both_inputs I386) (passing_objects I386) (passing_codes I386 touching_4) (passing_targets I386 touching_4) (passing_memory I386 touching_4) (given_on I386) worked_programs.i386.made i386_program i386_at n written 0 1 (foo_input I386) (open_export I386) (stub_of_open I386 touching_4) (symbol_of_class (open_on I386) 1 class_external) (omega arith) (wide I386) reads refl refl refl
+      (1, omega arith, refl) (record { held = (1, omega arith, refl); external = refl; here = refl }) refl).1;
+  kept = λ n written reads. kept_in_memory I386 0x40_0000 touching_4 (both_inputs I386) (passing_objects I386) (passing_codes I386 touching_4) (passing_targets I386 touching_4) (passing_memory I386 touching_4) (given_on I386) worked_programs.i386.made i386_program i386_at n written (wide I386) reads;
+  ends = ends_in_memory I386 0x40_0000 touching_4 (both_inputs I386) (passing_objects I386) (passing_codes I386 touching_4) (passing_targets I386 touching_4) (passing_memory I386 touching_4) (given_on I386) worked_programs.i386.made i386_program i386_at;
+}
+
+i386_moved_at : AreInMemory I386 0x1000_0000 (passing_image I386 touching_4) (passing_placed I386 touching_4) (passing_codes I386 touching_4) (passing_targets I386 touching_4) (moved_memory I386 touching_4)
+i386_moved_at = inr (0x40_0000, (passing_places I386, (tt, i386_moved)))
+
+i386_moved_fields : WorkedFields I386 0x1000_0000 touching_4 (moved_memory I386 touching_4) 37 (0x40 ∷ 0 ∷ 0 ∷ 0x10 ∷ [])
+unfolding opened refusal renamed_refusal alias_specs encoded_size weak_object has_tables
+i386_moved_fields = record {
+  program = i386_program;
+  at = i386_moved_at;
+  leads = λ n written reads.
+      leads_in_memory I386 0x1000_0000 touching_4 (both_inputs I386) (passing_objects I386) (passing_codes I386 touching_4) (passing_targets I386 touching_4) (moved_memory I386 touching_4) (given_on I386) worked_programs.i386.made i386_program i386_moved_at n written 0 1 (foo_input I386) (open_export I386) (omega arith) (wide I386) reads refl refl;
+  branches = λ n written reads.
+      branches_in_memory I386 0x1000_0000 touching_4 (both_inputs I386) (passing_objects I386) (passing_codes I386 touching_4) (passing_targets I386 touching_4) (moved_memory I386 touching_4) (given_on I386) worked_programs.i386.made i386_program i386_moved_at n written (passing_at I386) (stub_of_open I386 touching_4) 37 0 (open_on I386) (symbol_of_class (open_on I386) 1 class_external) (wide I386) reads
+      (0, omega arith, refl) i386_branch (1, omega arith, refl) (record { held = (1, omega arith, refl); external = refl; here = refl }) refl (omega arith) tt;
+  stays = λ n written reads.
+      stays_in_memory I386 0x1000_0000 touching_4 (both_inputs I386) (passing_objects I386) (passing_codes I386 touching_4) (passing_targets I386 touching_4) (moved_memory I386 touching_4) (given_on I386) worked_programs.i386.made i386_program i386_moved_at n written (passing_at I386) (stub_of_open I386 touching_4) 37 0 (open_on I386) (symbol_of_class (open_on I386) 1 class_external) (wide I386) reads
+      (0, omega arith, refl) i386_branch (1, omega arith, refl) (record { held = (1, omega arith, refl); external = refl; here = refl }) refl tt;
+  stub = λ n written reads.
+      (stubs_in_memory I386 0x1000_0000 touching_4 (both_inputs I386) (passing_objects I386) (passing_codes I386 touching_4) (passing_targets I386 touching_4) (moved_memory I386 touching_4) (given_on I386) worked_programs.i386.made i386_program i386_moved_at n written 0 1 (foo_input I386) (open_export I386) (stub_of_open I386 touching_4) (symbol_of_class (open_on I386) 1 class_external) (omega arith) (wide I386) reads refl refl refl
+      (1, omega arith, refl) (record { held = (1, omega arith, refl); external = refl; here = refl }) refl).1;
+  kept = λ n written reads. kept_in_memory I386 0x1000_0000 touching_4 (both_inputs I386) (passing_objects I386) (passing_codes I386 touching_4) (passing_targets I386 touching_4) (moved_memory I386 touching_4) (given_on I386) worked_programs.i386.made i386_program i386_moved_at n written (wide I386) reads;
+  ends = ends_in_memory I386 0x1000_0000 touching_4 (both_inputs I386) (passing_objects I386) (passing_codes I386 touching_4) (passing_targets I386 touching_4) (moved_memory I386 touching_4) (given_on I386) worked_programs.i386.made i386_program i386_moved_at;
+}
+
+arm64_at : AreInMemory ARM64 0x1_4000_0000 (passing_image ARM64 touching_8) (passing_placed ARM64 touching_8) (passing_codes ARM64 touching_8) (passing_targets ARM64 touching_8) (passing_memory ARM64 touching_8)
+arm64_at = inl (arm64_beside, refl)
+
+arm64_fields : WorkedFields ARM64 0x1_4000_0000 touching_8 (passing_memory ARM64 touching_8) 28 (0x40 ∷ 0 ∷ 0 ∷ 0x10 ∷ 0 ∷ 0 ∷ 0 ∷ 0 ∷ [])
+unfolding opened refusal renamed_refusal alias_specs encoded_size weak_object has_tables
+arm64_fields = record {
+  program = arm64_program;
+  at = arm64_at;
+  leads = λ n written reads.
+      leads_in_memory ARM64 0x1_4000_0000 touching_8 (both_inputs ARM64) (passing_objects ARM64) (passing_codes ARM64 touching_8) (passing_targets ARM64 touching_8) (passing_memory ARM64 touching_8) (given_on ARM64) worked_programs.arm64.made arm64_program arm64_at n written 0 1 (foo_input ARM64) (open_export ARM64) (refl, refl) (wide ARM64) reads refl refl;
+  branches = λ n written reads.
+      branches_in_memory ARM64 0x1_4000_0000 touching_8 (both_inputs ARM64) (passing_objects ARM64) (passing_codes ARM64 touching_8) (passing_targets ARM64 touching_8) (passing_memory ARM64 touching_8) (given_on ARM64) worked_programs.arm64.made arm64_program arm64_at n written (passing_at ARM64) (stub_of_open ARM64 touching_8) 28 0 (open_on ARM64) (symbol_of_class (open_on ARM64) 1 class_external) (wide ARM64) reads
+      (0, omega arith, refl) arm64_branch (1, omega arith, refl) (record { held = (1, omega arith, refl); external = refl; here = refl }) refl (omega arith) (refl, refl, omega arith, omega arith);
+  stays = λ n written reads.
+      stays_in_memory ARM64 0x1_4000_0000 touching_8 (both_inputs ARM64) (passing_objects ARM64) (passing_codes ARM64 touching_8) (passing_targets ARM64 touching_8) (passing_memory ARM64 touching_8) (given_on ARM64) worked_programs.arm64.made arm64_program arm64_at n written (passing_at ARM64) (stub_of_open ARM64 touching_8) 28 0 (open_on ARM64) (symbol_of_class (open_on ARM64) 1 class_external) (wide ARM64) reads
+      (0, omega arith, refl) arm64_branch (1, omega arith, refl) (record { held = (1, omega arith, refl); external = refl; here = refl }) refl (refl, refl, omega arith, omega arith);
+  stub = λ n written reads.
+      (stubs_in_memory ARM64 0x1_4000_0000 touching_8 (both_inputs ARM64) (passing_objects ARM64) (passing_codes ARM64 touching_8) (passing_targets ARM64 touching_8) (passing_memory ARM64 touching_8) (given_on ARM64) worked_programs.arm64.made arm64_program arm64_at n written 0 1 (foo_input ARM64) (open_export ARM64) (stub_of_open ARM64 touching_8) (symbol_of_class (open_on ARM64) 1 class_external) (refl, refl) (wide ARM64) reads refl refl refl
+      (1, omega arith, refl) (record { held = (1, omega arith, refl); external = refl; here = refl }) refl).1;
+  kept = λ n written reads. kept_in_memory ARM64 0x1_4000_0000 touching_8 (both_inputs ARM64) (passing_objects ARM64) (passing_codes ARM64 touching_8) (passing_targets ARM64 touching_8) (passing_memory ARM64 touching_8) (given_on ARM64) worked_programs.arm64.made arm64_program arm64_at n written (wide ARM64) reads;
+  ends = ends_in_memory ARM64 0x1_4000_0000 touching_8 (both_inputs ARM64) (passing_objects ARM64) (passing_codes ARM64 touching_8) (passing_targets ARM64 touching_8) (passing_memory ARM64 touching_8) (given_on ARM64) worked_programs.arm64.made arm64_program arm64_at;
+}
+
+arm64_moved_at : AreInMemory ARM64 0x4000_0000 (passing_image ARM64 touching_8) (passing_placed ARM64 touching_8) (passing_codes ARM64 touching_8) (passing_targets ARM64 touching_8) (moved_memory ARM64 touching_8)
+arm64_moved_at = inr (0x1_4000_0000, (passing_places ARM64, (refl, arm64_moved)))
+
+arm64_moved_fields : WorkedFields ARM64 0x4000_0000 touching_8 (moved_memory ARM64 touching_8) 28 (0x40 ∷ 0 ∷ 0 ∷ 0x10 ∷ 0 ∷ 0 ∷ 0 ∷ 0 ∷ [])
+unfolding opened refusal renamed_refusal alias_specs encoded_size weak_object has_tables
+arm64_moved_fields = record {
+  program = arm64_program;
+  at = arm64_moved_at;
+  leads = λ n written reads.
+      leads_in_memory ARM64 0x4000_0000 touching_8 (both_inputs ARM64) (passing_objects ARM64) (passing_codes ARM64 touching_8) (passing_targets ARM64 touching_8) (moved_memory ARM64 touching_8) (given_on ARM64) worked_programs.arm64.made arm64_program arm64_moved_at n written 0 1 (foo_input ARM64) (open_export ARM64) (refl, refl) (wide ARM64) reads refl refl;
+  branches = λ n written reads.
+      branches_in_memory ARM64 0x4000_0000 touching_8 (both_inputs ARM64) (passing_objects ARM64) (passing_codes ARM64 touching_8) (passing_targets ARM64 touching_8) (moved_memory ARM64 touching_8) (given_on ARM64) worked_programs.arm64.made arm64_program arm64_moved_at n written (passing_at ARM64) (stub_of_open ARM64 touching_8) 28 0 (open_on ARM64) (symbol_of_class (open_on ARM64) 1 class_external) (wide ARM64) reads
+      (0, omega arith, refl) arm64_branch (1, omega arith, refl) (record { held = (1, omega arith, refl); external = refl; here = refl }) refl (omega arith) (refl, refl, omega arith, omega arith);
+  stays = λ n written reads.
+      stays_in_memory ARM64 0x4000_0000 touching_8 (both_inputs ARM64) (passing_objects ARM64) (passing_codes ARM64 touching_8) (passing_targets ARM64 touching_8) (moved_memory ARM64 touching_8) (given_on ARM64) worked_programs.arm64.made arm64_program arm64_moved_at n written (passing_at ARM64) (stub_of_open ARM64 touching_8) 28 0 (open_on ARM64) (symbol_of_class (open_on ARM64) 1 class_external) (wide ARM64) reads
+      (0, omega arith, refl) arm64_branch (1, omega arith, refl) (record { held = (1, omega arith, refl); external = refl; here = refl }) refl (refl, refl, omega arith, omega arith);
+  stub = λ n written reads.
+      (stubs_in_memory ARM64 0x4000_0000 touching_8 (both_inputs ARM64) (passing_objects ARM64) (passing_codes ARM64 touching_8) (passing_targets ARM64 touching_8) (moved_memory ARM64 touching_8) (given_on ARM64) worked_programs.arm64.made arm64_program arm64_moved_at n written 0 1 (foo_input ARM64) (open_export ARM64) (stub_of_open ARM64 touching_8) (symbol_of_class (open_on ARM64) 1 class_external) (refl, refl) (wide ARM64) reads refl refl refl
+      (1, omega arith, refl) (record { held = (1, omega arith, refl); external = refl; here = refl }) refl).1;
+  kept = λ n written reads. kept_in_memory ARM64 0x4000_0000 touching_8 (both_inputs ARM64) (passing_objects ARM64) (passing_codes ARM64 touching_8) (passing_targets ARM64 touching_8) (moved_memory ARM64 touching_8) (given_on ARM64) worked_programs.arm64.made arm64_program arm64_moved_at n written (wide ARM64) reads;
+  ends = ends_in_memory ARM64 0x4000_0000 touching_8 (both_inputs ARM64) (passing_objects ARM64) (passing_codes ARM64 touching_8) (passing_targets ARM64 touching_8) (moved_memory ARM64 touching_8) (given_on ARM64) worked_programs.arm64.made arm64_program arm64_moved_at;
+}
+
+pub worked_operands : WorkedOperands
+worked_operands = record {
+  amd64 = amd64_fields;
+  amd64_moved = amd64_moved_fields;
+  i386 = i386_fields;
+  i386_moved = i386_moved_fields;
+  arm64 = arm64_fields;
+  arm64_moved = arm64_moved_fields;
+  amd64_call = refl;
+  amd64_compare = refl;
+  amd64_again = refl;
+  amd64_move = refl;
+  i386_call = refl;
+  amd64_branch = refl;
+  i386_branch = refl;
+  arm64_branch = refl;
+}
+
+-- What can be moved.
+
+-- whether places follow one another from an address on
+rising : ℕ → List Place → Bool
+rising low [] = true
+rising low (p ∷ places) = nat_le low p.address && rising (p.address + p.width) places
+
+later_apart : (p : Place) (low : ℕ) (places : List Place) → p.address + p.width ≤ low → rising low places ≡ true → AllByRecursion (λ (q : Place). (a : ℕ) → covers a p ≡ true → covers a q ≡ true → ⊥) places
+unfolding rising
+later_apart p low [] before test = tt
+later_apart p low (q ∷ places) before test =
+    let parts = and_parts (nat_le low q.address) (rising (q.address + q.width) places) test in
+    let from = leb-true low q.address parts.0 in (
+      λ a first second.
+          let one = covered_bounds a p first in
+          let two = covered_bounds a q second in
+          let high : a < p.address + p.width = one.1 in
+          let least : q.address ≤ a = two.0 in
+          omega arith,
+      later_apart p (q.address + q.width) places (omega arith) parts.1,
+    )
+
+rising_apart : (low : ℕ) (places : List Place) → rising low places ≡ true → ArePlacesApart places
+unfolding rising
+rising_apart low [] test = tt
+rising_apart low (p ∷ places) test =
+    let parts = and_parts (nat_le low p.address) (rising (p.address + p.width) places) test in
+    (later_apart p (p.address + p.width) places (omega arith) parts.1, rising_apart (p.address + p.width) places parts.1)
+
+amd64_movable : CanBeMoved AMD64 (passing_codes AMD64 touching_8)
+unfolding rising
+amd64_movable = record { within = ((omega arith, tt), (tt, tt)); apart = (rising_apart 0 (places_of_code AMD64 (passing_at AMD64)) refl, (tt, tt)) }
+
+i386_movable : CanBeMoved I386 (passing_codes I386 touching_4)
+unfolding rising
+i386_movable = record {
+  within = ((omega arith, (omega arith, (omega arith, (omega arith, (omega arith, tt))))), ((omega arith, tt), tt));
+  apart = (rising_apart 0 (places_of_code I386 (passing_at I386)) refl, (rising_apart 0 (places_of_code I386 (stub_of_open I386 touching_4)) refl, tt));
+}
+
+pub movable_code : MovableCode
+unfolding opened refusal renamed_refusal alias_specs encoded_size weak_object has_tables
+movable_code = record {
+  amd64 = amd64_movable;
+  i386 = i386_movable;
+  overlapping = λ can. can.apart.0.0.0 0x1007 refl refl;
+  beyond = λ can. let end : 0x102A ≤ 0x1029 = can.within.0.0 in omega arith;
+  somewhere =
+      moved_memory_exists AMD64 0x1_4000_0000 0x2_0000_0000 (passing_image AMD64 touching_8) (passing_placed AMD64 touching_8) (passing_codes AMD64 touching_8) (passing_targets AMD64 touching_8)
+      (program_tables_none AMD64 touching_8 (both_inputs AMD64) (passing_objects AMD64) worked_programs.amd64.made amd64_program) amd64_beside amd64_movable tt;
+}

@@ -1,0 +1,128 @@
+-- The search that was done by hand, by computing.
+use Rattle.std.proofs.Common.{◌≡◌, ℕ, Bool, true, false, List, [], ◌∷◌, ◌++◌, map, Some, refl, sym, ◌∙◌, subst, inl, inr, codes}
+use Rattle.std.specs.Prelude.{bytes_eq, ◌||◌, is_none}
+use Rattle.std.specs.Fmt.{digits}
+use Rattle.std.specs.List.{IsDistinct, list_all, list_any}
+use Rattle.std.proofs.lemmas.Bool.{and_parts, true≢false}
+use Rattle.implib.specs.declared.machine.MachineType.TheVariants.{AMD64}
+use Rattle.implib.specs.Definition.{empty_export}
+use Rattle.implib.specs.Worked.Statements.{plain_export}
+use Rattle.implib.specs.Formats.Bytes.{u16_bytes, u32_bytes}
+use Rattle.implib.specs.Members.Gnu.{export_object, five_digits, head_name, head_object, head_symbol, hint_name, iname_symbol, numbered_name, relocations_of_stub, relocations_of_thunk, mangled_name, stub, tail_name, tail_object, thunk}
+use Rattle.implib.specs.Members.MemberSpec.{MemberView, member_of}
+use Rattle.implib.specs.Members.GnuMembers.{alias_specs, export_spec, head_spec, tail_spec}
+use Rattle.implib.specs.Members.Members.{refusal, renamed_refusal}
+use Rattle.implib.specs.Formats.Object.{before_nul, bytes_at, data_at, each_at, entries_at, name_of, object_in, object_of_header, relocation_at, relocation_of, section_at, section_of, strings_at, symbol_of, u16_at, u32_at, up_to_nul}
+use Rattle.implib.specs.Formats.Layout.{auxiliary_bytes, auxiliary_count, contents, contents_offset, contents_size, header_bytes, encoded, encoded_size, name_field, offsets_from, pointer_or_zero, record_count, records, relocation_bytes, section_header, section_headers, string_bytes_of, string_offsets, string_size, string_table, strings_size, symbol_bytes, symbol_table_offset}
+use Rattle.implib.specs.Formats.Writer.{long_names, name_location, layout_of, symbol_written, with_long_name, with_name}
+use Rattle.implib.proofs.Link.LinkedMembers.{among_contains, among_map}
+use Rattle.implib.proofs.Link.Ranges.{Among}
+use Rattle.implib_link.specs.Search.Search.{PullsIn, IsTakenInTurn, Takes, first_listed, undefined_in, names_claimed, names_undefined}
+use Rattle.implib_link_instances.specs.Worked.Search.{MayTake, WorkedSearch, members_of, three, wanted}
+use Rattle.implib_link.proofs.Search.Lists.{among_any, any_among, contains_among}
+use Rattle.implib.specs.LibraryName.{own_names}
+
+-- whether a name pulls in no member any more
+abbrev is_settled : List MemberView → List MemberView → List ℕ → Bool
+is_settled archive taken name = list_any (bytes_eq name) (names_claimed taken) || is_none (first_listed archive name)
+
+all_settled : (P : List ℕ → Bool) (names : List (List ℕ)) (name : List ℕ) → list_all P names ≡ true → Among name names → P name ≡ true
+unfolding Among
+all_settled P [] name all held = absurd held
+all_settled P (n ∷ names) name all (inl e) = subst (λ t. P t ≡ true) (sym e) (and_parts (P n) (list_all P names) all).0
+all_settled P (n ∷ names) name all (inr held) = all_settled P names name (and_parts (P n) (list_all P names) all).1 held
+
+-- a search is at its end where each name is settled
+pub settled_ends : (archive : List MemberView) (names : List (List ℕ)) (taken : List MemberView) → list_all (is_settled archive taken) (names ++ names_undefined taken) ≡ true →
+    (name : List ℕ) (m : MemberView) → PullsIn archive names taken name m → ⊥
+settled_ends archive names taken all name m pulls =
+    let settled : is_settled archive taken name ≡ true =
+    all_settled (is_settled archive taken) (names ++ names_undefined taken) name all (contains_among name (names ++ names_undefined taken) pulls.named) in
+    let is : false ≡ true = rw (pulls.undefined, pulls.listed) at settled in
+    true≢false (sym is)
+
+-- a name pulls in a member by what is computed
+pub pulls_in_now : (archive : List MemberView) (names : List (List ℕ)) (taken : List MemberView) (name : List ℕ) (m : MemberView) →
+    list_any (bytes_eq name) (names ++ names_undefined taken) ≡ true → list_any (bytes_eq name) (names_claimed taken) ≡ false → first_listed archive name ≡ Some m →
+    list_any (bytes_eq m.name) (map (λ (x : MemberView). x.name) taken) ≡ false → PullsIn archive names taken name m
+pulls_in_now archive names taken name m named undefined listed new = record {
+  named = among_contains name (names ++ names_undefined taken) (any_among name (names ++ names_undefined taken) named);
+  undefined = undefined;
+  listed = listed;
+  new = λ has. true≢false (sym (among_any m.name (map (λ (x : MemberView). x.name) taken) (among_map (λ (x : MemberView). x.name) m taken (contains_among m taken has))) ∙ new);
+}
+
+-- what the computing has to open
+unfoldable pub opened : Unit {0}
+unfolding digits u16_bytes u32_bytes export_object five_digits head_name head_object head_symbol hint_name iname_symbol numbered_name relocations_of_stub relocations_of_thunk mangled_name stub tail_name tail_object thunk export_spec head_spec tail_spec before_nul bytes_at data_at each_at entries_at name_of object_in object_of_header relocation_at relocation_of section_at section_of strings_at symbol_of u16_at u32_at up_to_nul auxiliary_bytes auxiliary_count contents contents_offset contents_size header_bytes encoded name_field offsets_from pointer_or_zero record_count records relocation_bytes section_header section_headers string_bytes_of string_offsets string_size string_table strings_size symbol_bytes symbol_table_offset long_names name_location layout_of symbol_written with_long_name with_name
+opened = tt
+
+abbrev pub the_head : MemberView
+the_head = member_of (head_spec AMD64 (codes "foo.dll"))
+
+abbrev pub the_tail : MemberView
+the_tail = member_of (tail_spec AMD64 (own_names (codes "foo.dll")))
+
+abbrev pub bar : MemberView
+bar = member_of (export_spec AMD64 (codes "foo.dll") 0 (plain_export (codes "bar")))
+
+abbrev pub qux : MemberView
+qux = member_of (export_spec AMD64 (codes "foo.dll") 2 (record empty_export { name = codes "qux"; is_data = true }))
+
+pub three_takes : Takes (members_of three) wanted (qux ∷ the_tail ∷ the_head ∷ bar ∷ [])
+unfolding opened alias_specs encoded_size names_undefined names_claimed undefined_in IsTakenInTurn
+three_takes = record {
+  in_turn = (
+    (codes "__imp_qux", pulls_in_now (members_of three) wanted (the_tail ∷ the_head ∷ bar ∷ []) (codes "__imp_qux") qux refl refl refl refl),
+    (
+      (codes "foo_dll_iname", pulls_in_now (members_of three) wanted (the_head ∷ bar ∷ []) (codes "foo_dll_iname") the_tail refl refl refl refl),
+      (
+        (codes "_head_foo_dll", pulls_in_now (members_of three) wanted (bar ∷ []) (codes "_head_foo_dll") the_head refl refl refl refl),
+        (
+          (codes "bar", pulls_in_now (members_of three) wanted [] (codes "bar") bar refl refl refl refl),
+          tt,
+        ),
+      ),
+    ),
+  );
+  ended = settled_ends (members_of three) wanted (qux ∷ the_tail ∷ the_head ∷ bar ∷ []) refl;
+}
+
+takes_three : MayTake three wanted (codes "foo_dll_a_s00002.o" ∷ codes "foo_dll_a_t.o" ∷ codes "foo_dll_a_h.o" ∷ codes "foo_dll_a_s00000.o" ∷ [])
+unfolding opened
+takes_three = (qux ∷ the_tail ∷ the_head ∷ bar ∷ [], three_takes, refl)
+
+takes_nothing : MayTake three (codes "printf" ∷ []) []
+unfolding opened alias_specs encoded_size names_undefined names_claimed undefined_in IsTakenInTurn
+takes_nothing = ([], record { in_turn = tt; ended = settled_ends (members_of three) (codes "printf" ∷ []) [] refl }, refl)
+
+takes_head_and_tail : MayTake three (codes "_head_foo_dll" ∷ []) (codes "foo_dll_a_t.o" ∷ codes "foo_dll_a_h.o" ∷ [])
+unfolding opened alias_specs encoded_size names_undefined names_claimed undefined_in IsTakenInTurn
+takes_head_and_tail = (
+  the_tail ∷ the_head ∷ [],
+  record {
+    in_turn = (
+      (codes "foo_dll_iname", pulls_in_now (members_of three) (codes "_head_foo_dll" ∷ []) (the_head ∷ []) (codes "foo_dll_iname") the_tail refl refl refl refl),
+      (
+        (codes "_head_foo_dll", pulls_in_now (members_of three) (codes "_head_foo_dll" ∷ []) [] (codes "_head_foo_dll") the_head refl refl refl refl),
+        tt,
+      ),
+    );
+    ended = settled_ends (members_of three) (codes "_head_foo_dll" ∷ []) (the_tail ∷ the_head ∷ []) refl;
+  },
+  refl,
+)
+
+pub worked_search : WorkedSearch
+unfolding opened refusal renamed_refusal alias_specs encoded_size IsDistinct
+worked_search = record {
+  made = record { accepted = refl; made = refl; ordinals = refl };
+  distinct = ((refl, (refl, (refl, (refl, (refl, (refl, tt)))))), ((refl, (refl, (refl, (refl, (refl, tt))))), ((refl, (refl, (refl, (refl, tt)))), ((refl, (refl, (refl, tt))), ((refl, (refl, tt)), ((refl, tt), (tt, tt)))))));
+  plain = record { head = refl; name = refl };
+  numbers = refl;
+  firsts = refl;
+  takes = takes_three;
+  nothing = takes_nothing;
+  head_and_tail = takes_head_and_tail;
+  alias_first = refl;
+}

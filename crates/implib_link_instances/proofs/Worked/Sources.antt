@@ -1,0 +1,148 @@
+-- Programs of texts by hand, by computing and by the laws.
+use Rattle.std.proofs.Common.{[], ◌∷◌, map, refl, arith}
+use Rattle.std.specs.List.{AllByRecursion}
+use Rattle.implib.specs.declared.flavor.Flavor.TheVariants.{Msvc}
+use Rattle.implib.specs.declared.machine.MachineType.TheVariants.{I386, AMD64}
+use Rattle.implib.specs.Formats.Layout.{encoded_size}
+use Rattle.implib.specs.Formats.ShortImport.{short_import_in}
+use Rattle.implib.specs.Members.GnuMembers.{alias_specs}
+use Rattle.implib.specs.Members.Members.{refusal, renamed_refusal}
+use Rattle.implib.specs.Members.MsvcMembers.{descriptor_spec, header_specs, null_descriptor_spec, null_thunk_spec, weak_specs}
+use Rattle.implib.specs.Members.MsvcObjects.{base_name, descriptor, descriptor_symbol, null_descriptor, null_descriptor_symbol, null_thunk, null_thunk_symbol}
+use Rattle.implib.specs.Members.WeakExternal.{weak_object}
+use Rattle.implib.specs.Text.Parses.{Parses}
+use Rattle.implib.proofs.Worked.Statements.{opened as text_opened, parses}
+use Rattle.implib_link.specs.Flavors.Expansion.{import_object, descriptor_symbol_by_name, expanded_in}
+use Rattle.implib_link.specs.Flavors.Program.{AreFlavorObjects, IsFlavorProgram, all_members, symbols_listed}
+use Rattle.implib_link.specs.Flavors.SectionSymbols.{with_section_symbols}
+use Rattle.implib_link.specs.Flavors.Texts.{IsFlavorSource, input_of}
+use Rattle.implib_link.specs.Gnu.Packed.{group_end, packed, packed_end, sections_end}
+use Rattle.implib_link.specs.Gnu.Program.{IsProgram, has_tables, linked_symbols}
+use Rattle.implib_link.specs.Gnu.Texts.{IsSource, link_input_of}
+use Rattle.implib_link_instances.specs.Worked.Sources.{WorkedSource, WorkedSources, both_sources, both_text_objects, foo_meant, foo_text, gnu_sources, gnu_text_objects, source_in, zed_meant, zed_text}
+use Rattle.implib_link.proofs.Flavors.Packed.{packed_flavors}
+use Rattle.implib_link.proofs.Flavors.Texts.{flavor_texts_link}
+use Rattle.implib_link.proofs.Gnu.Packed.{packed_is_program}
+use Rattle.implib_link.proofs.Gnu.Texts.{texts_link}
+use Rattle.implib_link_instances.proofs.Worked.Flavors.{opened}
+use Rattle.implib_link_instances.proofs.Worked.Programs.{distinct_by}
+use Rattle.implib_link_instances.proofs.Worked.Searched.{below_limit}
+
+amd64_foo : Parses foo_text AMD64 (foo_meant AMD64)
+unfolding text_opened
+amd64_foo = parses foo_text AMD64 (foo_meant AMD64) refl refl
+
+amd64_zed : Parses zed_text AMD64 (zed_meant AMD64)
+unfolding text_opened
+amd64_zed = parses zed_text AMD64 (zed_meant AMD64) refl refl
+
+amd64_gnu : AllByRecursion (IsSource AMD64) (gnu_sources AMD64)
+unfolding opened refusal renamed_refusal alias_specs encoded_size weak_object has_tables expanded_in short_import_in import_object descriptor_symbol_by_name with_section_symbols descriptor null_descriptor null_thunk descriptor_symbol null_descriptor_symbol null_thunk_symbol base_name descriptor_spec null_descriptor_spec null_thunk_spec header_specs weak_specs group_end sections_end
+amd64_gnu = (
+  record { of_text = record { parsed = foo_meant AMD64; parses = amd64_foo; held = refl }; made = record { accepted = refl; made = refl; ordinals = refl } },
+  (record { of_text = record { parsed = zed_meant AMD64; parses = amd64_zed; held = refl }; made = record { accepted = refl; made = refl; ordinals = refl } }, tt),
+)
+
+amd64_gnu_program : IsProgram AMD64 (packed 1 (gnu_text_objects AMD64)) (map link_input_of (gnu_sources AMD64)) (gnu_text_objects AMD64)
+unfolding opened refusal renamed_refusal alias_specs encoded_size weak_object has_tables expanded_in short_import_in import_object descriptor_symbol_by_name with_section_symbols descriptor null_descriptor null_thunk descriptor_symbol null_descriptor_symbol null_thunk_symbol base_name descriptor_spec null_descriptor_spec null_thunk_spec header_specs weak_specs group_end sections_end
+amd64_gnu_program =
+    packed_is_program AMD64 1 (map link_input_of (gnu_sources AMD64)) (record { accepted = refl; made = refl; ordinals = refl }, (record { accepted = refl; made = refl; ordinals = refl }, tt))
+    (distinct_by (linked_symbols AMD64 (map link_input_of (gnu_sources AMD64))) refl) (omega arith) (below_limit (packed_end 1 (gnu_text_objects AMD64)) refl)
+
+amd64_both : AllByRecursion (IsFlavorSource AMD64) (both_sources AMD64)
+unfolding opened refusal renamed_refusal alias_specs encoded_size weak_object has_tables expanded_in short_import_in import_object descriptor_symbol_by_name with_section_symbols descriptor null_descriptor null_thunk descriptor_symbol null_descriptor_symbol null_thunk_symbol base_name descriptor_spec null_descriptor_spec null_thunk_spec header_specs weak_specs group_end sections_end
+amd64_both = (
+  record { of_text = record { parsed = foo_meant AMD64; parses = amd64_foo; held = refl }; made = record { accepted = refl; made = refl; ordinals = refl } },
+  (record { of_text = record { parsed = zed_meant AMD64; parses = amd64_zed; held = refl }; made = record { accepted = refl; made = refl; ordinals = refl } }, tt),
+)
+
+amd64_objects : AreFlavorObjects AMD64 (map input_of (both_sources AMD64)) (both_text_objects AMD64)
+unfolding opened refusal renamed_refusal alias_specs encoded_size weak_object has_tables expanded_in short_import_in import_object descriptor_symbol_by_name with_section_symbols descriptor null_descriptor null_thunk descriptor_symbol null_descriptor_symbol null_thunk_symbol base_name descriptor_spec null_descriptor_spec null_thunk_spec header_specs weak_specs group_end sections_end
+amd64_objects = record {
+  distinct = distinct_by (null_descriptor_symbol ∷ symbols_listed (all_members AMD64 (map input_of (both_sources AMD64)))) refl;
+  null_from = input_of (source_in Msvc AMD64 foo_text (foo_meant AMD64) (1 ∷ 0 ∷ []));
+  null_held = (0, omega arith, refl);
+  null_flavor = refl;
+  before = [];
+  behind = all_members AMD64 (map input_of (both_sources AMD64));
+  members = refl;
+  tables = refl;
+  others = tt;
+  found = (refl, (tt, tt));
+}
+
+amd64_both_program : IsFlavorProgram AMD64 (packed 1 (both_text_objects AMD64)) (map input_of (both_sources AMD64)) (both_text_objects AMD64)
+unfolding opened refusal renamed_refusal alias_specs encoded_size weak_object has_tables expanded_in short_import_in import_object descriptor_symbol_by_name with_section_symbols descriptor null_descriptor null_thunk descriptor_symbol null_descriptor_symbol null_thunk_symbol base_name descriptor_spec null_descriptor_spec null_thunk_spec header_specs weak_specs group_end sections_end
+amd64_both_program =
+    packed_flavors AMD64 1 (map input_of (both_sources AMD64)) (both_text_objects AMD64) (record { accepted = refl; made = refl; ordinals = refl }, (record { accepted = refl; made = refl; ordinals = refl }, tt)) amd64_objects (omega arith) (below_limit (packed_end 1 (both_text_objects AMD64)) refl)
+
+amd64 : WorkedSource AMD64
+amd64 = record {
+  gnu = amd64_gnu;
+  gnu_program = amd64_gnu_program;
+  gnu_links = texts_link AMD64 (packed 1 (gnu_text_objects AMD64)) (gnu_sources AMD64) (gnu_text_objects AMD64) amd64_gnu amd64_gnu_program;
+  both = amd64_both;
+  both_program = amd64_both_program;
+  both_link = flavor_texts_link AMD64 (packed 1 (both_text_objects AMD64)) (both_sources AMD64) (both_text_objects AMD64) amd64_both amd64_both_program;
+}
+
+i386_foo : Parses foo_text I386 (foo_meant I386)
+unfolding text_opened
+i386_foo = parses foo_text I386 (foo_meant I386) refl refl
+
+i386_zed : Parses zed_text I386 (zed_meant I386)
+unfolding text_opened
+i386_zed = parses zed_text I386 (zed_meant I386) refl refl
+
+i386_gnu : AllByRecursion (IsSource I386) (gnu_sources I386)
+unfolding opened refusal renamed_refusal alias_specs encoded_size weak_object has_tables expanded_in short_import_in import_object descriptor_symbol_by_name with_section_symbols descriptor null_descriptor null_thunk descriptor_symbol null_descriptor_symbol null_thunk_symbol base_name descriptor_spec null_descriptor_spec null_thunk_spec header_specs weak_specs group_end sections_end
+i386_gnu = (
+  record { of_text = record { parsed = foo_meant I386; parses = i386_foo; held = refl }; made = record { accepted = refl; made = refl; ordinals = refl } },
+  (record { of_text = record { parsed = zed_meant I386; parses = i386_zed; held = refl }; made = record { accepted = refl; made = refl; ordinals = refl } }, tt),
+)
+
+i386_gnu_program : IsProgram I386 (packed 1 (gnu_text_objects I386)) (map link_input_of (gnu_sources I386)) (gnu_text_objects I386)
+unfolding opened refusal renamed_refusal alias_specs encoded_size weak_object has_tables expanded_in short_import_in import_object descriptor_symbol_by_name with_section_symbols descriptor null_descriptor null_thunk descriptor_symbol null_descriptor_symbol null_thunk_symbol base_name descriptor_spec null_descriptor_spec null_thunk_spec header_specs weak_specs group_end sections_end
+i386_gnu_program =
+    packed_is_program I386 1 (map link_input_of (gnu_sources I386)) (record { accepted = refl; made = refl; ordinals = refl }, (record { accepted = refl; made = refl; ordinals = refl }, tt))
+    (distinct_by (linked_symbols I386 (map link_input_of (gnu_sources I386))) refl) (omega arith) (below_limit (packed_end 1 (gnu_text_objects I386)) refl)
+
+i386_both : AllByRecursion (IsFlavorSource I386) (both_sources I386)
+unfolding opened refusal renamed_refusal alias_specs encoded_size weak_object has_tables expanded_in short_import_in import_object descriptor_symbol_by_name with_section_symbols descriptor null_descriptor null_thunk descriptor_symbol null_descriptor_symbol null_thunk_symbol base_name descriptor_spec null_descriptor_spec null_thunk_spec header_specs weak_specs group_end sections_end
+i386_both = (
+  record { of_text = record { parsed = foo_meant I386; parses = i386_foo; held = refl }; made = record { accepted = refl; made = refl; ordinals = refl } },
+  (record { of_text = record { parsed = zed_meant I386; parses = i386_zed; held = refl }; made = record { accepted = refl; made = refl; ordinals = refl } }, tt),
+)
+
+i386_objects : AreFlavorObjects I386 (map input_of (both_sources I386)) (both_text_objects I386)
+unfolding opened refusal renamed_refusal alias_specs encoded_size weak_object has_tables expanded_in short_import_in import_object descriptor_symbol_by_name with_section_symbols descriptor null_descriptor null_thunk descriptor_symbol null_descriptor_symbol null_thunk_symbol base_name descriptor_spec null_descriptor_spec null_thunk_spec header_specs weak_specs group_end sections_end
+i386_objects = record {
+  distinct = distinct_by (null_descriptor_symbol ∷ symbols_listed (all_members I386 (map input_of (both_sources I386)))) refl;
+  null_from = input_of (source_in Msvc I386 foo_text (foo_meant I386) (1 ∷ 0 ∷ []));
+  null_held = (0, omega arith, refl);
+  null_flavor = refl;
+  before = [];
+  behind = all_members I386 (map input_of (both_sources I386));
+  members = refl;
+  tables = refl;
+  others = tt;
+  found = (refl, (tt, tt));
+}
+
+i386_both_program : IsFlavorProgram I386 (packed 1 (both_text_objects I386)) (map input_of (both_sources I386)) (both_text_objects I386)
+unfolding opened refusal renamed_refusal alias_specs encoded_size weak_object has_tables expanded_in short_import_in import_object descriptor_symbol_by_name with_section_symbols descriptor null_descriptor null_thunk descriptor_symbol null_descriptor_symbol null_thunk_symbol base_name descriptor_spec null_descriptor_spec null_thunk_spec header_specs weak_specs group_end sections_end
+i386_both_program =
+    packed_flavors I386 1 (map input_of (both_sources I386)) (both_text_objects I386) (record { accepted = refl; made = refl; ordinals = refl }, (record { accepted = refl; made = refl; ordinals = refl }, tt)) i386_objects (omega arith) (below_limit (packed_end 1 (both_text_objects I386)) refl)
+
+i386 : WorkedSource I386
+i386 = record {
+  gnu = i386_gnu;
+  gnu_program = i386_gnu_program;
+  gnu_links = texts_link I386 (packed 1 (gnu_text_objects I386)) (gnu_sources I386) (gnu_text_objects I386) i386_gnu i386_gnu_program;
+  both = i386_both;
+  both_program = i386_both_program;
+  both_link = flavor_texts_link I386 (packed 1 (both_text_objects I386)) (both_sources I386) (both_text_objects I386) i386_both i386_both_program;
+}
+
+pub worked_sources : WorkedSources
+worked_sources = record { amd64 = amd64; i386 = i386 }

@@ -1,0 +1,5 @@
+use Rattle.implib_link_instances.proofs.Worked.Exists.{worked_exists}
+use Rattle.implib_link_instances.proofs.laws.exists.worked_existence.Goals as goal
+
+pub returns : goal.returns
+returns c = record { worked = worked_exists }

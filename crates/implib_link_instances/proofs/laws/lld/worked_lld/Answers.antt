@@ -1,0 +1,5 @@
+use Rattle.implib_link_instances.proofs.Worked.Lld.{worked_lld}
+use Rattle.implib_link_instances.proofs.laws.lld.worked_lld.Goals as goal
+
+pub returns : goal.returns
+returns c = worked_lld

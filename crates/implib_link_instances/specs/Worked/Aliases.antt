@@ -1,0 +1,200 @@
+-- Calls and pointers by an alias, by hand: a program as in Worked/Calls on AMD64, whose code calls through
+-- `__imp_opened` and reads a pointer through it, with the weak external that makes this an alias of
+-- `__imp_open`; and a program of both flavours with such code.
+use Rattle.implib_link.specs.Gnu.Fields.{LinkedCode, TakesSymbols}
+use Rattle.std.specs.Prelude.{◌≡◌, ℕ, List, [], ◌∷◌, ◌++◌, codes, map, Some, None}
+use Rattle.implib.specs.declared.machine.MachineType.TheVariants.{AMD64}
+use Rattle.implib.specs.Formats.Constants.{class_external}
+use Rattle.implib.specs.Formats.Layout.{object_of}
+use Rattle.implib.specs.Formats.Object.{ASymbol, Object}
+use Rattle.implib.specs.Import.{imp_symbol}
+use Rattle.implib.specs.Link.Image.{Range, image_of}
+use Rattle.implib.specs.Link.Placement.{Bases, Placed, Unplaced, placed_from}
+use Rattle.implib.specs.Link.Resolution.{definitions_of}
+use Rattle.implib.specs.Members.WeakExternal.{weak_object}
+use Rattle.implib_link.specs.Directory.{imported}
+use Rattle.implib_link.specs.Flavors.Program.{IsFlavorProgram, imported_in, objects_taken}
+use Rattle.implib_link.specs.Gnu.Aliases.{ResolvesAliases, weak_target}
+use Rattle.implib_link.specs.Gnu.Calls.{CallArrives, HasCall, PlacedCode, call_reads}
+use Rattle.implib_link.specs.Gnu.Loaded.{Writes}
+use Rattle.implib_link.specs.Gnu.Pointers.{HasLoad, LoadArrives, load_reads}
+use Rattle.implib_link.specs.Gnu.Program.{IsProgram, null_descriptor}
+use Rattle.implib_link_instances.specs.Worked.Calls.{calling, calling_code, first_bytes, given_on, last_bytes}
+use Rattle.implib_link_instances.specs.Worked.Flavors.{both_inputs as flavor_inputs, flavor_bases_8, members_with_null}
+use Rattle.implib_link_instances.specs.Worked.Pointers.{loading, loading_code, loading_at, tables_of}
+use Rattle.implib_link_instances.specs.Worked.Programs.{another, both_inputs, foo_input, input_objects, symbol_of_class, touching_8, zed_input}
+use Rattle.implib_link_instances.specs.Worked.Relocated.{CodesBeside, as_placed, code_range, code_ranges, linked_codes, linked_by}
+
+-- the alias and its target
+abbrev pub opened_name : List ℕ
+opened_name = imp_symbol (codes "opened")
+
+abbrev pub alias_calling : Object
+alias_calling = record (calling AMD64) {
+  entries = ASymbol (symbol_of_class (codes "main") 1 class_external)
+      ∷ ASymbol (symbol_of_class opened_name 0 class_external)
+      ∷ [];
+}
+
+-- an object whose code reads a pointer through `__imp_opened`
+abbrev pub alias_loading : Object
+alias_loading = record (loading AMD64) {
+  entries = ASymbol (symbol_of_class (codes "peek") 1 class_external)
+      ∷ ASymbol (symbol_of_class opened_name 0 class_external)
+      ∷ [];
+}
+
+-- what is linked: both objects, the weak external, foo.dll's members, zed.dll's members, the null descriptor
+abbrev pub alias_objects : List Object
+alias_objects =
+    alias_calling
+    ∷ (alias_loading
+    ∷ (object_of (weak_object AMD64 opened_name (imp_symbol (codes "open")))
+    ∷ (input_objects AMD64 (foo_input AMD64) ++ (input_objects AMD64 (zed_input AMD64) ++ null_descriptor ∷ []))))
+
+abbrev pub alias_placed : List Placed
+alias_placed = placed_from touching_8 alias_objects
+
+-- the calling code at 0x1000
+abbrev pub alias_at : PlacedCode
+alias_at = record {
+  from = record { object = alias_calling; section_addresses = Unplaced ∷ [] };
+  number = 1;
+  code = calling_code AMD64;
+  position = 0x1000;
+}
+
+-- the reading code at 0x1010, after the calling code at 0x1000
+abbrev pub alias_load_at : PlacedCode
+alias_load_at = record {
+  from = record { object = alias_loading; section_addresses = Unplaced ∷ [] };
+  number = 1;
+  code = loading_code AMD64;
+  position = 0x1010;
+}
+
+abbrev pub alias_codes : List PlacedCode
+alias_codes = alias_at ∷ alias_load_at ∷ []
+
+-- every symbol of them is taken to be at one address
+abbrev pub all_at : ℕ → PlacedCode → ℕ → ℕ
+all_at address c index = address
+
+-- the memory that a loader leaves with this code in it
+abbrev pub alias_memory : Bases → List Object → ℕ → List Range → List Range
+alias_memory bases objects address written =
+    written ++ (image_of AMD64 bases (placed_from bases objects)
+    ++ code_ranges AMD64 0x1_4000_0000 (all_at address) alias_codes)
+
+-- The program meets all that the law of aliases asks for; the entry of `open` is at 0x80; the call at 0x1004 arrives
+-- at what foo.dll gives for `open`, and the pointer that is read at 0x1014 is this, too.
+pub record WorkedAlias : Type 0 where
+  pub program : IsProgram AMD64 touching_8 (both_inputs AMD64) alias_objects
+  pub beside : CodesBeside AMD64 0x1_4000_0000 touching_8 alias_objects alias_codes (all_at 0x80)
+  pub resolves : ResolvesAliases alias_placed (linked_codes AMD64 0x1_4000_0000 (all_at 0x80) alias_codes)
+      (as_placed (all_at 0x80))
+  pub undefined : definitions_of opened_name alias_placed ≡ []
+  pub weak : weak_target opened_name alias_placed ≡ Some (imp_symbol (codes "open"))
+  -- another name is weak for nothing, and the target itself is
+  pub other : weak_target (imp_symbol (codes "close")) alias_placed ≡ None
+  pub target : weak_target (imp_symbol (codes "open")) alias_placed ≡ None
+  pub calls : HasCall AMD64 alias_at 4 opened_name
+  pub loads : HasLoad AMD64 alias_load_at 4 opened_name
+  -- call [rip - 0xF8A]
+  pub call_is : (code_range AMD64 0x1_4000_0000 (all_at 0x80) alias_at).bytes
+      ≡ first_bytes AMD64 ++ (0xFF ∷ 0x15 ∷ 0x76 ∷ 0xF0 ∷ 0xFF ∷ 0xFF ∷ last_bytes AMD64)
+  -- mov rax, [rip - 0xF9B]
+  pub load_is : (code_range AMD64 0x1_4000_0000 (all_at 0x80) alias_load_at).bytes
+      ≡ first_bytes AMD64 ++ (0x48 ∷ 0x8B ∷ 5 ∷ 0x65 ∷ 0xF0 ∷ 0xFF ∷ 0xFF ∷ last_bytes AMD64)
+  pub call_arrives : (written : List Range) →
+      Writes (image_of AMD64 touching_8 alias_placed) 8 (given_on AMD64) 4 (map (imported AMD64) (both_inputs AMD64))
+      written →
+      CallArrives AMD64 0x1_4000_0000 (alias_memory touching_8 alias_objects 0x80 written) 0x1004
+      (0x40 ∷ 0 ∷ 0 ∷ 0x10 ∷ 0 ∷ 0 ∷ 0 ∷ 0 ∷ [])
+  pub load_arrives : (written : List Range) →
+      Writes (image_of AMD64 touching_8 alias_placed) 8 (given_on AMD64) 4 (map (imported AMD64) (both_inputs AMD64))
+      written →
+      LoadArrives AMD64 0x1_4000_0000 (alias_memory touching_8 alias_objects 0x80 written) 0x1014
+      (0x40 ∷ 0 ∷ 0 ∷ 0x10 ∷ 0 ∷ 0 ∷ 0 ∷ 0 ∷ [])
+  -- the member of an alias is such a weak external: of the alias `bar` of `baz` for its address, say
+  pub member : weak_target (codes "__imp_bar") (record {
+    object = object_of (weak_object AMD64 (codes "__imp_bar") (codes "__imp_baz"));
+    section_addresses = [];
+  } ∷ alias_placed) ≡ Some (codes "__imp_baz")
+
+-- what is linked of both flavours: the calling object, the reading one, a weak external of `__imp_opened`, what
+-- the members of foo.dll for Microsoft's linker, its null descriptor, and those of zed.dll for GNU's are taken
+-- for, and another object
+abbrev pub alias_flavors : List ℕ → List Object
+alias_flavors target =
+    alias_calling
+    ∷ (alias_loading
+    ∷ (object_of (weak_object AMD64 opened_name target)
+    ∷ (objects_taken AMD64 (members_with_null AMD64 0) ++ another AMD64 ∷ [])))
+
+-- weak for `__imp_open`
+abbrev pub opened_flavors : List Object
+opened_flavors = alias_flavors (imp_symbol (codes "open"))
+
+abbrev pub opened_placed : List Placed
+opened_placed = placed_from flavor_bases_8 opened_flavors
+
+-- The program meets all that the law of aliases in both flavours asks for; the entry of `open` is at 0x88; the
+-- call at 0x1004 arrives at what foo.dll gives for `open`, and the pointer that is read at 0x1014 is this, too.
+pub record WorkedFlavorAlias : Type 0 where
+  pub program : IsFlavorProgram AMD64 flavor_bases_8 (flavor_inputs AMD64) opened_flavors
+  pub beside : CodesBeside AMD64 0x1_4000_0000 flavor_bases_8 opened_flavors alias_codes (all_at 0x88)
+  pub resolves : ResolvesAliases opened_placed (linked_codes AMD64 0x1_4000_0000 (all_at 0x88) alias_codes)
+      (as_placed (all_at 0x88))
+  pub undefined : definitions_of opened_name opened_placed ≡ []
+  pub weak : weak_target opened_name opened_placed ≡ Some (imp_symbol (codes "open"))
+  pub calls : HasCall AMD64 alias_at 4 opened_name
+  pub loads : HasLoad AMD64 alias_load_at 4 opened_name
+  -- call [rip - 0xF82]
+  pub call_is : (code_range AMD64 0x1_4000_0000 (all_at 0x88) alias_at).bytes
+      ≡ first_bytes AMD64 ++ (0xFF ∷ 0x15 ∷ 0x7E ∷ 0xF0 ∷ 0xFF ∷ 0xFF ∷ last_bytes AMD64)
+  pub call_reads_it : call_reads AMD64 0x1_4000_1004 (0xFF ∷ 0x15 ∷ 0x7E ∷ 0xF0 ∷ 0xFF ∷ 0xFF ∷ [])
+      ≡ Some 0x1_4000_0088
+  -- mov rax, [rip - 0xF93]
+  pub load_is : (code_range AMD64 0x1_4000_0000 (all_at 0x88) alias_load_at).bytes
+      ≡ first_bytes AMD64 ++ (0x48 ∷ 0x8B ∷ 5 ∷ 0x6D ∷ 0xF0 ∷ 0xFF ∷ 0xFF ∷ last_bytes AMD64)
+  pub load_reads_it : load_reads AMD64 0x1_4000_1014 (0x48 ∷ 0x8B ∷ 5 ∷ 0x6D ∷ 0xF0 ∷ 0xFF ∷ 0xFF ∷ [])
+      ≡ Some 0x1_4000_0088
+  pub call_arrives : (written : List Range) →
+      Writes (image_of AMD64 flavor_bases_8 opened_placed) 8 (given_on AMD64) 8
+      (map (imported_in AMD64) (flavor_inputs AMD64)) written →
+      CallArrives AMD64 0x1_4000_0000 (alias_memory flavor_bases_8 opened_flavors 0x88 written) 0x1004
+      (0x40 ∷ 0 ∷ 0 ∷ 0x10 ∷ 0 ∷ 0 ∷ 0 ∷ 0 ∷ [])
+  pub load_arrives : (written : List Range) →
+      Writes (image_of AMD64 flavor_bases_8 opened_placed) 8 (given_on AMD64) 8
+      (map (imported_in AMD64) (flavor_inputs AMD64)) written →
+      LoadArrives AMD64 0x1_4000_0000 (alias_memory flavor_bases_8 opened_flavors 0x88 written) 0x1014
+      (0x40 ∷ 0 ∷ 0 ∷ 0x10 ∷ 0 ∷ 0 ∷ 0 ∷ 0 ∷ [])
+  -- weak for `__imp_stat`, whose entry is at 0x90, it is not at 0x88
+  pub astray : ResolvesAliases (placed_from flavor_bases_8 (alias_flavors (imp_symbol (codes "stat"))))
+      (linked_codes AMD64 0x1_4000_0000 (all_at 0x88) alias_codes) (as_placed (all_at 0x88)) → ⊥
+
+-- A name that is weak for another and defined, too: what is linked is the code of Worked/Pointers, which reads a pointer
+-- through `__imp_stat`, a weak external that would make this an alias of `__imp_open`, and the members.
+abbrev pub overridden_objects : List Object
+overridden_objects =
+    loading AMD64
+    ∷ (object_of (weak_object AMD64 (imp_symbol (codes "stat")) (imp_symbol (codes "open")))
+    ∷ (input_objects AMD64 (foo_input AMD64) ++ (input_objects AMD64 (zed_input AMD64) ++ null_descriptor ∷ [])))
+
+abbrev pub overridden_placed : List Placed
+overridden_placed = placed_from touching_8 overridden_objects
+
+abbrev pub overridden_code : LinkedCode
+overridden_code = linked_by AMD64 0x1_4000_0000 (tables_of overridden_placed) (loading_at AMD64)
+
+-- The definition counts: `__imp_stat` is its own entry at 0x88, where its target is at 0x80.
+pub record OverriddenAlias : Type 0 where
+  pub weak : weak_target (imp_symbol (codes "stat")) overridden_placed ≡ Some (imp_symbol (codes "open"))
+  pub defined : definitions_of (imp_symbol (codes "stat")) overridden_placed
+      ≡ record { name = imp_symbol (codes "stat"); address = Some 0x88 } ∷ []
+  pub target : definitions_of (imp_symbol (codes "open")) overridden_placed
+      ≡ record { name = imp_symbol (codes "open"); address = Some 0x80 } ∷ []
+  pub resolves : ResolvesAliases overridden_placed (overridden_code ∷ []) (λ c index. 0x88)
+  pub taken : (targets : LinkedCode → ℕ → ℕ) → TakesSymbols overridden_placed (overridden_code ∷ []) targets →
+      targets overridden_code 1 ≡ 0x88

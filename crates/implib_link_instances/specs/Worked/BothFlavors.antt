@@ -1,0 +1,165 @@
+-- A closed program by hand of an archive of both flavours: of foo.dll's members for GNU's linker, some of them of an alias,
+-- and of zed.dll's for Microsoft's; and near misses of it, each by the name of the field that refuses it.
+use Rattle.std.specs.Prelude.{◌≡◌, ◌<◌, List, [], ◌∷◌, ◌++◌, codes, length, map, Some}
+use Rattle.implib.specs.declared.flavor.Flavor.TheVariants.{Gnu, Msvc}
+use Rattle.implib.specs.declared.machine.MachineType.TheVariants.{AMD64}
+use Rattle.implib.specs.Formats.Object.{Object}
+use Rattle.implib.specs.LibraryName.{own_names}
+use Rattle.implib.specs.Link.Placement.{Bases, placed_from}
+use Rattle.implib.specs.Link.Resolution.{definitions_of}
+use Rattle.implib.specs.Members.GnuMembers.{export_spec, head_spec, tail_spec}
+use Rattle.implib.specs.Members.MemberSpec.{MemberView, member_of}
+use Rattle.implib.specs.Worked.Members.{of_dll}
+use Rattle.implib.specs.Worked.Statements.{plain_export}
+use Rattle.implib_link.specs.Flavors.Program.{FlavorInput, objects_taken}
+use Rattle.implib_link.specs.Gnu.Packed.{packed}
+use Rattle.implib_link.specs.Search.BothFlavors.{AreClosedForBoth, AreGivenForBoth, FlavorLibrary, IsClosedForBoth, IsFlavorArchive, IsImportedOfBoth, IsUsedIn, LinksClosedForBoth, NamesNoMembers, TakesOfBoth, archive_of_both, inputs_of_both, kept_of_both, msvc_among}
+use Rattle.implib_link.specs.Search.Closed.{unresolved}
+use Rattle.implib_link.specs.Search.MsvcArchives.{short_inputs}
+use Rattle.implib_link.specs.Search.MsvcClosed.{PullsIntoFor, TakesIntoFor, wanted_for}
+use Rattle.implib_link_instances.specs.Worked.Archives.{library_of}
+use Rattle.implib_link_instances.specs.Worked.Closed.{choosing, clashing, foo_alias, foo_linked}
+use Rattle.implib_link_instances.specs.Worked.MsvcArchives.{descriptor_named, msvc_zed, null_named, short_named, thunk_named}
+use Rattle.implib_link_instances.specs.Worked.MsvcClosed.{zed_members}
+use Rattle.implib_link_instances.specs.Worked.NearSearches.{again}
+use Rattle.implib_link_instances.specs.Worked.Search.{aliased}
+
+-- foo.dll with data `bar`, an alias of the function `baz`, and zed.dll with two functions
+abbrev pub gnu_foo : FlavorLibrary
+gnu_foo = record { flavor = Gnu; library = library_of aliased }
+
+abbrev pub short_zed : FlavorLibrary
+short_zed = record { flavor = Msvc; library = msvc_zed }
+
+abbrev pub foo_and_zed : List FlavorLibrary
+foo_and_zed = gnu_foo ∷ short_zed ∷ []
+
+-- as they are linked, zed.dll first
+abbrev pub zed_and_foo : List FlavorLibrary
+zed_and_foo = short_zed ∷ gnu_foo ∷ []
+
+-- what is taken for the object of Worked/Closed, the last one first
+abbrev pub foo_members_taken : List MemberView
+foo_members_taken =
+    member_of (tail_spec AMD64 (own_names (codes "foo.dll")))
+    ∷ member_of (head_spec AMD64 (codes "foo.dll"))
+    ∷ member_of (export_spec AMD64 (codes "foo.dll") 1 (plain_export (codes "baz")))
+    ∷ foo_alias
+    ∷ []
+
+abbrev pub mixed_without_last : List MemberView
+mixed_without_last =
+    null_named (codes "zed.dll")
+    ∷ descriptor_named (codes "zed.dll")
+    ∷ short_named (codes "zed.dll") (codes "queue")
+    ∷ foo_members_taken
+
+abbrev pub mixed_taken : List MemberView
+mixed_taken = thunk_named (codes "zed.dll") ∷ mixed_without_last
+
+-- what is linked: the object, the alias, zed.dll's members, its null descriptor, foo.dll's members
+abbrev pub mixed_objects : List Object
+mixed_objects =
+    choosing
+    ∷ (objects_taken AMD64 (foo_alias ∷ [])
+    ++ objects_taken AMD64 (zed_members ++ null_named (codes "zed.dll") ∷ foo_linked))
+
+abbrev pub mixed_bases : Bases
+mixed_bases = packed 0x2000 mixed_objects
+
+abbrev pub mixed_inputs : List FlavorInput
+mixed_inputs = inputs_of_both AMD64 zed_and_foo (choosing ∷ []) mixed_taken
+
+-- For the object a linker takes eight members of both flavours, and with them it is a closed program, in which `printf` alone
+-- is left. The pointer to `queue` is zed.dll's first entry, and that to `baz` foo.dll's. A search that stops before the last
+-- member is none; a name that the object claims pulls in nothing; and an object with a `queue` of its own is not closed by
+-- these members.
+pub record WorkedBoth : Type 0 where
+  pub archive : IsFlavorArchive AMD64 foo_and_zed
+  pub takes : TakesIntoFor AMD64 (archive_of_both foo_and_zed) (choosing ∷ []) mixed_taken
+  pub wanted : wanted_for AMD64 (choosing ∷ []) mixed_taken
+      ≡ codes "bar" ∷ codes "__imp_queue" ∷ codes "printf" ∷ codes "baz" ∷ []
+  pub just : TakesOfBoth AMD64 foo_and_zed (unresolved (choosing ∷ [])) mixed_taken
+  pub chosen : map (λ p. p.input.chosen) mixed_inputs ≡ (0 ∷ []) ∷ (1 ∷ []) ∷ []
+  pub closed : IsClosedForBoth AMD64 foo_and_zed (choosing ∷ []) mixed_taken zed_and_foo mixed_bases mixed_objects
+  pub links : LinksClosedForBoth AMD64 foo_and_zed (choosing ∷ []) mixed_taken zed_and_foo mixed_bases mixed_objects
+  pub left : unresolved mixed_objects ≡ codes "printf" ∷ []
+  pub queue : definitions_of (codes "__imp_queue") (placed_from mixed_bases mixed_objects)
+      ≡ record { name = codes "__imp_queue"; address = Some 0x2060 } ∷ []
+  pub baz : definitions_of (codes "__imp_baz") (placed_from mixed_bases mixed_objects)
+      ≡ record { name = codes "__imp_baz"; address = Some 0x2070 } ∷ []
+  pub stopped : TakesIntoFor AMD64 (archive_of_both foo_and_zed) (choosing ∷ []) mixed_without_last → ⊥
+  pub claimed : (taken : List MemberView) (m : MemberView) →
+      PullsIntoFor AMD64 (archive_of_both foo_and_zed) (choosing ∷ []) taken (codes "stack") m → ⊥
+  pub clashes : (arranged : List FlavorLibrary) (objects : List Object) →
+      AreClosedForBoth AMD64 foo_and_zed (clashing ∷ []) mixed_taken arranged objects → ⊥
+
+-- The object may be given, and wants the import of `queue` by itself. What members alone may claim are these names.
+pub record WorkedGivenForBoth : Type 0 where
+  pub given : AreGivenForBoth AMD64 foo_and_zed (choosing ∷ [])
+  pub kept : kept_of_both AMD64 foo_and_zed (choosing ∷ [])
+      ≡ codes "_head_foo_dll" ∷ codes "foo_dll_iname"
+      ∷ codes "__NULL_IMPORT_DESCRIPTOR" ∷ codes "__IMPORT_DESCRIPTOR_zed" ∷ (0x7F ∷ codes "zed_NULL_THUNK_DATA")
+      ∷ codes "baz" ∷ codes "baz" ∷ codes "__imp_baz" ∷ codes "__imp_queue" ∷ codes "queue" ∷ []
+  pub wants : 0 < length (short_inputs (msvc_among foo_and_zed) (unresolved (choosing ∷ [])))
+  pub ends : (taken : List MemberView) × TakesIntoFor AMD64 (archive_of_both foo_and_zed) (choosing ∷ []) taken
+
+-- an object with a `queue` of its own
+pub record NearAreGivenForBoth : Type 0 where
+  pub claims : AreGivenForBoth AMD64 foo_and_zed (clashing ∷ []) → ⊥
+
+-- zed.dll's members for both linkers
+pub record NearIsFlavorArchive : Type 0 where
+  pub apart : IsFlavorArchive AMD64
+      (record {
+        flavor = Gnu;
+        library = library_of (of_dll (codes "zed.dll") (plain_export (codes "queue") ∷ plain_export (codes "stack") ∷ []));
+      } ∷ short_zed ∷ []) → ⊥
+
+-- a head's symbol, and the null descriptor's
+pub record NearNamesNoMembers : Type 0 where
+  pub gnu : NamesNoMembers AMD64 foo_and_zed (codes "_head_foo_dll" ∷ []) → ⊥
+  pub msvc : NamesNoMembers AMD64 foo_and_zed (codes "__NULL_IMPORT_DESCRIPTOR" ∷ []) → ⊥
+
+-- nothing is taken; and the alias, whose name nothing wants
+pub record NearTakesOfBoth : Type 0 where
+  pub inputs : TakesOfBoth AMD64 foo_and_zed (codes "__imp_queue" ∷ []) [] → ⊥
+  pub weak : TakesOfBoth AMD64 foo_and_zed (codes "__imp_queue" ∷ []) mixed_taken → ⊥
+
+-- no short import is wanted; an order of no libraries; without the given object; without import tables; and of them the null
+-- descriptor alone
+pub record NearAreClosedForBoth : Type 0 where
+  pub some : AreClosedForBoth AMD64 (gnu_foo ∷ []) [] [] (gnu_foo ∷ []) [] → ⊥
+  pub order : AreClosedForBoth AMD64 foo_and_zed (choosing ∷ []) mixed_taken []
+      (choosing ∷ objects_taken AMD64 (foo_alias ∷ null_named (codes "zed.dll") ∷ [])) → ⊥
+  pub others : AreClosedForBoth AMD64 foo_and_zed (choosing ∷ []) mixed_taken zed_and_foo
+      (objects_taken AMD64 (foo_alias ∷ (zed_members ++ null_named (codes "zed.dll") ∷ foo_linked))) → ⊥
+  pub tables : AreClosedForBoth AMD64 foo_and_zed (choosing ∷ []) mixed_taken zed_and_foo
+      (choosing ∷ objects_taken AMD64 (foo_alias ∷ [])) → ⊥
+  pub members : AreClosedForBoth AMD64 foo_and_zed (choosing ∷ []) mixed_taken zed_and_foo
+      (choosing ∷ objects_taken AMD64 (foo_alias ∷ null_named (codes "zed.dll") ∷ [])) → ⊥
+
+-- hints at 0; tables 4 bytes on; and the null descriptor 4 bytes on
+pub record NearIsClosedForBoth : Type 0 where
+  pub admissible : IsClosedForBoth AMD64 foo_and_zed (choosing ∷ []) mixed_taken zed_and_foo
+      (record mixed_bases { hint_names = 0 }) mixed_objects → ⊥
+  pub lookups : IsClosedForBoth AMD64 foo_and_zed (choosing ∷ []) mixed_taken zed_and_foo
+      (record mixed_bases { lookups = 0x2044 }) mixed_objects → ⊥
+  pub addresses : IsClosedForBoth AMD64 foo_and_zed (choosing ∷ []) mixed_taken zed_and_foo
+      (record mixed_bases { addresses = 0x2044 }) mixed_objects → ⊥
+  pub follows : IsClosedForBoth AMD64 foo_and_zed (choosing ∷ []) mixed_taken zed_and_foo
+      (record mixed_bases { directory_ends = 0x2030 }) mixed_objects → ⊥
+
+-- a function that is defined twice, and one that is no import
+pub record NearIsImportedOfBoth : Type 0 where
+  pub by : IsImportedOfBoth AMD64 (again ∷ placed_from mixed_bases mixed_objects) mixed_bases mixed_inputs (codes "queue") → ⊥
+  pub input_is_and_export_is : IsImportedOfBoth AMD64 (again ∷ []) mixed_bases mixed_inputs (codes "printf") → ⊥
+
+-- names that are none of an export's
+pub record NearIsUsedIn : Type 0 where
+  pub gnu : IsUsedIn Gnu (codes "bar" ∷ codes "printf" ∷ []) (plain_export (codes "baz")) → ⊥
+  pub msvc : IsUsedIn Msvc (codes "bar" ∷ codes "printf" ∷ []) (plain_export (codes "queue")) → ⊥
+
+-- nothing is linked but the object
+pub record NearLinksClosedForBoth : Type 0 where
+  pub closed : LinksClosedForBoth AMD64 foo_and_zed (choosing ∷ []) [] zed_and_foo mixed_bases (choosing ∷ []) → ⊥

@@ -1,0 +1,137 @@
+-- A closed program by hand, of an object and two libraries, one of which has an alias.
+use Rattle.std.specs.Prelude.{◌≡◌, List, [], ◌∷◌, ◌++◌, codes, map, Some}
+use Rattle.implib.specs.declared.machine.MachineType.TheVariants.{AMD64}
+use Rattle.implib.specs.Formats.Constants.{class_external}
+use Rattle.implib.specs.Formats.Object.{Object}
+use Rattle.implib.specs.Link.LinkedMembers.{objects_in}
+use Rattle.implib.specs.Link.Placement.{Bases, placed_from}
+use Rattle.implib.specs.Link.Resolution.{definitions_of}
+use Rattle.implib.specs.Members.Gnu.{weak_name}
+use Rattle.implib.specs.Members.GnuMembers.{export_spec, head_spec, tail_spec}
+use Rattle.implib.specs.Members.MemberSpec.{MemberView, member_of}
+use Rattle.implib.specs.Members.WeakExternal.{weak_spec}
+use Rattle.implib.specs.Worked.Members.{of_dll}
+use Rattle.implib.specs.Worked.Statements.{plain_export}
+use Rattle.implib_link.specs.Gnu.Packed.{packed}
+use Rattle.implib_link.specs.Gnu.Program.{null_descriptor}
+use Rattle.implib_link.specs.Search.Archives.{IsArchive, Library, archive_of}
+use Rattle.implib_link.specs.Search.Closed.{IsClosed, LinksClosed, PullsInto, TakesInto, inputs_in, unresolved, wanted_in}
+use Rattle.implib_link.specs.Search.Given.{AreGiven, symbols_kept}
+use Rattle.implib_link_instances.specs.Worked.Archives.{library_of, two_libraries}
+use Rattle.implib_link_instances.specs.Worked.Programs.{code_object, symbol_of_class}
+use Rattle.implib_link_instances.specs.Worked.Search.{aliased}
+use Rattle.implib.specs.LibraryName.{own_names}
+
+-- an object that names data of foo.dll by its alias, a function of zed.dll by its pointer, and one of another
+-- library; and that has a function of its own, `stack`, which zed.dll exports, too
+abbrev pub choosing : Object
+choosing = code_object (
+    symbol_of_class (codes "main") 1 class_external
+    ∷ symbol_of_class (codes "stack") 1 class_external
+    ∷ symbol_of_class (codes "bar") 0 class_external
+    ∷ symbol_of_class (codes "__imp_queue") 0 class_external
+    ∷ symbol_of_class (codes "printf") 0 class_external
+    ∷ [])
+
+-- the same with `queue` for `stack`: of its own, and by its pointer from zed.dll
+abbrev pub clashing : Object
+clashing = code_object (
+    symbol_of_class (codes "main") 1 class_external
+    ∷ symbol_of_class (codes "queue") 1 class_external
+    ∷ symbol_of_class (codes "bar") 0 class_external
+    ∷ symbol_of_class (codes "__imp_queue") 0 class_external
+    ∷ symbol_of_class (codes "printf") 0 class_external
+    ∷ [])
+
+-- the members that are taken: of foo.dll the alias, and of both the head, an export's member and the tail
+abbrev pub foo_alias : MemberView
+foo_alias = member_of (weak_spec AMD64 (weak_name (codes "foo.dll") 0) (codes "bar") (codes "baz"))
+
+abbrev pub foo_linked : List MemberView
+foo_linked =
+    member_of (head_spec AMD64 (codes "foo.dll"))
+    ∷ member_of (export_spec AMD64 (codes "foo.dll") 1 (plain_export (codes "baz")))
+    ∷ member_of (tail_spec AMD64 (own_names (codes "foo.dll")))
+    ∷ []
+
+abbrev pub zed_linked : List MemberView
+zed_linked =
+    member_of (head_spec AMD64 (codes "zed.dll"))
+    ∷ member_of (export_spec AMD64 (codes "zed.dll") 0 (plain_export (codes "queue")))
+    ∷ member_of (tail_spec AMD64 (own_names (codes "zed.dll")))
+    ∷ []
+
+-- as a linker takes them, the last one first
+abbrev pub closed_taken : List MemberView
+closed_taken =
+    member_of (tail_spec AMD64 (own_names (codes "zed.dll")))
+    ∷ member_of (head_spec AMD64 (codes "zed.dll"))
+    ∷ member_of (export_spec AMD64 (codes "zed.dll") 0 (plain_export (codes "queue")))
+    ∷ member_of (tail_spec AMD64 (own_names (codes "foo.dll")))
+    ∷ member_of (head_spec AMD64 (codes "foo.dll"))
+    ∷ member_of (export_spec AMD64 (codes "foo.dll") 1 (plain_export (codes "baz")))
+    ∷ foo_alias
+    ∷ []
+
+-- all of them but the last one
+abbrev pub without_last : List MemberView
+without_last =
+    member_of (head_spec AMD64 (codes "zed.dll"))
+    ∷ member_of (export_spec AMD64 (codes "zed.dll") 0 (plain_export (codes "queue")))
+    ∷ member_of (tail_spec AMD64 (own_names (codes "foo.dll")))
+    ∷ member_of (head_spec AMD64 (codes "foo.dll"))
+    ∷ member_of (export_spec AMD64 (codes "foo.dll") 1 (plain_export (codes "baz")))
+    ∷ foo_alias
+    ∷ []
+
+-- the libraries as they are linked, zed.dll first
+abbrev pub zed_first : List Library
+zed_first =
+    library_of (of_dll (codes "zed.dll") (plain_export (codes "queue") ∷ plain_export (codes "stack") ∷ []))
+    ∷ library_of aliased
+    ∷ []
+
+-- what is linked: the alias, zed.dll's members, the object, foo.dll's members, the null descriptor
+abbrev pub closed_objects : List Object
+closed_objects =
+    objects_in (foo_alias ∷ zed_linked) ++ choosing ∷ (objects_in foo_linked ++ null_descriptor ∷ [])
+
+abbrev pub closed_bases : Bases
+closed_bases = packed 0x2000 closed_objects
+
+-- The object leaves three names unresolved, for which a linker takes seven members; with them it is a closed
+-- program, in which `printf` alone is left. The pointer to `queue` is zed.dll's first entry, and that to `baz`
+-- foo.dll's. A search that stops before the last member is none; a name that the object claims pulls in nothing;
+-- and an object with a `queue` of its own is not closed by these members.
+pub record WorkedClosed : Type 0 where
+  pub archive : IsArchive AMD64 two_libraries
+  pub leaves : unresolved (choosing ∷ []) ≡ codes "bar" ∷ codes "__imp_queue" ∷ codes "printf" ∷ []
+  pub takes : TakesInto (archive_of two_libraries) (choosing ∷ []) closed_taken
+  pub wanted : wanted_in (choosing ∷ []) closed_taken
+      ≡ codes "bar" ∷ codes "__imp_queue" ∷ codes "printf" ∷ codes "baz" ∷ []
+  pub chosen : map (λ p. p.chosen) (inputs_in zed_first (choosing ∷ []) closed_taken)
+      ≡ (0 ∷ []) ∷ (1 ∷ []) ∷ []
+  pub closed : IsClosed AMD64 two_libraries (choosing ∷ []) closed_taken zed_first closed_bases closed_objects
+  pub links : LinksClosed AMD64 two_libraries (choosing ∷ []) closed_taken zed_first closed_bases
+      closed_objects
+  pub left : unresolved closed_objects ≡ codes "printf" ∷ []
+  pub queue : definitions_of (codes "__imp_queue") (placed_from closed_bases closed_objects)
+      ≡ record { name = codes "__imp_queue"; address = Some 0x2060 } ∷ []
+  pub baz : definitions_of (codes "__imp_baz") (placed_from closed_bases closed_objects)
+      ≡ record { name = codes "__imp_baz"; address = Some 0x2070 } ∷ []
+  pub stopped : TakesInto (archive_of two_libraries) (choosing ∷ []) without_last → ⊥
+  pub claimed : (taken : List MemberView) (m : MemberView) →
+      PullsInto (archive_of two_libraries) (choosing ∷ []) taken (codes "stack") m → ⊥
+  pub clashes : (arranged : List Library) (bases : Bases) (objects : List Object) →
+      IsClosed AMD64 two_libraries (clashing ∷ []) closed_taken arranged bases objects → ⊥
+
+-- The first object may be given: so the search for it ends, and what was taken closes the program. What members
+-- alone may claim are these names, `queue` among them: so the object that has one of its own may not.
+pub record WorkedGiven : Type 0 where
+  pub given : AreGiven AMD64 two_libraries (choosing ∷ [])
+  pub kept : symbols_kept AMD64 two_libraries (choosing ∷ [])
+      ≡ codes "_head_foo_dll" ∷ codes "_head_zed_dll" ∷ codes "foo_dll_iname" ∷ codes "zed_dll_iname"
+      ∷ codes "baz" ∷ codes "baz" ∷ codes "__imp_baz" ∷ codes "queue" ∷ codes "__imp_queue" ∷ []
+  pub ends : (taken : List MemberView) × TakesInto (archive_of two_libraries) (choosing ∷ []) taken
+  pub closed : IsClosed AMD64 two_libraries (choosing ∷ []) closed_taken zed_first closed_bases closed_objects
+  pub refused : AreGiven AMD64 two_libraries (clashing ∷ []) → ⊥

@@ -1,0 +1,180 @@
+-- Programs of DLLs in both flavours, linked by hand: foo.dll by members for Microsoft's linker, with four
+-- exports chosen in an order of its own, and zed.dll by members for GNU's, with one, between a caller and
+-- another object; and tables at addresses where no loader finds them.
+use Rattle.std.specs.Prelude.{◌≡◌, ℕ, ◌+◌, List, [], ◌∷◌, ◌++◌, codes, drop, map, take, true, Option, Some}
+use Rattle.std.specs.List.{AllByRecursion}
+use Rattle.implib.specs.declared.flavor.Flavor.TheVariants.{Gnu, Msvc}
+use Rattle.implib.specs.declared.machine.MachineType.{MachineType}
+use Rattle.implib.specs.declared.machine.MachineType.TheVariants.{I386, ARMNT, AMD64, ARM64}
+use Rattle.implib.specs.Formats.Constants.{class_external}
+use Rattle.implib.specs.Definition.{DefinitionView, ExportView}
+use Rattle.implib.specs.Link.Image.{IsAdmissible, Range, image_of}
+use Rattle.implib.specs.Import.{Ask, Name, Ordinal, imp_symbol}
+use Rattle.implib.specs.Members.ImportTables.{thunk_width}
+use Rattle.implib.specs.Link.Load.{LoadsStrictly}
+use Rattle.implib.specs.Members.MemberSpec.{MemberView, member_of}
+use Rattle.implib.specs.Members.Members.{member_specs}
+use Rattle.implib.specs.Formats.Object.{ASymbol, Object}
+use Rattle.implib.specs.Link.Placement.{Bases, Placed, placed_from}
+use Rattle.implib.specs.Renaming.{renamed}
+use Rattle.implib.specs.Link.Resolution.{symbol_address}
+use Rattle.implib.specs.Worked.Links.{addresses_of, bytes_from, nameless, numbers_from}
+use Rattle.implib.specs.Worked.Members.{of_dll}
+use Rattle.implib.specs.Worked.Statements.{plain_export}
+use Rattle.implib_link.specs.Flavors.Program.{FlavorInput, IsFlavorProgram, IsMadeFor, all_members, null_member, objects_taken}
+use Rattle.implib_link_instances.specs.Worked.Programs.{another, caller, symbol_of_class, symbol_on, zed_dll}
+
+-- four exports: a function with the hint 258, data, one by its ordinal, and one with a symbol name
+abbrev pub foo_exports : MachineType → List ExportView
+foo_exports machine =
+    record (plain_export (symbol_on machine (codes "open"))) { ordinal = 258 }
+    ∷ record (plain_export (symbol_on machine (codes "stat"))) { is_data = true }
+    ∷ nameless (symbol_on machine (codes "nine")) 9
+    ∷ record (plain_export (codes "f")) { symbol_name = codes "_f@8" }
+    ∷ []
+
+abbrev pub foo_msvc : MachineType → DefinitionView
+foo_msvc machine = of_dll (codes "foo.dll") (foo_exports machine)
+
+-- the two inputs
+abbrev pub foo_input : MachineType → FlavorInput
+foo_input machine = record {
+  flavor = Msvc;
+  input = record {
+    definition = foo_msvc machine;
+    members = map member_of (member_specs (renamed (foo_msvc machine)) machine Msvc);
+    chosen = 2 ∷ 0 ∷ 1 ∷ 3 ∷ [];
+  };
+}
+
+abbrev pub zed_input : MachineType → FlavorInput
+zed_input machine = record {
+  flavor = Gnu;
+  input = record {
+    definition = zed_dll machine;
+    members = map member_of (member_specs (renamed (zed_dll machine)) machine Gnu);
+    chosen = 0 ∷ [];
+  };
+}
+
+abbrev pub both_inputs : MachineType → List FlavorInput
+both_inputs machine = foo_input machine ∷ zed_input machine ∷ []
+
+-- the members with foo.dll's null descriptor put in after the first few
+abbrev pub members_with_null : MachineType → ℕ → List MemberView
+members_with_null machine count =
+    take count (all_members machine (both_inputs machine))
+    ++ null_member machine (codes "foo.dll") ∷ drop count (all_members machine (both_inputs machine))
+
+-- what is linked: the caller, what these are taken for, the other object
+abbrev pub flavor_objects : MachineType → ℕ → List Object
+flavor_objects machine count =
+    caller machine ∷ (objects_taken machine (members_with_null machine count) ++ another machine ∷ [])
+
+-- bases whose ranges touch or nearly do, for thunks of 8 and of 4 bytes
+abbrev pub flavor_bases_8 : Bases
+flavor_bases_8 = record {
+  descriptors = 8;
+  directory_ends = 48;
+  lookups = 72;
+  addresses = 128;
+  hint_names = 184;
+  dll_names = 220;
+}
+
+abbrev pub flavor_bases_4 : Bases
+flavor_bases_4 = record {
+  descriptors = 8;
+  directory_ends = 48;
+  lookups = 68;
+  addresses = 96;
+  hint_names = 124;
+  dll_names = 160;
+}
+
+-- the DLL's name, hints and names, some with a byte filled in after
+abbrev pub flavor_hints : List ℕ
+flavor_hints =
+    codes "foo.dll" ++ 0
+    ∷ 2 ∷ 1 ∷ (codes "open" ++ 0 ∷ 0
+    ∷ 0 ∷ 0 ∷ (codes "stat" ++ 0 ∷ 0
+    ∷ 0 ∷ 0 ∷ (codes "f" ++ 0
+    ∷ 0 ∷ 0 ∷ (codes "queue" ++ 0 ∷ []))))
+
+-- what an image holds: the fields of both descriptors and of the null descriptor, the thunks of a table, the
+-- addresses of the entries of `nine`, `open`, `stat`, `_f@8`, `queue`, and of the symbol that the caller
+-- names
+pub record FlavorExpected : Type 0 where
+  pub descriptors : List ℕ
+  pub thunks : List ℕ
+  pub entries : List (List (Option ℕ))
+  pub named : Option ℕ
+
+abbrev pub flavor_expected_8 : FlavorExpected
+flavor_expected_8 = record {
+  descriptors = 72 ∷ 0 ∷ 0 ∷ 184 ∷ 128 ∷ 112 ∷ 0 ∷ 0 ∷ 224 ∷ 168 ∷ 0 ∷ 0 ∷ 0 ∷ 0 ∷ 0 ∷ [];
+  thunks = 0x8000_0000_0000_0009 ∷ 192 ∷ 200 ∷ 208 ∷ 0 ∷ 212 ∷ 0 ∷ [];
+  entries = (Some 128 ∷ []) ∷ (Some 136 ∷ []) ∷ (Some 144 ∷ []) ∷ (Some 152 ∷ []) ∷ (Some 168 ∷ []) ∷ [];
+  named = Some 136;
+}
+
+abbrev pub flavor_expected_4 : FlavorExpected
+flavor_expected_4 = record {
+  descriptors = 68 ∷ 0 ∷ 0 ∷ 124 ∷ 96 ∷ 88 ∷ 0 ∷ 0 ∷ 164 ∷ 116 ∷ 0 ∷ 0 ∷ 0 ∷ 0 ∷ 0 ∷ [];
+  thunks = 0x8000_0009 ∷ 132 ∷ 140 ∷ 148 ∷ 0 ∷ 152 ∷ 0 ∷ [];
+  entries = (Some 96 ∷ []) ∷ (Some 100 ∷ []) ∷ (Some 104 ∷ []) ∷ (Some 108 ∷ []) ∷ (Some 116 ∷ []) ∷ [];
+  named = Some 100;
+}
+
+abbrev pub flavor_placed : MachineType → ℕ → Bases → List Placed
+flavor_placed machine count bases = placed_from bases (flavor_objects machine count)
+
+abbrev pub flavor_image : MachineType → ℕ → Bases → List Range
+flavor_image machine count bases = image_of machine bases (flavor_placed machine count bases)
+
+-- The program of a machine, with the null descriptor after the first few members, meets all that the law
+-- asks for, and its image holds what is expected.
+pub record WorkedFlavorProgram (machine : MachineType) (count : ℕ) (bases : Bases) (expected : FlavorExpected)
+    : Type 0 where
+  pub made : AllByRecursion (IsMadeFor machine) (both_inputs machine)
+  pub program : IsFlavorProgram machine bases (both_inputs machine) (flavor_objects machine count)
+  pub descriptors : numbers_from (flavor_image machine count bases) 4 15 bases.descriptors
+      ≡ Some expected.descriptors
+  pub lookups : numbers_from (flavor_image machine count bases) (thunk_width machine) 7 bases.lookups
+      ≡ Some expected.thunks
+  pub addresses : numbers_from (flavor_image machine count bases) (thunk_width machine) 7 bases.addresses
+      ≡ Some expected.thunks
+  pub hints : bytes_from (flavor_image machine count bases) 36 bases.hint_names ≡ Some flavor_hints
+  pub zed : bytes_from (flavor_image machine count bases) 8 (bases.dll_names + 4)
+      ≡ Some (codes "zed.dll" ++ 0 ∷ [])
+  pub entries : map
+      (λ name. addresses_of (imp_symbol name) (flavor_placed machine count bases))
+      (symbol_on machine (codes "nine") ∷ symbol_on machine (codes "open") ∷ symbol_on machine (codes "stat")
+      ∷ codes "_f@8" ∷ symbol_on machine (codes "queue") ∷ []) ≡ expected.entries
+  pub named : symbol_address (flavor_placed machine count bases)
+      (record { object = caller machine; section_addresses = [] })
+      (ASymbol (symbol_of_class (imp_symbol (symbol_on machine (codes "open"))) 0 class_external))
+      ≡ expected.named
+
+-- on all four machines: the null descriptor in front of all members, between those of foo.dll, and after all
+pub record WorkedFlavors : Type 0 where
+  pub amd64 : WorkedFlavorProgram AMD64 0 flavor_bases_8 flavor_expected_8
+  pub i386 : WorkedFlavorProgram I386 2 flavor_bases_4 flavor_expected_4
+  pub arm64 : WorkedFlavorProgram ARM64 9 flavor_bases_8 flavor_expected_8
+  pub armnt : WorkedFlavorProgram ARMNT 2 flavor_bases_4 flavor_expected_4
+
+-- what foo.dll is asked for
+abbrev pub foo_asks : List Ask
+foo_asks = Ordinal 9 ∷ Name (codes "open") 258 ∷ Name (codes "stat") 0 ∷ Name (codes "f") 0 ∷ []
+
+-- the same bases, but for lookup tables from a multiple of 4 on that is none of 8
+abbrev pub shifted_bases : Bases
+shifted_bases = record flavor_bases_8 { lookups = 68 }
+
+-- Such bases are admissible, and yet no program's: the import descriptor leads to 68, where zeros fill the
+-- gap before the first thunk, and the eight bytes there are not the thunk. No strict loader takes that.
+pub record RefusedTables : Type 0 where
+  pub admissible : IsAdmissible AMD64 shifted_bases (flavor_objects AMD64 0)
+  pub field : numbers_from (flavor_image AMD64 0 shifted_bases) 4 1 8 ≡ Some (68 ∷ [])
+  pub thunk : numbers_from (flavor_image AMD64 0 shifted_bases) 8 1 68 ≡ Some (0x9_0000_0000 ∷ [])
+  pub refused : LoadsStrictly (flavor_image AMD64 0 shifted_bases) 8 8 (codes "foo.dll") foo_asks → ⊥

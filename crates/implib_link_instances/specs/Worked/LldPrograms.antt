@@ -1,0 +1,422 @@
+-- Programs that lld-link 14.0.6 and 19.1.7 wrote for three machines, the same bytes by both: the short imports of
+-- llvm-dlltool 19.1.7, the code of an object before and after the link, the thunk, and the import tables.
+use Rattle.std.specs.Prelude.{◌≡◌, ℕ, ◌+◌, List, [], ◌∷◌, ◌++◌, codes, drop, slice_get, take, Option, None, Some}
+use Rattle.std.specs.List.{filter_map}
+use Rattle.implib.specs.declared.coff.object.Relocation.{Relocation}
+use Rattle.implib.specs.declared.machine.MachineType.{MachineType}
+use Rattle.implib.specs.declared.machine.MachineType.TheVariants.{I386, ARMNT, AMD64, ARM64}
+use Rattle.implib.specs.Formats.Constants.{align_16bytes, amd64_rel32, arm64_pagebase_rel21, arm64_pageoffset_12l, class_external, cnt_code, i386_dir32, mem_execute_read}
+use Rattle.implib.specs.Formats.Object.{ASymbol, Auxiliary, Entry, Object, ObjectSection}
+use Rattle.implib.specs.Formats.ShortImport.{ShortImport, import_code}
+use Rattle.implib.specs.Import.{imp_symbol}
+use Rattle.implib.specs.Link.Image.{Range}
+use Rattle.implib.specs.Link.Placement.{Placed, Unplaced}
+use Rattle.implib.specs.Link.Resolution.{symbol_address}
+use Rattle.implib.specs.Machine.{machine_number}
+use Rattle.implib.specs.Members.Gnu.{section, text_name}
+use Rattle.implib.specs.Members.ImportTables.{thunk_width}
+use Rattle.implib_link.specs.Flavors.LldImports.{IsLldProgram, imports_of_lld, placed_by_lld, short_for}
+use Rattle.implib_link.specs.Flavors.LldLoaded.{IsLldLoaded}
+use Rattle.implib_link.specs.Flavors.LldTables.{built_bytes}
+use Rattle.implib_link.specs.Flavors.LldThunks.{BranchArrivesByThunk, IsThunk, ThunkArrives, placed_thunk, thunk_section}
+use Rattle.implib_link.specs.Gnu.Calls.{arm64_branch26, i386_rel32}
+use Rattle.implib_link.specs.Gnu.Fields.{IsRelocated, LinkedCode, ranges_of_codes}
+use Rattle.implib_link.specs.Gnu.Moves.{AreInMemory}
+use Rattle.implib_link.specs.Gnu.Operands.{AllLead, HasBranch, HasInstruction, HasOffsetField, HasPageField}
+use Rattle.implib_link.specs.Gnu.Reading.{ReadsAndWrites}
+use Rattle.implib_link.specs.Gnu.Rebased.{Place}
+use Rattle.implib_link.specs.Tables.{AreSteady, AreTables, CanReadFrom, IsInTable, RiseFrom, Table, Tables, tables_of_lld}
+use Rattle.implib_link_instances.specs.Worked.Calls.{given_on}
+use Rattle.implib_link_instances.specs.Worked.Lld.{gee_bytes, mid_bytes, written_by_lld, zeta_bytes}
+use Rattle.implib_link_instances.specs.Worked.Programs.{symbol_of_class, symbol_on}
+
+-- The short imports, as they were read: `mid` and `zeta` of beta.dll, the first by its ordinal, `gee` of alpha.dll.
+-- ARM64's differ from AMD64's in the machine alone.
+abbrev pub on_arm64 : List ℕ → List ℕ
+on_arm64 bytes = take 7 bytes ++ 0xAA ∷ drop 8 bytes
+
+abbrev pub short_files : MachineType → List (List ℕ)
+short_files I386 =
+    (0 ∷ 0 ∷ 0xFF ∷ 0xFF ∷ 0 ∷ 0 ∷ 0x4C ∷ 1 ∷ 0 ∷ 0 ∷ 0 ∷ 0 ∷ 0x0E ∷ 0 ∷ 0 ∷ 0 ∷ 7 ∷ 0 ∷ 0 ∷ 0 ∷ 0x5F ∷ 0x6D ∷
+    0x69 ∷ 0x64 ∷ 0 ∷ 0x62 ∷ 0x65 ∷ 0x74 ∷ 0x61 ∷ 0x2E ∷ 0x64 ∷ 0x6C ∷ 0x6C ∷ 0 ∷ [])
+    ∷ (0 ∷ 0 ∷ 0xFF ∷ 0xFF ∷ 0 ∷ 0 ∷ 0x4C ∷ 1 ∷ 0 ∷ 0 ∷ 0 ∷ 0 ∷ 0x0F ∷ 0 ∷ 0 ∷ 0 ∷ 2 ∷ 1 ∷ 8 ∷ 0 ∷ 0x5F ∷ 0x67 ∷
+    0x65 ∷ 0x65 ∷ 0 ∷ 0x61 ∷ 0x6C ∷ 0x70 ∷ 0x68 ∷ 0x61 ∷ 0x2E ∷ 0x64 ∷ 0x6C ∷ 0x6C ∷ 0 ∷ [])
+    ∷ (0 ∷ 0 ∷ 0xFF ∷ 0xFF ∷ 0 ∷ 0 ∷ 0x4C ∷ 1 ∷ 0 ∷ 0 ∷ 0 ∷ 0 ∷ 0x0F ∷ 0 ∷ 0 ∷ 0 ∷ 5 ∷ 0 ∷ 8 ∷ 0 ∷ 0x5F ∷ 0x7A ∷
+    0x65 ∷ 0x74 ∷ 0x61 ∷ 0 ∷ 0x62 ∷ 0x65 ∷ 0x74 ∷ 0x61 ∷ 0x2E ∷ 0x64 ∷ 0x6C ∷ 0x6C ∷ 0 ∷ [])
+    ∷ []
+short_files ARMNT = []
+short_files AMD64 = mid_bytes ∷ gee_bytes ∷ zeta_bytes ∷ []
+short_files ARM64 = on_arm64 mid_bytes ∷ on_arm64 gee_bytes ∷ on_arm64 zeta_bytes ∷ []
+
+-- on I386 a leading `_` is no part of the name that is asked for
+abbrev pub by_name : MachineType → ℕ
+by_name I386 = 2
+by_name ARMNT = 1
+by_name AMD64 = 1
+by_name ARM64 = 1
+
+abbrev pub short_on : MachineType → List ℕ → List ℕ → ℕ → ℕ → ShortImport
+short_on machine dll name ordinal name_type = record {
+  version = 0;
+  machine = machine_number machine;
+  time = 0;
+  ordinal = ordinal;
+  import_type = import_code;
+  name_type = name_type;
+  symbol = symbol_on machine name;
+  dll = dll;
+}
+
+abbrev pub mid_on : MachineType → ShortImport
+mid_on machine = short_on machine (codes "beta.dll") (codes "mid") 7 0
+
+abbrev pub gee_on : MachineType → ShortImport
+gee_on machine = short_on machine (codes "alpha.dll") (codes "gee") 258 (by_name machine)
+
+abbrev pub zeta_on : MachineType → ShortImport
+zeta_on machine = short_on machine (codes "beta.dll") (codes "zeta") 5 (by_name machine)
+
+-- as lld took them, the last one in front
+abbrev pub shorts_on : MachineType → List ShortImport
+shorts_on machine = mid_on machine ∷ gee_on machine ∷ zeta_on machine ∷ []
+
+-- The section `.rdata`, from 0x2000 on; ARM64's has the same bytes as AMD64's.
+abbrev pub tables_on : MachineType → List ℕ
+tables_on I386 =
+    0x3C ∷ 0x20 ∷ 0 ∷ 0 ∷ 0 ∷ 0 ∷ 0 ∷ 0 ∷ 0 ∷ 0 ∷ 0 ∷ 0 ∷ 0x72 ∷ 0x20 ∷ 0 ∷ 0 ∷ 0x50 ∷ 0x20 ∷ 0 ∷ 0 ∷ 0x48 ∷
+    0x20 ∷ 0 ∷ 0 ∷ 0 ∷ 0 ∷ 0 ∷ 0 ∷ 0 ∷ 0 ∷ 0 ∷ 0 ∷ 0x7B ∷ 0x20 ∷ 0 ∷ 0 ∷ 0x5C ∷ 0x20 ∷ 0 ∷ 0 ∷ 0 ∷ 0 ∷ 0 ∷ 0 ∷
+    0 ∷ 0 ∷ 0 ∷ 0 ∷ 0 ∷ 0 ∷ 0 ∷ 0 ∷ 0 ∷ 0 ∷ 0 ∷ 0 ∷ 0 ∷ 0 ∷ 0 ∷ 0 ∷ 7 ∷ 0 ∷ 0 ∷ 0x80 ∷ 0x64 ∷ 0x20 ∷ 0 ∷ 0 ∷ 0 ∷
+    0 ∷ 0 ∷ 0 ∷ 0x6C ∷ 0x20 ∷ 0 ∷ 0 ∷ 0 ∷ 0 ∷ 0 ∷ 0 ∷ 7 ∷ 0 ∷ 0 ∷ 0x80 ∷ 0x64 ∷ 0x20 ∷ 0 ∷ 0 ∷ 0 ∷ 0 ∷ 0 ∷ 0 ∷
+    0x6C ∷ 0x20 ∷ 0 ∷ 0 ∷ 0 ∷ 0 ∷ 0 ∷ 0 ∷ 5 ∷ 0 ∷ 0x7A ∷ 0x65 ∷ 0x74 ∷ 0x61 ∷ 0 ∷ 0 ∷ 2 ∷ 1 ∷ 0x67 ∷ 0x65 ∷
+    0x65 ∷ 0 ∷ 0x62 ∷ 0x65 ∷ 0x74 ∷ 0x61 ∷ 0x2E ∷ 0x64 ∷ 0x6C ∷ 0x6C ∷ 0 ∷ 0x61 ∷ 0x6C ∷ 0x70 ∷ 0x68 ∷ 0x61 ∷
+    0x2E ∷ 0x64 ∷ 0x6C ∷ 0x6C ∷ 0 ∷ []
+tables_on ARMNT = []
+tables_on AMD64 = written_by_lld
+tables_on ARM64 = written_by_lld
+
+-- where the address tables, the lookup tables, the hints and names and the names of DLLs are
+abbrev pub addresses_on : MachineType → ℕ
+addresses_on I386 = 0x2050
+addresses_on ARMNT = 0
+addresses_on AMD64 = 0x2068
+addresses_on ARM64 = 0x2068
+
+abbrev pub lookups_on : MachineType → ℕ
+lookups_on I386 = 0x203C
+lookups_on ARMNT = 0
+lookups_on AMD64 = 0x2040
+lookups_on ARM64 = 0x2040
+
+abbrev pub hints_on : MachineType → ℕ
+hints_on I386 = 0x2064
+hints_on ARMNT = 0
+hints_on AMD64 = 0x2090
+hints_on ARM64 = 0x2090
+
+abbrev pub names_on : MachineType → ℕ
+names_on I386 = 0x2072
+names_on ARMNT = 0
+names_on AMD64 = 0x209E
+names_on ARM64 = 0x209E
+
+-- The code of the object. I386: `call [__imp__zeta]`, `mov eax, [__imp__gee]`, `call _mid`, `ret`; AMD64: the same of
+-- `__imp_zeta`, `__imp_gee`, into `rax`, and `mid`; ARM64: `adrp x8`, `ldr x8, [x8]`, `blr x8` for `__imp_zeta`,
+-- `adrp x9`, `ldr x10, [x9]` for `__imp_gee`, `bl mid`, `ret`.
+abbrev pub object_code : MachineType → List ℕ
+object_code I386 =
+    0xFF ∷ 0x15 ∷ 0 ∷ 0 ∷ 0 ∷ 0 ∷ 0xA1 ∷ 0 ∷ 0 ∷ 0 ∷ 0 ∷ 0xE8 ∷ 0 ∷ 0 ∷ 0 ∷ 0 ∷ 0xC3 ∷ []
+object_code ARMNT = []
+object_code AMD64 =
+    0xFF ∷ 0x15 ∷ 0 ∷ 0 ∷ 0 ∷ 0 ∷ 0x48 ∷ 0x8B ∷ 5 ∷ 0 ∷ 0 ∷ 0 ∷ 0 ∷ 0xE8 ∷ 0 ∷ 0 ∷ 0 ∷ 0 ∷ 0xC3 ∷ []
+object_code ARM64 =
+    8 ∷ 0 ∷ 0 ∷ 0x90 ∷ 8 ∷ 1 ∷ 0x40 ∷ 0xF9 ∷ 0 ∷ 1 ∷ 0x3F ∷ 0xD6 ∷ 9 ∷ 0 ∷ 0 ∷ 0x90 ∷ 0x2A ∷ 1 ∷ 0x40 ∷ 0xF9
+    ∷ 0 ∷ 0 ∷ 0 ∷ 0x94 ∷ 0xC0 ∷ 3 ∷ 0x5F ∷ 0xD6 ∷ []
+
+abbrev pub object_relocations : MachineType → List Relocation
+object_relocations I386 =
+    record { offset = 2; symbol = 1; kind = i386_dir32 }
+    ∷ record { offset = 7; symbol = 2; kind = i386_dir32 }
+    ∷ record { offset = 12; symbol = 3; kind = i386_rel32 }
+    ∷ []
+object_relocations ARMNT = []
+object_relocations AMD64 =
+    record { offset = 2; symbol = 1; kind = amd64_rel32 }
+    ∷ record { offset = 9; symbol = 2; kind = amd64_rel32 }
+    ∷ record { offset = 14; symbol = 3; kind = amd64_rel32 }
+    ∷ []
+object_relocations ARM64 =
+    record { offset = 0; symbol = 1; kind = arm64_pagebase_rel21 }
+    ∷ record { offset = 4; symbol = 1; kind = arm64_pageoffset_12l }
+    ∷ record { offset = 12; symbol = 2; kind = arm64_pagebase_rel21 }
+    ∷ record { offset = 16; symbol = 2; kind = arm64_pageoffset_12l }
+    ∷ record { offset = 20; symbol = 3; kind = arm64_branch26 }
+    ∷ []
+
+-- and after the link, from 0x1000 on
+abbrev pub linked_code : MachineType → List ℕ
+linked_code I386 =
+    0xFF ∷ 0x15 ∷ 0x54 ∷ 0x20 ∷ 0x40 ∷ 0 ∷ 0xA1 ∷ 0x5C ∷ 0x20 ∷ 0x40 ∷ 0 ∷ 0xE8 ∷ 1 ∷ 0 ∷ 0 ∷ 0 ∷ 0xC3 ∷ []
+linked_code ARMNT = []
+linked_code AMD64 =
+    0xFF ∷ 0x15 ∷ 0x6A ∷ 0x10 ∷ 0 ∷ 0 ∷ 0x48 ∷ 0x8B ∷ 5 ∷ 0x73 ∷ 0x10 ∷ 0 ∷ 0 ∷ 0xE8 ∷ 0x0E ∷ 0 ∷ 0 ∷ 0 ∷ 0xC3 ∷ []
+linked_code ARM64 =
+    8 ∷ 0 ∷ 0 ∷ 0xB0 ∷ 8 ∷ 0x39 ∷ 0x40 ∷ 0xF9 ∷ 0 ∷ 1 ∷ 0x3F ∷ 0xD6 ∷ 9 ∷ 0 ∷ 0 ∷ 0xB0 ∷ 0x2A ∷ 0x41 ∷ 0x40 ∷ 0xF9
+    ∷ 2 ∷ 0 ∷ 0 ∷ 0x94 ∷ 0xC0 ∷ 3 ∷ 0x5F ∷ 0xD6 ∷ []
+
+-- the thunk of `mid`, and its address
+abbrev pub linked_thunk : MachineType → List ℕ
+linked_thunk I386 = 0xFF ∷ 0x25 ∷ 0x50 ∷ 0x20 ∷ 0x40 ∷ 0 ∷ []
+linked_thunk ARMNT = []
+linked_thunk AMD64 = 0xFF ∷ 0x25 ∷ 0x42 ∷ 0x10 ∷ 0 ∷ 0 ∷ []
+linked_thunk ARM64 = 0x10 ∷ 0 ∷ 0 ∷ 0xB0 ∷ 0x10 ∷ 0x36 ∷ 0x40 ∷ 0xF9 ∷ 0 ∷ 2 ∷ 0x1F ∷ 0xD6 ∷ []
+
+abbrev pub thunk_address : MachineType → ℕ
+thunk_address I386 = 0x1011
+thunk_address ARMNT = 0
+thunk_address AMD64 = 0x1020
+thunk_address ARM64 = 0x101C
+
+abbrev pub object_section : MachineType → ObjectSection
+object_section machine =
+    section text_name (cnt_code + align_16bytes + mem_execute_read) (object_code machine) (object_relocations machine)
+
+abbrev pub calling_object : MachineType → Object
+calling_object machine = record {
+  machine = machine_number machine;
+  time = 0;
+  optional_header_size = 0;
+  characteristics = 0;
+  sections = object_section machine ∷ [];
+  entries = ASymbol (symbol_of_class (symbol_on machine (codes "main")) 1 class_external)
+      ∷ ASymbol (symbol_of_class (imp_symbol (symbol_on machine (codes "zeta"))) 0 class_external)
+      ∷ ASymbol (symbol_of_class (imp_symbol (symbol_on machine (codes "gee"))) 0 class_external)
+      ∷ ASymbol (symbol_of_class (symbol_on machine (codes "mid")) 0 class_external)
+      ∷ [];
+}
+
+abbrev pub placed_object : MachineType → Placed
+placed_object machine = record { object = calling_object machine; section_addresses = Unplaced ∷ [] }
+
+-- what is linked: the object, lld's tables, the thunk
+abbrev pub lld_linked_on : MachineType → List Placed
+lld_linked_on machine =
+    placed_object machine
+    ∷ placed_by_lld machine (addresses_on machine) (shorts_on machine)
+    ∷ placed_thunk machine (mid_on machine)
+    ∷ []
+
+abbrev pub lld_image_on : MachineType → List Range
+lld_image_on machine = record { start = 0x2000; bytes = tables_on machine } ∷ []
+
+abbrev pub code_of_object : MachineType → LinkedCode
+code_of_object machine = record {
+  from = placed_object machine;
+  number = 1;
+  code = object_section machine;
+  position = 0x1000;
+  bytes = linked_code machine;
+}
+
+abbrev pub code_of_thunk : MachineType → LinkedCode
+code_of_thunk machine = record {
+  from = placed_thunk machine (mid_on machine);
+  number = 1;
+  code = thunk_section machine;
+  position = thunk_address machine;
+  bytes = linked_thunk machine;
+}
+
+abbrev pub lld_codes : MachineType → List LinkedCode
+lld_codes machine = code_of_object machine ∷ code_of_thunk machine ∷ []
+
+-- a symbol's address: in the tables of what is linked, or else that of the thunk
+abbrev pub or_thunk : ℕ → Option ℕ → ℕ
+or_thunk thunk None = thunk
+or_thunk thunk (Some address) = address
+
+abbrev pub taken_address : ℕ → List Placed → Placed → Option Entry → ℕ
+taken_address thunk linked p None = 0
+taken_address thunk linked p (Some (Auxiliary bytes)) = 0
+taken_address thunk linked p (Some (ASymbol s)) = or_thunk thunk (symbol_address linked p (ASymbol s))
+
+abbrev pub lld_targets : MachineType → LinkedCode → ℕ → ℕ
+lld_targets machine c index =
+    taken_address (thunk_address machine) (lld_linked_on machine) c.from (slice_get c.from.object.entries index)
+
+abbrev pub lld_memory : MachineType → List Range
+lld_memory machine = lld_image_on machine ++ ranges_of_codes (lld_codes machine)
+
+-- With I386's base relocations applied, for 0x10000000: of the call, the load and the thunk, as in lld's `.reloc`. The
+-- other two have none.
+abbrev pub lld_places : MachineType → List Place
+lld_places I386 =
+    record { address = 0x1002; width = 4 }
+    ∷ record { address = 0x1007; width = 4 }
+    ∷ record { address = 0x1013; width = 4 }
+    ∷ []
+lld_places ARMNT = []
+lld_places AMD64 = []
+lld_places ARM64 = []
+
+abbrev pub lld_moved_memory : MachineType → List Range
+lld_moved_memory I386 =
+    record { start = 0x1002; bytes = 0x54 ∷ 0x20 ∷ 0 ∷ 0x10 ∷ [] }
+    ∷ record { start = 0x1007; bytes = 0x5C ∷ 0x20 ∷ 0 ∷ 0x10 ∷ [] }
+    ∷ record { start = 0x1013; bytes = 0x50 ∷ 0x20 ∷ 0 ∷ 0x10 ∷ [] }
+    ∷ lld_memory I386
+lld_moved_memory ARMNT = []
+lld_moved_memory AMD64 = lld_memory AMD64
+lld_moved_memory ARM64 = lld_memory ARM64
+
+-- The program is one of the laws, its code is linked beside its tables, and it is in memory at a base. Whatever a loader
+-- writes that reads it there, it stops after two descriptors; each field against `__imp_zeta` and `__imp_gee` leads to
+-- what beta.dll and alpha.dll give for them; and the call of `mid`, whose field is so far from the code's beginning,
+-- leads to the thunk, by which it arrives at what beta.dll gives for its ordinal 7.
+pub record WorkedLldProgram (machine : MachineType) (image_base : ℕ) (memory : List Range) (call : ℕ)
+    (zeta gee mid : List ℕ) : Type 0 where
+  pub program : IsLldProgram machine 0x2000 (addresses_on machine) (shorts_on machine) (lld_image_on machine)
+      (lld_linked_on machine)
+  pub steady : AreSteady machine (lld_linked_on machine)
+  pub at : AreInMemory machine image_base (lld_image_on machine) (lld_linked_on machine) (lld_codes machine)
+      (lld_targets machine) memory
+  pub thunk : IsThunk machine (code_of_thunk machine) (mid_on machine)
+  pub branch : HasBranch machine (code_of_object machine) call 0 (symbol_on machine (codes "mid"))
+  pub loads : (n : ℕ) (written : List Range) →
+      ReadsAndWrites memory (thunk_width machine) (given_on machine) n 0x2000 written →
+      (n ≡ 2) × IsLldLoaded machine (addresses_on machine) (shorts_on machine) (lld_image_on machine)
+      (lld_linked_on machine) (given_on machine) written
+  pub leads_zeta : (n : ℕ) (written : List Range) →
+      ReadsAndWrites memory (thunk_width machine) (given_on machine) n 0x2000 written →
+      AllLead machine image_base (lld_linked_on machine) (lld_codes machine) (written ++ memory)
+      (imp_symbol (symbol_on machine (codes "zeta"))) zeta
+  pub leads_gee : (n : ℕ) (written : List Range) →
+      ReadsAndWrites memory (thunk_width machine) (given_on machine) n 0x2000 written →
+      AllLead machine image_base (lld_linked_on machine) (lld_codes machine) (written ++ memory)
+      (imp_symbol (symbol_on machine (codes "gee"))) gee
+  pub calls : (n : ℕ) (written : List Range) →
+      ReadsAndWrites memory (thunk_width machine) (given_on machine) n 0x2000 written →
+      BranchArrivesByThunk machine image_base (written ++ memory) (0x1000 + call) 0 mid
+  pub ends : (written : List Range) × ReadsAndWrites memory (thunk_width machine) (given_on machine) 2 0x2000 written
+
+-- what the DLLs give, in entries of 4 and 8 bytes
+abbrev pub four_bytes : ℕ → List ℕ
+four_bytes low = low ∷ 0 ∷ 0 ∷ 0x10 ∷ []
+
+abbrev pub eight_bytes : ℕ → List ℕ
+eight_bytes low = low ∷ 0 ∷ 0 ∷ 0x10 ∷ 0 ∷ 0 ∷ 0 ∷ 0 ∷ []
+
+-- The three programs, at the bases that they were linked for and at others; the fields of their code; the short imports
+-- and the tables, byte for byte.
+pub record WorkedLldPrograms : Type 0 where
+  pub i386 : WorkedLldProgram I386 0x40_0000 (lld_memory I386) 12 (four_bytes 0x40) (four_bytes 0x30) (four_bytes 0)
+  pub i386_moved : WorkedLldProgram I386 0x1000_0000 (lld_moved_memory I386) 12 (four_bytes 0x40) (four_bytes 0x30)
+      (four_bytes 0)
+  pub amd64 : WorkedLldProgram AMD64 0x1_4000_0000 (lld_memory AMD64) 14 (eight_bytes 0x40) (eight_bytes 0x30)
+      (eight_bytes 0)
+  pub amd64_moved : WorkedLldProgram AMD64 0x7FF6_1234_0000 (lld_moved_memory AMD64) 14 (eight_bytes 0x40)
+      (eight_bytes 0x30) (eight_bytes 0)
+  pub arm64 : WorkedLldProgram ARM64 0x1_4000_0000 (lld_memory ARM64) 20 (eight_bytes 0x40) (eight_bytes 0x30)
+      (eight_bytes 0)
+  pub arm64_moved : WorkedLldProgram ARM64 0x4000_0000 (lld_moved_memory ARM64) 20 (eight_bytes 0x40)
+      (eight_bytes 0x30) (eight_bytes 0)
+  pub i386_call : HasInstruction I386 (code_of_object I386) 0 (0xFF ∷ 0x15 ∷ []) [] (codes "__imp__zeta")
+  pub i386_load : HasInstruction I386 (code_of_object I386) 6 (0xA1 ∷ []) [] (codes "__imp__gee")
+  pub amd64_call : HasInstruction AMD64 (code_of_object AMD64) 0 (0xFF ∷ 0x15 ∷ []) [] (codes "__imp_zeta")
+  pub amd64_load : HasInstruction AMD64 (code_of_object AMD64) 6 (0x48 ∷ 0x8B ∷ 5 ∷ []) [] (codes "__imp_gee")
+  pub arm64_page : HasPageField (code_of_object ARM64) 12 (codes "__imp_gee")
+  pub arm64_offset : HasOffsetField (code_of_object ARM64) 16 (codes "__imp_gee")
+  pub i386_shorts : filter_map (short_for I386) (short_files I386) ≡ shorts_on I386
+  pub amd64_shorts : filter_map (short_for AMD64) (short_files AMD64) ≡ shorts_on AMD64
+  pub arm64_shorts : filter_map (short_for ARM64) (short_files ARM64) ≡ shorts_on ARM64
+  pub i386_written : built_bytes I386 0x2000 (imports_of_lld (shorts_on I386)) ≡ tables_on I386
+  pub amd64_written : built_bytes AMD64 0x2000 (imports_of_lld (shorts_on AMD64)) ≡ tables_on AMD64
+  pub arm64_written : built_bytes ARM64 0x2000 (imports_of_lld (shorts_on ARM64)) ≡ tables_on ARM64
+
+-- Near misses.
+
+-- AMD64's tables, with another directory, another first address or other tables
+abbrev pub tables_with : List Range → List Placed → ℕ → ℕ → Tables
+tables_with image linked directory addresses = tables_of_lld AMD64 directory addresses (shorts_on AMD64) image linked
+
+abbrev pub own_tables : Tables
+own_tables = tables_with (lld_image_on AMD64) (lld_linked_on AMD64) 0x2000 0x2068
+
+-- an image at 0, and one that ends at 2^31
+abbrev pub with_empty_range : ℕ → List Range
+with_empty_range start = record { start = start; bytes = [] } ∷ lld_image_on AMD64
+
+-- a table whose second entry is that of the table after it
+abbrev pub overlapping_tables : List Table
+overlapping_tables =
+    record { dll = codes "beta.dll"; address = 0x2068; entries = [] }
+    ∷ record { dll = codes "alpha.dll"; address = 0x2060; entries = [] }
+    ∷ []
+
+pub record RefusedTables : Type 0 where
+  pub stand : AreTables AMD64 own_tables
+  pub starts : AreTables AMD64 (tables_with (with_empty_range 0) (lld_linked_on AMD64) 0x2000 0x2068) → ⊥
+  pub ends : AreTables AMD64 (tables_with (with_empty_range 0x8000_0000) (lld_linked_on AMD64) 0x2000 0x2068) → ⊥
+  pub directory : AreTables AMD64 (record own_tables { tables = drop 1 own_tables.tables }) → ⊥
+  pub addresses : AreTables AMD64 (tables_with (lld_image_on AMD64) (lld_linked_on AMD64) 0x2000 0x2070) → ⊥
+  pub rise : RiseFrom 8 0 overlapping_tables → ⊥
+  pub symbols : AreTables AMD64 (tables_with (lld_image_on AMD64) (drop 2 (lld_linked_on AMD64)) 0x2000 0x2068) → ⊥
+  -- an entry begins before its table, or ends after it
+  pub in_table : IsInTable 8 own_tables.tables (record { start = 0x2070; bytes = eight_bytes 0 })
+  pub before_table : IsInTable 8 own_tables.tables (record { start = 0x2060; bytes = eight_bytes 0 }) → ⊥
+  pub behind_table : IsInTable 8 own_tables.tables (record { start = 0x2078; bytes = eight_bytes 0 }) → ⊥
+  -- ARM64 loads at multiples of 8, I386 below 2^32, ARMNT's thunks are not claimed
+  pub arm64_table : CanReadFrom ARM64 0x1_4000_0000 0x206C → ⊥
+  pub arm64_base : CanReadFrom ARM64 0x1_4000_0004 0x2068 → ⊥
+  pub i386_base : CanReadFrom I386 0x8000_0001 0x2050 → ⊥
+  pub armnt : CanReadFrom ARMNT 0x40_0000 0x2050 → ⊥
+
+-- The thunk of `mid` on AMD64, by its bytes at 0x1020, and what is at its entry: the memory of two ranges.
+abbrev pub ThunkOfMid : ℕ → List ℕ → List ℕ → Type 0
+ThunkOfMid address code bytes =
+    ThunkArrives AMD64 0x1_4000_0000
+    (record { start = address; bytes = code } ∷ record { start = 0x2068; bytes = bytes } ∷ []) 0x1020 (eight_bytes 0)
+
+-- A byte further on; a call in the place of the jump; the distance from the field; a byte more; and another address at
+-- the entry. The thunk of another import is none of `mid`; and no linker makes a thunk that leads to another entry.
+pub record RefusedThunks : Type 0 where
+  pub arrives : ThunkOfMid 0x1020 (linked_thunk AMD64) (eight_bytes 0)
+  pub there : ThunkOfMid 0x1021 (linked_thunk AMD64) (eight_bytes 0) → ⊥
+  pub jump : ThunkOfMid 0x1020 (0xFF ∷ 0x15 ∷ 0x42 ∷ 0x10 ∷ 0 ∷ 0 ∷ []) (eight_bytes 0) → ⊥
+  pub reads : ThunkOfMid 0x1020 (0xFF ∷ 0x25 ∷ 0x46 ∷ 0x10 ∷ 0 ∷ 0 ∷ []) (eight_bytes 0) → ⊥
+  pub located : ThunkOfMid 0x1020 (linked_thunk AMD64) (eight_bytes 1) → ⊥
+  pub of_zeta : IsThunk AMD64 (code_of_thunk AMD64) (zeta_on AMD64) → ⊥
+  pub linked : IsRelocated AMD64 0x1_4000_0000 (lld_targets AMD64 (code_of_thunk AMD64)) 0x1020 (thunk_section AMD64)
+      (0xFF ∷ 0x25 ∷ 0x4A ∷ 0x10 ∷ 0 ∷ 0 ∷ []) → ⊥
+
+-- AMD64's program with what a loader wrote
+abbrev pub LoadedWith : List Range → Type 0
+LoadedWith written =
+    IsLldLoaded AMD64 0x2068 (shorts_on AMD64) (lld_image_on AMD64) (lld_linked_on AMD64) (given_on AMD64) written
+
+-- Nothing is written; something is written before the address tables, or after them. A thunk without its last byte; and
+-- code of another section of the thunk's object.
+pub record RefusedLoads : Type 0 where
+  pub nothing : LoadedWith [] → ⊥
+  pub before : LoadedWith (record { start = 0x2060; bytes = eight_bytes 0 } ∷ []) → ⊥
+  pub behind : LoadedWith (record { start = 0x2090; bytes = eight_bytes 0 } ∷ []) → ⊥
+  pub whole : ThunkOfMid 0x1020 (0xFF ∷ 0x25 ∷ 0x42 ∷ 0x10 ∷ 0 ∷ []) (eight_bytes 0) → ⊥
+  pub number : IsThunk AMD64 (record (code_of_thunk AMD64) { number = 2 }) (mid_on AMD64) → ⊥
+
+-- The call of `mid` on AMD64, by its field, the thunk's code at 0x1020, and what is at its entry.
+abbrev pub call_memory : ℕ → List ℕ → List ℕ → List Range
+call_memory address field code =
+    record { start = address; bytes = field }
+    ∷ record { start = 0x1020; bytes = code }
+    ∷ record { start = 0x2068; bytes = eight_bytes 0 }
+    ∷ []
+
+abbrev pub CallOfMid : ℕ → List ℕ → List ℕ → Type 0
+CallOfMid address field code =
+    BranchArrivesByThunk AMD64 0x1_4000_0000 (call_memory address field code) 0x100E 0 (eight_bytes 0)
+
+-- The field a byte further on; a call that leads into the thunk; and code there that calls.
+pub record RefusedCalls : Type 0 where
+  pub arrives : CallOfMid 0x100E (0x0E ∷ 0 ∷ 0 ∷ 0 ∷ []) (linked_thunk AMD64)
+  pub there : CallOfMid 0x100F (0x0E ∷ 0 ∷ 0 ∷ 0 ∷ []) (linked_thunk AMD64) → ⊥
+  pub leads : CallOfMid 0x100E (0x0F ∷ 0 ∷ 0 ∷ 0 ∷ []) (linked_thunk AMD64) → ⊥
+  pub jumps : CallOfMid 0x100E (0x0E ∷ 0 ∷ 0 ∷ 0 ∷ []) (0xFF ∷ 0x15 ∷ 0x42 ∷ 0x10 ∷ 0 ∷ 0 ∷ []) → ⊥

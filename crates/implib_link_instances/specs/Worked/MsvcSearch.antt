@@ -1,0 +1,78 @@
+-- A search of the members for Microsoft's linker that was done by hand, and what is no such search.
+use Rattle.std.specs.Prelude.{◌≡◌, ℕ, ◌≤◌, List, [], ◌∷◌, bytes_eq, codes, length, map}
+use Rattle.std.specs.List.{IsDistinct, flat_map}
+use Rattle.implib.specs.declared.flavor.Flavor.TheVariants.{Msvc}
+use Rattle.implib.specs.declared.machine.MachineType.{MachineType}
+use Rattle.implib.specs.declared.machine.MachineType.TheVariants.{I386, ARMNT, AMD64, ARM64}
+use Rattle.implib.specs.Definition.{DefinitionView}
+use Rattle.implib.specs.Members.Members.{AreMembersOf, member_specs}
+use Rattle.implib.specs.Members.MemberSpec.{MemberView, member_of}
+use Rattle.implib.specs.Members.MsvcMembers.{descriptor_spec, null_descriptor_spec, null_thunk_spec, short_import_spec}
+use Rattle.implib.specs.Members.MsvcObjects.{descriptor_symbol}
+use Rattle.implib.specs.Renaming.{renamed}
+use Rattle.implib.specs.Worked.Members.{of_dll}
+use Rattle.implib.specs.Worked.Statements.{plain_export}
+use Rattle.implib_link.specs.Flavors.Expansion.{descriptor_symbol_by_name}
+use Rattle.implib_link.specs.Search.Msvc.{NamesNoHeader, TakesFor, msvc_if_any, shorts_wanted}
+use Rattle.implib_link.specs.Search.Search.{HaveSame}
+use Rattle.implib_link_instances.specs.Worked.Programs.{symbol_on}
+use Rattle.implib.specs.LibraryName.{own_names}
+
+-- foo.dll with three functions
+abbrev pub three_on : MachineType → DefinitionView
+three_on machine = of_dll (codes "foo.dll")
+    (plain_export (symbol_on machine (codes "bar"))
+    ∷ plain_export (symbol_on machine (codes "baz"))
+    ∷ plain_export (symbol_on machine (codes "qux"))
+    ∷ [])
+
+-- its members
+abbrev pub short_members : MachineType → List MemberView
+short_members machine = map member_of (member_specs (renamed (three_on machine)) machine Msvc)
+
+-- what a program wants: a function, and one of another library
+abbrev pub one_wanted : MachineType → List (List ℕ)
+one_wanted machine = symbol_on machine (codes "baz") ∷ symbol_on machine (codes "printf") ∷ []
+
+-- the members that are taken for them, the last one first
+abbrev pub baz_member : MachineType → MemberView
+baz_member machine =
+    member_of (short_import_spec machine (own_names (codes "foo.dll")) (plain_export (symbol_on machine (codes "baz"))))
+
+abbrev pub four_taken : MachineType → List MemberView
+four_taken machine =
+    member_of (null_thunk_spec machine (codes "foo.dll"))
+    ∷ member_of (null_descriptor_spec machine (codes "foo.dll"))
+    ∷ member_of (descriptor_spec machine (own_names (codes "foo.dll")))
+    ∷ baz_member machine
+    ∷ []
+
+-- The members of three exports are an archive that the law speaks of. For one of them a linker may take its
+-- short import, then the import descriptor, and for it the null descriptor and the null thunk; neither of the
+-- other two. A name of another library takes nothing. A short import alone is no end of the search, and a
+-- name that it is not listed for does not take it.
+pub record WorkedMsvcSearch (machine : MachineType) : Type 0 where
+  pub made : AreMembersOf (three_on machine) machine Msvc (short_members machine)
+  pub distinct : IsDistinct bytes_eq (flat_map (λ m. m.symbols) (short_members machine))
+  pub found : descriptor_symbol_by_name (codes "foo.dll") ≡ descriptor_symbol (codes "foo.dll")
+  pub plain : NamesNoHeader (codes "foo.dll") (one_wanted machine)
+  pub numbers : shorts_wanted (three_on machine) (one_wanted machine) ≡ 1 ∷ []
+  pub takes : TakesFor machine (short_members machine) (one_wanted machine) (four_taken machine)
+  pub just : HaveSame (four_taken machine) (msvc_if_any (three_on machine) machine (1 ∷ []))
+  pub nothing : TakesFor machine (short_members machine) (codes "printf" ∷ []) []
+  pub unfinished : TakesFor machine (short_members machine) (one_wanted machine) (baz_member machine ∷ []) → ⊥
+  pub unasked : TakesFor machine (short_members machine) (codes "printf" ∷ []) (baz_member machine ∷ []) → ⊥
+
+-- on each machine; there is such a search, which takes at most the archive's six members; and names by which only
+-- members name each other are left out
+pub record WorkedMsvcSearches : Type 0 where
+  pub amd64 : WorkedMsvcSearch AMD64
+  pub arm64 : WorkedMsvcSearch ARM64
+  pub i386 : WorkedMsvcSearch I386
+  pub armnt : WorkedMsvcSearch ARMNT
+  pub no_descriptor : NamesNoHeader (codes "foo.dll") (codes "__IMPORT_DESCRIPTOR_foo" ∷ []) → ⊥
+  pub no_null_descriptor : NamesNoHeader (codes "foo.dll") (codes "__NULL_IMPORT_DESCRIPTOR" ∷ []) → ⊥
+  pub no_null_thunk : NamesNoHeader (codes "foo.dll") ((0x7F ∷ codes "foo_NULL_THUNK_DATA") ∷ []) → ⊥
+  pub ends : (taken : List MemberView) × TakesFor AMD64 (short_members AMD64) (one_wanted AMD64) taken
+  pub bounded : length (four_taken AMD64) ≤ length (short_members AMD64)
+  pub members : length (short_members AMD64) ≡ 6

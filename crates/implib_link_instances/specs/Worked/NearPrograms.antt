@@ -1,0 +1,201 @@
+-- Near misses of programs: for GNU's linker, of both flavours, beside other libraries, and of lld. A record `NearX` has
+-- those of `X`, each by the name of the field that refuses it.
+use Rattle.implib.specs.LibraryName.{linked_dll}
+use Rattle.std.specs.Prelude.{ℕ, ◌^◌, List, [], ◌∷◌, ◌++◌, codes, map}
+use Rattle.implib.specs.declared.flavor.Flavor.TheVariants.{Msvc}
+use Rattle.implib.specs.declared.machine.MachineType.TheVariants.{AMD64}
+use Rattle.implib.specs.Definition.{DefinitionView}
+use Rattle.implib.specs.Formats.Constants.{class_external}
+use Rattle.implib.specs.Formats.Object.{ASymbol, Object}
+use Rattle.implib.specs.Formats.ShortImport.{ShortImport}
+use Rattle.implib.specs.Import.{Name, Ordinal}
+use Rattle.implib.specs.Link.Image.{Range}
+use Rattle.implib.specs.Link.Placement.{Placed}
+use Rattle.implib.specs.Members.Gnu.{section}
+use Rattle.implib.specs.Members.ImportTables.{table_flags, zeros}
+use Rattle.implib.specs.Members.MemberSpec.{member_of}
+use Rattle.implib.specs.Members.Members.{member_specs}
+use Rattle.implib.specs.Renaming.{renamed}
+use Rattle.implib.specs.Worked.Members.{of_dll}
+use Rattle.implib.specs.Worked.Statements.{plain_export}
+use Rattle.implib_link.specs.Directory.{Imported}
+use Rattle.implib_link.specs.Flavors.LldImports.{IsLldProgram, LldLinks, imports_of_lld, placed_by_lld}
+use Rattle.implib_link.specs.Flavors.LldTables.{IsImportable, addresses_at, built}
+use Rattle.implib_link.specs.Flavors.Program.{AreFlavorObjects, FlavorInput, IsFlavorProgram, null_member, objects_taken}
+use Rattle.implib_link.specs.Gnu.OtherLibraries.{AreWhole, IsProgramBeside, Run}
+use Rattle.implib_link.specs.Gnu.Program.{IsProgram, null_descriptor}
+use Rattle.implib_link_instances.specs.Worked.Flavors.{both_inputs as flavor_inputs, flavor_bases_8, flavor_objects, zed_input as zed_flavor, foo_input as foo_flavor}
+use Rattle.implib_link_instances.specs.Worked.Programs.{both_inputs, code_object, foo_input, input_objects, program_objects, symbol_of_class, touching_8, zed_input}
+
+-- an object of the program that defines `queue`, which zed.dll exports
+abbrev pub own_queue : Object
+own_queue = code_object (symbol_of_class (codes "queue") 1 class_external ∷ [])
+
+-- the program of Worked/Programs with zed.dll twice; with the null descriptor in front; with a `queue` of its own; and with
+-- its descriptors at no multiple of 4
+pub record NearIsProgram : Type 0 where
+  pub distinct : IsProgram AMD64 touching_8 (zed_input AMD64 ∷ zed_input AMD64 ∷ [])
+      (input_objects AMD64 (zed_input AMD64) ++ (input_objects AMD64 (zed_input AMD64) ++ null_descriptor ∷ [])) → ⊥
+  pub tables : IsProgram AMD64 touching_8 (both_inputs AMD64)
+      (null_descriptor ∷ (input_objects AMD64 (foo_input AMD64) ++ input_objects AMD64 (zed_input AMD64))) → ⊥
+  pub others : IsProgram AMD64 touching_8 (both_inputs AMD64) (own_queue ∷ program_objects AMD64) → ⊥
+  pub admissible : IsProgram AMD64 (record touching_8 { descriptors = 2 }) (both_inputs AMD64) (program_objects AMD64) → ⊥
+
+-- foo.drv, for Microsoft's linker, whose descriptor linkers do not find
+abbrev pub drv : DefinitionView
+drv = of_dll (codes "foo.drv") (plain_export (codes "open") ∷ [])
+
+abbrev pub drv_input : FlavorInput
+drv_input = record {
+  flavor = Msvc;
+  input = record { definition = drv; members = map member_of (member_specs (renamed drv) AMD64 Msvc); chosen = 0 ∷ [] };
+}
+
+-- foo.dll's null descriptor for Microsoft's linker, and nothing else
+abbrev pub null_alone : List Object
+null_alone = objects_taken AMD64 (null_member AMD64 (linked_dll (foo_flavor AMD64).input.definition) ∷ [])
+
+-- zed.dll twice; without a library for Microsoft's linker; with nothing but the null descriptor; with a `queue` of the
+-- program's own; and with foo.drv
+pub record NearAreFlavorObjects : Type 0 where
+  pub distinct : AreFlavorObjects AMD64 (flavor_inputs AMD64 ++ zed_flavor AMD64 ∷ [])
+      (flavor_objects AMD64 0 ++ input_objects AMD64 (zed_input AMD64)) → ⊥
+  pub null_held_and_null_flavor : AreFlavorObjects AMD64 (zed_flavor AMD64 ∷ []) (flavor_objects AMD64 0) → ⊥
+  pub members : AreFlavorObjects AMD64 (flavor_inputs AMD64) null_alone → ⊥
+  pub tables : AreFlavorObjects AMD64 (flavor_inputs AMD64) [] → ⊥
+  pub others : AreFlavorObjects AMD64 (flavor_inputs AMD64) (own_queue ∷ flavor_objects AMD64 0) → ⊥
+  pub found : AreFlavorObjects AMD64 (drv_input ∷ []) (flavor_objects AMD64 0) → ⊥
+
+-- a `queue` of the program's own; hints at no multiple of 4; lookup tables or address tables at no multiple of 8; and the
+-- null descriptor after a gap
+pub record NearIsFlavorProgram : Type 0 where
+  pub held : IsFlavorProgram AMD64 flavor_bases_8 (flavor_inputs AMD64) (own_queue ∷ flavor_objects AMD64 0) → ⊥
+  pub admissible : IsFlavorProgram AMD64 (record flavor_bases_8 { hint_names = 186; dll_names = 224 }) (flavor_inputs AMD64)
+      (flavor_objects AMD64 0) → ⊥
+  pub lookups : IsFlavorProgram AMD64 (record flavor_bases_8 { lookups = 68 }) (flavor_inputs AMD64)
+      (flavor_objects AMD64 0) → ⊥
+  pub addresses : IsFlavorProgram AMD64 (record flavor_bases_8 { addresses = 132; hint_names = 188; dll_names = 224 }) (flavor_inputs AMD64)
+      (flavor_objects AMD64 0) → ⊥
+  pub follows : IsFlavorProgram AMD64 (record flavor_bases_8 { directory_ends = 52 }) (flavor_inputs AMD64)
+      (flavor_objects AMD64 0) → ⊥
+
+-- an object of another library, with these bytes in a section of tables and these symbols
+abbrev pub table_object : List ℕ → List ℕ → List (List ℕ) → Object
+table_object name bytes names = record {
+  machine = 0;
+  time = 0;
+  optional_header_size = 0;
+  characteristics = 0;
+  sections = section name table_flags bytes [] ∷ [];
+  entries = map (λ n. ASymbol (symbol_of_class n 1 class_external)) names;
+}
+
+-- the run of the worked program, which has no other libraries, with objects and imports of some in front
+abbrev pub run_with : List Object → List Imported → List Run
+run_with objects imports = record { objects = objects; imports = imports; inputs = both_inputs AMD64 } ∷ []
+
+abbrev pub members_of_both : List Object
+members_of_both = input_objects AMD64 (foo_input AMD64) ++ input_objects AMD64 (zed_input AMD64)
+
+abbrev pub half_thunk : Object
+half_thunk = table_object (codes ".idata$4") (zeros 2) []
+
+abbrev pub bar_import : Imported
+bar_import = record { dll = codes "bar.dll"; asks = Ordinal 1 ∷ [] }
+
+-- zed.dll twice; the null descriptor in front; a `queue` in an object of another library, and in one of the program; no
+-- null descriptor, and no zeros; descriptors at 2; a lookup table of two bytes; and a descriptor of zeros for bar.dll
+pub record NearIsProgramBeside : Type 0 where
+  pub distinct : IsProgramBeside AMD64 touching_8
+      (record { objects = []; imports = []; inputs = zed_input AMD64 ∷ zed_input AMD64 ∷ [] } ∷ [])
+      (input_objects AMD64 (zed_input AMD64) ++ (input_objects AMD64 (zed_input AMD64) ++ null_descriptor ∷ [])) → ⊥
+  pub tables : IsProgramBeside AMD64 touching_8 (run_with [] []) (null_descriptor ∷ members_of_both) → ⊥
+  pub claimed : IsProgramBeside AMD64 touching_8
+      (run_with (table_object (codes ".idata$9") [] (codes "queue" ∷ []) ∷ []) [])
+      (table_object (codes ".idata$9") [] (codes "queue" ∷ []) ∷ (members_of_both ++ null_descriptor ∷ [])) → ⊥
+  pub others : IsProgramBeside AMD64 touching_8 (run_with [] []) (own_queue ∷ program_objects AMD64) → ⊥
+  pub ended : IsProgramBeside AMD64 touching_8 (run_with [] []) members_of_both → ⊥
+  pub admissible : IsProgramBeside AMD64 (record touching_8 { descriptors = 2 }) (run_with [] []) (program_objects AMD64) → ⊥
+  pub whole : IsProgramBeside AMD64 touching_8 (run_with (half_thunk ∷ []) [])
+      (half_thunk ∷ (members_of_both ++ null_descriptor ∷ [])) → ⊥
+  pub taken : IsProgramBeside AMD64 touching_8
+      (run_with (table_object (codes ".idata$2") (zeros 20) [] ∷ []) (bar_import ∷ []))
+      (table_object (codes ".idata$2") (zeros 20) [] ∷ (members_of_both ++ null_descriptor ∷ [])) → ⊥
+
+-- a field of four bytes in two; two bytes of a lookup table; and one descriptor's bytes for no DLL
+pub record NearAreWhole : Type 0 where
+  pub sized : AreWhole
+      (record half_thunk { sections = section (codes ".idata$6") table_flags (zeros 2) (record { offset = 0; symbol = 0; kind = 3 } ∷ []) ∷ [] } ∷ [])
+      [] → ⊥
+  pub fours : AreWhole (half_thunk ∷ []) [] → ⊥
+  pub rows : AreWhole (table_object (codes ".idata$2") (zeros 20) [] ∷ []) [] → ⊥
+
+-- a short import of a DLL under a name, and what it asks by
+abbrev pub short_of : List ℕ → List ℕ → ℕ → ShortImport
+short_of dll symbol ordinal = record {
+  version = 0;
+  machine = 0x8664;
+  time = 0;
+  ordinal = ordinal;
+  import_type = 0;
+  name_type = 0;
+  symbol = symbol;
+  dll = dll;
+}
+
+-- the tables that lld makes of short imports, at 0x2000, and what it defines
+abbrev pub lld_range : List ShortImport → Range
+lld_range taken = built AMD64 0x2000 (imports_of_lld taken)
+
+abbrev pub lld_defines : List ShortImport → Placed
+lld_defines taken = placed_by_lld AMD64 (addresses_at AMD64 0x2000 (imports_of_lld taken)) taken
+
+-- lld's program of short imports, with more ranges in its image
+abbrev pub LldProgramOf : List ShortImport → List Range → List Placed → Type 0
+LldProgramOf taken image linked =
+    IsLldProgram AMD64 0x2000 (addresses_at AMD64 0x2000 (imports_of_lld taken)) taken image linked
+
+abbrev pub mid_alone : List ShortImport
+mid_alone = short_of (codes "beta.dll") (codes "mid") 7 ∷ []
+
+-- an object with `main` and a `__imp_mid` of its own
+abbrev pub defines_mid : Placed
+defines_mid = record {
+  object = code_object
+      (symbol_of_class (codes "__imp_mid") 1 class_external ∷ symbol_of_class (codes "main") 1 class_external ∷ []);
+  section_addresses = [];
+}
+
+-- two short imports of one DLL, in two ways of writing
+abbrev pub two_ways : List ShortImport
+two_ways = short_of (codes "Beta.dll") (codes "gee") 8 ∷ mid_alone
+
+-- an ordinal of 17 bits
+abbrev pub wide_ordinal : List ShortImport
+wide_ordinal = short_of (codes "beta.dll") (codes "mid") 65536 ∷ []
+
+-- an ordinal of 17 bits; one symbol twice; one DLL in two ways of writing; another object for what lld defines; an object
+-- before or after it that defines the symbol, too; no tables; a range at 0, and one that ends at 2^31
+pub record NearIsLldProgram : Type 0 where
+  pub writable : LldProgramOf wide_ordinal (lld_range wide_ordinal ∷ []) (lld_defines wide_ordinal ∷ []) → ⊥
+  pub distinct : LldProgramOf (mid_alone ++ mid_alone) (lld_range (mid_alone ++ mid_alone) ∷ [])
+      (lld_defines (mid_alone ++ mid_alone) ∷ []) → ⊥
+  pub agree : LldProgramOf two_ways (lld_range two_ways ∷ []) (lld_defines two_ways ∷ []) → ⊥
+  pub placed : LldProgramOf mid_alone (lld_range mid_alone ∷ []) [] → ⊥
+  pub none_before : LldProgramOf mid_alone (lld_range mid_alone ∷ []) (defines_mid ∷ lld_defines mid_alone ∷ []) → ⊥
+  pub none_behind : LldProgramOf mid_alone (lld_range mid_alone ∷ []) (lld_defines mid_alone ∷ defines_mid ∷ []) → ⊥
+  pub pieces : LldProgramOf mid_alone [] (lld_defines mid_alone ∷ []) → ⊥
+  pub starts : LldProgramOf mid_alone (lld_range mid_alone ∷ record { start = 0; bytes = [] } ∷ []) (lld_defines mid_alone ∷ []) → ⊥
+  pub ends : LldProgramOf mid_alone (lld_range mid_alone ∷ record { start = 2 ^ 31; bytes = [] } ∷ [])
+      (lld_defines mid_alone ∷ []) → ⊥
+
+-- a DLL's name with a NUL, and a name with one
+pub record NearIsImportable : Type 0 where
+  pub name : IsImportable (record { dll = 0x62 ∷ 0 ∷ []; asks = [] }) → ⊥
+  pub asks : IsImportable (record { dll = codes "beta.dll"; asks = Name (0x62 ∷ 0 ∷ []) 0 ∷ [] }) → ⊥
+
+-- no image; no object; and a group of short imports of two DLLs
+pub record NearLldLinks : Type 0 where
+  pub directory : LldLinks AMD64 0x2000 0x2040 mid_alone [] (lld_defines mid_alone ∷ []) → ⊥
+  pub imported : LldLinks AMD64 0x2000 0x2040 mid_alone (lld_range mid_alone ∷ []) [] → ⊥
+  pub only : LldLinks AMD64 0x2000 0x2040 two_ways (lld_range two_ways ∷ []) (lld_defines two_ways ∷ []) → ⊥

@@ -1,0 +1,31 @@
+//! Instances, each as the contract of an empty function.
+
+pub mod aliases;
+pub mod both_exists;
+pub mod both_flavors;
+pub mod bounds;
+pub mod calls;
+pub mod choices;
+pub mod closed;
+pub mod exists;
+pub mod in_bytes;
+pub mod instructions;
+pub mod lld;
+pub mod lld_programs;
+pub mod machines;
+pub mod msvc_archives;
+pub mod msvc_closed;
+pub mod msvc_exists;
+pub mod msvc_search;
+pub mod named_apart;
+pub mod near_misses;
+pub mod no_shorts;
+pub mod operands;
+pub mod other_libraries;
+pub mod program;
+pub mod rebased;
+pub mod rebased_pointers;
+pub mod search;
+pub mod stubs;
+pub mod worked;
+pub mod writing;

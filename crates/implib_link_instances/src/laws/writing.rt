@@ -1,0 +1,10 @@
+//! What a loader that writes as it goes leaves, worked by hand.
+
+ghost use Rattle.implib_link_instances.specs.Worked.Writing.{WorkedWritings};
+
+/// Such a loader leaves exactly this of the programs that were linked by hand, on each machine, and
+/// of those in memory at another base. Of an image whose address table lies on its lookup table it
+/// asks less than one that first reads, and without a null descriptor it does not stop.
+pub fn worked_writings()
+    ensures { WorkedWritings }
+{}

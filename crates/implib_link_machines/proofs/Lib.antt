@@ -1,7 +1,0 @@
-pub mod Gnu
-pub mod Msvc
-pub mod Mixed
-pub mod Way
-pub mod GnuWay
-pub mod LldWay
-pub mod Crossed

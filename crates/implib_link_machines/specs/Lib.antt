@@ -1,6 +1,0 @@
-pub mod Parts
-pub mod Closed
-pub mod Way
-pub mod GnuWay
-pub mod LldWay
-pub mod Crossed
