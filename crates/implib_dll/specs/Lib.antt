@@ -1,0 +1,3 @@
+pub mod Bytes
+pub mod Headers
+pub mod Outcome
