@@ -1,3 +1,6 @@
 pub mod Bytes
+pub mod Exports
 pub mod Headers
 pub mod Outcome
+pub mod Sections
+pub mod Views

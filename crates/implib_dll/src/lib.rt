@@ -1,8 +1,16 @@
 //! A reader of export directories.
 #![tactic(auto)]
 
+mod exports;
 mod fault;
 mod fields;
 mod header;
+mod name;
+mod section;
+mod target;
 
+pub use exports::Exports;
 pub use fault::{Cause, Fault, ReadError};
+pub use name::Name;
+pub use section::Layout;
+pub use target::{AddressKind, Target};
