@@ -150,26 +150,42 @@ fn exports_behind<'a>(
     Ok(Some(exports))
 }
 
+/// What an image exports.
+#[tactic(auto, unfolding(crate::specs::Exports::exports_in))]
+fn exports_in(
+    alloc: Global,
+    layout: Layout,
+    bytes: &[u8],
+) -> Result<Option<Exports<'_>>, ReadError>
+    ensures { Gives (option_map exports_view) result (exports_in layout bytes.now) }
+{
+    let header = header_in(bytes)?;
+    let (sections, _) = sections_in(
+        alloc,
+        layout,
+        bytes,
+        header.sections,
+        header.section_count,
+    )?;
+    exports_behind(alloc, &header, &sections, bytes.len())
+}
+
 impl<'a> Exports<'a> {
-    /// What the image in the bytes exports, in a file or as it lies in memory; none where it has no export directory.
+    /// What an image in a file exports, by the bytes of the file; `None` where it has no export directory.
     ///
-    /// Time and memory are linear in the length of the bytes, whatever the counts say.
-    #[tactic(auto, unfolding(crate::specs::Exports::exports_in))]
-    pub fn read(
-        alloc: Global,
-        layout: Layout,
-        bytes: &'a [u8],
-    ) -> Result<Option<Exports<'a>>, ReadError>
-        ensures { Gives (option_map exports_view) result (exports_in layout bytes.now) }
+    /// The file is refused for its first fault, whatever its bytes are. Time and memory are linear in their number,
+    /// whatever the counts say: the names are slices of the file.
+    pub fn read(alloc: Global, bytes: &'a [u8]) -> Result<Option<Exports<'a>>, ReadError>
+        ensures { Gives (option_map exports_view) result (exports_in Layout.File bytes.now) }
     {
-        let header = header_in(bytes)?;
-        let (sections, _) = sections_in(
-            alloc,
-            layout,
-            bytes,
-            header.sections,
-            header.section_count,
-        )?;
-        exports_behind(alloc, &header, &sections, bytes.len())
+        exports_in(alloc, Layout::File, bytes)
+    }
+
+    /// What an image exports that lies in memory, each section at its address, by the bytes from its base on; `None`
+    /// where it has no export directory. As [`Exports::read`] but for that.
+    pub fn read_image(alloc: Global, bytes: &'a [u8]) -> Result<Option<Exports<'a>>, ReadError>
+        ensures { Gives (option_map exports_view) result (exports_in Layout.Image bytes.now) }
+    {
+        exports_in(alloc, Layout::Image, bytes)
     }
 }
