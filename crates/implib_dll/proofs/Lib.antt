@@ -1,3 +1,4 @@
 pub mod Located
+pub mod RowNames
 pub mod Searching
 pub mod Steps

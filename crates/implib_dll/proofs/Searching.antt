@@ -95,7 +95,7 @@ searches-above names wanted low high position whole some is order s =
       steps = t.0;
       enough = omega (arith, some, is, s.enough, t.1);
       same = ap (λ p. searched names wanted t.0 (p + 1) high) is
-        ∙ (sym (searched-above names wanted t.0 low high some (ap (λ p. order_at names p wanted) (sym is) ∙ order)) ∙ t.2);
+          ∙ (sym (searched-above names wanted t.0 low high some (ap (λ p. order_at names p wanted) (sym is) ∙ order)) ∙ t.2);
     }
 
 pub searches-below : (names : List NameEntry) (wanted : List ℕ) (low high position : ℕ) (whole : Option ℕ) → low < high → position ≡ middle low high
@@ -106,7 +106,7 @@ searches-below names wanted low high position whole some is order s =
       steps = t.0;
       enough = omega (arith, some, is, s.enough, t.1);
       same = ap (searched names wanted t.0 low) is
-        ∙ (sym (searched-below names wanted t.0 low high some (ap (λ p. order_at names p wanted) (sym is) ∙ order)) ∙ t.2);
+          ∙ (sym (searched-below names wanted t.0 low high some (ap (λ p. order_at names p wanted) (sym is) ∙ order)) ∙ t.2);
     }
 
 pub searches-none : (names : List NameEntry) (wanted : List ℕ) (low high : ℕ) (whole : Option ℕ) → high ≤ low → Searches names wanted low high whole → None ≡ whole

@@ -42,8 +42,8 @@ reads-more view step whole items next x index count state later pushed within is
     let more : count - index ≡ suc (count - (index + 1)) = omega arith in
     let rest = each_from step (index + 1) (count - (index + 1)) later in
     let one = ap (λ left. with_front (map view items) (each_from step index left state)) more
-      ∙ (ap (with_front (map view items)) (each_from-step step index (count - (index + 1)) state later (view x) is)
-      ∙ regrouped (map view items) (view x) rest) in
+    ∙ (ap (with_front (map view items)) (each_from-step step index (count - (index + 1)) state later (view x) is)
+    ∙ regrouped (map view items) (view x) rest) in
     let items-are = ap (map view) pushed ∙ map-append view items (x ∷ []) in
     record { so_far = ap (λ front. with_front front rest) items-are ∙ (sym one ∙ reads.so_far) }
 

@@ -19,7 +19,7 @@ is_signature bytes place = nat_le (place + 24) (length bytes) && (u32_at bytes p
 unfoldable pub signature_in : List ℕ → Read ℕ
 signature_in bytes =
     if is_dos_header bytes then
-      (if is_signature bytes (u32_at bytes 0x3C) then Ok (u32_at bytes 0x3C) else refusal NoPeSignature 0x3C)
+    (if is_signature bytes (u32_at bytes 0x3C) then Ok (u32_at bytes 0x3C) else refusal NoPeSignature 0x3C)
     else refusal NoDosHeader 0
 
 -- The entry of data directory 0, by the place and the size of the optional header and by the size of the fields before

@@ -3,5 +3,6 @@ pub mod Exports
 pub mod Headers
 pub mod Lookup
 pub mod Outcome
+pub mod Rows
 pub mod Sections
 pub mod Views

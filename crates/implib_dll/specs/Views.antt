@@ -2,11 +2,13 @@
 use Rattle.std.specs.Prelude.{map}
 use Rattle.implib_dll.specs.declared.exports.Exports.{Exports}
 use Rattle.implib_dll.specs.declared.name.Name.{Name}
+use Rattle.implib_dll.specs.declared.rows.Row.{Row}
 use Rattle.implib_dll.specs.declared.section.Section.{Section}
 use Rattle.implib_dll.specs.declared.target.Target.{Target}
 use Rattle.implib_dll.specs.declared.target.Target.TheVariants.{Empty, Address, Forwarder}
 use Rattle.implib_dll.specs.Exports as seen
 use Rattle.implib_dll.specs.Exports.{NameEntry, Exports as SeenExports, Target as SeenTarget}
+use Rattle.implib_dll.specs.Rows.{Row as SeenRow}
 use Rattle.implib_dll.specs.Sections.{Section as SeenSection}
 
 abbrev pub section_view : Section → SeenSection
@@ -29,3 +31,6 @@ exports_view e = record {
   targets = map target_view e.targets.items;
   names = map name_view e.names.items;
 }
+
+abbrev pub row_view : Row → SeenRow
+row_view r = record { ordinal = r.ordinal; target = target_view r.target; names = map (λ name. name.now) r.names.items }

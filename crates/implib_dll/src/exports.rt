@@ -8,12 +8,12 @@ ghost use Rattle.implib_dll.specs.Outcome.{Gives};
 ghost use Rattle.implib_dll.specs.Sections.{part_at, text_at};
 ghost use Rattle.implib_dll.specs.Views.{exports_view, section_view};
 
-use crate::fault::{refused, Cause, ReadError};
+use crate::fault::{Cause, ReadError, refused};
 use crate::fields::u32_at;
-use crate::header::{header_in, Header};
-use crate::name::{names_in, Name};
-use crate::section::{part_at, sections_in, text_at, Layout, Section};
-use crate::target::{targets_in, Target};
+use crate::header::{Header, header_in};
+use crate::name::{Name, names_in};
+use crate::section::{Layout, Section, part_at, sections_in, text_at};
+use crate::target::{Target, targets_in};
 use std::alloc::Global;
 
 /// What an image exports. The target at an index has the ordinal `base` + index, modulo 2^32.
@@ -152,21 +152,11 @@ fn exports_behind<'a>(
 
 /// What an image exports.
 #[tactic(auto, unfolding(crate::specs::Exports::exports_in))]
-fn exports_in(
-    alloc: Global,
-    layout: Layout,
-    bytes: &[u8],
-) -> Result<Option<Exports<'_>>, ReadError>
+fn exports_in(alloc: Global, layout: Layout, bytes: &[u8]) -> Result<Option<Exports<'_>>, ReadError>
     ensures { Gives (option_map exports_view) result (exports_in layout bytes.now) }
 {
     let header = header_in(bytes)?;
-    let (sections, _) = sections_in(
-        alloc,
-        layout,
-        bytes,
-        header.sections,
-        header.section_count,
-    )?;
+    let (sections, _) = sections_in(alloc, layout, bytes, header.sections, header.section_count)?;
     exports_behind(alloc, &header, &sections, bytes.len())
 }
 

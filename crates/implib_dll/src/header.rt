@@ -4,7 +4,7 @@ ghost use Rattle.std.specs.Prelude.{◌≡◌, ℕ, ◌+◌, ◌*◌, ◌<◌, �
 ghost use Rattle.implib_dll.specs.Headers.{entry_in, header_at, header_in, header_of, header_with, is_dos_header, is_signature, signature_in};
 ghost use Rattle.implib_dll.specs.Outcome.{Gives};
 
-use crate::fault::{refused, Cause, ReadError};
+use crate::fault::{Cause, ReadError, refused};
 use crate::fields::{u16_at, u32_at};
 
 /// The entry of data directory 0, the export table.

@@ -7,10 +7,12 @@ mod fields;
 mod header;
 mod lookup;
 mod name;
+mod rows;
 mod section;
 mod target;
 
 pub use exports::Exports;
 pub use fault::{Cause, Fault, ReadError};
 pub use name::Name;
+pub use rows::{Oddity, Row};
 pub use target::{AddressKind, Target};

@@ -119,11 +119,11 @@ impl<'a> Exports<'a> {
         self.target_at(ordinal.wrapping_sub(self.base) as usize)
     }
 
-    /// The ordinal of an index of the export address table.
-    pub fn ordinal_of(&self, index: u32) -> u32
+    /// The ordinal of an index of the export address table: the base + index, modulo 2^32.
+    pub fn ordinal_of(&self, index: usize) -> u32
         ensures { result ≡ ordinal_of self.now.base index }
     {
-        self.base.wrapping_add(index)
+        self.base.wrapping_add((index % 0x1_0000_0000) as u32)
     }
 
     /// Whether each name is less than the next one by its bytes.

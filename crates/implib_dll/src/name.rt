@@ -58,8 +58,14 @@ pub(crate) fn names_in<'a>(
     let mut names = Vec::new(alloc);
     let mut left = room;
     for number in 0..count {
-        let (name, next_left) =
-            name_step(sections, place, pointers, ordinals, number as usize, left)?;
+        let (name, next_left) = name_step(
+            sections,
+            place,
+            pointers,
+            ordinals,
+            number as usize,
+            left,
+        )?;
         names.push(name)?;
         left = next_left;
     }

@@ -7,7 +7,7 @@ ghost use Rattle.implib_dll.specs.Sections.{contents_at, contents_place, content
 ghost use Rattle.implib_dll.specs.Sections.{located, part_at, section_at, section_size, section_step, sections_in, text_at};
 ghost use Rattle.implib_dll.specs.Views.{section_view};
 
-use crate::fault::{refused, Cause, ReadError};
+use crate::fault::{Cause, ReadError, refused};
 use crate::fields::{bytes_at, text_in, u32_at};
 use crate::target::AddressKind;
 use std::alloc::Global;

@@ -6,10 +6,10 @@ ghost use Rattle.implib_dll.specs.Outcome.{Gives, each_from};
 ghost use Rattle.implib_dll.specs.Sections.{text_at};
 ghost use Rattle.implib_dll.specs.Views.{section_view, target_view};
 
-use crate::fault::{refused, Cause, ReadError};
+use crate::fault::{Cause, ReadError, refused};
 use crate::fields::u32_at;
 use crate::header::Entry;
-use crate::section::{kind_at, text_at, Section};
+use crate::section::{Section, kind_at, text_at};
 use std::alloc::Global;
 
 /// What is at an address, by the section that has it.
