@@ -1,3 +1,4 @@
+pub mod Finding
 pub mod Located
 pub mod RowNames
 pub mod Searching

@@ -1,6 +1,7 @@
 pub mod Bytes
 pub mod Exports
 pub mod Headers
+pub mod Laws
 pub mod Lookup
 pub mod Outcome
 pub mod Rows

@@ -5,6 +5,7 @@ mod exports;
 mod fault;
 mod fields;
 mod header;
+pub mod laws;
 mod lookup;
 mod name;
 mod rows;

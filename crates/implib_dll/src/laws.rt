@@ -1,0 +1,33 @@
+//! Laws of lookups. The functions do nothing: their contracts are the laws.
+
+ghost use Rattle.implib_dll.specs.Laws.{FindsExactly, FindsTheName, HintsChangeNothing, NamesLead, OrdinalsLead, RightHintFinds};
+
+/// Where names rise strictly by their bytes, a lookup with any hint finds a name just where it stands.
+pub fn finds_exactly()
+    ensures { FindsExactly }
+{}
+
+/// Where names rise strictly by their bytes, hints change nothing.
+pub fn hints_change_nothing()
+    ensures { HintsChangeNothing }
+{}
+
+/// Whatever the order of names, what is found has the name.
+pub fn finds_the_name()
+    ensures { FindsTheName }
+{}
+
+/// Whatever the order of names, a right hint finds its name.
+pub fn right_hint_finds()
+    ensures { RightHintFinds }
+{}
+
+/// Where names rise strictly by their bytes, a listed name leads to the target of its index, with any hint.
+pub fn names_lead()
+    ensures { NamesLead }
+{}
+
+/// The ordinal of an index leads to its target.
+pub fn ordinals_lead()
+    ensures { OrdinalsLead }
+{}
