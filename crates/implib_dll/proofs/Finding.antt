@@ -1,6 +1,5 @@
 -- What a lookup finds.
-use Rattle.std.proofs.Common.{◌≡◌, ℕ, zero, suc, ◌+◌, ◌-◌, ◌/◌, ◌%◌, ◌<◌, ◌≤◌, ◌^◌, Bool, true, false, ◌&&◌, cond, List, [], ◌∷◌, Option, Some, None, Ordering, length, nat_lt, refl, ap, ◌∙◌, sym, inl, inr, arith}
-use Rattle.std.specs.Cmp.{IsTotalOrder}
+use Rattle.std.proofs.Common.{◌≡◌, ℕ, zero, suc, ◌+◌, ◌-◌, ◌%◌, ◌<◌, ◌≤◌, ◌^◌, Bool, true, false, ◌&&◌, cond, List, [], ◌∷◌, Option, Some, None, Ordering, length, refl, ap, ◌∙◌, sym, inl, inr, arith}
 use Rattle.std.specs.Cmp.Lexicographic.{slice_cmp}
 use Rattle.std.specs.List.{slice_get}
 use Rattle.std.specs.Option.{option_and_then, option_map, option_map_or}
@@ -9,9 +8,9 @@ use Rattle.std.specs.declared.cmp.Ordering.TheVariants.{Less, Equal, Greater}
 use Rattle.std.proofs.lemmas.Bool.{cases_lt}
 use Rattle.std.proofs.lemmas.Cmp.{nat_list_cmp_total, tied_itself}
 use Rattle.std.proofs.lemmas.Map.Lookups.{exact_bytes}
-use Rattle.implib_dll.specs.Exports.{Exports, NameEntry}
+use Rattle.implib_dll.specs.Exports.{NameEntry}
 use Rattle.implib_dll.specs.Laws.{FindsExactly, FindsTheName, HintsChangeNothing, NamesLead, OrdinalsLead, RightHintFinds}
-use Rattle.implib_dll.specs.Lookup.{by_name, is_at, middle, names_rise, order_at, position_of, rise_from, searched, target_at, text_at}
+use Rattle.implib_dll.specs.Lookup.{is_at, middle, names_rise, order_at, position_of, rise_from, searched, target_at, text_at}
 use Rattle.implib_dll.proofs.Searching.{searched-above, searched-below, searched-found, searched-none}
 
 -- what an option has is what it is said to have

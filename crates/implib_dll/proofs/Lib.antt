@@ -3,3 +3,4 @@ pub mod Located
 pub mod RowNames
 pub mod Searching
 pub mod Steps
+pub mod WorkedBytes

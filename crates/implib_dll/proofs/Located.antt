@@ -1,5 +1,5 @@
 -- The section of an address, found by going over the sections.
-use Rattle.std.proofs.Common.{◌≡◌, ℕ, suc, ◌+◌, ◌<◌, ◌≤◌, true, false, cond, List, [], ◌∷◌, Some, None, map, length, drop, get_or, refl, ap, ◌∙◌, sym, add-one, arith}
+use Rattle.std.proofs.Common.{◌≡◌, ℕ, suc, ◌+◌, ◌<◌, ◌≤◌, true, false, cond, List, Some, None, map, length, drop, get_or, ap, ◌∙◌, sym, add-one}
 use Rattle.std.proofs.Math.Seq.{drop-cons}
 use Rattle.std.proofs.Math.ListN.{drop_of_length-le}
 use Rattle.implib_dll.specs.declared.section.Section.{Section}

@@ -1,5 +1,5 @@
 -- Rows, a name at a time.
-use Rattle.std.proofs.Common.{◌≡◌, ℕ, zero, suc, ◌+◌, ◌<◌, ◌≤◌, ◌==◌, true, false, cond, List, [], ◌∷◌, ◌++◌, Some, None, map, length, take, get_or, refl, ap, ◌∙◌, sym, append-nil, arith}
+use Rattle.std.proofs.Common.{◌≡◌, ℕ, zero, suc, ◌+◌, ◌<◌, ◌≤◌, ◌==◌, true, false, cond, List, [], ◌∷◌, ◌++◌, map, length, take, get_or, refl, ap, ◌∙◌, sym, append-nil, arith}
 use Rattle.std.specs.Prelude.{filter}
 use Rattle.std.specs.Borrow.{Bor}
 use Rattle.std.proofs.Math.ListN.{set, get_or-map}

@@ -1,5 +1,5 @@
 -- Loops that read what `each_from` has as a whole, or find its first fault.
-use Rattle.std.proofs.Common.{◌≡◌, ℕ, zero, suc, ◌+◌, ◌-◌, ◌<◌, ◌≤◌, List, [], ◌∷◌, ◌++◌, Ok, Err, map, refl, ap, ◌∙◌, sym, append-nil, append_assoc, arith}
+use Rattle.std.proofs.Common.{◌≡◌, ℕ, suc, ◌+◌, ◌-◌, ◌<◌, ◌≤◌, List, [], ◌∷◌, ◌++◌, Ok, Err, map, refl, ap, ◌∙◌, sym, append-nil, append_assoc, arith}
 use Rattle.std.proofs.lemmas.List.{map-append}
 use Rattle.implib_dll.specs.declared.fault.ReadError.{ReadError}
 use Rattle.implib_dll.specs.declared.fault.ReadError.TheVariants.{Refused, OutOfMemory}

@@ -1,4 +1,5 @@
 pub mod Bytes
+pub mod Digits
 pub mod Exports
 pub mod Headers
 pub mod Laws
@@ -7,3 +8,6 @@ pub mod Outcome
 pub mod Rows
 pub mod Sections
 pub mod Views
+pub mod WorkedFiles
+pub mod WorkedLookups
+pub mod WorkedRefusals

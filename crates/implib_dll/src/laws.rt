@@ -1,6 +1,9 @@
-//! Laws of lookups. The functions do nothing: their contracts are the laws.
+//! Laws of lookups, and what is worked by hand. The functions do nothing: their contracts are the laws.
 
 ghost use Rattle.implib_dll.specs.Laws.{FindsExactly, FindsTheName, HintsChangeNothing, NamesLead, OrdinalsLead, RightHintFinds};
+ghost use Rattle.implib_dll.specs.WorkedFiles.{WorkedFiles};
+ghost use Rattle.implib_dll.specs.WorkedLookups.{WorkedLookups};
+ghost use Rattle.implib_dll.specs.WorkedRefusals.{WorkedRefusals};
 
 /// Where names rise strictly by their bytes, a lookup with any hint finds a name just where it stands.
 pub fn finds_exactly()
@@ -30,4 +33,19 @@ pub fn names_lead()
 /// The ordinal of an index leads to its target.
 pub fn ordinals_lead()
     ensures { OrdinalsLead }
+{}
+
+/// What DLLs export, byte by byte: made by hand for I386 and AMD64, and a real one of GNU's linker.
+pub fn worked_files()
+    ensures { WorkedFiles }
+{}
+
+/// What lookups find and what they miss.
+pub fn worked_lookups()
+    ensures { WorkedLookups }
+{}
+
+/// Files that are refused, each for its first fault, and near misses.
+pub fn worked_refusals()
+    ensures { WorkedRefusals }
 {}

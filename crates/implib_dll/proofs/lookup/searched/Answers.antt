@@ -1,6 +1,5 @@
-use Rattle.std.proofs.Common.{◌≡◌, ◌+◌, ◌-◌, ◌/◌, map, sym, ◌∙◌, arith}
+use Rattle.std.proofs.Common.{◌≡◌, ◌+◌, ◌-◌, ◌/◌, sym, arith}
 use Rattle.implib_dll.specs.Lookup.{middle}
-use Rattle.implib_dll.specs.Views.{name_view}
 use Rattle.implib_dll.proofs.Searching.{searches-above, searches-below, searches-found, searches-none}
 use Rattle.implib_dll.proofs.lookup.searched.Goals as goal
 

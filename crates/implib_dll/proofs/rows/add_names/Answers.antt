@@ -11,7 +11,7 @@ loop-name-preserved c =
     elim c.if-index-len.branch [
       | then-index-len+in_ok-add_name w ↦
           name_added c.args.base l.rows.items c.if-index-len.rows.items c.args.names.now (map target_view c.args.targets.now) l.name-index no_name w.index_mut.result.now w.add_name.new.row
-              c.loop-name-test.true (omega (arith, w.if-index-len.true, c.len.ensures, so_many)) (ap (λ v. v.items) w.rows-is) w.index_mut.ensures.value w.in_ok-add_name.ensures l.invariant
+          c.loop-name-test.true (omega (arith, w.if-index-len.true, c.len.ensures, so_many)) (ap (λ v. v.items) w.rows-is) w.index_mut.ensures.value w.in_ok-add_name.ensures l.invariant
       | else-index-len w ↦
           ap (λ v. map row_view v.items) w.rows-is
           ∙ name_passed c.args.base l.rows.items c.args.names.now (map target_view c.args.targets.now) l.name-index no_name c.loop-name-test.true (omega (arith, w.if-index-len.false, c.len.ensures, so_many)) l.invariant
