@@ -3,7 +3,7 @@ use Rattle.std.proofs.Common.{◌≡◌, ℕ, suc, ◌+◌, ◌<◌, ◌≤◌, 
 use Rattle.std.proofs.Math.Seq.{drop-cons}
 use Rattle.std.proofs.Math.ListN.{drop_of_length-le}
 use Rattle.implib_dll.specs.declared.section.Section.{Section}
-use Rattle.implib_dll.specs.declared.target.AddressKind.TheVariants.{Outside}
+use Rattle.implib_dll.specs.declared.section.AddressKind.TheVariants.{Outside}
 use Rattle.implib_dll.specs.Sections.{data_from, has_address, has_data, kind_at, kind_in, located}
 use Rattle.implib_dll.specs.Views.{section_view}
 

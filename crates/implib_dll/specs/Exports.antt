@@ -7,7 +7,7 @@ use Rattle.implib_dll.specs.declared.fault.Cause.TheVariants.{DirectoryOutside, 
 use Rattle.implib_dll.specs.declared.header.Entry.{Entry}
 use Rattle.implib_dll.specs.declared.header.Header.{Header}
 use Rattle.implib_dll.specs.declared.section.Layout.{Layout}
-use Rattle.implib_dll.specs.declared.target.AddressKind.{AddressKind}
+use Rattle.implib_dll.specs.declared.section.AddressKind.{AddressKind}
 use Rattle.implib_dll.specs.Bytes.{u16_at, u32_at}
 use Rattle.implib_dll.specs.Headers.{header_in}
 use Rattle.implib_dll.specs.Outcome.{◌>>=◌, Read, each_from, refusal}

@@ -5,8 +5,8 @@ use Rattle.std.specs.Option.{option_and_then}
 use Rattle.implib_dll.specs.declared.fault.Cause.TheVariants.{SectionsOverlap, SectionDataCut}
 use Rattle.implib_dll.specs.declared.section.Layout.{Layout}
 use Rattle.implib_dll.specs.declared.section.Layout.TheVariants.{File, Image}
-use Rattle.implib_dll.specs.declared.target.AddressKind.{AddressKind}
-use Rattle.implib_dll.specs.declared.target.AddressKind.TheVariants.{Code, Data, Outside}
+use Rattle.implib_dll.specs.declared.section.AddressKind.{AddressKind}
+use Rattle.implib_dll.specs.declared.section.AddressKind.TheVariants.{Code, Data, Outside}
 use Rattle.implib_dll.specs.Bytes.{bytes_at, text_in, u32_at}
 use Rattle.implib_dll.specs.Outcome.{Read, each_from, refusal}
 

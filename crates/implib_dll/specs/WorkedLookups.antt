@@ -1,7 +1,7 @@
 -- Lookups worked by hand, and near misses.
 use Rattle.std.specs.Prelude.{◌≡◌, true, false, List, [], ◌∷◌, Some, None, codes}
 use Rattle.implib_dll.specs.declared.rows.Oddity.TheVariants.{PastTable, AtEmpty}
-use Rattle.implib_dll.specs.declared.target.AddressKind.TheVariants.{Code, Data}
+use Rattle.implib_dll.specs.declared.section.AddressKind.TheVariants.{Code, Data}
 use Rattle.implib_dll.specs.Exports.{Exports, NameEntry, Address, Forwarder}
 use Rattle.implib_dll.specs.Lookup.{by_name, by_ordinal, names_rise, ordinal_of, position_of}
 use Rattle.implib_dll.specs.Rows.{oddity_of}

@@ -9,7 +9,6 @@ ghost use Rattle.implib_dll.specs.Views.{section_view};
 
 use crate::fault::{Cause, ReadError, refused};
 use crate::fields::{bytes_at, text_in, u32_at};
-use crate::target::AddressKind;
 use std::alloc::Global;
 
 /// How the bytes of an image lie.
@@ -19,6 +18,17 @@ pub enum Layout {
     File,
     /// As in memory, each section at its address.
     Image,
+}
+
+/// What is at an address, by the section that has it.
+#[derive(Clone, Copy, Debug, PartialEq, Eq)]
+pub enum AddressKind {
+    /// A section with IMAGE_SCN_MEM_EXECUTE.
+    Code,
+    /// Another section.
+    Data,
+    /// No section.
+    Outside,
 }
 
 /// A section.

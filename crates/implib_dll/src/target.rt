@@ -9,19 +9,8 @@ ghost use Rattle.implib_dll.specs.Views.{section_view, target_view};
 use crate::fault::{Cause, ReadError, refused};
 use crate::fields::u32_at;
 use crate::header::Entry;
-use crate::section::{Section, kind_at, text_at};
+use crate::section::{AddressKind, Section, kind_at, text_at};
 use std::alloc::Global;
-
-/// What is at an address, by the section that has it.
-#[derive(Clone, Copy, Debug, PartialEq, Eq)]
-pub enum AddressKind {
-    /// A section with IMAGE_SCN_MEM_EXECUTE.
-    Code,
-    /// Another section.
-    Data,
-    /// No section.
-    Outside,
-}
 
 /// Where an entry of the export address table leads.
 #[derive(Clone, Copy, Debug)]
