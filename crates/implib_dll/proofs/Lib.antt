@@ -1,4 +1,5 @@
 pub mod Finding
+pub mod InMemory
 pub mod Located
 pub mod RowNames
 pub mod Searching

@@ -4,6 +4,7 @@ pub mod Exports
 pub mod Headers
 pub mod Laws
 pub mod Lookup
+pub mod Memory
 pub mod Outcome
 pub mod Rows
 pub mod Sections

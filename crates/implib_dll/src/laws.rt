@@ -1,6 +1,7 @@
 //! Laws of lookups, and what is worked by hand. The functions do nothing: their contracts are the laws.
 
 ghost use Rattle.implib_dll.specs.Laws.{FindsExactly, FindsTheName, HintsChangeNothing, NamesLead, OrdinalsLead, RightHintFinds};
+ghost use Rattle.implib_dll.specs.Memory.{FileIsInMemory};
 ghost use Rattle.implib_dll.specs.WorkedFiles.{WorkedFiles};
 ghost use Rattle.implib_dll.specs.WorkedLookups.{WorkedLookups};
 ghost use Rattle.implib_dll.specs.WorkedRefusals.{WorkedRefusals};
@@ -33,6 +34,11 @@ pub fn names_lead()
 /// The ordinal of an index leads to its target.
 pub fn ordinals_lead()
     ensures { OrdinalsLead }
+{}
+
+/// What is read of a file, each table and each text with its NUL, is in the image in memory, which is stated apart.
+pub fn file_is_in_memory()
+    ensures { FileIsInMemory }
 {}
 
 /// What DLLs export, byte by byte: made by hand for I386 and AMD64, and a real one of GNU's linker.
