@@ -3,7 +3,7 @@ use Rattle.std.proofs.Common.{◌≡◌, ℕ, zero, suc, ◌+◌, ◌-◌, ◌<�
 use Rattle.std.specs.Option.{option_and_then, option_map}
 use Rattle.std.proofs.Math.Seq.{get_or-append_seam}
 use Rattle.std.proofs.lemmas.Bool.{eqb-true, ltb-true, leb-true, le-leb, le-ltb, lt-ltb, ltb-false}
-use Rattle.std.proofs.lemmas.List.{get_or-drop, get_or-take, length-drop, length-take, take_more}
+use Rattle.std.proofs.lemmas.List.{drop-drop, drop-take, get_or-drop, get_or-take, length-drop, length-take, take-take, take_more}
 use Rattle.std.proofs.lemmas.List.Quantifiers.{position-Some}
 use Rattle.implib_dll.specs.declared.fault.Fault.{Fault}
 use Rattle.implib_dll.specs.declared.section.Layout.{Layout}
@@ -225,4 +225,72 @@ file_is_in_memory bytes place count end sections is =
       λ rva text found.
         let at = some_before (λ (x : ℕ × List ℕ). text_in x.1) (located sections rva) text found in
         subst (AreAt sections rva) (text-ended at.0.1 text at.2) (front_in_memory sections rva (length text + 1) at.0.1 (data_in_memory sections 0 rva at.0 apart at.1)),
+    )
+
+-- ---- an image
+
+bytes_at-is : (bytes : List ℕ) (place n : ℕ) (part : List ℕ) → bytes_at bytes place n ≡ Some part → (place + n ≤ length bytes) × (take n (drop place bytes) ≡ part)
+unfolding bytes_at
+bytes_at-is bytes place n part is = by_length (nat_le (place + n) (length bytes)) refl is
+  where
+    by_length : (b : Bool) → nat_le (place + n) (length bytes) ≡ b → cond b (Some (take n (drop place bytes))) None ≡ Some part → (place + n ≤ length bytes) × (take n (drop place bytes) ≡ part)
+    by_length true le is = (leb-true _ _ le, same_some (Some (take n (drop place bytes))) _ part refl is)
+    by_length false le is = absurd cc
+
+bytes_at-found : (bytes : List ℕ) (place n : ℕ) → place + n ≤ length bytes → bytes_at bytes place n ≡ Some (take n (drop place bytes))
+unfolding bytes_at
+bytes_at-found bytes place n within = ap (λ b. cond b (Some (take n (drop place bytes))) None) (le-leb _ _ within)
+
+contents_at-some : (bytes : List ℕ) (place size : ℕ) (contents : List ℕ) → contents_at bytes place size ≡ Some contents → 0 < length contents → bytes_at bytes place size ≡ Some contents
+unfolding contents_at
+contents_at-some bytes place size contents is some = by_size (size == 0) is
+  where
+    by_size : (b : Bool) → cond b (Some []) (bytes_at bytes place size) ≡ Some contents → bytes_at bytes place size ≡ Some contents
+    by_size true is = let same = same_some (Some []) [] contents refl is in absurd (omega (arith, ap length same, some))
+    by_size false is = is
+
+-- a section's data are the bytes at its address
+abbrev InImage : List ℕ → Section → Type 0
+InImage bytes s = (s.place ≡ s.address) × (0 < length s.contents → (s.address + length s.contents ≤ length bytes) × (take (length s.contents) (drop s.address bytes) ≡ s.contents))
+
+section-in_image : (bytes : List ℕ) (place end : ℕ) (s : Section) → section_at Image bytes place end ≡ Ok s → (end ≤ s.address) × InImage bytes s
+section-in_image bytes place end s is =
+    let laid = section-laid Image bytes place end s is in
+    (laid.from, (laid.offset ∙ sym laid.address, λ some.
+      let at = bytes_at-is bytes (u32_at bytes (place + 12)) (section_size bytes place) s.contents (contents_at-some bytes _ _ s.contents laid.contents some) in
+      let size-is : length s.contents ≡ section_size bytes place = omega (arith, ap length (sym at.1), length-take (section_size bytes place) (drop (u32_at bytes (place + 12)) bytes), length-drop (u32_at bytes (place + 12)) bytes, at.0) in
+      (omega (arith, at.0, size-is, laid.address),
+        ap (λ n. take n (drop s.address bytes)) size-is ∙ (ap (λ a. take (section_size bytes place) (drop a bytes)) laid.address ∙ at.1))))
+
+-- a part of a part
+window : (bytes : List ℕ) (place size offset n : ℕ) → offset + n ≤ size → take n (drop offset (take size (drop place bytes))) ≡ take n (drop (place + offset) bytes)
+window bytes place size offset n within =
+    let split : size ≡ offset + (size - offset) = omega (arith, within) in
+    ap (λ m. take n (drop offset (take m (drop place bytes)))) split
+    ∙ (ap (take n) (drop-take offset (size - offset) (drop place bytes))
+    ∙ (take-take n (size - offset) (drop offset (drop place bytes)) (omega (arith, within))
+    ∙ ap (take n) (drop-drop offset place bytes)))
+
+pub image_is_read : ImageIsRead
+unfolding part_at
+image_is_read bytes place count end sections is rva size offset part found =
+    let apart : Apart (InImage bytes) 0 sections = sections-apart (InImage bytes) Image bytes place (section-in_image bytes) count 0 0 end sections is in
+    let at = some_before (part_of size) (located sections rva) (offset, part) found in
+    let front = part_of-is size at.0 (offset, part) at.2 in
+    let f = located-found (InImage bytes) 0 sections rva at.0 apart at.1 in
+    let s = f.section in
+    let fact = f.fact.1 (omega (arith, f.low, f.high)) in
+    let rest : drop (rva - s.address) s.contents ≡ at.0.1 = ap (λ (x : ℕ × List ℕ). x.1) f.is in
+    let start : s.place + (rva - s.address) ≡ at.0.0 = ap (λ (x : ℕ × List ℕ). x.0) f.is in
+    let offset-is : at.0.0 ≡ offset = ap (λ (x : ℕ × List ℕ). x.0) front.1 in
+    let part-is : take size at.0.1 ≡ part = ap (λ (x : ℕ × List ℕ). x.1) front.1 in
+    let fits : (rva - s.address) + size ≤ length s.contents = omega (arith, front.0, ap length rest, length-drop (rva - s.address) s.contents, f.low, f.high) in
+    let place-is : s.address + (rva - s.address) ≡ rva = omega (arith, f.low) in (
+      omega (arith, offset-is, start, f.fact.0, f.low),
+      bytes_at-found bytes rva size (omega (arith, fits, fact.0, f.low))
+      ∙ ap Some (ap (λ a. take size (drop a bytes)) (sym place-is)
+      ∙ (sym (window bytes s.address (length s.contents) (rva - s.address) size fits)
+      ∙ (ap (λ t. take size (drop (rva - s.address) t)) fact.1
+      ∙ (ap (take size) rest
+      ∙ part-is)))),
     )
