@@ -15,21 +15,21 @@ use Rattle.implib_dll.specs.Sections.{Section, contents_at, contents_place, cont
 
 -- ---- readings that succeed
 
-bind_ok : {X Y : Type 0} (read : Read X) (next : X → Read Y) (y : Y) → (read >>= next) ≡ Ok y → (x : X) × (read ≡ Ok x) × (next x ≡ Ok y)
+pub bind_ok : {X Y : Type 0} (read : Read X) (next : X → Read Y) (y : Y) → (read >>= next) ≡ Ok y → (x : X) × (read ≡ Ok x) × (next x ≡ Ok y)
 bind_ok (Ok x) next y is = (x, refl, is)
 bind_ok (Err fault) next y is = absurd cc
 
-abbrev done : {X : Type 0} → X → Read X
+abbrev pub done : {X : Type 0} → X → Read X
 done x = Ok x
 
-ok_is : {X : Type 0} (x y : X) → done x ≡ done y → x ≡ y
+pub ok_is : {X : Type 0} (x y : X) → done x ≡ done y → x ≡ y
 ok_is x y is = cc
 
 test_ok : {X : Type 0} (b : Bool) (fault : Fault) (read : Read X) (x : X) → cond b (Err fault) read ≡ Ok x → (b ≡ false) × (read ≡ Ok x)
 test_ok true fault read x is = absurd cc
 test_ok false fault read x is = (refl, is)
 
-both_parts : (a b : Bool) → (a && b) ≡ true → (a ≡ true) × (b ≡ true)
+pub both_parts : (a b : Bool) → (a && b) ≡ true → (a ≡ true) × (b ≡ true)
 both_parts true b is = (refl, is)
 both_parts false b is = absurd cc
 
@@ -71,7 +71,7 @@ record Found (P : Section → Type 0) (end : ℕ) (sections : List Section) (rva
   is : data_from section rva ≡ found
   bytes : (k : ℕ) → rva + k < section.address + section.size → byte_at sections (rva + k) ≡ byte_in section (rva + k)
 
-same_some : {X : Type 0} (o : Option X) (x y : X) → o ≡ Some x → o ≡ Some y → x ≡ y
+pub same_some : {X : Type 0} (o : Option X) (x y : X) → o ≡ Some x → o ≡ Some y → x ≡ y
 same_some o x y is also = cc
 
 in_first : (P : Section → Type 0) (end : ℕ) (s : Section) (rest : List Section) (rva : ℕ) (found : ℕ × List ℕ) → end ≤ s.address → P s → has_data s rva ≡ true
@@ -186,14 +186,14 @@ front_in_memory : (sections : List Section) (rva n : ℕ) (bytes : List ℕ) →
 front_in_memory sections rva n bytes all k within =
     all k (omega (arith, within, length-take n bytes)) ∙ sym (get_or-take n bytes k 0 (omega (arith, within, length-take n bytes)))
 
-part_of-is : (size : ℕ) (found part : ℕ × List ℕ) → part_of size found ≡ Some part → (size ≤ length found.1) × ((found.0, take size found.1) ≡ part)
+pub part_of-is : (size : ℕ) (found part : ℕ × List ℕ) → part_of size found ≡ Some part → (size ≤ length found.1) × ((found.0, take size found.1) ≡ part)
 part_of-is size found part is = by_size (nat_le size (length found.1)) refl is
   where
     by_size : (b : Bool) → nat_le size (length found.1) ≡ b → cond b (Some (found.0, take size found.1)) None ≡ Some part → (size ≤ length found.1) × ((found.0, take size found.1) ≡ part)
     by_size true le is = (leb-true _ _ le, same_some (Some (found.0, take size found.1)) _ part refl is)
     by_size false le is = absurd cc
 
-some_before : {X Y : Type 0} (f : X → Option Y) (o : Option X) (y : Y) → option_and_then f o ≡ Some y → (x : X) × (o ≡ Some x) × (f x ≡ Some y)
+pub some_before : {X Y : Type 0} (f : X → Option Y) (o : Option X) (y : Y) → option_and_then f o ≡ Some y → (x : X) × (o ≡ Some x) × (f x ≡ Some y)
 some_before f None y is = absurd cc
 some_before f (Some x) y is = (x, refl, is)
 

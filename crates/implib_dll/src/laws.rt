@@ -1,7 +1,7 @@
 //! Laws of lookups, and what is worked by hand. The functions do nothing: their contracts are the laws.
 
 ghost use Rattle.implib_dll.specs.Laws.{FindsExactly, FindsTheName, HintsChangeNothing, NamesLead, OrdinalsLead, RightHintFinds};
-ghost use Rattle.implib_dll.specs.Memory.{FileIsInMemory, ImageIsRead};
+ghost use Rattle.implib_dll.specs.Memory.{ExportsLieInMemory, FileIsInMemory, ImageIsRead};
 ghost use Rattle.implib_dll.specs.WorkedFiles.{WorkedFiles};
 ghost use Rattle.implib_dll.specs.WorkedLookups.{WorkedLookups};
 ghost use Rattle.implib_dll.specs.WorkedRefusals.{WorkedRefusals};
@@ -39,6 +39,11 @@ pub fn ordinals_lead()
 /// What is read of a file, each table and each text with its NUL, is in the image in memory, which is stated apart.
 pub fn file_is_in_memory()
     ensures { FileIsInMemory }
+{}
+
+/// What a file is read to export lies in its image in memory: by the export directory there.
+pub fn exports_lie_in_memory()
+    ensures { ExportsLieInMemory }
 {}
 
 /// What is read of an image in memory at an address is what its bytes have there.
