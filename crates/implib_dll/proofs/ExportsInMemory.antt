@@ -13,7 +13,7 @@ use Rattle.implib_dll.specs.declared.section.Layout.TheVariants.{File}
 use Rattle.implib_dll.specs.Bytes.{u16_at, u32_at}
 use Rattle.implib_dll.specs.Exports.{Exports, NameEntry, Target, Empty, Address, Forwarder, as_forwarder, as_name, exports_at, exports_behind, exports_in, found_or, is_forwarder, name_step, table_at, target_of, target_step, text_within}
 use Rattle.implib_dll.specs.Headers.{header_in}
-use Rattle.implib_dll.specs.Memory.{AreAt, ExportsLieInMemory, IsTargetOf, LiesIn, byte_at, half_at, word_at}
+use Rattle.implib_dll.specs.Memory.{AreAt, ExportsLieInMemory, IsTargetOf, IsTextAt, LiesIn, byte_at, half_at, word_at}
 use Rattle.implib_dll.specs.Outcome.{◌>>=◌, Read, each_from, refusal}
 use Rattle.implib_dll.specs.Sections.{Section, kind_at, located, part_at, part_of, sections_in, text_at}
 use Rattle.implib_dll.proofs.InMemory.{bind_ok, done, file_is_in_memory, ok_is, part_of-is, same_some, some_before}
@@ -111,13 +111,13 @@ as_name-ok index (Ok (text, room)) name left is =
 as_name-ok index (Err fault) name left is = absurd cc
 
 as_forwarder-ok : (sections : List Section) (entry : Entry) (address : ℕ) (read : Read (List ℕ × ℕ)) (target : Target) (left : ℕ) → is_forwarder entry address ≡ true
-    → ((text : List ℕ) (room : ℕ) → read ≡ Ok (text, room) → AreAt sections address (text ++ 0 ∷ [])) → as_forwarder read ≡ Ok (target, left) → IsTargetOf sections entry address target
+    → ((text : List ℕ) (room : ℕ) → read ≡ Ok (text, room) → IsTextAt sections address text) → as_forwarder read ≡ Ok (target, left) → IsTargetOf sections entry address target
 as_forwarder-ok sections entry address (Ok (text, room)) target left forwards at is =
     subst (λ (x : Target × ℕ). IsTargetOf sections entry address x.0) (ok_is (Forwarder text, room) (target, left) is) (forwards, at text room refl)
 as_forwarder-ok sections entry address (Err fault) target left forwards at is = absurd cc
 
 target_of-ok : (sections : List Section) (entry : Entry) (address place room left : ℕ) (target : Target)
-    → ((rva : ℕ) (text : List ℕ) → text_at sections rva ≡ Some text → AreAt sections rva (text ++ 0 ∷ []))
+    → ((rva : ℕ) (text : List ℕ) → text_at sections rva ≡ Some text → IsTextAt sections rva text)
     → target_of sections entry address place room ≡ Ok (target, left) → IsTargetOf sections entry address target
 unfolding target_of
 target_of-ok sections entry address place room left target texts is = by_zero (address == 0) refl is
@@ -144,7 +144,7 @@ abbrev Parts : List Section → Type 0
 Parts sections = (rva size offset : ℕ) (part : List ℕ) → part_at sections rva size ≡ Some (offset, part) → AreAt sections rva part
 
 abbrev Texts : List Section → Type 0
-Texts sections = (rva : ℕ) (text : List ℕ) → text_at sections rva ≡ Some text → AreAt sections rva (text ++ 0 ∷ [])
+Texts sections = (rva : ℕ) (text : List ℕ) → text_at sections rva ≡ Some text → IsTextAt sections rva text
 
 found_or-some : {X : Type 0} (cause : Cause) (place : ℕ) (o : Option X) (x : X) → found_or cause place o ≡ Ok x → o ≡ Some x
 found_or-some cause place None x is = absurd cc
@@ -205,7 +205,7 @@ name_in : (sections : List Section) (pointers : ℕ × List ℕ) (ordinals : Lis
     → length pointers.1 ≡ 4 * count → AreAt sections rva pointers.1 → length ordinals ≡ 2 * count → AreAt sections places ordinals
     → each_from (name_step sections pointers ordinals) 0 count room ≡ Ok (names, left)
     → (position : ℕ) (name : NameEntry) → slice_get names position ≡ Some name
-    → AreAt sections (word_at sections (rva + 4 * position)) (name.text ++ 0 ∷ []) × (half_at sections (places + 2 * position) ≡ name.index)
+    → IsTextAt sections (word_at sections (rva + 4 * position)) name.text × (half_at sections (places + 2 * position) ≡ name.index)
 name_in sections pointers ordinals rva places count room left names texts size at ordinals_size ordinals_at read position name item =
     let step = name_step sections pointers ordinals in
     let given = each-item step count 0 room left names read position name item in
@@ -215,7 +215,7 @@ name_in sections pointers ordinals rva places count room left names texts size a
     let is : step position given.0 ≡ Ok (name, given.1) = ap (λ i. step i given.0) (sym here) ∙ given.2 in
     let parts = as_name-ok (u16_at ordinals (2 * position)) (text_within NameOutside (pointers.0 + 4 * position) given.0 (text_at sections (u32_at pointers.1 (4 * position)))) name given.1 is in
     let text = text_within-some NameOutside (pointers.0 + 4 * position) given.0 (text_at sections (u32_at pointers.1 (4 * position))) name.text given.1 parts.0 in (
-      subst (λ a. AreAt sections a (name.text ++ 0 ∷ [])) (sym (word-is sections rva (4 * position) pointers.1 at (omega (arith, size, so_many, within)))) (texts (u32_at pointers.1 (4 * position)) name.text text),
+      subst (λ a. IsTextAt sections a name.text) (sym (word-is sections rva (4 * position) pointers.1 at (omega (arith, size, so_many, within)))) (texts (u32_at pointers.1 (4 * position)) name.text text),
       half-is sections places (2 * position) ordinals ordinals_at (omega (arith, ordinals_size, so_many, within)) ∙ parts.1,
     )
 
@@ -231,7 +231,7 @@ laid : (header : Header) (sections : List Section) (room : ℕ) (d dll : List �
 laid header sections room d dll addresses pointers ordinals targets names parts texts word dll-is a p o targets-are names-are size =
     let named = name_in sections pointers ordinals (u32_at d 32) (u32_at d 36) (u32_at d 24) targets.1 names.1 names.0 texts p.0 p.1 o.0 o.1 names-are in
     record {
-      dll = subst (λ r. AreAt sections r (dll ++ 0 ∷ [])) (sym (word 12 (omega (arith, size)))) (texts (u32_at d 12) dll dll-is);
+      dll = subst (λ r. IsTextAt sections r dll) (sym (word 12 (omega (arith, size)))) (texts (u32_at d 12) dll dll-is);
       base = word 16 (omega (arith, size));
       target_count = word 20 (omega (arith, size)) ∙ sym (each-length (target_step sections header.entry addresses) (u32_at d 20) 0 room targets.1 targets.0 targets-are);
       name_count = word 24 (omega (arith, size)) ∙ sym (each-length (name_step sections pointers ordinals) (u32_at d 24) 0 targets.1 names.1 names.0 names-are);
@@ -239,7 +239,7 @@ laid header sections room d dll addresses pointers ordinals targets names parts 
         subst (λ r. IsTargetOf sections header.entry (word_at sections (r + 4 * index)) target) (sym (word 28 (omega (arith, size))))
         (target_in sections header.entry addresses (u32_at d 28) (u32_at d 20) room targets.1 targets.0 texts a.0 a.1 targets-are index target item);
       names = λ position name item.
-        subst (λ r. AreAt sections (word_at sections (r + 4 * position)) (name.text ++ 0 ∷ [])) (sym (word 32 (omega (arith, size)))) (named position name item).0;
+        subst (λ r. IsTextAt sections (word_at sections (r + 4 * position)) name.text) (sym (word 32 (omega (arith, size)))) (named position name item).0;
       indexes = λ position name item.
         ap (λ r. half_at sections (r + 2 * position)) (word 36 (omega (arith, size))) ∙ (named position name item).1;
     }

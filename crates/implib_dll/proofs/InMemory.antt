@@ -9,7 +9,7 @@ use Rattle.implib_dll.specs.declared.fault.Fault.{Fault}
 use Rattle.implib_dll.specs.declared.section.Layout.{Layout}
 use Rattle.implib_dll.specs.declared.section.Layout.TheVariants.{File, Image}
 use Rattle.implib_dll.specs.Bytes.{bytes_at, text_in, u32_at}
-use Rattle.implib_dll.specs.Memory.{AreAt, FileIsInMemory, ImageIsRead, byte_at, byte_in}
+use Rattle.implib_dll.specs.Memory.{AreAt, FileIsInMemory, ImageIsRead, IsTextAt, byte_at, byte_in}
 use Rattle.implib_dll.specs.Outcome.{◌>>=◌, Read, each_from}
 use Rattle.implib_dll.specs.Sections.{Section, contents_at, contents_place, contents_size, data_from, has_address, has_data, located, part_at, part_of, section_at, section_size, section_step, section_with, sections_in, text_at, with_end}
 
@@ -197,6 +197,10 @@ pub some_before : {X Y : Type 0} (f : X → Option Y) (o : Option X) (y : Y) →
 some_before f None y is = absurd cc
 some_before f (Some x) y is = (x, refl, is)
 
+positive : (n : ℕ) → (n == 0) ≡ false → 0 < n
+positive zero is = absurd cc
+positive (suc n) is = omega arith
+
 text-ended : (bytes text : List ℕ) → text_in bytes ≡ Some text → take (length text + 1) bytes ≡ text ++ 0 ∷ []
 unfolding text_in
 text-ended bytes text is = by_place (position (λ byte. byte == 0) bytes) refl is
@@ -213,6 +217,19 @@ text-ended bytes text is = by_place (position (λ byte. byte == 0) bytes) refl i
         ∙ (ap (λ n. take size bytes ++ n ∷ []) zero-is
         ∙ ap (λ t. t ++ 0 ∷ []) text-is))
 
+text-no_nul : (bytes text : List ℕ) → text_in bytes ≡ Some text → (k : ℕ) → k < length text → 0 < get_or text k 0
+unfolding text_in
+text-no_nul bytes text is k within = by_place (position (λ byte. byte == 0) bytes) refl is
+  where
+    by_place : (o : Option ℕ) → position (λ byte. byte == 0) bytes ≡ o → option_map (λ size. take size bytes) o ≡ Some text → 0 < get_or text k 0
+    by_place None place is = absurd cc
+    by_place (Some size) place is =
+        let text-is : take size bytes ≡ text = same_some (Some (take size bytes)) (take size bytes) text refl is in
+        let nul = position-Some (λ byte. byte == 0) bytes size 0 place in
+        let before : k < size = omega (arith, within, ap length (sym text-is), length-take size bytes) in
+        let here : get_or text k 0 ≡ get_or bytes k 0 = ap (λ t. get_or t k 0) (sym text-is) ∙ get_or-take size bytes k 0 before in
+        omega (arith, here, positive (get_or bytes k 0) (nul.2 k before))
+
 pub file_is_in_memory : FileIsInMemory
 unfolding part_at text_at
 file_is_in_memory bytes place count end sections is =
@@ -224,7 +241,10 @@ file_is_in_memory bytes place count end sections is =
         subst (AreAt sections rva) part-is (front_in_memory sections rva size at.0.1 (data_in_memory sections 0 rva at.0 apart at.1)),
       λ rva text found.
         let at = some_before (λ (x : ℕ × List ℕ). text_in x.1) (located sections rva) text found in
-        subst (AreAt sections rva) (text-ended at.0.1 text at.2) (front_in_memory sections rva (length text + 1) at.0.1 (data_in_memory sections 0 rva at.0 apart at.1)),
+        record {
+          bytes = subst (AreAt sections rva) (text-ended at.0.1 text at.2) (front_in_memory sections rva (length text + 1) at.0.1 (data_in_memory sections 0 rva at.0 apart at.1));
+          no_nul = text-no_nul at.0.1 text at.2;
+        },
     )
 
 -- ---- an image
