@@ -2,6 +2,7 @@ pub mod ExportsInMemory
 pub mod Finding
 pub mod InMemory
 pub mod Located
+pub mod LookupInMemory
 pub mod RowNames
 pub mod Searching
 pub mod Steps

@@ -1,7 +1,7 @@
 //! Laws of lookups, and what is worked by hand. The functions do nothing: their contracts are the laws.
 
 ghost use Rattle.implib_dll.specs.Laws.{FindsExactly, FindsTheName, HintsChangeNothing, NamesLead, OrdinalsLead, RightHintFinds};
-ghost use Rattle.implib_dll.specs.Memory.{ExportsLieInMemory, FileIsInMemory, ImageIsRead};
+ghost use Rattle.implib_dll.specs.Memory.{ExportsLieInMemory, FileIsInMemory, ImageIsRead, LookupsAreThoseInMemory};
 ghost use Rattle.implib_dll.specs.WorkedFiles.{WorkedFiles};
 ghost use Rattle.implib_dll.specs.WorkedLookups.{WorkedLookups};
 ghost use Rattle.implib_dll.specs.WorkedRefusals.{WorkedRefusals};
@@ -44,6 +44,11 @@ pub fn file_is_in_memory()
 /// What a file is read to export lies in its image in memory: by the export directory there.
 pub fn exports_lie_in_memory()
     ensures { ExportsLieInMemory }
+{}
+
+/// A lookup in memory, by the export directory there, finds a name where [`crate::Exports::position_of`] finds it.
+pub fn lookups_are_those_in_memory()
+    ensures { LookupsAreThoseInMemory }
 {}
 
 /// What is read of an image in memory at an address is what its bytes have there.
