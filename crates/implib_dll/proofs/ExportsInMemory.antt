@@ -1,5 +1,5 @@
 -- What a file is read to export lies in memory.
-use Rattle.std.proofs.Common.{◌≡◌, ℕ, zero, suc, ◌+◌, ◌-◌, ◌*◌, ◌<◌, ◌≤◌, ◌==◌, Bool, true, false, cond, List, [], ◌∷◌, ◌++◌, Option, Some, None, Ok, Err, length, take, drop, get_or, nat_lt, refl, ap, ◌∙◌, sym, subst, arith}
+use Rattle.std.proofs.Common.{◌≡◌, ℕ, zero, suc, ◌+◌, ◌-◌, ◌*◌, ◌<◌, ◌≤◌, ◌==◌, Bool, true, false, cond, List, [], ◌∷◌, Option, Some, None, Ok, Err, length, take, drop, get_or, nat_lt, refl, ap, ◌∙◌, sym, subst, arith}
 use Rattle.std.specs.Int.{from_le_bytes, w16, w32}
 use Rattle.std.specs.List.{slice_get}
 use Rattle.std.proofs.Math.Seq.{drop-cons}
@@ -51,7 +51,7 @@ word-is sections rva j bytes all within =
     let third : byte_at sections (rva + j + 2) ≡ get_or bytes (suc (suc j)) 0 = byte-is sections rva (rva + j + 2) (suc (suc j)) bytes all (omega (arith, within)) (omega arith) in
     let fourth : byte_at sections (rva + j + 3) ≡ get_or bytes (suc (suc (suc j))) 0 = byte-is sections rva (rva + j + 3) (suc (suc (suc j))) bytes all (omega (arith, within)) (omega arith) in
     let list : (byte_at sections (rva + j) ∷ byte_at sections (rva + j + 1) ∷ byte_at sections (rva + j + 2) ∷ byte_at sections (rva + j + 3) ∷ [])
-      ≡ (get_or bytes j 0 ∷ get_or bytes (suc j) 0 ∷ get_or bytes (suc (suc j)) 0 ∷ get_or bytes (suc (suc (suc j))) 0 ∷ []) = cc in
+    ≡ (get_or bytes j 0 ∷ get_or bytes (suc j) 0 ∷ get_or bytes (suc (suc j)) 0 ∷ get_or bytes (suc (suc (suc j))) 0 ∷ []) = cc in
     ap (from_le_bytes w32) (list ∙ sym (four bytes j within))
 
 -- ---- steps that succeed
@@ -127,7 +127,7 @@ target_of-ok sections entry address place room left target texts is = by_zero (a
         → IsTargetOf sections entry address target
     by_forwarder true forwards is =
         as_forwarder-ok sections entry address (text_within ForwarderOutside place room (text_at sections address)) target left forwards
-            (λ text after found. texts address text (text_within-some ForwarderOutside place room (text_at sections address) text after found)) is
+        (λ text after found. texts address text (text_within-some ForwarderOutside place room (text_at sections address) text after found)) is
     by_forwarder false plain is =
         subst (λ (x : Target × ℕ). IsTargetOf sections entry address x.0) (ok_is (Address address (kind_at sections address), room) (target, left) is) (plain, refl, refl)
 
@@ -236,12 +236,12 @@ laid header sections room d dll addresses pointers ordinals targets names parts 
       target_count = word 20 (omega (arith, size)) ∙ sym (each-length (target_step sections header.entry addresses) (u32_at d 20) 0 room targets.1 targets.0 targets-are);
       name_count = word 24 (omega (arith, size)) ∙ sym (each-length (name_step sections pointers ordinals) (u32_at d 24) 0 targets.1 names.1 names.0 names-are);
       targets = λ index target item.
-        subst (λ r. IsTargetOf sections header.entry (word_at sections (r + 4 * index)) target) (sym (word 28 (omega (arith, size))))
-        (target_in sections header.entry addresses (u32_at d 28) (u32_at d 20) room targets.1 targets.0 texts a.0 a.1 targets-are index target item);
+          subst (λ r. IsTargetOf sections header.entry (word_at sections (r + 4 * index)) target) (sym (word 28 (omega (arith, size))))
+          (target_in sections header.entry addresses (u32_at d 28) (u32_at d 20) room targets.1 targets.0 texts a.0 a.1 targets-are index target item);
       names = λ position name item.
-        subst (λ r. IsTextAt sections (word_at sections (r + 4 * position)) name.text) (sym (word 32 (omega (arith, size)))) (named position name item).0;
+          subst (λ r. IsTextAt sections (word_at sections (r + 4 * position)) name.text) (sym (word 32 (omega (arith, size)))) (named position name item).0;
       indexes = λ position name item.
-        ap (λ r. half_at sections (r + 2 * position)) (word 36 (omega (arith, size))) ∙ (named position name item).1;
+          ap (λ r. half_at sections (r + 2 * position)) (word 36 (omega (arith, size))) ∙ (named position name item).1;
     }
 
 lies : (header : Header) (sections : List Section) (room : ℕ) (directory : ℕ × List ℕ) (e : Exports) → Parts sections → Texts sections
@@ -252,15 +252,15 @@ lies header sections room directory e parts texts at size is =
     let p = directory.0 in
     let word = λ (j : ℕ) (within : j + 4 ≤ length d). word-is sections header.entry.rva j d at within in
     let dll = bind_ok (found_or DllNameOutside (p + 12) (text_at sections (u32_at d 12)))
-      (λ dll. table_at sections AddressTableOutside (p + 28) (u32_at d 28) (4 * u32_at d 20) >>= λ addresses. table_at sections NameTableOutside (p + 32) (u32_at d 32) (4 * u32_at d 24) >>= λ pointers.
-      table_at sections OrdinalTableOutside (p + 36) (u32_at d 36) (2 * u32_at d 24) >>= λ ordinals. then_targets header sections room d dll addresses pointers ordinals.1) e is in
+    (λ dll. table_at sections AddressTableOutside (p + 28) (u32_at d 28) (4 * u32_at d 20) >>= λ addresses. table_at sections NameTableOutside (p + 32) (u32_at d 32) (4 * u32_at d 24) >>= λ pointers.
+    table_at sections OrdinalTableOutside (p + 36) (u32_at d 36) (2 * u32_at d 24) >>= λ ordinals. then_targets header sections room d dll addresses pointers ordinals.1) e is in
     let addresses = bind_ok (table_at sections AddressTableOutside (p + 28) (u32_at d 28) (4 * u32_at d 20))
-      (λ addresses. table_at sections NameTableOutside (p + 32) (u32_at d 32) (4 * u32_at d 24) >>= λ pointers.
-      table_at sections OrdinalTableOutside (p + 36) (u32_at d 36) (2 * u32_at d 24) >>= λ ordinals. then_targets header sections room d dll.0 addresses pointers ordinals.1) e dll.2 in
+    (λ addresses. table_at sections NameTableOutside (p + 32) (u32_at d 32) (4 * u32_at d 24) >>= λ pointers.
+    table_at sections OrdinalTableOutside (p + 36) (u32_at d 36) (2 * u32_at d 24) >>= λ ordinals. then_targets header sections room d dll.0 addresses pointers ordinals.1) e dll.2 in
     let pointers = bind_ok (table_at sections NameTableOutside (p + 32) (u32_at d 32) (4 * u32_at d 24))
-      (λ pointers. table_at sections OrdinalTableOutside (p + 36) (u32_at d 36) (2 * u32_at d 24) >>= λ ordinals. then_targets header sections room d dll.0 addresses.0 pointers ordinals.1) e addresses.2 in
+    (λ pointers. table_at sections OrdinalTableOutside (p + 36) (u32_at d 36) (2 * u32_at d 24) >>= λ ordinals. then_targets header sections room d dll.0 addresses.0 pointers ordinals.1) e addresses.2 in
     let ordinals = bind_ok (table_at sections OrdinalTableOutside (p + 36) (u32_at d 36) (2 * u32_at d 24))
-      (λ ordinals. then_targets header sections room d dll.0 addresses.0 pointers.0 ordinals.1) e pointers.2 in
+    (λ ordinals. then_targets header sections room d dll.0 addresses.0 pointers.0 ordinals.1) e pointers.2 in
     let targets = bind_ok (each_from (target_step sections header.entry addresses.0) 0 (u32_at d 20) room) (λ targets. then_names header sections d dll.0 pointers.0 ordinals.0.1 targets) e ordinals.2 in
     let names = bind_ok (each_from (name_step sections pointers.0 ordinals.0.1) 0 (u32_at d 24) targets.0.1) (λ names. Ok (made header d dll.0 targets.0.0 names.0)) e targets.2 in
     subst (LiesIn sections header.entry) (ok_is (made header d dll.0 targets.0.0 names.0.0) e names.2)

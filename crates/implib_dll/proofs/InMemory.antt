@@ -1,7 +1,6 @@
 -- What is read of a file is in memory, and what is read of an image is what its bytes have.
 use Rattle.std.proofs.Common.{◌≡◌, ℕ, zero, suc, ◌+◌, ◌-◌, ◌<◌, ◌≤◌, ◌==◌, Bool, true, false, ◌&&◌, cond, List, [], ◌∷◌, ◌++◌, Option, Some, None, Ok, Err, length, take, drop, get_or, nat_le, nat_lt, position, refl, ap, ◌∙◌, sym, subst, arith}
 use Rattle.std.specs.Option.{option_and_then, option_map}
-use Rattle.std.proofs.Math.Seq.{get_or-append_seam}
 use Rattle.std.proofs.lemmas.Bool.{eqb-true, ltb-true, leb-true, le-leb, le-ltb, lt-ltb, ltb-false}
 use Rattle.std.proofs.lemmas.List.{drop-drop, drop-take, get_or-drop, get_or-take, length-drop, length-take, take-take, take_more}
 use Rattle.std.proofs.lemmas.List.Quantifiers.{position-Some}
@@ -9,9 +8,9 @@ use Rattle.implib_dll.specs.declared.fault.Fault.{Fault}
 use Rattle.implib_dll.specs.declared.section.Layout.{Layout}
 use Rattle.implib_dll.specs.declared.section.Layout.TheVariants.{File, Image}
 use Rattle.implib_dll.specs.Bytes.{bytes_at, text_in, u32_at}
-use Rattle.implib_dll.specs.Memory.{AreAt, FileIsInMemory, ImageIsRead, IsTextAt, byte_at, byte_in}
+use Rattle.implib_dll.specs.Memory.{AreAt, FileIsInMemory, ImageIsRead, byte_at, byte_in}
 use Rattle.implib_dll.specs.Outcome.{◌>>=◌, Read, each_from}
-use Rattle.implib_dll.specs.Sections.{Section, contents_at, contents_place, contents_size, data_from, has_address, has_data, located, part_at, part_of, section_at, section_size, section_step, section_with, sections_in, text_at, with_end}
+use Rattle.implib_dll.specs.Sections.{Section, contents_at, contents_place, contents_size, data_from, has_data, located, part_at, part_of, section_at, section_size, section_step, section_with, text_at, with_end}
 
 -- ---- readings that succeed
 
@@ -88,10 +87,10 @@ in_first P end s rest rva found from fact has is =
       behind = omega (arith, from, low);
       is = same_some (Some (data_from s rva)) (data_from s rva) found refl is;
       bytes = λ k within.
-        let first : nat_le s.address (rva + k) ≡ true = le-leb s.address (rva + k) (omega (arith, low)) in
-        let second : nat_lt (rva + k) (s.address + s.size) ≡ true = lt-ltb (rva + k) (s.address + s.size) within in
-        ap (λ b. cond (b && nat_lt (rva + k) (s.address + s.size)) (byte_in s (rva + k)) (byte_at rest (rva + k))) first
-        ∙ ap (λ b. cond b (byte_in s (rva + k)) (byte_at rest (rva + k))) second;
+          let first : nat_le s.address (rva + k) ≡ true = le-leb s.address (rva + k) (omega (arith, low)) in
+          let second : nat_lt (rva + k) (s.address + s.size) ≡ true = lt-ltb (rva + k) (s.address + s.size) within in
+          ap (λ b. cond (b && nat_lt (rva + k) (s.address + s.size)) (byte_in s (rva + k)) (byte_at rest (rva + k))) first
+          ∙ ap (λ b. cond b (byte_in s (rva + k)) (byte_at rest (rva + k))) second;
     }
 
 in_rest : (P : Section → Type 0) (end : ℕ) (s : Section) (rest : List Section) (rva : ℕ) (found : ℕ × List ℕ) → end ≤ s.address
@@ -105,11 +104,11 @@ in_rest P end s rest rva found from f = record {
   behind = omega (arith, from, f.behind);
   is = f.is;
   bytes = λ k within.
-    let past : nat_lt (rva + k) (s.address + s.size) ≡ false = le-ltb (rva + k) (s.address + s.size) (omega (arith, f.behind)) in
-    let first : nat_le s.address (rva + k) ≡ true = le-leb s.address (rva + k) (omega (arith, f.behind)) in
-    ap (λ b. cond (b && nat_lt (rva + k) (s.address + s.size)) (byte_in s (rva + k)) (byte_at rest (rva + k))) first
-    ∙ (ap (λ b. cond b (byte_in s (rva + k)) (byte_at rest (rva + k))) past
-    ∙ f.bytes k within);
+      let past : nat_lt (rva + k) (s.address + s.size) ≡ false = le-ltb (rva + k) (s.address + s.size) (omega (arith, f.behind)) in
+      let first : nat_le s.address (rva + k) ≡ true = le-leb s.address (rva + k) (omega (arith, f.behind)) in
+      ap (λ b. cond (b && nat_lt (rva + k) (s.address + s.size)) (byte_in s (rva + k)) (byte_at rest (rva + k))) first
+      ∙ (ap (λ b. cond b (byte_in s (rva + k)) (byte_at rest (rva + k))) past
+      ∙ f.bytes k within);
 }
 
 located-found : (P : Section → Type 0) (end : ℕ) (sections : List Section) (rva : ℕ) (found : ℕ × List ℕ) → Apart P end sections → located sections rva ≡ Some found → Found P end sections rva found
@@ -235,16 +234,16 @@ unfolding part_at text_at
 file_is_in_memory bytes place count end sections is =
     let apart : Apart Small 0 sections = sections-apart Small File bytes place (section-small File bytes) count 0 0 end sections is in (
       λ rva size offset part found.
-        let at = some_before (part_of size) (located sections rva) (offset, part) found in
-        let front = part_of-is size at.0 (offset, part) at.2 in
-        let part-is : take size at.0.1 ≡ part = ap (λ (x : ℕ × List ℕ). x.1) front.1 in
-        subst (AreAt sections rva) part-is (front_in_memory sections rva size at.0.1 (data_in_memory sections 0 rva at.0 apart at.1)),
+          let at = some_before (part_of size) (located sections rva) (offset, part) found in
+          let front = part_of-is size at.0 (offset, part) at.2 in
+          let part-is : take size at.0.1 ≡ part = ap (λ (x : ℕ × List ℕ). x.1) front.1 in
+          subst (AreAt sections rva) part-is (front_in_memory sections rva size at.0.1 (data_in_memory sections 0 rva at.0 apart at.1)),
       λ rva text found.
-        let at = some_before (λ (x : ℕ × List ℕ). text_in x.1) (located sections rva) text found in
-        record {
-          bytes = subst (AreAt sections rva) (text-ended at.0.1 text at.2) (front_in_memory sections rva (length text + 1) at.0.1 (data_in_memory sections 0 rva at.0 apart at.1));
-          no_nul = text-no_nul at.0.1 text at.2;
-        },
+          let at = some_before (λ (x : ℕ × List ℕ). text_in x.1) (located sections rva) text found in
+          record {
+            bytes = subst (AreAt sections rva) (text-ended at.0.1 text at.2) (front_in_memory sections rva (length text + 1) at.0.1 (data_in_memory sections 0 rva at.0 apart at.1));
+            no_nul = text-no_nul at.0.1 text at.2;
+          },
     )
 
 -- ---- an image
@@ -275,12 +274,18 @@ InImage bytes s = (s.place ≡ s.address) × (0 < length s.contents → (s.addre
 
 section-in_image : (bytes : List ℕ) (place end : ℕ) (s : Section) → section_at Image bytes place end ≡ Ok s → (end ≤ s.address) × InImage bytes s
 section-in_image bytes place end s is =
-    let laid = section-laid Image bytes place end s is in
-    (laid.from, (laid.offset ∙ sym laid.address, λ some.
-      let at = bytes_at-is bytes (u32_at bytes (place + 12)) (section_size bytes place) s.contents (contents_at-some bytes _ _ s.contents laid.contents some) in
-      let size-is : length s.contents ≡ section_size bytes place = omega (arith, ap length (sym at.1), length-take (section_size bytes place) (drop (u32_at bytes (place + 12)) bytes), length-drop (u32_at bytes (place + 12)) bytes, at.0) in
-      (omega (arith, at.0, size-is, laid.address),
-        ap (λ n. take n (drop s.address bytes)) size-is ∙ (ap (λ a. take (section_size bytes place) (drop a bytes)) laid.address ∙ at.1))))
+    let laid = section-laid Image bytes place end s is in (
+      laid.from,
+      (
+        laid.offset ∙ sym laid.address,
+        λ some.
+            let at = bytes_at-is bytes (u32_at bytes (place + 12)) (section_size bytes place) s.contents (contents_at-some bytes _ _ s.contents laid.contents some) in
+            let size-is : length s.contents ≡ section_size bytes place = omega (arith, ap length (sym at.1), length-take (section_size bytes place) (drop (u32_at bytes (place + 12)) bytes), length-drop (u32_at bytes (place + 12)) bytes, at.0) in (
+              omega (arith, at.0, size-is, laid.address),
+              ap (λ n. take n (drop s.address bytes)) size-is ∙ (ap (λ a. take (section_size bytes place) (drop a bytes)) laid.address ∙ at.1),
+            ),
+      ),
+    )
 
 -- a part of a part
 window : (bytes : List ℕ) (place size offset n : ℕ) → offset + n ≤ size → take n (drop offset (take size (drop place bytes))) ≡ take n (drop (place + offset) bytes)
@@ -308,9 +313,9 @@ image_is_read bytes place count end sections is rva size offset part found =
     let place-is : s.address + (rva - s.address) ≡ rva = omega (arith, f.low) in (
       omega (arith, offset-is, start, f.fact.0, f.low),
       bytes_at-found bytes rva size (omega (arith, fits, fact.0, f.low))
-      ∙ ap Some (ap (λ a. take size (drop a bytes)) (sym place-is)
-      ∙ (sym (window bytes s.address (length s.contents) (rva - s.address) size fits)
-      ∙ (ap (λ t. take size (drop (rva - s.address) t)) fact.1
-      ∙ (ap (take size) rest
-      ∙ part-is)))),
+          ∙ ap Some (ap (λ a. take size (drop a bytes)) (sym place-is)
+          ∙ (sym (window bytes s.address (length s.contents) (rva - s.address) size fits)
+          ∙ (ap (λ t. take size (drop (rva - s.address) t)) fact.1
+          ∙ (ap (take size) rest
+          ∙ part-is)))),
     )

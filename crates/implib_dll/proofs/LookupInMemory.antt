@@ -1,5 +1,5 @@
 -- A lookup in memory is a lookup in what was read.
-use Rattle.std.proofs.Common.{◌≡◌, ℕ, zero, suc, ◌+◌, ◌-◌, ◌*◌, ◌/◌, ◌<◌, ◌≤◌, ◌==◌, Bool, true, false, ◌&&◌, cond, List, [], ◌∷◌, ◌++◌, Option, Some, None, Ordering, length, get_or, nat_lt, refl, ap, ◌∙◌, ◌⊎◌, sym, inl, inr, arith}
+use Rattle.std.proofs.Common.{◌≡◌, ℕ, zero, suc, ◌+◌, ◌*◌, ◌<◌, ◌≤◌, ◌==◌, Bool, false, ◌&&◌, cond, List, [], ◌∷◌, ◌++◌, Option, Some, None, Ordering, length, get_or, nat_lt, refl, ap, ◌∙◌, ◌⊎◌, sym, inl, inr, arith}
 use Rattle.std.specs.Cmp.Lexicographic.{slice_cmp}
 use Rattle.std.specs.List.{slice_get}
 use Rattle.std.specs.Option.{option_map_or}
@@ -10,7 +10,7 @@ use Rattle.std.proofs.lemmas.Option.{slice_get_past}
 use Rattle.implib_dll.specs.declared.header.Entry.{Entry}
 use Rattle.implib_dll.specs.Exports.{Exports, NameEntry}
 use Rattle.implib_dll.specs.Lookup.{middle, order_at, position_of, searched}
-use Rattle.implib_dll.specs.Memory.{AreAt, LiesIn, LookupsAreThoseInMemory, byte_at, order_from, order_in, position_in, searched_in, word_at}
+use Rattle.implib_dll.specs.Memory.{AreAt, LiesIn, LookupsAreThoseInMemory, byte_at, order_from, order_in, searched_in, word_at}
 use Rattle.implib_dll.specs.Sections.{Section}
 
 abbrev NoNul : List ℕ → Type 0
@@ -39,7 +39,7 @@ order_from-is sections (t ∷ text) [] rva at ended none =
 order_from-is sections (t ∷ text) (w ∷ wanted) rva at ended none =
     let here : byte_at sections rva ≡ t = ap (byte_at sections) (omega arith) ∙ at 0 (omega arith) in
     let rest = order_from-is sections text wanted (rva + 1) (λ k within. ap (byte_at sections) (omega arith) ∙ at (suc k) (omega (arith, within)))
-        (λ k within. ended (suc k) (omega (arith, within))) (λ k within. none (suc k) (omega (arith, within))) in
+    (λ k within. ended (suc k) (omega (arith, within))) (λ k within. none (suc k) (omega (arith, within))) in
     ap (λ b. ordering_then (nat_cmp b w) (order_from sections (rva + 1) wanted)) here
     ∙ ap (ordering_then (nat_cmp t w)) rest
 
@@ -84,7 +84,7 @@ searched_in-is order_of names wanted same (suc steps) low high within =
         let order = order_at names (middle low high) wanted in
         ap (λ o. shape (nat_lt low high) o (middle low high) (searched_in order_of steps (cond (is_lt o) (middle low high + 1) low) (cond (is_gt o) (middle low high) high))) (same (middle low high) before)
         ∙ ap (shape (nat_lt low high) order (middle low high))
-          (later (cond (is_lt order) (middle low high + 1) low) (cond (is_gt order) (middle low high) high) (next_high order (middle low high) high (length names) (omega (arith, before)) within))
+        (later (cond (is_lt order) (middle low high + 1) low) (cond (is_gt order) (middle low high) high) (next_high order (middle low high) high (length names) (omega (arith, before)) within))
     by_room later (inr none) =
         let empty : nat_lt low high ≡ false = le-ltb low high none in
         let o = order_of (middle low high) in

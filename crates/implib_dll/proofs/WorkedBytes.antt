@@ -1,14 +1,16 @@
--- Worked files and lookups, by computing.
+-- Worked files, lookups and memory, by computing.
 use Rattle.std.proofs.Common.{refl}
 use Rattle.implib_dll.specs.Bytes.{bytes_at, text_in, u16_at, u32_at}
 use Rattle.implib_dll.specs.Digits.{bytes_of_digits}
 use Rattle.implib_dll.specs.Exports.{exports_at, exports_behind, exports_in, table_at, target_of}
 use Rattle.implib_dll.specs.Headers.{entry_in, header_at, header_in, header_with, signature_in}
 use Rattle.implib_dll.specs.Lookup.{order_at, searched}
+use Rattle.implib_dll.specs.Memory.{byte_at, searched_in}
 use Rattle.implib_dll.specs.Outcome.{each_from}
 use Rattle.implib_dll.specs.Sections.{contents_at, kind_at, located, part_at, section_at, text_at}
 use Rattle.implib_dll.specs.WorkedFiles.{WorkedFiles, worked_pe32, worked_pe32_plus, worked_unnamed, worked_zoo}
 use Rattle.implib_dll.specs.WorkedLookups.{WorkedLookups}
+use Rattle.implib_dll.specs.WorkedMemory.{WorkedMemory, worked_image, worked_sections}
 use Rattle.implib_dll.specs.WorkedRefusals.{WorkedRefusals}
 
 pub worked_files : WorkedFiles
@@ -105,4 +107,29 @@ worked_refusals = record {
   name_past = refl;
   room = refl;
   no_room = refl;
+}
+
+pub worked_memory : WorkedMemory
+unfolding bytes_at bytes_of_digits contents_at each_from entry_in exports_at exports_behind exports_in header_at header_in header_with kind_at located part_at section_at signature_in table_at target_of text_at text_in u16_at u32_at worked_pe32 worked_pe32_plus byte_at searched_in worked_image worked_sections
+worked_memory = record {
+  image = refl;
+  image_cut = refl;
+  code = refl;
+  before = refl;
+  bss = refl;
+  letter = refl;
+  nul = refl;
+  past = refl;
+  count = refl;
+  address = refl;
+  index = refl;
+  same = refl;
+  shorter = refl;
+  longer = refl;
+  below = refl;
+  above = refl;
+  right = refl;
+  low = refl;
+  hint_past = refl;
+  none = refl;
 }

@@ -11,4 +11,5 @@ pub mod Sections
 pub mod Views
 pub mod WorkedFiles
 pub mod WorkedLookups
+pub mod WorkedMemory
 pub mod WorkedRefusals

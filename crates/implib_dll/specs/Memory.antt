@@ -6,7 +6,6 @@ use Rattle.std.specs.Ordering.{is_eq, is_gt, is_lt, nat_cmp, ordering_then}
 use Rattle.std.specs.declared.cmp.Ordering.{Ordering}
 use Rattle.implib_dll.specs.declared.header.Entry.{Entry}
 use Rattle.implib_dll.specs.declared.header.Header.{Header}
-use Rattle.implib_dll.specs.declared.section.Layout.{Layout}
 use Rattle.implib_dll.specs.declared.section.Layout.TheVariants.{File, Image}
 use Rattle.implib_dll.specs.Bytes.{bytes_at}
 use Rattle.implib_dll.specs.Exports.{Exports, NameEntry, Target, Empty, Address, Forwarder, exports_in, is_forwarder}
@@ -69,11 +68,11 @@ pub record LiesIn (sections : List Section) (entry : Entry) (e : Exports) : Type
   pub target_count : word_at sections (entry.rva + 20) ≡ length e.targets
   pub name_count : word_at sections (entry.rva + 24) ≡ length e.names
   pub targets : (index : ℕ) (target : Target) → slice_get e.targets index ≡ Some target
-    → IsTargetOf sections entry (word_at sections (word_at sections (entry.rva + 28) + 4 * index)) target
+      → IsTargetOf sections entry (word_at sections (word_at sections (entry.rva + 28) + 4 * index)) target
   pub names : (position : ℕ) (name : NameEntry) → slice_get e.names position ≡ Some name
-    → IsTextAt sections (word_at sections (word_at sections (entry.rva + 32) + 4 * position)) name.text
+      → IsTextAt sections (word_at sections (word_at sections (entry.rva + 32) + 4 * position)) name.text
   pub indexes : (position : ℕ) (name : NameEntry) → slice_get e.names position ≡ Some name
-    → half_at sections (word_at sections (entry.rva + 36) + 2 * position) ≡ name.index
+      → half_at sections (word_at sections (entry.rva + 36) + 2 * position) ≡ name.index
 
 -- What a file is read to export lies in memory so: in the sections that it has.
 abbrev pub ExportsLieInMemory : Type 0

@@ -1,9 +1,10 @@
-//! Laws of lookups, and what is worked by hand. The functions do nothing: their contracts are the laws.
+//! Laws of lookups and of memory, and what is worked by hand. The functions do nothing: their contracts are the laws.
 
 ghost use Rattle.implib_dll.specs.Laws.{FindsExactly, FindsTheName, HintsChangeNothing, NamesLead, OrdinalsLead, RightHintFinds};
 ghost use Rattle.implib_dll.specs.Memory.{ExportsLieInMemory, FileIsInMemory, ImageIsRead, LookupsAreThoseInMemory};
 ghost use Rattle.implib_dll.specs.WorkedFiles.{WorkedFiles};
 ghost use Rattle.implib_dll.specs.WorkedLookups.{WorkedLookups};
+ghost use Rattle.implib_dll.specs.WorkedMemory.{WorkedMemory};
 ghost use Rattle.implib_dll.specs.WorkedRefusals.{WorkedRefusals};
 
 /// Where names rise strictly by their bytes, a lookup with any hint finds a name just where it stands.
@@ -69,4 +70,9 @@ pub fn worked_lookups()
 /// Files that are refused, each for its first fault, and near misses.
 pub fn worked_refusals()
     ensures { WorkedRefusals }
+{}
+
+/// What is in memory, and what lookups find there.
+pub fn worked_memory()
+    ensures { WorkedMemory }
 {}

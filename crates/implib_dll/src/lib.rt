@@ -9,7 +9,7 @@
 //! [`Exports::oddity`]; so is an address in no section, as [`AddressKind::Outside`].
 //!
 //! Each of these equals a definition in `specs/` that goes by the bytes alone. Values borrow the bytes, so that texts
-//! are not copied. [`laws`] says what lookups come to, and has files, refusals and lookups that were worked by hand.
+//! are not copied. [`laws`] says what lookups come to and what of it lies in memory, and has what was worked by hand.
 #![tactic(auto)]
 
 mod exports;
