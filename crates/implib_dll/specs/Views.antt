@@ -1,8 +1,9 @@
 -- What a caller sees of the values that borrow an image's bytes.
-use Rattle.std.specs.Prelude.{map}
+use Rattle.std.specs.Prelude.{ℕ, List, map}
 use Rattle.implib_dll.specs.declared.exports.Exports.{Exports}
 use Rattle.implib_dll.specs.declared.name.Name.{Name}
 use Rattle.implib_dll.specs.declared.rows.Row.{Row}
+use Rattle.implib_dll.specs.declared.section.Part.{Part}
 use Rattle.implib_dll.specs.declared.section.Section.{Section}
 use Rattle.implib_dll.specs.declared.target.Target.{Target}
 use Rattle.implib_dll.specs.declared.target.Target.TheVariants.{Empty, Address, Forwarder}
@@ -13,6 +14,9 @@ use Rattle.implib_dll.specs.Sections.{Section as SeenSection}
 
 abbrev pub section_view : Section → SeenSection
 section_view s = record { address = s.address; size = s.size; flags = s.flags; place = s.place; contents = s.contents.now }
+
+abbrev pub part_view : Part → ℕ × List ℕ
+part_view p = (p.place, p.bytes.now)
 
 abbrev pub target_view : Target → SeenTarget
 target_view Empty = seen.Empty

@@ -3,16 +3,17 @@
 ghost use Rattle.std.specs.Prelude.{◌≡◌, ℕ, ◌+◌, ◌*◌, ◌<◌, ◌≤◌, ◌^◌, length, map, IfOk, Ok};
 ghost use Rattle.std.specs.Option.{option_map};
 ghost use Rattle.implib_dll.specs.declared.fault.Cause.TheVariants.{DllNameOutside};
+ghost use Rattle.implib_dll.specs.Bytes.{u32_at};
 ghost use Rattle.implib_dll.specs.Exports.{exports_at, exports_behind, exports_in, found_or, table_at};
 ghost use Rattle.implib_dll.specs.Outcome.{Gives};
 ghost use Rattle.implib_dll.specs.Sections.{part_at, text_at};
-ghost use Rattle.implib_dll.specs.Views.{exports_view, section_view};
+ghost use Rattle.implib_dll.specs.Views.{exports_view, part_view, section_view};
 
 use crate::fault::{Cause, ReadError, refused};
 use crate::fields::u32_at;
 use crate::header::{Header, header_in};
 use crate::name::{Name, names_in};
-use crate::section::{Layout, Section, part_at, sections_in, text_at};
+use crate::section::{Layout, Part, Section, part_at, sections_in, text_at};
 use crate::target::{Target, targets_in};
 use std::alloc::Global;
 
@@ -42,89 +43,63 @@ fn dll_name<'a>(sections: &[Section<'a>], rva: u32, place: usize) -> Result<&'a 
     }
 }
 
-/// A table of a size, and its offset.
+/// A table of a size, whose address is that at an offset of the directory.
 #[tactic(auto, unfolding(crate::specs::Exports::table_at))]
 fn table_at<'a>(
     sections: &[Section<'a>],
     cause: Cause,
-    place: usize,
-    rva: u32,
+    directory: &Part,
+    offset: usize,
     size: usize,
-) -> Result<(usize, &'a [u8]), ReadError>
-    ensures found { Gives (λ found. (found.0, found.1.now)) result (table_at (map section_view sections.now) cause place rva size) }
-    ensures low { IfOk result (λ found. found.0 < 2 ^ 33) }
-    ensures size { IfOk result (λ found. length found.1.now ≡ size) }
+) -> Result<Part<'a>, ReadError>
+    requires low { directory.now.place + offset < 2 ^ 34 }
+    requires within { offset + 4 ≤ length directory.now.bytes.now }
+    ensures found { Gives part_view result (table_at (map section_view sections.now) cause (directory.now.place + offset) (u32_at directory.now.bytes.now offset) size) }
+    ensures low { IfOk result (λ found. found.place < 2 ^ 33) }
+    ensures size { IfOk result (λ found. length found.bytes.now ≡ size) }
 {
     if size == 0 {
-        return Ok((0, &[]));
+        return Ok(Part {
+            place: 0,
+            bytes: &[],
+        });
     }
-    match part_at(sections, rva, size) {
+    match part_at(sections, u32_at(directory.bytes, offset), size) {
         Some(found) => Ok(found),
-        None => Err(refused(cause, place)),
+        None => Err(refused(cause, directory.place + offset)),
     }
 }
 
-/// What the export directory says, of 40 bytes at an offset.
+/// What the export directory says, of 40 bytes.
 #[tactic(auto, unfolding(crate::specs::Exports::exports_at))]
 fn exports_at<'a>(
     alloc: Global,
     header: &Header,
     sections: &[Section<'a>],
     room: usize,
-    place: usize,
-    directory: &[u8],
+    directory: &Part,
 ) -> Result<Exports<'a>, ReadError>
-    requires low { place < 2 ^ 33 }
-    requires size { length directory.now ≡ 40 }
-    ensures { Gives exports_view result (exports_at header.now (map section_view sections.now) room (place, directory.now)) }
+    requires low { directory.now.place < 2 ^ 33 }
+    requires size { length directory.now.bytes.now ≡ 40 }
+    ensures { Gives exports_view result (exports_at header.now (map section_view sections.now) room (part_view directory.now)) }
 {
-    let function_count = u32_at(directory, 20);
-    let name_count = u32_at(directory, 24);
-    let dll = dll_name(sections, u32_at(directory, 12), place + 12)?;
-    let (addresses_place, addresses) = table_at(
-        sections,
-        Cause::AddressTableOutside,
-        place + 28,
-        u32_at(directory, 28),
-        4 * function_count as usize,
-    )?;
-    let (pointers_place, pointers) = table_at(
-        sections,
-        Cause::NameTableOutside,
-        place + 32,
-        u32_at(directory, 32),
-        4 * name_count as usize,
-    )?;
-    let (_, ordinals) = table_at(
-        sections,
-        Cause::OrdinalTableOutside,
-        place + 36,
-        u32_at(directory, 36),
-        2 * name_count as usize,
-    )?;
-    let (targets, left) = targets_in(
-        alloc,
-        sections,
-        header.entry,
-        addresses_place,
-        addresses,
-        function_count,
-        room,
-    )?;
-    let (names, _) = names_in(
-        alloc,
-        sections,
-        pointers_place,
-        pointers,
-        ordinals,
-        name_count,
-        left,
-    )?;
+    let fields = directory.bytes;
+    let functions = u32_at(fields, 20);
+    let count = u32_at(fields, 24);
+    let dll = dll_name(sections, u32_at(fields, 12), directory.place + 12)?;
+    let size = 4 * functions as usize;
+    let addresses = table_at(sections, Cause::AddressTableOutside, directory, 28, size)?;
+    let size = 4 * count as usize;
+    let pointers = table_at(sections, Cause::NameTableOutside, directory, 32, size)?;
+    let size = 2 * count as usize;
+    let ordinals = table_at(sections, Cause::OrdinalTableOutside, directory, 36, size)?;
+    let (targets, left) = targets_in(alloc, sections, header.entry, &addresses, functions, room)?;
+    let (names, _) = names_in(alloc, sections, &pointers, ordinals.bytes, count, left)?;
     Ok(Exports {
         machine: header.machine,
         is_pe32_plus: header.is_pe32_plus,
         dll,
-        base: u32_at(directory, 16),
+        base: u32_at(fields, 16),
         targets,
         names,
     })
@@ -143,10 +118,10 @@ fn exports_behind<'a>(
     if header.entry.rva == 0 {
         return Ok(None);
     }
-    let Some((place, directory)) = part_at(sections, header.entry.rva, 40) else {
+    let Some(directory) = part_at(sections, header.entry.rva, 40) else {
         return Err(refused(Cause::DirectoryOutside, header.entry.place));
     };
-    let exports = exports_at(alloc, header, sections, room, place, directory)?;
+    let exports = exports_at(alloc, header, sections, room, &directory)?;
     Ok(Some(exports))
 }
 

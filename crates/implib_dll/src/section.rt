@@ -5,7 +5,7 @@ ghost use Rattle.std.specs.Option.{option_map};
 ghost use Rattle.implib_dll.specs.Outcome.{Gives};
 ghost use Rattle.implib_dll.specs.Sections.{contents_at, contents_place, contents_size, data_from, has_address, has_data, kind_at, kind_in};
 ghost use Rattle.implib_dll.specs.Sections.{located, part_at, section_at, section_size, section_step, sections_in, text_at};
-ghost use Rattle.implib_dll.specs.Views.{section_view};
+ghost use Rattle.implib_dll.specs.Views.{part_view, section_view};
 
 use crate::fault::{Cause, ReadError, refused};
 use crate::fields::{bytes_at, text_in, u32_at};
@@ -41,6 +41,14 @@ pub struct Section<'a> {
     /// The offset of the contents.
     pub place: u32,
     pub contents: &'a [u8],
+}
+
+/// Bytes of an image.
+#[derive(Clone, Copy)]
+pub struct Part<'a> {
+    /// Their offset.
+    pub place: usize,
+    pub bytes: &'a [u8],
 }
 
 /// Where the data of a section are.
@@ -161,17 +169,17 @@ impl<'a> Section<'a> {
     }
 
     /// The data from an address on, and their offset.
-    fn data_from(&self, rva: u32) -> (usize, &'a [u8])
+    fn data_from(&self, rva: u32) -> Part<'a>
         requires low { self.now.address ≤ rva }
         requires high { rva < self.now.address + length self.now.contents.now }
-        ensures found { (result.0, result.1.now) ≡ data_from (section_view self.now) rva }
-        ensures low { result.0 < 2 ^ 33 }
+        ensures found { part_view result ≡ data_from (section_view self.now) rva }
+        ensures low { result.place < 2 ^ 33 }
     {
         let offset = rva - self.address;
-        (
-            self.place as usize + offset as usize,
-            &self.contents[offset as usize..],
-        )
+        Part {
+            place: self.place as usize + offset as usize,
+            bytes: &self.contents[offset as usize..],
+        }
     }
 
     /// Whether the section has an address in memory.
@@ -194,9 +202,9 @@ impl<'a> Section<'a> {
 }
 
 /// The bytes from an address on, and their offset.
-fn located<'a>(sections: &[Section<'a>], rva: u32) -> Option<(usize, &'a [u8])>
-    ensures found { option_map (λ found. (found.0, found.1.now)) result ≡ located (map section_view sections.now) rva }
-    ensures low { IfSome result (λ found. found.0 < 2 ^ 33) }
+fn located<'a>(sections: &[Section<'a>], rva: u32) -> Option<Part<'a>>
+    ensures found { option_map part_view result ≡ located (map section_view sections.now) rva }
+    ensures low { IfSome result (λ found. found.place < 2 ^ 33) }
 {
     for section in sections {
         if section.has_data(rva) {
@@ -208,20 +216,19 @@ fn located<'a>(sections: &[Section<'a>], rva: u32) -> Option<(usize, &'a [u8])>
 
 /// As many bytes at an address, in one section, and their offset.
 #[tactic(auto, unfolding(crate::specs::Sections::part_at))]
-pub(crate) fn part_at<'a>(
-    sections: &[Section<'a>],
-    rva: u32,
-    size: usize,
-) -> Option<(usize, &'a [u8])>
-    ensures found { option_map (λ found. (found.0, found.1.now)) result ≡ part_at (map section_view sections.now) rva size }
-    ensures low { IfSome result (λ found. found.0 < 2 ^ 33) }
-    ensures size { IfSome result (λ found. length found.1.now ≡ size) }
+pub(crate) fn part_at<'a>(sections: &[Section<'a>], rva: u32, size: usize) -> Option<Part<'a>>
+    ensures found { option_map part_view result ≡ part_at (map section_view sections.now) rva size }
+    ensures low { IfSome result (λ found. found.place < 2 ^ 33) }
+    ensures size { IfSome result (λ found. length found.bytes.now ≡ size) }
 {
-    let Some((place, bytes)) = located(sections, rva) else {
+    let Some(found) = located(sections, rva) else {
         return None;
     };
-    if size <= bytes.len() {
-        Some((place, &bytes[..size]))
+    if size <= found.bytes.len() {
+        Some(Part {
+            place: found.place,
+            bytes: &found.bytes[..size],
+        })
     } else {
         None
     }
@@ -233,7 +240,7 @@ pub(crate) fn text_at<'a>(sections: &[Section<'a>], rva: u32) -> Option<&'a [u8]
     ensures { option_map (λ found. found.now) result ≡ text_at (map section_view sections.now) rva }
 {
     match located(sections, rva) {
-        Some((_, bytes)) => text_in(bytes),
+        Some(found) => text_in(found.bytes),
         None => None,
     }
 }

@@ -4,12 +4,12 @@ ghost use Rattle.std.specs.Prelude.{◌≡◌, ℕ, ◌+◌, ◌*◌, ◌<◌, �
 ghost use Rattle.implib_dll.specs.Exports.{is_forwarder, target_of, target_step, text_within};
 ghost use Rattle.implib_dll.specs.Outcome.{Gives, each_from};
 ghost use Rattle.implib_dll.specs.Sections.{text_at};
-ghost use Rattle.implib_dll.specs.Views.{section_view, target_view};
+ghost use Rattle.implib_dll.specs.Views.{part_view, section_view, target_view};
 
 use crate::fault::{Cause, ReadError, refused};
 use crate::fields::u32_at;
 use crate::header::Entry;
-use crate::section::{AddressKind, Section, kind_at, text_at};
+use crate::section::{AddressKind, Part, Section, kind_at, text_at};
 use std::alloc::Global;
 
 /// Where an entry of the export address table leads.
@@ -75,17 +75,16 @@ fn target_of<'a>(
 fn target_step<'a>(
     sections: &[Section<'a>],
     entry: Entry,
-    place: usize,
-    table: &[u8],
+    table: &Part,
     index: usize,
     room: usize,
 ) -> Result<(Target<'a>, usize), ReadError>
-    requires low { place + index < 2 ^ 34 }
-    requires table { 4 * index + 4 ≤ length table.now }
-    ensures { Gives (λ found. (target_view found.0, found.1)) result (target_step (map section_view sections.now) entry (place, table.now) index room) }
+    requires low { table.now.place + index < 2 ^ 34 }
+    requires table { 4 * index + 4 ≤ length table.now.bytes.now }
+    ensures { Gives (λ found. (target_view found.0, found.1)) result (target_step (map section_view sections.now) entry (part_view table.now) index room) }
 {
-    let address = u32_at(table, 4 * index);
-    target_of(sections, entry, address, place + 4 * index, room)
+    let address = u32_at(table.bytes, 4 * index);
+    target_of(sections, entry, address, table.place + 4 * index, room)
 }
 
 /// The targets of an export address table, and the room that they leave.
@@ -93,19 +92,18 @@ pub(crate) fn targets_in<'a>(
     alloc: Global,
     sections: &[Section<'a>],
     entry: Entry,
-    place: usize,
-    table: &[u8],
+    table: &Part,
     count: u32,
     room: usize,
 ) -> Result<(Vec<Target<'a>>, usize), ReadError>
-    requires low { place < 2 ^ 33 }
-    requires size { length table.now ≡ 4 * count }
-    ensures { Gives (λ found. (map target_view found.0.items, found.1)) result (each_from (target_step (map section_view sections.now) entry (place, table.now)) 0 count room) }
+    requires low { table.now.place < 2 ^ 33 }
+    requires size { length table.now.bytes.now ≡ 4 * count }
+    ensures { Gives (λ found. (map target_view found.0.items, found.1)) result (each_from (target_step (map section_view sections.now) entry (part_view table.now)) 0 count room) }
 {
     let mut targets = Vec::new(alloc);
     let mut left = room;
     for index in 0..count {
-        let (target, next_left) = target_step(sections, entry, place, table, index as usize, left)?;
+        let (target, next_left) = target_step(sections, entry, table, index as usize, left)?;
         targets.push(target)?;
         left = next_left;
     }
