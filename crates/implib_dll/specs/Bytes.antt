@@ -1,11 +1,13 @@
--- Numbers and texts in bytes. Numbers have their low byte first (PE/COFF specification, "General Concepts").
+-- Numbers and texts in bytes. Numbers have their low byte first (PE/COFF specification, "General
+-- Concepts").
 use Rattle.std.specs.Prelude.{ℕ, ◌+◌, ◌==◌, List, length, take, drop, Option, None, Some, nat_le, position, if◌then◌else◌}
 use Rattle.std.specs.Int.{w16, w32, from_le_bytes}
 use Rattle.std.specs.Option.{option_map}
 
 -- `count` bytes from an offset on, if they are there
 unfoldable pub bytes_at : List ℕ → ℕ → ℕ → Option (List ℕ)
-bytes_at bytes offset count = if nat_le (offset + count) (length bytes) then Some (take count (drop offset bytes)) else None
+bytes_at bytes offset count =
+    if nat_le (offset + count) (length bytes) then Some (take count (drop offset bytes)) else None
 
 -- The number in the two bytes from an offset on. For example, `4d 5a` is 0x5A4D.
 unfoldable pub u16_at : List ℕ → ℕ → ℕ

@@ -1,6 +1,6 @@
--- The export directory of an image (PE/COFF specification, "The .edata Section (Image Only)"): "Export Directory
--- Table", "Export Address Table", "Export Name Pointer Table", "Export Ordinal Table", "Export Name Table". Counts are
--- believed as far as there are bytes for them.
+-- The export directory of an image (PE/COFF specification, "The .edata Section (Image Only)"):
+-- "Export Directory Table", "Export Address Table", "Export Name Pointer Table", "Export Ordinal
+-- Table", "Export Name Table". Counts are believed as far as there are bytes for them.
 use Rattle.std.specs.Prelude.{ℕ, ◌+◌, ◌*◌, ◌-◌, ◌==◌, Bool, ◌&&◌, List, [], length, nat_le, nat_lt, Option, None, Some, Ok, Err, if◌then◌else◌}
 use Rattle.implib_dll.specs.declared.fault.Cause.{Cause}
 use Rattle.implib_dll.specs.declared.fault.Cause.TheVariants.{DirectoryOutside, DllNameOutside, AddressTableOutside, NameTableOutside, OrdinalTableOutside, ForwarderOutside, NameOutside, TextsTooLong}
@@ -13,16 +13,17 @@ use Rattle.implib_dll.specs.Headers.{header_in}
 use Rattle.implib_dll.specs.Outcome.{◌>>=◌, Read, each_from, refusal}
 use Rattle.implib_dll.specs.Sections.{Section, kind_at, part_at, sections_in, text_at}
 
--- Where an entry of the export address table leads: nowhere, as its address is 0; to an address, with its kind; or to
--- an export of another DLL, by a text as `NTDLL.RtlAllocateHeap` or `NTDLL.#27`.
+-- Where an entry of the export address table leads: nowhere, as its address is 0; to an address,
+-- with its kind; or to an export of another DLL, by a text as `NTDLL.RtlAllocateHeap` or
+-- `NTDLL.#27`.
 pub data Target : Type 0 where
   Empty : Target
   Address : ℕ → AddressKind → Target
   Forwarder : List ℕ → Target
 
--- An entry of the name pointer table with the one of the ordinal table: a name without its NUL, and an index of the
--- export address table. (That index is "biased" no more: the specification of the ordinal table says that it is the
--- ordinal less the base.)
+-- An entry of the name pointer table with the one of the ordinal table: a name without its NUL, and
+-- an index of the export address table. (The specification also calls the entries of the ordinal
+-- table biased by the base; loaders take them as indexes, and linkers write indexes.)
 pub record NameEntry : Type 0 where
   pub text : List ℕ
   pub index : ℕ
@@ -42,12 +43,14 @@ abbrev pub found_or : {X : Type 0} → Cause → ℕ → Option X → Read X
 found_or cause place None = refusal cause place
 found_or cause place (Some x) = Ok x
 
--- A text for which there is room, and the room that it leaves. Texts may overlap, so those of a file could be longer
--- than the file by any factor: with its NUL each takes room, of which there are as many bytes as in the file.
+-- A text for which there is room, and the room that it leaves. Texts may overlap, so those of a
+-- file could be longer than the file by any factor: with its NUL each takes room, of which there
+-- are as many bytes as in the file.
 abbrev pub text_within : Cause → ℕ → ℕ → Option (List ℕ) → Read (List ℕ × ℕ)
 text_within cause place room None = refusal cause place
 text_within cause place room (Some text) =
-    if nat_lt (length text) room then Ok (text, room - (length text + 1)) else refusal TextsTooLong place
+    if nat_lt (length text) room then Ok (text, room - (length text + 1))
+    else refusal TextsTooLong place
 
 -- whether an address is in the export directory, and so that of a forwarder
 abbrev pub is_forwarder : Entry → ℕ → Bool
@@ -62,7 +65,8 @@ as_forwarder (Err fault) = Err fault
 unfoldable pub target_of : List Section → Entry → ℕ → ℕ → ℕ → Read (Target × ℕ)
 target_of sections entry address place room =
     if address == 0 then Ok (Empty, room)
-    else if is_forwarder entry address then as_forwarder (text_within ForwarderOutside place room (text_at sections address))
+    else if is_forwarder entry address then as_forwarder
+    (text_within ForwarderOutside place room (text_at sections address))
     else Ok (Address address (kind_at sections address), room)
 
 -- the target of an index of the export address table, which is given with its offset
@@ -79,19 +83,24 @@ as_name index (Err fault) = Err fault
 abbrev pub name_step : List Section → ℕ × List ℕ → List ℕ → ℕ → ℕ → Read (NameEntry × ℕ)
 name_step sections pointers ordinals number room = as_name
     (u16_at ordinals (2 * number))
-    (text_within NameOutside (pointers.0 + 4 * number) room (text_at sections (u32_at pointers.1 (4 * number))))
+    (text_within NameOutside (pointers.0 + 4 * number) room
+    (text_at sections (u32_at pointers.1 (4 * number))))
 
 -- a table of this size, and its offset; the address of none does not matter
 unfoldable pub table_at : List Section → Cause → ℕ → ℕ → ℕ → Read (ℕ × List ℕ)
-table_at sections cause place rva size = if size == 0 then Ok (0, []) else found_or cause place (part_at sections rva size)
+table_at sections cause place rva size =
+    if size == 0 then Ok (0, []) else found_or cause place (part_at sections rva size)
 
 -- what the export directory says, of 40 bytes that are given with their offset; with room for texts
 unfoldable pub exports_at : Header → List Section → ℕ → ℕ × List ℕ → Read Exports
 exports_at header sections room directory = do
   dll ← found_or DllNameOutside (directory.0 + 12) (text_at sections (u32_at directory.1 12))
-  addresses ← table_at sections AddressTableOutside (directory.0 + 28) (u32_at directory.1 28) (4 * u32_at directory.1 20)
-  pointers ← table_at sections NameTableOutside (directory.0 + 32) (u32_at directory.1 32) (4 * u32_at directory.1 24)
-  ordinals ← table_at sections OrdinalTableOutside (directory.0 + 36) (u32_at directory.1 36) (2 * u32_at directory.1 24)
+  addresses ← table_at sections AddressTableOutside (directory.0 + 28) (u32_at directory.1 28)
+      (4 * u32_at directory.1 20)
+  pointers ← table_at sections NameTableOutside (directory.0 + 32) (u32_at directory.1 32)
+      (4 * u32_at directory.1 24)
+  ordinals ← table_at sections OrdinalTableOutside (directory.0 + 36) (u32_at directory.1 36)
+      (2 * u32_at directory.1 24)
   targets ← each_from (target_step sections header.entry addresses) 0 (u32_at directory.1 20) room
   names ← each_from (name_step sections pointers ordinals.1) 0 (u32_at directory.1 24) targets.1
   Ok (record {
@@ -108,7 +117,8 @@ unfoldable pub exports_behind : Header → List Section → ℕ → Read (Option
 exports_behind header sections room =
     if header.entry.rva == 0 then Ok None
     else (do
-      directory ← found_or DirectoryOutside header.entry.place (part_at sections header.entry.rva 40)
+      directory ← found_or DirectoryOutside header.entry.place
+          (part_at sections header.entry.rva 40)
       exports ← exports_at header sections room directory
       Ok (Some exports))
 

@@ -5,12 +5,14 @@ use Rattle.implib_dll.specs.Lookup.{by_name, by_ordinal, names_rise, ordinal_of,
 
 -- Where names rise, a lookup with any hint finds a name just where it stands.
 abbrev pub FindsExactly : Type 0
-FindsExactly = (names : List NameEntry) (wanted : List ℕ) (hint position : ℕ) → names_rise names ≡ true
+FindsExactly = (names : List NameEntry) (wanted : List ℕ) (hint position : ℕ) → names_rise names
+    ≡ true
     → (position_of names wanted hint ≡ Some position) ↔ (text_at names position ≡ Some wanted)
 
 -- Where names rise, hints change nothing.
 abbrev pub HintsChangeNothing : Type 0
-HintsChangeNothing = (names : List NameEntry) (wanted : List ℕ) (hint other : ℕ) → names_rise names ≡ true
+HintsChangeNothing = (names : List NameEntry) (wanted : List ℕ) (hint other : ℕ) → names_rise names
+    ≡ true
     → position_of names wanted hint ≡ position_of names wanted other
 
 -- Whatever the order of names, what is found has the name.
@@ -26,7 +28,8 @@ RightHintFinds = (names : List NameEntry) (wanted : List ℕ) (hint : ℕ)
 -- Where names rise, a lookup of a listed name leads to the target of its index, with any hint.
 abbrev pub NamesLead : Type 0
 NamesLead = (e : Exports) (name : NameEntry) (hint position : ℕ) → names_rise e.names ≡ true
-    → slice_get e.names position ≡ Some name → by_name e name.text hint ≡ target_at e.targets name.index
+    → slice_get e.names position ≡ Some name → by_name e name.text hint
+    ≡ target_at e.targets name.index
 
 -- The ordinal of an index leads to its target.
 abbrev pub OrdinalsLead : Type 0

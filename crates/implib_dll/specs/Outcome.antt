@@ -19,8 +19,8 @@ abbrev pub ◌>>=◌ : {X Y : Type 0} → Read X → (X → Read Y) → Read Y
 (Ok x) >>= next = next x
 (Err fault) >>= next = Err fault
 
--- What `step` gives at an index and at each of the `count` indexes from there on. A step has from the one before a
--- state, and leaves one to the next.
+-- What `step` gives at an index and at each of the `count` indexes from there on. A step has from
+-- the one before a state, and leaves one to the next.
 unfoldable pub each_from : {X S : Type 0} → (ℕ → S → Read (X × S)) → ℕ → ℕ → S → Read (List X × S)
 each_from step index zero state = Ok ([], state)
 each_from step index (suc count) state = do
@@ -33,8 +33,8 @@ abbrev pub Fails : {Y : Type 0} → ReadError → Read Y → Type 0
 Fails (Refused fault) read = read ≡ Err fault
 Fails OutOfMemory read = Unit {0}
 
--- What a call returns, seen by `view`, is what a reading gives: the same value, the same first fault, or memory
--- refused.
+-- What a call returns, seen by `view`, is what a reading gives: the same value, the same first
+-- fault, or memory refused.
 abbrev pub Gives : {X Y : Type 0} → (X → Y) → Result X ReadError → Read Y → Type 0
 Gives view (Ok x) read = read ≡ Ok (view x)
 Gives view (Err error) read = Fails error read

@@ -26,10 +26,12 @@ rows_from base names (target ∷ targets) index =
 abbrev pub rows_of : Exports → List Row
 rows_of e = rows_from e.base e.names e.targets 0
 
--- why a name of the table leads to no target: its index is past the export address table, or the target there is empty
+-- why a name of the table leads to no target: its index is past the export address table, or the
+-- target there is empty
 abbrev pub oddity_with : Option Target → Option Oddity
 oddity_with None = Some AtEmpty
 oddity_with (Some target) = None
 
 abbrev pub oddity_of : List Target → ℕ → Option Oddity
-oddity_of targets index = if nat_lt index (length targets) then oddity_with (target_at targets index) else Some PastTable
+oddity_of targets index =
+    if nat_lt index (length targets) then oddity_with (target_at targets index) else Some PastTable

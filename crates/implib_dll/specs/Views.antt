@@ -13,7 +13,14 @@ use Rattle.implib_dll.specs.Rows.{Row as SeenRow}
 use Rattle.implib_dll.specs.Sections.{Section as SeenSection}
 
 abbrev pub section_view : Section → SeenSection
-section_view s = record { address = s.address; size = s.size; flags = s.flags; place = s.place; contents = s.contents.now }
+section_view s = record {
+  address = s.address;
+  size = s.size;
+  flags = s.flags;
+  place = s.place;
+  contents =
+      s.contents.now;
+}
 
 abbrev pub part_view : Part → ℕ × List ℕ
 part_view p = (p.place, p.bytes.now)
@@ -37,4 +44,9 @@ exports_view e = record {
 }
 
 abbrev pub row_view : Row → SeenRow
-row_view r = record { ordinal = r.ordinal; target = target_view r.target; names = map (λ name. name.now) r.names.items }
+row_view r = record {
+  ordinal = r.ordinal;
+  target = target_view r.target;
+  names =
+      map (λ name. name.now) r.names.items;
+}

@@ -7,9 +7,10 @@ use Rattle.implib_dll.specs.Exports.{Exports, NameEntry, Target, Empty, Address,
 use Rattle.implib_dll.specs.Outcome.{Read}
 use Rattle.implib_dll.specs.Rows.{Row, rows_of}
 
--- A DLL of 421 bytes for I386, PE32. `.text` is at 0x1000, `.bss` with no raw data at 0x2000, `.edata` at 0x3000 with the
--- directory, of 0x69 bytes. From ordinal 5 on there are a function, a variable in `.bss`, a hole, a forwarder to K.f and
--- the function again. Its names are alpha and beta, both of ordinal 5, and gamma, the forwarder.
+-- A DLL of 421 bytes for I386, PE32. `.text` is at 0x1000, `.bss` with no raw data at 0x2000,
+-- `.edata` at 0x3000 with the directory, of 0x69 bytes. From ordinal 5 on there are a function, a
+-- variable in `.bss`, a hole, a forwarder to K.f and the function again. Its names are alpha and
+-- beta, both of ordinal 5, and gamma, the forwarder.
 unfoldable pub worked_pe32 : List ℕ
 worked_pe32 =
     (hex "4d 5a 00 00 00 00 00 00 00 00 00 00 00 00 00 00 00 00 00 00 00 00 00 00 00 00 00 00 00 00 00 00 00 00 00 00 00 00 00 00 00 00 00 00 00 00 00 00"
@@ -22,8 +23,8 @@ worked_pe32 =
     ++ (hex "05 00 00 00 03 00 00 00 28 30 00 00 3c 30 00 00 48 30 00 00 00 10 00 00 04 20 00 00 00 00 00 00 65 30 00 00 00 10 00 00 54 30 00 00 5a 30 00 00"
     ++ hex "5f 30 00 00 00 00 00 00 03 00 77 2e 64 6c 6c 00 61 6c 70 68 61 00 62 65 74 61 00 67 61 6d 6d 61 00 4b 2e 66 00"))))))))
 
--- A DLL of 295 bytes for AMD64, PE32+, with one section that has all. Its directory has no names, and one export, of
--- ordinal 7.
+-- A DLL of 295 bytes for AMD64, PE32+, with one section that has all. Its directory has no names,
+-- and one export, of ordinal 7.
 unfoldable pub worked_pe32_plus : List ℕ
 worked_pe32_plus =
     (hex "4d 5a 00 00 00 00 00 00 00 00 00 00 00 00 00 00 00 00 00 00 00 00 00 00 00 00 00 00 00 00 00 00 00 00 00 00 00 00 00 00 00 00 00 00 00 00 00 00"
@@ -34,8 +35,8 @@ worked_pe32_plus =
     ++ (hex "00 00 00 00 20 00 00 60 00 00 00 00 00 00 00 00 00 00 00 00 2c 10 00 00 07 00 00 00 01 00 00 00 00 00 00 00 28 10 00 00 00 00 00 00 00 00 00 00"
     ++ hex "2e 10 00 00 78 00 c3"))))))
 
--- A DLL that GNU ld 2.40 wrote, for AMD64, with an export zoo_open: its headers and its `.edata`, at 0xC00, with zeros for
--- the data of the other sections.
+-- A DLL that GNU ld 2.40 wrote, for AMD64, with an export zoo_open: its headers and its `.edata`,
+-- at 0xC00, with zeros for the data of the other sections.
 unfoldable pub worked_zoo : List ℕ
 worked_zoo =
     ((hex "4d 5a 90 00 03 00 00 00 04 00 00 00 ff ff 00 00 b8 00 00 00 00 00 00 00 40 00 00 00 00 00 00 00 00 00 00 00 00 00 00 00 00 00 00 00 00 00 00 00"
@@ -73,7 +74,8 @@ worked_exports = record {
   is_pe32_plus = false;
   dll = codes "w.dll";
   base = 5;
-  targets = Address 0x1000 Code ∷ Address 0x2004 Data ∷ Empty ∷ Forwarder (codes "K.f") ∷ Address 0x1000 Code ∷ [];
+  targets = Address 0x1000 Code ∷ Address 0x2004 Data ∷ Empty ∷ Forwarder (codes "K.f")
+      ∷ Address 0x1000 Code ∷ [];
   names = named (codes "alpha") 0 ∷ named (codes "beta") 0 ∷ named (codes "gamma") 3 ∷ [];
 }
 
@@ -120,25 +122,35 @@ pub record WorkedFiles : Type 0 where
       ∷ row 9 (Address 0x1000 Code) []
       ∷ []
   -- the directory is a byte too short for the forwarder's address, 0x3065
-  pub forwarder_last : targets_found (found (exports_in File (changed 0xBC 0x66 worked_pe32))) ≡ worked_exports.targets
+  pub forwarder_last : targets_found (found (exports_in File (changed 0xBC 0x66 worked_pe32)))
+      ≡ worked_exports.targets
   pub forwarder_past : targets_found (found (exports_in File (changed 0xBC 0x65 worked_pe32)))
-      ≡ Address 0x1000 Code ∷ Address 0x2004 Data ∷ Empty ∷ Address 0x3065 Data ∷ Address 0x1000 Code ∷ []
+      ≡ Address 0x1000 Code ∷ Address 0x2004 Data ∷ Empty ∷ Address 0x3065 Data
+      ∷ Address 0x1000 Code ∷ []
   -- the last byte of `.bss`, of 0x10 bytes, and the byte after it
   pub bss_last : targets_found (found (exports_in File (changed 0x168 0x0F worked_pe32)))
-      ≡ Address 0x1000 Code ∷ Address 0x200F Data ∷ Empty ∷ Forwarder (codes "K.f") ∷ Address 0x1000 Code ∷ []
+      ≡ Address 0x1000 Code ∷ Address 0x200F Data ∷ Empty ∷ Forwarder (codes "K.f")
+      ∷ Address 0x1000 Code ∷ []
   pub bss_past : targets_found (found (exports_in File (changed 0x168 0x10 worked_pe32)))
-      ≡ Address 0x1000 Code ∷ Address 0x2010 Outside ∷ Empty ∷ Forwarder (codes "K.f") ∷ Address 0x1000 Code ∷ []
-  -- code is what has IMAGE_SCN_MEM_EXECUTE, whatever else: `.text` with flags 0x20, and `.bss` with 0xE0000080
+      ≡ Address 0x1000 Code ∷ Address 0x2010 Outside ∷ Empty ∷ Forwarder (codes "K.f")
+      ∷ Address 0x1000 Code ∷ []
+  -- code is what has IMAGE_SCN_MEM_EXECUTE, whatever else: `.text` with flags 0x20, and `.bss` with
+  -- 0xE0000080
   pub no_execute : targets_found (found (exports_in File (changed 0xE7 0 worked_pe32)))
-      ≡ Address 0x1000 Data ∷ Address 0x2004 Data ∷ Empty ∷ Forwarder (codes "K.f") ∷ Address 0x1000 Data ∷ []
+      ≡ Address 0x1000 Data ∷ Address 0x2004 Data ∷ Empty ∷ Forwarder (codes "K.f")
+      ∷ Address 0x1000 Data ∷ []
   pub execute : targets_found (found (exports_in File (changed 0x10F 0xE0 worked_pe32)))
-      ≡ Address 0x1000 Code ∷ Address 0x2004 Code ∷ Empty ∷ Forwarder (codes "K.f") ∷ Address 0x1000 Code ∷ []
+      ≡ Address 0x1000 Code ∷ Address 0x2004 Code ∷ Empty ∷ Forwarder (codes "K.f")
+      ∷ Address 0x1000 Code ∷ []
   -- no export directory: an address of 0, or no entry
   pub no_address : exports_in File (changed 0xB9 0 worked_pe32) ≡ Ok None
   pub no_entry : exports_in File (changed 0xB4 0 worked_pe32) ≡ Ok None
   -- another machine is told as it is
-  pub machine : found (exports_in File (changed 0x44 0x77 worked_pe32)) ≡ Some (record worked_exports { machine = 0x177 })
+  pub machine : found (exports_in File (changed 0x44 0x77 worked_pe32))
+      ≡ Some (record worked_exports { machine = 0x177 })
   -- base 0 and base 65,535
-  pub base_0 : rows_found (found (exports_in File (changed 0x14C 0 worked_unnamed))) ≡ row 0 (Address 0x1000 Code) [] ∷ row 1 (Address 0x2004 Data) [] ∷ []
-  pub base_65535 : rows_found (found (exports_in File (changed 0x14C 0xFF (changed 0x14D 0xFF worked_unnamed))))
+  pub base_0 : rows_found (found (exports_in File (changed 0x14C 0 worked_unnamed)))
+      ≡ row 0 (Address 0x1000 Code) [] ∷ row 1 (Address 0x2004 Data) [] ∷ []
+  pub base_65535 : rows_found
+      (found (exports_in File (changed 0x14C 0xFF (changed 0x14D 0xFF worked_unnamed))))
       ≡ row 65535 (Address 0x1000 Code) [] ∷ row 65536 (Address 0x2004 Data) [] ∷ []

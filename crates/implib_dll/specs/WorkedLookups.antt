@@ -60,7 +60,8 @@ pub record WorkedLookups : Type 0 where
   pub by_none : by_name worked_exports (codes "delta") 0 ≡ None
   -- a name at a hole, at the last index, and at the number of targets
   pub at_hole : by_name (with_names (named (codes "h") 2 ∷ [])) (codes "h") 0 ≡ None
-  pub at_last : by_name (with_names (named (codes "h") 4 ∷ [])) (codes "h") 0 ≡ Some (Address 0x1000 Code)
+  pub at_last : by_name (with_names (named (codes "h") 4 ∷ [])) (codes "h") 0
+      ≡ Some (Address 0x1000 Code)
   pub past : by_name (with_names (named (codes "h") 5 ∷ [])) (codes "h") 0 ≡ None
   pub odd_hole : oddity_of worked_exports.targets 2 ≡ Some AtEmpty
   pub odd_past : oddity_of worked_exports.targets 5 ≡ Some PastTable
@@ -74,8 +75,10 @@ pub record WorkedLookups : Type 0 where
   pub ordinal_9 : by_ordinal worked_exports 9 ≡ Some (Address 0x1000 Code)
   pub ordinal_10 : by_ordinal worked_exports 10 ≡ None
   -- base 65,535: only the first export has an ordinal of 16 bits
-  pub high_first : by_ordinal (record worked_exports { base = 65535 }) 65535 ≡ Some (Address 0x1000 Code)
+  pub high_first : by_ordinal (record worked_exports { base = 65535 }) 65535
+      ≡ Some (Address 0x1000 Code)
   pub high_second : ordinal_of 65535 1 ≡ 65536
   -- the largest base: ordinals go on from 0
   pub wraps : ordinal_of 0xFFFFFFFF 1 ≡ 0
-  pub wrapped : by_ordinal (record worked_exports { base = 0xFFFFFFFF }) 0 ≡ Some (Address 0x2004 Data)
+  pub wrapped : by_ordinal (record worked_exports { base = 0xFFFFFFFF }) 0
+      ≡ Some (Address 0x2004 Data)

@@ -35,7 +35,8 @@ pub record WorkedMemory : Type 0 where
   -- an image is read as the file is; one that lacks a byte is refused
   pub image : exports_in Image worked_image ≡ Ok (Some worked_exports)
   pub image_cut : exports_in Image (take 12392 worked_image) ≡ refusal SectionDataCut 0x124
-  -- the first byte of `.text` and the byte before it, a byte of `.bss`, the `a` of alpha, the NUL before it, and past all
+  -- the first byte of `.text` and the byte before it, a byte of `.bss`, the `a` of alpha, the NUL
+  -- before it, and past all
   pub code : byte_at worked_sections 0x1000 ≡ 0xC3
   pub before : byte_at worked_sections 0xFFF ≡ 0
   pub bss : byte_at worked_sections 0x2004 ≡ 0

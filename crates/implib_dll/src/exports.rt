@@ -35,7 +35,8 @@ pub struct Exports<'a> {
 
 /// The name of the DLL.
 fn dll_name<'a>(sections: &[Section<'a>], rva: u32, place: usize) -> Result<&'a [u8], ReadError>
-    ensures { Gives (λ text. text.now) result (found_or DllNameOutside place (text_at (map section_view sections.now) rva)) }
+    ensures { Gives (λ text. text.now) result
+        (found_or DllNameOutside place (text_at (map section_view sections.now) rva)) }
 {
     match text_at(sections, rva) {
         Some(text) => Ok(text),
@@ -54,7 +55,9 @@ fn table_at<'a>(
 ) -> Result<Part<'a>, ReadError>
     requires low { directory.now.place + offset < 2 ^ 34 }
     requires within { offset + 4 ≤ length directory.now.bytes.now }
-    ensures found { Gives part_view result (table_at (map section_view sections.now) cause (directory.now.place + offset) (u32_at directory.now.bytes.now offset) size) }
+    ensures found { Gives part_view result
+        (table_at (map section_view sections.now) cause (directory.now.place + offset)
+        (u32_at directory.now.bytes.now offset) size) }
     ensures low { IfOk result (λ found. found.place < 2 ^ 33) }
     ensures size { IfOk result (λ found. length found.bytes.now ≡ size) }
 {
@@ -81,7 +84,8 @@ fn exports_at<'a>(
 ) -> Result<Exports<'a>, ReadError>
     requires low { directory.now.place < 2 ^ 33 }
     requires size { length directory.now.bytes.now ≡ 40 }
-    ensures { Gives exports_view result (exports_at header.now (map section_view sections.now) room (part_view directory.now)) }
+    ensures { Gives exports_view result
+        (exports_at header.now (map section_view sections.now) room (part_view directory.now)) }
 {
     let fields = directory.bytes;
     let functions = u32_at(fields, 20);
@@ -113,7 +117,8 @@ fn exports_behind<'a>(
     sections: &[Section<'a>],
     room: usize,
 ) -> Result<Option<Exports<'a>>, ReadError>
-    ensures { Gives (option_map exports_view) result (exports_behind header.now (map section_view sections.now) room) }
+    ensures { Gives (option_map exports_view) result
+        (exports_behind header.now (map section_view sections.now) room) }
 {
     if header.entry.rva == 0 {
         return Ok(None);
@@ -136,18 +141,19 @@ fn exports_in(alloc: Global, layout: Layout, bytes: &[u8]) -> Result<Option<Expo
 }
 
 impl<'a> Exports<'a> {
-    /// What an image in a file exports, by the bytes of the file; `None` where it has no export directory.
+    /// What an image in a file exports, by the bytes of the file; `None` where it has no export
+    /// directory.
     ///
-    /// The file is refused for its first fault, whatever its bytes are. Time and memory are linear in their number,
-    /// whatever the counts say: the names are slices of the file.
+    /// The file is refused for its first fault, whatever its bytes are. Time and memory are linear
+    /// in their number, whatever the counts say: the names are slices of the file.
     pub fn read(alloc: Global, bytes: &'a [u8]) -> Result<Option<Exports<'a>>, ReadError>
         ensures { Gives (option_map exports_view) result (exports_in Layout.File bytes.now) }
     {
         exports_in(alloc, Layout::File, bytes)
     }
 
-    /// What an image exports that lies in memory, each section at its address, by the bytes from its base on; `None`
-    /// where it has no export directory. As [`Exports::read`] but for that.
+    /// What an image exports that lies in memory, each section at its address, by the bytes from
+    /// its base on; `None` where it has no export directory. As [`Exports::read`] but for that.
     pub fn read_image(alloc: Global, bytes: &'a [u8]) -> Result<Option<Exports<'a>>, ReadError>
         ensures { Gives (option_map exports_view) result (exports_in Layout.Image bytes.now) }
     {

@@ -5,7 +5,8 @@ ghost use Rattle.implib_dll.specs.declared.fault.ReadError.TheVariants.{OutOfMem
 
 use std::alloc::{AllocError, AllocFailed};
 
-/// What is wrong with a file. The offset of a [`Fault`] is that of the field which each variant names.
+/// What is wrong with a file. The offset of a [`Fault`] is that of the field which each variant
+/// names.
 #[derive(Clone, Copy, Debug, PartialEq, Eq, thiserror::Error)]
 pub enum Cause {
     /// The file has less than 64 bytes, or does not begin with `MZ`: offset 0.
@@ -14,8 +15,8 @@ pub enum Cause {
     /// There is no `PE` signature with a COFF header where the offset at 0x3C leads.
     #[error("no PE signature")]
     NoPeSignature,
-    /// The optional header leads out of the file, or is too small for the fields of its magic number or for data
-    /// directory 0: SizeOfOptionalHeader.
+    /// The optional header leads out of the file, or is too small for the fields of its magic
+    /// number or for data directory 0: SizeOfOptionalHeader.
     #[error("the optional header is cut")]
     OptionalHeaderCut,
     /// The magic number of the optional header is neither 0x10B nor 0x20B: Magic.
@@ -48,14 +49,16 @@ pub enum Cause {
     /// The ordinal table is not in the data of one section: Ordinal Table RVA.
     #[error("the ordinal table is outside of the sections")]
     OrdinalTableOutside,
-    /// A forwarder, with its NUL, is not in the data of one section: its entry of the export address table.
+    /// A forwarder, with its NUL, is not in the data of one section: its entry of the export
+    /// address table.
     #[error("a forwarder is outside of the sections")]
     ForwarderOutside,
-    /// An export's name, with its NUL, is not in the data of one section: its entry of the name pointer table.
+    /// An export's name, with its NUL, is not in the data of one section: its entry of the name
+    /// pointer table.
     #[error("the name of an export is outside of the sections")]
     NameOutside,
-    /// The forwarders and names so far, each with its NUL, are together longer than the file, so that some overlap: the
-    /// entry of the table that leads to the last.
+    /// The forwarders and names so far, each with its NUL, are together longer than the file, so
+    /// that some overlap: the entry of the table that leads to the last.
     #[error("the names overlap, and are together longer than the file")]
     TextsTooLong,
 }

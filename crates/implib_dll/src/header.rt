@@ -100,8 +100,10 @@ fn header_with(
 ) -> Result<Header, ReadError>
     requires signature { place + 24 ≤ length bytes.now }
     requires end { end < 2 ^ 40 }
-    ensures found { Gives (λ header. header) result (header_with bytes.now place is_pe32_plus end entry) }
-    ensures within { IfOk result (λ header. header.sections + 40 * header.section_count ≤ length bytes.now) }
+    ensures found { Gives (λ header. header) result
+        (header_with bytes.now place is_pe32_plus end entry) }
+    ensures within { IfOk result
+        (λ header. header.sections + 40 * header.section_count ≤ length bytes.now) }
 {
     let section_count = u16_at(bytes, place + 6);
     if section_count > 96 {
@@ -130,8 +132,10 @@ fn header_of(
     requires low { place + size < 2 ^ 39 }
     requires fields { 4 ≤ fields }
     requires within { place + 24 + size ≤ length bytes.now }
-    ensures found { Gives (λ header. header) result (header_of bytes.now place size is_pe32_plus fields) }
-    ensures within { IfOk result (λ header. header.sections + 40 * header.section_count ≤ length bytes.now) }
+    ensures found { Gives (λ header. header) result
+        (header_of bytes.now place size is_pe32_plus fields) }
+    ensures within { IfOk result
+        (λ header. header.sections + 40 * header.section_count ≤ length bytes.now) }
 {
     let entry = entry_in(bytes, place + 24, size, fields)?;
     header_with(bytes, place, is_pe32_plus, place + 24 + size, entry)
@@ -143,7 +147,8 @@ fn header_at(bytes: &[u8], place: usize, size: usize) -> Result<Header, ReadErro
     requires low { place + size < 2 ^ 39 }
     requires signature { place + 24 ≤ length bytes.now }
     ensures found { Gives (λ header. header) result (header_at bytes.now place size) }
-    ensures within { IfOk result (λ header. header.sections + 40 * header.section_count ≤ length bytes.now) }
+    ensures within { IfOk result
+        (λ header. header.sections + 40 * header.section_count ≤ length bytes.now) }
 {
     if size < 2 {
         return Err(refused(Cause::OptionalHeaderCut, place + 20));
@@ -165,7 +170,8 @@ fn header_at(bytes: &[u8], place: usize, size: usize) -> Result<Header, ReadErro
 #[tactic(auto, unfolding(crate::specs::Headers::header_in))]
 pub(crate) fn header_in(bytes: &[u8]) -> Result<Header, ReadError>
     ensures found { Gives (λ header. header) result (header_in bytes.now) }
-    ensures within { IfOk result (λ header. header.sections + 40 * header.section_count ≤ length bytes.now) }
+    ensures within { IfOk result
+        (λ header. header.sections + 40 * header.section_count ≤ length bytes.now) }
 {
     let place = signature_in(bytes)?;
     header_at(bytes, place, u16_at(bytes, place + 20) as usize)

@@ -1,4 +1,5 @@
-//! Laws of lookups and of memory, and what is worked by hand. The functions do nothing: their contracts are the laws.
+//! Laws of lookups and of memory, and what is worked by hand. The functions do nothing: their
+//! contracts are the laws.
 
 ghost use Rattle.implib_dll.specs.Laws.{FindsExactly, FindsTheName, HintsChangeNothing, NamesLead, OrdinalsLead, RightHintFinds};
 ghost use Rattle.implib_dll.specs.Memory.{ExportsLieInMemory, FileIsInMemory, ImageIsRead, LookupsAreThoseInMemory};
@@ -7,7 +8,8 @@ ghost use Rattle.implib_dll.specs.WorkedLookups.{WorkedLookups};
 ghost use Rattle.implib_dll.specs.WorkedMemory.{WorkedMemory};
 ghost use Rattle.implib_dll.specs.WorkedRefusals.{WorkedRefusals};
 
-/// Where names rise strictly by their bytes, a lookup with any hint finds a name just where it stands.
+/// Where names rise strictly by their bytes, a lookup with any hint finds a name just where it
+/// stands.
 pub fn finds_exactly()
     ensures { FindsExactly }
 {}
@@ -27,7 +29,8 @@ pub fn right_hint_finds()
     ensures { RightHintFinds }
 {}
 
-/// Where names rise strictly by their bytes, a listed name leads to the target of its index, with any hint.
+/// Where names rise strictly by their bytes, a listed name leads to the target of its index, with
+/// any hint.
 pub fn names_lead()
     ensures { NamesLead }
 {}
@@ -37,7 +40,8 @@ pub fn ordinals_lead()
     ensures { OrdinalsLead }
 {}
 
-/// What is read of a file, each table and each text with its NUL, is in the image in memory, which is stated apart.
+/// What is read of a file, each table and each text with its NUL, is in the image in memory, which
+/// is stated apart.
 pub fn file_is_in_memory()
     ensures { FileIsInMemory }
 {}
@@ -47,7 +51,8 @@ pub fn exports_lie_in_memory()
     ensures { ExportsLieInMemory }
 {}
 
-/// A lookup in memory, by the export directory there, finds a name where [`crate::Exports::position_of`] finds it.
+/// A lookup in memory, by the export directory there, finds a name where
+/// [`crate::Exports::position_of`] finds it.
 pub fn lookups_are_those_in_memory()
     ensures { LookupsAreThoseInMemory }
 {}

@@ -44,7 +44,8 @@ fn is_at(names: &[Name], position: usize, wanted: &[u8]) -> bool
 
 /// Where a binary search finds a name.
 fn searched(names: &[Name], wanted: &[u8]) -> Option<usize>
-    ensures found { result ≡ searched (map name_view names.now) wanted.now (length names.now) 0 (length names.now) }
+    ensures found { result
+        ≡ searched (map name_view names.now) wanted.now (length names.now) 0 (length names.now) }
     ensures within { IfSome result (λ position. position < length names.now) }
 {
     let mut low = 0;
@@ -76,8 +77,9 @@ fn rise_from(text: &[u8], names: &[Name]) -> bool
 }
 
 impl<'a> Exports<'a> {
-    /// The position in [`Exports::names`] at which a loader finds a name: at the hint of an import, if the name is
-    /// there, and else by a binary search, which may miss a name where [`Exports::names_rise`] is false.
+    /// The position in [`Exports::names`] at which a loader finds a name: at the hint of an import,
+    /// if the name is there, and else by a binary search, which may miss a name where
+    /// [`Exports::names_rise`] is false.
     pub fn position_of(&self, wanted: &[u8], hint: u16) -> Option<usize>
         ensures found { result ≡ position_of (exports_view self.now).names wanted.now hint }
         ensures within { IfSome result (λ position. position < length self.now.names.items) }
@@ -101,8 +103,8 @@ impl<'a> Exports<'a> {
         }
     }
 
-    /// What a loader finds by a name and the hint of an import: nothing where the name leads to an empty target, or to
-    /// none.
+    /// What a loader finds by a name and the hint of an import: nothing where the name leads to an
+    /// empty target, or to none.
     pub fn by_name(&self, wanted: &[u8], hint: u16) -> Option<Target<'a>>
         ensures { option_map target_view result ≡ by_name (exports_view self.now) wanted.now hint }
     {

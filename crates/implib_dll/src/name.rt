@@ -31,7 +31,9 @@ fn name_step<'a>(
     requires low { pointers.now.place + number < 2 ^ 34 }
     requires pointers { 4 * number + 4 ≤ length pointers.now.bytes.now }
     requires ordinals { 2 * number + 2 ≤ length ordinals.now }
-    ensures { Gives (λ found. (name_view found.0, found.1)) result (name_step (map section_view sections.now) (part_view pointers.now) ordinals.now number room) }
+    ensures { Gives (λ found. (name_view found.0, found.1)) result
+        (name_step (map section_view sections.now)
+        (part_view pointers.now) ordinals.now number room) }
 {
     let rva = u32_at(pointers.bytes, 4 * number);
     let place = pointers.place + 4 * number;
@@ -52,7 +54,9 @@ pub(crate) fn names_in<'a>(
     requires low { pointers.now.place < 2 ^ 33 }
     requires pointers { length pointers.now.bytes.now ≡ 4 * count }
     requires ordinals { length ordinals.now ≡ 2 * count }
-    ensures { Gives (λ found. (map name_view found.0.items, found.1)) result (each_from (name_step (map section_view sections.now) (part_view pointers.now) ordinals.now) 0 count room) }
+    ensures { Gives (λ found. (map name_view found.0.items, found.1)) result
+        (each_from (name_step (map section_view sections.now) (part_view pointers.now) ordinals.now)
+        0 count room) }
 {
     let mut names = Vec::new(alloc);
     let mut left = room;

@@ -18,7 +18,8 @@ pub struct Row<'a> {
     pub names: Vec<&'a [u8]>,
 }
 
-/// Why a name of the table leads to no target. Loaders take such a file, and only a lookup of the name fails.
+/// Why a name of the table leads to no target. Loaders take such a file, and only a lookup of the
+/// name fails.
 #[derive(Clone, Copy, Debug, PartialEq, Eq)]
 pub enum Oddity {
     /// The index is past the export address table.
@@ -29,7 +30,9 @@ pub enum Oddity {
 
 /// One more name of a row.
 fn add_name<'a>(row: &mut Row<'a>, text: &'a [u8]) -> Result<(), AllocError>
-    ensures { OnOk result (row_view row.new ≡ record (row_view row.old) { names = (row_view row.old).names ++ text.now ∷ [] }) }
+    ensures { OnOk result
+        (row_view row.new ≡ record
+        (row_view row.old) { names = (row_view row.old).names ++ text.now ∷ [] }) }
 {
     row.names.push(text)?;
     Ok(())
@@ -43,7 +46,9 @@ fn add_names<'a>(
     targets: &[Target<'a>],
 ) -> Result<(), AllocError>
     requires { map row_view rows.old.items ≡ rows_from base [] (map target_view targets.now) 0 }
-    ensures { OnOk result (map row_view rows.new.items ≡ rows_from base (map name_view names.now) (map target_view targets.now) 0) }
+    ensures { OnOk result
+        (map row_view rows.new.items
+        ≡ rows_from base (map name_view names.now) (map target_view targets.now) 0) }
 {
     for name in names {
         let index = name.index as usize;

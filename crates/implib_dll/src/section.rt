@@ -132,7 +132,8 @@ fn section_step(
 ) -> Result<(Section<'_>, u64), ReadError>
     requires small { number < 2 ^ 16 }
     requires within { sections + 40 * number + 40 ≤ length bytes.now }
-    ensures { Gives (λ found. (section_view found.0, found.1)) result (section_step layout bytes.now sections number end) }
+    ensures { Gives (λ found. (section_view found.0, found.1)) result
+        (section_step layout bytes.now sections number end) }
 {
     let section = section_at(layout, bytes, sections + 40 * number, end)?;
     let end = section.address as u64 + section.size as u64;
@@ -148,7 +149,8 @@ pub(crate) fn sections_in(
     count: u16,
 ) -> Result<(Vec<Section<'_>>, u64), ReadError>
     requires { place + 40 * count ≤ length bytes.now }
-    ensures { Gives (λ found. (map section_view found.0.items, found.1)) result (sections_in layout bytes.now place count) }
+    ensures { Gives (λ found. (map section_view found.0.items, found.1)) result
+        (sections_in layout bytes.now place count) }
 {
     let mut sections = Vec::new(alloc);
     let mut end = 0;

@@ -31,7 +31,8 @@ pub(crate) fn text_within<'a>(
     place: usize,
     room: usize,
 ) -> Result<(&'a [u8], usize), ReadError>
-    ensures { Gives (λ found. (found.0.now, found.1)) result (text_within cause place room (text_at (map section_view sections.now) rva)) }
+    ensures { Gives (λ found. (found.0.now, found.1)) result
+        (text_within cause place room (text_at (map section_view sections.now) rva)) }
 {
     let Some(text) = text_at(sections, rva) else {
         return Err(refused(cause, place));
@@ -59,7 +60,8 @@ fn target_of<'a>(
     place: usize,
     room: usize,
 ) -> Result<(Target<'a>, usize), ReadError>
-    ensures { Gives (λ found. (target_view found.0, found.1)) result (target_of (map section_view sections.now) entry address place room) }
+    ensures { Gives (λ found. (target_view found.0, found.1)) result
+        (target_of (map section_view sections.now) entry address place room) }
 {
     if address == 0 {
         return Ok((Target::Empty, room));
@@ -81,7 +83,8 @@ fn target_step<'a>(
 ) -> Result<(Target<'a>, usize), ReadError>
     requires low { table.now.place + index < 2 ^ 34 }
     requires table { 4 * index + 4 ≤ length table.now.bytes.now }
-    ensures { Gives (λ found. (target_view found.0, found.1)) result (target_step (map section_view sections.now) entry (part_view table.now) index room) }
+    ensures { Gives (λ found. (target_view found.0, found.1)) result
+        (target_step (map section_view sections.now) entry (part_view table.now) index room) }
 {
     let address = u32_at(table.bytes, 4 * index);
     target_of(sections, entry, address, table.place + 4 * index, room)
@@ -98,7 +101,9 @@ pub(crate) fn targets_in<'a>(
 ) -> Result<(Vec<Target<'a>>, usize), ReadError>
     requires low { table.now.place < 2 ^ 33 }
     requires size { length table.now.bytes.now ≡ 4 * count }
-    ensures { Gives (λ found. (map target_view found.0.items, found.1)) result (each_from (target_step (map section_view sections.now) entry (part_view table.now)) 0 count room) }
+    ensures { Gives (λ found. (map target_view found.0.items, found.1)) result
+        (each_from (target_step (map section_view sections.now) entry (part_view table.now)) 0 count
+        room) }
 {
     let mut targets = Vec::new(alloc);
     let mut left = room;

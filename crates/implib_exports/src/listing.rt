@@ -1,9 +1,10 @@
 //! Lines of what an image exports.
 //!
-//! `exports`, machine, `PE32` or `PE32+`, base, whether the names rise, and the name of the DLL; `row`, ordinal, kind
-//! (`code`, `data`, `outside` or `forwarder`), address or text, and each name, for each target that is not empty;
-//! `name`, position, index, the position at which a lookup with hint 0 finds it or `-`, what is odd or `-`, and the text.
-//! Numbers are decimal, names are written byte by byte.
+//! `exports`, machine, `PE32` or `PE32+`, base, whether the names rise, and the name of the DLL;
+//! `row`, ordinal, kind (`code`, `data`, `outside` or `forwarder`), address or text, and each name,
+//! for each target that is not empty; `name`, position, index, the position at which a lookup with
+//! hint 0 finds it or `-`, what is odd or `-`, and the text. Numbers are decimal, names are written
+//! byte by byte.
 
 use implib_dll::{AddressKind, Exports, Oddity, ReadError, Row, Target};
 use std::alloc::{AllocError, Global};

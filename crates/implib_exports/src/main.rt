@@ -1,6 +1,7 @@
-//! Lists what DLLs export: `implib_exports [--image] FILE..`, where `--image` takes each file for an image as it lies in
-//! memory. For each file there is a line `file`, and then either one line that says why it is refused, or the line
-//! `none`, or lines of fields with a TAB between each two ([`listing`]).
+//! Lists what DLLs export: `implib_exports [--image] FILE..`, where `--image` takes each file for
+//! an image as it lies in memory. For each file there is a line `file`, and then either one line
+//! that says why it is refused, or the line `none`, or lines of fields with a TAB between each two
+//! ([`listing`]).
 #![tactic(auto)]
 
 mod listing;
