@@ -1,0 +1,135 @@
+-- Worked files, lookups and memory, by computing.
+use Rattle.std.proofs.Common.{refl}
+use Rattle.implib_dll.specs.Bytes.{bytes_at, text_in, u16_at, u32_at}
+use Rattle.implib_dll.specs.Digits.{bytes_of_digits}
+use Rattle.implib_dll.specs.Exports.{exports_at, exports_behind, exports_in, table_at, target_of}
+use Rattle.implib_dll.specs.Headers.{entry_in, header_at, header_in, header_with, signature_in}
+use Rattle.implib_dll.specs.Lookup.{order_at, searched}
+use Rattle.implib_dll.specs.Memory.{byte_at, searched_in}
+use Rattle.implib_dll.specs.Outcome.{each_from}
+use Rattle.implib_dll.specs.Sections.{contents_at, kind_at, located, part_at, section_at, text_at}
+use Rattle.implib_dll.specs.WorkedFiles.{WorkedFiles, worked_pe32, worked_pe32_plus, worked_unnamed, worked_zoo}
+use Rattle.implib_dll.specs.WorkedLookups.{WorkedLookups}
+use Rattle.implib_dll.specs.WorkedMemory.{WorkedMemory, worked_image, worked_sections}
+use Rattle.implib_dll.specs.WorkedRefusals.{WorkedRefusals}
+
+pub worked_files : WorkedFiles
+unfolding bytes_at bytes_of_digits contents_at each_from entry_in exports_at exports_behind exports_in header_at header_in header_with kind_at located part_at section_at signature_in table_at target_of text_at text_in u16_at u32_at worked_pe32 worked_pe32_plus worked_unnamed worked_zoo
+worked_files = record {
+  pe32 = refl;
+  pe32_plus = refl;
+  zoo = refl;
+  rows = refl;
+  forwarder_last = refl;
+  forwarder_past = refl;
+  bss_last = refl;
+  bss_past = refl;
+  no_execute = refl;
+  execute = refl;
+  no_address = refl;
+  no_entry = refl;
+  machine = refl;
+  base_0 = refl;
+  base_65535 = refl;
+}
+
+pub worked_lookups : WorkedLookups
+unfolding order_at searched
+worked_lookups = record {
+  rise = refl;
+  hint_right = refl;
+  hint_low = refl;
+  hint_high = refl;
+  hint_past = refl;
+  hint_last = refl;
+  shorter = refl;
+  longer = refl;
+  nothing = refl;
+  fall = refl;
+  missed = refl;
+  found_by_hint = refl;
+  found_first = refl;
+  case_misses = refl;
+  case_falls = refl;
+  twice_falls = refl;
+  twice_first = refl;
+  twice_second = refl;
+  unsigned = refl;
+  by_first = refl;
+  by_alias = refl;
+  by_forwarder = refl;
+  by_none = refl;
+  at_hole = refl;
+  at_last = refl;
+  past = refl;
+  odd_hole = refl;
+  odd_past = refl;
+  not_odd = refl;
+  ordinal_4 = refl;
+  ordinal_5 = refl;
+  ordinal_6 = refl;
+  ordinal_7 = refl;
+  ordinal_8 = refl;
+  ordinal_9 = refl;
+  ordinal_10 = refl;
+  high_first = refl;
+  high_second = refl;
+  wraps = refl;
+  wrapped = refl;
+}
+
+pub worked_refusals : WorkedRefusals
+unfolding bytes_at bytes_of_digits contents_at each_from entry_in exports_at exports_behind exports_in header_at header_in header_with kind_at located part_at section_at signature_in table_at target_of text_at text_in u16_at u32_at worked_pe32 worked_pe32_plus
+worked_refusals = record {
+  short = refl;
+  no_mz = refl;
+  signature = refl;
+  signature_out = refl;
+  fields_cut = refl;
+  directory_cut = refl;
+  header_out = refl;
+  plus_cut = refl;
+  magic = refl;
+  table_cut = refl;
+  many_sections = refl;
+  sections_touch = refl;
+  sections_overlap = refl;
+  descend = refl;
+  data_cut = refl;
+  directory_past = refl;
+  directory_before = refl;
+  dll_past = refl;
+  dll_in_bss = refl;
+  addresses_past = refl;
+  names_past = refl;
+  ordinals_past = refl;
+  forwarder_cut = refl;
+  name_past = refl;
+  room = refl;
+  no_room = refl;
+}
+
+pub worked_memory : WorkedMemory
+unfolding bytes_at bytes_of_digits contents_at each_from entry_in exports_at exports_behind exports_in header_at header_in header_with kind_at located part_at section_at signature_in table_at target_of text_at text_in u16_at u32_at worked_pe32 worked_pe32_plus byte_at searched_in worked_image worked_sections
+worked_memory = record {
+  image = refl;
+  image_cut = refl;
+  code = refl;
+  before = refl;
+  bss = refl;
+  letter = refl;
+  nul = refl;
+  past = refl;
+  count = refl;
+  address = refl;
+  index = refl;
+  same = refl;
+  shorter = refl;
+  longer = refl;
+  below = refl;
+  above = refl;
+  right = refl;
+  low = refl;
+  hint_past = refl;
+  none = refl;
+}

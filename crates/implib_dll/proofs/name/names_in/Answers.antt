@@ -1,0 +1,20 @@
+use Rattle.std.proofs.lemmas.Result.{err_from_is_err_and}
+use Rattle.implib_dll.specs.Views.{name_view}
+use Rattle.implib_dll.proofs.Steps.{reads-end, reads-fault, reads-more}
+use Rattle.implib_dll.proofs.name.names_in.Goals as goal
+
+pub returns-in_err-name : goal.returns-in_err-name
+returns-in_err-name c =
+    let l = c.loop-number in
+    let p = err_from_is_err_and c.from_residual.result c.from_residual.ensures.1 in
+    rw (p.1, p.2) (reads-fault c.in_err-name.field-0.0 _ _ _ l.number c.args.count l.left c.loop-number-test.true c.in_err-name.ensures l.invariant)
+
+pub loop-number-preserved : goal.loop-number-preserved
+loop-number-preserved c =
+    let l = c.loop-number in
+    reads-more name_view _ _ l.names.items _ c.in_ok-name.name l.number c.args.count l.left c.in_ok-name.next_left c.in_ok-push.ensures.items c.loop-number-test.true c.in_ok-name.ensures l.invariant
+
+pub returns : goal.returns
+returns c =
+    let l = c.loop-number in
+    reads-end _ _ _ l.number c.args.count l.left c.loop-number-test.false l.invariant

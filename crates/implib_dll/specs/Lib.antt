@@ -1,0 +1,15 @@
+pub mod Bytes
+pub mod Digits
+pub mod Exports
+pub mod Headers
+pub mod Laws
+pub mod Lookup
+pub mod Memory
+pub mod Outcome
+pub mod Rows
+pub mod Sections
+pub mod Views
+pub mod WorkedFiles
+pub mod WorkedLookups
+pub mod WorkedMemory
+pub mod WorkedRefusals
