@@ -14,7 +14,7 @@ ghost use Rattle.std.specs.Prelude.{◌≡◌, ◌<◌, ◌≤◌, IfErr, IfOk, 
 use crate::definition::{push_number, push_text};
 use crate::library_with::{OptionsArguments, failure_in, mark_length, options_with};
 use crate::outcome::{Failure, put_encoding};
-use implib_rules::library::{Refusal, member_count, test_quotes};
+use implib_rules::library::{Refusal, member_count};
 use implib_rules::options::LibraryOptions;
 use implib_rules::places::{export_lines, read_with_places};
 use implib_rules::text::DefinitionText;
@@ -101,9 +101,6 @@ fn read_warnings(
         Ok(words) => words,
         Err(position) => return Err(Refusal::NotUtf8(position)),
     };
-    if let Err(refusal) = test_quotes(words) {
-        return Err(refusal);
-    }
     let (def, places) = match read_with_places(alloc, words) {
         Ok(read) => read,
         Err(error) => return Err(Refusal::from(error)),
