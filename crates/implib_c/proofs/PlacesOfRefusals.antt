@@ -31,7 +31,7 @@ of_export text (Some index) at position is some =
 
 -- a syntax error is at the position of its offset
 syntax_there : (text : List ℕ) (cause : Cause) (position : Position) → IsSyntaxErrorAt text cause position → position ≡ position_at text position.offset
-syntax_there text cause position (inl open) = open.there
+syntax_there text cause position (inl unclosed) = unclosed.there
 syntax_there text cause position (inr (inl parsed)) = parsed.1.1
 syntax_there text cause position (inr (inr misplaced)) = own_offset text misplaced.misplaced.at position misplaced.there
 

@@ -126,7 +126,7 @@ misplaced_within text cause position at =
 
 -- a syntax error is within its text
 syntax_within : (text : List ℕ) (cause : Cause) (position : Position) → IsSyntaxErrorAt text cause position → position.offset ≤ length text
-syntax_within text cause position (inl open) = let within = open_within text beginning 0 position.offset open.found in omega (arith, within)
+syntax_within text cause position (inl unclosed) = let within = open_within text beginning 0 position.offset unclosed.found in omega (arith, within)
 syntax_within text cause position (inr (inl parsed)) = refused_within text cause position.offset parsed.1.0
 syntax_within text cause position (inr (inr misplaced)) = misplaced_within text cause position misplaced
 
