@@ -14,7 +14,8 @@ ghost use Rattle.implib_read.specs.ClassViews.{class_view, imported_view, member
 ghost use Rattle.implib_read.specs.ImportViews.{ask_view, declared_view};
 
 use implib_read::{
-    AliasFound, AskFound, DeclaredFound, ImportFound, ImportKind, MemberClass, MemberRead, begins_imp,
+    AliasFound, AskFound, DeclaredFound, ImportFound, ImportKind, MemberClass, MemberRead,
+    begins_imp,
 };
 use std::alloc::{AllocError, Global};
 

@@ -1,12 +1,12 @@
 -- Quotes without their ends and wrong ordinals, worked by hand.
-use Rattle.std.specs.Prelude.{◌≡◌, ℕ, List, [], ◌∷◌, ◌++◌, None, Some, codes, false, true}
+use Rattle.std.specs.Prelude.{◌≡◌, ℕ, List, [], ◌∷◌, ◌++◌, None, Some, codes}
 use Rattle.implib.specs.declared.def.lexer.TokenKind.{TokenKind}
 use Rattle.implib.specs.declared.def.lexer.TokenKind.TheVariants.{EqualEqual, Identifier, KwData, KwExports, KwLibrary}
 use Rattle.implib.specs.declared.def.listener.Role.{Role}
 use Rattle.implib.specs.declared.def.listener.Role.TheVariants.{Name, Other}
 use Rattle.implib.specs.Text.Heard.{Heard}
 use Rattle.implib_rules.specs.declared.form.Problem.TheVariants.{NoOrdinal, SecondOrdinal}
-use Rattle.implib_rules.specs.Forms.{Misplaced, misplaced_in, open_quote}
+use Rattle.implib_rules.specs.Forms.{misplaced_in, open_quote}
 
 -- a `"`
 abbrev pub quote : List ℕ

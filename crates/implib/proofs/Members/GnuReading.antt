@@ -1,16 +1,16 @@
 -- What GNU `ld` asks the DLL for by a short import, and lld.
-use Rattle.std.proofs.Common.{◌≡◌, ◌≤◌, ℕ, Bool, true, false, List, [], ap, arith, bytes_eq, if◌then◌else◌, inl, inr, refl, suc, sym, zero}
-use Rattle.std.specs.Prelude.{◌==◌, ◌&&◌, ◌||◌, ◌⊎◌, is_some, not}
+use Rattle.std.proofs.Common.{◌≡◌, ◌≤◌, ℕ, Bool, true, false, List, [], ap, arith, bytes_eq, if◌then◌else◌, inl, inr, refl, suc, zero}
+use Rattle.std.specs.Prelude.{◌==◌, ◌&&◌, is_some, not}
 use Rattle.std.proofs.lemmas.Slice.Eq.{bytes_eq-Decides}
 use Rattle.implib.specs.declared.machine.MachineType.{MachineType}
 use Rattle.implib.specs.declared.machine.MachineType.TheVariants.{I386, ARMNT, AMD64, ARM64}
 use Rattle.implib.specs.Ascii.{begins_with}
 use Rattle.implib.specs.Asked.{LinkersAskAlike}
-use Rattle.implib.specs.Definition.{ExportView, given_name}
+use Rattle.implib.specs.Definition.{ExportView}
 use Rattle.implib.specs.Formats.GnuReading.{ask_by_gnu, without_prefix_by_gnu}
 use Rattle.implib.specs.Formats.ShortImport.{ask_of_short_import, before_at_sign, without_prefix}
-use Rattle.implib.specs.Import.{Ask, Name, Ordinal, at_sign, holds, underscore}
-use Rattle.implib.specs.Machine.{has_leading_underscore, machine_number}
+use Rattle.implib.specs.Import.{Name, Ordinal, at_sign, holds, underscore}
+use Rattle.implib.specs.Machine.{has_leading_underscore}
 use Rattle.implib.specs.Members.Msvc.{name_type_of, short_import_of, short_import_symbol, symbol_or_name}
 
 -- by ordinal, or by the whole symbol, nothing depends on what is cut

@@ -3,7 +3,7 @@
 -- symbols have one (its versions 2.40 to 2.47, tried; docs/LINKERS.md).
 use Rattle.std.specs.Prelude.{ℕ, ◌==◌, ◌&&◌, not, List, if◌then◌else◌}
 use Rattle.implib.specs.Ascii.{begins_with}
-use Rattle.implib.specs.Formats.ShortImport.{ShortImport, ask_of_short_import, before_at_sign, import_name}
+use Rattle.implib.specs.Formats.ShortImport.{ShortImport, before_at_sign, import_name}
 use Rattle.implib.specs.Formats.ShortImport.{import_name_noprefix, import_ordinal, without_prefix}
 use Rattle.implib.specs.Import.{Ask, Name, Ordinal, underscore}
 

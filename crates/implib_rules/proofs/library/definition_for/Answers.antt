@@ -1,6 +1,6 @@
-use Rattle.std.proofs.Common.{◌≡◌, ◌∙◌, Option, Some, ap, inr, refl, rules, sym}
+use Rattle.std.proofs.Common.{◌≡◌, Some, ap, inr, refl, rules}
 use Rattle.std.specs.Option.{option_map}
-use Rattle.implib_rules.specs.Forms.{Misplaced, misplaced_in}
+use Rattle.implib_rules.specs.Forms.{misplaced_in}
 use Rattle.implib_rules.specs.Heard.{misplaced_view}
 use Rattle.implib_rules.specs.Options.{library_options_view}
 use Rattle.implib_rules.proofs.library.definition_for.Goals as goal
