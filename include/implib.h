@@ -235,7 +235,8 @@ static inline uint32_t implib_write(const struct implib_options *options, const 
 /*
  * Puts the warnings that the program implib_dlltool has of a definition with these options, under -v, at the
  * beginning of the buffer, and returns a status. It is IMPLIB_SUCCESS where there are none, too, and where the
- * definition has no name of the DLL, no members or no archive; what is no definition has no warnings.
+ * definition has no name of the DLL, no members or no archive; what is no definition by the grammar has no warnings.
+ * A quote that its line does not close, and a wrong ordinal, are told by implib_library_with alone.
  *
  * The arguments and the buffer are as of implib_library_with, with the encoding in the library's place. It has
  * numbers and texts as that of implib_members:

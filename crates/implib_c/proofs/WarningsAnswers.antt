@@ -13,6 +13,9 @@ use Rattle.implib_c.specs.WarningsAnswer.{HasNoWarnings, Made, NoOptions, Refuse
 use Rattle.implib_c.specs.WarningsGiven.{EncodesWarnings}
 use Rattle.implib_c.proofs.Fill.{fills_front}
 use Rattle.implib_c.proofs.WarningsBack.{warnings_back}
+use Rattle.implib.specs.Fault.{cause_of}
+use Rattle.implib.proofs.Text.RefusedWithin.{refused_within}
+use Rattle.implib_rules.specs.Library.{definition_text}
 use Rattle.implib_c.specs.GivenWith.{IsWithin}
 use Rattle.implib_c.proofs.Within.{refusal_within}
 use Rattle.implib_rules.specs.declared.library.Refusal.{Refusal}
@@ -22,7 +25,7 @@ use Rattle.implib_rules.specs.Options.{LibraryOptionsView}
 -- a refusal of warnings is within its text
 pub within_text : (text : List ℕ) (options : LibraryOptionsView) (why : Refusal) → HasNoWarnings text options why → IsWithin text why
 within_text text options (refusal.NotUtf8 position) is = refusal_within text options (refusal.NotUtf8 position) is
-within_text text options (refusal.Syntax fault position) is = refusal_within text options (refusal.Syntax fault position) is
+within_text text options (refusal.Syntax fault position) is = refused_within (definition_text text) (cause_of fault) position.offset is.refused.0
 within_text text options refusal.NoName is = absurd is
 within_text text options (refusal.Members fault position) is = absurd is
 within_text text options (refusal.Archive fault) is = absurd is

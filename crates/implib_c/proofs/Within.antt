@@ -1,5 +1,5 @@
 -- The offset of a refusal is within its text.
-use Rattle.std.proofs.Common.{ℕ, zero, suc, ◌+◌, ◌-◌, ◌<◌, ◌≤◌, ◌^◌, ◌==◌, Bool, true, false, List, [], ◌∷◌, Option, None, Some, length, drop, get_or, map, nat_eq, subst, sym, arith, if◌then◌else◌, length-append, ap, inl, inr}
+use Rattle.std.proofs.Common.{◌≡◌, ℕ, zero, suc, ◌+◌, ◌-◌, ◌<◌, ◌≤◌, ◌^◌, ◌==◌, Bool, true, false, List, [], ◌∷◌, Option, None, Some, length, drop, get_or, map, nat_eq, subst, sym, arith, if◌then◌else◌, length-append, ap, inl, inr}
 use Rattle.std.specs.Prelude.{is_some}
 use Rattle.std.specs.List.{AllByRecursion, fold, starts_with}
 use Rattle.std.specs.Str.{trim, trim_start}
@@ -89,11 +89,14 @@ export_within text (Some index) position at =
 open_within : (text : List ℕ) (reading : Reading) (at found : ℕ) → open_quote_from reading at text ≡ Some found → found ≤ at + length text
 unfolding open_quote_from
 open_within [] reading at found is = absurd (none-some found is)
-open_within (b ∷ rest) reading at found is = by (is_open reading b rest) is
+open_within (b ∷ rest) reading at found is = by (is_open reading b rest) (open_within rest (step_of reading b (b ∷ rest) rest).reading (at + 1) found) is
   where
-    by : (opens : Bool) → (if opens then Some at else open_quote_from (step_of reading b (b ∷ rest) rest).reading (at + 1) rest) ≡ Some found → found ≤ at + length (b ∷ rest)
-    by true is = let same = same_Some at found is in omega (arith, same)
-    by false is = let later = open_within rest (step_of reading b (b ∷ rest) rest).reading (at + 1) found is in omega (arith, later)
+    by : (opens : Bool)
+        → (open_quote_from (step_of reading b (b ∷ rest) rest).reading (at + 1) rest ≡ Some found → found ≤ at + 1 + length rest)
+        → (if opens then Some at else open_quote_from (step_of reading b (b ∷ rest) rest).reading (at + 1) rest) ≡ Some found
+        → found ≤ at + length (b ∷ rest)
+    by true later is = let same = same_Some at found is in omega (arith, same)
+    by false later is = let within = later is in omega (arith, within)
 
 module _ (end : ℕ) (text : List ℕ) where
   -- a wrong word is one of the tokens

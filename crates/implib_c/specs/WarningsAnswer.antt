@@ -1,10 +1,14 @@
 -- What `implib_warnings` answers: the warnings that the program `implib_dlltool` has of the text under these options
 -- (`implib_rules`).
 use Rattle.std.specs.Prelude.{◌≡◌, ℕ, ◌<◌, ◌≤◌, List, ◌++◌, Some, length, drop}
+use Rattle.implib.specs.declared.def.position.Position.{Position}
+use Rattle.implib.specs.declared.error.Fault.{Fault}
+use Rattle.implib.specs.Fault.{cause_of}
+use Rattle.implib.specs.Text.Position.{position_at}
 use Rattle.std.specs.Str.{IsUtf8}
 use Rattle.implib.specs.declared.machine.MachineType.TheVariants.{AMD64}
 use Rattle.implib.specs.Definition.{DefinitionView}
-use Rattle.implib.specs.Text.Parses.{Parses}
+use Rattle.implib.specs.Text.Parses.{Parses, RefusesAt}
 use Rattle.implib_c.specs.declared.status.Status.{Status}
 use Rattle.implib_c.specs.declared.status.Status.TheVariants as status
 use Rattle.implib_c.specs.LibraryWith.{GivenOptions, IsOptionFault, OptionFault, WithOptions, mark_length, option_status, place_of_refusal, refusal_status}
@@ -30,10 +34,16 @@ pub record HasWarnings (text : List ℕ) (options : LibraryOptionsView) (said : 
   pub counts : CountsMembers text options options.flavor count
   pub are : AreSaid (mark_length text) (text_warnings text ++ warnings_of options definition.exports places count) said
 
+-- the grammar refuses the text, at this token. An open quote or a wrong ordinal, which the program refuses beside, is
+-- none of its refusals: the library's call tells them.
+pub record IsUngrammatical (text : List ℕ) (fault : Fault) (position : Position) : Type 0 where
+  pub utf8 : IsUtf8 (definition_text text)
+  pub refused : RefusesAt (definition_text text) (cause_of fault) position.offset × (position ≡ position_at (definition_text text) position.offset)
+
 -- the text is no definition, or memory was refused
 abbrev pub HasNoWarnings : List ℕ → LibraryOptionsView → Refusal → Type 0
 HasNoWarnings text options (refusal.NotUtf8 position) = IsRefusalOfMembers text options (refusal.NotUtf8 position)
-HasNoWarnings text options (refusal.Syntax fault position) = IsRefusalOfMembers text options (refusal.Syntax fault position)
+HasNoWarnings text options (refusal.Syntax fault position) = IsUngrammatical text fault position
 HasNoWarnings text options refusal.NoName = ⊥
 HasNoWarnings text options (refusal.Members fault position) = ⊥
 HasNoWarnings text options (refusal.Archive fault) = ⊥
