@@ -1,2 +1,4 @@
+//! Tests of the program.
+
 mod calls;
 mod texts;

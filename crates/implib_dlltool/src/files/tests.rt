@@ -1,3 +1,5 @@
+//! Tests of the system's disk.
+
 use super::{Made, SystemDisk, settle};
 use implib_driver::disk::Disk;
 use std::fs::{Metadata, OpenFile, Permissions};

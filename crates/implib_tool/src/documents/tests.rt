@@ -1,3 +1,5 @@
+//! Tests of how the input is parted.
+
 use super::divide;
 use std::alloc::{AllocError, Global};
 use std::test::Fail;

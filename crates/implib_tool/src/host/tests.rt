@@ -1,3 +1,5 @@
+//! Tests of the host's streams.
+
 ghost use Rattle.std.specs.Prelude.{◌≤◌, IfOk};
 
 use super::Host;

@@ -1,3 +1,5 @@
+//! Tests of listings.
+
 use super::list_members;
 use crate::device::Sink;
 use crate::doubles::MemorySink;

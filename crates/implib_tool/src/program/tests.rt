@@ -1,3 +1,5 @@
+//! Tests of whole runs.
+
 use super::perform;
 use crate::doubles::{MemorySink, MemorySource};
 use crate::trials::{ANY, words_in};
