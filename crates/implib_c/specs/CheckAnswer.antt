@@ -1,6 +1,6 @@
 -- What `implib_check_library` answers: how a library compares with what a definition means under these options, as the
 -- program `implib_check` has it (`implib_compare`).
-use Rattle.std.specs.Prelude.{◌≡◌, ℕ, ◌<◌, ◌≤◌, List, ◌++◌, None, Some, length, drop}
+use Rattle.std.specs.Prelude.{◌≡◌, ℕ, ◌<◌, ◌≤◌, false, List, ◌++◌, None, Some, length, drop}
 use Rattle.std.specs.Option.{IsSome}
 use Rattle.implib_compare.specs.declared.compare.Verdict.{Verdict}
 use Rattle.implib_compare.specs.Meant.{IsVerdictOn}
@@ -24,7 +24,7 @@ pub record ComparesSo (bytes text : List ℕ) (options : LibraryOptionsView) (to
   pub read : library_in bytes ≡ Some members
   -- the verdict, with the definition's library and what is read of that
   pub verdict : Verdict
-  pub on : IsVerdictOn text options members verdict
+  pub on : IsVerdictOn false text options members verdict
   -- what is told: its verdict is this one
   pub is : told ≡ told_of archive members on.meant
   pub verdict_is : told.verdict ≡ verdict_number verdict

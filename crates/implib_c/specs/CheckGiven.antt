@@ -1,5 +1,5 @@
 -- Views: what the functions below `implib_check_library` give each other. No promise cites them.
-use Rattle.std.specs.Prelude.{◌≡◌, ℕ, List}
+use Rattle.std.specs.Prelude.{◌≡◌, ℕ, false, List}
 use Rattle.implib_compare.specs.declared.compare.Verdict.{Verdict}
 use Rattle.implib_compare.specs.Meant.{IsVerdictOn}
 use Rattle.implib_read.specs.Archives.{Archive}
@@ -16,5 +16,5 @@ pub record EncodesTold (told : Told) (bytes : List ℕ) : Type 0 where
 pub record EncodesCheck (archive : Archive) (members : List MemberRead) (text : List ℕ) (options : LibraryOptionsView)
     (bytes : List ℕ) : Type 0 where
   pub verdict : Verdict
-  pub on : IsVerdictOn text options members verdict
+  pub on : IsVerdictOn false text options members verdict
   pub encodes : EncodesTold (told_of archive members on.meant) bytes

@@ -77,6 +77,9 @@ worked_checks = record {
   long = refl;
   export_as = refl;
   lib = refl;
+  older = refl;
+  older_by_long_name = refl;
+  older_for_msvc = refl;
   no_definition_of_lib = refl;
   no_definition_of_export_as = refl;
   task = refl;
@@ -110,6 +113,7 @@ worked_targets = record {
   no_import = refl;
   told = refl;
   named = refl;
+  older_for_gnu = refl;
 }
 
 pub worked_definitions : WorkedDefinitions
@@ -151,6 +155,8 @@ worked_defines = record {
   no_library = refl;
   two_files = refl;
   no_value = refl;
+  older = refl;
+  older_for_msvc = refl;
   killed = refl;
   named = refl;
   last = refl;
@@ -189,6 +195,7 @@ worked_json = record {
   no_index = refl;
   unreadable = refl;
   misleading = refl;
+  cut_apart = refl;
   no_head = refl;
   several = refl;
   utf8 = refl;

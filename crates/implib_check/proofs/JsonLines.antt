@@ -10,7 +10,7 @@ use Rattle.implib.specs.declared.def.position.Position.{Position}
 use Rattle.implib_read.specs.Classes.{Class, AnImport, AnAlias, Descriptor, NullDescriptor, NullThunk, Head, Tail, DelayImport, Other, NotUnderstood, MemberRead}
 use Rattle.serde_json.specs.Data.{Data, Members, member, no_members, number, put, string, unsigned}
 use Rattle.serde_json.specs.Written.{has_float, members_have_float}
-use Rattle.implib_check.specs.Json.{Clash, Different, FaultOf, FaultView, FindingView, InDefinition, InLibrary, Listed, Missing, MisleadingEntry, NoIndex, NotOnePart, SeveralDlls, SideView, SiteView, UnreadableIndex}
+use Rattle.implib_check.specs.Json.{Clash, CutApart, Different, FaultOf, FaultView, FindingView, InDefinition, InLibrary, Listed, Missing, MisleadingEntry, NoIndex, NotOnePart, SeveralDlls, SideView, SiteView, UnreadableIndex}
 use Rattle.implib_check.specs.Json.{kind_word, object_of, piece_words, side_object, site_object, text_of, what_of, with_asked, with_class, with_fault, with_finding, with_member, with_name, with_number, with_position, with_side, with_sides, with_site, with_word}
 
 neither : (a b : Bool) → a ≡ false → b ≡ false → (a || b) ≡ false
@@ -104,6 +104,15 @@ fault_floatless (MisleadingEntry index entry) fields others =
     number_floatless (codes "offset") entry.place (with_name (codes "symbol") entry.symbol of_index)
     (name_floatless (codes "symbol") entry.symbol of_index
     (number_floatless (codes "index") index why (word_floatless (codes "why") (codes "entry misleads") fields others)))
+fault_floatless (CutApart m cut) fields others =
+    let why = with_word (codes "why") (codes "linkers cut differently") fields in
+    let of_offset = with_number (codes "offset") m.offset why in
+    let of_symbol = with_name (codes "symbol") cut.symbol of_offset in
+    let of_lld = with_name (codes "lld") cut.by_lld of_symbol in
+    name_floatless (codes "gnu") cut.by_gnu of_lld
+    (name_floatless (codes "lld") cut.by_lld of_symbol
+    (name_floatless (codes "symbol") cut.symbol of_offset
+    (number_floatless (codes "offset") m.offset why (word_floatless (codes "why") (codes "linkers cut differently") fields others))))
 fault_floatless (NotOnePart part) fields others =
     word_floatless (codes "part") (piece_words part) (with_word (codes "why") (codes "not one part") fields)
     (word_floatless (codes "why") (codes "not one part") fields others)

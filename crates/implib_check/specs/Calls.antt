@@ -1,8 +1,9 @@
 -- What the words of a call say that compares a library with a definition (this project's choice; the options are
 -- those of dlltool).
-use Rattle.std.specs.Prelude.{ℕ, ◌||◌, Bool, true, false, List, Option, Some, None, bytes_eq, codes, fold, if◌then◌else◌, is_none, length, nat_eq}
+use Rattle.std.specs.Prelude.{ℕ, ◌&&◌, ◌||◌, Bool, true, false, List, Option, Some, None, bytes_eq, codes, fold, if◌then◌else◌, is_none, length, nat_eq}
 use Rattle.std.specs.Option.{is_some, option_and_then, option_map}
 use Rattle.implib.specs.declared.flavor.Flavor.{Flavor}
+use Rattle.implib.specs.declared.flavor.Flavor.TheVariants.{Gnu, Msvc}
 use Rattle.implib.specs.declared.machine.MachineType.{MachineType}
 use Rattle.implib.specs.Ascii.{begins_with}
 use Rattle.implib.specs.Conversions.{flavor_named}
@@ -26,6 +27,8 @@ pub record CheckView : Type 0 where
   pub dll : Option (List ℕ)
   -- how names are read on I386
   pub naming : NamingView
+  -- whether addresses have their older symbols too
+  pub older_symbols : Bool
 
 -- the view of a comparison of the program
 abbrev pub check_view : Check → CheckView
@@ -36,6 +39,7 @@ check_view c = record {
   flavor = c.flavor;
   dll = option_map (λ text. text.now) c.dll;
   naming = naming_view c.naming;
+  older_symbols = c.older_symbols;
 }
 
 -- a library whose definition is asked for
@@ -46,10 +50,18 @@ pub record DefineView : Type 0 where
   pub flavor : Option Flavor
   -- whether symbols on I386 are words as they are
   pub is_plain : Bool
+  -- whether addresses have their older symbols too
+  pub older_symbols : Bool
 
 -- the view of what the program is asked
 abbrev pub define_view : Define → DefineView
-define_view d = record { library = d.library.now; machine = d.machine; flavor = d.flavor; is_plain = d.is_plain }
+define_view d = record {
+  library = d.library.now;
+  machine = d.machine;
+  flavor = d.flavor;
+  is_plain = d.is_plain;
+  older_symbols = d.older_symbols;
+}
 
 -- what words say so far
 pub record ReadingView : Type 0 where
@@ -59,6 +71,7 @@ pub record ReadingView : Type 0 where
   pub flavor : Option Flavor
   pub dll : Option (List ℕ)
   pub naming : NamingView
+  pub older_symbols : Bool
   -- the option whose value the next word is
   pub waiting : Option Setting
 
@@ -71,6 +84,7 @@ reading_view r = record {
   flavor = r.flavor;
   dll = option_map (λ text. text.now) r.dll;
   naming = naming_view r.naming;
+  older_symbols = r.older_symbols;
   waiting = r.waiting;
 }
 
@@ -83,6 +97,7 @@ unread_call = record {
   flavor = None;
   dll = None;
   naming = record { is_plain = false; kills_at = false; exports_as = false; keeps_decorated = false };
+  older_symbols = false;
   waiting = None;
 }
 
@@ -101,6 +116,7 @@ with_option option r =
     else if bytes_eq option (codes "--no-leading-underscore") then Some (record r { naming = record r.naming { is_plain = true } })
     else if bytes_eq option (codes "--export-as") then Some (record r { naming = record r.naming { exports_as = true } })
     else if bytes_eq option (codes "--lib") then Some (record r { naming = record r.naming { exports_as = true; keeps_decorated = true } })
+    else if bytes_eq option (codes "-C") || bytes_eq option (codes "--compat-implib") then Some (record r { older_symbols = true })
     else if bytes_eq option (codes "-m") then Some (record r { waiting = Some setting.Machine })
     else if bytes_eq option (codes "--machine") then Some (record r { waiting = Some setting.Machine })
     else if bytes_eq option (codes "-D") then Some (record r { waiting = Some setting.Dll })
@@ -132,6 +148,16 @@ after_word word r = after_word_of r.waiting word r
 abbrev pub said_by : Option ReadingView → List ℕ → Option ReadingView
 said_by found word = option_and_then (after_word word) found
 
+-- whether Microsoft's flavour is named
+abbrev pub are_for_msvc : Option Flavor → Bool
+are_for_msvc (Some Msvc) = true
+are_for_msvc (Some Gnu) = false
+are_for_msvc None = false
+
+-- Whether a flavour that is named has no older symbols, where they are asked for: they are GNU's (`implib_dlltool`).
+abbrev pub lacks_older : ReadingView → Bool
+lacks_older r = r.older_symbols && are_for_msvc r.flavor
+
 -- what two files say with options, none of which lacks its value
 abbrev pub check_of : Option (List ℕ) → Option (List ℕ) → Option Setting → ReadingView → Option CheckView
 check_of (Some library) (Some definition) None r = Some (record {
@@ -141,12 +167,13 @@ check_of (Some library) (Some definition) None r = Some (record {
   flavor = r.flavor;
   dll = r.dll;
   naming = r.naming;
+  older_symbols = r.older_symbols;
 })
 check_of _ _ _ r = None
 
 -- what all words say
 abbrev pub check_in : ReadingView → Option CheckView
-check_in r = check_of r.library r.definition r.waiting r
+check_in r = if lacks_older r then None else check_of r.library r.definition r.waiting r
 
 -- what words say
 abbrev pub said_by_all : List (List ℕ) → Option ReadingView
@@ -163,13 +190,14 @@ define_of (Some library) None None r = Some (record {
   machine = r.machine;
   flavor = r.flavor;
   is_plain = r.naming.is_plain;
+  older_symbols = r.older_symbols;
 })
 define_of _ _ _ r = None
 
 -- What all words say. A library has the name of its DLL and the names that it asks for itself, so no option says
 -- these.
 abbrev pub define_in : ReadingView → Option DefineView
-define_in r = if r.naming.kills_at || r.naming.exports_as || is_some r.dll then None else define_of r.library r.definition r.waiting r
+define_in r = if lacks_older r || (r.naming.kills_at || (r.naming.exports_as || is_some r.dll)) then None else define_of r.library r.definition r.waiting r
 
 -- the definition that words ask for
 abbrev pub define_called : List (List ℕ) → Option DefineView

@@ -1,14 +1,14 @@
 -- Which text is a definition of a library, and why a library has none (this project's choice).
-use Rattle.std.specs.Prelude.{◌≡◌, ℕ, true, false, List}
+use Rattle.std.specs.Prelude.{◌≡◌, ℕ, Bool, true, false, List}
 use Rattle.implib_read.specs.Classes.{MemberRead}
-use Rattle.implib_rules.specs.Library.{IsRefusalOfBytes}
 use Rattle.implib_rules.specs.Options.{LibraryOptionsView}
+use Rattle.implib_compare.specs.declared.compare.Verdict.{Verdict}
 use Rattle.implib_compare.specs.declared.compare.Verdict.TheVariants.{Different as TheyDiffer}
 use Rattle.implib_check.specs.declared.defining.Undefined.{Undefined}
 use Rattle.implib_check.specs.declared.defining.Undefined.TheVariants.{Different, Failed, Refused, Unread}
 use Rattle.implib_compare.specs.Comparison.{SayTheSame, has_unread}
 use Rattle.implib_check.specs.DefinitionText.{definition_text}
-use Rattle.implib_compare.specs.Meant.{IsVerdictOn}
+use Rattle.implib_compare.specs.Meant.{IsRefusalFor, IsVerdictOn}
 use Rattle.implib_check.specs.OwnLibraries.{IsDefinedBy}
 
 -- A text is a definition of a library under these options: by the grammar and by the rules of `implib_dlltool` it
@@ -21,10 +21,23 @@ pub record Defines (text : List ℕ) (options : LibraryOptionsView) (members : L
   -- no member of the library may import what is not read
   pub read : has_unread members ≡ false
 
+-- A text is a definition of a library that has the older symbols of addresses: the library that the text has with them
+-- does not differ from it, and no member of it may import what is not read.
+pub record DefinesWithOlder (text : List ℕ) (options : LibraryOptionsView) (members : List MemberRead) : Type 0 where
+  pub verdict : Verdict
+  pub on : IsVerdictOn true text options members verdict
+  pub same : verdict ≡ TheyDiffer → ⊥
+  pub read : has_unread members ≡ false
+
+-- a text is a definition of a library, with the older symbols of addresses or without
+abbrev pub DefinesFor : Bool → List ℕ → LibraryOptionsView → List MemberRead → Type 0
+DefinesFor true text options members = DefinesWithOlder text options members
+DefinesFor false text options members = Defines text options members
+
 -- Why a library has no definition: a member may import what is not read; or the text that says its imports, as far as
 -- a text can, is refused, or means others.
-abbrev pub IsUndefined : LibraryOptionsView → List MemberRead → Undefined → Type 0
-IsUndefined options members Unread = has_unread members ≡ true
-IsUndefined options members (Refused refusal) = IsRefusalOfBytes (definition_text options members) options refusal
-IsUndefined options members Different = IsVerdictOn (definition_text options members) options members TheyDiffer
-IsUndefined options members (Failed failure) = Unit {0}
+abbrev pub IsUndefined : Bool → LibraryOptionsView → List MemberRead → Undefined → Type 0
+IsUndefined older options members Unread = has_unread members ≡ true
+IsUndefined older options members (Refused refusal) = IsRefusalFor older (definition_text options members) options refusal
+IsUndefined older options members Different = IsVerdictOn older (definition_text options members) options members TheyDiffer
+IsUndefined older options members (Failed failure) = Unit {0}

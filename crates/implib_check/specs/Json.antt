@@ -4,7 +4,10 @@ use Rattle.std.specs.Str.Lossy.{replacement_bytes, utf8_valid_len}
 use Rattle.implib.specs.Import.{Ask, Name, Ordinal}
 use Rattle.implib.specs.declared.def.position.Position.{Position}
 use Rattle.implib_read.specs.Classes.{Class, AnImport, AnAlias, Descriptor, NullDescriptor, NullThunk, Head, Tail, DelayImport, Other, NotUnderstood, MemberRead}
+use Rattle.implib_read.specs.Archives.{StoredMember}
 use Rattle.implib_read.specs.ClassViews.{member_read_view}
+use Rattle.implib_read.specs.Cutting.{Cut}
+use Rattle.implib_read.specs.CuttingViews.{cut_apart_view}
 use Rattle.implib_read.specs.Indexes.{IndexEntry}
 use Rattle.implib_read.specs.IndexViews.{index_entry_view}
 use Rattle.implib_read.specs.declared.import.ImportKind.{ImportKind}
@@ -39,6 +42,7 @@ pub data FaultView : Type 0 where
   NoIndex : FaultView
   UnreadableIndex : ℕ → FaultView
   MisleadingEntry : ℕ → IndexEntry → FaultView
+  CutApart : StoredMember → Cut → FaultView
   NotOnePart : Piece → FaultView
   SeveralDlls : FaultView
 
@@ -62,6 +66,7 @@ abbrev pub fault_view : Fault → FaultView
 fault_view fault.NoIndex = NoIndex
 fault_view (fault.UnreadableIndex index) = UnreadableIndex index
 fault_view (fault.MisleadingEntry index entry) = MisleadingEntry index (index_entry_view entry.now)
+fault_view (fault.CutApart apart) = CutApart (cut_apart_view apart.now).0 (cut_apart_view apart.now).1
 fault_view (fault.NotOnePart part) = NotOnePart part
 fault_view fault.SeveralDlls = SeveralDlls
 
@@ -118,6 +123,7 @@ abbrev pub fault_word : FaultView → List ℕ
 fault_word NoIndex = codes "broken"
 fault_word (UnreadableIndex index) = codes "broken"
 fault_word (MisleadingEntry index entry) = codes "broken"
+fault_word (CutApart m cut) = codes "broken"
 fault_word (NotOnePart part) = codes "broken"
 fault_word SeveralDlls = codes "not decided"
 
@@ -198,6 +204,10 @@ with_fault (UnreadableIndex index) fields = with_number (codes "index") index (w
 with_fault (MisleadingEntry index entry) fields =
     with_number (codes "offset") entry.place
     (with_name (codes "symbol") entry.symbol (with_number (codes "index") index (with_word (codes "why") (codes "entry misleads") fields)))
+with_fault (CutApart m cut) fields =
+    with_name (codes "gnu") cut.by_gnu
+    (with_name (codes "lld") cut.by_lld
+    (with_name (codes "symbol") cut.symbol (with_number (codes "offset") m.offset (with_word (codes "why") (codes "linkers cut differently") fields))))
 with_fault (NotOnePart part) fields = with_word (codes "part") (piece_words part) (with_word (codes "why") (codes "not one part") fields)
 with_fault SeveralDlls fields = with_word (codes "why") (codes "several DLLs") fields
 

@@ -61,7 +61,7 @@ MeantIsMade = (definition : List ℕ) (options : LibraryOptionsView) (file : Lis
 -- The library that a definition has is told to be the same as the definition.
 abbrev pub MadeLibrariesAreTheSame : Type 0
 MadeLibrariesAreTheSame = (definition : List ℕ) (options : LibraryOptionsView) (file : List ℕ) (members : List MemberRead) (v : Verdict)
-    → IsLibrary definition options file → library_in file ≡ Some members → IsVerdictOn definition options members v → v ≡ Same
+    → IsLibrary definition options file → library_in file ≡ Some members → IsVerdictOn false definition options members v → v ≡ Same
 
 -- a library has the imports and aliases that a definition means: those of members that say what is made, in any order
 pub record SaysTheMade (definition : List ℕ) (options : LibraryOptionsView) (members : List MemberRead) : Type 0 where
@@ -72,4 +72,4 @@ pub record SaysTheMade (definition : List ℕ) (options : LibraryOptionsView) (m
 -- A library is told to be the same as a definition only where it has the imports and aliases that the definition means.
 abbrev pub SameSaysTheMade : Type 0
 SameSaysTheMade = (definition : List ℕ) (options : LibraryOptionsView) (members : List MemberRead)
-    → IsVerdictOn definition options members Same → SaysTheMade definition options members
+    → IsVerdictOn false definition options members Same → SaysTheMade definition options members

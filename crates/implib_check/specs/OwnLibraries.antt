@@ -60,7 +60,7 @@ MeantIsDefined = (definition : List ℕ) (options : LibraryOptionsView) (file : 
 -- The library that a definition has is told to be the same as the definition, where no short import has a third text.
 abbrev pub OwnLibrariesAreTheSame : Type 0
 OwnLibrariesAreTheSame = (definition : List ℕ) (options : LibraryOptionsView) (file : List ℕ) (members : List MemberRead) (v : Verdict)
-    → options.naming.exports_as ≡ false → IsLibrary definition options file → library_in file ≡ Some members → IsVerdictOn definition options members v
+    → options.naming.exports_as ≡ false → IsLibrary definition options file → library_in file ≡ Some members → IsVerdictOn false definition options members v
     → v ≡ Same
 
 -- a library has the imports and aliases that a definition means: those of members that say what is defined, in any order
@@ -73,4 +73,4 @@ pub record SaysTheDefined (definition : List ℕ) (options : LibraryOptionsView)
 -- and no short import of the definition's library has a third text.
 abbrev pub SameSaysTheDefined : Type 0
 SameSaysTheDefined = (definition : List ℕ) (options : LibraryOptionsView) (members : List MemberRead) → options.naming.exports_as ≡ false
-    → IsVerdictOn definition options members Same → SaysTheDefined definition options members
+    → IsVerdictOn false definition options members Same → SaysTheDefined definition options members

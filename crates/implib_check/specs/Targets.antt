@@ -1,5 +1,7 @@
 -- For which machine and linker a definition is compared with a library (this project's choice).
-use Rattle.std.specs.Prelude.{false, List, [], ◌∷◌, Option, None, unwrap_or}
+use Rattle.std.specs.Prelude.{Bool, false, List, [], ◌∷◌, Option, None, if◌then◌else◌, unwrap_or}
+use Rattle.implib.specs.declared.flavor.Flavor.{Flavor}
+use Rattle.implib.specs.declared.flavor.Flavor.TheVariants.{Gnu}
 use Rattle.implib.specs.declared.machine.MachineType.{MachineType}
 use Rattle.implib.specs.declared.machine.MachineType.TheVariants.{AMD64}
 use Rattle.implib.specs.Conversions.{machine_numbered}
@@ -28,12 +30,17 @@ abbrev pub machine_of : List MemberRead → MachineType
 machine_of [] = AMD64
 machine_of (m ∷ members) = unwrap_or (machine_of_class m.class) (machine_of members)
 
+-- The flavour that is named, and else that of the library; but GNU's where older symbols are asked for, which it alone
+-- has.
+abbrev pub flavor_for : Option Flavor → Bool → List MemberRead → Flavor
+flavor_for named older members = unwrap_or named (if older then Gnu else flavor_of members)
+
 -- What the library of a definition is made for, to be compared with a library: what a call names, and else the
 -- machine and the flavour of the library.
 abbrev pub options_for : CheckView → List MemberRead → LibraryOptionsView
 options_for check members = record {
   machine = unwrap_or check.machine (machine_of members);
-  flavor = unwrap_or check.flavor (flavor_of members);
+  flavor = flavor_for check.flavor check.older_symbols members;
   dll = check.dll;
   naming = check.naming;
   additions = no_additions;
@@ -43,7 +50,7 @@ options_for check members = record {
 abbrev pub options_of : DefineView → List MemberRead → LibraryOptionsView
 options_of define members = record {
   machine = unwrap_or define.machine (machine_of members);
-  flavor = unwrap_or define.flavor (flavor_of members);
+  flavor = flavor_for define.flavor define.older_symbols members;
   dll = None;
   naming = record { is_plain = define.is_plain; kills_at = false; exports_as = false; keeps_decorated = false };
   additions = no_additions;

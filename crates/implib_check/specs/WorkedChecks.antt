@@ -23,6 +23,7 @@ plain_check = record {
   flavor = None;
   dll = None;
   naming = record { is_plain = false; kills_at = false; exports_as = false; keeps_decorated = false };
+  older_symbols = false;
 }
 
 -- with each option
@@ -34,6 +35,7 @@ full_check = record {
   flavor = Some Gnu;
   dll = Some (codes "d/zoo.dll");
   naming = record { is_plain = true; kills_at = true; exports_as = false; keeps_decorated = false };
+  older_symbols = false;
 }
 
 -- What calls say, and some that say nothing.
@@ -50,6 +52,11 @@ pub record WorkedChecks : Type 0 where
       ≡ Some (record plain_check { naming = record { is_plain = false; kills_at = false; exports_as = true; keeps_decorated = false } })
   pub lib : check_called (codes "a.lib" ∷ codes "--lib" ∷ codes "a.def" ∷ codes "-m" ∷ codes "x86" ∷ [])
       ≡ Some (record plain_check { machine = Some I386; naming = record { is_plain = false; kills_at = false; exports_as = true; keeps_decorated = true } })
+  -- older symbols, which GNU's flavour alone has
+  pub older : check_called (codes "-C" ∷ codes "a.lib" ∷ codes "a.def" ∷ []) ≡ Some (record plain_check { older_symbols = true })
+  pub older_by_long_name : check_called (codes "a.lib" ∷ codes "a.def" ∷ codes "--compat-implib" ∷ codes "--flavor" ∷ codes "gnu" ∷ [])
+      ≡ Some (record plain_check { flavor = Some Gnu; older_symbols = true })
+  pub older_for_msvc : check_called (codes "a.lib" ∷ codes "a.def" ∷ codes "--flavor" ∷ codes "msvc" ∷ codes "-C" ∷ []) ≡ None
   pub no_definition_of_lib : define_called (codes "a.lib" ∷ codes "--lib" ∷ []) ≡ None
   pub no_definition_of_export_as : define_called (codes "a.lib" ∷ codes "--export-as" ∷ []) ≡ None
   pub task : task_named (codes "a.lib" ∷ codes "a.def" ∷ []) ≡ Some (Checks plain_check)
@@ -95,5 +102,12 @@ pub record WorkedTargets : Type 0 where
     flavor = Gnu;
     dll = Some (codes "d/zoo.dll");
     naming = record { is_plain = true; kills_at = true; exports_as = false; keeps_decorated = false };
+    additions = no_additions;
+  }
+  pub older_for_gnu : options_for (record plain_check { older_symbols = true }) (import_on Code 0xAA64 ∷ []) ≡ record {
+    machine = ARM64;
+    flavor = Gnu;
+    dll = None;
+    naming = record { is_plain = false; kills_at = false; exports_as = false; keeps_decorated = false };
     additions = no_additions;
   }

@@ -35,7 +35,7 @@ as_written = record { is_plain = true; kills_at = false; exports_as = false; kee
 
 -- the definition of a.lib is asked for, with no option
 abbrev pub plain_define : DefineView
-plain_define = record { library = codes "a.lib"; machine = None; flavor = None; is_plain = false }
+plain_define = record { library = codes "a.lib"; machine = None; flavor = None; is_plain = false; older_symbols = false }
 
 -- What the definitions of libraries are.
 pub record WorkedDefinitions : Type 0 where
@@ -89,10 +89,12 @@ pub record WorkedDefines : Type 0 where
   pub plain : task_named (codes "--def" ∷ codes "a.lib" ∷ []) ≡ Some (Defines plain_define)
   pub full : task_named
       (codes "--def" ∷ codes "--no-leading-underscore" ∷ codes "-m" ∷ codes "i386" ∷ codes "a.lib" ∷ codes "--flavor" ∷ codes "gnu" ∷ [])
-      ≡ Some (Defines (record { library = codes "a.lib"; machine = Some I386; flavor = Some Gnu; is_plain = true }))
+      ≡ Some (Defines (record { library = codes "a.lib"; machine = Some I386; flavor = Some Gnu; is_plain = true; older_symbols = false }))
   pub no_library : task_named (codes "--def" ∷ []) ≡ None
   pub two_files : task_named (codes "--def" ∷ codes "a.lib" ∷ codes "a.def" ∷ []) ≡ None
   pub no_value : task_named (codes "--def" ∷ codes "a.lib" ∷ codes "-m" ∷ []) ≡ None
+  pub older : define_called (codes "a.lib" ∷ codes "-C" ∷ []) ≡ Some (record plain_define { older_symbols = true })
+  pub older_for_msvc : define_called (codes "-C" ∷ codes "--flavor" ∷ codes "msvc" ∷ codes "a.lib" ∷ []) ≡ None
   pub killed : define_called (codes "a.lib" ∷ codes "-k" ∷ []) ≡ None
   pub named : define_called (codes "a.lib" ∷ codes "-D" ∷ codes "b.dll" ∷ []) ≡ None
   pub last : task_named (codes "a.lib" ∷ codes "--def" ∷ []) ≡ None

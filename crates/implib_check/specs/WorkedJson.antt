@@ -4,7 +4,7 @@ use Rattle.implib.specs.Import.{Name, Ordinal}
 use Rattle.implib_read.specs.Classes.{MemberRead}
 use Rattle.implib_read.specs.declared.import.ImportKind.TheVariants.{Code}
 use Rattle.serde_json.specs.Data.{Data, Members, member, no_members, number, object, string, unsigned}
-use Rattle.implib_check.specs.Json.{Clash, Different, FaultOf, InDefinition, InLibrary, Listed, Missing, MisleadingEntry, NoIndex, NotOnePart}
+use Rattle.implib_check.specs.Json.{Clash, CutApart, Different, FaultOf, InDefinition, InLibrary, Listed, Missing, MisleadingEntry, NoIndex, NotOnePart}
 use Rattle.implib_check.specs.Json.{SeveralDlls, SideView, UnreadableIndex, line_of, object_of, text_of}
 use Rattle.implib_compare.specs.Worked.{alias, feed, of_dll}
 use Rattle.implib_compare.specs.declared.working.Piece.TheVariants.{OfHead}
@@ -110,6 +110,15 @@ pub record WorkedJson : Type 0 where
       (word (codes "symbol") (codes "feed")
       (word (codes "what") (codes "broken")
       (word (codes "why") (codes "entry misleads") no_members))))))
+  pub cut_apart : object_of (FaultOf (codes "a.lib") (CutApart (record { name = codes "m"; offset = 92; bytes = [] })
+      (record { symbol = codes "__f"; by_lld = codes "_f"; by_gnu = codes "__f" }))) ≡ object
+      (word (codes "gnu") (codes "__f")
+      (word (codes "library") (codes "a.lib")
+      (word (codes "lld") (codes "_f")
+      (numeral (codes "offset") 92
+      (word (codes "symbol") (codes "__f")
+      (word (codes "what") (codes "broken")
+      (word (codes "why") (codes "linkers cut differently") no_members)))))))
   pub no_head : object_of (FaultOf (codes "a.lib") (NotOnePart OfHead)) ≡ object
       (word (codes "library") (codes "a.lib")
       (word (codes "part") (codes "head")

@@ -4,7 +4,7 @@ ghost use Rattle.std.specs.Prelude.{◌≡◌, map};
 ghost use Rattle.std.specs.Option.{option_and_then, option_map};
 ghost use Rattle.std.specs.String.{string_bytes};
 ghost use Rattle.implib_check.specs.Calls.{after_word, check_called, check_in, check_view, define_called, define_in, define_view};
-ghost use Rattle.implib_check.specs.Calls.{reading_view, said_by, said_by_all, unread_call, with_file, with_option, with_value};
+ghost use Rattle.implib_check.specs.Calls.{reading_view, said_by, said_by_all, are_for_msvc, lacks_older, unread_call, with_file, with_option, with_value};
 
 use implib::{Flavor, MachineType};
 use implib_rules::linked::Naming;
@@ -26,6 +26,8 @@ pub struct Check<'a> {
     pub dll: Option<&'a str>,
     /// How names are read on I386.
     pub naming: Naming,
+    /// Whether addresses have their older symbols too (`-C`).
+    pub older_symbols: bool,
 }
 
 /// A library whose definition is asked for, and what it is for.
@@ -39,6 +41,8 @@ pub struct Define<'a> {
     pub flavor: Option<Flavor>,
     /// Whether symbols on I386 are words as they are.
     pub is_plain: bool,
+    /// Whether addresses have their older symbols too (`-C`).
+    pub older_symbols: bool,
 }
 
 // An option that takes a value.
@@ -58,6 +62,7 @@ struct Reading<'a> {
     flavor: Option<Flavor>,
     dll: Option<&'a str>,
     naming: Naming,
+    older_symbols: bool,
     // The option whose value the next word is.
     waiting: Option<Setting>,
 }
@@ -78,6 +83,7 @@ fn unread_call<'a>() -> Reading<'a>
             exports_as: false,
             keeps_decorated: false,
         },
+        older_symbols: false,
         waiting: None,
     }
 }
@@ -151,6 +157,10 @@ fn with_option<'a>(option: &str, reading: Reading<'a>) -> Option<Reading<'a>>
             },
             ..reading
         }),
+        "-C" | "--compat-implib" => Some(Reading {
+            older_symbols: true,
+            ..reading
+        }),
         "-m" | "--machine" => Some(Reading {
             waiting: Some(Setting::Machine),
             ..reading
@@ -210,10 +220,30 @@ fn said_by<'a>(reading: Option<Reading<'a>>, word: &'a str) -> Option<Reading<'a
     }
 }
 
-// What all words say: there are two files, and no option lacks its value.
+// Whether Microsoft's flavour is named.
+fn are_for_msvc(flavor: Option<Flavor>) -> bool
+    ensures { result ≡ are_for_msvc flavor }
+{
+    match flavor {
+        Some(Flavor::Msvc) => true,
+        Some(Flavor::Gnu) | None => false,
+    }
+}
+
+// Whether older symbols are asked for, and the flavour that is named has none.
+fn lacks_older(reading: &Reading) -> bool
+    ensures { result ≡ lacks_older (reading_view reading.now) }
+{
+    reading.older_symbols && are_for_msvc(reading.flavor)
+}
+
+// What all words say: there are two files, no option lacks its value, and the flavour has what is asked for.
 fn check_in<'a>(reading: Reading<'a>) -> Option<Check<'a>>
     ensures { option_map check_view result ≡ check_in (reading_view reading.entry) }
 {
+    if lacks_older(&reading) {
+        return None;
+    }
     match (reading.library, reading.definition, reading.waiting) {
         (Some(library), Some(definition), None) => Some(Check {
             library,
@@ -222,6 +252,7 @@ fn check_in<'a>(reading: Reading<'a>) -> Option<Check<'a>>
             flavor: reading.flavor,
             dll: reading.dll,
             naming: reading.naming,
+            older_symbols: reading.older_symbols,
         }),
         _ => None,
     }
@@ -252,7 +283,9 @@ pub fn check_called(words: &[String]) -> Option<Check<'_>>
 fn define_in<'a>(reading: Reading<'a>) -> Option<Define<'a>>
     ensures { option_map define_view result ≡ define_in (reading_view reading.entry) }
 {
-    if reading.naming.kills_at || reading.naming.exports_as || reading.dll.is_some() {
+    if lacks_older(&reading)
+        || reading.naming.kills_at
+        || reading.naming.exports_as || reading.dll.is_some() {
         return None;
     }
     match (reading.library, reading.definition, reading.waiting) {
@@ -261,6 +294,7 @@ fn define_in<'a>(reading: Reading<'a>) -> Option<Define<'a>>
             machine: reading.machine,
             flavor: reading.flavor,
             is_plain: reading.naming.is_plain,
+            older_symbols: reading.older_symbols,
         }),
         _ => None,
     }

@@ -1,7 +1,7 @@
 //! The definition of a library.
 
 ghost use Rattle.std.specs.Prelude.{◌≡◌, false, map, IfErr, IfOk};
-ghost use Rattle.implib_check.specs.Defining.{Defines, IsUndefined};
+ghost use Rattle.implib_check.specs.Defining.{DefinesFor, IsUndefined};
 ghost use Rattle.implib_check.specs.DefinitionText.{definition_text};
 ghost use Rattle.implib_read.specs.ClassViews.{member_read_view};
 ghost use Rattle.implib_rules.specs.Options.{library_options_view};
@@ -30,7 +30,8 @@ pub enum Undefined {
 }
 
 /// The definition of a library: a text that means its imports and aliases. The text is held against the library, as
-/// any other definition; so what is not the library's meaning is never handed out. Differences are written.
+/// any other definition, with the older symbols of addresses or without; so what is not the library's meaning is never
+/// handed out. Differences are written.
 ///
 /// # Errors
 ///
@@ -43,11 +44,12 @@ pub fn definition_of<O: Write>(
     paths: (&str, &str),
     members: &[MemberRead],
     options: &LibraryOptions,
+    older_symbols: bool,
 ) -> Result<Vec<u8>, Undefined>
     requires { options.now.naming.exports_as ≡ false }
     ensures text { IfOk result (λ text. text.items ≡ definition_text (library_options_view options.now) (map member_read_view members.now)) }
-    ensures defines { IfOk result (λ text. Defines text.items (library_options_view options.now) (map member_read_view members.now)) }
-    ensures undefined { IfErr result (IsUndefined (library_options_view options.now) (map member_read_view members.now)) }
+    ensures defines { IfOk result (λ text. DefinesFor older_symbols text.items (library_options_view options.now) (map member_read_view members.now)) }
+    ensures undefined { IfErr result (IsUndefined older_symbols (library_options_view options.now) (map member_read_view members.now)) }
 {
     meant_is_defined();
     if has_unread(members) {
@@ -56,7 +58,16 @@ pub fn definition_of<O: Write>(
     let Ok(text) = definition_text(form.alloc, options, members) else {
         return Err(Undefined::Failed(Failure::OutOfMemory));
     };
-    match check_definition(form, printer, paths, members, &text, options) {
+    let checked = check_definition(
+        form,
+        printer,
+        paths,
+        members,
+        &text,
+        options,
+        older_symbols,
+    );
+    match checked {
         Ok(Verdict::Different) => Err(Undefined::Different),
         Ok(Verdict::Same) => Ok(text),
         Ok(Verdict::NotDecided) => Ok(text),

@@ -5,7 +5,6 @@ ghost use Rattle.implib_check.specs.Refused.{IsRefusalOfCheck};
 ghost use Rattle.implib_compare.specs.Meant.{IsVerdictOn};
 ghost use Rattle.implib_read.specs.Classes.{library_in};
 ghost use Rattle.implib_read.specs.ClassViews.{member_read_view};
-ghost use Rattle.implib_rules.specs.Library.{IsRefusalOfBytes};
 ghost use Rattle.implib_rules.specs.Options.{library_options_view};
 
 use crate::differences::tell_both;
@@ -13,7 +12,7 @@ use crate::finding::Source;
 use crate::positions::Positions;
 use crate::report::{Failure, Form};
 use implib_compare::compare::{Verdict, compare};
-use implib_compare::meant::library_meant;
+use implib_compare::meant::library_for;
 use implib_read::laws::own_members_found;
 use implib_read::{Library, MemberRead};
 use implib_rules::library::Refusal;
@@ -64,8 +63,8 @@ impl From<AllocError> for CheckError {
     }
 }
 
-/// Compares a library with what a definition means, and writes the differences. The library of the definition is made
-/// and then read as any other, so that both are told by one reader.
+/// Compares a library with what a definition means, and writes the differences. The library of the definition is made,
+/// with the older symbols of addresses or without, and then read as any other, so that both are told by one reader.
 ///
 /// # Errors
 ///
@@ -77,13 +76,14 @@ pub fn check_definition<O: Write>(
     members: &[MemberRead],
     definition: &[u8],
     options: &LibraryOptions,
+    older_symbols: bool,
 ) -> Result<Verdict, CheckError>
-    ensures verdict { IfOk result (IsVerdictOn definition.now (library_options_view options.now) (map member_read_view members.now)) }
-    ensures refused { IfErr result (IsRefusalOfCheck definition.now (library_options_view options.now)) }
+    ensures verdict { IfOk result (IsVerdictOn older_symbols definition.now (library_options_view options.now) (map member_read_view members.now)) }
+    ensures refused { IfErr result (IsRefusalOfCheck older_symbols definition.now (library_options_view options.now)) }
 {
     own_members_found();
     let alloc = form.alloc;
-    let file = library_meant(alloc, definition, options)?;
+    let file = library_for(alloc, definition, options, older_symbols)?;
     let Some(meant) = Library::read(alloc, &file)? else {
         unreachable!();
     };

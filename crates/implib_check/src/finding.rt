@@ -6,7 +6,7 @@ ghost use Rattle.implib_check.specs.Json.{piece_words};
 use crate::positions::Positions;
 use crate::text::{Listed, Place, Said, Shown, Site, symbol_of_member};
 use implib_compare::working::Piece;
-use implib_read::{IndexEntry, MemberRead};
+use implib_read::{CutApart, IndexEntry, MemberRead};
 use std::fmt;
 
 /// What members are from.
@@ -58,6 +58,8 @@ pub enum Fault<'e, 'a> {
     UnreadableIndex(u8),
     /// An entry of an index does not lead to the first member that declares its symbol.
     MisleadingEntry(u8, &'e IndexEntry<'a>),
+    /// Linkers ask for different names by a short import.
+    CutApart(&'e CutApart<'a>),
     /// A part of import tables is not there, or twice.
     NotOnePart(Piece),
     /// The imports are of two or more DLLs.
@@ -121,6 +123,16 @@ impl<'e, 'a> fmt::Display for Fault<'e, 'a> {
                 write!(
                     f,
                     "{index} leads {symbol} to 0x{place:x}, not to the first member that declares it"
+                )
+            }
+            Fault::CutApart(apart) => {
+                let offset = apart.member.offset;
+                let symbol = Shown(apart.cut.symbol);
+                let by_lld = Shown(apart.cut.by_lld);
+                let by_gnu = Shown(apart.cut.by_gnu);
+                write!(
+                    f,
+                    "{symbol}, at 0x{offset:x}: lld asks for {by_lld}, GNU ld for {by_gnu}"
                 )
             }
             Fault::NotOnePart(piece) => write!(f, "no {}, or two or more", piece_words(*piece)),

@@ -5,8 +5,9 @@ ghost use Rattle.std.specs.Str.Lossy.{utf8_valid_len};
 ghost use Rattle.std.specs.String.{string_bytes};
 ghost use Rattle.implib_check.specs.Json.{class_word, fault_view, finding_view, line_of, object_of, side_object, side_view, site_object, site_view, text_of};
 ghost use Rattle.implib_check.specs.Json.{what_of, with_asked, with_class, with_fault, with_finding, with_member, with_name, with_number, with_position};
-ghost use Rattle.implib_check.specs.Json.{with_side, with_sides, with_site, with_word, MisleadingEntry};
+ghost use Rattle.implib_check.specs.Json.{with_side, with_sides, with_site, with_word, CutApart as CutApartView, MisleadingEntry};
 ghost use Rattle.implib_read.specs.ClassViews.{class_view, member_read_view};
+ghost use Rattle.implib_read.specs.CuttingViews.{cut_apart_view};
 ghost use Rattle.implib_read.specs.ImportViews.{ask_view};
 ghost use Rattle.implib_read.specs.IndexViews.{index_entry_view};
 ghost use Rattle.serde_json.specs.View.{members_view, view};
@@ -14,7 +15,7 @@ ghost use Rattle.serde_json.specs.View.{members_view, view};
 use crate::finding::{Fault, Finding, Side, piece_words};
 use crate::text::{Site, kind_word};
 use implib::def::Position;
-use implib_read::{AskFound, IndexEntry, MemberClass, MemberRead};
+use implib_read::{AskFound, CutApart, IndexEntry, MemberClass, MemberRead};
 use serde_json::{Map, Value, put};
 use std::alloc::{AllocError, Global};
 
@@ -216,6 +217,17 @@ fn put_entry(
     put_number(fields, alloc, "offset", entry.place as usize)
 }
 
+// Adds a short import, and the names that linkers ask for by it.
+fn put_cut(fields: &mut Fields, alloc: Global, apart: &CutApart) -> Result<(), AllocError>
+    ensures { OnOk result (members_view fields.new.entries ≡ with_fault (CutApartView (cut_apart_view apart.now).0 (cut_apart_view apart.now).1) (members_view fields.old.entries)) }
+{
+    put_word(fields, alloc, "why", "linkers cut differently")?;
+    put_number(fields, alloc, "offset", apart.member.offset)?;
+    put_name(fields, alloc, "symbol", apart.cut.symbol)?;
+    put_name(fields, alloc, "lld", apart.cut.by_lld)?;
+    put_name(fields, alloc, "gnu", apart.cut.by_gnu)
+}
+
 // Adds why a library does not work.
 fn put_fault(fields: &mut Fields, alloc: Global, fault: &Fault) -> Result<(), AllocError>
     ensures { OnOk result (members_view fields.new.entries ≡ with_fault (fault_view fault.now) (members_view fields.old.entries)) }
@@ -227,6 +239,7 @@ fn put_fault(fields: &mut Fields, alloc: Global, fault: &Fault) -> Result<(), Al
             put_number(fields, alloc, "index", *number as usize)
         }
         Fault::MisleadingEntry(number, entry) => put_entry(fields, alloc, *number, entry),
+        Fault::CutApart(apart) => put_cut(fields, alloc, apart),
         Fault::NotOnePart(piece) => {
             put_word(fields, alloc, "why", "not one part")?;
             put_word(fields, alloc, "part", piece_words(*piece))

@@ -22,7 +22,7 @@ use implib_compare::compare::{Comparison, Verdict, compare, has_unread};
 use implib_compare::working::{
     Examined, IndexFound, Piece, Working, both_work, examine, has_one, working_status,
 };
-use implib_read::{Library, MemberRead, cut_at, dlls_of};
+use implib_read::{CutApart, Library, MemberRead, cut_at, dlls_of};
 use implib_rules::library::Refusal;
 use implib_rules::{ShownPlace, position_of};
 use indexmap::IndexSet;
@@ -38,9 +38,9 @@ const NAME: &str = "implib_check";
 // What the program prints for `--help`.
 const HELP: &str = "\
 usage: implib_check LIB DEF [-m MACHINE] [-k] [--no-leading-underscore]
-                    [--export-as] [--lib] [-D DLL] [--flavor FLAVOR]
+                    [--export-as] [--lib] [-C] [-D DLL] [--flavor FLAVOR]
                     [--json]
-       implib_check --def LIB [-m MACHINE] [--no-leading-underscore]
+       implib_check --def LIB [-m MACHINE] [--no-leading-underscore] [-C]
                     [--flavor FLAVOR]
        implib_check --list LIB [--json]
        implib_check --identify LIB
@@ -60,6 +60,8 @@ one of the definition; the differences.
   --export-as        names that are not made of their symbols stand beside them
   --lib              as implib_dlltool --lib: that, and on i386 words with an @
                      are symbols as they are
+  -C, --compat-implib
+                     as implib_dlltool -C: each address has its symbol ___imp.. too
   -D, --dllname      the DLL's name, before the definition's
   --flavor           msvc or gnu; without it the library's
   --def              a definition that means the library's imports and aliases,
@@ -72,8 +74,9 @@ one of the definition; the differences.
                      the differences
   --together         which symbols two of these libraries take from different
                      DLLs, or by different names, in one link
-  --works            whether the indexes lead to what they name, and the parts
-                     of the import tables are there once each
+  --works            whether the indexes lead to what they name, each linker
+                     asks for the same by the short imports, and the parts of
+                     the import tables are there once each
   --json             a JSON object in place of each line
   -h, --help
   -V, --version
@@ -401,7 +404,16 @@ fn run_check<R: Files + AllocGlobal, O: Write, E: Write>(
     let options = options_for(check, members);
     doubt(faults, check.library, members, true);
     let paths = (check.library, check.definition);
-    match check_definition(form, printer, paths, members, &definition, &options) {
+    let checked = check_definition(
+        form,
+        printer,
+        paths,
+        members,
+        &definition,
+        &options,
+        check.older_symbols,
+    );
+    match checked {
         Ok(verdict) => tell_checked(form, printer, faults, verdict, check.library, &library),
         Err(CheckError::Refused(refusal)) => refuse(faults, check.definition, &refusal),
         Err(CheckError::Failed(failure)) => status_of(faults, Err(failure), 3),
@@ -493,7 +505,8 @@ fn run_define<R: Files + AllocGlobal, O: Write, E: Write>(
         alloc: rt.alloc(),
         is_json: false,
     };
-    match definition_of(form, faults, (path, TRIED), members, &options) {
+    let paths = (path, TRIED);
+    match definition_of(form, faults, paths, members, &options, define.older_symbols) {
         Ok(text) => match printer.write_all(&text) {
             Ok(()) => 0,
             Err(error) => complain(faults, NAME, error, 3),
@@ -522,6 +535,23 @@ fn tell_index<O: Write>(
             form,
             printer,
             &Finding::Fault(path, Fault::MisleadingEntry(number, entry)),
+        )?;
+    }
+    Ok(())
+}
+
+// Writes the short imports by which linkers ask for different names.
+fn tell_cuts<O: Write>(
+    form: Form,
+    printer: &mut O,
+    path: &str,
+    cut: &[CutApart],
+) -> Result<(), Failure> {
+    for apart in cut {
+        tell(
+            form,
+            printer,
+            &Finding::Fault(path, Fault::CutApart(apart)),
         )?;
     }
     Ok(())
@@ -592,6 +622,7 @@ fn tell_working<O: Write>(
 ) -> Result<Working, Failure> {
     let examined = examine(form.alloc, library)?;
     tell_indexes(form, printer, path, &examined)?;
+    tell_cuts(form, printer, path, &examined.cut)?;
     if examined.dlls == 1 && !examined.is_whole {
         tell_tables(form, printer, path, examined.flavor, &library.members)?;
     }

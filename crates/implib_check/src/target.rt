@@ -2,7 +2,7 @@
 
 ghost use Rattle.std.specs.Prelude.{◌≡◌, map, unwrap_or};
 ghost use Rattle.implib_check.specs.Calls.{check_view, define_view};
-ghost use Rattle.implib_check.specs.Targets.{machine_of, machine_of_class, options_for, options_of};
+ghost use Rattle.implib_check.specs.Targets.{flavor_for, machine_of, machine_of_class, options_for, options_of};
 ghost use Rattle.implib_compare.specs.Flavors.{flavor_of};
 ghost use Rattle.implib_read.specs.ClassViews.{class_view, member_read_view};
 ghost use Rattle.implib_rules.specs.Options.{library_options_view};
@@ -47,13 +47,13 @@ fn machine_for(named: Option<MachineType>, members: &[MemberRead]) -> MachineTyp
     }
 }
 
-// The flavour that is named, or that of the library.
-fn flavor_for(named: Option<Flavor>, members: &[MemberRead]) -> Flavor
-    ensures { result ≡ unwrap_or named (flavor_of (map member_read_view members.now)) }
+// The flavour that is named, or GNU's for older symbols, or that of the library.
+fn flavor_for(named: Option<Flavor>, older_symbols: bool, members: &[MemberRead]) -> Flavor
+    ensures { result ≡ flavor_for named older_symbols (map member_read_view members.now) }
 {
     match named {
         Some(flavor) => flavor,
-        None => flavor_of(members),
+        None => if older_symbols { Flavor::Gnu } else { flavor_of(members) },
     }
 }
 
@@ -63,7 +63,7 @@ pub fn options_for<'a>(check: &Check<'a>, members: &[MemberRead]) -> LibraryOpti
 {
     LibraryOptions {
         machine: machine_for(check.machine, members),
-        flavor: flavor_for(check.flavor, members),
+        flavor: flavor_for(check.flavor, check.older_symbols, members),
         dll: check.dll,
         naming: check.naming,
         additions: Additions::none(),
@@ -76,7 +76,7 @@ pub fn options_of<'a>(define: &Define<'a>, members: &[MemberRead]) -> LibraryOpt
 {
     LibraryOptions {
         machine: machine_for(define.machine, members),
-        flavor: flavor_for(define.flavor, members),
+        flavor: flavor_for(define.flavor, define.older_symbols, members),
         dll: None,
         naming: Naming {
             is_plain: define.is_plain,

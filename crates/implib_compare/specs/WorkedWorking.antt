@@ -1,12 +1,12 @@
 -- Whether libraries work, worked by hand.
 use Rattle.std.specs.Prelude.{◌≡◌, ℕ, true, false, List, [], ◌∷◌, None, Some, codes}
 use Rattle.implib.specs.declared.flavor.Flavor.TheVariants.{Gnu, Msvc}
-use Rattle.implib_read.specs.Archives.{Part, StoredMember}
+use Rattle.implib_read.specs.Archives.{Archive, Part, StoredMember}
 use Rattle.implib_read.specs.Classes.{Descriptor, Head, NullDescriptor, NullThunk, Other, Tail}
 use Rattle.implib_read.specs.Indexes.{IndexEntry}
 use Rattle.implib_read.specs.MemberNames.{LinkerMember, LongNamesMember, MemberName, Named}
 use Rattle.implib_compare.specs.declared.working.Working.TheVariants.{Broken, NotDecided, Works}
-use Rattle.implib_compare.specs.Working.{both_work, first_misleads, has_whole_tables, linker_member, misled, second_misleads, working_status, works_of}
+use Rattle.implib_compare.specs.Working.{both_work, first_misleads, has_whole_tables, linker_member, misled, second_misleads, working_of, working_status, works_of}
 use Rattle.implib_compare.specs.Worked.{member}
 
 -- a part with one byte of data
@@ -24,6 +24,21 @@ short_import = record {
   offset = 0x48;
   bytes = 0 ∷ 0 ∷ 0xFF ∷ 0xFF ∷ 0 ∷ 0 ∷ 0x64 ∷ 0x86 ∷ 0 ∷ 0 ∷ 0 ∷ 0 ∷ 8 ∷ 0 ∷ 0 ∷ 0 ∷ 0 ∷ 0 ∷ 4 ∷ 0 ∷ codes "f\0d.dll\0";
 } ∷ []
+
+-- the same of `_f` without its prefix, by which lld asks for f and GNU `ld` for `_f`
+abbrev pub short_import_cut : List StoredMember
+short_import_cut = record {
+  name = codes "d.dll";
+  offset = 0x48;
+  bytes = 0 ∷ 0 ∷ 0xFF ∷ 0xFF ∷ 0 ∷ 0 ∷ 0x64 ∷ 0x86 ∷ 0 ∷ 0 ∷ 0 ∷ 0 ∷ 9 ∷ 0 ∷ 0 ∷ 0 ∷ 0 ∷ 0 ∷ 8 ∷ 0 ∷ codes "_f\0d.dll\0";
+} ∷ []
+
+-- an archive of members whose index leads a symbol to the first of them
+abbrev pub indexed : List ℕ → List StoredMember → Archive
+indexed symbol members = record {
+  parts = record { offset = 8; name = LinkerMember; contents = 0 ∷ 0 ∷ 0 ∷ 1 ∷ 0 ∷ 0 ∷ 0 ∷ 0x48 ∷ symbol } ∷ [];
+  members = members;
+}
 
 -- Which data the linker members have, where indexes mislead, and which libraries work.
 pub record WorkedWorking : Type 0 where
@@ -69,6 +84,9 @@ pub record WorkedWorking : Type 0 where
   pub misleads : works_of true true 0 true ≡ Broken
   pub unread : works_of false true 1 true ≡ NotDecided
   pub empty : works_of false false 0 false ≡ Works
+  -- a short import by which linkers ask for different names breaks a library that else works
+  pub asks_alike : working_of (indexed (codes "f\0") short_import) [] ≡ Works
+  pub cut_apart : working_of (indexed (codes "_f\0") short_import_cut) [] ≡ Broken
   pub two_dlls : works_of false false 2 true ≡ NotDecided
   pub done : working_status Works ≡ 0
   pub fails : working_status Broken ≡ 1

@@ -1,5 +1,5 @@
--- Whether a library works: whether its indexes lead to what they name, and its chains of import tables are whole
--- (this project's choice; docs/CHECK.md, "Whether a library works").
+-- Whether a library works: whether its indexes lead to what they name, each linker asks for the same by its short
+-- imports, and its chains of import tables are whole (this project's choice; docs/CHECK.md, "Whether a library works").
 use Rattle.std.specs.Prelude.{ℕ, ◌-◌, ◌==◌, Bool, true, false, ◌&&◌, ◌||◌, List, [], ◌∷◌, ◌++◌, Option, None, Some, bytes_eq, fold, if◌then◌else◌, length, map, unwrap_or}
 use Rattle.std.specs.List.{list_any}
 use Rattle.std.specs.Option.{option_map, option_map_or}
@@ -7,6 +7,7 @@ use Rattle.implib.specs.declared.flavor.Flavor.{Flavor}
 use Rattle.implib.specs.declared.flavor.Flavor.TheVariants.{Gnu, Msvc}
 use Rattle.implib_read.specs.Archives.{Archive, Part, StoredMember}
 use Rattle.implib_read.specs.Classes.{Class, Descriptor, NullDescriptor, NullThunk, Head, Tail, MemberRead}
+use Rattle.implib_read.specs.Cutting.{Cut, cut_apart}
 use Rattle.implib_read.specs.Identity.{dlls_of}
 use Rattle.implib_read.specs.Indexes.{IndexEntry, first_index_in, offset_numbered, second_index_in}
 use Rattle.implib_read.specs.Leads.{first_declarer, wrong_entries}
@@ -80,6 +81,13 @@ abbrev pub misled : Option (Option (List IndexEntry)) → Option (Option (List I
 misled None second = true
 misled (Some first) second = misled_by first || option_map_or misled_by second false
 
+-- Short imports.
+
+-- whether linkers ask for different names by some short import, given those by which they do
+abbrev pub is_some_cut : List (StoredMember × Cut) → Bool
+is_some_cut [] = false
+is_some_cut (c ∷ cuts) = true
+
 -- Import tables.
 
 -- whether a member is this part of import tables
@@ -113,8 +121,9 @@ abbrev pub has_whole_tables : Flavor → List MemberRead → Bool
 has_whole_tables Msvc members = has_one piece.OfDescriptor members && (has_one piece.OfNullDescriptor members && has_one piece.OfNullThunk members)
 has_whole_tables Gnu members = has_one piece.OfHead members && has_one piece.OfTail members
 
--- Whether a library works: given whether an index misleads, whether a member may import what is not read, of how many
--- DLLs the imports are, and whether the tables of one are whole. Of two DLLs the tables are not told apart.
+-- Whether a library works: given whether an index or a short import misleads, whether a member may import what is not
+-- read, of how many DLLs the imports are, and whether the tables of one are whole. Of two DLLs the tables are not told
+-- apart.
 abbrev pub works_of : Bool → Bool → ℕ → Bool → Working
 works_of misleads unread dlls whole =
     if misleads then Broken else if unread then NotDecided else if dlls == 0 then Works
@@ -123,7 +132,7 @@ works_of misleads unread dlls whole =
 -- whether a library works, given its archive and what each member is for
 abbrev pub working_of : Archive → List MemberRead → Working
 working_of a members =
-    works_of (misled (first_found a) (second_found a)) (has_unread members) (length (dlls_of members))
+    works_of (misled (first_found a) (second_found a) || is_some_cut (cut_apart a.members)) (has_unread members) (length (dlls_of members))
     (has_whole_tables (flavor_of members) members)
 
 -- of whether a library works: 0 it does, 1 it does not, 4 not decided

@@ -3,10 +3,12 @@
 ghost use Rattle.std.specs.Prelude.{◌≡◌, ◌==◌, false, length, map, IfOk, OnOk};
 ghost use Rattle.std.specs.Option.{option_map, option_map_or};
 ghost use Rattle.implib_compare.specs.Flavors.{flavor_of};
-ghost use Rattle.implib_compare.specs.Working.{both_work, first_entries, first_found, first_misleads, has_one, has_whole_tables, is_linker, is_piece, linker_member, misleading};
+ghost use Rattle.implib_compare.specs.Working.{both_work, first_entries, first_found, first_misleads, has_one, has_whole_tables, is_linker, is_piece, is_some_cut, linker_member, misleading};
 ghost use Rattle.implib_compare.specs.Working.{misled, misled_by, second_found, second_misleads, with_first, with_offset, working_of, working_status, works_of};
 ghost use Rattle.implib_read.specs.ArchiveViews.{archive_view, member_view, part_view};
 ghost use Rattle.implib_read.specs.ClassViews.{class_view, member_read_view};
+ghost use Rattle.implib_read.specs.Cutting.{cut_apart};
+ghost use Rattle.implib_read.specs.CuttingViews.{cut_apart_view};
 ghost use Rattle.implib_read.specs.Identity.{dlls_of};
 ghost use Rattle.implib_read.specs.IndexViews.{index_entry_view, second_index_view};
 ghost use Rattle.implib_read.specs.NameViews.{name_view};
@@ -15,8 +17,8 @@ use crate::compare::has_unread;
 use crate::flavor::flavor_of;
 use implib::Flavor;
 use implib_read::{
-    Archive, IndexEntry, Library, MemberClass, MemberName, MemberRead, Part, SecondIndex,
-    StoredMember, dlls_of, wrong_entries,
+    Archive, CutApart, IndexEntry, Library, MemberClass, MemberName, MemberRead, Part, SecondIndex,
+    StoredMember, cut_apart, dlls_of, wrong_entries,
 };
 use indexmap::IndexSet;
 use std::alloc::{AllocError, Global};
@@ -39,9 +41,11 @@ pub enum Piece {
 /// Whether a library works.
 #[derive(Clone, Copy, Debug)]
 pub enum Working {
-    /// Its indexes lead where they ought to, and its import tables are whole.
+    /// Its indexes lead where they ought to, linkers ask for the same by each short import, and its import tables are
+    /// whole.
     Works,
-    /// An index misleads or is not there, or a part of the import tables is not there once.
+    /// An index misleads or is not there, linkers ask for different names by a short import, or a part of the import
+    /// tables is not there once.
     Broken,
     /// A member may matter that is not read, or the imports are of two or more DLLs.
     NotDecided,
@@ -57,6 +61,8 @@ pub struct Examined<'a> {
     pub first: Option<IndexFound<'a>>,
     /// Of the second.
     pub second: Option<IndexFound<'a>>,
+    /// The short imports by which linkers ask for different names.
+    pub cut: Vec<CutApart<'a>>,
     /// For which linker the library is.
     pub flavor: Flavor,
     /// Of how many DLLs its imports are.
@@ -254,6 +260,13 @@ fn misled(first: &Option<IndexFound>, second: &Option<IndexFound>) -> bool
     }
 }
 
+// Whether there is a short import by which linkers ask for different names.
+fn is_some_cut(cut: &[CutApart]) -> bool
+    ensures { result ≡ is_some_cut (map cut_apart_view cut.now) }
+{
+    !cut.is_empty()
+}
+
 /// Whether a member is this part of import tables.
 pub fn is_piece(wanted: Piece, class: &MemberClass) -> bool
     ensures { result ≡ is_piece wanted (class_view class.now) }
@@ -312,8 +325,8 @@ pub fn has_whole_tables(flavor: Flavor, members: &[MemberRead]) -> bool
     }
 }
 
-/// Whether a library works, given whether an index misleads, whether a member may import what is not read, of how many
-/// DLLs the imports are, and whether the tables of one are whole.
+/// Whether a library works, given whether an index or a short import misleads, whether a member may import what is not
+/// read, of how many DLLs the imports are, and whether the tables of one are whole.
 pub fn works_of(misleads: bool, unread: bool, dlls: usize, whole: bool) -> Working
     ensures { result ≡ works_of misleads unread dlls whole }
 {
@@ -338,6 +351,7 @@ pub fn works_of(misleads: bool, unread: bool, dlls: usize, whole: bool) -> Worki
 pub fn examine<'a>(alloc: Global, library: &Library<'a>) -> Result<Examined<'a>, AllocError>
     ensures first { IfOk result (λ e. option_map (option_map (λ v. map index_entry_view v.items)) e.first ≡ first_found (archive_view library.now.archive)) }
     ensures second { IfOk result (λ e. option_map (option_map (λ v. map index_entry_view v.items)) e.second ≡ second_found (archive_view library.now.archive)) }
+    ensures cut { IfOk result (λ e. map cut_apart_view e.cut.items ≡ cut_apart (archive_view library.now.archive).members) }
     ensures flavor { IfOk result (λ e. e.flavor ≡ flavor_of (map member_read_view library.now.members.items)) }
     ensures dlls { IfOk result (λ e. e.dlls ≡ length (dlls_of (map member_read_view library.now.members.items))) }
     ensures whole { IfOk result (λ e. e.is_whole ≡ has_whole_tables e.flavor (map member_read_view library.now.members.items)) }
@@ -346,14 +360,16 @@ pub fn examine<'a>(alloc: Global, library: &Library<'a>) -> Result<Examined<'a>,
     let members = library.members.as_slice();
     let first = first_found(alloc, &library.archive)?;
     let second = second_found(alloc, &library.archive)?;
+    let cut = cut_apart(alloc, &library.archive.members)?;
     let flavor = flavor_of(members);
     let dlls = dlls_of(alloc, members)?.len();
     let is_whole = has_whole_tables(flavor, members);
-    let misleads = misled(&first, &second);
+    let misleads = misled(&first, &second) || is_some_cut(&cut);
     let working = works_of(misleads, has_unread(members), dlls, is_whole);
     Ok(Examined {
         first,
         second,
+        cut,
         flavor,
         dlls,
         is_whole,

@@ -12,6 +12,7 @@ use Rattle.implib_read.specs.MemberNames.{long_name_of, member_name, without_sla
 use Rattle.implib_read.specs.Objects.{entries_found, entry_at, object_found, object_of_found, records_in}
 use Rattle.implib_read.specs.ShortImports.{short_import_found}
 use Rattle.implib_read.specs.Symbols.{WorkedSymbols}
+use Rattle.implib_read.specs.WorkedCutting.{WorkedCuts}
 use Rattle.implib_read.specs.WorkedFiles.{WorkedChanges, WorkedIndexes, WorkedLeads, WorkedNames, WorkedParts, WorkedRoom, WorkedShortImports, worked_by_name, worked_exported, worked_first_index, worked_indexed, worked_no_slash, worked_second_index, worked_unpadded}
 use Rattle.implib_read.specs.WorkedLibraries.{WorkedLibraries, worked_dlltool, worked_ld, worked_llvm}
 
@@ -33,6 +34,25 @@ worked_short_imports = record {
   import_type = refl;
   name_type = refl;
   arm64ec = refl;
+}
+
+pub worked_cuts : WorkedCuts
+unfolding before_nul short_import_found u16_at u32_at
+worked_cuts = record {
+  amd64 = refl;
+  one_underscore = refl;
+  arm64_undecorated = refl;
+  armnt_data = refl;
+  i386 = refl;
+  i386_undecorated = refl;
+  question_mark = refl;
+  at_sign = refl;
+  no_prefix = refl;
+  by_name = refl;
+  by_ordinal = refl;
+  third_text = refl;
+  no_type = refl;
+  members = refl;
 }
 
 pub worked_parts : WorkedParts

@@ -4,6 +4,8 @@ pub mod Archives
 pub mod ArchiveViews
 pub mod Classes
 pub mod ClassViews
+pub mod Cutting
+pub mod CuttingViews
 pub mod Identity
 pub mod Files
 pub mod FileViews
@@ -21,6 +23,7 @@ pub mod Objects
 pub mod ObjectViews
 pub mod ShortImports
 pub mod Symbols
+pub mod WorkedCutting
 pub mod WorkedFiles
 pub mod WorkedLibraries
 pub mod OwnLibraries

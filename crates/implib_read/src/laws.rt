@@ -5,6 +5,7 @@ ghost use Rattle.implib_read.specs.Objects.{SameObjects};
 ghost use Rattle.implib_read.specs.OwnLibraries.{OwnGnuLibraries, OwnMembersFound, OwnMsvcLibraries};
 ghost use Rattle.implib_read.specs.ShortImports.{SameShortImports};
 ghost use Rattle.implib_read.specs.Symbols.{WorkedSymbols};
+ghost use Rattle.implib_read.specs.WorkedCutting.{WorkedCuts};
 ghost use Rattle.implib_read.specs.WorkedFiles.{WorkedChanges, WorkedIndexes, WorkedLeads, WorkedNames, WorkedParts, WorkedRoom, WorkedShortImports};
 ghost use Rattle.implib_read.specs.WorkedLibraries.{WorkedLibraries};
 ghost use Rattle.implib_read.specs.WorkedOwn.{WorkedOwnGnuLibraries, WorkedOwnLibraries};
@@ -33,6 +34,11 @@ pub fn worked_libraries()
 /// Short imports, byte by byte: what they mean, and bytes that are none.
 pub fn worked_short_imports()
     ensures { WorkedShortImports }
+{}
+
+/// By which short imports linkers ask for different names, byte by byte.
+pub fn worked_cuts()
+    ensures { WorkedCuts }
 {}
 
 /// Archives, byte by byte, and bytes that are none.

@@ -19,6 +19,7 @@
 mod alias;
 mod archive;
 mod class;
+mod cutting;
 mod definers;
 mod fields;
 mod file;
@@ -39,6 +40,7 @@ mod symbol;
 pub use alias::AliasFound;
 pub use archive::{Archive, Part, StoredMember, cut_at};
 pub use class::{MemberClass, MemberRead};
+pub use cutting::{Cut, CutApart, cut_apart};
 pub use file::FileFound;
 pub use identity::{dll_of, dlls_of};
 pub use import::{AskFound, DeclaredFound, ImportFound, ImportKind};

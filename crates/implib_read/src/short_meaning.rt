@@ -15,7 +15,7 @@ use implib::msvc::name_type::asked_by_name_type;
 const ARM64EC: u16 = 0xA641;
 
 /// What a short import asks for.
-fn ask_of_found<'a>(import: &ShortImport<'a>) -> Option<AskFound<'a>>
+pub(crate) fn ask_of_found<'a>(import: &ShortImport<'a>) -> Option<AskFound<'a>>
     ensures { option_map ask_view result ≡ ask_of_found (short_import_view import.now) }
 {
     if import.import_type > 2 || import.machine == ARM64EC {

@@ -41,7 +41,26 @@ word_stays before (b ∷ rest) stays = by (is_delimiter b) refl (word_stays befo
     by true ended others = rw (after_end before b rest ended) at stays
     by false inside others = on before b rest inside ∙ ap (λ l. b ∷ l) (others (rw (after_on before b rest inside) at stays))
 
+-- where a word and what follows it stay, what follows it does
+pub word_stayed : (before : Before) (text : List ℕ) → plain_from (in_word before) text ≡ text
+    → plain_from (in_word before) (after_all is_of_word text) ≡ after_all is_of_word text
+word_stayed before [] stays = stays
+word_stayed before (b ∷ rest) stays = by (is_delimiter b) refl (word_stayed before rest)
+  where
+    by : (test : Bool) → is_delimiter b ≡ test
+        → (plain_from (in_word before) rest ≡ rest → plain_from (in_word before) (after_all is_of_word rest) ≡ after_all is_of_word rest)
+        → plain_from (in_word before) (after_all is_of_word (b ∷ rest)) ≡ after_all is_of_word (b ∷ rest)
+    by true ended others = rw (after_end before b rest ended) stays
+    by false inside others = rw (after_on before b rest inside) (others (ap (drop 1) (sym (on before b rest inside) ∙ stays)))
+
 -- by the part that is read
+pub word_part_stayed : (reading : Reading) (text : List ℕ) → reading.part ≡ Word
+    → plain_from reading text ≡ text → plain_from reading (after_all is_of_word text) ≡ after_all is_of_word text
+word_part_stayed reading text is =
+    let same : reading ≡ in_word reading.before = ap (λ (part : Part). record reading { part = part }) is in
+    subst (λ (r : Reading). plain_from r text ≡ text → plain_from r (after_all is_of_word text) ≡ after_all is_of_word text) (sym same)
+    (word_stayed reading.before text)
+
 pub word_part_stays : (reading : Reading) (text : List ℕ) → reading.part ≡ Word
     → plain_from reading (after_all is_of_word text) ≡ after_all is_of_word text → plain_from reading text ≡ text
 word_part_stays reading text is =

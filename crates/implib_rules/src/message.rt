@@ -23,7 +23,8 @@ impl fmt::Display for Written {
             TokenKind::Identifier => "a name",
             TokenKind::Comma => "`,`",
             TokenKind::Equal => "`=`",
-            TokenKind::EqualEqual => "`==`",
+            // The words of other tools are replaced before a text is read (`plain`).
+            TokenKind::EqualEqual => "`==` or EXPORTAS",
             TokenKind::KwBase => "the word BASE",
             TokenKind::KwConstant => "the word CONSTANT",
             TokenKind::KwData => "the word DATA",
@@ -49,6 +50,9 @@ impl<'a> fmt::Display for FaultMessage<'a> {
             Fault::UnknownDirective(word) if word.is_empty() => {
                 f.write_str("expected a statement, as LIBRARY or EXPORTS")
             }
+            Fault::UnknownDirective(word) if word.as_str() == "==" => f.write_str(
+                "expected a statement, as LIBRARY or EXPORTS, not `==` or EXPORTAS",
+            ),
             Fault::UnknownDirective(word) => {
                 write!(
                     f,

@@ -756,6 +756,8 @@ pub(crate) const BEGINNING: Reading = Reading {
 fn after_kept_word(reading: Reading, text: &[u8]) -> &[u8]
     ensures stays { plain_from reading result.now ≡ result.now
         → plain_from reading text.now ≡ text.now }
+    ensures stayed { plain_from reading text.now ≡ text.now
+        → plain_from reading result.now ≡ result.now }
     ensures no_longer { length result.now ≤ length text.now }
 {
     match reading.part {
@@ -767,7 +769,8 @@ fn after_kept_word(reading: Reading, text: &[u8]) -> &[u8]
 /// Whether bytes are the text of their definition as they are.
 #[tactic(auto, unfolding(crate::specs::Plain::plain_from))]
 pub(crate) fn is_plain(bytes: &[u8]) -> bool
-    ensures { result ≡ true → plain_text bytes.now ≡ bytes.now }
+    ensures plain { result ≡ true → plain_text bytes.now ≡ bytes.now }
+    ensures always { plain_text bytes.now ≡ bytes.now → result ≡ true }
 {
     let mut reading = BEGINNING;
     let mut text = bytes;

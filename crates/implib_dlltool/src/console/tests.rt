@@ -1,3 +1,5 @@
+//! Tests of the lines that are said.
+
 use super::Console;
 use implib::Fault;
 use implib::def::Position;
@@ -62,7 +64,7 @@ fn tokens_are_told_as_they_are_written(rt: HostRuntime) -> Result<(), Fail> {
         (TokenKind::Equal, "a.def:3:2: expected a name, not `=`\n"),
         (
             TokenKind::EqualEqual,
-            "a.def:3:2: expected a name, not `==`\n",
+            "a.def:3:2: expected a name, not `==` or EXPORTAS\n",
         ),
         (
             TokenKind::KwBase,
