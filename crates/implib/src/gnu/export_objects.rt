@@ -16,7 +16,7 @@ ghost use Rattle.implib.specs.Views.KeptObjects.{long_name_size, stub_size};
 ghost use Rattle.std.specs.List.{slice_get, sum_by};
 ghost use Rattle.std.specs.Option.{option_map};
 ghost use Rattle.std.specs.Prelude.{string_bytes, true, ℕ, min};
-ghost use Rattle.std.specs.Prelude.{◌≡◌, ◌≤◌, ◌∷◌, [], IfOk, IfSome, List, OnOk, false, length};
+ghost use Rattle.std.specs.Prelude.{◌≡◌, ◌≤◌, ◌∷◌, [], IfOk, IfSome, List, MatchOption, None, OnOk, false, length};
 
 use crate::def::definition::ShortExport;
 use crate::error::{Error, Fault};
@@ -314,7 +314,8 @@ impl ExportObjects {
 
     /// The name of the member at an index; empty where there is none.
     pub fn name(&self, index: usize) -> &str
-        ensures { IfSome (slice_get self.now.members index) (λ m. result.now ≡ m.name) }
+        ensures member { IfSome (slice_get self.now.members index) (λ m. result.now ≡ m.name) }
+        ensures none { slice_get self.now.members index ≡ None → result.now ≡ [] }
     {
         match self.objects.get(index) {
             Some(kept) => kept.name.as_str(),
@@ -324,7 +325,9 @@ impl ExportObjects {
 
     /// The size of the bytes of the member at an index; 0 where there is none.
     pub fn size(&self, index: usize) -> usize
-        ensures { IfSome (slice_get self.now.members index) (λ m. result ≡ length m.bytes) }
+        ensures member { IfSome (slice_get self.now.members index)
+            (λ m. result ≡ length m.bytes) }
+        ensures none { slice_get self.now.members index ≡ None → result ≡ 0 }
     {
         match self.objects.get(index) {
             Some(kept) => kept.size(self.machine, self.head.as_str()),
@@ -334,7 +337,9 @@ impl ExportObjects {
 
     /// The number of archive symbols of the member at an index; 0 where there is none.
     pub fn symbol_count(&self, index: usize) -> usize
-        ensures { IfSome (slice_get self.now.members index) (λ m. result ≡ length m.symbols) }
+        ensures member { IfSome (slice_get self.now.members index)
+            (λ m. result ≡ length m.symbols) }
+        ensures none { slice_get self.now.members index ≡ None → result ≡ 0 }
     {
         match self.objects.get(index) {
             Some(kept) if kept.is_data => 1,
@@ -346,13 +351,15 @@ impl ExportObjects {
     /// An archive symbol of the member at an index: of a function its own at 0 and that of its
     /// address at 1, of data that of its address at 0; empty where there is none.
     pub fn symbol(&self, index: usize, number: usize) -> &str
-        ensures { IfSome (slice_get self.now.members index) (λ m. IfSome (slice_get m.symbols number)
+        ensures member { IfSome (slice_get self.now.members index) (λ m.
+            MatchOption (slice_get m.symbols number) (result.now ≡ [])
             (λ symbol. result.now ≡ symbol)) }
+        ensures none { slice_get self.now.members index ≡ None → result.now ≡ [] }
     {
         match self.objects.get(index) {
             Some(kept) if number == 0 && !kept.is_data => kept.symbol(),
-            Some(kept) => kept.address.as_str(),
-            None => "",
+            Some(kept) if number == 0 || (number == 1 && !kept.is_data) => kept.address.as_str(),
+            Some(_) | None => "",
         }
     }
 
@@ -362,8 +369,10 @@ impl ExportObjects {
     ///
     /// An allocation failed.
     pub fn bytes(&self, alloc: Global, index: usize) -> Result<Vec<u8>, AllocError>
-        ensures { IfOk result (λ bytes. IfSome (slice_get self.now.members index)
+        ensures member { IfOk result (λ bytes. IfSome (slice_get self.now.members index)
             (λ m. bytes.items ≡ m.bytes)) }
+        ensures none { IfOk result (λ bytes. slice_get self.now.members index ≡ None
+            → bytes.items ≡ []) }
     {
         match self.objects.get(index) {
             Some(kept) => kept.bytes(

@@ -11,7 +11,7 @@ ghost use Rattle.implib.specs.Views.KeptImports.{IsKept, KeepsMembers, kept_impo
 ghost use Rattle.implib.specs.Views.KeptImports.{kept_view};
 ghost use Rattle.std.specs.List.{slice_get};
 ghost use Rattle.std.specs.Prelude.{string_bytes, true, ℕ};
-ghost use Rattle.std.specs.Prelude.{◌≡◌, ◌≤◌, ◌==◌, ◌∷◌, [], IfOk, IfSome, List, OnOk, false, length};
+ghost use Rattle.std.specs.Prelude.{◌≡◌, ◌≤◌, ◌==◌, ◌∷◌, [], IfOk, IfSome, List, MatchOption, None, OnOk, false, length};
 
 use crate::coff::constants::import_type::IMPORT_DATA;
 use crate::def::definition::ShortExport;
@@ -196,16 +196,19 @@ impl ShortImports {
         self.imports.len()
     }
 
-    /// The name of the member at an index.
+    /// The name of the member at an index, which is the same at each: the library's.
     pub fn name(&self, _index: usize) -> &str
-        ensures { IfSome (slice_get self.now.members _index) (λ m. result.now ≡ m.name) }
+        ensures member { IfSome (slice_get self.now.members _index) (λ m. result.now ≡ m.name) }
+        ensures same { result.now ≡ self.now.dll.linked }
     {
         self.library.as_str()
     }
 
     /// The size of the bytes of the member at an index; 0 where there is none.
     pub fn size(&self, index: usize) -> usize
-        ensures { IfSome (slice_get self.now.members index) (λ m. result ≡ length m.bytes) }
+        ensures member { IfSome (slice_get self.now.members index)
+            (λ m. result ≡ length m.bytes) }
+        ensures none { slice_get self.now.members index ≡ None → result ≡ 0 }
     {
         match self.imports.get(index) {
             Some(kept) => SIZE_AROUND + kept.address.as_str().len() + self.dll.as_str().len(),
@@ -215,7 +218,9 @@ impl ShortImports {
 
     /// The number of archive symbols of the member at an index; 0 where there is none.
     pub fn symbol_count(&self, index: usize) -> usize
-        ensures { IfSome (slice_get self.now.members index) (λ m. result ≡ length m.symbols) }
+        ensures member { IfSome (slice_get self.now.members index)
+            (λ m. result ≡ length m.symbols) }
+        ensures none { slice_get self.now.members index ≡ None → result ≡ 0 }
     {
         match self.imports.get(index) {
             Some(kept) if kept.is_data() => 1,
@@ -227,13 +232,15 @@ impl ShortImports {
     /// An archive symbol of the member at an index: that of the import's address at 0, and at 1 the
     /// import's own; empty where there is none.
     pub fn symbol(&self, index: usize, number: usize) -> &str
-        ensures { IfSome (slice_get self.now.members index) (λ m. IfSome (slice_get m.symbols number)
+        ensures member { IfSome (slice_get self.now.members index) (λ m.
+            MatchOption (slice_get m.symbols number) (result.now ≡ [])
             (λ symbol. result.now ≡ symbol)) }
+        ensures none { slice_get self.now.members index ≡ None → result.now ≡ [] }
     {
         match self.imports.get(index) {
             Some(kept) if number == 0 => kept.address.as_str(),
-            Some(kept) => kept.symbol(),
-            None => "",
+            Some(kept) if number == 1 && !kept.is_data() => kept.symbol(),
+            Some(_) | None => "",
         }
     }
 
@@ -243,8 +250,10 @@ impl ShortImports {
     ///
     /// An allocation failed.
     pub fn bytes(&self, alloc: Global, index: usize) -> Result<Vec<u8>, AllocError>
-        ensures { IfOk result (λ bytes. IfSome (slice_get self.now.members index)
+        ensures member { IfOk result (λ bytes. IfSome (slice_get self.now.members index)
             (λ m. bytes.items ≡ m.bytes)) }
+        ensures none { IfOk result (λ bytes. slice_get self.now.members index ≡ None
+            → bytes.items ≡ []) }
     {
         match self.imports.get(index) {
             Some(kept) => kept
