@@ -9,6 +9,7 @@ pub mod NotRefused
 pub mod MemberReadings
 pub mod MemberMeanings
 pub mod MemberLists
+pub mod ListReadings
 pub mod KeptImports
 pub mod KeptObjects
 pub mod KeptLoop

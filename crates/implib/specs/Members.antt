@@ -14,6 +14,7 @@ pub mod ShortImports
 pub mod ExportObjects
 pub mod KeptMembers
 pub mod MemberLists
+pub mod ListsReadBack
 pub mod OlderSymbols
 pub mod ReadBack
 pub mod OfText

@@ -4,6 +4,7 @@ ghost use Rattle.implib.specs.Definition.{definition_view, export_view};
 ghost use Rattle.implib.specs.Fault.{IfInvalid, error_cause};
 ghost use Rattle.implib.specs.Library.{LibraryOf, library_view, member_view};
 ghost use Rattle.implib.specs.Members.KeptMembers.{kept_members};
+ghost use Rattle.implib.specs.Members.ListsReadBack.{ListsReadBack};
 ghost use Rattle.implib.specs.Members.MemberLists.{AreListsOf, lists_view};
 ghost use Rattle.implib.specs.Members.Members.{AreMembersOf, refusal};
 ghost use Rattle.implib.specs.Members.NameRules.{RefusesAlways};
@@ -155,6 +156,8 @@ impl ImportLibrary {
     pub(crate) fn into_msvc_member_lists(self) -> Result<MemberLists, Error>
         ensures ok { IfOk result (λ lists.
             AreListsOf self.definition self.machine (lists_view lists)) }
+        ensures reads { IfOk result (λ lists.
+            ListsReadBack self.definition self.machine (lists_view lists)) }
         ensures refused { IfInvalid result
             (λ cause. refusal self.definition self.machine Msvc ≡ Some cause) }
         ensures names_refused_always { RefusesAlways self.definition self.machine Msvc result }

@@ -91,10 +91,10 @@ weak_bytes_mean machine weak target (Err error) weak_free target_free same short
 weak_bytes_mean machine weak target (Ok bytes) weak_free target_free same short =
     ap meaning_in same ∙ weak_object_means machine weak target weak_free target_free short
 
-short_import_means : (machine : MachineType) (dll : List ℕ) (e : ExportView) → meaning_of (file_of (AShortImport (short_import_of machine dll e))) ≡ Some (AnImport (import_written machine dll e))
+pub short_import_means : (machine : MachineType) (dll : List ℕ) (e : ExportView) → meaning_of (file_of (AShortImport (short_import_of machine dll e))) ≡ Some (AnImport (import_written machine dll e))
 short_import_means machine dll e = ap (option_map AnImport) (import_of_short_import-short_import_of machine dll e)
 
-chosen_mean : (machine : MachineType) (dll : List ℕ) (e : ExportView) (test : Bool) →
+pub chosen_mean : (machine : MachineType) (dll : List ℕ) (e : ExportView) (test : Bool) →
     map (λ (p : MemberSpec). meaning_of (file_of p.contents)) (if test then weak_spec machine dll (short_import_symbol e) e.alias_target ∷ weak_spec machine dll (imp_symbol (short_import_symbol e)) (imp_symbol e.alias_target) ∷ [] else [])
     ≡ map (λ a. Some (AnAlias a)) (if test then record { weak = short_import_symbol e; target = e.alias_target } ∷ record { weak = imp_symbol (short_import_symbol e); target = imp_symbol e.alias_target } ∷ [] else [])
 chosen_mean machine dll e false = refl
@@ -184,7 +184,7 @@ public_plain (e ∷ exports) plain =
 
 -- The whole.
 
-dll_of_descriptor : (machine : MachineType) (dll : NamesOfDll) → holds 0 dll.text ≡ false → dll_of (ObjectFile (object_of (descriptor machine dll))) ≡ Some dll.text
+pub dll_of_descriptor : (machine : MachineType) (dll : NamesOfDll) → holds 0 dll.text ≡ false → dll_of (ObjectFile (object_of (descriptor machine dll))) ≡ Some dll.text
 unfolding descriptor object_of
 dll_of_descriptor machine dll free = before_nul-ended dll.text [] free
 
@@ -198,12 +198,12 @@ drop_header : (machine : MachineType) (dll : NamesOfDll) (specs : List MemberSpe
 unfolding header_specs descriptor_spec null_descriptor_spec null_thunk_spec
 drop_header machine dll specs = refl
 
-first_reads : (machine : MachineType) (dll : NamesOfDll) (specs : List MemberSpec) → AllByRecursion (λ p. ReadsBack p.contents) (header_specs machine dll ++ specs) →
+pub first_reads : (machine : MachineType) (dll : NamesOfDll) (specs : List MemberSpec) → AllByRecursion (λ p. ReadsBack p.contents) (header_specs machine dll ++ specs) →
     option_and_then (λ (m : MemberView). dll_in m.bytes) (slice_get (map member_of (header_specs machine dll ++ specs)) 0) ≡ dll_of (ObjectFile (object_of (descriptor machine dll)))
 unfolding header_specs descriptor_spec null_descriptor_spec null_thunk_spec
 first_reads machine dll specs reads = ap (option_and_then dll_of) reads.0.read
 
-member_specs_mean : (specs : List MemberSpec) → AllByRecursion (λ p. ReadsBack p.contents) specs →
+pub member_specs_mean : (specs : List MemberSpec) → AllByRecursion (λ p. ReadsBack p.contents) specs →
     map (λ (m : MemberView). meaning_in m.bytes) (map member_of specs) ≡ map (λ (p : MemberSpec). meaning_of (file_of p.contents)) specs
 member_specs_mean [] reads = refl
 member_specs_mean (p ∷ specs) reads =

@@ -9,6 +9,7 @@ ghost use Rattle.implib.specs.Members.Members.{AreMembersOf, has_u16_ordinal, me
 ghost use Rattle.implib.specs.Members.Members.{refusal};
 ghost use Rattle.implib.specs.Members.NameRules.{RefusesAlways, definition_names_refusal};
 ghost use Rattle.implib.specs.Members.NameRules.{holds_nul};
+ghost use Rattle.implib.specs.Members.ListsReadBack.{ListsReadBack};
 ghost use Rattle.implib.specs.Members.MemberLists.{AreListsOf, has_code, is_weak, lists_view};
 ghost use Rattle.implib.specs.Members.MsvcMembers.{export_specs, header_specs, member_count};
 ghost use Rattle.implib.specs.Members.MsvcMembers.{short_import_spec};
@@ -248,6 +249,8 @@ pub(crate) fn member_lists(def: ModuleDef, machine: MachineType) -> Result<Membe
     requires { is_renamed (map export_view def.exports.items) ≡ true }
     ensures ok { IfOk result (λ lists.
         AreListsOf (definition_view def) machine (lists_view lists)) }
+    ensures reads { IfOk result (λ lists.
+        ListsReadBack (definition_view def) machine (lists_view lists)) }
     ensures refused { IfInvalid result
         (λ cause. refusal (definition_view def) machine Msvc ≡ Some cause) }
     ensures names_refused_always { RefusesAlways (definition_view def) machine Msvc result }

@@ -1,6 +1,7 @@
 use Rattle.std.proofs.Common.{rules}
 use Rattle.implib.specs.declared.flavor.Flavor.TheVariants.{Msvc}
 use Rattle.implib.specs.Definition.{definition_view}
+use Rattle.implib.proofs.Members.ListReadings.{result_read_back}
 use Rattle.implib.proofs.Members.MembersOfDefinition.{lists_of, no_refusal_by_names, refused_by_length, refused_by_names, same_refusal_by_names}
 use Rattle.implib.proofs.Members.Renaming.{renamed_same}
 use Rattle.implib.proofs.msvc.members.member_lists.Goals as goal
@@ -20,6 +21,13 @@ returns-clause-ok c =
     let d = definition_view c.args.def in
     lists_of d c.args.machine c.named_lists.result (renamed_same d c.requires) (search rules)
     c.named_lists.ensures.made c.named_lists.ensures.ordinals
+
+pub returns-clause-reads : goal.returns-clause-reads
+returns-clause-reads c =
+    let d = definition_view c.args.def in
+    result_read_back d c.args.machine c.named_lists.result
+    (lists_of d c.args.machine c.named_lists.result (renamed_same d c.requires) (search rules)
+    c.named_lists.ensures.made c.named_lists.ensures.ordinals)
 
 pub returns-clause-refused : goal.returns-clause-refused
 returns-clause-refused c =
