@@ -65,7 +65,6 @@ module _ (machine : MachineType) (bases : Bases) (inputs : List LinkInput) (obje
         (gnu_entry machine bases inputs objects i j p e input chosen);
     within = subst (λ n. AllByRecursion (λ r. (bases.addresses ≤ r.start) × (range_end r ≤ n)) written) gnu_thunks
         (loaded_within machine image (placed_from bases objects) bases.descriptors bases.addresses (map (block_of_input machine) inputs) written loaded.within);
-    kept = loaded.kept;
   }
 
   module _ (gives : List ℕ → Ask → List ℕ) where
@@ -136,7 +135,6 @@ module _ (machine : MachineType) (bases : Bases) (inputs : List FlavorInput) (ob
         (bases.addresses + thunk_width machine * thunks_of i inputs) j loaded (flavors_entry machine bases inputs objects i j p e input chosen);
     within = subst (λ n. AllByRecursion (λ r. (bases.addresses ≤ r.start) × (range_end r ≤ n)) written) flavors_thunks
         (loaded_within machine image_of_flavors (placed_from bases objects) bases.descriptors bases.addresses (map (block_of_flavor machine) inputs) written loaded.within);
-    kept = loaded.kept;
   }
 
   module _ (gives : List ℕ → Ask → List ℕ) where

@@ -16,7 +16,7 @@ use Rattle.implib.proofs.Link.Ranges.{among_first, among_later}
 use Rattle.implib_link.specs.Gnu.Loaded.{Writes, entries_written}
 use Rattle.implib_link.specs.Gnu.Reading.{ReadsAndWrites}
 use Rattle.implib_link.specs.Tables.{AreTables, AreTablesLoaded, IsInTable, RiseFrom, Table, TableEntry, Tables, imported_by_table}
-use Rattle.implib_link.proofs.Gnu.Loaded.{behind_entries, entries_within, entry_located, kept_outside}
+use Rattle.implib_link.proofs.Gnu.Loaded.{behind_entries, entries_within, entry_located}
 use Rattle.implib_link.proofs.Gnu.Reading.{directory_can_be_read, directory_read}
 use Rattle.implib_link.proofs.Search.Lists.{contains_among}
 
@@ -128,7 +128,6 @@ module _ (machine : MachineType) (gives : List ℕ → Ask → List ℕ) where
                 (filled_at t.tables 0 t.image i j x e tables.rise at asked);
           };
           within = subst (AllByRecursion (IsInTable (thunk_width machine) t.tables)) (sym is) (filled_within t.tables);
-          kept = λ address none. kept_outside written t.image address none;
         }
 
 pub tables_read : (machine : MachineType) (t : Tables) (gives : List ℕ → Ask → List ℕ) (n : ℕ) (written : List Range) → AreTables machine t →

@@ -66,7 +66,6 @@ module _ (machine : MachineType) (descriptors addresses : ℕ) (taken : List Sho
         entry_holds machine (tables_of_lld machine descriptors addresses taken image linked) gives written (imp_symbol r.symbol) r.dll (ask_of_short_import r) (addresses + thunk_width machine * own.0) own.1.0 loaded own.1.1;
     within = subst (λ n. AllByRecursion (λ w. (addresses ≤ w.start) × (range_end w ≤ n)) written) all_thunks
         (loaded_within machine image linked descriptors addresses (map block_of_group (grouped taken)) written loaded.within);
-    kept = loaded.kept;
   }
 
   count_of : length (tables_of_lld machine descriptors addresses taken image linked).tables ≡ length (grouped taken)

@@ -1,10 +1,10 @@
 -- The loaded program: a loader walks the import directory and writes into each address table what the DLL
 -- gives for each ask.
-use Rattle.std.specs.Prelude.{◌≡◌, ℕ, ◌+◌, ◌*◌, ◌≤◌, false, List, [], ◌∷◌, ◌++◌, length, slice_get, Some}
-use Rattle.std.specs.List.{AllByRecursion, list_any}
+use Rattle.std.specs.Prelude.{◌≡◌, ℕ, ◌+◌, ◌*◌, ◌≤◌, List, [], ◌∷◌, ◌++◌, length, slice_get, Some}
+use Rattle.std.specs.List.{AllByRecursion}
 use Rattle.implib.specs.declared.machine.MachineType.{MachineType}
 use Rattle.implib.specs.Definition.{ExportView}
-use Rattle.implib.specs.Link.Image.{Range, byte_at, image_of, is_in, range_end}
+use Rattle.implib.specs.Link.Image.{Range, image_of, range_end}
 use Rattle.implib.specs.Import.{Ask, imp_symbol, expected_ask}
 use Rattle.implib.specs.Link.LinkedMembers.{LinkInput, chosen_exports}
 use Rattle.implib.specs.Link.Load.{BytesAt, NumberAt}
@@ -38,8 +38,7 @@ pub record HoldsAt (image : List Range) (linked : List Placed) (name : List ℕ)
 
 -- The program with what was written in front of its image, so that it counts first:
 -- `entries`: at each chosen export's `__imp_` symbol is what its DLL gives for what it asks;
--- `within`: what was written is in the address tables;
--- `kept`: where nothing was written, each byte is as it was linked: what was written is looked up first.
+-- `within`: what was written is in the address tables.
 pub record IsLoaded (machine : MachineType) (bases : Bases) (inputs : List LinkInput) (objects : List Object)
     (gives : List ℕ → Ask → List ℕ) (written : List Range) : Type 0 where
   pub entries : (i j : ℕ) (p : LinkInput) (e : ExportView) → slice_get inputs i ≡ Some p →
@@ -50,6 +49,3 @@ pub record IsLoaded (machine : MachineType) (bases : Bases) (inputs : List LinkI
       (λ r. (bases.addresses ≤ r.start)
       × (range_end r ≤ bases.addresses + thunk_width machine * thunks_before (length inputs) inputs))
       written
-  pub kept : (address : ℕ) → list_any (is_in address) written ≡ false →
-      byte_at (written ++ image_of machine bases (placed_from bases objects)) address
-      ≡ byte_at (image_of machine bases (placed_from bases objects)) address
