@@ -142,3 +142,10 @@ pub tables_end : (machine : MachineType) (t : Tables) (gives : List ℕ → Ask 
 tables_end machine t gives tables =
     subst (λ n. (written : List Range) × ReadsAndWrites t.image (thunk_width machine) gives n t.directory written) (length-map t.tables imported_by_table)
     (directory_can_be_read t.image (thunk_width machine) gives t.directory (map imported_by_table t.tables) tables.directory)
+
+-- what a loader can write that is handed the imports
+pub tables_can_be_written : (machine : MachineType) (t : Tables) (gives : List ℕ → Ask → List ℕ) → AreTables machine t →
+    (written : List Range) × Writes t.image (thunk_width machine) gives t.directory (map imported_by_table t.tables) written
+tables_can_be_written machine t gives tables =
+    let found = tables_end machine t gives tables in
+    (found.0, (directory_read t.image (thunk_width machine) gives (length t.tables) t.directory (map imported_by_table t.tables) found.0 tables.directory found.1).1)

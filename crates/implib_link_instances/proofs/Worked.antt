@@ -30,7 +30,6 @@ pub mod MsvcArchives
 pub mod Writing
 pub mod OtherLibraries
 pub mod MsvcClosed
-pub mod RebasedPointers
 pub mod Choices
 pub mod Instructions
 pub mod LinkedCode
@@ -51,7 +50,6 @@ pub mod NearSearches
 pub mod NearPrograms
 pub mod NearCode
 pub mod Instances
-pub mod MoreCalls
 pub mod NearLinks
 pub mod NearResults
 pub mod NearTaken

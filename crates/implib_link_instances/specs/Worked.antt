@@ -30,7 +30,6 @@ pub mod MsvcArchives
 pub mod Writing
 pub mod OtherLibraries
 pub mod MsvcClosed
-pub mod RebasedPointers
 pub mod Choices
 pub mod Instructions
 pub mod Operands
@@ -48,7 +47,6 @@ pub mod NearSearches
 pub mod NearPrograms
 pub mod NearCode
 pub mod Instances
-pub mod MoreCalls
 pub mod NearLinks
 pub mod NearResults
 pub mod NearTaken

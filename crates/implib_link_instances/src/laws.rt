@@ -24,7 +24,6 @@ pub mod operands;
 pub mod other_libraries;
 pub mod program;
 pub mod rebased;
-pub mod rebased_pointers;
 pub mod search;
 pub mod stubs;
 pub mod worked;

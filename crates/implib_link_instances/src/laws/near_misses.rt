@@ -4,15 +4,14 @@
 ghost use Rattle.implib_link_instances.specs.Worked.Instances.{CodeInstances, MachineInstances};
 ghost use Rattle.implib_link_instances.specs.Worked.Instances.{ProgramInstances, SectionInstances};
 ghost use Rattle.implib_link_instances.specs.Worked.Instances.{TypeInstances};
-ghost use Rattle.implib_link_instances.specs.Worked.MoreCalls.{WorkedFlavorPointers, WorkedI386Direct};
 ghost use Rattle.implib_link_instances.specs.Worked.NearCode.{NearCallArrives, NearDefines};
 ghost use Rattle.implib_link_instances.specs.Worked.NearCode.{NearDirectCallArrives, NearHasDirectCall};
 ghost use Rattle.implib_link_instances.specs.Worked.NearCode.{NearHasInstructions, NearHasLoad, NearHasPage};
-ghost use Rattle.implib_link_instances.specs.Worked.NearCode.{NearLoadArrives, NearStubArrives};
+ghost use Rattle.implib_link_instances.specs.Worked.NearCode.{NearLoadArrives, NearStubArrives, NearStubAt};
 ghost use Rattle.implib_link_instances.specs.Worked.NearLinks.{NearAreGiven};
 ghost use Rattle.implib_link_instances.specs.Worked.NearLinks.{NearAreGivenForMsvc, NearAreLinkedBeside};
 ghost use Rattle.implib_link_instances.specs.Worked.NearLinks.{NearAreMoved, NearArePiecesAt};
-ghost use Rattle.implib_link_instances.specs.Worked.NearLinks.{NearAreSections, NearCallReaches};
+ghost use Rattle.implib_link_instances.specs.Worked.NearLinks.{NearAreSections};
 ghost use Rattle.implib_link_instances.specs.Worked.NearLinks.{NearDefinesIn};
 ghost use Rattle.implib_link_instances.specs.Worked.NearLinks.{NearFindsBy, NearHasBranch};
 ghost use Rattle.implib_link_instances.specs.Worked.NearLinks.{NearHasField, NearHasInstruction, NearHasOperand};
@@ -46,9 +45,9 @@ ghost use Rattle.implib_link_instances.specs.Worked.NearSearches.{NearPullsIntoF
 ghost use Rattle.implib_link_instances.specs.Worked.NearTaken.{NearAreBounded, NearImportsWanted, NearIsArranged};
 ghost use Rattle.implib_link_instances.specs.Worked.NearTaken.{NearIsImportedBy, NearIsLinkedOfWanted, NearIsTaken};
 ghost use Rattle.implib_link_instances.specs.Worked.NearTaken.{NearRunLinks, NearTakesOfLibraries, NearTakesOfShorts};
-ghost use Rattle.implib_link_instances.specs.Worked.NearTables.{NearAreAlike, NearAreLoaded, NearBeginsWith};
+ghost use Rattle.implib_link_instances.specs.Worked.NearTables.{NearAreAlike, NearBeginsWith};
 ghost use Rattle.implib_link_instances.specs.Worked.NearTables.{NearGetsAddress, NearHoldsAt, NearIsInEntry};
-ghost use Rattle.implib_link_instances.specs.Worked.NearTables.{NearIsLoaded, NearLieWithin};
+ghost use Rattle.implib_link_instances.specs.Worked.NearTables.{NearLieWithin};
 
 /// What is not said of linked and loaded import tables: of their bounds, and of what a loader
 /// leaves.
@@ -56,8 +55,6 @@ pub fn near_misses_of_tables()
     ensures in_entry { NearIsInEntry }
     ensures begins { NearBeginsWith }
     ensures lie { NearLieWithin }
-    ensures loaded { NearIsLoaded }
-    ensures flavors_loaded { NearAreLoaded }
     ensures holds { NearHoldsAt }
     ensures alike { NearAreAlike }
     ensures gets { NearGetsAddress }
@@ -109,6 +106,7 @@ pub fn near_misses_of_code()
     ensures defines { NearDefines }
     ensures call_arrives { NearCallArrives }
     ensures stub_arrives { NearStubArrives }
+    ensures stub_at { NearStubAt }
     ensures load_arrives { NearLoadArrives }
     ensures direct_call_arrives { NearDirectCallArrives }
 {}
@@ -136,13 +134,6 @@ pub fn second_instances()
     ensures codes { CodeInstances }
 {}
 
-/// Direct calls on I386, as they were linked and at another base, and pointers of both flavours on
-/// I386 and ARM64, by hand.
-pub fn more_worked_calls()
-    ensures direct { WorkedI386Direct }
-    ensures pointers { WorkedFlavorPointers }
-{}
-
 /// What is no search at its end, no code beside the tables, and no moved program.
 pub fn near_misses_of_links()
     ensures are_given { NearAreGiven }
@@ -151,7 +142,6 @@ pub fn near_misses_of_links()
     ensures are_moved { NearAreMoved }
     ensures are_pieces_at { NearArePiecesAt }
     ensures are_sections { NearAreSections }
-    ensures call_reaches { NearCallReaches }
     ensures defines_in { NearDefinesIn }
     ensures finds_by { NearFindsBy }
     ensures has_branch { NearHasBranch }
