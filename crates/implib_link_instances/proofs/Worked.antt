@@ -39,7 +39,6 @@ pub mod FlavorFields
 pub mod Rules
 pub mod Lld
 pub mod LldPrograms
-pub mod MsvcExists
 pub mod NamedApart
 pub mod Aliases
 pub mod Readings

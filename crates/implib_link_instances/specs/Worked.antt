@@ -37,7 +37,6 @@ pub mod RefusedFields
 pub mod Rules
 pub mod Lld
 pub mod LldPrograms
-pub mod MsvcExists
 pub mod NamedApart
 pub mod Aliases
 pub mod Readings

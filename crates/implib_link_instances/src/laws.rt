@@ -15,7 +15,6 @@ pub mod lld_programs;
 pub mod machines;
 pub mod msvc_archives;
 pub mod msvc_closed;
-pub mod msvc_exists;
 pub mod msvc_search;
 pub mod named_apart;
 pub mod near_misses;

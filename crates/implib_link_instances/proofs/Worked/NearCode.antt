@@ -22,7 +22,7 @@ use Rattle.implib.specs.Link.Resolution.{is_undefined_external, symbol_address}
 use Rattle.implib_link.specs.Gnu.Calls.{IsAside, call_reads, direct_leads}
 use Rattle.implib_link.specs.Gnu.Pointers.{load_reads}
 use Rattle.implib_link.specs.Stub.{jump_reads}
-use Rattle.implib_link_instances.specs.Worked.NearCode.{NearCallArrives, NearDefines, NearDirectCallArrives, NearHasDirectCall, NearHasInstructions, NearHasLoad, NearHasPage, NearLoadArrives, NearStubArrives, call_code, imp_f, jump_code, left, page_code, NearStubAt, open_code, open_symbol}
+use Rattle.implib_link_instances.specs.Worked.NearCode.{NearCallArrives, NearDefines, NearDirectCallArrives, NearHasDirectCall, NearHasInstructions, NearHasLoad, NearHasPage, NearLoadArrives, NearStubArrives, call_code, imp_f, jump_code, left, page_code, NearStubAt, open_code}
 use Rattle.implib_link_instances.specs.Worked.Operands.{field, passing_placed}
 use Rattle.implib_link_instances.specs.Worked.Programs.{symbol_of_class, touching_8}
 use Rattle.implib_link_instances.specs.Worked.RefusedFields.{open_address, two_ranges}

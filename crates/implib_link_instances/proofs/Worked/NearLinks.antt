@@ -28,7 +28,7 @@ use Rattle.implib_link.specs.Search.Closed.{AreTakenInto}
 use Rattle.implib_link.specs.Search.Search.{IsTakenInTurn}
 use Rattle.implib_link_instances.specs.Worked.Calls.{calling_at, calling_objects, calling_placed}
 use Rattle.implib_link_instances.specs.Worked.Lld.{two_dlls}
-use Rattle.implib_link_instances.specs.Worked.NearLinks.{NearAreGiven, NearAreGivenForMsvc, NearAreLinkedBeside, NearAreMoved, NearArePiecesAt, NearAreSections, NearDefinesIn, NearFindsBy, NearHasBranch, NearHasField, NearHasOperand, NearIsClosedForMsvc, NearJumpsThrough, NearNames, NearResolves, NearTakes, NearTakesInto, NearTakesIntoFor, NearTakesSymbols, NearHasInstruction, jumping, jump_section, jumping_as, late_f, table_elsewhere}
+use Rattle.implib_link_instances.specs.Worked.NearLinks.{NearAreGiven, NearAreLinkedBeside, NearAreMoved, NearArePiecesAt, NearAreSections, NearDefinesIn, NearFindsBy, NearHasBranch, NearHasField, NearHasOperand, NearJumpsThrough, NearNames, NearResolves, NearTakes, NearTakesInto, NearTakesIntoFor, NearTakesSymbols, NearHasInstruction, jumping, jump_section, jumping_as, late_f, table_elsewhere}
 use Rattle.implib_link_instances.specs.Worked.NearSearches.{again, listing}
 use Rattle.implib_link_instances.specs.Worked.Operands.{field, imp_open, passing_at}
 use Rattle.implib_link_instances.specs.Worked.Programs.{program_placed, symbol_of_class, symbol_on, touching_8, code_object}
@@ -37,7 +37,7 @@ use Rattle.implib_link_instances.specs.Worked.Walks.{without_addresses, without_
 use Rattle.implib_link_instances.proofs.Worked.Lld.{lld_opened}
 use Rattle.implib_link_instances.proofs.Worked.NearCode.{entry_named}
 use Rattle.implib_link_instances.proofs.Worked.NearMisses.{none_passes}
-use Rattle.implib_link_instances.proofs.Worked.NearPrograms.{no_eights, no_name, nothing_there}
+use Rattle.implib_link_instances.proofs.Worked.NearPrograms.{no_name, nothing_there}
 use Rattle.implib_link_instances.proofs.Worked.NearSearches.{none_in, searched, twice}
 use Rattle.implib_link_instances.proofs.Worked.RefusedFields.{value}
 use Rattle.implib_link_instances.proofs.Worked.RefusedLinks.{differ, number, zero_4}
@@ -62,13 +62,6 @@ near_takes_into_for = record { in_turn = λ x. none_in x.in_turn.0.0 x.in_turn.0
 pub near_are_given : NearAreGiven
 unfolding searched
 near_are_given = record { names = λ x. true≢false x.names.0.head }
-
-pub near_are_given_for_msvc : NearAreGivenForMsvc
-unfolding searched
-near_are_given_for_msvc = record { names = λ x. true≢false x.names.0.null_descriptor }
-
-pub near_is_closed_for_msvc : NearIsClosedForMsvc
-near_is_closed_for_msvc = record { lookups = λ x. no_eights 0x2044 x.lookups refl; addresses = λ x. no_eights 0x2044 x.addresses refl }
 
 -- Stubs.
 

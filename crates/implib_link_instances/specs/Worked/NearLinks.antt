@@ -18,16 +18,12 @@ use Rattle.implib_link.specs.Gnu.Moves.{AreMoved}
 use Rattle.implib_link.specs.Gnu.Operands.{HasBranch, HasField, HasOperand, Names, HasInstruction}
 use Rattle.implib_link.specs.Search.Closed.{TakesInto}
 use Rattle.implib_link.specs.Search.Given.{AreGiven}
-use Rattle.implib_link.specs.Search.MsvcClosed.{IsClosedForMsvc, TakesIntoFor}
-use Rattle.implib_link.specs.Search.MsvcGiven.{AreGivenForMsvc}
+use Rattle.implib_link.specs.Search.MsvcClosed.{TakesIntoFor}
 use Rattle.implib_link.specs.Search.Search.{Takes}
 use Rattle.implib_link.specs.Stub.{JumpsThrough}
 use Rattle.implib_link_instances.specs.Worked.Calls.{calling_at, calling_objects, calling_placed}
-use Rattle.implib_link_instances.specs.Worked.Closed.{choosing}
 use Rattle.implib_link_instances.specs.Worked.Lld.{two_dlls}
-use Rattle.implib_link_instances.specs.Worked.MsvcArchives.{shorts_of_both, two_msvc}
-use Rattle.implib_link_instances.specs.Worked.MsvcClosed.{msvc_bases, msvc_objects, msvc_zed_first}
-use Rattle.implib_link_instances.specs.Worked.NearSearches.{again, listing, zed_library, zed_short}
+use Rattle.implib_link_instances.specs.Worked.NearSearches.{again, listing, zed_library}
 use Rattle.implib_link_instances.specs.Worked.Operands.{field, imp_open, passing_at, passing_code, passing_codes, passing_image, passing_placed, passing_targets, overlapping_at, open_on}
 use Rattle.implib_link_instances.specs.Worked.Programs.{code_object, program_placed, symbol_of_class, touching_4, touching_8}
 use Rattle.implib_link_instances.specs.Worked.RefusedLinks.{five_and_six, foo, ordinal_8, right_image}
@@ -49,17 +45,6 @@ pub record NearTakesIntoFor : Type 0 where
 pub record NearAreGiven : Type 0 where
   pub names : AreGiven AMD64 (zed_library ∷ [])
       (code_object (symbol_of_class (codes "_head_zed_dll") 0 class_external ∷ []) ∷ []) → ⊥
-
-pub record NearAreGivenForMsvc : Type 0 where
-  pub names : AreGivenForMsvc (zed_short (codes "queue") ∷ [])
-      (code_object (symbol_of_class (codes "__NULL_IMPORT_DESCRIPTOR") 0 class_external ∷ []) ∷ []) → ⊥
-
--- the closed program of Worked/MsvcClosed with its tables 4 bytes on
-pub record NearIsClosedForMsvc : Type 0 where
-  pub lookups : IsClosedForMsvc AMD64 two_msvc (choosing ∷ []) shorts_of_both msvc_zed_first
-      (record msvc_bases { lookups = 0x2044 }) msvc_objects → ⊥
-  pub addresses : IsClosedForMsvc AMD64 two_msvc (choosing ∷ []) shorts_of_both msvc_zed_first
-      (record msvc_bases { addresses = 0x2044 }) msvc_objects → ⊥
 
 -- I386's `jmp [0x400060]`, in an object whose symbol `f` is at a value of a section
 abbrev pub jump_section : ObjectSection
