@@ -1,10 +1,9 @@
 -- The whole way for libraries of both flavours, by the laws on it.
-use Rattle.std.proofs.Common.{◌<◌, List, length, map}
+use Rattle.std.proofs.Common.{◌<◌, ◌+◌, ◌*◌, List, length, map, ◌∙◌}
 use Rattle.std.specs.List.{AllByRecursion}
 use Rattle.implib.specs.declared.machine.MachineType.{MachineType}
 use Rattle.implib.specs.Formats.Object.{Object}
-use Rattle.implib.specs.Link.Image.{image_of}
-use Rattle.implib.specs.Link.Placement.{Bases, placed_from}
+use Rattle.implib.specs.Link.Placement.{Bases}
 use Rattle.implib.specs.Members.ImportTables.{thunk_width}
 use Rattle.implib.specs.Members.MemberSpec.{MemberView}
 use Rattle.implib_archive.specs.declared.kind.Kind.{Kind}
@@ -13,17 +12,20 @@ use Rattle.implib_archive_link.specs.InBytes.{LinkerMember, asks_with_on}
 use Rattle.implib_archive_link.specs.Results.{HaveArchive, IsEnding, TakesJust}
 use Rattle.implib_archive_link.proofs.Corollaries.{are_found_in_bytes, ending, given_short_taken}
 use Rattle.implib_archive_link.proofs.InBytes.{takes_just}
-use Rattle.implib_link.specs.Flavors.Program.{FlavorInput, IsMadeFor, imported_in}
+use Rattle.implib_link.specs.Flavors.Program.{FlavorInput, IsMadeFor, ask_in, dll_of, symbol_in, thunks_of}
 use Rattle.implib_link.specs.Search.BothFlavors.{AreGivenForBoth, FlavorLibrary, IsFlavorArchive, LinksClosedForBoth, archive_of_both, inputs_of_both, msvc_among}
 use Rattle.implib_link.specs.Search.Closed.{unresolved}
 use Rattle.implib_link.specs.Search.MsvcArchives.{short_inputs}
 use Rattle.implib_link.specs.Search.MsvcClosed.{TakesIntoFor, wanted_for}
-use Rattle.implib_link.proofs.CodeOfPrograms.{flavors_linked_reached}
-use Rattle.implib_link.proofs.Gnu.Reading.{directory_read}
-use Rattle.implib_link.proofs.LoadedPrograms.{flavors_reader_loads}
+use Rattle.implib_link.proofs.Flavors.Steady.{flavors_tables_none}
 use Rattle.implib_link.proofs.Search.BothArranged.{both_made}
 use Rattle.implib_link.proofs.Search.BothClosed.{closed_links_of_both}
 use Rattle.implib_link.proofs.Search.BothGiven.{both_given_closes, both_given_ends}
+use Rattle.implib_link.proofs.Tables.{tables_read}
+use Rattle.implib_link.proofs.TablesInMemory.{calls_beside}
+use Rattle.implib_link.proofs.TablesOfPrograms.{can_read, flavors_count, flavors_entry, flavors_tables}
+use Rattle.implib_link.specs.Tables.{AreTables, Tables, block_of_flavor, tables_at}
+use Rattle.implib.specs.Import.{imp_symbol}
 
 pub both_arrive : (machine : MachineType) (libraries : List FlavorLibrary) (own : List Object) (taken : List MemberView) (arranged : List FlavorLibrary) (bases : Bases) (objects : List Object) →
     IsFlavorArchive machine libraries → AreGivenForBoth machine libraries own → 0 < length (short_inputs (msvc_among libraries) (unresolved own)) → TakesIntoFor machine (archive_of_both libraries) own taken →
@@ -35,12 +37,14 @@ both_arrive machine libraries own taken arranged bases objects archive given som
     (record { closed = closed; admissible = linked.admissible; lookups = linked.lookups; addresses = linked.addresses; follows = linked.follows }) in
     let inputs : List FlavorInput = inputs_of_both machine arranged own taken in
     let made : AllByRecursion (IsMadeFor machine) inputs = both_made machine libraries arranged linked.order archive (wanted_for machine own taken) in
+    let own_tables : Tables = tables_at machine bases objects (map (block_of_flavor machine) inputs) in
+    let tables : AreTables machine own_tables = flavors_tables machine bases inputs objects made links.program in
     record {
       links = links;
-      ends = λ gives n written wide reads. (flavors_reader_loads machine bases inputs objects gives n written made links.program wide reads).0;
+      ends = λ gives n written wide reads. (tables_read machine own_tables gives n written tables wide reads).0 ∙ flavors_count machine bases inputs objects;
       calls = λ image_base codes targets gives n written i j p e c offset can beside wide reads input chosen held has.
-          (flavors_linked_reached machine image_base bases inputs objects codes targets gives written made links.program can beside wide
-          (directory_read (image_of machine bases (placed_from bases objects)) (thunk_width machine) gives n bases.descriptors (map (imported_in machine) inputs) written links.links.directory reads).1 i j p e input chosen).calls
+          (calls_beside machine image_base own_tables codes targets gives tables (flavors_tables_none machine bases inputs objects made links.program) beside n written wide reads (imp_symbol (symbol_in p.flavor e)) (dll_of p)
+          (ask_in p.flavor machine e) (bases.addresses + thunk_width machine * thunks_of i inputs) j (flavors_entry machine bases inputs objects i j p e input chosen) (can_read machine image_base bases (thunks_of i inputs) can)).calls
           c offset held has;
     }
 

@@ -46,13 +46,16 @@ use Rattle.implib_link.proofs.Flavors.Claims.{claims_asking, claims_descriptor, 
 use Rattle.implib_link.proofs.Flavors.Block.{FitsIn, asking}
 use Rattle.implib_link.proofs.Flavors.Expanded.{AskFits, taken_descriptor, taken_null, taken_null_thunk}
 use Rattle.implib_link.proofs.Flavors.Inputs.{descriptor_at, export_fits, null_at, read_of, short_at, thunk_at}
-use Rattle.implib_link.proofs.Flavors.LldPrograms.{lld_calls, lld_leads, lld_loads_in_memory}
+use Rattle.implib_link.proofs.Flavors.LldPrograms.{lld_calls, lld_count, lld_leads}
 use Rattle.implib_link.proofs.Search.ArchiveGroups.{first_is}
 use Rattle.implib_link.proofs.Search.Lists.{any_among, any_member, contains_among, none_listed}
 use Rattle.implib_link.proofs.Search.Msvc.{among_passing, passing_among, taken_name}
 use Rattle.implib_link.proofs.Search.MsvcArchives.{made_of}
 use Rattle.implib_link.proofs.Search.MsvcMembers.{Found, FoundDescriptor, FoundNull, FoundShort, FoundThunk, FoundWeak, claims_weak, descriptor_found, descriptor_is, descriptor_of, found, null_found, null_is, null_of, pair_there, short_found, short_is, short_of, taken_weak, thunk_found, thunk_is, thunk_of, weak_found, weak_is, weak_of}
 use Rattle.implib_link.proofs.Search.Search.{only_one}
+use Rattle.implib_link.proofs.TablesInMemory.{tables_load_in_memory}
+use Rattle.implib_link.proofs.TablesOfPrograms.{lld_tables}
+use Rattle.implib_link.specs.Tables.{tables_of_lld}
 
 -- The short import of an export, read in its member's bytes.
 
@@ -384,7 +387,10 @@ module _ (machine : MachineType) (libraries : List Library) (archive : IsMsvcArc
     shorts = short_taken;
     program = is_program alike own taken takes;
     loads = λ is_live descriptors addresses image linked built image_base codes targets memory gives steady at n written wide reads.
-        lld_loads_in_memory machine descriptors addresses (filter is_live (shorts_in machine taken)) image linked (is_program alike own taken takes is_live descriptors addresses image linked built) image_base codes targets memory gives steady at n written wide reads;
+        let program = is_program alike own taken takes is_live descriptors addresses image linked built in
+        let live : List ShortImport = filter is_live (shorts_in machine taken) in
+        let loaded = tables_load_in_memory machine image_base (tables_of_lld machine descriptors addresses live image linked) codes targets memory gives (lld_tables machine descriptors addresses live image linked program) steady at n written wide reads in
+        (loaded.0 ∙ lld_count machine descriptors addresses live image linked program, loaded.1);
     leads = λ is_live descriptors addresses image linked built image_base codes targets memory gives steady at n written wide reads l e wanted live can.
         subst (λ ask. AllLead machine image_base linked codes (written ++ memory) (imp_symbol (short_import_symbol e)) (gives l.definition.import_name ask)) (asks_so machine l e)
         (lld_leads machine descriptors addresses (filter is_live (shorts_in machine taken)) image linked (is_program alike own taken takes is_live descriptors addresses image linked built) image_base codes targets memory gives steady at n written wide reads (short_of_export machine l e)

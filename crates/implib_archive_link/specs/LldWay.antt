@@ -16,7 +16,6 @@ use Rattle.implib.specs.Members.Msvc.{short_import_of, short_import_symbol, shor
 use Rattle.implib.specs.declared.flavor.Flavor.TheVariants.{Msvc}
 use Rattle.implib_archive_link.specs.InBytes.{Asks, objects_for}
 use Rattle.implib_link.specs.Flavors.LldImports.{IsLldProgram, grouped, imp_symbols_of, imports_of_lld, in_small, placed_by_lld, short_for}
-use Rattle.implib_link.specs.Flavors.LldLoaded.{IsLldLoaded}
 use Rattle.implib_link.specs.Flavors.LldTables.{ArePiecesAt}
 use Rattle.implib_link.specs.Flavors.LldThunks.{BranchArrivesByThunk, IsThunk}
 use Rattle.implib_link.specs.Flavors.Program.{ask_in}
@@ -28,7 +27,7 @@ use Rattle.implib_link.specs.Gnu.Reading.{ReadsAndWrites}
 use Rattle.implib_link.specs.Search.Archives.{Library, exports_of}
 use Rattle.implib_link.specs.Search.Closed.{claims_of, references_of, unresolved}
 use Rattle.implib_link.specs.Search.MsvcArchives.{is_short_alias}
-use Rattle.implib_link.specs.Tables.{AreSteady, CanReadFrom}
+use Rattle.implib_link.specs.Tables.{AreSteady, AreTablesLoaded, CanReadFrom, tables_of_lld}
 
 -- whether bytes are a short import
 abbrev pub is_short : List ℕ → Bool
@@ -114,7 +113,8 @@ pub record LldArrives (machine : MachineType) (libraries : List Library) (own : 
       ((dll : List ℕ) (ask : Ask) → length (gives dll ask) ≡ thunk_width machine) →
       ReadsAndWrites memory (thunk_width machine) gives n descriptors written →
       (n ≡ length (grouped (filter is_live (shorts_in machine taken))))
-      × IsLldLoaded machine addresses (filter is_live (shorts_in machine taken)) image linked gives written
+      × AreTablesLoaded machine
+      (tables_of_lld machine descriptors addresses (filter is_live (shorts_in machine taken)) image linked) gives written
   pub leads : (is_live : ShortImport → Bool) (descriptors addresses : ℕ) (image : List Range)
       (linked : List Placed) →
       IsBuiltByLld machine descriptors addresses (filter is_live (shorts_in machine taken)) image linked →

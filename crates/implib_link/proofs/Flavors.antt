@@ -10,7 +10,6 @@ pub mod Texts
 pub mod Loaded
 pub mod Beside
 pub mod Writing
-pub mod MovedWriting
 pub mod Stubs
 pub mod Packed
 pub mod PlacedStubs

@@ -36,7 +36,6 @@ pub mod Writing
 pub mod Runs
 pub mod Whole
 pub mod OtherLibraries
-pub mod MovedWriting
 pub mod Choices
 pub mod MovedPrograms
 pub mod LinkedCodes

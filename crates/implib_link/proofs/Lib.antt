@@ -4,7 +4,4 @@ pub mod Search
 pub mod Tables
 pub mod PackedTables
 pub mod TablesOfPrograms
-pub mod LoadedPrograms
 pub mod TablesInMemory
-pub mod ProgramsInMemory
-pub mod CodeOfPrograms

@@ -1,5 +1,5 @@
 -- Tables that follow one another, each behind the null thunk of the one before it: where each is, and where its entries.
-use Rattle.std.proofs.Common.{◌≡◌, ℕ, zero, suc, ◌+◌, ◌*◌, ◌%◌, ◌^◌, ◌<◌, ◌≤◌, List, [], ◌∷◌, ◌++◌, length, map, Option, Some, refl, ap, sym, ◌∙◌, subst, inl, inr, arith}
+use Rattle.std.proofs.Common.{◌≡◌, ℕ, zero, suc, ◌+◌, ◌*◌, ◌%◌, ◌^◌, ◌<◌, ◌≤◌, List, [], ◌∷◌, length, map, Option, Some, refl, ap, sym, ◌∙◌, subst, arith}
 use Rattle.std.specs.Prelude.{slice_get}
 use Rattle.std.specs.List.{AllByRecursion}
 use Rattle.std.proofs.Math.Nat.{mul-add}
@@ -11,11 +11,8 @@ use Rattle.implib.specs.Link.Load.{NumberAt}
 use Rattle.implib.specs.Link.Placement.{Placed}
 use Rattle.implib.specs.Link.Resolution.{definitions_of}
 use Rattle.implib.specs.Members.ImportTables.{thunk_width}
-use Rattle.implib.proofs.Link.Ranges.{Among}
 use Rattle.implib_link.specs.Directory.{DirectoryAt, Imported}
-use Rattle.implib_link.specs.Gnu.Loaded.{HoldsAt}
-use Rattle.implib_link.specs.Tables.{AreTables, AreTablesLoaded, Block, CanReadFrom, IsInTable, RiseFrom, Table, TableEntry, Tables, imported_by_table, packed_tables}
-use Rattle.implib_link.proofs.Search.Lists.{contains_among}
+use Rattle.implib_link.specs.Tables.{AreTables, Block, CanReadFrom, RiseFrom, Table, TableEntry, Tables, imported_by_table, packed_tables}
 
 -- what is imported by a block
 abbrev pub imported_by_block : Block → Imported
@@ -98,25 +95,6 @@ packed_get width (c ∷ blocks) address (suc i) b is =
     packed_get width blocks (address + width * (length c.entries + 1)) i b is
     ∙ ap (λ a. Some (record { dll = b.dll; address = a; entries = b.entries })) (next_sum width address (length c.entries + 1) (entries_until i blocks))
 
-pub packed_within : (width : ℕ) (blocks : List Block) (address : ℕ) (x : Table) → Among x (packed_tables width address blocks) →
-    (address ≤ x.address) × (x.address + width * length x.entries ≤ address + width * entries_until (length blocks) blocks)
-unfolding Among
-packed_within width [] address x m = absurd m
-packed_within width (b ∷ blocks) address x (inl same) =
-    let past : width * (length b.entries + 1 + entries_until (length blocks) blocks) ≡ width * length b.entries + width * (1 + entries_until (length blocks) blocks) =
-    ap (λ n. width * n) (further (length b.entries) (entries_until (length blocks) blocks)) ∙ mul-add width (length b.entries) (1 + entries_until (length blocks) blocks) in
-    subst (λ (y : Table). (address ≤ y.address) × (y.address + width * length y.entries ≤ address + width * (length b.entries + 1 + entries_until (length blocks) blocks))) (sym same) (omega arith, omega arith)
-  where
-    further : (n m : ℕ) → n + 1 + m ≡ n + (1 + m)
-    further n m = omega arith
-packed_within width (b ∷ blocks) address x (inr m) =
-    let later = packed_within width blocks (address + width * (length b.entries + 1)) x m in
-    let low : address + width * (length b.entries + 1) ≤ x.address = later.0 in
-    let high : x.address + width * length x.entries ≤ address + width * (length b.entries + 1) + width * entries_until (length blocks) blocks = later.1 in
-    let sum : address + width * (length b.entries + 1) + width * entries_until (length blocks) blocks ≡ address + width * (length b.entries + 1 + entries_until (length blocks) blocks) =
-    next_sum width address (length b.entries + 1) (entries_until (length blocks) blocks) in
-    (omega arith, omega arith)
-
 -- a machine that can read from an address on can read each packed table
 eights : (a n : ℕ) → a % 8 ≡ 0 → (a + 8 * n) % 8 ≡ 0
 eights a n even = omega arith
@@ -144,14 +122,6 @@ pub record HasEntry (t : Tables) (name dll : List ℕ) (ask : Ask) (address j : 
   pub of_ask : entry.ask ≡ ask
   pub at : table.address ≡ address
 
--- at the entry is what was written
-pub entry_holds : (machine : MachineType) (t : Tables) (gives : List ℕ → Ask → List ℕ) (written : List Range) (name dll : List ℕ) (ask : Ask) (address j : ℕ) → AreTablesLoaded machine t gives written →
-    HasEntry t name dll ask address j → HoldsAt (written ++ t.image) t.linked name (gives dll ask)
-entry_holds machine t gives written name dll ask address j loaded own =
-    subst (λ d. HoldsAt (written ++ t.image) t.linked name (gives d ask)) own.of_dll
-    (subst (λ a. HoldsAt (written ++ t.image) t.linked name (gives own.table.dll a)) own.of_ask
-    (loaded.entries own.i j own.table own.entry name own.is own.asked own.symbol))
-
 module _ (machine : MachineType) (image : List Range) (linked : List Placed) (directory addresses : ℕ) (blocks : List Block) where
   abbrev pub packed : Tables
   packed = record { image = image; linked = linked; directory = directory; tables = packed_tables (thunk_width machine) addresses blocks }
@@ -170,16 +140,3 @@ module _ (machine : MachineType) (image : List Range) (linked : List Placed) (di
     of_ask = refl;
     at = refl;
   }
-
-  -- what is within tables is within all of them together
-  pub loaded_within : (written : List Range) → AllByRecursion (IsInTable (thunk_width machine) (packed_tables (thunk_width machine) addresses blocks)) written →
-      AllByRecursion (λ w. (addresses ≤ w.start) × (range_end w ≤ addresses + thunk_width machine * entries_until (length blocks) blocks)) written
-  loaded_within [] all = tt
-  loaded_within (w ∷ written) all =
-      let x : Table = all.0.table in
-      let bounds = packed_within (thunk_width machine) blocks addresses x (contains_among x (packed_tables (thunk_width machine) addresses blocks) all.0.held) in
-      let low : addresses ≤ x.address = bounds.0 in
-      let high : x.address + thunk_width machine * length x.entries ≤ addresses + thunk_width machine * entries_until (length blocks) blocks = bounds.1 in
-      let from : x.address ≤ w.start = all.0.from in
-      let to : range_end w ≤ x.address + thunk_width machine * length x.entries = all.0.to in
-      ((omega arith, omega arith), loaded_within written all.1)

@@ -16,7 +16,7 @@ use Rattle.implib.proofs.Link.Ranges.{among_first, among_later}
 use Rattle.implib_link.specs.Gnu.Loaded.{Writes, entries_written}
 use Rattle.implib_link.specs.Gnu.Reading.{ReadsAndWrites}
 use Rattle.implib_link.specs.Tables.{AreTables, AreTablesLoaded, IsInTable, RiseFrom, Table, TableEntry, Tables, imported_by_table}
-use Rattle.implib_link.proofs.Gnu.Loaded.{behind_entries, entries_within, entry_located, kept_outside}
+use Rattle.implib_link.proofs.Gnu.Loaded.{behind_entries, entries_within, entry_located}
 use Rattle.implib_link.proofs.Gnu.Reading.{directory_can_be_read, directory_read}
 use Rattle.implib_link.proofs.Search.Lists.{contains_among}
 
@@ -128,7 +128,6 @@ module _ (machine : MachineType) (gives : List ℕ → Ask → List ℕ) where
                 (filled_at t.tables 0 t.image i j x e tables.rise at asked);
           };
           within = subst (AllByRecursion (IsInTable (thunk_width machine) t.tables)) (sym is) (filled_within t.tables);
-          kept = λ address none. kept_outside written t.image address none;
         }
 
 pub tables_read : (machine : MachineType) (t : Tables) (gives : List ℕ → Ask → List ℕ) (n : ℕ) (written : List Range) → AreTables machine t →
@@ -143,3 +142,10 @@ pub tables_end : (machine : MachineType) (t : Tables) (gives : List ℕ → Ask 
 tables_end machine t gives tables =
     subst (λ n. (written : List Range) × ReadsAndWrites t.image (thunk_width machine) gives n t.directory written) (length-map t.tables imported_by_table)
     (directory_can_be_read t.image (thunk_width machine) gives t.directory (map imported_by_table t.tables) tables.directory)
+
+-- what a loader can write that is handed the imports
+pub tables_can_be_written : (machine : MachineType) (t : Tables) (gives : List ℕ → Ask → List ℕ) → AreTables machine t →
+    (written : List Range) × Writes t.image (thunk_width machine) gives t.directory (map imported_by_table t.tables) written
+tables_can_be_written machine t gives tables =
+    let found = tables_end machine t gives tables in
+    (found.0, (directory_read t.image (thunk_width machine) gives (length t.tables) t.directory (map imported_by_table t.tables) found.0 tables.directory found.1).1)

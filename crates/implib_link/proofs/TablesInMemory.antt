@@ -1,33 +1,37 @@
 -- Fields against the symbols of import tables lead to their entries, in memory at any base, whoever made the tables.
-use Rattle.std.proofs.Common.{◌≡◌, ℕ, ◌+◌, ◌*◌, ◌%◌, ◌^◌, ◌<◌, ◌≤◌, List, [], ◌∷◌, ◌++◌, length, map, Some, sym, ◌∙◌, subst, arith}
+use Rattle.std.proofs.Common.{◌≡◌, ℕ, ◌+◌, ◌*◌, ◌%◌, ◌^◌, ◌<◌, ◌≤◌, List, [], ◌∷◌, ◌++◌, length, map, Some, refl, ap, sym, ◌∙◌, subst, inl, arith}
 use Rattle.std.specs.Prelude.{slice_get}
 use Rattle.std.specs.List.{AllByRecursion, Contains}
 use Rattle.std.proofs.lemmas.List.{length-map}
 use Rattle.implib.specs.declared.machine.MachineType.{MachineType}
 use Rattle.implib.specs.declared.machine.MachineType.TheVariants.{I386, ARMNT, AMD64, ARM64}
 use Rattle.implib.specs.Formats.Object.{ObjectSymbol, section_numbered}
-use Rattle.implib.specs.Import.{Ask}
+use Rattle.implib.specs.Formats.ShortImport.{ShortImport}
+use Rattle.implib.specs.Import.{Ask, imp_symbol}
 use Rattle.implib.specs.Link.Image.{Range}
 use Rattle.implib.specs.Link.Load.{BytesAt}
-use Rattle.implib.specs.Link.Resolution.{definitions_of}
+use Rattle.implib.specs.Link.Resolution.{definitions_of, first_address}
 use Rattle.implib.specs.Members.ImportTables.{thunk_width}
-use Rattle.implib_link.specs.Gnu.Calls.{CanBranch, DirectCallArrives, HasDirectCall}
-use Rattle.implib_link.specs.Gnu.Fields.{DefinesIn, LinkedCode, placed_code, field_at}
+use Rattle.implib_link.specs.Flavors.LldThunks.{BranchArrivesByThunk, IsThunk, ThunkArrives}
+use Rattle.implib_link.specs.Gnu.Aliases.{ResolvesAliases, weak_target}
+use Rattle.implib_link.specs.Gnu.Calls.{CanBranch, DirectCallArrives, HasDirectCall, StubAt}
+use Rattle.implib_link.specs.Gnu.Fields.{AreLinkedBeside, DefinesIn, LinkedCode, placed_code, field_at, ranges_of_codes}
 use Rattle.implib_link.specs.Gnu.Loaded.{Writes}
 use Rattle.implib_link.specs.Gnu.Moves.{AreInMemory}
-use Rattle.implib_link.specs.Gnu.Operands.{AllLead, AreKept, BranchArrives, HasBranch, BranchStays}
+use Rattle.implib_link.specs.Gnu.Operands.{AllLead, AllLeadTo, AreKept, BranchArrives, HasBranch, BranchStays}
 use Rattle.implib_link.specs.Gnu.Reading.{ReadsAndWrites}
 use Rattle.implib_link.specs.Tables.{AreSteady, AreTables, AreTablesLoaded, CanReadFrom, Table, TableEntry, Tables, imported_by_table}
+use Rattle.implib_link.proofs.Flavors.LldThunks.{bare_symbol, thunk_arrives, thunk_defines, thunk_is}
 use Rattle.implib_link.proofs.Gnu.CallReads.{CanReach}
-use Rattle.implib_link.proofs.Gnu.FieldsInMemory.{Rests, part_there, rests}
+use Rattle.implib_link.proofs.Gnu.FieldsInMemory.{Rests, linked_rests, part_there, rests, settled_linked}
 use Rattle.implib_link.proofs.Gnu.CallsByName.{direct_arrives}
 use Rattle.implib_link.proofs.Gnu.UsualCode.{AreReached, usual_reached}
 use Rattle.implib_link.proofs.Gnu.Keeps.{bytes_kept, keeps_written, memory_can_be_read, memory_read, memory_reads}
 use Rattle.implib_link.proofs.Gnu.Memory.{Covers, byte_first, loaded_below, written_covers}
-use Rattle.implib_link.proofs.Gnu.Operands.{all_lead, branch_arrives, branch_stays}
+use Rattle.implib_link.proofs.Gnu.Operands.{all_lead, all_lead_to, branch_arrives, branch_stays}
+use Rattle.implib_link.proofs.Gnu.Reading.{directory_read}
 use Rattle.implib_link.proofs.Gnu.Stubs.{same_address, wide_thunk}
 use Rattle.implib_link.proofs.Gnu.OperandStubs.{stub_arrives}
-use Rattle.implib_link.proofs.Gnu.PlacedStubs.{StubAt}
 use Rattle.implib_link.specs.Gnu.Rebased.{StubArrives}
 use Rattle.implib.proofs.Link.Ranges.{all_among}
 use Rattle.implib_link.proofs.PackedTables.{HasEntry}
@@ -86,8 +90,10 @@ module _ (machine : MachineType) (image_base : ℕ) (t : Tables) (codes : List L
 
   -- a loader that is handed the imports writes what one does that reads them in memory
   pub written_read : (written : List Range) → Writes t.image (thunk_width machine) gives t.directory (map imported_by_table t.tables) written →
-      ReadsAndWrites memory (thunk_width machine) gives (length (map imported_by_table t.tables)) t.directory written
-  written_read written writes = memory_reads t.image memory resting.image_kept (thunk_width machine) gives t.directory (map imported_by_table t.tables) written tables.directory writes
+      ReadsAndWrites memory (thunk_width machine) gives (length t.tables) t.directory written
+  written_read written writes =
+      subst (λ n. ReadsAndWrites memory (thunk_width machine) gives n t.directory written) (length-map t.tables imported_by_table)
+      (memory_reads t.image memory resting.image_kept (thunk_width machine) gives t.directory (map imported_by_table t.tables) written tables.directory writes)
 
   module _ (n : ℕ) (written : List Range) (wide : (dll : List ℕ) (ask : Ask) → length (gives dll ask) ≡ thunk_width machine)
       (reads : ReadsAndWrites memory (thunk_width machine) gives n t.directory written) where
@@ -130,16 +136,6 @@ module _ (machine : MachineType) (image_base : ℕ) (t : Tables) (codes : List L
         all_lead machine image_base t.image t.linked codes targets memory resting written covering name (gives dll ask) (address + thunk_width machine * j) known.once known.small
         (entry_reached machine image_base address j can) known.located
 
-    -- a stub of the entry
-    pub entry_stub : (name dll : List ℕ) (ask : Ask) (address j : ℕ) → HasEntry t name dll ask address j → CanReadFrom machine image_base address → (d : LinkedCode) (s : ObjectSymbol) → Contains codes d →
-        StubAt machine t.linked (placed_code d) s (address + thunk_width machine * j) → (s.value ≡ 0) × StubArrives machine image_base (written ++ memory) d.position (gives dll ask)
-    entry_stub name dll ask address j own can d s held stub =
-        let known = entry_known name dll ask address j own in (
-          stub.begins,
-          stub_arrives machine image_base t.image t.linked codes targets memory resting written covering name (gives dll ask) (address + thunk_width machine * j) known.once known.small
-              (entry_reached machine image_base address j can) known.located d s held stub,
-        )
-
     pub tables_branch_in_memory : (c d : LinkedCode) (offset after : ℕ) (name : List ℕ) (s : ObjectSymbol) → Contains codes c → HasBranch machine c offset after name → Contains codes d → DefinesIn d s → s.name ≡ name →
         d.position + s.value < 2 ^ 31 → CanBranch machine (c.position + offset) (d.position + s.value) →
         BranchArrives machine image_base (written ++ memory) (c.position + offset) after (d.position + s.value)
@@ -159,10 +155,74 @@ module _ (machine : MachineType) (image_base : ℕ) (t : Tables) (codes : List L
     entry_reached_by name dll ask address j own can =
         usual_reached machine image_base t.linked codes (written ++ memory) name name (gives dll ask) (not_armnt machine image_base address can) (entry_leads name dll ask address j own can) tables_keep_in_memory
 
-    -- a call by a name, where what defines it is a stub that arrives
-    pub tables_call_in_memory : (c d : LinkedCode) (offset : ℕ) (name bytes : List ℕ) (s : ObjectSymbol) → Contains codes c → HasDirectCall machine (placed_code c) offset name → Contains codes d → DefinesIn d s → s.name ≡ name →
-        CanBranch machine (c.position + offset) d.position → (s.value ≡ 0) × StubArrives machine image_base (written ++ memory) d.position bytes →
-        DirectCallArrives machine image_base (written ++ memory) (c.position + offset) bytes
-    tables_call_in_memory c d offset name bytes s held has d_held defines named near stub =
-        let end : d.position + length d.code.bytes + 16 ≤ 2 ^ 31 = all_among (λ (x : LinkedCode). x.position + length x.code.bytes + 16 ≤ 2 ^ 31) d codes (contains_among d codes d_held) resting.beside.ends in
-        direct_arrives machine image_base t.image t.linked codes targets memory resting written covering c d offset name bytes s held has d_held defines named stub.0 (omega arith) near stub.1
+    -- a stub of the entry
+    pub stub_in_memory : (i j : ℕ) (x : Table) (e : TableEntry) (name : List ℕ) → slice_get t.tables i ≡ Some x → slice_get x.entries j ≡ Some e → e.symbol ≡ Some name → CanReadFrom machine image_base x.address →
+        (d : LinkedCode) (s : ObjectSymbol) → Contains codes d → StubAt machine t.linked (placed_code d) s (x.address + thunk_width machine * j) →
+        StubArrives machine image_base (written ++ memory) d.position (gives x.dll e.ask)
+    stub_in_memory i j x e name is asked symbol can d s held stub =
+        let known = entry_in i j x e name is asked symbol in
+        stub_arrives machine image_base t.image t.linked codes targets memory resting written covering name (gives x.dll e.ask) (x.address + thunk_width machine * j) known.once known.small
+        (entry_reached machine image_base x.address j can) known.located d s held stub
+
+    -- and a call by the name that it stands for
+    pub stub_called_in_memory : (i j : ℕ) (x : Table) (e : TableEntry) (name : List ℕ) → slice_get t.tables i ≡ Some x → slice_get x.entries j ≡ Some e → e.symbol ≡ Some name → CanReadFrom machine image_base x.address →
+        (d : LinkedCode) (s : ObjectSymbol) → Contains codes d → StubAt machine t.linked (placed_code d) s (x.address + thunk_width machine * j) → (c : LinkedCode) (offset : ℕ) → Contains codes c → DefinesIn d s →
+        HasDirectCall machine (placed_code c) offset s.name → CanBranch machine (c.position + offset) d.position →
+        DirectCallArrives machine image_base (written ++ memory) (c.position + offset) (gives x.dll e.ask)
+    stub_called_in_memory i j x e name is asked symbol can d s d_held stub c offset held defines has near =
+        let end : d.position + length d.code.bytes + 16 ≤ 2 ^ 31 = all_among (λ (k : LinkedCode). k.position + length k.code.bytes + 16 ≤ 2 ^ 31) d codes (contains_among d codes d_held) resting.beside.ends in
+        direct_arrives machine image_base t.image t.linked codes targets memory resting written covering c d offset s.name (gives x.dll e.ask) s held has d_held defines refl stub.begins (omega arith) near
+        (stub_in_memory i j x e name is asked symbol can d s d_held stub)
+
+    -- lld's thunk of a short import, whose symbol the entry has
+    pub thunk_in_memory : (i j : ℕ) (x : Table) (e : TableEntry) → slice_get t.tables i ≡ Some x → slice_get x.entries j ≡ Some e → CanReadFrom machine image_base x.address →
+        (r : ShortImport) (d : LinkedCode) → e.symbol ≡ Some (imp_symbol r.symbol) → Contains codes d → IsThunk machine d r →
+        ThunkArrives machine image_base (written ++ memory) d.position (gives x.dll e.ask)
+    thunk_in_memory i j x e is asked can r d symbol held thunk =
+        thunk_arrives image_base t.linked codes (written ++ memory) r (gives x.dll e.ask) d held machine x.address can thunk
+        (thunk_is machine d r thunk (code_section d held)) (tables_lead_in_memory i j x e (imp_symbol r.symbol) is asked symbol can) tables_keep_in_memory
+
+    -- and a branch to its bare name
+    pub thunk_called_in_memory : (i j : ℕ) (x : Table) (e : TableEntry) → slice_get t.tables i ≡ Some x → slice_get x.entries j ≡ Some e → CanReadFrom machine image_base x.address →
+        (r : ShortImport) (d : LinkedCode) → e.symbol ≡ Some (imp_symbol r.symbol) → Contains codes d → IsThunk machine d r → (c : LinkedCode) (offset after : ℕ) → Contains codes c →
+        HasBranch machine c offset after r.symbol → CanBranch machine (c.position + offset) d.position →
+        BranchArrivesByThunk machine image_base (written ++ memory) (c.position + offset) after (gives x.dll e.ask)
+    thunk_called_in_memory i j x e is asked can r d symbol d_held thunk c offset after held has near =
+        let end : d.position + length d.code.bytes + 16 ≤ 2 ^ 31 = all_among (λ (k : LinkedCode). k.position + length k.code.bytes + 16 ≤ 2 ^ 31) d codes (contains_among d codes d_held) resting.beside.ends in
+        let plain : d.position + 0 ≡ d.position = omega arith in
+        record {
+          thunk = d.position;
+          leads = subst (BranchArrives machine image_base (written ++ memory) (c.position + offset) after) plain
+              (tables_branch_in_memory c d offset after r.symbol (bare_symbol r) held has d_held (thunk_defines machine d r thunk) refl (omega arith)
+              (subst (CanBranch machine (c.position + offset)) (sym plain) near));
+          jumps = thunk_in_memory i j x e is asked can r d symbol d_held thunk;
+        }
+
+-- Linked at a base, by names.
+module _ (machine : MachineType) (image_base : ℕ) (t : Tables) (codes : List LinkedCode) (targets : LinkedCode → ℕ → ℕ) (gives : List ℕ → Ask → List ℕ)
+    (tables : AreTables machine t) (steady : AreSteady machine t.linked) (beside : AreLinkedBeside machine image_base t.image t.linked codes targets) where
+  -- fields against an alias of an entry's symbol lead to the entry
+  pub alias_leads : ResolvesAliases t.linked codes targets → (n : ℕ) (written : List Range) → ((dll : List ℕ) (ask : Ask) → length (gives dll ask) ≡ thunk_width machine) →
+      ReadsAndWrites (t.image ++ ranges_of_codes codes) (thunk_width machine) gives n t.directory written → (i j : ℕ) (x : Table) (e : TableEntry) (name alias : List ℕ) → slice_get t.tables i ≡ Some x →
+      slice_get x.entries j ≡ Some e → e.symbol ≡ Some name → CanReadFrom machine image_base x.address → definitions_of alias t.linked ≡ [] → weak_target alias t.linked ≡ Some name →
+      AllLeadTo machine image_base t.linked codes (written ++ (t.image ++ ranges_of_codes codes)) alias name (gives x.dll e.ask)
+  alias_leads resolves n written wide reads i j x e name alias is asked symbol can none weak =
+      let memory : List Range = t.image ++ ranges_of_codes codes in
+      let entry : ℕ = x.address + thunk_width machine * j in
+      let known = entry_in machine image_base t codes targets memory gives tables steady (inl (beside, refl)) n written wide reads i j x e name is asked symbol in
+      all_lead_to machine image_base t.image t.linked codes targets memory (linked_rests machine image_base t.image t.linked codes targets beside) written
+      (covering machine image_base t codes targets memory gives tables steady (inl (beside, refl)) n written wide reads) name (gives x.dll e.ask) entry known.once known.small (entry_reached machine image_base x.address j can) known.located alias
+      (λ c index held names.
+      settled_linked machine image_base t.image t.linked codes targets beside c index entry
+      (resolves c index entry names.symbol name held names.target names.undefined (subst (λ k. definitions_of k t.linked ≡ []) (sym names.named) none)
+      (subst (λ k. weak_target k t.linked ≡ Some name) (sym names.named) weak) (ap first_address known.once)))
+
+  -- a loader that reads the image alone, and knows nothing of code, leaves calls that arrive
+  pub calls_beside : (n : ℕ) (written : List Range) → ((dll : List ℕ) (ask : Ask) → length (gives dll ask) ≡ thunk_width machine) → ReadsAndWrites t.image (thunk_width machine) gives n t.directory written →
+      (name dll : List ℕ) (ask : Ask) (address j : ℕ) → HasEntry t name dll ask address j → CanReadFrom machine image_base address →
+      AreReached machine image_base codes (written ++ (t.image ++ ranges_of_codes codes)) name (gives dll ask)
+  calls_beside n written wide reads name dll ask address j own can =
+      let memory : List Range = t.image ++ ranges_of_codes codes in
+      entry_reached_by machine image_base t codes targets memory gives tables steady (inl (beside, refl)) (length t.tables) written wide
+      (written_read machine image_base t codes targets memory gives tables steady (inl (beside, refl)) written
+      (directory_read t.image (thunk_width machine) gives n t.directory (map imported_by_table t.tables) written tables.directory reads).1) name dll ask address j own can

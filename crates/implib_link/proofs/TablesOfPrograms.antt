@@ -4,6 +4,7 @@ use Rattle.std.specs.Prelude.{slice_get}
 use Rattle.std.specs.List.{AllByRecursion, Contains}
 use Rattle.std.proofs.lemmas.List.{length-map}
 use Rattle.implib.specs.declared.machine.MachineType.{MachineType}
+use Rattle.implib.specs.declared.machine.MachineType.TheVariants.{I386, ARMNT, AMD64, ARM64}
 use Rattle.implib.specs.Definition.{ExportView}
 use Rattle.implib.specs.Formats.Object.{Object}
 use Rattle.implib.specs.Formats.ShortImport.{ShortImport, ask_of_short_import}
@@ -21,14 +22,15 @@ use Rattle.implib_link.specs.Flavors.LldTables.{thunks_until}
 use Rattle.implib_link.specs.Flavors.Program.{FlavorInput, IsFlavorProgram, IsMadeFor, ask_in, dll_of, exports_chosen, imported_in, symbol_in, thunks_of}
 use Rattle.implib_link.specs.Gnu.Program.{IsProgram, thunks_before}
 use Rattle.implib_link.specs.Gnu.Rebased.{table_places, table_places_in}
-use Rattle.implib_link.specs.Tables.{AreSteady, AreTables, Block, TableEntry, block_of_flavor, block_of_group, block_of_input, entry_of_short, tables_at, tables_of_lld}
+use Rattle.implib_link.specs.Stub.{CanJump}
+use Rattle.implib_link.specs.Tables.{AreSteady, AreTables, Block, CanReadFrom, TableEntry, block_of_flavor, block_of_group, block_of_input, entry_of_short, tables_at, tables_of_lld}
 use Rattle.implib_link.proofs.Flavors.LldImports.{all_at, all_define, defined_once, get_map, lld_links, nth_stands, only, stand}
 use Rattle.implib_link.proofs.Flavors.Loaded.{entry_of}
 use Rattle.implib_link.proofs.Flavors.Program.{flavors_link}
 use Rattle.implib_link.proofs.Gnu.Loaded.{mapped_at}
 use Rattle.implib_link.proofs.Gnu.Program.{program_links}
 use Rattle.implib_link.proofs.Gnu.Stubs.{entry_defined}
-use Rattle.implib_link.proofs.PackedTables.{HasEntry, are_packed, asks_again, block_entry, entries_until, imported_by_block}
+use Rattle.implib_link.proofs.PackedTables.{HasEntry, are_packed, asks_again, block_entry, entries_until, imported_by_block, packed_count, reads_further}
 use Rattle.implib_link.proofs.Search.Lists.{contains_among}
 
 -- The blocks of programs for GNU's linker.
@@ -195,3 +197,19 @@ lld_steady machine addresses taken (p ∷ before) behind none none_behind =
     both_none : {X : Type 0} (xs ys : List X) → xs ++ ys ≡ [] → (xs ≡ []) × (ys ≡ [])
     both_none [] ys is = (refl, is)
     both_none (x ∷ xs) ys is = cc
+
+-- How many tables there are, and that they can be read where stubs can jump.
+pub gnu_count : (machine : MachineType) (bases : Bases) (inputs : List LinkInput) (objects : List Object) → length (tables_at machine bases objects (map (block_of_input machine) inputs)).tables ≡ length inputs
+gnu_count machine bases inputs objects = packed_count (thunk_width machine) (map (block_of_input machine) inputs) bases.addresses ∙ length-map inputs (block_of_input machine)
+
+pub flavors_count : (machine : MachineType) (bases : Bases) (inputs : List FlavorInput) (objects : List Object) → length (tables_at machine bases objects (map (block_of_flavor machine) inputs)).tables ≡ length inputs
+flavors_count machine bases inputs objects = packed_count (thunk_width machine) (map (block_of_flavor machine) inputs) bases.addresses ∙ length-map inputs (block_of_flavor machine)
+
+jumps_read : (machine : MachineType) (image_base : ℕ) (bases : Bases) → CanJump machine image_base bases → CanReadFrom machine image_base bases.addresses
+jumps_read I386 image_base bases can = can
+jumps_read ARMNT image_base bases can = can
+jumps_read AMD64 image_base bases can = can
+jumps_read ARM64 image_base bases can = can
+
+pub can_read : (machine : MachineType) (image_base : ℕ) (bases : Bases) (n : ℕ) → CanJump machine image_base bases → CanReadFrom machine image_base (bases.addresses + thunk_width machine * n)
+can_read machine image_base bases n can = reads_further machine image_base bases.addresses n (jumps_read machine image_base bases can)

@@ -3,8 +3,6 @@ pub mod SectionSymbols
 pub mod Expansion
 pub mod Program
 pub mod Texts
-pub mod Loaded
 pub mod LldTables
 pub mod LldImports
-pub mod LldLoaded
 pub mod LldThunks

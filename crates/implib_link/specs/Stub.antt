@@ -8,13 +8,11 @@ use Rattle.implib.specs.declared.machine.MachineType.{MachineType}
 use Rattle.implib.specs.declared.machine.MachineType.TheVariants.{I386, ARMNT, AMD64, ARM64}
 use Rattle.implib.specs.Formats.Bytes.{u32_bytes}
 use Rattle.implib.specs.Formats.Constants.{amd64_rel32, arm64_pagebase_rel21, arm64_pageoffset_12l, class_external, i386_dir32}
-use Rattle.implib.specs.Link.Image.{Range}
-use Rattle.implib.specs.Import.{imp_symbol}
 use Rattle.implib.specs.Link.Linked.{IsDefinedOnce}
-use Rattle.implib.specs.Link.Load.{BytesAt, number_in}
+use Rattle.implib.specs.Link.Load.{number_in}
 use Rattle.implib.specs.Formats.Object.{ASymbol, ObjectSection, ObjectSymbol}
 use Rattle.implib.specs.Link.Placement.{Bases, Placed}
-use Rattle.implib.specs.Link.Resolution.{definitions_of, target_address}
+use Rattle.implib.specs.Link.Resolution.{target_address}
 
 -- the four bytes at an offset, as a number, and with another number in their place
 abbrev pub word_at : List ℕ → ℕ → ℕ
@@ -127,14 +125,3 @@ pub record JumpsThrough (machine : MachineType) (image_base : ℕ) (linked : Lis
       jump_reads machine (image_base + position)
       (code_relocated machine image_base linked from position code.relocations code.bytes)
       ≡ Some (image_base + entry)
-
--- A call of a name reaches these bytes: its code jumps through an entry, the only definition of its
--- `__imp_` symbol, and there the bytes are.
-pub record CallReaches (machine : MachineType) (image_base : ℕ) (image : List Range) (linked : List Placed)
-    (name bytes : List ℕ)
-    : Type 0 where
-  pub entry : ℕ
-  pub once : definitions_of (imp_symbol name) linked
-      ≡ record { name = imp_symbol name; address = Some entry } ∷ []
-  pub jumps : JumpsThrough machine image_base linked name entry
-  pub located : BytesAt image entry bytes

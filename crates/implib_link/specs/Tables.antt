@@ -1,14 +1,14 @@
 -- Linked import tables, whichever linker made them and of whatever members: the DLLs, what is asked of each, and where
 -- its entries and their symbols are. Addresses count from the image's base.
-use Rattle.std.specs.Prelude.{◌≡◌, ℕ, ◌+◌, ◌*◌, ◌%◌, ◌^◌, ◌<◌, ◌≤◌, false, List, [], ◌∷◌, ◌++◌, length, map, slice_get, Option, Some}
-use Rattle.std.specs.List.{AllByRecursion, Contains, list_any}
+use Rattle.std.specs.Prelude.{◌≡◌, ℕ, ◌+◌, ◌*◌, ◌%◌, ◌^◌, ◌<◌, ◌≤◌, List, [], ◌∷◌, ◌++◌, length, map, slice_get, Option, Some}
+use Rattle.std.specs.List.{AllByRecursion, Contains}
 use Rattle.implib.specs.declared.machine.MachineType.{MachineType}
 use Rattle.implib.specs.declared.machine.MachineType.TheVariants.{I386, ARMNT, AMD64, ARM64}
 use Rattle.implib.specs.Definition.{ExportView}
 use Rattle.implib.specs.Formats.Object.{Object}
 use Rattle.implib.specs.Formats.ShortImport.{ShortImport, ask_of_short_import}
 use Rattle.implib.specs.Import.{Ask, expected_ask, imp_symbol}
-use Rattle.implib.specs.Link.Image.{Range, byte_at, image_of, is_in, range_end}
+use Rattle.implib.specs.Link.Image.{Range, image_of, range_end}
 use Rattle.implib.specs.Link.LinkedMembers.{LinkInput, chosen_exports}
 use Rattle.implib.specs.Link.Load.{NumberAt}
 use Rattle.implib.specs.Link.Placement.{Bases, Placed, placed_from}
@@ -80,16 +80,13 @@ pub record IsInTable (width : ℕ) (tables : List Table) (r : Range) : Type 0 wh
 
 -- The tables with what a loader wrote in front of their image, so that it counts first:
 -- `entries`: at each entry's symbol is what its DLL gives for what it asks;
--- `within`: what was written is in entries of the tables;
--- `kept`: where nothing was written, each byte is as it was linked.
+-- `within`: what was written is in entries of the tables.
 pub record AreTablesLoaded (machine : MachineType) (t : Tables) (gives : List ℕ → Ask → List ℕ)
     (written : List Range) : Type 0 where
   pub entries : (i j : ℕ) (x : Table) (e : TableEntry) (name : List ℕ) → slice_get t.tables i ≡ Some x →
       slice_get x.entries j ≡ Some e → e.symbol ≡ Some name →
       HoldsAt (written ++ t.image) t.linked name (gives x.dll e.ask)
   pub within : AllByRecursion (IsInTable (thunk_width machine) t.tables) written
-  pub kept : (address : ℕ) → list_any (is_in address) written ≡ false →
-      byte_at (written ++ t.image) address ≡ byte_at t.image address
 
 -- What a machine asks so that its instructions can read the entries from an address on: I386, that all of the image is
 -- below 2^32; ARM64, that the bases of the image and of the table are multiples of 8. Of ARMNT nothing is claimed.

@@ -1,6 +1,5 @@
 -- The same, computed.
 pub mod Gnu
-pub mod Msvc
 pub mod Mixed
 pub mod Way
 pub mod GnuWay

@@ -30,7 +30,6 @@ pub mod MsvcArchives
 pub mod Writing
 pub mod OtherLibraries
 pub mod MsvcClosed
-pub mod RebasedPointers
 pub mod Choices
 pub mod Instructions
 pub mod LinkedCode
@@ -40,7 +39,6 @@ pub mod FlavorFields
 pub mod Rules
 pub mod Lld
 pub mod LldPrograms
-pub mod MsvcExists
 pub mod NamedApart
 pub mod Aliases
 pub mod Readings
@@ -51,7 +49,6 @@ pub mod NearSearches
 pub mod NearPrograms
 pub mod NearCode
 pub mod Instances
-pub mod MoreCalls
 pub mod NearLinks
 pub mod NearResults
 pub mod NearTaken

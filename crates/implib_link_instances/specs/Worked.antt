@@ -30,7 +30,6 @@ pub mod MsvcArchives
 pub mod Writing
 pub mod OtherLibraries
 pub mod MsvcClosed
-pub mod RebasedPointers
 pub mod Choices
 pub mod Instructions
 pub mod Operands
@@ -38,7 +37,6 @@ pub mod RefusedFields
 pub mod Rules
 pub mod Lld
 pub mod LldPrograms
-pub mod MsvcExists
 pub mod NamedApart
 pub mod Aliases
 pub mod Readings
@@ -48,7 +46,6 @@ pub mod NearSearches
 pub mod NearPrograms
 pub mod NearCode
 pub mod Instances
-pub mod MoreCalls
 pub mod NearLinks
 pub mod NearResults
 pub mod NearTaken

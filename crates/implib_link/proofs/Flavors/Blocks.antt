@@ -77,11 +77,6 @@ names-all machine b (k ∷ blocks) =
     ∙ ap (λ names. names ++ map (λ (d : SymbolDefinition). d.name) (definitions_all machine later blocks)) (names-in machine k.flavor k.dll b k.exports)
     ∙ ap (λ rest. symbols_of machine k.flavor k.dll k.exports ++ rest) (names-all machine later blocks)
 
-pub wide_all : (machine : MachineType) (b : Bases) (blocks : List FlavorBlock) → AreWide machine b → AreWide machine (ends_all machine b blocks)
-unfolding ends_all
-wide_all machine b [] even = even
-wide_all machine b (k ∷ blocks) even = wide_all machine (ends_one machine b k) blocks (wide_in machine k.flavor k.dll b k.exports even)
-
 -- The ends of one block.
 
 askings_descriptors : (machine : MachineType) (b : Bases) (es : List ExportView) → b.descriptors ≡ (ends_of_askings machine b es).descriptors

@@ -1,12 +1,11 @@
 -- Grouping and sorting lose nothing, double nothing, and put nothing with another DLL.
-use Rattle.std.proofs.Common.{◌≡◌, ℕ, suc, ◌+◌, false, List, [], ◌∷◌, ◌++◌, map, Some, refl, ap, sym, ◌∙◌, subst, inl, inr, arith}
+use Rattle.std.proofs.Common.{◌≡◌, ℕ, suc, ◌+◌, List, [], ◌∷◌, ◌++◌, Some, refl, ap, sym, ◌∙◌, subst, inl, inr, arith}
 use Rattle.std.specs.Prelude.{◌⊎◌, bytes_eq, slice_get}
-use Rattle.std.specs.List.{AllByRecursion, IsDistinct, flat_map}
+use Rattle.std.specs.List.{AllByRecursion, flat_map}
 use Rattle.std.proofs.lemmas.Bool.{cases_Bool}
 use Rattle.std.proofs.lemmas.Slice.Eq.{bytes_eq-Decides}
 use Rattle.implib.specs.Formats.ShortImport.{ShortImport}
 use Rattle.implib.specs.Import.{imp_symbol}
-use Rattle.implib.proofs.Link.Definitions.{not_same_turned}
 use Rattle.implib.proofs.Link.Ranges.{Among, among_first, among_later}
 use Rattle.implib_link.specs.Flavors.LldImports.{comes_first, dll_of_group, grouped, imp_symbols_of, in_small, is_of_group, put_in, put_into}
 use Rattle.implib_link.proofs.Search.Counts.{times, times_both}
@@ -128,31 +127,6 @@ into_times name r (group ∷ groups) =
     moved : (name own : List ℕ) (xs ys : List (List ℕ)) → times name xs + times name (own ∷ ys) ≡ times name (own ∷ (xs ++ ys))
     moved name own xs ys = (let both = times_both name xs ys in omega arith)
 
--- the DLLs of groups
-abbrev keys : List (List ShortImport) → List (List ℕ)
-keys groups = map key groups
-
-into_apart : (k : List ℕ) (r : ShortImport) (groups : List (List ShortImport)) → bytes_eq k (in_small r.dll) ≡ false → AllByRecursion (λ other. bytes_eq k other ≡ false) (keys groups) →
-    AllByRecursion (λ other. bytes_eq k other ≡ false) (keys (put_into r groups))
-unfolding put_into
-into_apart k r [] own none = (own, tt)
-into_apart k r (group ∷ groups) own none =
-    elim (cases_Bool (is_of_group r group)) [
-      | inl is ↦ rw is (subst (λ other. bytes_eq k other ≡ false) (sym (put_key r group ((bytes_eq-Decides (in_small r.dll) (key group)).0 is))) own, none.1)
-      | inr is ↦ rw is (none.0, into_apart k r groups own none.1)
-    ]
-
-into_distinct : (r : ShortImport) (groups : List (List ShortImport)) → IsDistinct bytes_eq (keys groups) → IsDistinct bytes_eq (keys (put_into r groups))
-unfolding put_into IsDistinct
-into_distinct r [] distinct = (tt, tt)
-into_distinct r (group ∷ groups) distinct =
-    elim (cases_Bool (is_of_group r group)) [
-      | inl is ↦
-          let same : in_small r.dll ≡ key group = (bytes_eq-Decides (in_small r.dll) (key group)).0 is in
-          rw is (subst (λ k. AllByRecursion (λ other. bytes_eq k other ≡ false) (keys groups)) (sym (put_key r group same ∙ same)) distinct.0, distinct.1)
-      | inr is ↦ rw is (into_apart (key group) r groups (not_same_turned (in_small r.dll) (key group) is) distinct.0, into_distinct r groups distinct.1)
-    ]
-
 -- All.
 
 pub grouped_all : (P : ShortImport → Type 0) (taken : List ShortImport) → AllByRecursion P taken → AllByRecursion (AllByRecursion P) (grouped taken)
@@ -175,11 +149,6 @@ pub grouped_times : (name : List ℕ) (taken : List ShortImport) → times name 
 unfolding grouped times
 grouped_times name [] = refl
 grouped_times name (r ∷ taken) = (let later = grouped_times name taken in into_times name r (grouped taken) ∙ omega arith)
-
-pub grouped_distinct : (taken : List ShortImport) → IsDistinct bytes_eq (keys (grouped taken))
-unfolding grouped IsDistinct
-grouped_distinct [] = tt
-grouped_distinct (r ∷ taken) = into_distinct r (grouped taken) (grouped_distinct taken)
 
 -- Where one is.
 

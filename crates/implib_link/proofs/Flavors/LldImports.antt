@@ -20,7 +20,7 @@ use Rattle.implib.proofs.Link.Ranges.{Among, all_among, among_back, among_first,
 use Rattle.implib_link.specs.Directory.{Imported}
 use Rattle.implib_link.specs.Flavors.LldImports.{IsImportedBy, IsLldProgram, LldLinks, dll_of_group, entries_of_groups, group_entries, grouped, imp_symbols_of, imported_by, imports_of_lld, in_small, placed_by_lld}
 use Rattle.implib_link.specs.Flavors.LldTables.{IsAskable, IsImportable, thunks_until}
-use Rattle.implib_link.proofs.Flavors.LldGroups.{OneDll, grouped_all, grouped_distinct, grouped_holds, grouped_one, grouped_times, in_place}
+use Rattle.implib_link.proofs.Flavors.LldGroups.{OneDll, grouped_all, grouped_holds, grouped_one, grouped_times, in_place}
 use Rattle.implib_link.proofs.Flavors.LldTables.{StandAt, directory_stands, pieces_stand}
 use Rattle.implib_link.proofs.Gnu.Blocks.{table_sum}
 use Rattle.implib_link.proofs.Gnu.OtherLibraries.{definitions_parts}
@@ -262,7 +262,6 @@ module _ (machine : MachineType) (descriptors addresses : ℕ) (taken : List Sho
     directory = directory_stands image (thunk_width machine) (imports_of_lld taken) descriptors addresses stand;
     imported = is_imported;
     only = only;
-    apart = grouped_distinct taken;
   }
 
 pub lld_links : (machine : MachineType) (descriptors addresses : ℕ) (taken : List ShortImport) (image : List Range) (linked : List Placed) →

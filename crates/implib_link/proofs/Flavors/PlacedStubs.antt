@@ -13,13 +13,13 @@ use Rattle.implib.specs.Members.Gnu.{section, stub_bytes, stub_relocations, text
 use Rattle.implib.specs.Members.ImportTables.{thunk_width}
 use Rattle.implib.proofs.Link.Ranges.{Among}
 use Rattle.implib_link.specs.Flavors.Program.{FlavorInput, IsCode, IsFlavorProgram, IsMadeFor, exports_chosen, symbol_in, thunks_of}
-use Rattle.implib_link.specs.Gnu.Calls.{Defines, PlacedCode}
+use Rattle.implib_link.specs.Gnu.Calls.{Defines, PlacedCode, StubAt}
 use Rattle.implib_link.specs.Gnu.Program.{has_tables}
 use Rattle.implib_link.proofs.Flavors.Inputs.{block_in}
 use Rattle.implib_link.proofs.Flavors.Program.{placed_among, thunks_are, wide}
 use Rattle.implib_link.proofs.Flavors.Stubs.{all_placed, code_in, name_once, placed_in}
 use Rattle.implib_link.proofs.Gnu.Definers.{one_definer}
-use Rattle.implib_link.proofs.Gnu.PlacedStubs.{StubAt, found_entry, same_section, symbol_of_entry}
+use Rattle.implib_link.proofs.Gnu.PlacedStubs.{found_entry, same_section, symbol_of_entry}
 use Rattle.implib_link.proofs.Gnu.Stubs.{among_filter}
 use Rattle.implib_link.proofs.Search.Lists.{contains_among}
 use Rattle.implib_link.specs.Flavors.Program.{dll_names_in}

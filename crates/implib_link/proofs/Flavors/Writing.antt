@@ -17,8 +17,9 @@ use Rattle.implib.proofs.Link.LinkedBlocks.{ends, starts}
 use Rattle.implib.proofs.Link.LinkedMembers.{among_map}
 use Rattle.implib.proofs.Link.Ranges.{Among, all_among, among_later}
 use Rattle.implib_link.specs.Directory.{Imported}
-use Rattle.implib_link.specs.Flavors.Loaded.{AreLoaded}
 use Rattle.implib_link.specs.Flavors.Program.{FlavorInput, IsFlavorProgram, IsMadeFor, all_members, ask_in, exports_chosen, imported_in, objects_taken, symbols_listed, thunks_of}
+use Rattle.implib_link.specs.Gnu.Fields.{LinkedCode}
+use Rattle.implib_link.specs.Gnu.Moves.{AreInMemory}
 use Rattle.implib_link.specs.Gnu.Program.{has_tables}
 use Rattle.implib_link.specs.Gnu.Reading.{ReadsAndWrites}
 use Rattle.implib_link.specs.Gnu.Writing.{AreAlike, WritesAsItGoes}
@@ -26,18 +27,18 @@ use Rattle.implib_link.proofs.Flavors.Beside.{all_beside, all_long}
 use Rattle.implib_link.proofs.Flavors.Blocks.{FlavorBlock, all_objects, definitions-all, definitions_all, descriptors_all, ends_all, imported_of, names-all, thunks_in}
 use Rattle.implib_link.proofs.Flavors.Expanded.{taken_null}
 use Rattle.implib_link.proofs.Flavors.Inputs.{block_in, inputs_link, inputs_symbols}
-use Rattle.implib_link.proofs.LoadedPrograms.{flavors_load}
 use Rattle.implib_link.proofs.Flavors.NullDescriptor.{EndsNothing, addresses_same, descriptors_same, dll_names_same, hint_names_same, lookups_same, null_filled, others_same}
 use Rattle.implib_link.proofs.Flavors.Program.{blocks_end, each, flavors_link, kept_are, parts_are, thunks_are, wide}
-use Rattle.implib_link.proofs.LoadedPrograms.{flavors_reader_ends}
+use Rattle.implib_link.proofs.Flavors.Steady.{flavors_tables_none}
 use Rattle.implib_link.proofs.Gnu.Apart.{beside_of, descriptors_beside, directory_ends_beside, dll_names_beside, ends_beside, hint_names_beside, lookups_beside, starts_beside}
 use Rattle.implib_link.proofs.Gnu.Beside.{LocatedBeside}
 use Rattle.implib_link.proofs.Gnu.Filling.{DirectoryBeside, all_filled}
+use Rattle.implib_link.proofs.Gnu.FieldsInMemory.{rests}
+use Rattle.implib_link.proofs.Gnu.Keeps.{Keeps}
 use Rattle.implib_link.proofs.Gnu.Loaded.{thunks_asked}
 use Rattle.implib_link.proofs.Gnu.Others.{contributions_kept, definitions_kept}
 use Rattle.implib_link.proofs.Gnu.Program.{all_claim}
-use Rattle.implib_link.proofs.Gnu.Reading.{directory_read}
-use Rattle.implib_link.proofs.Gnu.Writing.{keeps_itself, run_alike, run_can, run_once}
+use Rattle.implib_link.proofs.Gnu.Writing.{run_can, run_reads}
 
 thunks_same : (machine : MachineType) (i : ℕ) (inputs : List FlavorInput) → thunks_asked i (map (imported_in machine) inputs) ≡ thunks_of i inputs
 thunks_same machine zero inputs = refl
@@ -130,14 +131,14 @@ module _ (machine : MachineType) (b : Bases) (inputs : List FlavorInput) (object
       ∙ ap (λ ds. filter (λ (x : SymbolDefinition). bytes_eq d.name x.name) ds) definitions_are
       ∙ only_definition d defined among (subst (IsDistinct bytes_eq) (sym names_are) program.held.distinct.1)
 
-  pub flavors_beside : DirectoryBeside (beside_of machine b objects program.admissible) (thunk_width machine) b.descriptors b.addresses (map (imported_in machine) inputs)
+  flavors_beside : DirectoryBeside (beside_of machine b objects program.admissible) (thunk_width machine) b.descriptors b.addresses (map (imported_in machine) inputs)
   flavors_beside =
       subst (DirectoryBeside (beside_of machine b objects program.admissible) (thunk_width machine) b.descriptors b.addresses) (imports_same machine inputs)
       (all_beside machine linked (image_of machine b linked) (beside_of machine b objects program.admissible) (starts machine b objects program.admissible) (ends machine b objects program.admissible)
       (starts_beside machine b objects program.admissible) (ends_beside machine b objects program.admissible) dlls b (inputs_link machine inputs made program.held.found) (wide machine b inputs objects made program)
       only (each machine b inputs objects made program).imports located null_there)
 
-  pub flavors_long : length (filled b.addresses (contributions machine (placed_from b objects) Addresses (placed_from b objects)))
+  flavors_long : length (filled b.addresses (contributions machine (placed_from b objects) Addresses (placed_from b objects)))
       ≡ thunk_width machine * thunks_asked (length (map (imported_in machine) inputs)) (map (imported_in machine) inputs)
   flavors_long =
       ap (λ cs. length (filled b.addresses cs)) (contributed Addresses (addresses_same machine b front back none ends_even linked))
@@ -146,39 +147,21 @@ module _ (machine : MachineType) (b : Bases) (inputs : List FlavorInput) (object
       (ap (λ n. thunks_in n dlls) (length-map inputs block_in) ∙ thunks_are (length inputs) inputs
       ∙ sym (ap (λ n. thunks_asked n (map (imported_in machine) inputs)) (length-map inputs (imported_in machine)) ∙ thunks_same machine (length inputs) inputs))
 
-pub flavors_writer_loads : (machine : MachineType) (bases : Bases) (inputs : List FlavorInput) (objects : List Object) (gives : List ℕ → Ask → List ℕ) (found : List Imported) (after : List Range) →
-    AllByRecursion (IsMadeFor machine) inputs → IsFlavorProgram machine bases inputs objects → ((dll : List ℕ) (ask : Ask) → length (gives dll ask) ≡ thunk_width machine) →
-    WritesAsItGoes (thunk_width machine) gives bases.descriptors (image_of machine bases (placed_from bases objects)) found after →
-    (found ≡ map (imported_in machine) inputs) × ((written : List Range) × (ReadsAndWrites (image_of machine bases (placed_from bases objects)) (thunk_width machine) gives (length inputs) bases.descriptors written
-    × (AreLoaded machine bases inputs objects gives written × AreAlike after (written ++ image_of machine bases (placed_from bases objects)))))
-flavors_writer_loads machine bases inputs objects gives found after made program wide_given runs =
-    let image : List Range = image_of machine bases (placed_from bases objects) in
-    let imports : List Imported = map (imported_in machine) inputs in
-    let long = flavors_long machine bases inputs objects made program in
-    let beside = flavors_beside machine bases inputs objects made program in
-    let once = run_once machine bases objects program.admissible imports long beside gives wide_given image (keeps_itself image) found after runs in
-    let reader = flavors_reader_ends machine bases inputs objects gives made program in
-    let read = directory_read image (thunk_width machine) gives (length inputs) bases.descriptors imports reader.0 (flavors_link machine bases inputs objects made program).directory reader.1 in
-    let alike = run_alike machine bases objects program.admissible imports long beside gives wide_given image (keeps_itself image) reader.0 read.1 in (
-      once.0,
-      (
-        reader.0,
-        (
-          reader.1,
-          (
-            flavors_load machine bases inputs objects gives reader.0 made program wide_given read.1,
-            subst (λ m. AreAlike m (reader.0 ++ image)) (sym once.1) alike,
-          ),
-        ),
-      ),
-    )
+module _ (machine : MachineType) (image_base : ℕ) (b : Bases) (inputs : List FlavorInput) (objects : List Object) (codes : List LinkedCode) (targets : LinkedCode → ℕ → ℕ) (memory : List Range) (gives : List ℕ → Ask → List ℕ)
+    (made : AllByRecursion (IsMadeFor machine) inputs) (program : IsFlavorProgram machine b inputs objects)
+    (at : AreInMemory machine image_base (image_of machine b (placed_from b objects)) (placed_from b objects) codes targets memory)
+    (wide_given : (dll : List ℕ) (ask : Ask) → length (gives dll ask) ≡ thunk_width machine) where
+  keeps_program : Keeps (image_of machine b (placed_from b objects)) memory
+  keeps_program = (rests machine image_base (image_of machine b (placed_from b objects)) (placed_from b objects) codes targets memory at (flavors_tables_none machine b inputs objects made program)).image_kept
 
-pub flavors_writer_ends : (machine : MachineType) (bases : Bases) (inputs : List FlavorInput) (objects : List Object) (gives : List ℕ → Ask → List ℕ) →
-    AllByRecursion (IsMadeFor machine) inputs → IsFlavorProgram machine bases inputs objects → ((dll : List ℕ) (ask : Ask) → length (gives dll ask) ≡ thunk_width machine) →
-    (after : List Range) × WritesAsItGoes (thunk_width machine) gives bases.descriptors (image_of machine bases (placed_from bases objects)) (map (imported_in machine) inputs) after
-flavors_writer_ends machine bases inputs objects gives made program wide_given =
-    let image : List Range = image_of machine bases (placed_from bases objects) in
-    let imports : List Imported = map (imported_in machine) inputs in (
-      all_filled (thunk_width machine) gives bases.addresses imports image,
-      run_can machine bases objects program.admissible imports (flavors_long machine bases inputs objects made program) (flavors_beside machine bases inputs objects made program) gives wide_given image (keeps_itself image),
-    )
+  pub flavors_writer_loads : (found : List Imported) (after : List Range) → WritesAsItGoes (thunk_width machine) gives b.descriptors memory found after →
+      (found ≡ map (imported_in machine) inputs) × ((written : List Range) × (ReadsAndWrites memory (thunk_width machine) gives (length inputs) b.descriptors written × AreAlike after (written ++ memory)))
+  flavors_writer_loads =
+      run_reads machine b objects program.admissible (map (imported_in machine) inputs) (flavors_long machine b inputs objects made program) (flavors_beside machine b inputs objects made program) gives wide_given memory keeps_program
+      (length inputs) (length-map inputs (imported_in machine)) (flavors_link machine b inputs objects made program).directory
+
+  pub flavors_writer_ends : (after : List Range) × WritesAsItGoes (thunk_width machine) gives b.descriptors memory (map (imported_in machine) inputs) after
+  flavors_writer_ends = (
+    all_filled (thunk_width machine) gives b.addresses (map (imported_in machine) inputs) memory,
+    run_can machine b objects program.admissible (map (imported_in machine) inputs) (flavors_long machine b inputs objects made program) (flavors_beside machine b inputs objects made program) gives wide_given memory keeps_program,
+  )

@@ -17,6 +17,7 @@ use Rattle.implib.specs.Link.Placement.{Bases, Placed, placed_from}
 use Rattle.implib.specs.Members.ImportTables.{thunk_width}
 use Rattle.implib.proofs.Link.Loading.{number_once}
 use Rattle.implib.proofs.Link.Ranges.{Among}
+use Rattle.implib_link.specs.Gnu.Calls.{StubAt}
 use Rattle.implib_link.specs.Gnu.A32.{A32JumpReads, HoldDistances, distance_from}
 use Rattle.implib_link.specs.Gnu.Fields.{DefinesIn, LinkedCode, MeetsAlone, field_at, meets, placed_code}
 use Rattle.implib_link.specs.Gnu.Moves.{AreInMemory}
@@ -28,7 +29,7 @@ use Rattle.implib_link.specs.Tables.{AreSteady, AreTables, Tables, block_of_inpu
 use Rattle.implib_link.proofs.Gnu.Fields.{covering_one, get_drop, get_take, located_from}
 use Rattle.implib_link.proofs.Gnu.FieldsInMemory.{Rests, number_unwritten, own, own_end, part_there}
 use Rattle.implib_link.proofs.Gnu.Memory.{Covers}
-use Rattle.implib_link.proofs.Gnu.PlacedStubs.{StubAt, gnu_stub_at}
+use Rattle.implib_link.proofs.Gnu.PlacedStubs.{gnu_stub_at}
 use Rattle.implib_link.proofs.Gnu.Steady.{program_tables_none}
 use Rattle.implib_link.proofs.Search.Lists.{contains_among}
 use Rattle.implib_link.proofs.TablesInMemory.{code_from, code_section, covering, entry_known, resting}

@@ -1,5 +1,5 @@
 -- The memory of a loaded program: what was written, the image, and code beside it, which the loader leaves as it is.
-use Rattle.std.proofs.Common.{◌≡◌, ℕ, ◌+◌, ◌^◌, ◌<◌, ◌≤◌, true, false, List, [], ◌∷◌, ◌++◌, length, Some, refl, sym, ◌∙◌, subst, inl, inr, arith}
+use Rattle.std.proofs.Common.{◌≡◌, ℕ, ◌+◌, ◌^◌, ◌<◌, ◌≤◌, true, false, List, [], ◌∷◌, ◌++◌, length, Some, refl, sym, subst, inl, inr, arith}
 use Rattle.std.specs.Prelude.{nat_le, nat_lt}
 use Rattle.std.specs.List.{AllByRecursion, list_any}
 use Rattle.std.proofs.lemmas.Bool.{and_parts, cases_Bool, false_from_ne_true, leb-true, ltb-false, ltb-true}
@@ -8,10 +8,9 @@ use Rattle.implib.specs.Link.Image.{AllApart, AreApart, Range, byte_at, is_in, r
 use Rattle.implib.specs.Link.Load.{BytesAt, TableAt}
 use Rattle.implib.proofs.Link.Linked.{all_append}
 use Rattle.implib.proofs.Link.Loading.{number_once}
-use Rattle.implib.proofs.Link.Ranges.{Among, address_bounds, all_among, among_back, is_in_from}
+use Rattle.implib.proofs.Link.Ranges.{Among, address_bounds, all_among, among_back}
 use Rattle.implib_link.specs.Directory.{DirectoryAt, Imported}
 use Rattle.implib_link.specs.Gnu.Loaded.{Writes, entries_written}
-use Rattle.implib_link.proofs.Gnu.Loaded.{kept_outside}
 
 -- a range is where an image has bytes
 abbrev pub Covers : List Range → Range → Type 0
@@ -101,16 +100,6 @@ code_untouched image codes (w ∷ written) r a covers apart m within =
     let found = holder image a byte.0 byte.1 in
     not_in_both image codes found.0 r a apart found.1.0 m found.1.1 within) in
     rw outside (code_untouched image codes written r a covers.1 apart m within)
-
-pub untouched : (image codes written : List Range) (r : Range) → AllByRecursion (Covers image) written → AllApart (image ++ codes) → Among r codes → (bytes : List ℕ) (a : ℕ) →
-    r.start ≤ a → a + length bytes ≤ range_end r → BytesAt (image ++ codes) a bytes → BytesAt (written ++ (image ++ codes)) a bytes
-unfolding BytesAt
-untouched image codes written r covers apart m [] a from below located = tt
-untouched image codes written r covers apart m (b ∷ bytes) a from below located =
-    let inside : is_in a r ≡ true = is_in_from a r from (omega arith) in (
-      kept_outside written (image ++ codes) a (code_untouched image codes written r a covers apart m inside) ∙ located.0,
-      untouched image codes written r covers apart m bytes (a + 1) (omega arith) (omega arith) located.1,
-    )
 
 -- Bytes of the loaded image are those of memory.
 

@@ -2,14 +2,13 @@
 use Rattle.std.proofs.Common.{◌≡◌, ℕ, ◌+◌, ◌≤◌, List, [], ◌∷◌, ◌++◌, length, ap, ◌∙◌, inr, arith}
 use Rattle.std.specs.List.{AllByRecursion, flat_map, list_any}
 use Rattle.implib.specs.declared.machine.MachineType.{MachineType}
-use Rattle.implib.specs.Formats.Object.{Object}
-use Rattle.implib.specs.Link.Image.{image_of, Range, range_end}
-use Rattle.implib.specs.Link.Placement.{Bases, Placed, placed_from}
+use Rattle.implib.specs.Link.Image.{Range, range_end}
+use Rattle.implib.specs.Link.Placement.{Placed}
 use Rattle.implib.proofs.Link.LinkedMembers.{among_contains}
 use Rattle.implib.proofs.Link.Ranges.{among_flat}
-use Rattle.implib_link.specs.Gnu.Fields.{AreBeside, AreLinkedBeside, IsRelocated, LinkedCode, range_of_code, ranges_of_codes}
-use Rattle.implib_link.specs.Gnu.Moves.{AreMoved, IsAtBase, AreInMemory, ArePaged, CanBeMoved, places_of_code}
-use Rattle.implib_link.specs.Gnu.Rebased.{CanMove, Place, covers, table_places}
+use Rattle.implib_link.specs.Gnu.Fields.{AreLinkedBeside, IsRelocated, LinkedCode, range_of_code, ranges_of_codes}
+use Rattle.implib_link.specs.Gnu.Moves.{AreMoved, AreInMemory, ArePaged, CanBeMoved, places_of_code}
+use Rattle.implib_link.specs.Gnu.Rebased.{Place, covers, table_places}
 use Rattle.implib_link.proofs.Gnu.Choices.{PlaceIn, all_widths, can_rebase, places_apart, places_in, places_widths}
 use Rattle.implib_link.proofs.Gnu.Moved.{among_place, apart_back, places_from}
 use Rattle.implib_link.proofs.Search.Lists.{contains_among}
@@ -30,7 +29,7 @@ module _ (machine : MachineType) (image_base : ℕ) (targets : LinkedCode → �
   )
 
 -- at the places where its code stores addresses whole
-pub moved_exists : (machine : MachineType) (from to : ℕ) (image : List Range) (linked : List Placed) (codes : List LinkedCode) (targets : LinkedCode → ℕ → ℕ) → table_places machine linked ≡ [] →
+moved_exists : (machine : MachineType) (from to : ℕ) (image : List Range) (linked : List Placed) (codes : List LinkedCode) (targets : LinkedCode → ℕ → ℕ) → table_places machine linked ≡ [] →
     AreLinkedBeside machine from image linked codes targets → CanBeMoved machine codes → (memory : List Range) × AreMoved machine from to image linked codes targets (flat_map (places_of_code machine) codes) memory
 moved_exists machine from to image linked codes targets none beside can =
     let ranges : List Range = ranges_of_codes codes in
@@ -56,10 +55,3 @@ pub moved_memory_exists : (machine : MachineType) (from to : ℕ) (image : List 
 moved_memory_exists machine from to image linked codes targets none beside can paged =
     let moved = moved_exists machine from to image linked codes targets none beside can in
     (moved.0, inr (from, (flat_map (places_of_code machine) codes, (paged, moved.1))))
-
--- and so a program is at any base
-pub base_exists : (machine : MachineType) (from to : ℕ) (bases : Bases) (objects : List Object) (codes : List LinkedCode) (targets : LinkedCode → ℕ → ℕ) → table_places machine (placed_from bases objects) ≡ [] →
-    AreBeside machine from bases objects codes targets → CanBeMoved machine codes → CanMove machine from to bases → (memory : List Range) × IsAtBase machine from to bases objects codes targets memory
-base_exists machine from to bases objects codes targets none beside can bases_can =
-    let moved = moved_exists machine from to (image_of machine bases (placed_from bases objects)) (placed_from bases objects) codes targets none beside can in
-    (moved.0, record { can = bases_can; places = flat_map (places_of_code machine) codes; moved = moved.1 })

@@ -12,6 +12,7 @@ use Rattle.implib.specs.Link.Load.{BytesAt, number_in}
 use Rattle.implib.specs.Link.Placement.{Placed}
 use Rattle.implib.specs.Link.Resolution.{definitions_of}
 use Rattle.implib.specs.Members.Gnu.{stub_bytes, stub_relocations}
+use Rattle.implib_link.specs.Gnu.Calls.{StubAt}
 use Rattle.implib_link.specs.Gnu.Fields.{LinkedCode, MeetsAlone, field_at, meets, placed_code}
 use Rattle.implib_link.specs.Gnu.Operands.{InstructionArrives, PairArrives}
 use Rattle.implib_link.specs.Gnu.Rebased.{StubArrives}
@@ -21,7 +22,6 @@ use Rattle.implib_link.proofs.Gnu.FieldsInMemory.{Rests, part_there, settled_in_
 use Rattle.implib_link.proofs.Gnu.Memory.{Covers}
 use Rattle.implib_link.proofs.Gnu.MovedCode.{four_of, joined, jump_field}
 use Rattle.implib_link.proofs.Gnu.Operands.{instruction_at, pair_at}
-use Rattle.implib_link.proofs.Gnu.PlacedStubs.{StubAt}
 use Rattle.implib_link.proofs.Search.Lists.{contains_among}
 
 amd64_jump : (address : ℕ) (field : List ℕ) → length field ≡ 4 → jump_reads AMD64 address (0xFF ∷ 0x25 ∷ (field ++ 0x90 ∷ 0x90 ∷ [])) ≡ Some (plus_signed 32 1 (number_in field) (address + 6))

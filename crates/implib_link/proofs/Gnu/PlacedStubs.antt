@@ -10,13 +10,13 @@ use Rattle.implib.specs.Formats.Object.{ASymbol, Entry, Object, ObjectSection, O
 use Rattle.implib.specs.Link.LinkedMembers.{IsMade, LinkInput, chosen_exports}
 use Rattle.implib.specs.Link.Placement.{Bases, Placed, placed_from}
 use Rattle.implib.specs.Link.Resolution.{definitions_of, symbol_address}
-use Rattle.implib.specs.Members.Gnu.{relocations_of_stub, section, stub, stub_bytes, stub_relocations, text_name}
+use Rattle.implib.specs.Members.Gnu.{relocations_of_stub, section, stub, text_name}
 use Rattle.implib.specs.Members.ImportTables.{thunk_width}
 use Rattle.implib.proofs.Link.Linked.{address_found}
 use Rattle.implib.proofs.Link.LinkedBlocks.{even}
 use Rattle.implib.proofs.Link.Placement.{placed_export}
 use Rattle.implib.proofs.Link.Ranges.{Among}
-use Rattle.implib_link.specs.Gnu.Calls.{Defines, PlacedCode}
+use Rattle.implib_link.specs.Gnu.Calls.{Defines, PlacedCode, StubAt}
 use Rattle.implib_link.specs.Gnu.Program.{IsProgram, has_tables, null_descriptor, thunks_before}
 use Rattle.implib_link.proofs.Gnu.Definers.{one_definer}
 use Rattle.implib_link.proofs.Gnu.Program.{kept_placed}
@@ -24,15 +24,6 @@ use Rattle.implib_link.proofs.Gnu.Stubs.{among_filter, block_placed, code_bytes,
 use Rattle.implib_link.proofs.Search.Lists.{contains_among}
 use Rattle.implib.specs.LibraryName.{NamesOfDll, names_for}
 use Rattle.implib.specs.declared.flavor.Flavor.TheVariants.{Gnu}
-
--- Code is a stub, under the symbol at its beginning; its own symbol 2 is the entry at an address.
-pub record StubAt (machine : MachineType) (linked : List Placed) (d : PlacedCode) (t : ObjectSymbol) (entry : ℕ) : Type 0 where
-  pub bytes : d.code.bytes ≡ stub_bytes machine
-  pub relocations : d.code.relocations ≡ stub_relocations machine 2
-  pub begins : t.value ≡ 0
-  pub symbol : Entry
-  pub held : slice_get d.from.object.entries 2 ≡ Some symbol
-  pub placed : symbol_address linked d.from symbol ≡ Some entry
 
 pub found_entry : (f : Entry → Option ℕ) (o : Option Entry) (a : ℕ) → option_and_then f o ≡ Some a → (x : Entry) × ((o ≡ Some x) × (f x ≡ Some a))
 found_entry f None a is = cc

@@ -34,11 +34,6 @@ placed_parts b [] rest = refl
 placed_parts b (o ∷ front) rest =
     ap (λ others. record { object = o; section_addresses = section_addresses_of b o.sections } ∷ others) (placed_parts (ends_after b o.sections) front rest)
 
-pub ends_parts : (b : Bases) (front rest : List Object) → ends_behind b (front ++ rest) ≡ ends_behind (ends_behind b front) rest
-unfolding ends_behind
-ends_parts b [] rest = refl
-ends_parts b (o ∷ front) rest = ends_parts (ends_after b o.sections) front rest
-
 -- Where what is filled in ends.
 
 finish : ℕ → List Contribution → ℕ

@@ -17,8 +17,10 @@ use Rattle.implib.proofs.Link.LinkedBlocks.{blocks_definitions, blocks_objects, 
 use Rattle.implib.proofs.Link.LinkedInputs.{block_of, gnu_inputs_fit, gnu_inputs_objects, gnu_inputs_symbols}
 use Rattle.implib.proofs.Link.LinkedMembers.{among_map}
 use Rattle.implib.proofs.Link.Ranges.{Among}
-use Rattle.implib_link.specs.Directory.{Imported, imported}
-use Rattle.implib_link.specs.Gnu.Loaded.{IsLoaded, Writes}
+use Rattle.implib_link.specs.Directory.{DirectoryAt, Imported, imported}
+use Rattle.implib_link.specs.Gnu.Fields.{LinkedCode}
+use Rattle.implib_link.specs.Gnu.Loaded.{Writes}
+use Rattle.implib_link.specs.Gnu.Moves.{AreInMemory}
 use Rattle.implib_link.specs.Gnu.Program.{IsProgram, has_tables, linked_symbols, null_descriptor, thunks_before}
 use Rattle.implib_link.specs.Gnu.Reading.{ReadsAndWrites}
 use Rattle.implib_link.specs.Gnu.Writing.{AreAlike, WritesAsItGoes}
@@ -27,13 +29,12 @@ use Rattle.implib_link.proofs.Gnu.Beside.{LocatedBeside, blocks_beside}
 use Rattle.implib_link.proofs.Gnu.Blocks.{objects_behind}
 use Rattle.implib_link.proofs.Gnu.Bounds.{table_long}
 use Rattle.implib_link.proofs.Gnu.Filling.{DirectoryBeside, all_filled, can_run, left_alike, runs_once}
-use Rattle.implib_link.proofs.Gnu.Keeps.{Keeps}
+use Rattle.implib_link.proofs.Gnu.FieldsInMemory.{rests}
+use Rattle.implib_link.proofs.Gnu.Keeps.{Keeps, memory_can_be_read, memory_read}
 use Rattle.implib_link.proofs.Gnu.Loaded.{thunks_asked}
-use Rattle.implib_link.proofs.LoadedPrograms.{program_loads}
 use Rattle.implib_link.proofs.Gnu.Others.{contributions_kept, definitions_kept}
 use Rattle.implib_link.proofs.Gnu.Program.{all_claim, each, program_links}
-use Rattle.implib_link.proofs.Gnu.Reading.{directory_read}
-use Rattle.implib_link.proofs.LoadedPrograms.{reader_ends}
+use Rattle.implib_link.proofs.Gnu.Steady.{program_tables_none}
 
 keeps_twice : (first second third : List Range) → Keeps first second → Keeps second third → Keeps first third
 unfolding Keeps
@@ -65,10 +66,28 @@ module _ (machine : MachineType) (b : Bases) (objects : List Object) (admissible
       can_run beside b.addresses high (thunk_width machine) (avoids_addresses machine b objects admissible high (omega arith)) gives wide imports b.descriptors b.addresses memory kept
       (omega arith) (omega arith) directory
 
-  pub run_alike : (written : List Range) → Writes (image_of machine b (placed_from b objects)) (thunk_width machine) gives b.descriptors imports written →
+  run_alike : (written : List Range) → Writes (image_of machine b (placed_from b objects)) (thunk_width machine) gives b.descriptors imports written →
       AreAlike (all_filled (thunk_width machine) gives b.addresses imports memory) (written ++ memory)
   run_alike written writes =
       left_alike beside (image_of machine b (placed_from b objects)) (keeps_beside machine b objects admissible) (thunk_width machine) gives wide imports b.descriptors b.addresses written memory directory writes
+
+  -- and so it leaves what one does that reads first
+  pub run_reads : (n : ℕ) → length imports ≡ n → DirectoryAt (image_of machine b (placed_from b objects)) (thunk_width machine) b.descriptors imports → (found : List Imported) (after : List Range) →
+      WritesAsItGoes (thunk_width machine) gives b.descriptors memory found after →
+      (found ≡ imports) × ((written : List Range) × (ReadsAndWrites memory (thunk_width machine) gives n b.descriptors written × AreAlike after (written ++ memory)))
+  run_reads n count is_directory found after runs =
+      let once = run_once found after runs in
+      let reader = memory_can_be_read (image_of machine b (placed_from b objects)) memory keeps (thunk_width machine) gives b.descriptors imports is_directory in
+      let read = memory_read (image_of machine b (placed_from b objects)) memory keeps (thunk_width machine) gives (length imports) b.descriptors imports reader.0 is_directory reader.1 in (
+        once.0,
+        (
+          reader.0,
+          (
+            subst (λ k. ReadsAndWrites memory (thunk_width machine) gives k b.descriptors reader.0) count reader.1,
+            subst (λ m. AreAlike m (reader.0 ++ memory)) (sym once.1) (run_alike reader.0 read.1),
+          ),
+        ),
+      )
 
 thunks_same : (machine : MachineType) (i : ℕ) (inputs : List LinkInput) → thunks_asked i (map (imported machine) inputs) ≡ thunks_before i inputs
 thunks_same machine zero inputs = refl
@@ -76,10 +95,6 @@ thunks_same machine (suc i) [] = refl
 thunks_same machine (suc i) (p ∷ inputs) =
     ap (λ n. n + 1 + thunks_asked i (map (imported machine) inputs)) (length-map (chosen_exports p.definition p.chosen) (expected_ask machine))
     ∙ ap (λ n. length (chosen_exports p.definition p.chosen) + 1 + n) (thunks_same machine i inputs)
-
-pub keeps_itself : (image : List Range) → Keeps image image
-unfolding Keeps
-keeps_itself image a byte is = is
 
 module _ (machine : MachineType) (b : Bases) (inputs : List LinkInput) (objects : List Object) (made : AllByRecursion (IsMade machine) inputs) (program : IsProgram machine b inputs objects) where
   abbrev linked : List Placed
@@ -141,39 +156,21 @@ module _ (machine : MachineType) (b : Bases) (inputs : List LinkInput) (objects 
       table_long machine b inputs objects made program
       ∙ ap (λ n. thunk_width machine * n) (sym (ap (λ n. thunks_asked n (map (imported machine) inputs)) (length-map inputs (imported machine)) ∙ thunks_same machine (length inputs) inputs))
 
-pub writer_loads : (machine : MachineType) (bases : Bases) (inputs : List LinkInput) (objects : List Object) (gives : List ℕ → Ask → List ℕ) (found : List Imported) (after : List Range) →
-    AllByRecursion (IsMade machine) inputs → IsProgram machine bases inputs objects → ((dll : List ℕ) (ask : Ask) → length (gives dll ask) ≡ thunk_width machine) →
-    WritesAsItGoes (thunk_width machine) gives bases.descriptors (image_of machine bases (placed_from bases objects)) found after →
-    (found ≡ map (imported machine) inputs) × ((written : List Range) × (ReadsAndWrites (image_of machine bases (placed_from bases objects)) (thunk_width machine) gives (length inputs) bases.descriptors written
-    × (IsLoaded machine bases inputs objects gives written × AreAlike after (written ++ image_of machine bases (placed_from bases objects)))))
-writer_loads machine bases inputs objects gives found after made program wide runs =
-    let image : List Range = image_of machine bases (placed_from bases objects) in
-    let imports : List Imported = map (imported machine) inputs in
-    let long = gnu_long machine bases inputs objects made program in
-    let beside = gnu_beside machine bases inputs objects made program in
-    let once = run_once machine bases objects program.admissible imports long beside gives wide image (keeps_itself image) found after runs in
-    let reader = reader_ends machine bases inputs objects gives made program in
-    let read = directory_read image (thunk_width machine) gives (length inputs) bases.descriptors imports reader.0 (program_links machine bases inputs objects made program).directory reader.1 in
-    let alike = run_alike machine bases objects program.admissible imports long beside gives wide image (keeps_itself image) reader.0 read.1 in (
-      once.0,
-      (
-        reader.0,
-        (
-          reader.1,
-          (
-            program_loads machine bases inputs objects gives reader.0 made program wide read.1,
-            subst (λ m. AreAlike m (reader.0 ++ image)) (sym once.1) alike,
-          ),
-        ),
-      ),
-    )
+module _ (machine : MachineType) (image_base : ℕ) (b : Bases) (inputs : List LinkInput) (objects : List Object) (codes : List LinkedCode) (targets : LinkedCode → ℕ → ℕ) (memory : List Range) (gives : List ℕ → Ask → List ℕ)
+    (made : AllByRecursion (IsMade machine) inputs) (program : IsProgram machine b inputs objects)
+    (at : AreInMemory machine image_base (image_of machine b (placed_from b objects)) (placed_from b objects) codes targets memory)
+    (wide : (dll : List ℕ) (ask : Ask) → length (gives dll ask) ≡ thunk_width machine) where
+  keeps_program : Keeps (image_of machine b (placed_from b objects)) memory
+  keeps_program = (rests machine image_base (image_of machine b (placed_from b objects)) (placed_from b objects) codes targets memory at (program_tables_none machine b inputs objects made program)).image_kept
 
-pub writer_ends : (machine : MachineType) (bases : Bases) (inputs : List LinkInput) (objects : List Object) (gives : List ℕ → Ask → List ℕ) →
-    AllByRecursion (IsMade machine) inputs → IsProgram machine bases inputs objects → ((dll : List ℕ) (ask : Ask) → length (gives dll ask) ≡ thunk_width machine) →
-    (after : List Range) × WritesAsItGoes (thunk_width machine) gives bases.descriptors (image_of machine bases (placed_from bases objects)) (map (imported machine) inputs) after
-writer_ends machine bases inputs objects gives made program wide =
-    let image : List Range = image_of machine bases (placed_from bases objects) in
-    let imports : List Imported = map (imported machine) inputs in (
-      all_filled (thunk_width machine) gives bases.addresses imports image,
-      run_can machine bases objects program.admissible imports (gnu_long machine bases inputs objects made program) (gnu_beside machine bases inputs objects made program) gives wide image (keeps_itself image),
-    )
+  pub writer_loads : (found : List Imported) (after : List Range) → WritesAsItGoes (thunk_width machine) gives b.descriptors memory found after →
+      (found ≡ map (imported machine) inputs) × ((written : List Range) × (ReadsAndWrites memory (thunk_width machine) gives (length inputs) b.descriptors written × AreAlike after (written ++ memory)))
+  writer_loads =
+      run_reads machine b objects program.admissible (map (imported machine) inputs) (gnu_long machine b inputs objects made program) (gnu_beside machine b inputs objects made program) gives wide memory keeps_program
+      (length inputs) (length-map inputs (imported machine)) (program_links machine b inputs objects made program).directory
+
+  pub writer_ends : (after : List Range) × WritesAsItGoes (thunk_width machine) gives b.descriptors memory (map (imported machine) inputs) after
+  writer_ends = (
+    all_filled (thunk_width machine) gives b.addresses (map (imported machine) inputs) memory,
+    run_can machine b objects program.admissible (map (imported machine) inputs) (gnu_long machine b inputs objects made program) (gnu_beside machine b inputs objects made program) gives wide memory keeps_program,
+  )

@@ -51,12 +51,6 @@ unfolding head_object
 head_has_none machine dll = refl
 
 module _ (machine : MachineType) (libraries : List FlavorLibrary) (archive : IsFlavorArchive machine libraries) where
-  abbrev Gnus : List Library
-  Gnus = gnu_among libraries
-
-  abbrev Shorts : List Library
-  Shorts = msvc_among libraries
-
   -- a member that is needed for names
   pub data IsNeededOf (names : List (List ℕ)) (m : MemberView) : Type 0 where
     ForImport : (l : Library) → Among l (msvc_among libraries) → Linked machine l names m → IsNeededOf names m

@@ -31,9 +31,6 @@ use Rattle.implib_link.proofs.Search.MsvcArranged.{library_fewer as short_fewer,
 
 -- Libraries of one flavour, in another order.
 
-same_library : (x y : Library) → Some x ≡ Some y → x ≡ y
-same_library x y same = cc
-
 pub gnu_from : (libraries : List FlavorLibrary) (x : Library) → Among x (gnu_among libraries) → (l : FlavorLibrary) × Among l libraries × (if_gnu l.flavor l.library ≡ Some x)
 unfolding Among
 gnu_from [] x held = absurd held

@@ -1,59 +1,27 @@
 -- What is linked of an archive of libraries for Microsoft's linker, where the libraries may be in another order; and
 -- that its symbols differ, since those do that the archive lists.
-use Rattle.std.proofs.Common.{◌≡◌, ℕ, ◌+◌, ◌≤◌, true, List, [], ◌∷◌, ◌++◌, map, Some, refl, ap, sym, ◌∙◌, subst, inl, inr, arith}
-use Rattle.std.specs.Prelude.{IsPermutation, bytes_eq}
-use Rattle.std.specs.List.{AllByRecursion, IsDistinct, cons_option, filter, flat_map}
+use Rattle.std.proofs.Common.{◌≡◌, ℕ, ◌+◌, ◌≤◌, true, List, [], ◌∷◌, ◌++◌, Some, refl, ap, sym, ◌∙◌, subst, inl, inr, arith}
+use Rattle.std.specs.List.{filter, flat_map}
 use Rattle.std.proofs.lemmas.Bool.{cases_Bool}
-use Rattle.std.proofs.lemmas.List.Sorted.{IsPermutation-sym}
 use Rattle.implib.specs.declared.flavor.Flavor.TheVariants.{Msvc}
 use Rattle.implib.specs.declared.machine.MachineType.{MachineType}
 use Rattle.implib.specs.Definition.{ExportView}
 use Rattle.implib.specs.Link.LinkedMembers.{chosen_exports}
-use Rattle.implib.specs.Members.MemberSpec.{MemberView}
 use Rattle.implib.specs.Members.Msvc.{short_import_symbols}
-use Rattle.implib.specs.Members.MsvcObjects.{descriptor_symbol, null_descriptor_symbol, null_thunk_symbol}
-use Rattle.implib.proofs.Link.Ranges.{Among, all_among}
-use Rattle.implib_link.specs.Flavors.Expansion.{descriptor_symbol_by_name}
-use Rattle.implib_link.specs.Flavors.Program.{FlavorInput, IsFoundByName, IsMadeFor, all_members, symbols_listed}
+use Rattle.implib.specs.Members.MsvcObjects.{descriptor_symbol, null_thunk_symbol}
+use Rattle.implib.proofs.Link.Ranges.{Among}
+use Rattle.implib_link.specs.Flavors.Program.{FlavorInput}
 use Rattle.implib_link.specs.Search.Archives.{Library, exports_of}
-use Rattle.implib_link.specs.Search.MsvcArchives.{IsMsvcArchive, IsMsvcLibrary, imports_wanted, is_import_wanted, short_input_if_any, short_inputs, symbols_of_short, symbols_of_shorts}
+use Rattle.implib_link.specs.Search.MsvcArchives.{imports_wanted, is_import_wanted, short_input_if_any, short_inputs, symbols_of_short, symbols_of_shorts}
 use Rattle.implib_link.proofs.Flavors.Block.{symbols_of}
-use Rattle.implib_link.proofs.Flavors.Blocks.{FlavorBlock}
-use Rattle.implib_link.proofs.Flavors.Inputs.{block_in, inputs_symbols}
-use Rattle.implib_link.proofs.Search.Arranged.{all_each, among_moved, input_behind, input_from, input_front}
+use Rattle.implib_link.proofs.Search.Arranged.{input_behind, input_from, input_front}
 use Rattle.implib_link.proofs.Search.Closed.{passes}
-use Rattle.implib_link.proofs.Search.Counts.{distinct_from, few_from, times, times_both, times_moved}
+use Rattle.implib_link.proofs.Search.Counts.{times, times_both}
 use Rattle.implib_link.proofs.Search.Msvc.{some_export}
-use Rattle.implib_link.proofs.Search.MsvcArchives.{AnyImport, import_parts, imports_are, linked_of, of_linked}
-use Rattle.implib.specs.LibraryName.{NamesOfDll, linked_dll, names_for}
-use Rattle.implib_link.specs.Flavors.Program.{dll_names_in}
+use Rattle.implib_link.proofs.Search.MsvcArchives.{AnyImport, import_parts, imports_are}
+use Rattle.implib.specs.LibraryName.{NamesOfDll, names_for}
 
 -- Libraries in another order are an archive, and the same members are linked of them.
-
-null_and_others : (name : List ℕ) (libraries : List Library) → times name (null_descriptor_symbol ∷ flat_map symbols_of_shorts libraries)
-    ≡ times name (null_descriptor_symbol ∷ []) + times name (flat_map symbols_of_shorts libraries)
-null_and_others name libraries = times_both name (null_descriptor_symbol ∷ []) (flat_map symbols_of_shorts libraries)
-
-pub shorts_moved : (machine : MachineType) (libraries arranged : List Library) → IsPermutation libraries arranged → IsMsvcArchive machine libraries → IsMsvcArchive machine arranged
-shorts_moved machine libraries arranged moved archive =
-    let back : IsPermutation arranged libraries = IsPermutation-sym libraries arranged moved in
-    record {
-      made = all_each (IsMsvcLibrary machine) arranged (λ l held. all_among (IsMsvcLibrary machine) l libraries (among_moved l arranged libraries back held) archive.made);
-      distinct = distinct_from (null_descriptor_symbol ∷ flat_map symbols_of_shorts arranged) (λ name.
-          subst (λ n. n ≤ 1) (sym (null_and_others name arranged ∙ ap (λ n. times name (null_descriptor_symbol ∷ []) + n) (times_moved symbols_of_shorts name libraries arranged moved)
-          ∙ sym (null_and_others name libraries)))
-          (few_from (null_descriptor_symbol ∷ flat_map symbols_of_shorts libraries) archive.distinct name));
-      found = all_each (λ (l : Library). descriptor_symbol_by_name l.definition.import_name ≡ descriptor_symbol (linked_dll l.definition)) arranged
-          (λ l held. all_among (λ (l : Library). descriptor_symbol_by_name l.definition.import_name ≡ descriptor_symbol (linked_dll l.definition)) l libraries (among_moved l arranged libraries back held) archive.found);
-    }
-
-pub shorts_linked_moved : (machine : MachineType) (libraries arranged : List Library) (names : List (List ℕ)) → IsPermutation libraries arranged → (m : MemberView) →
-    Among m (all_members machine (short_inputs libraries names)) → Among m (all_members machine (short_inputs arranged names))
-shorts_linked_moved machine libraries arranged names moved m held =
-    let from = linked_of machine libraries names m held in
-    of_linked machine arranged names m from.0 (among_moved from.0 libraries arranged moved from.1) from.2
-
--- The input of a library that is wanted.
 
 abbrev pub short_input_for : Library → List (List ℕ) → FlavorInput
 short_input_for l names = record {
@@ -98,22 +66,6 @@ short_input_is (l ∷ libraries) names p held =
       | inr behind ↦ let later = short_input_is libraries names p behind in (later.0, inr later.1, later.2, later.3)
     ]
 
-pub short_inputs_made : (machine : MachineType) (libraries : List Library) (names : List (List ℕ)) → IsMsvcArchive machine libraries → AllByRecursion (IsMadeFor machine) (short_inputs libraries names)
-short_inputs_made machine libraries names archive =
-    all_each (IsMadeFor machine) (short_inputs libraries names) (λ p held.
-    let from = short_input_is libraries names p held in
-    subst (IsMadeFor machine) (sym from.2) (all_among (IsMsvcLibrary machine) from.0 libraries from.1 archive.made))
-
-pub short_inputs_found : (machine : MachineType) (libraries : List Library) (names : List (List ℕ)) → IsMsvcArchive machine libraries →
-    AllByRecursion (λ p. IsFoundByName p.flavor (dll_names_in p)) (short_inputs libraries names)
-short_inputs_found machine libraries names archive =
-    all_each (λ p. IsFoundByName p.flavor (dll_names_in p)) (short_inputs libraries names) (λ p held.
-    let from = short_input_is libraries names p held in
-    subst (λ (q : FlavorInput). IsFoundByName q.flavor (dll_names_in q)) (sym from.2)
-    (all_among (λ (l : Library). descriptor_symbol_by_name l.definition.import_name ≡ descriptor_symbol (linked_dll l.definition)) from.0 libraries from.1 archive.found))
-
--- The symbols of what is linked differ.
-
 shorts_fewer : (name : List ℕ) (names : List (List ℕ)) (es : List ExportView) → times name (flat_map short_import_symbols (filter (is_import_wanted names) es)) ≤ times name (flat_map symbols_of_short es)
 unfolding times
 shorts_fewer name names [] = omega arith
@@ -133,9 +85,6 @@ shorts_fewer name names (e ∷ es) =
     ]
 
 module _ (machine : MachineType) where
-  abbrev of_inputs : List FlavorInput → List (List ℕ)
-  of_inputs inputs = flat_map (λ (k : FlavorBlock). symbols_of machine k.flavor k.dll k.exports) (map block_in inputs)
-
   pub library_fewer : (name : List ℕ) (l : Library) (names : List (List ℕ)) →
       times name (symbols_of machine Msvc (names_for Msvc l.definition) (chosen_exports l.definition (imports_wanted l names))) ≤ times name (symbols_of_shorts l)
   unfolding symbols_of_shorts
@@ -153,38 +102,3 @@ module _ (machine : MachineType) where
       ∙ ap (λ n. times name (descriptor_symbol dll.linked ∷ []) + n) (times_both name (null_thunk_symbol dll.linked ∷ []) (flat_map symbols_of_short (exports_of l))) in
       subst (λ (es : List ExportView). times name (symbols_of machine Msvc dll es) ≤ times name (descriptor_symbol dll.linked ∷ null_thunk_symbol dll.linked ∷ flat_map symbols_of_short (exports_of l))) (sym (imports_are l names))
       (omega arith)
-
-  one_more : (name : List ℕ) (l : Library) (chosen : List ℕ) (others : List FlavorInput) →
-      times name (of_inputs (cons_option (short_input_if_any l chosen) others)) ≤ times name (symbols_of machine Msvc (names_for Msvc l.definition) (chosen_exports l.definition chosen)) + times name (of_inputs others)
-  one_more name l [] others = omega arith
-  one_more name l (n ∷ chosen) others =
-      (let both = times_both name (symbols_of machine Msvc (names_for Msvc l.definition) (chosen_exports l.definition (n ∷ chosen))) (of_inputs others) in omega arith)
-
-  inputs_fewer : (name : List ℕ) (libraries : List Library) (names : List (List ℕ)) → times name (of_inputs (short_inputs libraries names)) ≤ times name (flat_map symbols_of_shorts libraries)
-  unfolding times
-  inputs_fewer name [] names = omega arith
-  inputs_fewer name (l ∷ libraries) names =
-      let chosen : List ℕ = imports_wanted l names in
-      let first : times name (of_inputs (cons_option (short_input_if_any l chosen) (short_inputs libraries names)))
-      ≤ times name (symbols_of machine Msvc (names_for Msvc l.definition) (chosen_exports l.definition chosen)) + times name (of_inputs (short_inputs libraries names)) =
-      one_more name l chosen (short_inputs libraries names) in
-      let own : times name (symbols_of machine Msvc (names_for Msvc l.definition) (chosen_exports l.definition chosen)) ≤ times name (symbols_of_shorts l) = library_fewer name l names in
-      let behind : times name (of_inputs (short_inputs libraries names)) ≤ times name (flat_map symbols_of_shorts libraries) = inputs_fewer name libraries names in
-      let all : times name (symbols_of_shorts l ++ flat_map symbols_of_shorts libraries) ≡ times name (symbols_of_shorts l) + times name (flat_map symbols_of_shorts libraries) =
-      times_both name (symbols_of_shorts l) (flat_map symbols_of_shorts libraries) in
-      omega arith
-
-  pub shorts_distinct : (libraries : List Library) (names : List (List ℕ)) → IsMsvcArchive machine libraries →
-      IsDistinct bytes_eq (null_descriptor_symbol ∷ symbols_listed (all_members machine (short_inputs libraries names)))
-  shorts_distinct libraries names archive =
-      subst (λ listed. IsDistinct bytes_eq (null_descriptor_symbol ∷ listed)) (sym (inputs_symbols machine (short_inputs libraries names) (short_inputs_made machine libraries names archive)))
-      (distinct_from (null_descriptor_symbol ∷ of_inputs (short_inputs libraries names)) (λ name. few_of name))
-    where
-      few_of : (name : List ℕ) → times name (null_descriptor_symbol ∷ of_inputs (short_inputs libraries names)) ≤ 1
-      few_of name =
-          let most : times name (null_descriptor_symbol ∷ flat_map symbols_of_shorts libraries) ≤ 1 = few_from (null_descriptor_symbol ∷ flat_map symbols_of_shorts libraries) archive.distinct name in
-          let less : times name (of_inputs (short_inputs libraries names)) ≤ times name (flat_map symbols_of_shorts libraries) = inputs_fewer name libraries names in
-          let all = null_and_others name libraries in
-          let some : times name (null_descriptor_symbol ∷ of_inputs (short_inputs libraries names)) ≡ times name (null_descriptor_symbol ∷ []) + times name (of_inputs (short_inputs libraries names)) =
-          times_both name (null_descriptor_symbol ∷ []) (of_inputs (short_inputs libraries names)) in
-          omega arith

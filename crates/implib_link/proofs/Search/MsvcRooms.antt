@@ -1,10 +1,9 @@
 -- How far packed import tables of libraries for Microsoft's linker reach, by the definitions alone.
 use Rattle.std.proofs.Common.{◌≡◌, ℕ, zero, suc, take, ◌+◌, ◌≤◌, Bool, true, false, List, [], ◌∷◌, ◌++◌, length, map, refl, ap, sym, ◌∙◌, subst, inl, inr, arith, if◌then◌else◌}
-use Rattle.std.specs.Prelude.{IsPermutation, ◌==◌}
+use Rattle.std.specs.Prelude.{◌==◌}
 use Rattle.std.specs.List.{AllByRecursion, before_first, cons_option, filter, position_or_len, sum_by}
 use Rattle.std.proofs.lemmas.Bool.{cases_Bool}
 use Rattle.std.proofs.lemmas.List.{length-append}
-use Rattle.std.proofs.lemmas.List.Sorted.{sum_by-IsPermutation}
 use Rattle.implib.specs.declared.flavor.Flavor.TheVariants.{Msvc}
 use Rattle.implib.specs.declared.machine.MachineType.{MachineType}
 use Rattle.implib.specs.declared.machine.MachineType.TheVariants.{I386, ARMNT, AMD64, ARM64}
@@ -23,8 +22,8 @@ use Rattle.implib_link.specs.Flavors.Program.{AreFlavorObjects, FlavorInput, IsM
 use Rattle.implib_link.specs.Flavors.SectionSymbols.{with_section_symbols}
 use Rattle.implib_link.specs.Gnu.Packed.{packed_end}
 use Rattle.implib_link.specs.Search.Archives.{Library, exports_of}
-use Rattle.implib_link.specs.Search.MsvcArchives.{imports_wanted, is_import_wanted, short_input_if_any, short_inputs}
-use Rattle.implib_link.specs.Search.MsvcExists.{msvc_library_room, msvc_tables_end, short_room}
+use Rattle.implib_link.specs.Search.MsvcArchives.{imports_wanted, is_import_wanted, short_input_if_any}
+use Rattle.implib_link.specs.Search.MsvcExists.{msvc_library_room, short_room}
 use Rattle.implib_link.proofs.Flavors.Block.{behind_descriptor, use_for}
 use Rattle.implib_link.proofs.Flavors.Blocks.{all_objects}
 use Rattle.implib_link.proofs.Flavors.Expanded.{taken_descriptor, taken_null, taken_null_thunk}
@@ -144,14 +143,6 @@ short_library_near machine l names others n behind =
     subst (λ (es : List ExportView). 67 + length l.definition.import_name + sum_by short_room es ≤ msvc_library_room l) (sym (imports_are l names)) (omega arith) in
     library_near machine l (imports_wanted l names) others n (msvc_library_room l) behind own
 
-libraries_near : (machine : MachineType) (libraries : List Library) (names : List (List ℕ)) → all_rooms (all_objects machine (map block_in (short_inputs libraries names)) []) ≤ sum_by msvc_library_room libraries
-unfolding all_rooms
-libraries_near machine [] names = omega arith
-libraries_near machine (l ∷ libraries) names =
-    let all : sum_by msvc_library_room (l ∷ libraries) ≡ msvc_library_room l + sum_by msvc_library_room libraries = sum_next msvc_library_room l libraries in
-    subst (λ n. all_rooms (all_objects machine (map block_in (short_inputs (l ∷ libraries) names)) []) ≤ n) (sym all)
-    (short_library_near machine l names (short_inputs libraries names) (sum_by msvc_library_room libraries) (libraries_near machine libraries names))
-
 -- an object put in among others
 rooms_put : (front back : List Object) (o : Object) → all_rooms (front ++ o ∷ back) ≡ own_rooms o + all_rooms (front ++ back)
 unfolding all_rooms
@@ -169,9 +160,3 @@ flavor_tables_near machine first inputs objects room made held rooms =
     let parts : all_rooms (front ++ back) ≡ all_rooms (all_objects machine (map block_in inputs) []) = ap all_rooms (parts_are machine inputs objects made held) in
     let null = null_near machine in
     subst (λ n. n ≤ first + 72 + room) (sym (packed_end_kept first objects ∙ ap (packed_end first) (kept_are machine inputs objects made held))) (omega arith)
-
-pub msvc_tables_near : (machine : MachineType) (first : ℕ) (libraries arranged : List Library) (names : List (List ℕ)) (objects : List Object) → AllByRecursion (IsMadeFor machine) (short_inputs arranged names) →
-    AreFlavorObjects machine (short_inputs arranged names) objects → IsPermutation libraries arranged → packed_end first objects ≤ msvc_tables_end first libraries
-msvc_tables_near machine first libraries arranged names objects made held order =
-    subst (λ n. packed_end first objects ≤ first + 72 + n) (sum_by-IsPermutation msvc_library_room libraries arranged order)
-    (flavor_tables_near machine first (short_inputs arranged names) objects (sum_by msvc_library_room arranged) made held (libraries_near machine arranged names))

@@ -159,8 +159,7 @@ pub record IsImportedBy (machine : MachineType) (descriptors addresses : ℕ) (t
 -- What lld's tables give:
 -- `directory`: at the descriptors is a directory of exactly these imports;
 -- `imported`: each short import is one of them, at an entry of its own;
--- `only`: each of them is a short import, of the group's DLL;
--- `apart`: no two groups are of one DLL.
+-- `only`: each of them is a short import, of the group's DLL.
 pub record LldLinks (machine : MachineType) (descriptors addresses : ℕ) (taken : List ShortImport)
     (image : List Range) (linked : List Placed) : Type 0 where
   pub directory : DirectoryAt image (thunk_width machine) descriptors (imports_of_lld taken)
@@ -169,4 +168,3 @@ pub record LldLinks (machine : MachineType) (descriptors addresses : ℕ) (taken
   pub only : AllByRecursion
       (λ group. AllByRecursion (λ r. Contains taken r × (r.dll ≡ dll_of_group group)) group)
       (grouped taken)
-  pub apart : IsDistinct bytes_eq (map (λ group. in_small (dll_of_group group)) (grouped taken))

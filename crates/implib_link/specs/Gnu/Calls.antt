@@ -8,7 +8,7 @@ use Rattle.implib.specs.declared.machine.MachineType.TheVariants.{I386, ARMNT, A
 use Rattle.implib.specs.Formats.Constants.{amd64_rel32, arm64_pagebase_rel21, arm64_pageoffset_12l, i386_dir32}
 use Rattle.implib.specs.Formats.File.{is_defined_external}
 use Rattle.implib.specs.Formats.Object.{ASymbol, Entry, ObjectSection, ObjectSymbol}
-use Rattle.implib.specs.Members.Gnu.{stub_bytes}
+use Rattle.implib.specs.Members.Gnu.{stub_bytes, stub_relocations}
 use Rattle.implib.specs.Link.Image.{Range}
 use Rattle.implib.specs.Link.Load.{BytesAt}
 use Rattle.implib.specs.Link.Placement.{Placed}
@@ -141,6 +141,17 @@ pub record CallArrives (machine : MachineType) (image_base : ℕ) (memory : List
   pub entry : ℕ
   pub reads : call_reads machine (image_base + address) instructions ≡ Some (image_base + entry)
   pub located : BytesAt memory entry bytes
+
+-- Code is the stub of the entry at an address: its bytes and relocations are a stub's, its symbol 2 has the entry's
+-- address, and the name that it stands for is at its beginning.
+pub record StubAt (machine : MachineType) (linked : List Placed) (d : PlacedCode) (t : ObjectSymbol) (entry : ℕ)
+    : Type 0 where
+  pub bytes : d.code.bytes ≡ stub_bytes machine
+  pub relocations : d.code.relocations ≡ stub_relocations machine 2
+  pub begins : t.value ≡ 0
+  pub symbol : Entry
+  pub held : slice_get d.from.object.entries 2 ≡ Some symbol
+  pub placed : symbol_address linked d.from symbol ≡ Some entry
 
 -- A call by a name, with an empty field: I386 and AMD64 `call rel32`; ARM64 `bl`.
 abbrev pub direct_bytes : MachineType → List ℕ

@@ -1,19 +1,12 @@
 -- The loaded program: a loader walks the import directory and writes into each address table what the DLL
 -- gives for each ask.
-use Rattle.std.specs.Prelude.{◌≡◌, ℕ, ◌+◌, ◌*◌, ◌≤◌, false, List, [], ◌∷◌, ◌++◌, length, slice_get, Some}
-use Rattle.std.specs.List.{AllByRecursion, list_any}
-use Rattle.implib.specs.declared.machine.MachineType.{MachineType}
-use Rattle.implib.specs.Definition.{ExportView}
-use Rattle.implib.specs.Link.Image.{Range, byte_at, image_of, is_in, range_end}
-use Rattle.implib.specs.Import.{Ask, imp_symbol, expected_ask}
-use Rattle.implib.specs.Link.LinkedMembers.{LinkInput, chosen_exports}
+use Rattle.std.specs.Prelude.{◌≡◌, ℕ, ◌+◌, List, [], ◌∷◌, ◌++◌, Some}
+use Rattle.implib.specs.Link.Image.{Range}
+use Rattle.implib.specs.Import.{Ask}
 use Rattle.implib.specs.Link.Load.{BytesAt, NumberAt}
-use Rattle.implib.specs.Members.ImportTables.{thunk_width}
-use Rattle.implib.specs.Formats.Object.{Object}
-use Rattle.implib.specs.Link.Placement.{Bases, Placed, placed_from}
+use Rattle.implib.specs.Link.Placement.{Placed}
 use Rattle.implib.specs.Link.Resolution.{definitions_of}
 use Rattle.implib_link.specs.Directory.{Imported}
-use Rattle.implib_link.specs.Gnu.Program.{thunks_before}
 
 -- what is written into an address table: the bytes given for each ask, an entry further on each
 unfoldable pub entries_written : ℕ → ℕ → (Ask → List ℕ) → List Ask → List Range
@@ -35,21 +28,3 @@ pub record HoldsAt (image : List Range) (linked : List Placed) (name : List ℕ)
   pub address : ℕ
   pub once : definitions_of name linked ≡ record { name = name; address = Some address } ∷ []
   pub located : BytesAt image address bytes
-
--- The program with what was written in front of its image, so that it counts first:
--- `entries`: at each chosen export's `__imp_` symbol is what its DLL gives for what it asks;
--- `within`: what was written is in the address tables;
--- `kept`: where nothing was written, each byte is as it was linked: what was written is looked up first.
-pub record IsLoaded (machine : MachineType) (bases : Bases) (inputs : List LinkInput) (objects : List Object)
-    (gives : List ℕ → Ask → List ℕ) (written : List Range) : Type 0 where
-  pub entries : (i j : ℕ) (p : LinkInput) (e : ExportView) → slice_get inputs i ≡ Some p →
-      slice_get (chosen_exports p.definition p.chosen) j ≡ Some e →
-      HoldsAt (written ++ image_of machine bases (placed_from bases objects)) (placed_from bases objects)
-      (imp_symbol e.name) (gives p.definition.import_name (expected_ask machine e))
-  pub within : AllByRecursion
-      (λ r. (bases.addresses ≤ r.start)
-      × (range_end r ≤ bases.addresses + thunk_width machine * thunks_before (length inputs) inputs))
-      written
-  pub kept : (address : ℕ) → list_any (is_in address) written ≡ false →
-      byte_at (written ++ image_of machine bases (placed_from bases objects)) address
-      ≡ byte_at (image_of machine bases (placed_from bases objects)) address

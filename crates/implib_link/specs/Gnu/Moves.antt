@@ -5,13 +5,13 @@ use Rattle.std.specs.List.{AllByRecursion, Contains, flat_map, list_any}
 use Rattle.implib.specs.declared.coff.object.Relocation.{Relocation}
 use Rattle.implib.specs.declared.machine.MachineType.{MachineType}
 use Rattle.implib.specs.declared.machine.MachineType.TheVariants.{I386, ARMNT, AMD64, ARM64}
-use Rattle.implib.specs.Formats.Object.{Entry, Object}
-use Rattle.implib.specs.Link.Image.{Range, byte_at, image_of}
-use Rattle.implib.specs.Link.Placement.{Bases, Placed, placed_from}
+use Rattle.implib.specs.Formats.Object.{Entry}
+use Rattle.implib.specs.Link.Image.{Range, byte_at}
+use Rattle.implib.specs.Link.Placement.{Placed}
 use Rattle.implib.specs.Link.Resolution.{symbol_address}
 use Rattle.implib_link.specs.Gnu.Choices.{ArePlacesApart}
 use Rattle.implib_link.specs.Gnu.Fields.{AreLinkedBeside, LinkedCode, ranges_of_codes}
-use Rattle.implib_link.specs.Gnu.Rebased.{CanMove, IsRebased, Place, absolute_width, covers, places_at, table_places}
+use Rattle.implib_link.specs.Gnu.Rebased.{IsRebased, Place, absolute_width, covers, places_at, table_places}
 
 -- where relocations of linked code store addresses whole
 abbrev pub places_of_code : MachineType → LinkedCode → List Place
@@ -65,13 +65,3 @@ pub record CanBeMoved (machine : MachineType) (codes : List LinkedCode) : Type 0
       (λ c. AllByRecursion (λ p. p.address + p.width ≤ c.position + length c.code.bytes) (places_of_code machine c))
       codes
   pub apart : AllByRecursion (λ c. ArePlacesApart (places_of_code machine c)) codes
-
--- A program that was linked for one base is in memory at another:
--- `can`: the machine can read entries at the second base;
--- `moved`: its code was linked beside its import tables for the first base, and moved.
-pub record IsAtBase (machine : MachineType) (from to : ℕ) (bases : Bases) (objects : List Object)
-    (codes : List LinkedCode) (targets : LinkedCode → ℕ → ℕ) (memory : List Range) : Type 0 where
-  pub can : CanMove machine from to bases
-  pub places : List Place
-  pub moved : AreMoved machine from to (image_of machine bases (placed_from bases objects)) (placed_from bases objects)
-      codes targets places memory

@@ -10,10 +10,10 @@ use Rattle.implib.specs.Formats.Constants.{i386_dir32}
 use Rattle.implib.specs.Formats.Object.{ObjectSection}
 use Rattle.implib.specs.Link.Image.{Range, byte_at}
 use Rattle.implib.specs.Link.Load.{BytesAt, NumberAt}
-use Rattle.implib.specs.Link.Placement.{At, Bases, Placed, SectionAddress, Unplaced}
+use Rattle.implib.specs.Link.Placement.{At, Placed, SectionAddress, Unplaced}
 use Rattle.implib.specs.Members.Gnu.{stub_bytes}
 use Rattle.implib_link.specs.Gnu.Calls.{amd64_addr64, arm64_addr64}
-use Rattle.implib_link.specs.Stub.{CanJump, jump_reads}
+use Rattle.implib_link.specs.Stub.{jump_reads}
 
 -- AMD64's and ARM64's relocations by 32 bits that store an address whole ("Type Indicators")
 abbrev pub amd64_addr32 : ℕ
@@ -77,15 +77,6 @@ pub record IsRebased (from to : ℕ) (places : List Place) (memory rebased : Lis
       NumberAt rebased p.width p.address (moved_number p.width from to n)
   pub kept : (address byte : ℕ) → list_any (covers address) places ≡ false →
       byte_at memory address ≡ Some byte → byte_at rebased address ≡ Some byte
-
--- What a machine asks so that instructions that were linked for one base read entries at another: what stubs
--- ask at the new base, and on ARM64, whose instructions count in pages, that the bases differ by whole pages.
--- Of ARMNT nothing is claimed.
-abbrev pub CanMove : MachineType → ℕ → ℕ → Bases → Type 0
-CanMove I386 from to bases = CanJump I386 to bases
-CanMove ARMNT from to bases = ⊥
-CanMove AMD64 from to bases = CanJump AMD64 to bases
-CanMove ARM64 from to bases = CanJump ARM64 to bases × (from % 4096 ≡ to % 4096)
 
 -- At an address of memory is a stub, by the bytes that are there, and where its jump reads its target are these
 -- bytes: say, the address of a DLL's function.

@@ -16,7 +16,6 @@ use Rattle.implib_link.specs.Flavors.Expansion.{descriptor_symbol_by_name, expan
 use Rattle.implib_link.specs.Flavors.Program.{FlavorInput, all_members, null_member}
 use Rattle.implib_link.specs.Search.Archives.{Library, exports_of, has_weak}
 use Rattle.implib_link.specs.Search.Msvc.{NamesNoHeader, is_short_wanted, left_in, numbers_passing}
-use Rattle.implib_link.specs.Search.Search.{HaveSame}
 use Rattle.implib.specs.LibraryName.{linked_dll}
 
 -- a library's members are its members for Microsoft's linker
@@ -116,13 +115,3 @@ pub record IsWeakShort (libraries : List Library) (names : List (List ℕ)) (m :
   pub is : (name ≡ short_import_symbol export) ⊎ (name ≡ imp_symbol (short_import_symbol export))
   pub named : Contains names name
   pub listed : m.symbols ≡ name ∷ []
-
--- What a linker takes of such an archive: apart from weak externals, exactly what is linked of the libraries,
--- of each the exports that are wanted, by the program or by a weak external that is taken, and that are no
--- aliases, and one null descriptor; and weak externals of aliases alone.
-pub record TakesOfShorts (machine : MachineType) (libraries : List Library) (wanted : List (List ℕ))
-    (taken : List MemberView) : Type 0 where
-  pub inputs : HaveSame (others_in machine taken)
-      (shorts_linked machine libraries (wanted_with_weak machine wanted taken))
-  pub weak : AllByRecursion (IsWeakShort libraries (wanted_with_weak machine wanted taken))
-      (weak_in machine taken)

@@ -1,17 +1,11 @@
-//! Laws of what there is: addresses for the symbols of placed code, and memory at another base.
+//! The law that there are addresses for the symbols of placed code.
 
 ghost use Rattle.implib.specs.Formats.Object.{Object};
-ghost use Rattle.implib.specs.Link.Image.{Range};
-ghost use Rattle.implib.specs.Link.LinkedMembers.{IsMade, LinkInput};
 ghost use Rattle.implib.specs.Link.Placement.{Bases, placed_from};
 ghost use Rattle.implib.specs.declared.machine.MachineType.{MachineType};
-ghost use Rattle.implib_link.specs.Flavors.Program.{FlavorInput, IsFlavorProgram, IsMadeFor};
 ghost use Rattle.implib_link.specs.Gnu.Calls.{PlacedCode, Resolves};
 ghost use Rattle.implib_link.specs.Gnu.Choices.{AreSections, DefineOnce};
 ghost use Rattle.implib_link.specs.Gnu.Fields.{AreBeside, IsRelocated, LinkedCode, placed_code};
-ghost use Rattle.implib_link.specs.Gnu.Moves.{CanBeMoved, IsAtBase};
-ghost use Rattle.implib_link.specs.Gnu.Program.{IsProgram};
-ghost use Rattle.implib_link.specs.Gnu.Rebased.{CanMove};
 ghost use Rattle.std.specs.List.{AllByRecursion};
 ghost use Rattle.std.specs.Prelude.{◌≡◌, ℕ, List, map};
 
@@ -29,31 +23,4 @@ pub fn symbols_have_addresses()
         AllByRecursion (λ c. IsRelocated machine image_base (targets (placed_code c)) c.position
         c.code c.bytes) linked →
         AreBeside machine image_base bases objects linked (λ c. targets (placed_code c)))) }
-{}
-
-/// A program can be loaded at any base that its machine can move it to: there is memory in which
-/// its base relocations were applied, and nothing else, if no two of a section lie on one another.
-pub fn programs_can_be_rebased()
-    ensures exists { (machine : MachineType) (from to : ℕ) (bases : Bases)
-        (inputs : List LinkInput) (objects : List Object)
-        (codes : List LinkedCode) (targets : LinkedCode → ℕ → ℕ) →
-        AllByRecursion (IsMade machine) inputs →
-        IsProgram machine bases inputs objects →
-        AreBeside machine from bases objects codes targets →
-        CanBeMoved machine codes →
-        CanMove machine from to bases →
-        (memory : List Range) × IsAtBase machine from to bases objects codes targets memory }
-{}
-
-/// The same of a program of both flavours.
-pub fn programs_of_flavors_can_be_rebased()
-    ensures exists { (machine : MachineType) (from to : ℕ) (bases : Bases)
-        (inputs : List FlavorInput) (objects : List Object)
-        (codes : List LinkedCode) (targets : LinkedCode → ℕ → ℕ) →
-        AllByRecursion (IsMadeFor machine) inputs →
-        IsFlavorProgram machine bases inputs objects →
-        AreBeside machine from bases objects codes targets →
-        CanBeMoved machine codes →
-        CanMove machine from to bases →
-        (memory : List Range) × IsAtBase machine from to bases objects codes targets memory }
 {}

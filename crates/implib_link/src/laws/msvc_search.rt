@@ -9,11 +9,11 @@ ghost use Rattle.implib.specs.declared.machine.MachineType.{MachineType};
 ghost use Rattle.implib.specs.declared.flavor.Flavor.TheVariants.{Msvc};
 ghost use Rattle.implib_link.specs.Flavors.Expansion.{before_last_stop, descriptor_symbol_by_name};
 ghost use Rattle.implib_link.specs.Flavors.Program.{IsFoundByName};
-ghost use Rattle.implib_link.specs.Search.Msvc.{AreTakenInTurn, NamesNoHeader, TakesFor};
+ghost use Rattle.implib_link.specs.Search.Msvc.{NamesNoHeader, TakesFor};
 ghost use Rattle.implib_link.specs.Search.Msvc.{msvc_if_any, shorts_wanted};
 ghost use Rattle.implib_link.specs.Search.Search.{HaveSame};
 ghost use Rattle.std.specs.List.{IsDistinct, flat_map};
-ghost use Rattle.std.specs.Prelude.{◌≡◌, ◌≤◌, ℕ, List, Some, bytes_eq, length};
+ghost use Rattle.std.specs.Prelude.{◌≡◌, ℕ, List, Some, bytes_eq};
 
 /// A linker takes of an archive of the members for Microsoft's linker exactly the short imports
 /// that are wanted, the import descriptor, the null descriptor and the null thunk, which are found
@@ -30,17 +30,6 @@ pub fn search_takes_short_imports()
         NamesNoHeader (linked_dll d) wanted →
         TakesFor machine members wanted taken →
         HaveSame taken (msvc_if_any d machine (shorts_wanted d wanted)) }
-{}
-
-/// Such a search of any archive for any names comes to an end, whichever undefined name the linker
-/// takes up first: it can go on until no undefined name pulls in a member, and never takes more
-/// members than the archive has.
-pub fn search_of_short_imports_ends()
-    ensures found { (machine : MachineType) (archive : List MemberView) (wanted : List (List ℕ)) →
-        (taken : List MemberView) × TakesFor machine archive wanted taken }
-    ensures bounded { (machine : MachineType) (archive taken : List MemberView)
-        (wanted : List (List ℕ)) →
-        AreTakenInTurn machine archive wanted taken → length taken ≤ length archive }
 {}
 
 /// Linkers find the descriptor of a library whose name is the DLL's up to its last full stop,

@@ -13,6 +13,7 @@ ghost use Rattle.implib_link.specs.Search.Archives.{IsArchive, Library, NamesNoH
 ghost use Rattle.implib_link.specs.Search.Archives.{TakesOfLibraries, archive_of, inputs_wanted};
 ghost use Rattle.implib_link.specs.Search.Archives.{wanted_with};
 ghost use Rattle.implib_link.specs.Gnu.Program.{IsProgram, LinksAmong};
+ghost use Rattle.implib_link.specs.Search.Msvc.{AreTakenInTurn, TakesFor};
 ghost use Rattle.implib_link.specs.Search.Search.{HaveSame, ImportsWanted, IsArranged};
 ghost use Rattle.implib_link.specs.Search.Search.{IsLinkedOfWanted, IsLinkedWith, IsTakenInTurn};
 ghost use Rattle.implib_link.specs.Search.Search.{NamesNoHeadOrTail, Takes, exports_wanted};
@@ -90,12 +91,17 @@ pub fn libraries_are_searched()
         LinksAmong machine bases (inputs_wanted libraries wanted) objects }
 {}
 
-/// A search of any archive, whose members are read as objects, for any names ends, whichever
-/// undefined name the linker takes up first: it can go on until no undefined name pulls in a
-/// member, and never takes more members than the archive has.
+/// A search of any archive, whose members are read as objects, or as what a linker for a machine
+/// takes them for, for any names ends, whichever undefined name the linker takes up first: it can go
+/// on until no undefined name pulls in a member, and never takes more members than the archive has.
 pub fn search_ends()
     ensures found { (archive : List MemberView) (wanted : List (List ℕ)) →
         (taken : List MemberView) × Takes archive wanted taken }
     ensures bounded { (archive taken : List MemberView) (wanted : List (List ℕ)) →
         IsTakenInTurn archive wanted taken → length taken ≤ length archive }
+    ensures short { (machine : MachineType) (archive : List MemberView) (wanted : List (List ℕ)) →
+        (taken : List MemberView) × TakesFor machine archive wanted taken }
+    ensures short_bounded { (machine : MachineType) (archive taken : List MemberView)
+        (wanted : List (List ℕ)) →
+        AreTakenInTurn machine archive wanted taken → length taken ≤ length archive }
 {}

@@ -11,9 +11,9 @@ ghost use Rattle.implib.specs.declared.machine.MachineType.{MachineType};
 ghost use Rattle.implib_link.specs.Flavors.LldImports.{IsLldProgram, placed_by_lld};
 ghost use Rattle.implib_link.specs.Flavors.Program.{FlavorInput, IsFlavorProgram, IsMadeFor};
 ghost use Rattle.implib_link.specs.Gnu.Calls.{CanBranch};
-ghost use Rattle.implib_link.specs.Gnu.Fields.{DefinesIn, LinkedCode, field_at};
+ghost use Rattle.implib_link.specs.Gnu.Fields.{AreLinkedBeside, DefinesIn, LinkedCode, field_at};
 ghost use Rattle.implib_link.specs.Gnu.Loaded.{Writes};
-ghost use Rattle.implib_link.specs.Gnu.Moves.{AreInMemory};
+ghost use Rattle.implib_link.specs.Gnu.Moves.{AreInMemory, ArePaged, CanBeMoved};
 ghost use Rattle.implib_link.specs.Gnu.Operands.{AllLead, AreKept, BranchArrives, BranchStays};
 ghost use Rattle.implib_link.specs.Gnu.Operands.{HasBranch};
 ghost use Rattle.implib_link.specs.Gnu.Program.{IsProgram};
@@ -54,7 +54,7 @@ pub fn programs_have_tables()
 
 /// A loader that walks the directory of any import tables writes what each DLL gives into the
 /// entries, and nothing elsewhere. One that reads the image, and knows nothing else, stops after as
-/// many descriptors as there are tables and does so, and there is such a loader.
+/// many descriptors as there are tables and does so. There are such loaders.
 pub fn any_tables_load()
     ensures loads { (machine : MachineType) (t : Tables) (gives : List ℕ → Ask → List ℕ)
         (written : List Range) →
@@ -73,6 +73,10 @@ pub fn any_tables_load()
         AreTables machine t →
         (written : List Range) × ReadsAndWrites t.image (thunk_width machine) gives
         (length t.tables) t.directory written }
+    ensures writes { (machine : MachineType) (t : Tables) (gives : List ℕ → Ask → List ℕ) →
+        AreTables machine t →
+        (written : List Range) × Writes t.image (thunk_width machine) gives t.directory
+        (map imported_by_table t.tables) written }
 {}
 
 /// Any import tables are in memory with code beside them, at the base that they were linked for or
@@ -99,6 +103,16 @@ pub fn fields_lead_to_any_tables()
         AreInMemory machine image_base t.image t.linked codes targets memory →
         (written : List Range) × ReadsAndWrites memory (thunk_width machine) gives
         (length t.tables) t.directory written }
+    ensures handed { (machine : MachineType) (image_base : ℕ) (t : Tables)
+        (codes : List LinkedCode) (targets : LinkedCode → ℕ → ℕ) (memory : List Range)
+        (gives : List ℕ → Ask → List ℕ) →
+        AreTables machine t →
+        AreSteady machine t.linked →
+        AreInMemory machine image_base t.image t.linked codes targets memory →
+        (written : List Range) →
+        Writes t.image (thunk_width machine) gives t.directory (map imported_by_table t.tables)
+        written →
+        ReadsAndWrites memory (thunk_width machine) gives (length t.tables) t.directory written }
     ensures leads { (machine : MachineType) (image_base : ℕ) (t : Tables)
         (codes : List LinkedCode) (targets : LinkedCode → ℕ → ℕ) (memory : List Range)
         (gives : List ℕ → Ask → List ℕ) →
@@ -161,4 +175,17 @@ pub fn fields_lead_to_any_tables()
         ((dll : List ℕ) (ask : Ask) → length (gives dll ask) ≡ thunk_width machine) →
         ReadsAndWrites memory (thunk_width machine) gives n t.directory written →
         AreKept machine codes (written ++ memory) }
+{}
+
+/// Linked code can be in memory beside any import tables at any base that its machine can move it
+/// to, if in each section the fields that store addresses whole are within it, and no two of them
+/// have an address in common.
+pub fn any_tables_can_be_moved()
+    ensures moved { (machine : MachineType) (from to : ℕ) (image : List Range)
+        (linked : List Placed) (codes : List LinkedCode) (targets : LinkedCode → ℕ → ℕ) →
+        AreSteady machine linked →
+        AreLinkedBeside machine from image linked codes targets →
+        CanBeMoved machine codes →
+        ArePaged machine from to →
+        (memory : List Range) × AreInMemory machine to image linked codes targets memory }
 {}

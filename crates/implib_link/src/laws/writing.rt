@@ -1,5 +1,6 @@
 //! The law of loaders that write as they go.
 
+ghost use Rattle.implib_link.specs.Gnu.Moves.{AreInMemory};
 ghost use Rattle.implib.specs.Link.Image.{Range, image_of};
 ghost use Rattle.implib.specs.Import.{Ask};
 ghost use Rattle.implib.specs.Link.LinkedMembers.{IsMade, LinkInput};
@@ -8,124 +9,70 @@ ghost use Rattle.implib.specs.Formats.Object.{Object};
 ghost use Rattle.implib.specs.Link.Placement.{Bases, placed_from};
 ghost use Rattle.implib.specs.declared.machine.MachineType.{MachineType};
 ghost use Rattle.implib_link.specs.Directory.{Imported, imported};
-ghost use Rattle.implib_link.specs.Flavors.Loaded.{AreLoaded};
 ghost use Rattle.implib_link.specs.Flavors.Program.{FlavorInput, IsFlavorProgram, IsMadeFor};
 ghost use Rattle.implib_link.specs.Flavors.Program.{imported_in};
 ghost use Rattle.implib_link.specs.Gnu.Fields.{LinkedCode};
-ghost use Rattle.implib_link.specs.Gnu.Moves.{IsAtBase};
-ghost use Rattle.implib_link.specs.Gnu.Loaded.{IsLoaded};
 ghost use Rattle.implib_link.specs.Gnu.Program.{IsProgram};
 ghost use Rattle.implib_link.specs.Gnu.Reading.{ReadsAndWrites};
 ghost use Rattle.implib_link.specs.Gnu.Writing.{AreAlike, WritesAsItGoes};
 ghost use Rattle.std.specs.List.{AllByRecursion};
 ghost use Rattle.std.specs.Prelude.{◌≡◌, ◌++◌, ℕ, List, length, map};
 
-/// A loader that reads a program's image by the lookup tables, and writes each entry of the address
-/// tables before it reads on, stops at the null descriptor. It has asked for exactly the imports of
-/// the program, each once and in their order, and it leaves, byte for byte, what a loader leaves
-/// that first reads and then writes. There is such a loader.
+/// A loader that reads a program by the lookup tables, in memory at any base, and writes each entry
+/// of the address tables before it reads on, stops at the null descriptor. It has asked for exactly
+/// the imports of the program, each once and in their order, and it leaves, byte for byte, what a
+/// loader leaves that first reads and then writes. There is such a loader; of a program of both
+/// flavours, too.
 ///
 /// What a DLL gives has as many bytes as an entry.
 pub fn loader_writes()
-    ensures loads { (machine : MachineType) (bases : Bases) (inputs : List LinkInput)
-        (objects : List Object)
-        (gives : List ℕ → Ask → List ℕ) (found : List Imported) (after : List Range) →
-        AllByRecursion (IsMade machine) inputs →
-        IsProgram machine bases inputs objects →
-        ((dll : List ℕ) (ask : Ask) → length (gives dll ask) ≡ thunk_width machine) →
-        WritesAsItGoes (thunk_width machine) gives bases.descriptors
-        (image_of machine bases (placed_from bases objects)) found after →
-        (found ≡ map (imported machine) inputs) × ((written : List Range)
-        × (ReadsAndWrites (image_of machine bases (placed_from bases objects))
-        (thunk_width machine) gives (length inputs) bases.descriptors written
-        × (IsLoaded machine bases inputs objects gives written
-        × AreAlike after (written ++ image_of machine bases (placed_from bases objects))))) }
-    ensures ends { (machine : MachineType) (bases : Bases) (inputs : List LinkInput)
-        (objects : List Object)
-        (gives : List ℕ → Ask → List ℕ) →
-        AllByRecursion (IsMade machine) inputs →
-        IsProgram machine bases inputs objects →
-        ((dll : List ℕ) (ask : Ask) → length (gives dll ask) ≡ thunk_width machine) →
-        (after : List Range) × WritesAsItGoes (thunk_width machine) gives bases.descriptors
-        (image_of machine bases (placed_from bases objects)) (map (imported machine) inputs) after }
-{}
-
-/// The same of a program of both flavours.
-pub fn loader_of_flavors_writes()
-    ensures loads { (machine : MachineType) (bases : Bases) (inputs : List FlavorInput)
-        (objects : List Object)
-        (gives : List ℕ → Ask → List ℕ) (found : List Imported) (after : List Range) →
-        AllByRecursion (IsMadeFor machine) inputs →
-        IsFlavorProgram machine bases inputs objects →
-        ((dll : List ℕ) (ask : Ask) → length (gives dll ask) ≡ thunk_width machine) →
-        WritesAsItGoes (thunk_width machine) gives bases.descriptors
-        (image_of machine bases (placed_from bases objects)) found after →
-        (found ≡ map (imported_in machine) inputs) × ((written : List Range)
-        × (ReadsAndWrites (image_of machine bases (placed_from bases objects))
-        (thunk_width machine) gives (length inputs) bases.descriptors written
-        × (AreLoaded machine bases inputs objects gives written
-        × AreAlike after (written ++ image_of machine bases (placed_from bases objects))))) }
-    ensures ends { (machine : MachineType) (bases : Bases) (inputs : List FlavorInput)
-        (objects : List Object)
-        (gives : List ℕ → Ask → List ℕ) →
-        AllByRecursion (IsMadeFor machine) inputs →
-        IsFlavorProgram machine bases inputs objects →
-        ((dll : List ℕ) (ask : Ask) → length (gives dll ask) ≡ thunk_width machine) →
-        (after : List Range) × WritesAsItGoes (thunk_width machine) gives bases.descriptors
-        (image_of machine bases (placed_from bases objects)) (map (imported_in machine) inputs) after }
-{}
-
-/// The same at another base than the one that the program was linked for, its base relocations
-/// applied: what the loader leaves has the same bytes as the memory in which calls and pointers
-/// arrive, by the laws of programs at another base.
-pub fn loader_writes_at_base()
-    ensures loads { (machine : MachineType) (from to : ℕ) (bases : Bases)
+    ensures loads { (machine : MachineType) (image_base : ℕ) (bases : Bases)
         (inputs : List LinkInput) (objects : List Object)
         (codes : List LinkedCode) (targets : LinkedCode → ℕ → ℕ) (memory : List Range)
-        (gives : List ℕ → Ask → List ℕ) (found : List Imported) (after : List Range) →
+        (gives : List ℕ → Ask → List ℕ) →
         AllByRecursion (IsMade machine) inputs →
         IsProgram machine bases inputs objects →
-        IsAtBase machine from to bases objects codes targets memory →
+        AreInMemory machine image_base (image_of machine bases (placed_from bases objects))
+        (placed_from bases objects) codes targets memory →
         ((dll : List ℕ) (ask : Ask) → length (gives dll ask) ≡ thunk_width machine) →
+        (found : List Imported) (after : List Range) →
         WritesAsItGoes (thunk_width machine) gives bases.descriptors memory found after →
-        (found ≡ map (imported machine) inputs) × ((entries : List Range)
+        (found ≡ map (imported machine) inputs) × ((written : List Range)
         × (ReadsAndWrites memory (thunk_width machine) gives (length inputs) bases.descriptors
-        entries × (IsLoaded machine bases inputs objects gives entries
-        × AreAlike after (entries ++ memory)))) }
-    ensures ends { (machine : MachineType) (from to : ℕ) (bases : Bases)
+        written × AreAlike after (written ++ memory))) }
+    ensures ends { (machine : MachineType) (image_base : ℕ) (bases : Bases)
         (inputs : List LinkInput) (objects : List Object)
         (codes : List LinkedCode) (targets : LinkedCode → ℕ → ℕ) (memory : List Range)
         (gives : List ℕ → Ask → List ℕ) →
         AllByRecursion (IsMade machine) inputs →
         IsProgram machine bases inputs objects →
-        IsAtBase machine from to bases objects codes targets memory →
+        AreInMemory machine image_base (image_of machine bases (placed_from bases objects))
+        (placed_from bases objects) codes targets memory →
         ((dll : List ℕ) (ask : Ask) → length (gives dll ask) ≡ thunk_width machine) →
         (after : List Range) × WritesAsItGoes (thunk_width machine) gives bases.descriptors
         memory (map (imported machine) inputs) after }
-{}
-
-/// The same of a program of both flavours at another base.
-pub fn loader_of_flavors_writes_at_base()
-    ensures loads { (machine : MachineType) (from to : ℕ) (bases : Bases)
-        (inputs : List FlavorInput) (objects : List Object)
-        (codes : List LinkedCode) (targets : LinkedCode → ℕ → ℕ) (memory : List Range)
-        (gives : List ℕ → Ask → List ℕ) (found : List Imported) (after : List Range) →
-        AllByRecursion (IsMadeFor machine) inputs →
-        IsFlavorProgram machine bases inputs objects →
-        IsAtBase machine from to bases objects codes targets memory →
-        ((dll : List ℕ) (ask : Ask) → length (gives dll ask) ≡ thunk_width machine) →
-        WritesAsItGoes (thunk_width machine) gives bases.descriptors memory found after →
-        (found ≡ map (imported_in machine) inputs) × ((entries : List Range)
-        × (ReadsAndWrites memory (thunk_width machine) gives (length inputs) bases.descriptors
-        entries × (AreLoaded machine bases inputs objects gives entries
-        × AreAlike after (entries ++ memory)))) }
-    ensures ends { (machine : MachineType) (from to : ℕ) (bases : Bases)
+    ensures flavors_load { (machine : MachineType) (image_base : ℕ) (bases : Bases)
         (inputs : List FlavorInput) (objects : List Object)
         (codes : List LinkedCode) (targets : LinkedCode → ℕ → ℕ) (memory : List Range)
         (gives : List ℕ → Ask → List ℕ) →
         AllByRecursion (IsMadeFor machine) inputs →
         IsFlavorProgram machine bases inputs objects →
-        IsAtBase machine from to bases objects codes targets memory →
+        AreInMemory machine image_base (image_of machine bases (placed_from bases objects))
+        (placed_from bases objects) codes targets memory →
+        ((dll : List ℕ) (ask : Ask) → length (gives dll ask) ≡ thunk_width machine) →
+        (found : List Imported) (after : List Range) →
+        WritesAsItGoes (thunk_width machine) gives bases.descriptors memory found after →
+        (found ≡ map (imported_in machine) inputs) × ((written : List Range)
+        × (ReadsAndWrites memory (thunk_width machine) gives (length inputs) bases.descriptors
+        written × AreAlike after (written ++ memory))) }
+    ensures flavors_end { (machine : MachineType) (image_base : ℕ) (bases : Bases)
+        (inputs : List FlavorInput) (objects : List Object)
+        (codes : List LinkedCode) (targets : LinkedCode → ℕ → ℕ) (memory : List Range)
+        (gives : List ℕ → Ask → List ℕ) →
+        AllByRecursion (IsMadeFor machine) inputs →
+        IsFlavorProgram machine bases inputs objects →
+        AreInMemory machine image_base (image_of machine bases (placed_from bases objects))
+        (placed_from bases objects) codes targets memory →
         ((dll : List ℕ) (ask : Ask) → length (gives dll ask) ≡ thunk_width machine) →
         (after : List Range) × WritesAsItGoes (thunk_width machine) gives bases.descriptors
         memory (map (imported_in machine) inputs) after }

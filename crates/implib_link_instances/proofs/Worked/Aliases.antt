@@ -30,17 +30,14 @@ use Rattle.implib_link.specs.Gnu.Packed.{group_end, sections_end}
 use Rattle.implib_link.specs.Gnu.Pointers.{HasLoad}
 use Rattle.implib_link.specs.Gnu.Program.{IsProgram, has_tables, linked_symbols}
 use Rattle.implib_link_instances.specs.Worked.Aliases.{WorkedAlias, WorkedFlavorAlias, alias_at, alias_calling, alias_codes, alias_flavors, alias_load_at, alias_loading, alias_objects, alias_placed, all_at, opened_flavors, opened_name, opened_placed, OverriddenAlias, overridden_code, overridden_placed}
-use Rattle.implib_link_instances.specs.Worked.Calls.{first_bytes, given_on, last_bytes}
+use Rattle.implib_link_instances.specs.Worked.Calls.{first_bytes, last_bytes}
 use Rattle.implib_link_instances.specs.Worked.Flavors.{both_inputs as flavor_inputs, flavor_bases_8, foo_input as msvc_input}
-use Rattle.implib_link_instances.specs.Worked.Programs.{another, both_inputs, foo_input, symbol_of_class, touching_8}
-use Rattle.implib_link_instances.proofs.Worked.Relocated.{flavors_calls_by_alias, flavors_loads_by_alias}
+use Rattle.implib_link_instances.specs.Worked.Programs.{another, both_inputs, symbol_of_class, touching_8}
 use Rattle.implib_link.proofs.Gnu.Aliases.{weak_is_weak}
-use Rattle.implib_link_instances.proofs.Worked.Relocated.{calls_by_alias, loads_by_alias}
 use Rattle.implib_link.proofs.Search.Lists.{among_at, contains_among}
-use Rattle.implib_link_instances.proofs.Worked.Calls.{is_none, open_export, wide, one_of, second_at}
+use Rattle.implib_link_instances.proofs.Worked.Calls.{is_none, one_of, second_at}
 use Rattle.implib_link.proofs.Search.Lists.{each_of}
-use Rattle.implib_link_instances.proofs.Worked.Flavors.{worked_flavors}
-use Rattle.implib_link_instances.proofs.Worked.Programs.{claims_none_by, distinct_by, opened, worked_programs}
+use Rattle.implib_link_instances.proofs.Worked.Programs.{claims_none_by, distinct_by, opened}
 use Rattle.implib_link_instances.proofs.Worked.Rebased.{all_unwanted, none_wanted}
 use Rattle.implib_link_instances.specs.Worked.Relocated.{CodesBeside, code_ranges, linked_codes, as_placed, linked_by}
 use Rattle.implib_link_instances.proofs.Worked.Relocated.{beside_by, codes_tested}
@@ -185,12 +182,6 @@ worked_alias = record {
   loads = loads;
   call_is = refl;
   load_is = refl;
-  call_arrives = λ written writes.
-      calls_by_alias AMD64 0x1_4000_0000 touching_8 (both_inputs AMD64) alias_objects alias_codes (all_at 0x80) (given_on AMD64) written 0 1 (foo_input AMD64) (open_export AMD64) alias_at 4 opened_name
-      worked_programs.amd64.made program tt beside resolves (wide AMD64) writes refl refl (0, omega arith, refl) undefined weak_is has;
-  load_arrives = λ written writes.
-      loads_by_alias AMD64 0x1_4000_0000 touching_8 (both_inputs AMD64) alias_objects alias_codes (all_at 0x80) (given_on AMD64) written 0 1 (foo_input AMD64) (open_export AMD64) alias_load_at 4 opened_name
-      worked_programs.amd64.made program tt beside resolves (wide AMD64) writes refl refl (1, omega arith, refl) undefined weak_is loads;
   member = weak_is_weak AMD64 (codes "__imp_bar") (codes "__imp_baz") [] alias_placed;
 }
 
@@ -282,12 +273,6 @@ worked_flavor_alias = record {
   call_reads_it = refl;
   load_is = refl;
   load_reads_it = refl;
-  call_arrives = λ written writes.
-      flavors_calls_by_alias AMD64 0x1_4000_0000 flavor_bases_8 (flavor_inputs AMD64) opened_flavors alias_codes (all_at 0x88) (given_on AMD64) written 0 1 (msvc_input AMD64) (open_export AMD64) alias_at 4 opened_name
-      worked_flavors.amd64.made flavors_program tt flavors_beside flavors_resolves (wide AMD64) writes refl refl (0, omega arith, refl) flavors_undefined flavors_weak has;
-  load_arrives = λ written writes.
-      flavors_loads_by_alias AMD64 0x1_4000_0000 flavor_bases_8 (flavor_inputs AMD64) opened_flavors alias_codes (all_at 0x88) (given_on AMD64) written 0 1 (msvc_input AMD64) (open_export AMD64) alias_load_at 4
-      opened_name worked_flavors.amd64.made flavors_program tt flavors_beside flavors_resolves (wide AMD64) writes refl refl (1, omega arith, refl) flavors_undefined flavors_weak loads;
   astray = astray;
 }
 

@@ -1,5 +1,5 @@
 -- That there are closed programs of both flavours of what was linked by hand, by computing and by the law.
-use Rattle.std.proofs.Common.{◌≡◌, ◌^◌, ◌<◌, List, [], ◌∷◌, refl, sym, arith}
+use Rattle.std.proofs.Common.{ℕ, ◌≡◌, ◌^◌, ◌<◌, List, [], ◌∷◌, refl, sym, arith}
 use Rattle.std.specs.Prelude.{not}
 use Rattle.std.specs.List.{filter}
 use Rattle.std.proofs.lemmas.Bool.{true≢false}
@@ -23,9 +23,17 @@ use Rattle.implib_link.proofs.Search.Closed.{passing}
 use Rattle.implib_link.proofs.Search.Lists.{contains_among}
 use Rattle.implib_link_instances.proofs.Worked.BothFlavors.{worked_both, worked_given_for_both}
 use Rattle.implib_link_instances.proofs.Worked.BothReversed.{worked_reversed}
-use Rattle.implib_link_instances.proofs.Worked.MsvcExists.{above, above_zero, none_below}
 use Rattle.implib_link_instances.proofs.Worked.NearSearches.{searched}
 use Rattle.implib_link_instances.proofs.Worked.Programs.{claims_none_by, opened}
+
+above_zero : 0 < 0x2000
+above_zero = omega arith
+
+above : (n m : ℕ) → n ≡ m → 2 ^ 31 < m → n < 2 ^ 31 → ⊥
+above n m same over below = omega arith
+
+none_below : (n : ℕ) → n ≡ 0 → 0 < n → ⊥
+none_below n is over = omega arith
 
 room : tables_end_of_both 0x2000 foo_and_zed ≡ 0x218E
 unfolding opened

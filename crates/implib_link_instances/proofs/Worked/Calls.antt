@@ -1,10 +1,14 @@
 -- The calls that were relocated by hand, and the loader that reads, by computing and by the laws.
-use Rattle.std.proofs.Common.{◌≡◌, ℕ, zero, suc, ◌+◌, ◌^◌, ◌⊎◌, true, false, List, [], ◌∷◌, ◌++◌, codes, length, Some, None, Option, refl, ap, sym, ◌∙◌, subst, inl, inr, arith, true≢false}
+use Rattle.implib_link.specs.Gnu.Loaded.{HoldsAt}
+use Rattle.implib.specs.Link.LinkedMembers.{IsMade, LinkInput, chosen_exports}
+use Rattle.std.proofs.Common.{◌≡◌, ℕ, zero, suc, ◌+◌, ◌^◌, ◌⊎◌, true, false, List, [], ◌∷◌, ◌++◌, codes, length, Some, None, Option, refl, ap, sym, ◌∙◌, subst, inl, inr, arith, true≢false, map}
 use Rattle.std.specs.Prelude.{Bool, bytes_eq, not, slice_get, ◌&&◌, ◌==◌, if◌then◌else◌}
-use Rattle.std.specs.List.{list_all}
+use Rattle.std.specs.List.{list_all, AllByRecursion}
 use Rattle.std.proofs.lemmas.Bool.{and_from, cases_Bool, eq-eqb, eqb-true, not-true}
 use Rattle.implib.proofs.Link.Definitions.{same_text}
-use Rattle.implib_link_instances.proofs.Worked.Relocated.{direct_calls_reach}
+use Rattle.implib_link.proofs.Tables.{tables_end, tables_read}
+use Rattle.implib_link.proofs.TablesOfPrograms.{flavors_count, flavors_entry, flavors_tables, gnu_count, gnu_entry, gnu_tables}
+use Rattle.implib_link.specs.Tables.{block_of_flavor, block_of_input, tables_at}
 use Rattle.std.specs.Fmt.{digits}
 use Rattle.implib.specs.declared.machine.MachineType.{MachineType}
 use Rattle.implib.specs.declared.machine.MachineType.TheVariants.{I386, ARMNT, AMD64, ARM64}
@@ -12,7 +16,7 @@ use Rattle.implib.specs.Definition.{ExportView}
 use Rattle.implib.specs.Formats.Bytes.{u16_bytes, u32_bytes}
 use Rattle.implib.specs.Formats.Constants.{class_external}
 use Rattle.implib.specs.Formats.File.{is_defined_external}
-use Rattle.implib.specs.Import.{Ask, Name, Ordinal, imp_symbol}
+use Rattle.implib.specs.Import.{Ask, Name, Ordinal, imp_symbol, expected_ask}
 use Rattle.implib.specs.Members.Gnu.{export_object, five_digits, head_name, head_object, head_symbol, hint_name, iname_symbol, numbered_name, relocations_of_stub, relocations_of_thunk, mangled_name, stub, tail_name, tail_object, thunk}
 use Rattle.implib.specs.Link.Image.{Range, image_of, with_address}
 use Rattle.implib.specs.Link.Load.{BytesAt}
@@ -20,9 +24,9 @@ use Rattle.implib.specs.Members.GnuMembers.{alias_specs, export_spec, head_spec,
 use Rattle.implib.specs.Members.ImportTables.{thunk_width}
 use Rattle.implib.specs.Members.Members.{refusal, renamed_refusal}
 use Rattle.implib.specs.Members.WeakExternal.{weak_object}
-use Rattle.implib.specs.Formats.Object.{ASymbol, Auxiliary, Entry, ObjectSymbol, before_nul, bytes_at, data_at, each_at, entries_at, name_of, object_in, object_of_header, relocation_at, relocation_of, section_at, section_of, strings_at, symbol_of, u16_at, u32_at, up_to_nul}
+use Rattle.implib.specs.Formats.Object.{ASymbol, Auxiliary, Entry, ObjectSymbol, before_nul, bytes_at, data_at, each_at, entries_at, name_of, object_in, object_of_header, relocation_at, relocation_of, section_at, section_of, strings_at, symbol_of, u16_at, u32_at, up_to_nul, Object}
 use Rattle.implib.specs.Formats.Layout.{auxiliary_bytes, auxiliary_count, contents, contents_offset, contents_size, header_bytes, encoded, encoded_size, name_field, offsets_from, pointer_or_zero, record_count, records, relocation_bytes, section_header, section_headers, string_bytes_of, string_offsets, string_size, string_table, strings_size, symbol_bytes, symbol_table_offset}
-use Rattle.implib.specs.Link.Placement.{Placed, next_multiple}
+use Rattle.implib.specs.Link.Placement.{Placed, next_multiple, Bases, placed_from}
 use Rattle.implib.specs.Link.Resolution.{address_or_zero, definitions_of, is_undefined_external, symbol_address, target_address}
 use Rattle.implib.specs.Formats.Writer.{long_names, name_location, layout_of, symbol_written, with_long_name, with_name}
 use Rattle.implib.proofs.Link.Loading.{number_once}
@@ -33,21 +37,17 @@ use Rattle.implib.specs.Members.MsvcObjects.{base_name, descriptor, descriptor_s
 use Rattle.implib.specs.Formats.ShortImport.{short_import_in}
 use Rattle.std.specs.Prelude.{drop, take}
 use Rattle.implib_link.specs.Flavors.Expansion.{import_object, descriptor_symbol_by_name, expanded_in}
-use Rattle.implib_link.specs.Flavors.Program.{IsFlavorProgram, all_members, symbols_listed}
+use Rattle.implib_link.specs.Flavors.Program.{IsFlavorProgram, all_members, symbols_listed, FlavorInput, IsMadeFor, exports_chosen, symbol_in, ask_in, dll_of}
 use Rattle.implib_link.specs.Flavors.SectionSymbols.{with_section_symbols}
 use Rattle.implib_link.specs.Gnu.Packed.{group_end, sections_end}
 use Rattle.implib_link_instances.specs.Worked.Flavors.{both_inputs as flavor_inputs, flavor_bases_8, flavor_image, flavor_objects, flavor_placed, foo_input as msvc_input}
-use Rattle.implib_link_instances.proofs.Worked.Relocated.{flavors_calls_reach}
-use Rattle.implib_link.proofs.LoadedPrograms.{flavors_reader_ends, flavors_reader_loads}
 use Rattle.implib_link_instances.proofs.Worked.Flavors.{worked_flavors}
 use Rattle.implib_link.specs.Gnu.Calls.{Defines, HasCall, HasDirectCall, PlacedCode, Resolves}
 use Rattle.implib_link.specs.Gnu.Program.{IsProgram, has_tables, linked_symbols}
 use Rattle.implib_link.specs.Gnu.Reading.{ReadsAndWrites}
 use Rattle.implib_link_instances.specs.Worked.Calls.{WorkedDirectCall, direct_at, direct_calling, direct_objects, direct_placed, direct_targets, is_open, open_or, open_targets, stub_at, WorkedFlavorCall, calling_flavors, flavor_targets, flavors_placed, WorkedCall, WorkedCalls, WorkedReading, calling, calling_at, calling_memory, calling_objects, calling_placed, first_bytes, given_on, last_bytes, nameless_image, table_targets}
 use Rattle.implib_link_instances.specs.Worked.Programs.{another, both_inputs, foo_input, program_image, program_objects, program_placed, symbol_of_class, symbol_on, touching_4, touching_8}
-use Rattle.implib_link_instances.proofs.Worked.Relocated.{calls_reach_through_entries}
 use Rattle.implib_link.proofs.Gnu.Memory.{holder, not_in_both}
-use Rattle.implib_link.proofs.LoadedPrograms.{reader_ends, reader_loads}
 use Rattle.implib_link.proofs.Gnu.Stubs.{same_address}
 use Rattle.implib_link.proofs.Search.Lists.{among_at, contains_among, each_of}
 use Rattle.implib_link_instances.proofs.Worked.Programs.{claims_none_by, distinct_by, worked_programs}
@@ -283,7 +283,7 @@ wide ARM64 dll (Name text hint) = refl
 abbrev pub open_export : MachineType → ExportView
 open_export machine = record (plain_export (symbol_on machine (codes "open"))) { ordinal = 258 }
 
-amd64 : WorkedCall AMD64 0x1_4000_0000 touching_8 (0xFF ∷ 0x15 ∷ 0x76 ∷ 0xF0 ∷ 0xFF ∷ 0xFF ∷ []) 0x80 (0x40 ∷ 0 ∷ 0 ∷ 0x10 ∷ 0 ∷ 0 ∷ 0 ∷ 0 ∷ [])
+amd64 : WorkedCall AMD64 0x1_4000_0000 touching_8 (0xFF ∷ 0x15 ∷ 0x76 ∷ 0xF0 ∷ 0xFF ∷ 0xFF ∷ []) 0x80
 unfolding opened refusal renamed_refusal alias_specs encoded_size weak_object has_tables
 amd64 = record {
   made = worked_programs.amd64.made;
@@ -293,12 +293,9 @@ amd64 = record {
   calls = amd64_has;
   bytes = refl;
   reads = refl;
-  arrives = λ written writes.
-      calls_reach_through_entries AMD64 0x1_4000_0000 touching_8 (both_inputs AMD64) (calling_objects AMD64) (calling_at AMD64 0x1000 ∷ []) (table_targets AMD64 touching_8) (given_on AMD64) written 0 1 (foo_input AMD64) (open_export AMD64)
-      (calling_at AMD64 0x1000) 4 worked_programs.amd64.made amd64_program tt amd64_beside (wide AMD64) writes refl refl (0, omega arith, refl) amd64_has;
 }
 
-i386 : WorkedCall I386 0x40_0000 touching_4 (0xFF ∷ 0x15 ∷ 0x60 ∷ 0 ∷ 0x40 ∷ 0 ∷ []) 0x60 (0x40 ∷ 0 ∷ 0 ∷ 0x10 ∷ [])
+i386 : WorkedCall I386 0x40_0000 touching_4 (0xFF ∷ 0x15 ∷ 0x60 ∷ 0 ∷ 0x40 ∷ 0 ∷ []) 0x60
 unfolding opened refusal renamed_refusal alias_specs encoded_size weak_object has_tables
 i386 = record {
   made = worked_programs.i386.made;
@@ -308,12 +305,9 @@ i386 = record {
   calls = i386_has;
   bytes = refl;
   reads = refl;
-  arrives = λ written writes.
-      calls_reach_through_entries I386 0x40_0000 touching_4 (both_inputs I386) (calling_objects I386) (calling_at I386 0x1000 ∷ []) (table_targets I386 touching_4) (given_on I386) written 0 1 (foo_input I386) (open_export I386)
-      (calling_at I386 0x1000) 4 worked_programs.i386.made i386_program omega arith i386_beside (wide I386) writes refl refl (0, omega arith, refl) i386_has;
 }
 
-arm64 : WorkedCall ARM64 0x1_4000_0000 touching_8 (0xF0 ∷ 0xFF ∷ 0xFF ∷ 0xF0 ∷ 0x10 ∷ 0x42 ∷ 0x40 ∷ 0xF9 ∷ 0 ∷ 2 ∷ 0x3F ∷ 0xD6 ∷ []) 0x80 (0x40 ∷ 0 ∷ 0 ∷ 0x10 ∷ 0 ∷ 0 ∷ 0 ∷ 0 ∷ [])
+arm64 : WorkedCall ARM64 0x1_4000_0000 touching_8 (0xF0 ∷ 0xFF ∷ 0xFF ∷ 0xF0 ∷ 0x10 ∷ 0x42 ∷ 0x40 ∷ 0xF9 ∷ 0 ∷ 2 ∷ 0x3F ∷ 0xD6 ∷ []) 0x80
 unfolding opened refusal renamed_refusal alias_specs encoded_size weak_object has_tables
 arm64 = record {
   made = worked_programs.arm64.made;
@@ -323,9 +317,6 @@ arm64 = record {
   calls = arm64_has;
   bytes = refl;
   reads = refl;
-  arrives = λ written writes.
-      calls_reach_through_entries ARM64 0x1_4000_0000 touching_8 (both_inputs ARM64) (calling_objects ARM64) (calling_at ARM64 0x1000 ∷ []) (table_targets ARM64 touching_8) (given_on ARM64) written 0 1 (foo_input ARM64) (open_export ARM64)
-      (calling_at ARM64 0x1000) 4 worked_programs.arm64.made arm64_program (refl, refl) arm64_beside (wide ARM64) writes refl refl (0, omega arith, refl) arm64_has;
 }
 
 -- code over the address tables
@@ -340,11 +331,39 @@ over_tables beside =
 pub worked_calls : WorkedCalls
 worked_calls = record { amd64 = amd64; i386 = i386; arm64 = arm64; refused = over_tables }
 
+-- a loader that reads the image leaves at an entry what the DLL gives
+gnu_reading : (machine : MachineType) (bases : Bases) (inputs : List LinkInput) (objects : List Object) (gives : List ℕ → Ask → List ℕ) (n : ℕ) (written : List Range) (i j : ℕ) (p : LinkInput) (e : ExportView) →
+    AllByRecursion (IsMade machine) inputs → IsProgram machine bases inputs objects → ((dll : List ℕ) (ask : Ask) → length (gives dll ask) ≡ thunk_width machine) →
+    ReadsAndWrites (image_of machine bases (placed_from bases objects)) (thunk_width machine) gives n bases.descriptors written → slice_get inputs i ≡ Some p → slice_get (chosen_exports p.definition p.chosen) j ≡ Some e →
+    (n ≡ length inputs) × HoldsAt (written ++ image_of machine bases (placed_from bases objects)) (placed_from bases objects) (imp_symbol e.name) (gives p.definition.import_name (expected_ask machine e))
+gnu_reading machine bases inputs objects gives n written i j p e made program wide_given reads input chosen =
+    let memory : List Range = written ++ image_of machine bases (placed_from bases objects) in
+    let read = tables_read machine (tables_at machine bases objects (map (block_of_input machine) inputs)) gives n written (gnu_tables machine bases inputs objects made program) wide_given reads in
+    let own = gnu_entry machine bases inputs objects i j p e input chosen in (
+      read.0 ∙ gnu_count machine bases inputs objects,
+      subst (λ dll. HoldsAt memory (placed_from bases objects) (imp_symbol e.name) (gives dll (expected_ask machine e))) own.of_dll
+          (subst (λ ask. HoldsAt memory (placed_from bases objects) (imp_symbol e.name) (gives own.table.dll ask)) own.of_ask (read.1.entries own.i j own.table own.entry (imp_symbol e.name) own.is own.asked own.symbol)),
+    )
+
+flavors_read : (machine : MachineType) (bases : Bases) (inputs : List FlavorInput) (objects : List Object) (gives : List ℕ → Ask → List ℕ) (n : ℕ) (written : List Range) (i j : ℕ) (p : FlavorInput) (e : ExportView) →
+    AllByRecursion (IsMadeFor machine) inputs → IsFlavorProgram machine bases inputs objects → ((dll : List ℕ) (ask : Ask) → length (gives dll ask) ≡ thunk_width machine) →
+    ReadsAndWrites (image_of machine bases (placed_from bases objects)) (thunk_width machine) gives n bases.descriptors written → slice_get inputs i ≡ Some p → slice_get (exports_chosen p) j ≡ Some e →
+    (n ≡ length inputs) × HoldsAt (written ++ image_of machine bases (placed_from bases objects)) (placed_from bases objects) (imp_symbol (symbol_in p.flavor e)) (gives (dll_of p) (ask_in p.flavor machine e))
+flavors_read machine bases inputs objects gives n written i j p e made program wide_given reads input chosen =
+    let memory : List Range = written ++ image_of machine bases (placed_from bases objects) in
+    let name : List ℕ = imp_symbol (symbol_in p.flavor e) in
+    let read = tables_read machine (tables_at machine bases objects (map (block_of_flavor machine) inputs)) gives n written (flavors_tables machine bases inputs objects made program) wide_given reads in
+    let own = flavors_entry machine bases inputs objects i j p e input chosen in (
+      read.0 ∙ flavors_count machine bases inputs objects,
+      subst (λ dll. HoldsAt memory (placed_from bases objects) name (gives dll (ask_in p.flavor machine e))) own.of_dll
+          (subst (λ ask. HoldsAt memory (placed_from bases objects) name (gives own.table.dll ask)) own.of_ask (read.1.entries own.i j own.table own.entry name own.is own.asked own.symbol)),
+    )
+
 amd64_reading : (n : ℕ) (written : List Range) → ReadsAndWrites (program_image AMD64 touching_8) 8 (given_on AMD64) n 4 written → (n ≡ 2) × BytesAt (written ++ program_image AMD64 touching_8) 0x80 (0x40 ∷ 0 ∷ 0 ∷ 0x10 ∷ 0 ∷ 0 ∷ 0 ∷ 0 ∷ [])
 unfolding opened refusal renamed_refusal alias_specs encoded_size weak_object has_tables
 amd64_reading n written reads =
-    let all = reader_loads AMD64 touching_8 (both_inputs AMD64) (program_objects AMD64) (given_on AMD64) n written worked_programs.amd64.made worked_programs.amd64.program (wide AMD64) reads in
-    let holds = all.1.entries 0 1 (foo_input AMD64) (open_export AMD64) refl refl in
+    let all = gnu_reading AMD64 touching_8 (both_inputs AMD64) (program_objects AMD64) (given_on AMD64) n written 0 1 (foo_input AMD64) (open_export AMD64) worked_programs.amd64.made worked_programs.amd64.program (wide AMD64) reads refl refl in
+    let holds = all.1 in
     let name : List ℕ = imp_symbol (symbol_on AMD64 (codes "open")) in
     let same : holds.address ≡ 0x80 = same_address name holds.address 0x80 (definitions_of name (program_placed AMD64 touching_8)) holds.once refl in
     (all.0, subst (λ a. BytesAt (written ++ program_image AMD64 touching_8) a (0x40 ∷ 0 ∷ 0 ∷ 0x10 ∷ 0 ∷ 0 ∷ 0 ∷ 0 ∷ [])) same holds.located)
@@ -352,8 +371,8 @@ amd64_reading n written reads =
 i386_reading : (n : ℕ) (written : List Range) → ReadsAndWrites (program_image I386 touching_4) 4 (given_on I386) n 4 written → (n ≡ 2) × BytesAt (written ++ program_image I386 touching_4) 0x60 (0x40 ∷ 0 ∷ 0 ∷ 0x10 ∷ [])
 unfolding opened refusal renamed_refusal alias_specs encoded_size weak_object has_tables
 i386_reading n written reads =
-    let all = reader_loads I386 touching_4 (both_inputs I386) (program_objects I386) (given_on I386) n written worked_programs.i386.made worked_programs.i386.program (wide I386) reads in
-    let holds = all.1.entries 0 1 (foo_input I386) (open_export I386) refl refl in
+    let all = gnu_reading I386 touching_4 (both_inputs I386) (program_objects I386) (given_on I386) n written 0 1 (foo_input I386) (open_export I386) worked_programs.i386.made worked_programs.i386.program (wide I386) reads refl refl in
+    let holds = all.1 in
     let name : List ℕ = imp_symbol (symbol_on I386 (codes "open")) in
     let same : holds.address ≡ 0x60 = same_address name holds.address 0x60 (definitions_of name (program_placed I386 touching_4)) holds.once refl in
     (all.0, subst (λ a. BytesAt (written ++ program_image I386 touching_4) a (0x40 ∷ 0 ∷ 0 ∷ 0x10 ∷ [])) same holds.located)
@@ -362,8 +381,8 @@ flavors_reading : (n : ℕ) (written : List Range) → ReadsAndWrites (flavor_im
     (n ≡ 2) × BytesAt (written ++ flavor_image AMD64 0 flavor_bases_8) 0x88 (0x40 ∷ 0 ∷ 0 ∷ 0x10 ∷ 0 ∷ 0 ∷ 0 ∷ 0 ∷ [])
 unfolding opened refusal renamed_refusal alias_specs encoded_size weak_object has_tables expanded_in short_import_in import_object descriptor_symbol_by_name with_section_symbols descriptor null_descriptor null_thunk descriptor_symbol null_descriptor_symbol null_thunk_symbol base_name descriptor_spec null_descriptor_spec null_thunk_spec header_specs weak_specs group_end sections_end
 flavors_reading n written reads =
-    let all = flavors_reader_loads AMD64 flavor_bases_8 (flavor_inputs AMD64) (flavor_objects AMD64 0) (given_on AMD64) n written worked_flavors.amd64.made worked_flavors.amd64.program (wide AMD64) reads in
-    let holds = all.1.entries 0 1 (msvc_input AMD64) (open_export AMD64) refl refl in
+    let all = flavors_read AMD64 flavor_bases_8 (flavor_inputs AMD64) (flavor_objects AMD64 0) (given_on AMD64) n written 0 1 (msvc_input AMD64) (open_export AMD64) worked_flavors.amd64.made worked_flavors.amd64.program (wide AMD64) reads refl refl in
+    let holds = all.1 in
     let name : List ℕ = imp_symbol (symbol_on AMD64 (codes "open")) in
     let same : holds.address ≡ 0x88 = same_address name holds.address 0x88 (definitions_of name (flavor_placed AMD64 0 flavor_bases_8)) holds.once refl in
     (all.0, subst (λ a. BytesAt (written ++ flavor_image AMD64 0 flavor_bases_8) a (0x40 ∷ 0 ∷ 0 ∷ 0x10 ∷ 0 ∷ 0 ∷ 0 ∷ 0 ∷ [])) same holds.located)
@@ -380,8 +399,10 @@ worked_reading = record {
   i386 = i386_reading;
   flavors = flavors_reading;
   refused = nothing_read;
-  amd64_ends = reader_ends AMD64 touching_8 (both_inputs AMD64) (program_objects AMD64) (given_on AMD64) worked_programs.amd64.made worked_programs.amd64.program;
-  flavors_ends = flavors_reader_ends AMD64 flavor_bases_8 (flavor_inputs AMD64) (flavor_objects AMD64 0) (given_on AMD64) worked_flavors.amd64.made worked_flavors.amd64.program;
+  amd64_ends = tables_end AMD64 (tables_at AMD64 touching_8 (program_objects AMD64) (map (block_of_input AMD64) (both_inputs AMD64))) (given_on AMD64)
+      (gnu_tables AMD64 touching_8 (both_inputs AMD64) (program_objects AMD64) worked_programs.amd64.made worked_programs.amd64.program);
+  flavors_ends = tables_end AMD64 (tables_at AMD64 flavor_bases_8 (flavor_objects AMD64 0) (map (block_of_flavor AMD64) (flavor_inputs AMD64))) (given_on AMD64)
+      (flavors_tables AMD64 flavor_bases_8 (flavor_inputs AMD64) (flavor_objects AMD64 0) worked_flavors.amd64.made worked_flavors.amd64.program);
 }
 
 -- The program of both flavours.
@@ -441,9 +462,6 @@ worked_flavor_call = record {
   beside = flavors_beside;
   bytes = refl;
   reads = refl;
-  arrives = λ written writes.
-      flavors_calls_reach AMD64 0x1_4000_0000 flavor_bases_8 (flavor_inputs AMD64) calling_flavors (calling_at AMD64 0x1000 ∷ []) flavor_targets (given_on AMD64) written 0 1 (msvc_input AMD64)
-      (open_export AMD64) (calling_at AMD64 0x1000) 4 worked_flavors.amd64.made flavors_program tt flavors_beside (wide AMD64) writes refl refl (0, omega arith, refl) amd64_has;
 }
 
 -- The direct call, its symbols and the stub's.
@@ -593,7 +611,4 @@ worked_direct_call = record {
   leads = refl;
   stub = refl;
   reads = refl;
-  arrives = λ written writes.
-      direct_calls_reach AMD64 0x1_4000_0000 touching_8 (both_inputs AMD64) direct_objects (direct_at ∷ stub_at ∷ []) direct_targets (given_on AMD64) written 0 1 (foo_input AMD64) (open_export AMD64) direct_at stub_at 4
-      (symbol_of_class (codes "open") 1 class_external) worked_programs.amd64.made direct_program tt direct_beside (wide AMD64) writes refl refl refl (1, omega arith, refl) direct_defines refl (0, omega arith, refl) direct_has tt;
 }

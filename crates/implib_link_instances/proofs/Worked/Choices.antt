@@ -1,18 +1,15 @@
 -- Addresses and memory by hand, by computing and by the laws.
-use Rattle.implib.specs.Import.{imp_symbol}
-use Rattle.implib_link.specs.Gnu.Moves.{CanBeMoved}
 use Rattle.implib_link.proofs.Gnu.LinkedCodes.{linked_beside}
-use Rattle.implib_link.proofs.Gnu.MovedPrograms.{base_exists}
 use Rattle.std.proofs.Common.{◌≡◌, ℕ, ◌+◌, ◌^◌, Bool, true, List, [], ◌∷◌, ◌++◌, codes, length, map, Option, None, Some, refl, ap, sym, ◌∙◌, subst, arith}
 use Rattle.std.specs.Prelude.{false, if◌then◌else◌, nat_eq}
 use Rattle.std.specs.List.{list_all}
 use Rattle.std.proofs.lemmas.Bool.{eqb-true, false≢true}
-use Rattle.implib.specs.declared.machine.MachineType.TheVariants.{I386, AMD64, ARM64}
-use Rattle.implib.specs.Formats.Constants.{class_external, i386_dir32}
+use Rattle.implib.specs.declared.machine.MachineType.TheVariants.{ARM64}
+use Rattle.implib.specs.Formats.Constants.{class_external}
 use Rattle.implib.specs.Formats.Layout.{encoded_size}
 use Rattle.implib.specs.Formats.Object.{ASymbol, Auxiliary, Entry}
 use Rattle.implib.specs.Link.Image.{Range, byte_at, image_of}
-use Rattle.implib.specs.Link.Load.{BytesAt, NumberAt, number_in}
+use Rattle.implib.specs.Link.Load.{BytesAt, number_in}
 use Rattle.implib.specs.Link.Placement.{Placed}
 use Rattle.implib.specs.Link.Resolution.{symbol_address}
 use Rattle.implib.specs.Members.GnuMembers.{alias_specs}
@@ -23,24 +20,15 @@ use Rattle.implib_link.specs.Gnu.Calls.{Defines, PlacedCode, Resolves}
 use Rattle.implib_link.specs.Gnu.Choices.{AreSections, DefineOnce, plain_range}
 use Rattle.implib_link.specs.Gnu.Program.{has_tables}
 use Rattle.implib_link.specs.Gnu.Rebased.{IsRebased}
-use Rattle.implib_link_instances.specs.Worked.Calls.{calling_at, calling_flavors, calling_objects, flavor_targets, table_targets}
-use Rattle.implib_link_instances.specs.Worked.Flavors.{both_inputs as flavor_inputs, flavor_bases_8}
 use Rattle.implib_link_instances.specs.Worked.Choices.{WorkedChoices, second_stub}
 use Rattle.implib_link_instances.specs.Worked.DirectCalls.{branch_at, branch_codes, branching_objects, branching_placed, stub_of}
-use Rattle.implib_link_instances.specs.Worked.Programs.{both_inputs, symbol_of_class, touching_4, touching_8, symbol_on}
-use Rattle.implib_link_instances.specs.Worked.Rebased.{linked_memory, moving_codes}
+use Rattle.implib_link_instances.specs.Worked.Programs.{symbol_of_class, touching_8}
 use Rattle.implib_link.proofs.Gnu.Choices.{defined_found, found, found_in, here_from, is_here, choice, choice_resolves}
-use Rattle.implib_link.proofs.Gnu.Steady.{program_tables_none}
 use Rattle.implib_link.proofs.Search.Lists.{contains_among}
-use Rattle.implib_link.proofs.Flavors.Steady.{flavors_tables_none}
-use Rattle.implib_link_instances.proofs.Worked.Calls.{flavors_program}
 use Rattle.implib_link.proofs.Search.Lists.{each_of}
-use Rattle.implib_link_instances.proofs.Worked.Flavors.{worked_flavors}
 use Rattle.implib_link_instances.proofs.Worked.DirectCalls.{worked_branch}
-use Rattle.implib_link_instances.proofs.Worked.Programs.{opened, worked_programs}
-use Rattle.implib_link_instances.proofs.Worked.Rebased.{worked_flavor_move, worked_moves}
+use Rattle.implib_link_instances.proofs.Worked.Programs.{opened}
 use Rattle.implib_link_instances.proofs.Worked.RefusedLinks.{number}
-use Rattle.implib_link_instances.specs.Worked.Relocated.{CodesAtBase, linked_codes, as_placed, linked_by}
 
 -- Whether code defines each name once, and none that the tables have.
 
@@ -116,27 +104,6 @@ twice targets resolves =
     (resolves.code branch_at second_stub 1 (symbol_of_class (codes "open") 0 class_external) (symbol_of_class (codes "open") 1 class_external) (0, omega arith, refl) (2, omega arith, refl) refl refl
     second_defines refl)
 
-rebases : CanBeMoved I386 (linked_codes I386 0x40_0000 (table_targets I386 touching_4) (moving_codes I386 touching_4))
-unfolding opened alias_specs encoded_size weak_object has_tables
-rebases = record { within = ((omega arith, tt), ((omega arith, tt), tt)); apart = ((tt, tt), ((tt, tt), tt)) }
-
-in_memory : (memory : List Range) × CodesAtBase I386 0x40_0000 0x2000_0000 touching_4 (calling_objects I386) (moving_codes I386 touching_4) (table_targets I386 touching_4) memory
-in_memory =
-    base_exists I386 0x40_0000 0x2000_0000 touching_4 (calling_objects I386) (linked_codes I386 0x40_0000 (table_targets I386 touching_4) (moving_codes I386 touching_4)) (as_placed (table_targets I386 touching_4))
-    (program_tables_none I386 touching_4 (both_inputs I386) (calling_objects I386) worked_programs.i386.made worked_moves.i386.program) worked_moves.i386.at.moved.beside rebases (omega arith)
-
-linked_call : NumberAt (linked_memory I386 0x40_0000 touching_4) 4 0x1006 0x40_0060
-unfolding opened alias_specs encoded_size weak_object has_tables
-linked_call = number (linked_memory I386 0x40_0000 touching_4) 4 0x1006 0x40_0060 (0x60 ∷ 0 ∷ 0x40 ∷ 0 ∷ []) refl refl refl
-
-reads_there : (memory : List Range) → CodesAtBase I386 0x40_0000 0x2000_0000 touching_4 (calling_objects I386) (moving_codes I386 touching_4) (table_targets I386 touching_4) memory →
-    NumberAt memory 4 0x1006 0x2000_0060
-unfolding opened alias_specs encoded_size weak_object has_tables
-reads_there memory at =
-    let entry : Entry = ASymbol (symbol_of_class (imp_symbol (symbol_on I386 (codes "open"))) 0 class_external) in
-    at.moved.rebased.moved (record { address = 0x1006; width = 4 }) 0x40_0060
-    (at.moved.needed (linked_by I386 0x40_0000 (table_targets I386 touching_4) (calling_at I386 0x1000)) (record { offset = 6; symbol = 1; kind = i386_dir32 }) 4 0x60 entry (0, omega arith, refl) (0, omega arith, refl) refl refl refl) linked_call
-
 -- Of four bytes that are the number 1 the first is 1 and the third 0.
 
 first_is : (memory : List Range) (a : ℕ) (bytes : List ℕ) → BytesAt memory a bytes → length bytes ≡ 4 → number_in bytes ≡ 1 → byte_at memory a ≡ Some 1
@@ -172,11 +139,5 @@ worked_choices = record {
   elsewhere = (choice branching_placed branch_codes, linked_beside ARM64 0x7FF6_1234_0000 touching_8 branching_objects branch_codes sections (choice branching_placed branch_codes) (choice_resolves branching_placed branch_codes once));
   chosen = chosen;
   twice = twice;
-  rebases = rebases;
-  memory = in_memory;
-  reads = reads_there;
-  flavors = base_exists AMD64 0x1_4000_0000 0x2_0000_0000 flavor_bases_8 calling_flavors (linked_codes AMD64 0x1_4000_0000 flavor_targets (calling_at AMD64 0x1000 ∷ [])) (as_placed flavor_targets)
-      (flavors_tables_none AMD64 flavor_bases_8 (flavor_inputs AMD64) calling_flavors worked_flavors.amd64.made flavors_program) worked_flavor_move.at.moved.beside
-      (record { within = (tt, tt); apart = (tt, tt) }) tt;
   overlapping = overlapping;
 }

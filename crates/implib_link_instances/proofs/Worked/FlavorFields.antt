@@ -19,13 +19,11 @@ use Rattle.implib_link.specs.Gnu.Operands.{HasInstruction}
 use Rattle.implib_link.specs.Gnu.Packed.{group_end, sections_end}
 use Rattle.implib_link.specs.Gnu.Program.{has_tables}
 use Rattle.implib_link.specs.Gnu.Rebased.{table_places}
-use Rattle.implib_link_instances.specs.Worked.Calls.{calling_flavors, flavors_placed, given_on}
-use Rattle.implib_link_instances.specs.Worked.Flavors.{both_inputs as flavor_inputs, flavor_bases_8, foo_input as msvc_input}
+use Rattle.implib_link_instances.specs.Worked.Calls.{flavors_placed}
+use Rattle.implib_link_instances.specs.Worked.Flavors.{flavor_bases_8}
 use Rattle.implib_link_instances.specs.Worked.Operands.{WorkedFlavorFields, calling_linked, flavors_linked, imp_open, linked_targets}
 use Rattle.implib_link_instances.specs.Worked.Programs.{symbol_of_class}
-use Rattle.implib_link.proofs.ProgramsInMemory.{flavors_lead_in_memory}
-use Rattle.implib_link_instances.proofs.Worked.Calls.{flavors_program, open_export, wide}
-use Rattle.implib_link_instances.proofs.Worked.Flavors.{worked_flavors}
+use Rattle.implib_link_instances.proofs.Worked.Calls.{flavors_program}
 use Rattle.implib_link_instances.proofs.Worked.LinkedCode.{all_needed, only_absolute, relocated_by, relocated_test, takes_by}
 use Rattle.implib_link_instances.proofs.Worked.Programs.{opened}
 use Rattle.implib_link_instances.proofs.Worked.Rebased.{none_rebased}
@@ -75,10 +73,4 @@ worked_flavor_fields = record {
   linked = in_linked;
   moved = in_moved;
   call = call;
-  arrives = λ n written reads.
-      (flavors_lead_in_memory AMD64 0x1_4000_0000 flavor_bases_8 (flavor_inputs AMD64) calling_flavors (calling_linked ∷ []) linked_targets flavors_linked (given_on AMD64) worked_flavors.amd64.made flavors_program in_linked
-      n written 0 1 (msvc_input AMD64) (open_export AMD64) tt (wide AMD64) reads refl refl).instructions calling_linked 4 (0xFF ∷ 0x15 ∷ []) [] (0, omega arith, refl) call;
-  arrives_moved = λ n written reads.
-      (flavors_lead_in_memory AMD64 0x2_0000_0000 flavor_bases_8 (flavor_inputs AMD64) calling_flavors (calling_linked ∷ []) linked_targets flavors_linked (given_on AMD64) worked_flavors.amd64.made flavors_program in_moved
-      n written 0 1 (msvc_input AMD64) (open_export AMD64) tt (wide AMD64) reads refl refl).instructions calling_linked 4 (0xFF ∷ 0x15 ∷ []) [] (0, omega arith, refl) call;
 }

@@ -23,7 +23,6 @@ use Rattle.implib_link.specs.Gnu.Program.{linked_symbols}
 use Rattle.implib_link.specs.Search.Archives.{symbols_of_library}
 use Rattle.implib_link.specs.Search.Given.{symbols_kept}
 use Rattle.implib_link.specs.Search.MsvcArchives.{symbols_of_shorts}
-use Rattle.implib_link.specs.Search.MsvcGiven.{symbols_kept_for}
 use Rattle.implib_link.specs.Search.NamedApart.{names_in, stem}
 use Rattle.implib_link_instances.specs.Worked.Calls.{calling_at, calling_objects, calling_placed, table_targets}
 use Rattle.implib_link_instances.specs.Worked.Flavors.{foo_input as foo_flavor, zed_input as zed_flavor}
@@ -153,10 +152,6 @@ machine_instances = record {
     made = (record { accepted = refl; made = refl; ordinals = refl }, tt);
     distinct = distinct_by (null_descriptor_symbol ∷ flat_map symbols_of_shorts (i386_msvc ∷ [])) refl;
     found = (refl, tt);
-  };
-  given_for_msvc = record {
-    claims = (claims_none_by (symbols_kept_for (i386_msvc ∷ []) i386_own) i386_asking refl, tt);
-    names = (record { descriptor = refl; null_descriptor = refl; null_thunk = refl }, tt);
   };
   sections = record {
     held = ((0, omega arith, refl), ((3, omega arith, refl), tt));

@@ -11,7 +11,7 @@ use Rattle.implib.specs.Import.{Name, Ordinal, imp_symbol}
 use Rattle.implib.specs.Link.Image.{AreApart, Range, byte_at, range_end}
 use Rattle.implib.specs.Link.Load.{BytesAt, NumberAt}
 use Rattle.implib.specs.Link.Placement.{Placed}
-use Rattle.implib.specs.Link.Resolution.{definitions_of, is_undefined_external, symbol_address}
+use Rattle.implib.specs.Link.Resolution.{is_undefined_external, symbol_address}
 use Rattle.implib.proofs.Link.Definitions.{same_text}
 use Rattle.implib.proofs.Link.LinkedMembers.{among_contains}
 use Rattle.implib.proofs.Link.Loading.{dll_once, number_once}
@@ -27,16 +27,12 @@ use Rattle.implib_link.specs.Gnu.Operands.{HasBranch, branch_leads, Names}
 use Rattle.implib_link.specs.Gnu.Rebased.{IsRebased, table_places}
 use Rattle.implib_link.specs.Stub.{jump_reads}
 use Rattle.implib_link.specs.Tables.{AreSteady, AreTables, IsInTable, RiseFrom, Table}
-use Rattle.implib_link_instances.specs.Worked.Calls.{given_on}
-use Rattle.implib_link_instances.specs.Worked.LldPrograms.{RefusedCalls, RefusedLoads, RefusedTables, RefusedThunks, WorkedLldProgram, WorkedLldPrograms, call_memory, code_of_object, code_of_thunk, eight_bytes, four_bytes, gee_on, linked_code, linked_thunk, lld_codes, lld_image_on, lld_linked_on, lld_memory, lld_moved_memory, lld_places, lld_targets, mid_on, object_section, or_thunk, own_tables, placed_object, short_files, shorts_on, tables_on, taken_address, thunk_address, zeta_on}
+use Rattle.implib_link_instances.specs.Worked.LldPrograms.{RefusedCalls, RefusedLoads, RefusedTables, RefusedThunks, WorkedLldProgram, WorkedLldPrograms, call_memory, code_of_object, code_of_thunk, eight_bytes, linked_code, linked_thunk, lld_codes, lld_image_on, lld_linked_on, lld_memory, lld_moved_memory, lld_places, lld_targets, mid_on, object_section, or_thunk, own_tables, placed_object, short_files, shorts_on, tables_on, taken_address, thunk_address}
 use Rattle.implib_link_instances.specs.Worked.Programs.{symbol_of_class, symbol_on}
-use Rattle.implib_link.proofs.Flavors.LldPrograms.{lld_calls, lld_ends_in_memory, lld_leads, lld_loads_in_memory}
 use Rattle.implib_link.proofs.Flavors.LldTables.{built_pieces}
 use Rattle.implib_link.proofs.Gnu.Memory.{byte_first, within_bounds}
-use Rattle.implib_link.proofs.Gnu.Stubs.{same_address}
 use Rattle.implib_link.proofs.Search.Lists.{among_at, contains_among}
 use Rattle.implib_link.proofs.TablesOfPrograms.{lld_tables}
-use Rattle.implib_link_instances.proofs.Worked.Calls.{wide}
 use Rattle.implib_link.proofs.Search.Lists.{each_of}
 use Rattle.implib_link_instances.proofs.Worked.LinkedCode.{all_needed, only_absolute, rebased_by, relocated_by, relocated_test}
 use Rattle.implib_link_instances.proofs.Worked.Lld.{alike, lld_opened}
@@ -210,7 +206,7 @@ i386_branch = record {
 i386_at : AreInMemory I386 0x40_0000 (lld_image_on I386) (lld_linked_on I386) (lld_codes I386) (lld_targets I386) (lld_memory I386)
 i386_at = inl (i386_beside, refl)
 
-i386_worked : WorkedLldProgram I386 0x40_0000 (lld_memory I386) 12 (four_bytes 0x40) (four_bytes 0x30) (four_bytes 0)
+i386_worked : WorkedLldProgram I386 0x40_0000 (lld_memory I386) 12
 unfolding lld_opened
 i386_worked = record {
   program = i386_program;
@@ -218,21 +214,12 @@ i386_worked = record {
   at = i386_at;
   thunk = record { from = refl; number = refl };
   branch = i386_branch;
-  loads = λ n written reads. lld_loads_in_memory I386 0x2000 0x2050 (shorts_on I386) (lld_image_on I386) (lld_linked_on I386) i386_program 0x40_0000 (lld_codes I386) (lld_targets I386) (lld_memory I386) (given_on I386) i386_steady i386_at n written (wide I386) reads;
-  leads_zeta = λ n written reads.
-      lld_leads I386 0x2000 0x2050 (shorts_on I386) (lld_image_on I386) (lld_linked_on I386) i386_program 0x40_0000 (lld_codes I386) (lld_targets I386) (lld_memory I386) (given_on I386) i386_steady i386_at n written (wide I386) reads (zeta_on I386) (2, omega arith, refl) (omega arith);
-  leads_gee = λ n written reads.
-      lld_leads I386 0x2000 0x2050 (shorts_on I386) (lld_image_on I386) (lld_linked_on I386) i386_program 0x40_0000 (lld_codes I386) (lld_targets I386) (lld_memory I386) (given_on I386) i386_steady i386_at n written (wide I386) reads (gee_on I386) (1, omega arith, refl) (omega arith);
-  calls = λ n written reads.
-      lld_calls I386 0x2000 0x2050 (shorts_on I386) (lld_image_on I386) (lld_linked_on I386) i386_program 0x40_0000 (lld_codes I386) (lld_targets I386) (lld_memory I386) (given_on I386) i386_steady i386_at n written (wide I386) reads (mid_on I386) (code_of_thunk I386) (0, omega arith, refl) (omega arith)
-      (1, omega arith, refl) (record { from = refl; number = refl }) (code_of_object I386) 12 0 (0, omega arith, refl) i386_branch tt;
-  ends = lld_ends_in_memory I386 0x2000 0x2050 (shorts_on I386) (lld_image_on I386) (lld_linked_on I386) i386_program 0x40_0000 (lld_codes I386) (lld_targets I386) (lld_memory I386) (given_on I386) i386_steady i386_at;
 }
 
 i386_moved_at : AreInMemory I386 0x1000_0000 (lld_image_on I386) (lld_linked_on I386) (lld_codes I386) (lld_targets I386) (lld_moved_memory I386)
 i386_moved_at = inr (0x40_0000, (lld_places I386, (tt, i386_moved)))
 
-i386_moved_worked : WorkedLldProgram I386 0x1000_0000 (lld_moved_memory I386) 12 (four_bytes 0x40) (four_bytes 0x30) (four_bytes 0)
+i386_moved_worked : WorkedLldProgram I386 0x1000_0000 (lld_moved_memory I386) 12
 unfolding lld_opened
 i386_moved_worked = record {
   program = i386_program;
@@ -240,15 +227,6 @@ i386_moved_worked = record {
   at = i386_moved_at;
   thunk = record { from = refl; number = refl };
   branch = i386_branch;
-  loads = λ n written reads. lld_loads_in_memory I386 0x2000 0x2050 (shorts_on I386) (lld_image_on I386) (lld_linked_on I386) i386_program 0x1000_0000 (lld_codes I386) (lld_targets I386) (lld_moved_memory I386) (given_on I386) i386_steady i386_moved_at n written (wide I386) reads;
-  leads_zeta = λ n written reads.
-      lld_leads I386 0x2000 0x2050 (shorts_on I386) (lld_image_on I386) (lld_linked_on I386) i386_program 0x1000_0000 (lld_codes I386) (lld_targets I386) (lld_moved_memory I386) (given_on I386) i386_steady i386_moved_at n written (wide I386) reads (zeta_on I386) (2, omega arith, refl) (omega arith);
-  leads_gee = λ n written reads.
-      lld_leads I386 0x2000 0x2050 (shorts_on I386) (lld_image_on I386) (lld_linked_on I386) i386_program 0x1000_0000 (lld_codes I386) (lld_targets I386) (lld_moved_memory I386) (given_on I386) i386_steady i386_moved_at n written (wide I386) reads (gee_on I386) (1, omega arith, refl) (omega arith);
-  calls = λ n written reads.
-      lld_calls I386 0x2000 0x2050 (shorts_on I386) (lld_image_on I386) (lld_linked_on I386) i386_program 0x1000_0000 (lld_codes I386) (lld_targets I386) (lld_moved_memory I386) (given_on I386) i386_steady i386_moved_at n written (wide I386) reads (mid_on I386) (code_of_thunk I386) (0, omega arith, refl) (omega arith)
-      (1, omega arith, refl) (record { from = refl; number = refl }) (code_of_object I386) 12 0 (0, omega arith, refl) i386_branch tt;
-  ends = lld_ends_in_memory I386 0x2000 0x2050 (shorts_on I386) (lld_image_on I386) (lld_linked_on I386) i386_program 0x1000_0000 (lld_codes I386) (lld_targets I386) (lld_moved_memory I386) (given_on I386) i386_steady i386_moved_at;
 }
 
 -- AMD64.
@@ -342,7 +320,7 @@ amd64_branch = record {
 amd64_at : AreInMemory AMD64 0x1_4000_0000 (lld_image_on AMD64) (lld_linked_on AMD64) (lld_codes AMD64) (lld_targets AMD64) (lld_memory AMD64)
 amd64_at = inl (amd64_beside, refl)
 
-amd64_worked : WorkedLldProgram AMD64 0x1_4000_0000 (lld_memory AMD64) 14 (eight_bytes 0x40) (eight_bytes 0x30) (eight_bytes 0)
+amd64_worked : WorkedLldProgram AMD64 0x1_4000_0000 (lld_memory AMD64) 14
 unfolding lld_opened
 amd64_worked = record {
   program = amd64_program;
@@ -350,21 +328,12 @@ amd64_worked = record {
   at = amd64_at;
   thunk = record { from = refl; number = refl };
   branch = amd64_branch;
-  loads = λ n written reads. lld_loads_in_memory AMD64 0x2000 0x2068 (shorts_on AMD64) (lld_image_on AMD64) (lld_linked_on AMD64) amd64_program 0x1_4000_0000 (lld_codes AMD64) (lld_targets AMD64) (lld_memory AMD64) (given_on AMD64) amd64_steady amd64_at n written (wide AMD64) reads;
-  leads_zeta = λ n written reads.
-      lld_leads AMD64 0x2000 0x2068 (shorts_on AMD64) (lld_image_on AMD64) (lld_linked_on AMD64) amd64_program 0x1_4000_0000 (lld_codes AMD64) (lld_targets AMD64) (lld_memory AMD64) (given_on AMD64) amd64_steady amd64_at n written (wide AMD64) reads (zeta_on AMD64) (2, omega arith, refl) tt;
-  leads_gee = λ n written reads.
-      lld_leads AMD64 0x2000 0x2068 (shorts_on AMD64) (lld_image_on AMD64) (lld_linked_on AMD64) amd64_program 0x1_4000_0000 (lld_codes AMD64) (lld_targets AMD64) (lld_memory AMD64) (given_on AMD64) amd64_steady amd64_at n written (wide AMD64) reads (gee_on AMD64) (1, omega arith, refl) tt;
-  calls = λ n written reads.
-      lld_calls AMD64 0x2000 0x2068 (shorts_on AMD64) (lld_image_on AMD64) (lld_linked_on AMD64) amd64_program 0x1_4000_0000 (lld_codes AMD64) (lld_targets AMD64) (lld_memory AMD64) (given_on AMD64) amd64_steady amd64_at n written (wide AMD64) reads (mid_on AMD64) (code_of_thunk AMD64) (0, omega arith, refl) tt
-      (1, omega arith, refl) (record { from = refl; number = refl }) (code_of_object AMD64) 14 0 (0, omega arith, refl) amd64_branch tt;
-  ends = lld_ends_in_memory AMD64 0x2000 0x2068 (shorts_on AMD64) (lld_image_on AMD64) (lld_linked_on AMD64) amd64_program 0x1_4000_0000 (lld_codes AMD64) (lld_targets AMD64) (lld_memory AMD64) (given_on AMD64) amd64_steady amd64_at;
 }
 
 amd64_moved_at : AreInMemory AMD64 0x7FF6_1234_0000 (lld_image_on AMD64) (lld_linked_on AMD64) (lld_codes AMD64) (lld_targets AMD64) (lld_moved_memory AMD64)
 amd64_moved_at = inr (0x1_4000_0000, (lld_places AMD64, (tt, amd64_moved)))
 
-amd64_moved_worked : WorkedLldProgram AMD64 0x7FF6_1234_0000 (lld_moved_memory AMD64) 14 (eight_bytes 0x40) (eight_bytes 0x30) (eight_bytes 0)
+amd64_moved_worked : WorkedLldProgram AMD64 0x7FF6_1234_0000 (lld_moved_memory AMD64) 14
 unfolding lld_opened
 amd64_moved_worked = record {
   program = amd64_program;
@@ -372,15 +341,6 @@ amd64_moved_worked = record {
   at = amd64_moved_at;
   thunk = record { from = refl; number = refl };
   branch = amd64_branch;
-  loads = λ n written reads. lld_loads_in_memory AMD64 0x2000 0x2068 (shorts_on AMD64) (lld_image_on AMD64) (lld_linked_on AMD64) amd64_program 0x7FF6_1234_0000 (lld_codes AMD64) (lld_targets AMD64) (lld_moved_memory AMD64) (given_on AMD64) amd64_steady amd64_moved_at n written (wide AMD64) reads;
-  leads_zeta = λ n written reads.
-      lld_leads AMD64 0x2000 0x2068 (shorts_on AMD64) (lld_image_on AMD64) (lld_linked_on AMD64) amd64_program 0x7FF6_1234_0000 (lld_codes AMD64) (lld_targets AMD64) (lld_moved_memory AMD64) (given_on AMD64) amd64_steady amd64_moved_at n written (wide AMD64) reads (zeta_on AMD64) (2, omega arith, refl) tt;
-  leads_gee = λ n written reads.
-      lld_leads AMD64 0x2000 0x2068 (shorts_on AMD64) (lld_image_on AMD64) (lld_linked_on AMD64) amd64_program 0x7FF6_1234_0000 (lld_codes AMD64) (lld_targets AMD64) (lld_moved_memory AMD64) (given_on AMD64) amd64_steady amd64_moved_at n written (wide AMD64) reads (gee_on AMD64) (1, omega arith, refl) tt;
-  calls = λ n written reads.
-      lld_calls AMD64 0x2000 0x2068 (shorts_on AMD64) (lld_image_on AMD64) (lld_linked_on AMD64) amd64_program 0x7FF6_1234_0000 (lld_codes AMD64) (lld_targets AMD64) (lld_moved_memory AMD64) (given_on AMD64) amd64_steady amd64_moved_at n written (wide AMD64) reads (mid_on AMD64) (code_of_thunk AMD64) (0, omega arith, refl) tt
-      (1, omega arith, refl) (record { from = refl; number = refl }) (code_of_object AMD64) 14 0 (0, omega arith, refl) amd64_branch tt;
-  ends = lld_ends_in_memory AMD64 0x2000 0x2068 (shorts_on AMD64) (lld_image_on AMD64) (lld_linked_on AMD64) amd64_program 0x7FF6_1234_0000 (lld_codes AMD64) (lld_targets AMD64) (lld_moved_memory AMD64) (given_on AMD64) amd64_steady amd64_moved_at;
 }
 
 -- ARM64.
@@ -471,7 +431,7 @@ arm64_branch = record {
 arm64_at : AreInMemory ARM64 0x1_4000_0000 (lld_image_on ARM64) (lld_linked_on ARM64) (lld_codes ARM64) (lld_targets ARM64) (lld_memory ARM64)
 arm64_at = inl (arm64_beside, refl)
 
-arm64_worked : WorkedLldProgram ARM64 0x1_4000_0000 (lld_memory ARM64) 20 (eight_bytes 0x40) (eight_bytes 0x30) (eight_bytes 0)
+arm64_worked : WorkedLldProgram ARM64 0x1_4000_0000 (lld_memory ARM64) 20
 unfolding lld_opened
 arm64_worked = record {
   program = arm64_program;
@@ -479,21 +439,12 @@ arm64_worked = record {
   at = arm64_at;
   thunk = record { from = refl; number = refl };
   branch = arm64_branch;
-  loads = λ n written reads. lld_loads_in_memory ARM64 0x2000 0x2068 (shorts_on ARM64) (lld_image_on ARM64) (lld_linked_on ARM64) arm64_program 0x1_4000_0000 (lld_codes ARM64) (lld_targets ARM64) (lld_memory ARM64) (given_on ARM64) arm64_steady arm64_at n written (wide ARM64) reads;
-  leads_zeta = λ n written reads.
-      lld_leads ARM64 0x2000 0x2068 (shorts_on ARM64) (lld_image_on ARM64) (lld_linked_on ARM64) arm64_program 0x1_4000_0000 (lld_codes ARM64) (lld_targets ARM64) (lld_memory ARM64) (given_on ARM64) arm64_steady arm64_at n written (wide ARM64) reads (zeta_on ARM64) (2, omega arith, refl) (refl, refl);
-  leads_gee = λ n written reads.
-      lld_leads ARM64 0x2000 0x2068 (shorts_on ARM64) (lld_image_on ARM64) (lld_linked_on ARM64) arm64_program 0x1_4000_0000 (lld_codes ARM64) (lld_targets ARM64) (lld_memory ARM64) (given_on ARM64) arm64_steady arm64_at n written (wide ARM64) reads (gee_on ARM64) (1, omega arith, refl) (refl, refl);
-  calls = λ n written reads.
-      lld_calls ARM64 0x2000 0x2068 (shorts_on ARM64) (lld_image_on ARM64) (lld_linked_on ARM64) arm64_program 0x1_4000_0000 (lld_codes ARM64) (lld_targets ARM64) (lld_memory ARM64) (given_on ARM64) arm64_steady arm64_at n written (wide ARM64) reads (mid_on ARM64) (code_of_thunk ARM64) (0, omega arith, refl) (refl, refl)
-      (1, omega arith, refl) (record { from = refl; number = refl }) (code_of_object ARM64) 20 0 (0, omega arith, refl) arm64_branch (refl, refl, omega arith, omega arith);
-  ends = lld_ends_in_memory ARM64 0x2000 0x2068 (shorts_on ARM64) (lld_image_on ARM64) (lld_linked_on ARM64) arm64_program 0x1_4000_0000 (lld_codes ARM64) (lld_targets ARM64) (lld_memory ARM64) (given_on ARM64) arm64_steady arm64_at;
 }
 
 arm64_moved_at : AreInMemory ARM64 0x4000_0000 (lld_image_on ARM64) (lld_linked_on ARM64) (lld_codes ARM64) (lld_targets ARM64) (lld_moved_memory ARM64)
 arm64_moved_at = inr (0x1_4000_0000, (lld_places ARM64, (refl, arm64_moved)))
 
-arm64_moved_worked : WorkedLldProgram ARM64 0x4000_0000 (lld_moved_memory ARM64) 20 (eight_bytes 0x40) (eight_bytes 0x30) (eight_bytes 0)
+arm64_moved_worked : WorkedLldProgram ARM64 0x4000_0000 (lld_moved_memory ARM64) 20
 unfolding lld_opened
 arm64_moved_worked = record {
   program = arm64_program;
@@ -501,15 +452,6 @@ arm64_moved_worked = record {
   at = arm64_moved_at;
   thunk = record { from = refl; number = refl };
   branch = arm64_branch;
-  loads = λ n written reads. lld_loads_in_memory ARM64 0x2000 0x2068 (shorts_on ARM64) (lld_image_on ARM64) (lld_linked_on ARM64) arm64_program 0x4000_0000 (lld_codes ARM64) (lld_targets ARM64) (lld_moved_memory ARM64) (given_on ARM64) arm64_steady arm64_moved_at n written (wide ARM64) reads;
-  leads_zeta = λ n written reads.
-      lld_leads ARM64 0x2000 0x2068 (shorts_on ARM64) (lld_image_on ARM64) (lld_linked_on ARM64) arm64_program 0x4000_0000 (lld_codes ARM64) (lld_targets ARM64) (lld_moved_memory ARM64) (given_on ARM64) arm64_steady arm64_moved_at n written (wide ARM64) reads (zeta_on ARM64) (2, omega arith, refl) (refl, refl);
-  leads_gee = λ n written reads.
-      lld_leads ARM64 0x2000 0x2068 (shorts_on ARM64) (lld_image_on ARM64) (lld_linked_on ARM64) arm64_program 0x4000_0000 (lld_codes ARM64) (lld_targets ARM64) (lld_moved_memory ARM64) (given_on ARM64) arm64_steady arm64_moved_at n written (wide ARM64) reads (gee_on ARM64) (1, omega arith, refl) (refl, refl);
-  calls = λ n written reads.
-      lld_calls ARM64 0x2000 0x2068 (shorts_on ARM64) (lld_image_on ARM64) (lld_linked_on ARM64) arm64_program 0x4000_0000 (lld_codes ARM64) (lld_targets ARM64) (lld_moved_memory ARM64) (given_on ARM64) arm64_steady arm64_moved_at n written (wide ARM64) reads (mid_on ARM64) (code_of_thunk ARM64) (0, omega arith, refl) (refl, refl)
-      (1, omega arith, refl) (record { from = refl; number = refl }) (code_of_object ARM64) 20 0 (0, omega arith, refl) arm64_branch (refl, refl, omega arith, omega arith);
-  ends = lld_ends_in_memory ARM64 0x2000 0x2068 (shorts_on ARM64) (lld_image_on ARM64) (lld_linked_on ARM64) arm64_program 0x4000_0000 (lld_codes ARM64) (lld_targets ARM64) (lld_moved_memory ARM64) (given_on ARM64) arm64_steady arm64_moved_at;
 }
 
 pub worked_lld_programs : WorkedLldPrograms
@@ -661,12 +603,6 @@ no_sixth memory a (b ∷ c ∷ d ∷ e ∷ f ∷ g ∷ rest) none six located = 
 pub refused_loads : RefusedLoads
 unfolding lld_opened
 refused_loads = record {
-  nothing = λ x.
-      let holds = x.entries (zeta_on AMD64) (2, omega arith, refl) in
-      let entry : holds.address ≡ 0x2070 = same_address (codes "__imp_zeta") holds.address 0x2070 (definitions_of (codes "__imp_zeta") (lld_linked_on AMD64)) holds.once refl in
-      other_byte (lld_image_on AMD64) 0x2070 0x40 0x90 (0 ∷ 0 ∷ 0x10 ∷ 0 ∷ 0 ∷ 0 ∷ 0 ∷ []) refl (omega arith) (subst (λ a. BytesAt (lld_image_on AMD64) a (eight_bytes 0x40)) entry holds.located);
-  before = λ x. let low : 0x2068 ≤ 0x2060 = x.within.0.0 in omega arith;
-  behind = λ x. let high : 0x2098 ≤ 0x2090 = x.within.0.1 in omega arith;
   whole = λ x.
       no_sixth (record { start = 0x1020; bytes = 0xFF ∷ 0x25 ∷ 0x42 ∷ 0x10 ∷ 0 ∷ [] } ∷ record { start = 0x2068; bytes = eight_bytes 0 } ∷ []) 0x1020 x.code refl x.whole x.there;
   number = λ thunk. differ 1 2 (sym thunk.number) (omega arith);

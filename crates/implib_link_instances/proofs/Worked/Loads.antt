@@ -1,5 +1,11 @@
 -- The programs by hand, loaded and called, by computing and by the laws.
-use Rattle.std.proofs.Common.{◌≡◌, ℕ, ◌+◌, ◌^◌, ◌≤◌, List, [], ◌∷◌, codes, length, map, refl, arith}
+use Rattle.implib.specs.Link.Image.{Range, image_of}
+use Rattle.implib.specs.declared.machine.MachineType.{MachineType}
+use Rattle.implib.specs.Formats.Object.{Object}
+use Rattle.implib.specs.Link.LinkedMembers.{IsMade, LinkInput}
+use Rattle.implib.specs.Link.Placement.{Bases, placed_from}
+use Rattle.std.specs.List.{AllByRecursion}
+use Rattle.std.proofs.Common.{◌≡◌, ℕ, ◌+◌, ◌^◌, ◌≤◌, List, [], ◌∷◌, codes, length, map, refl, arith, subst, sym, ◌∙◌}
 use Rattle.implib.specs.declared.machine.MachineType.TheVariants.{I386, ARMNT, AMD64, ARM64}
 use Rattle.implib.specs.Import.{Ask, Name, Ordinal}
 use Rattle.implib.specs.Members.GnuMembers.{alias_specs}
@@ -9,17 +15,29 @@ use Rattle.implib.specs.Formats.Layout.{encoded_size}
 use Rattle.implib.specs.Worked.Statements.{plain_export}
 use Rattle.implib_link.specs.Directory.{imported}
 use Rattle.implib_link.specs.Gnu.Loaded.{Writes, entries_written}
-use Rattle.implib_link.specs.Gnu.Program.{has_tables}
+use Rattle.implib_link.specs.Gnu.Program.{has_tables, IsProgram}
 use Rattle.implib_link.specs.Stub.{CanJump}
+use Rattle.implib_link.proofs.PackedTables.{packed_imports}
+use Rattle.implib_link.proofs.Tables.{tables_load}
+use Rattle.implib_link.proofs.TablesOfPrograms.{gnu_tables, inputs_blocks}
+use Rattle.implib_link.specs.Tables.{AreTablesLoaded, block_of_input, tables_at}
 use Rattle.implib_link_instances.specs.Worked.Loads.{WorkedCall, WorkedCalls, WorkedLoad, WorkedLoads, gives_by_hand, written_4, written_8}
 use Rattle.implib_link_instances.specs.Worked.Programs.{both_inputs, foo_input, program_image, program_objects, symbol_on, touching_4, touching_8, zed_input}
 use Rattle.implib_link.proofs.Gnu.Directory.{directory_walk}
-use Rattle.implib_link.proofs.LoadedPrograms.{program_loads}
 use Rattle.implib_link.proofs.Gnu.Program.{program_links}
 use Rattle.implib_link.proofs.Gnu.Stubs.{stubs_jump}
-use Rattle.implib_link.proofs.LoadedPrograms.{calls_reach}
 use Rattle.implib_link_instances.proofs.Worked.Programs.{opened, worked_programs}
 use Rattle.implib_link_instances.proofs.Worked.RefusedLinks.{number}
+
+-- a loader that is handed the imports loads the tables
+gnu_loaded : (machine : MachineType) (bases : Bases) (inputs : List LinkInput) (objects : List Object) (gives : List ℕ → Ask → List ℕ) (written : List Range) → AllByRecursion (IsMade machine) inputs →
+    IsProgram machine bases inputs objects → ((dll : List ℕ) (ask : Ask) → length (gives dll ask) ≡ thunk_width machine) →
+    Writes (image_of machine bases (placed_from bases objects)) (thunk_width machine) gives bases.descriptors (map (imported machine) inputs) written →
+    AreTablesLoaded machine (tables_at machine bases objects (map (block_of_input machine) inputs)) gives written
+gnu_loaded machine bases inputs objects gives written made program wide writes =
+    tables_load machine gives wide (tables_at machine bases objects (map (block_of_input machine) inputs)) written (gnu_tables machine bases inputs objects made program)
+    (subst (λ is. Writes (image_of machine bases (placed_from bases objects)) (thunk_width machine) gives bases.descriptors is written)
+    (sym (packed_imports (thunk_width machine) (map (block_of_input machine) inputs) bases.addresses ∙ inputs_blocks machine inputs)) writes)
 
 pub amd64_given : (dll : List ℕ) (ask : Ask) → length (gives_by_hand AMD64 dll ask) ≡ thunk_width AMD64
 amd64_given dll (Ordinal n) = refl
@@ -40,18 +58,17 @@ amd64 =
       walk = directory_walk (program_image AMD64 touching_8) (thunk_width AMD64) touching_8.descriptors (map (imported AMD64) (both_inputs AMD64)) links.directory;
       given = amd64_given;
       writes = amd64_writes;
-      loaded = program_loads AMD64 touching_8 (both_inputs AMD64) (program_objects AMD64) (gives_by_hand AMD64) (written_8 AMD64) worked_programs.amd64.made worked_programs.amd64.program amd64_given amd64_writes;
+      loaded = gnu_loaded AMD64 touching_8 (both_inputs AMD64) (program_objects AMD64) (gives_by_hand AMD64) (written_8 AMD64) worked_programs.amd64.made worked_programs.amd64.program amd64_given amd64_writes;
     }
 
 amd64_can : CanJump AMD64 0x1_4000_0000 touching_8
 amd64_can = tt
 
-amd64_call : WorkedCall AMD64 0x1_4000_0000 touching_8 (written_8 AMD64) 128 160
+amd64_call : WorkedCall AMD64 0x1_4000_0000 touching_8 128 160
 amd64_call = record {
   can = amd64_can;
   open_jumps = stubs_jump AMD64 0x1_4000_0000 touching_8 (both_inputs AMD64) (program_objects AMD64) 0 1 (foo_input AMD64) (record (plain_export (symbol_on AMD64 (codes "open"))) { ordinal = 258 }) worked_programs.amd64.made worked_programs.amd64.program amd64_can refl refl refl;
   queue_jumps = stubs_jump AMD64 0x1_4000_0000 touching_8 (both_inputs AMD64) (program_objects AMD64) 1 0 (zed_input AMD64) (plain_export (symbol_on AMD64 (codes "queue"))) worked_programs.amd64.made worked_programs.amd64.program amd64_can refl refl refl;
-  reaches = calls_reach AMD64 0x1_4000_0000 touching_8 (both_inputs AMD64) (program_objects AMD64) (gives_by_hand AMD64) (written_8 AMD64) 1 0 (zed_input AMD64) (plain_export (symbol_on AMD64 (codes "queue"))) worked_programs.amd64.made worked_programs.amd64.program amd64_can amd64_given amd64_writes refl refl refl;
 }
 
 pub arm64_given : (dll : List ℕ) (ask : Ask) → length (gives_by_hand ARM64 dll ask) ≡ thunk_width ARM64
@@ -73,18 +90,17 @@ arm64 =
       walk = directory_walk (program_image ARM64 touching_8) (thunk_width ARM64) touching_8.descriptors (map (imported ARM64) (both_inputs ARM64)) links.directory;
       given = arm64_given;
       writes = arm64_writes;
-      loaded = program_loads ARM64 touching_8 (both_inputs ARM64) (program_objects ARM64) (gives_by_hand ARM64) (written_8 ARM64) worked_programs.arm64.made worked_programs.arm64.program arm64_given arm64_writes;
+      loaded = gnu_loaded ARM64 touching_8 (both_inputs ARM64) (program_objects ARM64) (gives_by_hand ARM64) (written_8 ARM64) worked_programs.arm64.made worked_programs.arm64.program arm64_given arm64_writes;
     }
 
 arm64_can : CanJump ARM64 0x1_4000_0000 touching_8
 arm64_can = (refl, refl)
 
-arm64_call : WorkedCall ARM64 0x1_4000_0000 touching_8 (written_8 ARM64) 128 160
+arm64_call : WorkedCall ARM64 0x1_4000_0000 touching_8 128 160
 arm64_call = record {
   can = arm64_can;
   open_jumps = stubs_jump ARM64 0x1_4000_0000 touching_8 (both_inputs ARM64) (program_objects ARM64) 0 1 (foo_input ARM64) (record (plain_export (symbol_on ARM64 (codes "open"))) { ordinal = 258 }) worked_programs.arm64.made worked_programs.arm64.program arm64_can refl refl refl;
   queue_jumps = stubs_jump ARM64 0x1_4000_0000 touching_8 (both_inputs ARM64) (program_objects ARM64) 1 0 (zed_input ARM64) (plain_export (symbol_on ARM64 (codes "queue"))) worked_programs.arm64.made worked_programs.arm64.program arm64_can refl refl refl;
-  reaches = calls_reach ARM64 0x1_4000_0000 touching_8 (both_inputs ARM64) (program_objects ARM64) (gives_by_hand ARM64) (written_8 ARM64) 1 0 (zed_input ARM64) (plain_export (symbol_on ARM64 (codes "queue"))) worked_programs.arm64.made worked_programs.arm64.program arm64_can arm64_given arm64_writes refl refl refl;
 }
 
 pub i386_given : (dll : List ℕ) (ask : Ask) → length (gives_by_hand I386 dll ask) ≡ thunk_width I386
@@ -106,18 +122,17 @@ i386 =
       walk = directory_walk (program_image I386 touching_4) (thunk_width I386) touching_4.descriptors (map (imported I386) (both_inputs I386)) links.directory;
       given = i386_given;
       writes = i386_writes;
-      loaded = program_loads I386 touching_4 (both_inputs I386) (program_objects I386) (gives_by_hand I386) (written_4 I386) worked_programs.i386.made worked_programs.i386.program i386_given i386_writes;
+      loaded = gnu_loaded I386 touching_4 (both_inputs I386) (program_objects I386) (gives_by_hand I386) (written_4 I386) worked_programs.i386.made worked_programs.i386.program i386_given i386_writes;
     }
 
 i386_can : CanJump I386 0x40_0000 touching_4
 i386_can = omega arith
 
-i386_call : WorkedCall I386 0x40_0000 touching_4 (written_4 I386) 96 112
+i386_call : WorkedCall I386 0x40_0000 touching_4 96 112
 i386_call = record {
   can = i386_can;
   open_jumps = stubs_jump I386 0x40_0000 touching_4 (both_inputs I386) (program_objects I386) 0 1 (foo_input I386) (record (plain_export (symbol_on I386 (codes "open"))) { ordinal = 258 }) worked_programs.i386.made worked_programs.i386.program i386_can refl refl refl;
   queue_jumps = stubs_jump I386 0x40_0000 touching_4 (both_inputs I386) (program_objects I386) 1 0 (zed_input I386) (plain_export (symbol_on I386 (codes "queue"))) worked_programs.i386.made worked_programs.i386.program i386_can refl refl refl;
-  reaches = calls_reach I386 0x40_0000 touching_4 (both_inputs I386) (program_objects I386) (gives_by_hand I386) (written_4 I386) 1 0 (zed_input I386) (plain_export (symbol_on I386 (codes "queue"))) worked_programs.i386.made worked_programs.i386.program i386_can i386_given i386_writes refl refl refl;
 }
 
 pub armnt_given : (dll : List ℕ) (ask : Ask) → length (gives_by_hand ARMNT dll ask) ≡ thunk_width ARMNT
@@ -139,7 +154,7 @@ armnt =
       walk = directory_walk (program_image ARMNT touching_4) (thunk_width ARMNT) touching_4.descriptors (map (imported ARMNT) (both_inputs ARMNT)) links.directory;
       given = armnt_given;
       writes = armnt_writes;
-      loaded = program_loads ARMNT touching_4 (both_inputs ARMNT) (program_objects ARMNT) (gives_by_hand ARMNT) (written_4 ARMNT) worked_programs.armnt.made worked_programs.armnt.program armnt_given armnt_writes;
+      loaded = gnu_loaded ARMNT touching_4 (both_inputs ARMNT) (program_objects ARMNT) (gives_by_hand ARMNT) (written_4 ARMNT) worked_programs.armnt.made worked_programs.armnt.program armnt_given armnt_writes;
     }
 
 pub worked_loads : WorkedLoads

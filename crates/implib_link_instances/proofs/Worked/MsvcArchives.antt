@@ -1,8 +1,6 @@
 -- The searches of two libraries for Microsoft's linker by hand, by computing and by the law.
-use Rattle.std.proofs.Common.{◌≡◌, ℕ, false, List, [], ◌∷◌, ◌++◌, map, refl, sym, ◌∙◌, codes}
-use Rattle.std.specs.Prelude.{bytes_eq, not}
-use Rattle.std.specs.List.{IsDistinct, flat_map, list_any}
-use Rattle.std.proofs.lemmas.Bool.{true≢false}
+use Rattle.std.proofs.Common.{ℕ, List, [], ◌∷◌, ◌++◌, refl, codes}
+use Rattle.std.specs.List.{IsDistinct, flat_map}
 use Rattle.implib.specs.declared.machine.MachineType.TheVariants.{AMD64}
 use Rattle.implib.specs.Formats.Layout.{encoded_size}
 use Rattle.implib.specs.Formats.ShortImport.{short_import_in}
@@ -11,19 +9,15 @@ use Rattle.implib.specs.Members.Members.{refusal, renamed_refusal}
 use Rattle.implib.specs.Members.MsvcMembers.{descriptor_spec, header_specs, null_descriptor_spec, null_thunk_spec, weak_specs}
 use Rattle.implib.specs.Members.MsvcObjects.{base_name, descriptor, descriptor_symbol, null_descriptor, null_descriptor_symbol, null_thunk, null_thunk_symbol}
 use Rattle.implib.specs.Members.WeakExternal.{weak_object}
-use Rattle.implib.proofs.Link.LinkedMembers.{among_contains, among_map}
-use Rattle.implib.proofs.Link.Ranges.{Among, among_first, among_later}
 use Rattle.implib_link.specs.Flavors.Expansion.{descriptor_symbol_by_name, expanded_in, import_object}
 use Rattle.implib_link.specs.Flavors.SectionSymbols.{with_section_symbols}
 use Rattle.implib_link.specs.Search.Archives.{archive_of}
 use Rattle.implib_link.specs.Search.Msvc.{AreTakenInTurn, TakesFor, claimed_in, left_in}
-use Rattle.implib_link.specs.Search.MsvcArchives.{IsMsvcArchive, NamesNoHeaderOf, is_weak_in, others_in, shorts_linked, symbols_of_shorts, wanted_with_weak}
+use Rattle.implib_link.specs.Search.MsvcArchives.{IsMsvcArchive, NamesNoHeaderOf, is_weak_in, symbols_of_shorts, wanted_with_weak}
 use Rattle.implib_link.specs.Search.Search.{undefined_in}
 use Rattle.implib_link_instances.specs.Worked.Archives.{both_wanted}
-use Rattle.implib_link_instances.specs.Worked.MsvcArchives.{WorkedMsvcArchives, descriptor_named, foo_shorts, msvc_zed, null_named, queue_taken, queue_wanted, short_named, shorts_of_both, thunk_named, two_msvc, weak_named, zed_null_taken}
-use Rattle.implib_link.proofs.Search.Closed.{passes}
-use Rattle.implib_link.proofs.Search.Lists.{among_any, any_among, apart_none, contains_among}
-use Rattle.implib_link.proofs.Search.MsvcArchives.{shorts_taken}
+use Rattle.implib_link_instances.specs.Worked.MsvcArchives.{WorkedMsvcArchives, descriptor_named, foo_shorts, msvc_zed, null_named, queue_taken, queue_wanted, short_named, shorts_of_both, thunk_named, two_msvc, weak_named}
+use Rattle.implib_link.proofs.Search.Lists.{any_among, apart_none}
 use Rattle.implib_link_instances.proofs.Worked.MsvcSearch.{pulls_in_now, settled_ends}
 use Rattle.implib_link_instances.proofs.Worked.Programs.{distinct_by, opened}
 
@@ -109,29 +103,6 @@ twice is =
     let others : List (List ℕ) = null_thunk_symbol zed ∷ codes "__imp_queue" ∷ codes "queue" ∷ codes "__imp_stack" ∷ codes "stack" ∷ symbols_of_shorts msvc_zed ++ [] in
     apart_none (descriptor_symbol zed) others (any_among (descriptor_symbol zed) others refl) is.distinct.1.0
 
--- a member by its first symbol and its name
-abbrev first_of : List (List ℕ) → List ℕ
-first_of [] = []
-first_of (name ∷ names) = name
-
-abbrev shown : MemberView → List ℕ
-shown m = first_of m.symbols ++ m.name
-
-other_null : TakesFor AMD64 (archive_of two_msvc) queue_wanted zed_null_taken → ⊥
-unfolding opened refusal renamed_refusal encoded_size expanded_in short_import_in import_object descriptor_symbol_by_name with_section_symbols descriptor null_descriptor null_thunk descriptor_symbol null_descriptor_symbol null_thunk_symbol base_name descriptor_spec null_descriptor_spec null_thunk_spec header_specs weak_specs weak_object left_in claimed_in undefined_in AreTakenInTurn archive_of is_weak_in symbols_of_shorts
-other_null takes =
-    let just = shorts_taken AMD64 two_msvc zed_null_taken queue_wanted msvc_archive
-    (record { descriptor = refl; null_descriptor = refl; null_thunk = refl }, (record { descriptor = refl; null_descriptor = refl; null_thunk = refl }, tt)) takes in
-    let there : Among (null_named zed) (others_in AMD64 zed_null_taken) = among_null in
-    let linked = contains_among (null_named zed) (shorts_linked AMD64 two_msvc queue_wanted) ((just.inputs (null_named zed)).0 (among_contains (null_named zed) (others_in AMD64 zed_null_taken) there)) in
-    true≢false (sym (among_any (to_null ++ zed) (map shown (shorts_linked AMD64 two_msvc queue_wanted)) (among_map shown (null_named zed) (shorts_linked AMD64 two_msvc queue_wanted) linked)) ∙ none)
-  where
-    among_null : Among (null_named zed) (others_in AMD64 zed_null_taken)
-    among_null = passes (λ m. not (is_weak_in AMD64 m)) (null_named zed) zed_null_taken (among_later _ _ _ (among_first _ _)) refl
-
-    none : list_any (bytes_eq (to_null ++ zed)) (map shown (shorts_linked AMD64 two_msvc queue_wanted)) ≡ false
-    none = refl
-
 pub worked_msvc_archives : WorkedMsvcArchives
 unfolding opened refusal renamed_refusal encoded_size expanded_in short_import_in import_object descriptor_symbol_by_name with_section_symbols descriptor null_descriptor null_thunk descriptor_symbol null_descriptor_symbol null_thunk_symbol base_name descriptor_spec null_descriptor_spec null_thunk_spec header_specs weak_specs weak_object left_in claimed_in undefined_in AreTakenInTurn archive_of is_weak_in symbols_of_shorts
 worked_msvc_archives = record {
@@ -141,11 +112,7 @@ worked_msvc_archives = record {
   weak = refl;
   wanted = refl;
   plain = both_plain;
-  just = shorts_taken AMD64 two_msvc shorts_of_both both_wanted msvc_archive both_plain both_take;
   address = refl;
   queue_takes = queue_takes;
-  queue_just = shorts_taken AMD64 two_msvc queue_taken queue_wanted msvc_archive
-      (record { descriptor = refl; null_descriptor = refl; null_thunk = refl }, (record { descriptor = refl; null_descriptor = refl; null_thunk = refl }, tt)) queue_takes;
   queue_linked = refl;
-  other_null = other_null;
 }

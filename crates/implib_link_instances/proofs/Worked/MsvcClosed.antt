@@ -1,5 +1,5 @@
 -- The closed program for Microsoft's linker that was linked by hand, by computing and by the laws.
-use Rattle.std.proofs.Common.{◌≡◌, ℕ, ◌<◌, false, List, [], ◌∷◌, ◌++◌, length, map, refl, sym, ◌∙◌, subst, arith, codes}
+use Rattle.std.proofs.Common.{◌≡◌, ℕ, false, List, [], ◌∷◌, ◌++◌, map, refl, sym, ◌∙◌, subst, codes}
 use Rattle.std.specs.Prelude.{bytes_eq}
 use Rattle.std.specs.List.{AllByRecursion, Contains, flat_map, list_any}
 use Rattle.std.proofs.lemmas.Bool.{true≢false}
@@ -14,46 +14,29 @@ use Rattle.implib.specs.Members.MsvcMembers.{descriptor_spec, header_specs, null
 use Rattle.implib.specs.Members.MsvcObjects.{base_name, descriptor, descriptor_symbol, null_descriptor, null_descriptor_symbol, null_thunk, null_thunk_symbol}
 use Rattle.implib.specs.Members.WeakExternal.{weak_object}
 use Rattle.implib.proofs.Link.LinkedMembers.{among_contains, among_map}
-use Rattle.implib.proofs.Link.Ranges.{Among, all_among, among_back, among_front}
+use Rattle.implib.proofs.Link.Ranges.{Among, among_back, among_front}
 use Rattle.implib_link.specs.Flavors.Expansion.{descriptor_symbol_by_name, expanded_in, import_object}
 use Rattle.implib_link.specs.Flavors.Program.{objects_taken}
 use Rattle.implib_link.specs.Flavors.SectionSymbols.{with_section_symbols}
-use Rattle.implib_link.specs.Gnu.Packed.{group_end, packed_end, sections_end}
+use Rattle.implib_link.specs.Gnu.Packed.{group_end, sections_end}
 use Rattle.implib_link.specs.Gnu.Program.{ClaimsNone, claimed_names, has_tables}
 use Rattle.implib_link.specs.Search.Archives.{archive_of}
 use Rattle.implib_link.specs.Search.Closed.{claims_of, listed_in, references_of, unresolved}
 use Rattle.implib_link.specs.Search.Msvc.{claimed_in, left_in}
-use Rattle.implib_link.specs.Search.MsvcArchives.{is_weak_in, short_inputs}
-use Rattle.implib_link.specs.Search.MsvcClosed.{AreClosedForMsvc, AreLinkedForMsvc, IsClosedForMsvc, PullsIntoFor, TakesIntoFor}
-use Rattle.implib_link.specs.Search.MsvcGiven.{AreGivenForMsvc, symbols_kept_for}
+use Rattle.implib_link.specs.Search.MsvcArchives.{is_weak_in}
+use Rattle.implib_link.specs.Search.MsvcClosed.{PullsIntoFor, TakesIntoFor}
 use Rattle.implib_link.specs.Search.Search.{undefined_in}
-use Rattle.implib_link_instances.specs.Worked.Closed.{choosing, clashing}
+use Rattle.implib_link_instances.specs.Worked.Closed.{choosing}
 use Rattle.implib_link_instances.specs.Worked.MsvcArchives.{shorts_of_both, thunk_named, two_msvc}
-use Rattle.implib_link_instances.specs.Worked.MsvcClosed.{WorkedMsvcClosed, foo_members, msvc_bases, msvc_objects, msvc_without_last, msvc_zed_first, zed_members}
+use Rattle.implib_link_instances.specs.Worked.MsvcClosed.{WorkedMsvcClosed, msvc_without_last}
 use Rattle.implib_link.proofs.Search.Closed.{claims_apart, unresolved_parts}
 use Rattle.implib_link.proofs.Search.Lists.{among_any, any_among, contains_among}
-use Rattle.implib_link.proofs.Search.MsvcClosed.{closed_links_for, takes_into}
-use Rattle.implib_link.proofs.Search.MsvcExists.{packed_closed}
-use Rattle.implib_link.proofs.Search.MsvcGiven.{msvc_given_closes, msvc_given_ends}
-use Rattle.implib_link_instances.proofs.Worked.MsvcArchives.{both_take, msvc_archive}
+use Rattle.implib_link.proofs.Search.MsvcClosed.{takes_into}
+use Rattle.implib_link_instances.proofs.Worked.MsvcArchives.{both_take}
 use Rattle.implib_link_instances.proofs.Worked.Programs.{claims_none_by, opened}
-use Rattle.implib_link_instances.proofs.Worked.Searched.{below_limit}
 
 abbrev own : List Object
 own = choosing ∷ []
-
-pub msvc_given : AreGivenForMsvc two_msvc (choosing ∷ [])
-unfolding opened refusal renamed_refusal encoded_size expanded_in short_import_in import_object descriptor_symbol_by_name with_section_symbols descriptor null_descriptor null_thunk descriptor_symbol null_descriptor_symbol null_thunk_symbol base_name descriptor_spec null_descriptor_spec null_thunk_spec header_specs weak_specs weak_object left_in claimed_in undefined_in archive_of is_weak_in references_of claims_of has_tables group_end sections_end
-msvc_given = record {
-  claims = (claims_none_by (symbols_kept_for two_msvc own) choosing refl, tt);
-  names = (record { descriptor = refl; null_descriptor = refl; null_thunk = refl }, (record { descriptor = refl; null_descriptor = refl; null_thunk = refl }, tt));
-}
-
-refused : AreGivenForMsvc two_msvc (clashing ∷ []) → ⊥
-unfolding opened refusal renamed_refusal encoded_size expanded_in short_import_in import_object descriptor_symbol_by_name with_section_symbols descriptor null_descriptor null_thunk descriptor_symbol null_descriptor_symbol null_thunk_symbol base_name descriptor_spec null_descriptor_spec null_thunk_spec header_specs weak_specs weak_object left_in claimed_in undefined_in archive_of is_weak_in references_of claims_of has_tables group_end sections_end
-refused is =
-    let names : List (List ℕ) = symbols_kept_for two_msvc (clashing ∷ []) in
-    true≢false (all_among (λ name. list_any (bytes_eq name) (claimed_names clashing) ≡ false) (codes "queue") names (any_among (codes "queue") names refl) is.claims.0)
 
 claims : AllByRecursion (ClaimsNone (listed_in shorts_of_both ++ left_in AMD64 shorts_of_both)) own
 unfolding opened refusal renamed_refusal encoded_size expanded_in short_import_in import_object descriptor_symbol_by_name with_section_symbols descriptor null_descriptor null_thunk descriptor_symbol null_descriptor_symbol null_thunk_symbol base_name descriptor_spec null_descriptor_spec null_thunk_spec header_specs weak_specs weak_object left_in claimed_in undefined_in archive_of is_weak_in references_of claims_of has_tables group_end sections_end
@@ -98,45 +81,10 @@ claimed taken m pulls =
     (subst (Among name) (sym (flat_map-append claimed_names own objects))
     (among_front name (flat_map claimed_names own) (flat_map claimed_names objects) (any_among name (flat_map claimed_names own) refl)))
 
-linked : AreLinkedForMsvc AMD64 two_msvc (choosing ∷ []) shorts_of_both msvc_zed_first msvc_objects
-unfolding opened refusal renamed_refusal encoded_size expanded_in short_import_in import_object descriptor_symbol_by_name with_section_symbols descriptor null_descriptor null_thunk descriptor_symbol null_descriptor_symbol null_thunk_symbol base_name descriptor_spec null_descriptor_spec null_thunk_spec header_specs weak_specs weak_object left_in claimed_in undefined_in archive_of is_weak_in references_of claims_of has_tables group_end sections_end
-linked = record {
-  order = record { moves = (0, 1) ∷ []; below = (omega arith, omega arith, tt); is = refl };
-  others = λ o. (λ held. held, λ held. held);
-  before = zed_members;
-  behind = foo_members;
-  members = refl;
-  tables = refl;
-}
-
-wants : 0 < length (short_inputs two_msvc (unresolved (choosing ∷ [])))
-unfolding opened refusal renamed_refusal encoded_size expanded_in short_import_in import_object descriptor_symbol_by_name with_section_symbols descriptor null_descriptor null_thunk descriptor_symbol null_descriptor_symbol null_thunk_symbol base_name descriptor_spec null_descriptor_spec null_thunk_spec header_specs weak_specs weak_object left_in claimed_in undefined_in archive_of is_weak_in references_of claims_of has_tables group_end sections_end
-wants = omega arith
-
-closed_objects : AreClosedForMsvc AMD64 two_msvc (choosing ∷ []) shorts_of_both msvc_zed_first msvc_objects
-closed_objects = msvc_given_closes AMD64 two_msvc own shorts_of_both msvc_zed_first msvc_objects msvc_archive msvc_given wants msvc_takes linked
-
-msvc_closed : IsClosedForMsvc AMD64 two_msvc (choosing ∷ []) shorts_of_both msvc_zed_first msvc_bases msvc_objects
-unfolding opened refusal renamed_refusal encoded_size expanded_in short_import_in import_object descriptor_symbol_by_name with_section_symbols descriptor null_descriptor null_thunk descriptor_symbol null_descriptor_symbol null_thunk_symbol base_name descriptor_spec null_descriptor_spec null_thunk_spec header_specs weak_specs weak_object left_in claimed_in undefined_in archive_of is_weak_in references_of claims_of has_tables group_end sections_end
-msvc_closed =
-    packed_closed AMD64 two_msvc own shorts_of_both msvc_zed_first 0x2000 msvc_objects msvc_archive closed_objects (omega arith)
-    (below_limit (packed_end 0x2000 msvc_objects) refl)
-
 pub worked_msvc_closed : WorkedMsvcClosed
 unfolding opened refusal renamed_refusal encoded_size expanded_in short_import_in import_object descriptor_symbol_by_name with_section_symbols descriptor null_descriptor null_thunk descriptor_symbol null_descriptor_symbol null_thunk_symbol base_name descriptor_spec null_descriptor_spec null_thunk_spec header_specs weak_specs weak_object left_in claimed_in undefined_in archive_of is_weak_in references_of claims_of has_tables group_end sections_end
 worked_msvc_closed = record {
-  given = msvc_given;
-  kept = refl;
-  wants = wants;
-  refused = refused;
-  ends = msvc_given_ends AMD64 two_msvc own msvc_archive msvc_given;
   takes = msvc_takes;
   stopped = stopped;
   claimed = claimed;
-  chosen = refl;
-  closed = msvc_closed;
-  links = closed_links_for AMD64 two_msvc own shorts_of_both msvc_zed_first msvc_bases msvc_objects msvc_archive msvc_closed;
-  left = refl;
-  queue = refl;
-  baz = refl;
 }

@@ -1,4 +1,12 @@
 -- Near misses of instructions in code and of what arrives, by computing.
+use Rattle.implib.specs.Members.Gnu.{stub_relocations}
+use Rattle.implib_link_instances.proofs.Worked.Operands.{worked_operands}
+use Rattle.implib_link.specs.Gnu.Program.{has_tables}
+use Rattle.implib.specs.Members.WeakExternal.{weak_object}
+use Rattle.implib.specs.Formats.Layout.{encoded_size}
+use Rattle.implib.specs.Members.GnuMembers.{alias_specs}
+use Rattle.implib.specs.Members.Members.{refusal, renamed_refusal}
+use Rattle.implib_link_instances.proofs.Worked.Programs.{opened}
 use Rattle.std.proofs.Common.{◌≡◌, ℕ, ◌+◌, ◌<◌, ◌≤◌, ◌⊎◌, false, List, [], ◌∷◌, ◌++◌, codes, length, Some, None, refl, ap, sym, ◌∙◌, subst, inl, inr, arith}
 use Rattle.std.specs.Prelude.{Bool, bytes_eq, slice_get, slice_index}
 use Rattle.std.specs.List.{AllByRecursion}
@@ -10,13 +18,13 @@ use Rattle.implib.specs.Formats.Constants.{amd64_rel32, arm64_pagebase_rel21, cl
 use Rattle.implib.specs.Formats.Object.{ASymbol, Auxiliary, Entry, ObjectSymbol}
 use Rattle.implib.specs.Link.Image.{Range, byte_at}
 use Rattle.implib.specs.Link.Load.{BytesAt}
-use Rattle.implib.specs.Link.Resolution.{is_undefined_external}
+use Rattle.implib.specs.Link.Resolution.{is_undefined_external, symbol_address}
 use Rattle.implib_link.specs.Gnu.Calls.{IsAside, call_reads, direct_leads}
 use Rattle.implib_link.specs.Gnu.Pointers.{load_reads}
 use Rattle.implib_link.specs.Stub.{jump_reads}
-use Rattle.implib_link_instances.specs.Worked.NearCode.{NearCallArrives, NearDefines, NearDirectCallArrives, NearHasDirectCall, NearHasInstructions, NearHasLoad, NearHasPage, NearLoadArrives, NearStubArrives, call_code, imp_f, jump_code, left, page_code}
-use Rattle.implib_link_instances.specs.Worked.Operands.{field}
-use Rattle.implib_link_instances.specs.Worked.Programs.{symbol_of_class}
+use Rattle.implib_link_instances.specs.Worked.NearCode.{NearCallArrives, NearDefines, NearDirectCallArrives, NearHasDirectCall, NearHasInstructions, NearHasLoad, NearHasPage, NearLoadArrives, NearStubArrives, call_code, imp_f, jump_code, left, page_code, NearStubAt, open_code}
+use Rattle.implib_link_instances.specs.Worked.Operands.{field, passing_placed}
+use Rattle.implib_link_instances.specs.Worked.Programs.{symbol_of_class, touching_8}
 use Rattle.implib_link_instances.specs.Worked.RefusedFields.{open_address, two_ranges}
 use Rattle.implib_link.proofs.Gnu.Memory.{byte_within}
 use Rattle.implib_link_instances.proofs.Worked.NearMisses.{none_passes}
@@ -261,4 +269,20 @@ near_direct_call_arrives = record {
       let read : jump_reads AMD64 0x1_4000_1040 code ≡ Some (0x1_4000_0000 + x.entry) =
       sym (ap (λ a. jump_reads AMD64 (0x1_4000_0000 + a) code) at) ∙ sym (ap (jump_reads AMD64 (0x1_4000_0000 + x.stub)) same) ∙ x.reads in
       beside_entry memory x.entry (entry_is 0x1_4000_0000 x.entry 0x81 read) refl x.located;
+}
+
+pub near_stub_at : NearStubAt
+unfolding opened refusal renamed_refusal alias_specs encoded_size weak_object has_tables
+near_stub_at = record {
+  stands = worked_operands.amd64.stub;
+  bytes = λ x. differ 0x15 0x25 (ap (λ xs. slice_index xs 1) x.bytes) (omega arith);
+  relocations = λ x. let none : [] ≡ stub_relocations AMD64 2 = x.relocations in cc;
+  begins = λ x. differ 0 8 (sym x.begins) (omega arith);
+  held = λ x. let none : None ≡ Some x.symbol = x.held in cc;
+  placed = λ x.
+      let own = worked_operands.amd64.stub in
+      let both : Some own.symbol ≡ Some x.symbol = sym own.held ∙ x.held in
+      let same : own.symbol ≡ x.symbol = cc in
+      let is : Some 0x80 ≡ Some 0x88 = sym own.placed ∙ ap (symbol_address (passing_placed AMD64 touching_8) open_code.from) same ∙ x.placed in
+      differ 0x80 0x88 (value 0x80 0x88 is) (omega arith);
 }

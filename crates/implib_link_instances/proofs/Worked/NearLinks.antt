@@ -18,7 +18,7 @@ use Rattle.implib.specs.Formats.Bytes.{u32_bytes}
 use Rattle.implib.specs.Formats.Constants.{class_external, class_static, i386_dir32}
 use Rattle.implib.specs.Formats.Object.{ASymbol, Auxiliary, Entry, ObjectSymbol, ObjectSection}
 use Rattle.implib.specs.Import.{Ordinal, imp_symbol}
-use Rattle.implib.specs.Link.Load.{BytesAt, NumberAt, TableAt, ThunkAsksFor, ThunkAt}
+use Rattle.implib.specs.Link.Load.{NumberAt, TableAt, ThunkAsksFor, ThunkAt}
 use Rattle.implib.specs.Link.Placement.{Placed, Unplaced}
 use Rattle.implib.specs.Link.Resolution.{definitions_of, is_undefined_external}
 use Rattle.implib.proofs.Link.Loading.{number_once}
@@ -28,20 +28,17 @@ use Rattle.implib_link.specs.Search.Closed.{AreTakenInto}
 use Rattle.implib_link.specs.Search.Search.{IsTakenInTurn}
 use Rattle.implib_link_instances.specs.Worked.Calls.{calling_at, calling_objects, calling_placed}
 use Rattle.implib_link_instances.specs.Worked.Lld.{two_dlls}
-use Rattle.implib_link_instances.specs.Worked.Loads.{written_8}
-use Rattle.implib_link_instances.specs.Worked.NearLinks.{NearAreGiven, NearAreGivenForMsvc, NearAreLinkedBeside, NearAreMoved, NearArePiecesAt, NearAreSections, NearCallReaches, NearDefinesIn, NearFindsBy, NearHasBranch, NearHasField, NearHasOperand, NearIsClosedForMsvc, NearJumpsThrough, NearNames, NearResolves, NearTakes, NearTakesInto, NearTakesIntoFor, NearTakesSymbols, NearHasInstruction, jumping, jump_section, jumping_as, late_f, table_elsewhere}
+use Rattle.implib_link_instances.specs.Worked.NearLinks.{NearAreGiven, NearAreLinkedBeside, NearAreMoved, NearArePiecesAt, NearAreSections, NearDefinesIn, NearFindsBy, NearHasBranch, NearHasField, NearHasOperand, NearJumpsThrough, NearNames, NearResolves, NearTakes, NearTakesInto, NearTakesIntoFor, NearTakesSymbols, NearHasInstruction, jumping, jump_section, jumping_as, late_f, table_elsewhere}
 use Rattle.implib_link_instances.specs.Worked.NearSearches.{again, listing}
 use Rattle.implib_link_instances.specs.Worked.Operands.{field, imp_open, passing_at}
-use Rattle.implib_link_instances.specs.Worked.Programs.{program_image, program_placed, symbol_of_class, symbol_on, touching_8, code_object}
+use Rattle.implib_link_instances.specs.Worked.Programs.{program_placed, symbol_of_class, symbol_on, touching_8, code_object}
 use Rattle.implib_link_instances.specs.Worked.Rules.{early_caller}
 use Rattle.implib_link_instances.specs.Worked.Walks.{without_addresses, without_name}
-use Rattle.implib_link.proofs.Gnu.Stubs.{same_address}
 use Rattle.implib_link_instances.proofs.Worked.Lld.{lld_opened}
 use Rattle.implib_link_instances.proofs.Worked.NearCode.{entry_named}
 use Rattle.implib_link_instances.proofs.Worked.NearMisses.{none_passes}
-use Rattle.implib_link_instances.proofs.Worked.NearPrograms.{no_eights, no_name, nothing_there}
+use Rattle.implib_link_instances.proofs.Worked.NearPrograms.{no_name, nothing_there}
 use Rattle.implib_link_instances.proofs.Worked.NearSearches.{none_in, searched, twice}
-use Rattle.implib_link_instances.proofs.Worked.NearTables.{queue_at}
 use Rattle.implib_link_instances.proofs.Worked.RefusedFields.{value}
 use Rattle.implib_link_instances.proofs.Worked.RefusedLinks.{differ, number, zero_4}
 use Rattle.implib_link_instances.specs.Worked.RefusedLinks.{ordinal_8}
@@ -65,13 +62,6 @@ near_takes_into_for = record { in_turn = λ x. none_in x.in_turn.0.0 x.in_turn.0
 pub near_are_given : NearAreGiven
 unfolding searched
 near_are_given = record { names = λ x. true≢false x.names.0.head }
-
-pub near_are_given_for_msvc : NearAreGivenForMsvc
-unfolding searched
-near_are_given_for_msvc = record { names = λ x. true≢false x.names.0.null_descriptor }
-
-pub near_is_closed_for_msvc : NearIsClosedForMsvc
-near_is_closed_for_msvc = record { lookups = λ x. no_eights 0x2044 x.lookups refl; addresses = λ x. no_eights 0x2044 x.addresses refl }
 
 -- Stubs.
 
@@ -139,23 +129,6 @@ near_jumps_through = record {
       (x.jumps 0x1000 (omega arith)));
   named = λ x. no_early_f (late_f ∷ symbol_of_class (codes "g") 1 class_external ∷ []) refl x;
   shared = λ x. no_early_f (late_f ∷ symbol_of_class (codes "f") 1 class_static ∷ []) refl x;
-}
-
-no_hello : definitions_of (codes "__imp_hello") linked ≡ []
-unfolding searched
-no_hello = refl
-
-queue_entry : (entry : ℕ) → definitions_of (codes "__imp_queue") linked ≡ record { name = codes "__imp_queue"; address = Some entry } ∷ [] → entry ≡ 160
-queue_entry entry once = same_address (codes "__imp_queue") entry 160 (definitions_of (codes "__imp_queue") linked) once queue_at
-
-queue_bytes : BytesAt (written_8 AMD64 ++ program_image AMD64 touching_8) 160 (0x72 ∷ 0x7A ∷ []) → ⊥
-unfolding searched BytesAt
-queue_bytes located = let is : Some 0x71 ≡ Some 0x72 = located.0 in differ 0x71 0x72 (value 0x71 0x72 is) (omega arith)
-
-pub near_call_reaches : NearCallReaches
-near_call_reaches = record {
-  once = λ x. let none : [] ≡ record { name = codes "__imp_hello"; address = Some x.entry } ∷ [] = sym no_hello ∙ x.once in cc;
-  located = λ x. queue_bytes (subst (λ a. BytesAt (written_8 AMD64 ++ program_image AMD64 touching_8) a (0x72 ∷ 0x7A ∷ [])) (queue_entry x.entry x.once) x.located);
 }
 
 -- Code beside the tables.

@@ -6,7 +6,6 @@ use Rattle.implib.specs.Members.MemberSpec.{MemberView}
 use Rattle.std.specs.Prelude.{IsPermutation, Option}
 use Rattle.std.proofs.lemmas.List.Sorted.{sum_by-IsPermutation}
 use Rattle.std.proofs.lemmas.List.Elements.{filter_map-append}
-use Rattle.implib_link.specs.Search.MsvcArchives.{first_null}
 use Rattle.implib_link.specs.Flavors.Program.{objects_taken}
 use Rattle.implib_link_instances.proofs.Worked.RefusedFields.{absent}
 use Rattle.implib_link_instances.proofs.Worked.NearLinks.{five_there, kind_of, lookups_there}
@@ -29,7 +28,6 @@ use Rattle.implib.proofs.Link.LinkedMembers.{among_contains}
 use Rattle.implib.proofs.Link.Loading.{number_once}
 use Rattle.implib_link.specs.Search.Archives.{archive_of}
 use Rattle.implib_link_instances.specs.Worked.Archives.{two_libraries}
-use Rattle.implib_link_instances.specs.Worked.MsvcArchives.{two_msvc}
 use Rattle.implib_link.proofs.Search.Lists.{any_among}
 use Rattle.implib_link.specs.Gnu.Calls.{Defines, i386_rel32}
 use Rattle.implib_link.specs.Gnu.Operands.{operand_leads}
@@ -38,7 +36,7 @@ use Rattle.implib_link.specs.Stub.{adrp_immediate, ldr_immediate, page, plus_sig
 use Rattle.implib_link_instances.specs.Worked.Calls.{calling_at}
 use Rattle.implib_link_instances.specs.Worked.Flavors.{flavor_bases_8, flavor_image, flavor_placed}
 use Rattle.implib_link_instances.specs.Worked.NearCode.{code_of}
-use Rattle.implib_link_instances.specs.Worked.NearResults.{NearAreChosenFor, NearAreClosedForMsvc, NearAreLinkedFor, NearAreLinkedForMsvc, NearDefineOnce, NearFillsBy, NearFlavorsLink, NearHasOffsetField, NearHasPageField, NearHasPointer, NearImportsBy, NearInputImports, NearInstructionArrives, NearIsClosed, NearLinksAmong, NearLinksBeside, NearLinksClosed, NearLinksClosedForMsvc, NearPageArrives, NearPairArrives, NearIsLinkedWith, NearBranchStays, four_before}
+use Rattle.implib_link_instances.specs.Worked.NearResults.{NearAreChosenFor, NearAreLinkedFor, NearDefineOnce, NearFillsBy, NearFlavorsLink, NearHasOffsetField, NearHasPageField, NearHasPointer, NearImportsBy, NearInputImports, NearInstructionArrives, NearIsClosed, NearLinksAmong, NearLinksBeside, NearLinksClosed, NearPageArrives, NearPairArrives, NearIsLinkedWith, NearBranchStays, four_before}
 use Rattle.implib_link_instances.specs.Worked.NearSearches.{asking}
 use Rattle.implib_link_instances.specs.Worked.Operands.{imp_open, field}
 use Rattle.implib_link_instances.specs.Worked.Programs.{program_image, symbol_of_class, symbol_on, touching_8}
@@ -132,19 +130,9 @@ near_links_closed =
     let names : List (List ℕ) = listed_in (archive_of two_libraries) in
     record { closed = λ x. x.closed (codes "queue") (0, omega arith, refl) (among_contains (codes "queue") names (any_among (codes "queue") names refl)) }
 
-pub near_links_closed_for_msvc : NearLinksClosedForMsvc
-unfolding searched
-near_links_closed_for_msvc =
-    let names : List (List ℕ) = listed_in (archive_of two_msvc) in
-    record { closed = λ x. x.closed (codes "queue") (0, omega arith, refl) (among_contains (codes "queue") names (any_among (codes "queue") names refl)) }
-
 pub near_is_closed : NearIsClosed
 unfolding searched
 near_is_closed = record { names = λ x. true≢false x.names.0.head }
-
-pub near_are_closed_for_msvc : NearAreClosedForMsvc
-unfolding searched
-near_are_closed_for_msvc = record { names = λ x. true≢false x.names.0.null_descriptor; some = λ x. no_length 0 refl x.some }
 
 no_object : (o : Object) → [] ≡ o ∷ [] → ⊥
 no_object o is = cc
@@ -181,10 +169,6 @@ none_taken before null behind one none =
     length-append (objects_taken AMD64 null) (objects_taken AMD64 behind) in
     omega arith
 
-one_null : length (objects_taken AMD64 (first_null AMD64 two_msvc)) ≡ 1
-unfolding searched
-one_null = refl
-
 counted : (xs ys : List MemberView) → length (objects_taken AMD64 (xs ++ ys)) ≡ length (objects_taken AMD64 xs) + length (objects_taken AMD64 ys)
 counted xs ys =
     let f : MemberView → Option Object = λ m. expanded_in AMD64 m.bytes in
@@ -197,15 +181,6 @@ more_taken before null behind all one there some is =
     let second : length (objects_taken AMD64 (null ++ behind)) ≡ length (objects_taken AMD64 null) + length (objects_taken AMD64 behind) = counted null behind in
     let both : length (objects_taken AMD64 (before ++ behind)) ≡ length (objects_taken AMD64 before) + length (objects_taken AMD64 behind) = counted before behind in
     omega arith
-
-pub near_are_linked_for_msvc : NearAreLinkedForMsvc
-unfolding searched
-near_are_linked_for_msvc = record {
-  members = λ x. more_taken x.before (first_null AMD64 two_msvc) x.behind _ one_null (ap (λ ms. length (objects_taken AMD64 ms)) x.members) (omega arith) (ap length x.tables);
-  order = λ x. no_order _ _ x.order;
-  others = λ x. none_in asking ((x.others asking).1 (0, omega arith, refl));
-  tables = λ x. none_taken x.before (first_null AMD64 two_msvc) x.behind one_null x.tables;
-}
 
 no_last : (os : List Object) (o : Object) → [] ≡ os ++ o ∷ [] → ⊥
 no_last [] o none = cc

@@ -16,7 +16,7 @@ use Rattle.implib.specs.Members.GnuMembers.{alias_specs}
 use Rattle.implib.specs.Members.Gnu.{archive_symbols}
 use Rattle.implib.specs.Members.MemberSpec.{MemberView}
 use Rattle.implib.specs.Members.Members.{refusal, renamed_refusal}
-use Rattle.implib.specs.Members.Msvc.{short_import_symbol, short_import_symbols}
+use Rattle.implib.specs.Members.Msvc.{short_import_symbol}
 use Rattle.implib.specs.Members.MsvcMembers.{descriptor_spec, header_specs, null_descriptor_spec, null_thunk_spec, weak_specs}
 use Rattle.implib.specs.Members.MsvcObjects.{base_name, descriptor, descriptor_symbol, null_descriptor, null_descriptor_symbol, null_thunk, null_thunk_symbol}
 use Rattle.implib.specs.Members.WeakExternal.{weak_object}
@@ -24,7 +24,7 @@ use Rattle.implib.specs.Worked.Statements.{plain_export}
 use Rattle.implib.proofs.Link.LinkedMembers.{among_contains}
 use Rattle.implib.proofs.Link.Ranges.{Among, among_first}
 use Rattle.implib_link.specs.Flavors.Expansion.{descriptor_symbol_by_name, expanded_in, import_object}
-use Rattle.implib_link.specs.Flavors.Program.{FlavorInput, exports_chosen, objects_taken, thunks_of}
+use Rattle.implib_link.specs.Flavors.Program.{objects_taken}
 use Rattle.implib_link.specs.Flavors.SectionSymbols.{with_section_symbols}
 use Rattle.implib_link.specs.Gnu.Program.{has_tables, thunks_before}
 use Rattle.implib_link.specs.Search.Archives.{IsArchive, IsWeakData, Library, archive_of, exports_of, is_weak, symbols_of_library, weak_among}
@@ -35,8 +35,7 @@ use Rattle.implib_link.specs.Search.Search.{names_claimed, names_undefined, unde
 use Rattle.implib_link_instances.specs.Worked.Archives.{two_libraries}
 use Rattle.implib_link_instances.specs.Worked.Closed.{closed_bases, closed_objects, closed_taken, foo_alias}
 use Rattle.implib_link_instances.specs.Worked.MsvcArchives.{null_named, short_named, shorts_of_both, two_msvc, weak_named}
-use Rattle.implib_link_instances.specs.Worked.MsvcClosed.{msvc_bases, msvc_objects}
-use Rattle.implib_link_instances.specs.Worked.NearSearches.{NearAreNamedApart, NearIsAliasTaken, NearIsArchive, NearIsImported, NearIsImportedShort, NearIsMsvcArchive, NearIsUsed, NearIsUsedShort, NearIsWeakData, NearIsWeakShort, NearIsWeakTaken, NearNamesNoHeadOrTail, NearPullsIn, NearPullsInFor, NearPullsInto, NearPullsIntoFor, again, asking, closed_inputs, later, listing, msvc_inputs, queue_member, zed_library, zed_short}
+use Rattle.implib_link_instances.specs.Worked.NearSearches.{NearAreNamedApart, NearIsAliasTaken, NearIsArchive, NearIsImported, NearIsMsvcArchive, NearIsUsed, NearIsWeakData, NearIsWeakShort, NearIsWeakTaken, NearNamesNoHeadOrTail, NearPullsIn, NearPullsInFor, NearPullsInto, NearPullsIntoFor, again, asking, closed_inputs, later, listing, queue_member, zed_library, zed_short}
 use Rattle.implib_link.proofs.Search.Lists.{among_any, among_at, contains_among}
 use Rattle.implib_link_instances.proofs.Worked.RefusedLinks.{differ}
 use Rattle.implib.specs.Members.ImportTables.{thunk_width}
@@ -155,12 +154,6 @@ near_is_used = record {
   among = λ x. in_one_alone x.0 (archive_symbols (record empty_export { name = codes "qux"; is_data = true })) (codes "qux" ∷ []) refl x.1 x.2;
 }
 
-pub near_is_used_short : NearIsUsedShort
-near_is_used_short = record {
-  wanted = λ x. in_one_alone x.0 (short_import_symbols (plain_export (codes "queue"))) (codes "bar" ∷ codes "printf" ∷ []) refl x.1 x.2;
-  among = λ x. in_one_alone x.0 (short_import_symbols (record empty_export { name = codes "qux"; is_data = true })) (codes "qux" ∷ []) refl x.1 x.2;
-}
-
 -- members of which none is listed for a name
 listed_by : (name : List ℕ) (members : List MemberView) (m : MemberView) → list_any (λ (x : MemberView). list_any (bytes_eq name) x.symbols) members ≡ false → Contains members m → m.symbols ≡ name ∷ [] → ⊥
 listed_by name members m none held is =
@@ -232,43 +225,6 @@ near_is_imported = record {
   input_is_and_export_is = λ x.
       no_export closed_inputs (codes "printf") x.number x.index x.input x.export no_printf refl x.input_is x.export_is
       (named_by (again ∷ []) (codes "printf") 112 (codes "rintf") (closed_bases.addresses + thunk_width AMD64 * thunks_before x.number closed_inputs + thunk_width AMD64 * x.index) x.export refl (omega arith) x.by);
-}
-
-shorts_twice : length (definitions_of (codes "queue") (again ∷ placed_from msvc_bases msvc_objects)) ≡ 2
-unfolding searched group_end sections_end
-shorts_twice = refl
-
-short_once : (linked : List Placed) → length (definitions_of (codes "queue") linked) ≡ 2 → (address : ℕ) (e : ExportView) →
-    ((codes "queue" ≡ imp_symbol (short_import_symbol e)) × (definitions_of (codes "queue") linked ≡ record { name = codes "queue"; address = Some address } ∷ []))
-    ⊎ ((codes "queue" ≡ short_import_symbol e) × (e.is_data ≡ false) × IsDefinedOnce linked (codes "queue")) → ⊥
-short_once linked two address e (inl by) = not_address 113 (codes "ueue") (short_import_symbol e) (omega arith) by.0
-short_once linked two address e (inr by) = twice (codes "queue") linked two by.2
-
-short_named_by : (linked : List Placed) (name : List ℕ) (letter : ℕ) (rest : List ℕ) (address : ℕ) (e : ExportView) → name ≡ letter ∷ rest → 95 < letter →
-    ((name ≡ imp_symbol (short_import_symbol e)) × (definitions_of name linked ≡ record { name = name; address = Some address } ∷ []))
-    ⊎ ((name ≡ short_import_symbol e) × (e.is_data ≡ false) × IsDefinedOnce linked name) → short_import_symbol e ≡ name
-short_named_by linked name letter rest address e is less (inl by) = absurd (not_address letter rest (short_import_symbol e) less (sym is ∙ by.0))
-short_named_by linked name letter rest address e is less (inr by) = sym by.0
-
-no_short : (inputs : List FlavorInput) (name : List ℕ) (number index : ℕ) (p : FlavorInput) (e : ExportView) →
-    list_any (λ (p : FlavorInput). list_any (λ (e : ExportView). bytes_eq (short_import_symbol e) name) (exports_chosen p)) inputs ≡ false → bytes_eq name name ≡ true →
-    slice_get inputs number ≡ Some p → slice_get (exports_chosen p) index ≡ Some e → short_import_symbol e ≡ name → ⊥
-no_short inputs name number index p e none same input_is export_is is =
-    let passes : bytes_eq (short_import_symbol e) name ≡ true = subst (λ n. bytes_eq n name ≡ true) (sym is) same in
-    none_passes (λ (p : FlavorInput). list_any (λ (e : ExportView). bytes_eq (short_import_symbol e) name) (exports_chosen p)) p inputs none
-    (among_contains p inputs (among_at p inputs number input_is))
-    (some_passes (λ (e : ExportView). bytes_eq (short_import_symbol e) name) e (exports_chosen p) (among_contains e (exports_chosen p) (among_at e (exports_chosen p) index export_is)) passes)
-
-no_short_printf : list_any (λ (p : FlavorInput). list_any (λ (e : ExportView). bytes_eq (short_import_symbol e) (codes "printf")) (exports_chosen p)) msvc_inputs ≡ false
-unfolding searched
-no_short_printf = refl
-
-pub near_is_imported_short : NearIsImportedShort
-near_is_imported_short = record {
-  by = λ x. short_once (again ∷ placed_from msvc_bases msvc_objects) shorts_twice (msvc_bases.addresses + thunk_width AMD64 * thunks_of x.number msvc_inputs + thunk_width AMD64 * x.index) x.export x.by;
-  input_is_and_export_is = λ x.
-      no_short msvc_inputs (codes "printf") x.number x.index x.input x.export no_short_printf refl x.input_is x.export_is
-      (short_named_by (again ∷ []) (codes "printf") 112 (codes "rintf") (msvc_bases.addresses + thunk_width AMD64 * thunks_of x.number msvc_inputs + thunk_width AMD64 * x.index) x.export refl (omega arith) x.by);
 }
 
 -- Archives.

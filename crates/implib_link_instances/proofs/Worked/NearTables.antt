@@ -5,37 +5,25 @@ use Rattle.std.specs.List.{Contains, list_any}
 use Rattle.implib.specs.declared.machine.MachineType.TheVariants.{AMD64}
 use Rattle.implib.specs.Formats.Layout.{encoded_size}
 use Rattle.implib.specs.Formats.Object.{ASymbol, Auxiliary, Entry}
-use Rattle.implib.specs.Formats.ShortImport.{short_import_in}
 use Rattle.implib.specs.Members.GnuMembers.{alias_specs}
-use Rattle.implib.specs.Members.ImportTables.{zeros}
-use Rattle.implib.specs.Members.Members.{refusal, renamed_refusal}
-use Rattle.implib.specs.Members.MsvcMembers.{descriptor_spec, header_specs, null_descriptor_spec, null_thunk_spec, weak_specs}
-use Rattle.implib.specs.Members.MsvcObjects.{base_name, descriptor, descriptor_symbol, null_descriptor, null_descriptor_symbol, null_thunk, null_thunk_symbol}
 use Rattle.implib.specs.Members.WeakExternal.{weak_object}
-use Rattle.implib.specs.Link.Image.{Range, byte_at}
+use Rattle.implib.specs.Link.Image.{Range}
 use Rattle.implib.specs.Link.Load.{BytesAt}
 use Rattle.implib.specs.Link.Placement.{Placed, Unplaced}
 use Rattle.implib.specs.Link.Resolution.{definitions_of, symbol_address}
-use Rattle.implib.specs.Worked.Statements.{plain_export}
-use Rattle.implib_link.specs.Flavors.Expansion.{descriptor_symbol_by_name, expanded_in, import_object}
-use Rattle.implib_link.specs.Flavors.SectionSymbols.{with_section_symbols}
 use Rattle.implib_link.specs.Gnu.Bounds.{BeginsWith, IsInEntry}
 use Rattle.implib_link.specs.Gnu.Loaded.{HoldsAt}
 use Rattle.implib_link.specs.Gnu.Program.{has_tables, thunks_before, with_tables}
-use Rattle.implib_link_instances.specs.Worked.FlavorLoads.{flavors_written_8}
-use Rattle.implib_link_instances.specs.Worked.Flavors.{flavor_bases_8, both_inputs as flavor_inputs, flavor_image, flavor_placed, zed_input as zed_flavor}
-use Rattle.implib_link.specs.Flavors.Program.{thunks_of}
 use Rattle.implib.specs.Formats.Constants.{class_external}
-use Rattle.implib_link_instances.specs.Worked.Loads.{entry_of, written_8}
-use Rattle.implib_link_instances.specs.Worked.NearTables.{NearAreAlike, NearAreLoaded, NearBeginsWith, NearGetsAddress, NearHoldsAt, NearIsInEntry, NearIsLoaded, NearLieWithin}
-use Rattle.implib_link_instances.specs.Worked.Programs.{both_inputs, caller, program_image, program_placed, symbol_of_class, touching_8, zed_input}
+use Rattle.implib_link_instances.specs.Worked.Loads.{written_8}
+use Rattle.implib_link_instances.specs.Worked.NearTables.{NearAreAlike, NearBeginsWith, NearGetsAddress, NearHoldsAt, NearIsInEntry, NearLieWithin}
+use Rattle.implib_link_instances.specs.Worked.Programs.{both_inputs, caller, program_image, program_placed, symbol_of_class, touching_8}
 use Rattle.implib_link_instances.specs.Worked.Calls.{placed_or_empty}
 use Rattle.implib_link.proofs.Gnu.Bounds.{count_below}
 use Rattle.implib_link.proofs.Gnu.Stubs.{same_address}
-use Rattle.implib_link_instances.proofs.Worked.Flavors.{opened as opened_flavors}
 use Rattle.implib_link_instances.proofs.Worked.NearMisses.{none_passes}
 use Rattle.implib_link_instances.proofs.Worked.Programs.{opened}
-use Rattle.implib_link_instances.proofs.Worked.RefusedFields.{other_byte, value}
+use Rattle.implib_link_instances.proofs.Worked.RefusedFields.{value}
 use Rattle.implib_link_instances.proofs.Worked.RefusedLinks.{differ}
 
 -- Entries.
@@ -118,28 +106,6 @@ pub queue_at : definitions_of (codes "__imp_queue") linked ≡ record { name = c
 unfolding opened alias_specs encoded_size weak_object has_tables
 queue_at = refl
 
--- bytes at the entry of `queue` that begin otherwise
-held_at_queue : (memory : List Range) (at : List Placed) (entry byte other : ℕ) (bytes : List ℕ) → definitions_of (codes "__imp_queue") at ≡ record { name = codes "__imp_queue"; address = Some entry } ∷ [] →
-    byte_at memory entry ≡ Some other → byte < other → HoldsAt memory at (codes "__imp_queue") (byte ∷ bytes) → ⊥
-held_at_queue memory at entry byte other bytes once is less x =
-    let same : x.address ≡ entry = same_address (codes "__imp_queue") x.address entry (definitions_of (codes "__imp_queue") at) x.once once in
-    other_byte memory entry byte other bytes is less (subst (λ a. BytesAt memory a (byte ∷ bytes)) same x.located)
-
-too_early : (n : ℕ) → 120 ≤ n → n ≡ 119 → ⊥
-too_early n from is = omega arith
-
-too_late : (n : ℕ) → 177 ≤ 120 + 8 * n → n ≡ 7 → ⊥
-too_late n to is = omega arith
-
-pub near_is_loaded : NearIsLoaded
-unfolding opened alias_specs encoded_size weak_object has_tables
-near_is_loaded = record {
-  entries = λ x. held_at_queue (entry_of AMD64 160 0x72 0x7A ∷ (written_8 AMD64 ++ program_image AMD64 touching_8)) linked 160 0x71 0x72 (0x7A ∷ zeros 6) queue_at refl (omega arith)
-      (x.entries 1 0 (zed_input AMD64) (plain_export (codes "queue")) refl refl);
-  within = λ x. too_early 119 x.within.1.1.1.1.1.0.0 refl;
-  within_end = λ x. too_late (thunks_before 2 (both_inputs AMD64)) x.within.1.1.1.1.1.0.1 seven;
-}
-
 -- the entry of `queue` begins with another byte
 held_at_queue_above : HoldsAt (written_8 AMD64 ++ program_image AMD64 touching_8) linked (codes "__imp_queue") (0x72 ∷ 0x7A ∷ []) → ⊥
 unfolding opened alias_specs encoded_size weak_object has_tables BytesAt
@@ -151,29 +117,6 @@ held_at_queue_above x =
     differ 0x71 0x72 (value 0x71 0x72 is) (omega arith)
 
 -- The same of both flavours.
-
-queue_at_168 : definitions_of (codes "__imp_queue") (flavor_placed AMD64 0 flavor_bases_8) ≡ record { name = codes "__imp_queue"; address = Some 168 } ∷ []
-unfolding opened_flavors refusal renamed_refusal alias_specs encoded_size weak_object has_tables expanded_in short_import_in import_object descriptor_symbol_by_name with_section_symbols descriptor null_descriptor null_thunk descriptor_symbol null_descriptor_symbol null_thunk_symbol base_name descriptor_spec null_descriptor_spec null_thunk_spec header_specs weak_specs
-queue_at_168 = refl
-
-flavors_seven : thunks_of 2 (flavor_inputs AMD64) ≡ 7
-unfolding opened_flavors alias_specs encoded_size weak_object
-flavors_seven = refl
-
-flavor_early : (n : ℕ) → 128 ≤ n → n ≡ 127 → ⊥
-flavor_early n from is = omega arith
-
-flavor_late : (n : ℕ) → 185 ≤ 128 + 8 * n → n ≡ 7 → ⊥
-flavor_late n to is = omega arith
-
-pub near_are_loaded : NearAreLoaded
-unfolding opened_flavors refusal renamed_refusal alias_specs encoded_size weak_object has_tables expanded_in short_import_in import_object descriptor_symbol_by_name with_section_symbols descriptor null_descriptor null_thunk descriptor_symbol null_descriptor_symbol null_thunk_symbol base_name descriptor_spec null_descriptor_spec null_thunk_spec header_specs weak_specs
-near_are_loaded = record {
-  entries = λ x. held_at_queue (entry_of AMD64 168 0x72 0x7A ∷ (flavors_written_8 AMD64 ++ flavor_image AMD64 0 flavor_bases_8)) (flavor_placed AMD64 0 flavor_bases_8) 168 0x71 0x72 (0x7A ∷ zeros 6) queue_at_168 refl (omega arith)
-      (x.entries 1 0 (zed_flavor AMD64) (plain_export (codes "queue")) refl refl);
-  within = λ x. flavor_early 127 x.within.1.1.1.1.1.0.0 refl;
-  within_end = λ x. flavor_late (thunks_of 2 (flavor_inputs AMD64)) x.within.1.1.1.1.1.0.1 flavors_seven;
-}
 
 pub near_are_alike : NearAreAlike
 near_are_alike = record { first = λ x. let is : Some 0 ≡ None = x 0x1000 in cc; second = λ x. let is : None ≡ Some 0 = x 0x1000 in cc }

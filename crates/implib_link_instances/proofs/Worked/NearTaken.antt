@@ -21,7 +21,7 @@ use Rattle.implib_link.specs.Flavors.Program.{members_linked, null_member, objec
 use Rattle.implib_link_instances.specs.Worked.Flavors.{foo_input as foo_flavor}
 use Rattle.implib_link_instances.specs.Worked.NearPrograms.{lld_range, mid_alone}
 use Rattle.implib_link_instances.specs.Worked.Programs.{touching_8, zed_input}
-use Rattle.implib_link_instances.specs.Worked.NearTaken.{NearAreBounded, NearImportsWanted, NearIsArranged, NearIsImportedBy, NearIsLinkedOfWanted, NearIsTaken, NearRunLinks, NearTakesOfLibraries, NearTakesOfShorts, bare_tables, nul_within}
+use Rattle.implib_link_instances.specs.Worked.NearTaken.{NearAreBounded, NearImportsWanted, NearIsArranged, NearIsImportedBy, NearIsLinkedOfWanted, NearIsTaken, NearRunLinks, NearTakesOfLibraries, bare_tables, nul_within}
 use Rattle.implib_link_instances.specs.Worked.Search.{members_of, three}
 use Rattle.implib_link_instances.specs.Worked.Searched.{bar_member, by_name, head_member, qux_member, searched_objects, tail_member}
 use Rattle.implib_link_instances.proofs.Worked.Lld.{lld_opened}
@@ -64,10 +64,6 @@ near_is_linked_of_wanted = record {
 pub near_takes_of_libraries : NearTakesOfLibraries
 unfolding searched
 near_takes_of_libraries = record { inputs = λ x. none_in _ ((x.inputs _).1 (0, omega arith, refl)) }
-
-pub near_takes_of_shorts : NearTakesOfShorts
-unfolding searched
-near_takes_of_shorts = record { inputs = λ x. none_in _ ((x.inputs _).1 (0, omega arith, refl)) }
 
 is_null : MemberView → Bool
 is_null m = list_any (bytes_eq (codes "__NULL_IMPORT_DESCRIPTOR")) m.symbols

@@ -22,14 +22,13 @@ use Rattle.implib_link.specs.Gnu.Program.{IsProgram, has_tables, linked_symbols}
 use Rattle.implib_link.specs.Gnu.Choices.{ArePlacesApart}
 use Rattle.implib_link.specs.Gnu.Rebased.{IsRebased, Place, covers, table_places}
 use Rattle.implib_link_instances.specs.Worked.Operands.{AdjacentCalls, MovableCode, PassingFields, WorkedFields, WorkedOperands, amd64_rel32_1, field, imp_open, arm64_pageoffset_12a, arm64_secrel, moved_memory, open_on, passing, passing_at, passing_bytes, passing_codes, passing_image, passing_memory, passing_objects, passing_placed, passing_places, passing_targets, stub_of_open, x86_secrel}
-use Rattle.implib_link_instances.specs.Worked.Calls.{given_on}
-use Rattle.implib_link_instances.specs.Worked.Programs.{another, both_inputs, foo_input, symbol_of_class, touching_4, touching_8}
+use Rattle.implib_link_instances.specs.Worked.Programs.{another, both_inputs, symbol_of_class, touching_4, touching_8}
 use Rattle.implib_link.proofs.Gnu.Moved.{covered_bounds}
 use Rattle.implib_link.proofs.Gnu.MovedPrograms.{moved_memory_exists}
 use Rattle.implib_link.proofs.Gnu.Operands.{operand_width}
 use Rattle.implib_link.proofs.Gnu.Steady.{program_tables_none}
-use Rattle.implib_link.proofs.ProgramsInMemory.{branches_in_memory, ends_in_memory, kept_in_memory, leads_in_memory, stays_in_memory, stubs_in_memory}
-use Rattle.implib_link_instances.proofs.Worked.Calls.{open_export, wide}
+use Rattle.implib_link.specs.Gnu.Calls.{StubAt}
+use Rattle.implib_link_instances.proofs.Worked.Calls.{wide}
 use Rattle.implib_link_instances.proofs.Worked.LinkedCode.{all_needed, only_absolute, rebased_by, relocated_by, relocated_test, takes_by}
 use Rattle.implib_link_instances.proofs.Worked.Programs.{claims_none_by, distinct_by, opened, worked_programs}
 use Rattle.implib_link_instances.proofs.Worked.RefusedLinks.{differ, number}
@@ -543,139 +542,100 @@ adjacent_calls = record {
 amd64_at : AreInMemory AMD64 0x1_4000_0000 (passing_image AMD64 touching_8) (passing_placed AMD64 touching_8) (passing_codes AMD64 touching_8) (passing_targets AMD64 touching_8) (passing_memory AMD64 touching_8)
 amd64_at = inl (amd64_beside, refl)
 
-amd64_fields : WorkedFields AMD64 0x1_4000_0000 touching_8 (passing_memory AMD64 touching_8) 39 (0x40 ∷ 0 ∷ 0 ∷ 0x10 ∷ 0 ∷ 0 ∷ 0 ∷ 0 ∷ [])
+amd64_stub : StubAt AMD64 (passing_placed AMD64 touching_8) (placed_code (stub_of_open AMD64 touching_8)) (symbol_of_class (open_on AMD64) 1 class_external) 0x80
+unfolding opened refusal renamed_refusal alias_specs encoded_size weak_object has_tables
+amd64_stub = record {
+  bytes = refl;
+  relocations = refl;
+  begins = refl;
+  symbol = _;
+  held = refl;
+  placed = refl;
+}
+
+amd64_fields : WorkedFields AMD64 0x1_4000_0000 touching_8 (passing_memory AMD64 touching_8) 0x80
 unfolding opened refusal renamed_refusal alias_specs encoded_size weak_object has_tables
 amd64_fields = record {
   program = amd64_program;
   at = amd64_at;
-  leads = λ n written reads.
-      leads_in_memory AMD64 0x1_4000_0000 touching_8 (both_inputs AMD64) (passing_objects AMD64) (passing_codes AMD64 touching_8) (passing_targets AMD64 touching_8) (passing_memory AMD64 touching_8) (given_on AMD64) worked_programs.amd64.made amd64_program amd64_at n written 0 1 (foo_input AMD64) (open_export AMD64) tt (wide AMD64) reads refl refl;
-  branches = λ n written reads.
-      branches_in_memory AMD64 0x1_4000_0000 touching_8 (both_inputs AMD64) (passing_objects AMD64) (passing_codes AMD64 touching_8) (passing_targets AMD64 touching_8) (passing_memory AMD64 touching_8) (given_on AMD64) worked_programs.amd64.made amd64_program amd64_at n written (passing_at AMD64) (stub_of_open AMD64 touching_8) 39 0 (open_on AMD64) (symbol_of_class (open_on AMD64) 1 class_external) (wide AMD64) reads
-      (0, omega arith, refl) amd64_branch (1, omega arith, refl) (record { held = (1, omega arith, refl); external = refl; here = refl }) refl (omega arith) tt;
-  stays = λ n written reads.
-      stays_in_memory AMD64 0x1_4000_0000 touching_8 (both_inputs AMD64) (passing_objects AMD64) (passing_codes AMD64 touching_8) (passing_targets AMD64 touching_8) (passing_memory AMD64 touching_8) (given_on AMD64) worked_programs.amd64.made amd64_program amd64_at n written (passing_at AMD64) (stub_of_open AMD64 touching_8) 39 0 (open_on AMD64) (symbol_of_class (open_on AMD64) 1 class_external) (wide AMD64) reads
-      (0, omega arith, refl) amd64_branch (1, omega arith, refl) (record { held = (1, omega arith, refl); external = refl; here = refl }) refl tt;
-  stub = λ n written reads.
-      (stubs_in_memory AMD64 0x1_4000_0000 touching_8 (both_inputs AMD64) (passing_objects AMD64) (passing_codes AMD64 touching_8) (passing_targets AMD64 touching_8) (passing_memory AMD64 touching_8) (given_on AMD64) worked_programs.amd64.made amd64_program amd64_at n written 0 1 (foo_input AMD64) (open_export AMD64) (stub_of_open AMD64 touching_8) (symbol_of_class (open_on AMD64) 1 class_external) tt (wide AMD64) reads refl refl refl
-      (1, omega arith, refl) (record { held = (1, omega arith, refl); external = refl; here = refl }) refl).1;
-  kept = λ n written reads. kept_in_memory AMD64 0x1_4000_0000 touching_8 (both_inputs AMD64) (passing_objects AMD64) (passing_codes AMD64 touching_8) (passing_targets AMD64 touching_8) (passing_memory AMD64 touching_8) (given_on AMD64) worked_programs.amd64.made amd64_program amd64_at n written (wide AMD64) reads;
-  ends = ends_in_memory AMD64 0x1_4000_0000 touching_8 (both_inputs AMD64) (passing_objects AMD64) (passing_codes AMD64 touching_8) (passing_targets AMD64 touching_8) (passing_memory AMD64 touching_8) (given_on AMD64) worked_programs.amd64.made amd64_program amd64_at;
+  stub = amd64_stub;
 }
 
 amd64_moved_at : AreInMemory AMD64 0x7FF6_1234_0000 (passing_image AMD64 touching_8) (passing_placed AMD64 touching_8) (passing_codes AMD64 touching_8) (passing_targets AMD64 touching_8) (moved_memory AMD64 touching_8)
 amd64_moved_at = inr (0x1_4000_0000, (passing_places AMD64, (tt, amd64_moved)))
 
-amd64_moved_fields : WorkedFields AMD64 0x7FF6_1234_0000 touching_8 (moved_memory AMD64 touching_8) 39 (0x40 ∷ 0 ∷ 0 ∷ 0x10 ∷ 0 ∷ 0 ∷ 0 ∷ 0 ∷ [])
+amd64_moved_fields : WorkedFields AMD64 0x7FF6_1234_0000 touching_8 (moved_memory AMD64 touching_8) 0x80
 unfolding opened refusal renamed_refusal alias_specs encoded_size weak_object has_tables
 amd64_moved_fields = record {
   program = amd64_program;
   at = amd64_moved_at;
-  leads = λ n written reads.
-      leads_in_memory AMD64 0x7FF6_1234_0000 touching_8 (both_inputs AMD64) (passing_objects AMD64) (passing_codes AMD64 touching_8) (passing_targets AMD64 touching_8) (moved_memory AMD64 touching_8) (given_on AMD64) worked_programs.amd64.made amd64_program amd64_moved_at n written 0 1 (foo_input AMD64) (open_export AMD64) tt (wide AMD64) reads refl refl;
-  branches = λ n written reads.
-      branches_in_memory AMD64 0x7FF6_1234_0000 touching_8 (both_inputs AMD64) (passing_objects AMD64) (passing_codes AMD64 touching_8) (passing_targets AMD64 touching_8) (moved_memory AMD64 touching_8) (given_on AMD64) worked_programs.amd64.made amd64_program amd64_moved_at n written (passing_at AMD64) (stub_of_open AMD64 touching_8) 39 0 (open_on AMD64) (symbol_of_class (open_on AMD64) 1 class_external) (wide AMD64) reads
-      (0, omega arith, refl) amd64_branch (1, omega arith, refl) (record { held = (1, omega arith, refl); external = refl; here = refl }) refl (omega arith) tt;
-  stays = λ n written reads.
-      stays_in_memory AMD64 0x7FF6_1234_0000 touching_8 (both_inputs AMD64) (passing_objects AMD64) (passing_codes AMD64 touching_8) (passing_targets AMD64 touching_8) (moved_memory AMD64 touching_8) (given_on AMD64) worked_programs.amd64.made amd64_program amd64_moved_at n written (passing_at AMD64) (stub_of_open AMD64 touching_8) 39 0 (open_on AMD64) (symbol_of_class (open_on AMD64) 1 class_external) (wide AMD64) reads
-      (0, omega arith, refl) amd64_branch (1, omega arith, refl) (record { held = (1, omega arith, refl); external = refl; here = refl }) refl tt;
-  stub = λ n written reads.
-      (stubs_in_memory AMD64 0x7FF6_1234_0000 touching_8 (both_inputs AMD64) (passing_objects AMD64) (passing_codes AMD64 touching_8) (passing_targets AMD64 touching_8) (moved_memory AMD64 touching_8) (given_on AMD64) worked_programs.amd64.made amd64_program amd64_moved_at n written 0 1 (foo_input AMD64) (open_export AMD64) (stub_of_open AMD64 touching_8) (symbol_of_class (open_on AMD64) 1 class_external) tt (wide AMD64) reads refl refl refl
-      (1, omega arith, refl) (record { held = (1, omega arith, refl); external = refl; here = refl }) refl).1;
-  kept = λ n written reads. kept_in_memory AMD64 0x7FF6_1234_0000 touching_8 (both_inputs AMD64) (passing_objects AMD64) (passing_codes AMD64 touching_8) (passing_targets AMD64 touching_8) (moved_memory AMD64 touching_8) (given_on AMD64) worked_programs.amd64.made amd64_program amd64_moved_at n written (wide AMD64) reads;
-  ends = ends_in_memory AMD64 0x7FF6_1234_0000 touching_8 (both_inputs AMD64) (passing_objects AMD64) (passing_codes AMD64 touching_8) (passing_targets AMD64 touching_8) (moved_memory AMD64 touching_8) (given_on AMD64) worked_programs.amd64.made amd64_program amd64_moved_at;
+  stub = amd64_stub;
 }
 
 i386_at : AreInMemory I386 0x40_0000 (passing_image I386 touching_4) (passing_placed I386 touching_4) (passing_codes I386 touching_4) (passing_targets I386 touching_4) (passing_memory I386 touching_4)
 i386_at = inl (i386_beside, refl)
 
-i386_fields : WorkedFields I386 0x40_0000 touching_4 (passing_memory I386 touching_4) 37 (0x40 ∷ 0 ∷ 0 ∷ 0x10 ∷ [])
+i386_stub : StubAt I386 (passing_placed I386 touching_4) (placed_code (stub_of_open I386 touching_4)) (symbol_of_class (open_on I386) 1 class_external) 0x60
+unfolding opened refusal renamed_refusal alias_specs encoded_size weak_object has_tables
+i386_stub = record {
+  bytes = refl;
+  relocations = refl;
+  begins = refl;
+  symbol = _;
+  held = refl;
+  placed = refl;
+}
+
+i386_fields : WorkedFields I386 0x40_0000 touching_4 (passing_memory I386 touching_4) 0x60
 unfolding opened refusal renamed_refusal alias_specs encoded_size weak_object has_tables
 i386_fields = record {
   program = i386_program;
   at = i386_at;
-  leads = λ n written reads.
-      leads_in_memory I386 0x40_0000 touching_4 (both_inputs I386) (passing_objects I386) (passing_codes I386 touching_4) (passing_targets I386 touching_4) (passing_memory I386 touching_4) (given_on I386) worked_programs.i386.made i386_program i386_at n written 0 1 (foo_input I386) (open_export I386) (omega arith) (wide I386) reads refl refl;
-  branches = λ n written reads.
-      branches_in_memory I386 0x40_0000 touching_4 (both_inputs I386) (passing_objects I386) (passing_codes I386 touching_4) (passing_targets I386 touching_4) (passing_memory I386 touching_4) (given_on I386) worked_programs.i386.made i386_program i386_at n written (passing_at I386) (stub_of_open I386 touching_4) 37 0 (open_on I386) (symbol_of_class (open_on I386) 1 class_external) (wide I386) reads
-      (0, omega arith, refl) i386_branch (1, omega arith, refl) (record { held = (1, omega arith, refl); external = refl; here = refl }) refl (omega arith) tt;
-  stays = λ n written reads.
-      stays_in_memory I386 0x40_0000 touching_4 (both_inputs I386) (passing_objects I386) (passing_codes I386 touching_4) (passing_targets I386 touching_4) (passing_memory I386 touching_4) (given_on I386) worked_programs.i386.made i386_program i386_at n written (passing_at I386) (stub_of_open I386 touching_4) 37 0 (open_on I386) (symbol_of_class (open_on I386) 1 class_external) (wide I386) reads
-      (0, omega arith, refl) i386_branch (1, omega arith, refl) (record { held = (1, omega arith, refl); external = refl; here = refl }) refl tt;
-  stub = λ n written reads.
-      (stubs_in_memory I386 0x40_0000 touching_4 (both_inputs I386) (passing_objects I386) (passing_codes I386 touching_4) (passing_targets I386 touching_4) (passing_memory I386 touching_4) (given_on I386) worked_programs.i386.made i386_program i386_at n written 0 1 (foo_input I386) (open_export I386) (stub_of_open I386 touching_4) (symbol_of_class (open_on I386) 1 class_external) (omega arith) (wide I386) reads refl refl refl
-      (1, omega arith, refl) (record { held = (1, omega arith, refl); external = refl; here = refl }) refl).1;
-  kept = λ n written reads. kept_in_memory I386 0x40_0000 touching_4 (both_inputs I386) (passing_objects I386) (passing_codes I386 touching_4) (passing_targets I386 touching_4) (passing_memory I386 touching_4) (given_on I386) worked_programs.i386.made i386_program i386_at n written (wide I386) reads;
-  ends = ends_in_memory I386 0x40_0000 touching_4 (both_inputs I386) (passing_objects I386) (passing_codes I386 touching_4) (passing_targets I386 touching_4) (passing_memory I386 touching_4) (given_on I386) worked_programs.i386.made i386_program i386_at;
+  stub = i386_stub;
 }
 
 i386_moved_at : AreInMemory I386 0x1000_0000 (passing_image I386 touching_4) (passing_placed I386 touching_4) (passing_codes I386 touching_4) (passing_targets I386 touching_4) (moved_memory I386 touching_4)
 i386_moved_at = inr (0x40_0000, (passing_places I386, (tt, i386_moved)))
 
-i386_moved_fields : WorkedFields I386 0x1000_0000 touching_4 (moved_memory I386 touching_4) 37 (0x40 ∷ 0 ∷ 0 ∷ 0x10 ∷ [])
+i386_moved_fields : WorkedFields I386 0x1000_0000 touching_4 (moved_memory I386 touching_4) 0x60
 unfolding opened refusal renamed_refusal alias_specs encoded_size weak_object has_tables
 i386_moved_fields = record {
   program = i386_program;
   at = i386_moved_at;
-  leads = λ n written reads.
-      leads_in_memory I386 0x1000_0000 touching_4 (both_inputs I386) (passing_objects I386) (passing_codes I386 touching_4) (passing_targets I386 touching_4) (moved_memory I386 touching_4) (given_on I386) worked_programs.i386.made i386_program i386_moved_at n written 0 1 (foo_input I386) (open_export I386) (omega arith) (wide I386) reads refl refl;
-  branches = λ n written reads.
-      branches_in_memory I386 0x1000_0000 touching_4 (both_inputs I386) (passing_objects I386) (passing_codes I386 touching_4) (passing_targets I386 touching_4) (moved_memory I386 touching_4) (given_on I386) worked_programs.i386.made i386_program i386_moved_at n written (passing_at I386) (stub_of_open I386 touching_4) 37 0 (open_on I386) (symbol_of_class (open_on I386) 1 class_external) (wide I386) reads
-      (0, omega arith, refl) i386_branch (1, omega arith, refl) (record { held = (1, omega arith, refl); external = refl; here = refl }) refl (omega arith) tt;
-  stays = λ n written reads.
-      stays_in_memory I386 0x1000_0000 touching_4 (both_inputs I386) (passing_objects I386) (passing_codes I386 touching_4) (passing_targets I386 touching_4) (moved_memory I386 touching_4) (given_on I386) worked_programs.i386.made i386_program i386_moved_at n written (passing_at I386) (stub_of_open I386 touching_4) 37 0 (open_on I386) (symbol_of_class (open_on I386) 1 class_external) (wide I386) reads
-      (0, omega arith, refl) i386_branch (1, omega arith, refl) (record { held = (1, omega arith, refl); external = refl; here = refl }) refl tt;
-  stub = λ n written reads.
-      (stubs_in_memory I386 0x1000_0000 touching_4 (both_inputs I386) (passing_objects I386) (passing_codes I386 touching_4) (passing_targets I386 touching_4) (moved_memory I386 touching_4) (given_on I386) worked_programs.i386.made i386_program i386_moved_at n written 0 1 (foo_input I386) (open_export I386) (stub_of_open I386 touching_4) (symbol_of_class (open_on I386) 1 class_external) (omega arith) (wide I386) reads refl refl refl
-      (1, omega arith, refl) (record { held = (1, omega arith, refl); external = refl; here = refl }) refl).1;
-  kept = λ n written reads. kept_in_memory I386 0x1000_0000 touching_4 (both_inputs I386) (passing_objects I386) (passing_codes I386 touching_4) (passing_targets I386 touching_4) (moved_memory I386 touching_4) (given_on I386) worked_programs.i386.made i386_program i386_moved_at n written (wide I386) reads;
-  ends = ends_in_memory I386 0x1000_0000 touching_4 (both_inputs I386) (passing_objects I386) (passing_codes I386 touching_4) (passing_targets I386 touching_4) (moved_memory I386 touching_4) (given_on I386) worked_programs.i386.made i386_program i386_moved_at;
+  stub = i386_stub;
 }
 
 arm64_at : AreInMemory ARM64 0x1_4000_0000 (passing_image ARM64 touching_8) (passing_placed ARM64 touching_8) (passing_codes ARM64 touching_8) (passing_targets ARM64 touching_8) (passing_memory ARM64 touching_8)
 arm64_at = inl (arm64_beside, refl)
 
-arm64_fields : WorkedFields ARM64 0x1_4000_0000 touching_8 (passing_memory ARM64 touching_8) 28 (0x40 ∷ 0 ∷ 0 ∷ 0x10 ∷ 0 ∷ 0 ∷ 0 ∷ 0 ∷ [])
+arm64_stub : StubAt ARM64 (passing_placed ARM64 touching_8) (placed_code (stub_of_open ARM64 touching_8)) (symbol_of_class (open_on ARM64) 1 class_external) 0x80
+unfolding opened refusal renamed_refusal alias_specs encoded_size weak_object has_tables
+arm64_stub = record {
+  bytes = refl;
+  relocations = refl;
+  begins = refl;
+  symbol = _;
+  held = refl;
+  placed = refl;
+}
+
+arm64_fields : WorkedFields ARM64 0x1_4000_0000 touching_8 (passing_memory ARM64 touching_8) 0x80
 unfolding opened refusal renamed_refusal alias_specs encoded_size weak_object has_tables
 arm64_fields = record {
   program = arm64_program;
   at = arm64_at;
-  leads = λ n written reads.
-      leads_in_memory ARM64 0x1_4000_0000 touching_8 (both_inputs ARM64) (passing_objects ARM64) (passing_codes ARM64 touching_8) (passing_targets ARM64 touching_8) (passing_memory ARM64 touching_8) (given_on ARM64) worked_programs.arm64.made arm64_program arm64_at n written 0 1 (foo_input ARM64) (open_export ARM64) (refl, refl) (wide ARM64) reads refl refl;
-  branches = λ n written reads.
-      branches_in_memory ARM64 0x1_4000_0000 touching_8 (both_inputs ARM64) (passing_objects ARM64) (passing_codes ARM64 touching_8) (passing_targets ARM64 touching_8) (passing_memory ARM64 touching_8) (given_on ARM64) worked_programs.arm64.made arm64_program arm64_at n written (passing_at ARM64) (stub_of_open ARM64 touching_8) 28 0 (open_on ARM64) (symbol_of_class (open_on ARM64) 1 class_external) (wide ARM64) reads
-      (0, omega arith, refl) arm64_branch (1, omega arith, refl) (record { held = (1, omega arith, refl); external = refl; here = refl }) refl (omega arith) (refl, refl, omega arith, omega arith);
-  stays = λ n written reads.
-      stays_in_memory ARM64 0x1_4000_0000 touching_8 (both_inputs ARM64) (passing_objects ARM64) (passing_codes ARM64 touching_8) (passing_targets ARM64 touching_8) (passing_memory ARM64 touching_8) (given_on ARM64) worked_programs.arm64.made arm64_program arm64_at n written (passing_at ARM64) (stub_of_open ARM64 touching_8) 28 0 (open_on ARM64) (symbol_of_class (open_on ARM64) 1 class_external) (wide ARM64) reads
-      (0, omega arith, refl) arm64_branch (1, omega arith, refl) (record { held = (1, omega arith, refl); external = refl; here = refl }) refl (refl, refl, omega arith, omega arith);
-  stub = λ n written reads.
-      (stubs_in_memory ARM64 0x1_4000_0000 touching_8 (both_inputs ARM64) (passing_objects ARM64) (passing_codes ARM64 touching_8) (passing_targets ARM64 touching_8) (passing_memory ARM64 touching_8) (given_on ARM64) worked_programs.arm64.made arm64_program arm64_at n written 0 1 (foo_input ARM64) (open_export ARM64) (stub_of_open ARM64 touching_8) (symbol_of_class (open_on ARM64) 1 class_external) (refl, refl) (wide ARM64) reads refl refl refl
-      (1, omega arith, refl) (record { held = (1, omega arith, refl); external = refl; here = refl }) refl).1;
-  kept = λ n written reads. kept_in_memory ARM64 0x1_4000_0000 touching_8 (both_inputs ARM64) (passing_objects ARM64) (passing_codes ARM64 touching_8) (passing_targets ARM64 touching_8) (passing_memory ARM64 touching_8) (given_on ARM64) worked_programs.arm64.made arm64_program arm64_at n written (wide ARM64) reads;
-  ends = ends_in_memory ARM64 0x1_4000_0000 touching_8 (both_inputs ARM64) (passing_objects ARM64) (passing_codes ARM64 touching_8) (passing_targets ARM64 touching_8) (passing_memory ARM64 touching_8) (given_on ARM64) worked_programs.arm64.made arm64_program arm64_at;
+  stub = arm64_stub;
 }
 
 arm64_moved_at : AreInMemory ARM64 0x4000_0000 (passing_image ARM64 touching_8) (passing_placed ARM64 touching_8) (passing_codes ARM64 touching_8) (passing_targets ARM64 touching_8) (moved_memory ARM64 touching_8)
 arm64_moved_at = inr (0x1_4000_0000, (passing_places ARM64, (refl, arm64_moved)))
 
-arm64_moved_fields : WorkedFields ARM64 0x4000_0000 touching_8 (moved_memory ARM64 touching_8) 28 (0x40 ∷ 0 ∷ 0 ∷ 0x10 ∷ 0 ∷ 0 ∷ 0 ∷ 0 ∷ [])
+arm64_moved_fields : WorkedFields ARM64 0x4000_0000 touching_8 (moved_memory ARM64 touching_8) 0x80
 unfolding opened refusal renamed_refusal alias_specs encoded_size weak_object has_tables
 arm64_moved_fields = record {
   program = arm64_program;
   at = arm64_moved_at;
-  leads = λ n written reads.
-      leads_in_memory ARM64 0x4000_0000 touching_8 (both_inputs ARM64) (passing_objects ARM64) (passing_codes ARM64 touching_8) (passing_targets ARM64 touching_8) (moved_memory ARM64 touching_8) (given_on ARM64) worked_programs.arm64.made arm64_program arm64_moved_at n written 0 1 (foo_input ARM64) (open_export ARM64) (refl, refl) (wide ARM64) reads refl refl;
-  branches = λ n written reads.
-      branches_in_memory ARM64 0x4000_0000 touching_8 (both_inputs ARM64) (passing_objects ARM64) (passing_codes ARM64 touching_8) (passing_targets ARM64 touching_8) (moved_memory ARM64 touching_8) (given_on ARM64) worked_programs.arm64.made arm64_program arm64_moved_at n written (passing_at ARM64) (stub_of_open ARM64 touching_8) 28 0 (open_on ARM64) (symbol_of_class (open_on ARM64) 1 class_external) (wide ARM64) reads
-      (0, omega arith, refl) arm64_branch (1, omega arith, refl) (record { held = (1, omega arith, refl); external = refl; here = refl }) refl (omega arith) (refl, refl, omega arith, omega arith);
-  stays = λ n written reads.
-      stays_in_memory ARM64 0x4000_0000 touching_8 (both_inputs ARM64) (passing_objects ARM64) (passing_codes ARM64 touching_8) (passing_targets ARM64 touching_8) (moved_memory ARM64 touching_8) (given_on ARM64) worked_programs.arm64.made arm64_program arm64_moved_at n written (passing_at ARM64) (stub_of_open ARM64 touching_8) 28 0 (open_on ARM64) (symbol_of_class (open_on ARM64) 1 class_external) (wide ARM64) reads
-      (0, omega arith, refl) arm64_branch (1, omega arith, refl) (record { held = (1, omega arith, refl); external = refl; here = refl }) refl (refl, refl, omega arith, omega arith);
-  stub = λ n written reads.
-      (stubs_in_memory ARM64 0x4000_0000 touching_8 (both_inputs ARM64) (passing_objects ARM64) (passing_codes ARM64 touching_8) (passing_targets ARM64 touching_8) (moved_memory ARM64 touching_8) (given_on ARM64) worked_programs.arm64.made arm64_program arm64_moved_at n written 0 1 (foo_input ARM64) (open_export ARM64) (stub_of_open ARM64 touching_8) (symbol_of_class (open_on ARM64) 1 class_external) (refl, refl) (wide ARM64) reads refl refl refl
-      (1, omega arith, refl) (record { held = (1, omega arith, refl); external = refl; here = refl }) refl).1;
-  kept = λ n written reads. kept_in_memory ARM64 0x4000_0000 touching_8 (both_inputs ARM64) (passing_objects ARM64) (passing_codes ARM64 touching_8) (passing_targets ARM64 touching_8) (moved_memory ARM64 touching_8) (given_on ARM64) worked_programs.arm64.made arm64_program arm64_moved_at n written (wide ARM64) reads;
-  ends = ends_in_memory ARM64 0x4000_0000 touching_8 (both_inputs ARM64) (passing_objects ARM64) (passing_codes ARM64 touching_8) (passing_targets ARM64 touching_8) (moved_memory ARM64 touching_8) (given_on ARM64) worked_programs.arm64.made arm64_program arm64_moved_at;
+  stub = arm64_stub;
 }
 
 pub worked_operands : WorkedOperands

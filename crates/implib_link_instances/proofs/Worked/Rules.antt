@@ -43,8 +43,6 @@ moving_rules = record {
   amd64_words = refl;
   arm64_words = refl;
   tables = refl;
-  amd64_down = tt;
-  arm64_down = ((refl, refl), refl);
 }
 
 pub field_rules : FieldRules

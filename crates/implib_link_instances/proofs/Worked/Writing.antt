@@ -1,52 +1,43 @@
 -- A loader that writes as it goes, by hand, by computing and by the law.
-use Rattle.implib_link_instances.specs.Worked.Relocated.{linked_codes, as_placed}
-use Rattle.std.proofs.Common.{◌≡◌, ℕ, ◌+◌, ◌%◌, ◌^◌, ◌<◌, List, [], ◌∷◌, ◌++◌, length, map, None, Some, refl, ap, sym, ◌∙◌, subst, inl, inr, arith}
+use Rattle.implib_link_instances.specs.Worked.Operands.{calling_linked, flavors_linked, linked_targets, moved_memory, passing_codes, passing_objects, passing_targets}
+use Rattle.implib_link_instances.proofs.Worked.FlavorFields.{worked_flavor_fields}
+use Rattle.implib_link_instances.proofs.Worked.Operands.{worked_operands}
+use Rattle.std.proofs.Common.{◌≡◌, ℕ, ◌+◌, ◌%◌, ◌^◌, ◌<◌, List, [], ◌∷◌, ◌++◌, length, map, None, Some, refl, sym, ◌∙◌, subst, inl, inr, arith}
 use Rattle.implib.specs.declared.machine.MachineType.{MachineType}
 use Rattle.implib.specs.declared.machine.MachineType.TheVariants.{I386, ARMNT, AMD64, ARM64}
 use Rattle.implib.specs.Formats.Bytes.{u32_bytes}
 use Rattle.implib.specs.Formats.Layout.{encoded_size}
-use Rattle.implib.specs.Formats.ShortImport.{short_import_in}
 use Rattle.implib.specs.Import.{Ask, Ordinal}
 use Rattle.implib.specs.Link.Image.{Range, byte_at}
 use Rattle.implib.specs.Link.Load.{BytesAt, NumberAt, TableAt, ThunkAsksFor, ThunkAt}
 use Rattle.implib.specs.Members.GnuMembers.{alias_specs}
 use Rattle.implib.specs.Members.ImportTables.{zeros}
-use Rattle.implib.specs.Members.Members.{refusal, renamed_refusal}
-use Rattle.implib.specs.Members.MsvcMembers.{descriptor_spec, header_specs, null_descriptor_spec, null_thunk_spec, weak_specs}
-use Rattle.implib.specs.Members.MsvcObjects.{base_name, descriptor, descriptor_symbol, null_descriptor, null_descriptor_symbol, null_thunk, null_thunk_symbol}
 use Rattle.implib.specs.Members.WeakExternal.{weak_object}
 use Rattle.implib.proofs.Link.Loading.{number_once}
 use Rattle.implib_link.specs.Directory.{Imported, StopsAt, imported}
-use Rattle.implib_link.specs.Flavors.Expansion.{descriptor_symbol_by_name, expanded_in, import_object}
-use Rattle.implib_link.specs.Flavors.Program.{IsFlavorProgram, imported_in}
-use Rattle.implib_link.specs.Flavors.SectionSymbols.{with_section_symbols}
-use Rattle.implib_link.specs.Gnu.Calls.{CallArrives}
 use Rattle.implib_link.specs.Gnu.Loaded.{entries_written}
-use Rattle.implib_link.specs.Gnu.Packed.{group_end, sections_end}
 use Rattle.implib_link.specs.Gnu.Program.{IsProgram, has_tables}
 use Rattle.implib_link.specs.Gnu.Reading.{ReadsAndWrites}
-use Rattle.implib_link.specs.Gnu.Writing.{AreAlike, FillsBy, FillsTable, WritesAsItGoes}
-use Rattle.implib_link_instances.specs.Worked.Calls.{calling_at, calling_flavors, calling_objects, given_on, table_targets}
-use Rattle.implib_link_instances.specs.Worked.Flavors.{both_inputs as flavor_inputs, flavor_bases_4, flavor_bases_8, foo_input as msvc_input}
+use Rattle.implib_link.specs.Gnu.Writing.{FillsBy, FillsTable, WritesAsItGoes}
+use Rattle.implib_link_instances.specs.Worked.Calls.{calling_flavors, given_on}
+use Rattle.implib_link_instances.specs.Worked.Flavors.{both_inputs as flavor_inputs, flavor_bases_8}
 use Rattle.implib_link_instances.specs.Worked.Loads.{gives_by_hand}
-use Rattle.implib_link_instances.specs.Worked.Rebased.{i386_memory, moving_codes, moving_flavors, moving_memory, moving_targets}
 use Rattle.implib_link_instances.specs.Worked.Programs.{both_inputs, program_image, program_objects, touching_4, touching_8}
 use Rattle.implib_link_instances.specs.Worked.RefusedLinks.{five_and_six, foo, ordinal_8}
 use Rattle.implib_link_instances.specs.Worked.Writing.{WorkedWriting, WorkedWritings, gives_nine, gives_zeros, left_4, left_8, overlapping, without_null}
 use Rattle.implib_link.proofs.Gnu.Filling.{all_filled, table_filled}
-use Rattle.implib_link.proofs.Gnu.MovedWriting.{writer_ends_at_base, writer_loads_at_base}
-use Rattle.implib_link.proofs.Gnu.Writing.{gnu_beside, gnu_long, keeps_itself, run_can, run_once, writer_loads}
-use Rattle.implib_link.proofs.CodeOfPrograms.{image_kept}
-use Rattle.implib_link.proofs.Gnu.Steady.{program_tables_none}
-use Rattle.implib_link.proofs.Flavors.MovedWriting.{flavors_writer_ends_at_base, flavors_writer_loads_at_base}
-use Rattle.implib_link.proofs.Flavors.Steady.{flavors_tables_none}
-use Rattle.implib_link.proofs.Flavors.Writing.{flavors_beside, flavors_long, flavors_writer_ends, flavors_writer_loads}
+use Rattle.implib_link.proofs.Gnu.Keeps.{Keeps}
+use Rattle.implib_link.proofs.Gnu.Writing.{gnu_beside, gnu_long, run_can, run_once, writer_ends, writer_loads}
+use Rattle.implib_link.proofs.Flavors.Writing.{flavors_writer_ends, flavors_writer_loads}
 use Rattle.implib_link_instances.proofs.Worked.Calls.{flavors_program, wide}
 use Rattle.implib_link_instances.proofs.Worked.Flavors.{worked_flavors}
-use Rattle.implib_link_instances.proofs.Worked.Rebased.{worked_flavor_rebase, worked_moves}
 use Rattle.implib_link_instances.proofs.Worked.Loads.{amd64_given, arm64_given, armnt_given, i386_given}
 use Rattle.implib_link_instances.proofs.Worked.Programs.{opened, worked_programs}
 use Rattle.implib_link_instances.proofs.Worked.RefusedLinks.{are_located, number}
+
+keeps_itself : (image : List Range) → Keeps image image
+unfolding Keeps
+keeps_itself image a byte is = is
 
 abbrev imports : MachineType → List Imported
 imports machine = map (imported machine) (both_inputs machine)
@@ -252,107 +243,24 @@ never_stops after (between, (by, later)) =
       | inr table ↦ nothing_at both_written 0x1024 0 refl table
     ]
 
--- The program at another base.
-
-moved_there : BytesAt (all_filled 4 (given_on I386) 92 (imports I386) (i386_memory (0x60 ∷ 0 ∷ 0 ∷ 0x10 ∷ []))) 0x60 (0x40 ∷ 0 ∷ 0 ∷ 0x10 ∷ [])
-unfolding opened alias_specs encoded_size weak_object has_tables all_filled table_filled
-moved_there = are_located (all_filled 4 (given_on I386) 92 (imports I386) (i386_memory (0x60 ∷ 0 ∷ 0 ∷ 0x10 ∷ []))) (0x40 ∷ 0 ∷ 0 ∷ 0x10 ∷ []) 0x60 refl
-
-alike_located : (first second : List Range) (a : ℕ) (bytes : List ℕ) → AreAlike first second → BytesAt second a bytes → BytesAt first a bytes
-unfolding BytesAt
-alike_located first second a [] alike located = tt
-alike_located first second a (x ∷ bytes) alike located = (alike a ∙ located.0, alike_located first second (a + 1) bytes alike located.1)
-
-call_alike : (machine : MachineType) (base : ℕ) (first second : List Range) (a : ℕ) (bytes : List ℕ) → AreAlike first second → CallArrives machine base second a bytes → CallArrives machine base first a bytes
-call_alike machine base first second a bytes alike call = record {
-  instructions = call.instructions;
-  here = alike_located first second a call.instructions alike call.here;
-  whole = call.whole;
-  entry = call.entry;
-  reads = call.reads;
-  located = alike_located first second call.entry bytes alike call.located;
-}
-
-moved : (found : List Imported) (after : List Range) → WritesAsItGoes 4 (given_on I386) touching_4.descriptors (i386_memory (0x60 ∷ 0 ∷ 0 ∷ 0x10 ∷ [])) found after →
-    (found ≡ imports I386) × (BytesAt after 0x60 (0x40 ∷ 0 ∷ 0 ∷ 0x10 ∷ []) × CallArrives I386 0x1000_0000 after 0x1004 (0x40 ∷ 0 ∷ 0 ∷ 0x10 ∷ []))
-moved found after runs =
-    let made = worked_programs.i386.made in
-    let program : IsProgram I386 touching_4 (both_inputs I386) (calling_objects I386) = worked_moves.i386.program in
-    let memory : List Range = i386_memory (0x60 ∷ 0 ∷ 0 ∷ 0x10 ∷ []) in
-    let keeps = image_kept I386 0x40_0000 0x1000_0000 touching_4 (calling_objects I386) (linked_codes I386 0x40_0000 (table_targets I386 touching_4) (moving_codes I386 touching_4)) (as_placed (table_targets I386 touching_4)) memory worked_moves.i386.at
-    (program_tables_none I386 touching_4 (both_inputs I386) (calling_objects I386) made program) in
-    let same = run_once I386 touching_4 (calling_objects I386) program.admissible (imports I386) (gnu_long I386 touching_4 (both_inputs I386) (calling_objects I386) made program)
-    (gnu_beside I386 touching_4 (both_inputs I386) (calling_objects I386) made program) (given_on I386) (wide I386) memory keeps found after runs in
-    let law = writer_loads_at_base I386 0x40_0000 0x1000_0000 touching_4 (both_inputs I386) (calling_objects I386) (linked_codes I386 0x40_0000 (table_targets I386 touching_4) (moving_codes I386 touching_4)) (as_placed (table_targets I386 touching_4)) memory (given_on I386) found after
-    made program worked_moves.i386.at (wide I386) runs in
-    let entries : List Range = law.1.0 in (
-      law.0,
-      (
-        subst (λ m. BytesAt m 0x60 (0x40 ∷ 0 ∷ 0 ∷ 0x10 ∷ [])) (sym same.1) moved_there,
-        call_alike I386 0x1000_0000 after (entries ++ memory) 0x1004 (0x40 ∷ 0 ∷ 0 ∷ 0x10 ∷ []) law.1.1.1.1 (worked_moves.i386.arrives 2 entries law.1.1.0).1.0,
-      ),
-    )
-
--- The program of both flavours at another base.
-
-abbrev moved_imports : List Imported
-moved_imports = map (imported_in I386) (flavor_inputs I386)
-
-abbrev moved_memory : List Range
-moved_memory = moving_memory (0x64 ∷ 0 ∷ 0 ∷ 0x10 ∷ [])
-
-flavors_there : BytesAt (all_filled 4 (given_on I386) 96 moved_imports moved_memory) 0x64 (0x40 ∷ 0 ∷ 0 ∷ 0x10 ∷ [])
-unfolding opened refusal renamed_refusal alias_specs encoded_size weak_object has_tables expanded_in short_import_in import_object descriptor_symbol_by_name with_section_symbols descriptor null_descriptor null_thunk descriptor_symbol null_descriptor_symbol null_thunk_symbol base_name descriptor_spec null_descriptor_spec null_thunk_spec header_specs weak_specs group_end sections_end all_filled table_filled
-flavors_there = are_located (all_filled 4 (given_on I386) 96 moved_imports moved_memory) (0x40 ∷ 0 ∷ 0 ∷ 0x10 ∷ []) 0x64 refl
-
-flavors_moved : (found : List Imported) (after : List Range) → WritesAsItGoes 4 (given_on I386) 8 moved_memory found after →
-    (found ≡ moved_imports) × (BytesAt after 0x64 (0x40 ∷ 0 ∷ 0 ∷ 0x10 ∷ []) × CallArrives I386 0x1000_0000 after 0x1004 (0x40 ∷ 0 ∷ 0 ∷ 0x10 ∷ []))
-flavors_moved found after runs =
-    let made = worked_flavors.i386.made in
-    let program : IsFlavorProgram I386 flavor_bases_4 (flavor_inputs I386) moving_flavors = worked_flavor_rebase.program in
-    let keeps = image_kept I386 0x40_0000 0x1000_0000 flavor_bases_4 moving_flavors (linked_codes I386 0x40_0000 moving_targets (calling_at I386 0x1000 ∷ [])) (as_placed moving_targets) moved_memory worked_flavor_rebase.at
-    (flavors_tables_none I386 flavor_bases_4 (flavor_inputs I386) moving_flavors made program) in
-    let same = run_once I386 flavor_bases_4 moving_flavors program.admissible moved_imports (flavors_long I386 flavor_bases_4 (flavor_inputs I386) moving_flavors made program)
-    (flavors_beside I386 flavor_bases_4 (flavor_inputs I386) moving_flavors made program) (given_on I386) (wide I386) moved_memory keeps found after runs in
-    let law = flavors_writer_loads_at_base I386 0x40_0000 0x1000_0000 flavor_bases_4 (flavor_inputs I386) moving_flavors (linked_codes I386 0x40_0000 moving_targets (calling_at I386 0x1000 ∷ [])) (as_placed moving_targets) moved_memory (given_on I386) found after made program
-    worked_flavor_rebase.at (wide I386) runs in
-    let entries : List Range = law.1.0 in (
-      law.0,
-      (
-        subst (λ m. BytesAt m 0x64 (0x40 ∷ 0 ∷ 0 ∷ 0x10 ∷ [])) (sym same.1) flavors_there,
-        call_alike I386 0x1000_0000 after (entries ++ moved_memory) 0x1004 (0x40 ∷ 0 ∷ 0 ∷ 0x10 ∷ []) law.1.1.1.1 (worked_flavor_rebase.arrives 2 entries law.1.1.0).1,
-      ),
-    )
-
-not_one : (n : ℕ) → n ≡ 1 → n ≡ 2 → ⊥
-not_one n first second = omega arith
-
-flavors_not_one : (after : List Range) → WritesAsItGoes 4 (given_on I386) 8 moved_memory (imported_in I386 (msvc_input I386) ∷ []) after → ⊥
-flavors_not_one after runs = not_one 1 refl (ap length (flavors_moved (imported_in I386 (msvc_input I386) ∷ []) after runs).0)
-
 pub worked_writings : WorkedWritings
 worked_writings = record {
   amd64 = amd64;
   arm64 = arm64;
   i386 = i386;
   armnt = armnt;
-  alike =
-      let law = writer_loads AMD64 touching_8 (both_inputs AMD64) (program_objects AMD64) (gives_by_hand AMD64) (imports AMD64) (left_8 AMD64 ++ program_image AMD64 touching_8) worked_programs.amd64.made
-      worked_programs.amd64.program amd64_given amd64.runs in
-      (law.1.0, (law.1.1.0, law.1.1.1.1));
   reads_both = reads_both;
   ends_early = ends_early;
   not_both = not_both;
   not_given = not_given;
   never_stops = never_stops;
-  moved = moved;
-  moved_end = writer_ends_at_base I386 0x40_0000 0x1000_0000 touching_4 (both_inputs I386) (calling_objects I386) (linked_codes I386 0x40_0000 (table_targets I386 touching_4) (moving_codes I386 touching_4)) (as_placed (table_targets I386 touching_4)) (i386_memory (0x60 ∷ 0 ∷ 0 ∷ 0x10 ∷ []))
-      (given_on I386) worked_programs.i386.made worked_moves.i386.program worked_moves.i386.at (wide I386);
+  moved = writer_loads I386 0x1000_0000 touching_4 (both_inputs I386) (passing_objects I386) (passing_codes I386 touching_4) (passing_targets I386 touching_4) (moved_memory I386 touching_4) (given_on I386)
+      worked_programs.i386.made worked_operands.i386_moved.program worked_operands.i386_moved.at (wide I386);
+  moved_end = writer_ends I386 0x1000_0000 touching_4 (both_inputs I386) (passing_objects I386) (passing_codes I386 touching_4) (passing_targets I386 touching_4) (moved_memory I386 touching_4) (given_on I386)
+      worked_programs.i386.made worked_operands.i386_moved.program worked_operands.i386_moved.at (wide I386);
   flavors = λ found after runs.
-      (flavors_writer_loads AMD64 flavor_bases_8 (flavor_inputs AMD64) calling_flavors (given_on AMD64) found after worked_flavors.amd64.made flavors_program (wide AMD64) runs).0;
-  flavors_end = flavors_writer_ends AMD64 flavor_bases_8 (flavor_inputs AMD64) calling_flavors (given_on AMD64) worked_flavors.amd64.made flavors_program (wide AMD64);
-  flavors_moved = flavors_moved;
-  flavors_moved_end = flavors_writer_ends_at_base I386 0x40_0000 0x1000_0000 flavor_bases_4 (flavor_inputs I386) moving_flavors (linked_codes I386 0x40_0000 moving_targets (calling_at I386 0x1000 ∷ [])) (as_placed moving_targets) moved_memory (given_on I386)
-      worked_flavors.i386.made worked_flavor_rebase.program worked_flavor_rebase.at (wide I386);
-  flavors_not_one = flavors_not_one;
+      (flavors_writer_loads AMD64 0x2_0000_0000 flavor_bases_8 (flavor_inputs AMD64) calling_flavors (calling_linked ∷ []) linked_targets flavors_linked (given_on AMD64)
+      worked_flavors.amd64.made flavors_program worked_flavor_fields.moved (wide AMD64) found after runs).0;
+  flavors_end = flavors_writer_ends AMD64 0x1_4000_0000 flavor_bases_8 (flavor_inputs AMD64) calling_flavors (calling_linked ∷ []) linked_targets flavors_linked (given_on AMD64)
+      worked_flavors.amd64.made flavors_program worked_flavor_fields.linked (wide AMD64);
 }

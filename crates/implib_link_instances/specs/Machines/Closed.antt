@@ -2,7 +2,7 @@
 -- linker takes the alias, for which `baz` is wanted, and with `baz` and `queue` what their libraries have besides; linked,
 -- it is a closed program, in which `printf` alone is left, and the pointers to `baz` and `queue` are at these addresses. By
 -- the definitions alone the import tables end by the third.
-use Rattle.std.specs.Prelude.{◌≡◌, ◌<◌, ℕ, List, [], ◌∷◌, ◌++◌, codes, length, Some}
+use Rattle.std.specs.Prelude.{◌≡◌, ℕ, List, [], ◌∷◌, ◌++◌, codes, Some}
 use Rattle.implib.specs.declared.flavor.Flavor.TheVariants.{Gnu, Msvc}
 use Rattle.implib.specs.declared.machine.MachineType.{MachineType}
 use Rattle.implib.specs.Formats.Object.{Object}
@@ -23,10 +23,7 @@ use Rattle.implib_link.specs.Search.BothExists.{tables_end_of_both}
 use Rattle.implib_link.specs.Search.Closed.{IsClosed, LinksClosed, TakesInto, unresolved}
 use Rattle.implib_link.specs.Search.Exists.{HasClosed, LieWithin, tables_end}
 use Rattle.implib_link.specs.Search.Given.{AreGiven}
-use Rattle.implib_link.specs.Search.MsvcArchives.{IsMsvcArchive, short_inputs}
-use Rattle.implib_link.specs.Search.MsvcClosed.{IsClosedForMsvc, LinksClosedForMsvc, TakesIntoFor}
-use Rattle.implib_link.specs.Search.MsvcExists.{HasClosedForMsvc, msvc_tables_end}
-use Rattle.implib_link.specs.Search.MsvcGiven.{AreGivenForMsvc}
+use Rattle.implib_link.specs.Search.MsvcClosed.{TakesIntoFor}
 use Rattle.implib_link.specs.Search.NoShorts.{WantsNoShort}
 use Rattle.implib_link_instances.specs.Worked.Programs.{symbol_on}
 use Rattle.implib_link_instances.specs.Machines.Parts.{alias_on, baz, baz_on, choosing_on, descriptor_on, foo, foo_on, head_on, library_on, null_on, queue, queue_on, short_alias_on, short_on, tail_on, thunk_on, zed, zed_on}
@@ -94,46 +91,8 @@ pub record WorkedGnu (machine : MachineType) (baz_at queue_at end_at : ℕ) : Ty
   pub none : WantsNoShort (with_far machine) (own_on machine)
   pub beside : TakesIntoFor machine (archive_of_both (with_far machine)) (own_on machine) (gnu_taken machine)
 
--- For Microsoft's linker. The null descriptor, foo.dll's, comes last.
-abbrev pub msvc_libraries : MachineType → List Library
-msvc_libraries machine = library_on machine Msvc (foo_on machine) ∷ library_on machine Msvc (zed_on machine) ∷ []
-
-abbrev pub msvc_taken : MachineType → List MemberView
-msvc_taken machine =
-    thunk_on machine foo ∷ descriptor_on machine foo ∷ short_on machine foo (baz machine) ∷ short_alias_on machine
-    ∷ null_on machine foo ∷ thunk_on machine zed ∷ descriptor_on machine zed ∷ short_on machine zed (queue machine) ∷ []
-
 abbrev pub foo_shorts : MachineType → List MemberView
 foo_shorts machine = descriptor_on machine foo ∷ short_on machine foo (baz machine) ∷ thunk_on machine foo ∷ []
-
-abbrev pub msvc_members : MachineType → List MemberView
-msvc_members machine =
-    foo_shorts machine
-    ++ descriptor_on machine zed ∷ short_on machine zed (queue machine) ∷ thunk_on machine zed ∷ []
-
-abbrev pub msvc_objects : MachineType → List Object
-msvc_objects machine =
-    choosing_on machine
-    ∷ (objects_taken machine (short_alias_on machine ∷ [])
-    ++ objects_taken machine (msvc_members machine ++ null_on machine foo ∷ []))
-
-abbrev pub msvc_bases : MachineType → Bases
-msvc_bases machine = packed 0x9000 (msvc_objects machine)
-
-pub record WorkedMsvc (machine : MachineType) (baz_at queue_at end_at : ℕ) : Type 0 where
-  pub archive : IsMsvcArchive machine (msvc_libraries machine)
-  pub given : AreGivenForMsvc (msvc_libraries machine) (own_on machine)
-  pub wants : 0 < length (short_inputs (msvc_libraries machine) (unresolved (own_on machine)))
-  pub takes : TakesIntoFor machine (archive_of (msvc_libraries machine)) (own_on machine) (msvc_taken machine)
-  pub closed : IsClosedForMsvc machine (msvc_libraries machine) (own_on machine) (msvc_taken machine)
-      (msvc_libraries machine) (msvc_bases machine) (msvc_objects machine)
-  pub links : LinksClosedForMsvc machine (msvc_libraries machine) (own_on machine) (msvc_taken machine)
-      (msvc_libraries machine) (msvc_bases machine) (msvc_objects machine)
-  pub left : IsLeft machine (msvc_objects machine)
-  pub baz_pointer : IsPointerAt (msvc_bases machine) (msvc_objects machine) (baz machine) baz_at
-  pub queue_pointer : IsPointerAt (msvc_bases machine) (msvc_objects machine) (queue machine) queue_at
-  pub room : msvc_tables_end 0x9000 (msvc_libraries machine) ≡ end_at
-  pub exists : HasClosedForMsvc machine (msvc_libraries machine) (own_on machine) 0x9000
 
 -- For both: foo.dll's members are for Microsoft's linker, and zed.dll's, which are linked first, for GNU's. The object wants
 -- a short import only by the alias.

@@ -2,28 +2,25 @@
 -- `__imp_opened` and reads a pointer through it, with the weak external that makes this an alias of
 -- `__imp_open`; and a program of both flavours with such code.
 use Rattle.implib_link.specs.Gnu.Fields.{LinkedCode, TakesSymbols}
-use Rattle.std.specs.Prelude.{◌≡◌, ℕ, List, [], ◌∷◌, ◌++◌, codes, map, Some, None}
+use Rattle.std.specs.Prelude.{◌≡◌, ℕ, List, [], ◌∷◌, ◌++◌, codes, Some, None}
 use Rattle.implib.specs.declared.machine.MachineType.TheVariants.{AMD64}
 use Rattle.implib.specs.Formats.Constants.{class_external}
 use Rattle.implib.specs.Formats.Layout.{object_of}
 use Rattle.implib.specs.Formats.Object.{ASymbol, Object}
 use Rattle.implib.specs.Import.{imp_symbol}
-use Rattle.implib.specs.Link.Image.{Range, image_of}
-use Rattle.implib.specs.Link.Placement.{Bases, Placed, Unplaced, placed_from}
+use Rattle.implib.specs.Link.Placement.{Placed, Unplaced, placed_from}
 use Rattle.implib.specs.Link.Resolution.{definitions_of}
 use Rattle.implib.specs.Members.WeakExternal.{weak_object}
-use Rattle.implib_link.specs.Directory.{imported}
-use Rattle.implib_link.specs.Flavors.Program.{IsFlavorProgram, imported_in, objects_taken}
+use Rattle.implib_link.specs.Flavors.Program.{IsFlavorProgram, objects_taken}
 use Rattle.implib_link.specs.Gnu.Aliases.{ResolvesAliases, weak_target}
-use Rattle.implib_link.specs.Gnu.Calls.{CallArrives, HasCall, PlacedCode, call_reads}
-use Rattle.implib_link.specs.Gnu.Loaded.{Writes}
-use Rattle.implib_link.specs.Gnu.Pointers.{HasLoad, LoadArrives, load_reads}
+use Rattle.implib_link.specs.Gnu.Calls.{HasCall, PlacedCode, call_reads}
+use Rattle.implib_link.specs.Gnu.Pointers.{HasLoad, load_reads}
 use Rattle.implib_link.specs.Gnu.Program.{IsProgram, null_descriptor}
-use Rattle.implib_link_instances.specs.Worked.Calls.{calling, calling_code, first_bytes, given_on, last_bytes}
+use Rattle.implib_link_instances.specs.Worked.Calls.{calling, calling_code, first_bytes, last_bytes}
 use Rattle.implib_link_instances.specs.Worked.Flavors.{both_inputs as flavor_inputs, flavor_bases_8, members_with_null}
 use Rattle.implib_link_instances.specs.Worked.Pointers.{loading, loading_code, loading_at, tables_of}
 use Rattle.implib_link_instances.specs.Worked.Programs.{another, both_inputs, foo_input, input_objects, symbol_of_class, touching_8, zed_input}
-use Rattle.implib_link_instances.specs.Worked.Relocated.{CodesBeside, as_placed, code_range, code_ranges, linked_codes, linked_by}
+use Rattle.implib_link_instances.specs.Worked.Relocated.{CodesBeside, as_placed, code_range, linked_codes, linked_by}
 
 -- the alias and its target
 abbrev pub opened_name : List ℕ
@@ -80,14 +77,8 @@ alias_codes = alias_at ∷ alias_load_at ∷ []
 abbrev pub all_at : ℕ → PlacedCode → ℕ → ℕ
 all_at address c index = address
 
--- the memory that a loader leaves with this code in it
-abbrev pub alias_memory : Bases → List Object → ℕ → List Range → List Range
-alias_memory bases objects address written =
-    written ++ (image_of AMD64 bases (placed_from bases objects)
-    ++ code_ranges AMD64 0x1_4000_0000 (all_at address) alias_codes)
-
--- The program meets all that the law of aliases asks for; the entry of `open` is at 0x80; the call at 0x1004 arrives
--- at what foo.dll gives for `open`, and the pointer that is read at 0x1014 is this, too.
+-- The program meets all that the law of aliases asks for; the entry of `open` is at 0x80, which the call at 0x1004 and
+-- the load at 0x1014 read.
 pub record WorkedAlias : Type 0 where
   pub program : IsProgram AMD64 touching_8 (both_inputs AMD64) alias_objects
   pub beside : CodesBeside AMD64 0x1_4000_0000 touching_8 alias_objects alias_codes (all_at 0x80)
@@ -106,16 +97,6 @@ pub record WorkedAlias : Type 0 where
   -- mov rax, [rip - 0xF9B]
   pub load_is : (code_range AMD64 0x1_4000_0000 (all_at 0x80) alias_load_at).bytes
       ≡ first_bytes AMD64 ++ (0x48 ∷ 0x8B ∷ 5 ∷ 0x65 ∷ 0xF0 ∷ 0xFF ∷ 0xFF ∷ last_bytes AMD64)
-  pub call_arrives : (written : List Range) →
-      Writes (image_of AMD64 touching_8 alias_placed) 8 (given_on AMD64) 4 (map (imported AMD64) (both_inputs AMD64))
-      written →
-      CallArrives AMD64 0x1_4000_0000 (alias_memory touching_8 alias_objects 0x80 written) 0x1004
-      (0x40 ∷ 0 ∷ 0 ∷ 0x10 ∷ 0 ∷ 0 ∷ 0 ∷ 0 ∷ [])
-  pub load_arrives : (written : List Range) →
-      Writes (image_of AMD64 touching_8 alias_placed) 8 (given_on AMD64) 4 (map (imported AMD64) (both_inputs AMD64))
-      written →
-      LoadArrives AMD64 0x1_4000_0000 (alias_memory touching_8 alias_objects 0x80 written) 0x1014
-      (0x40 ∷ 0 ∷ 0 ∷ 0x10 ∷ 0 ∷ 0 ∷ 0 ∷ 0 ∷ [])
   -- the member of an alias is such a weak external: of the alias `bar` of `baz` for its address, say
   pub member : weak_target (codes "__imp_bar") (record {
     object = object_of (weak_object AMD64 (codes "__imp_bar") (codes "__imp_baz"));
@@ -139,8 +120,8 @@ opened_flavors = alias_flavors (imp_symbol (codes "open"))
 abbrev pub opened_placed : List Placed
 opened_placed = placed_from flavor_bases_8 opened_flavors
 
--- The program meets all that the law of aliases in both flavours asks for; the entry of `open` is at 0x88; the
--- call at 0x1004 arrives at what foo.dll gives for `open`, and the pointer that is read at 0x1014 is this, too.
+-- The program of both flavours meets all that the law of aliases asks for; the entry of `open` is at 0x88, which the
+-- call at 0x1004 and the load at 0x1014 read.
 pub record WorkedFlavorAlias : Type 0 where
   pub program : IsFlavorProgram AMD64 flavor_bases_8 (flavor_inputs AMD64) opened_flavors
   pub beside : CodesBeside AMD64 0x1_4000_0000 flavor_bases_8 opened_flavors alias_codes (all_at 0x88)
@@ -160,16 +141,6 @@ pub record WorkedFlavorAlias : Type 0 where
       ≡ first_bytes AMD64 ++ (0x48 ∷ 0x8B ∷ 5 ∷ 0x6D ∷ 0xF0 ∷ 0xFF ∷ 0xFF ∷ last_bytes AMD64)
   pub load_reads_it : load_reads AMD64 0x1_4000_1014 (0x48 ∷ 0x8B ∷ 5 ∷ 0x6D ∷ 0xF0 ∷ 0xFF ∷ 0xFF ∷ [])
       ≡ Some 0x1_4000_0088
-  pub call_arrives : (written : List Range) →
-      Writes (image_of AMD64 flavor_bases_8 opened_placed) 8 (given_on AMD64) 8
-      (map (imported_in AMD64) (flavor_inputs AMD64)) written →
-      CallArrives AMD64 0x1_4000_0000 (alias_memory flavor_bases_8 opened_flavors 0x88 written) 0x1004
-      (0x40 ∷ 0 ∷ 0 ∷ 0x10 ∷ 0 ∷ 0 ∷ 0 ∷ 0 ∷ [])
-  pub load_arrives : (written : List Range) →
-      Writes (image_of AMD64 flavor_bases_8 opened_placed) 8 (given_on AMD64) 8
-      (map (imported_in AMD64) (flavor_inputs AMD64)) written →
-      LoadArrives AMD64 0x1_4000_0000 (alias_memory flavor_bases_8 opened_flavors 0x88 written) 0x1014
-      (0x40 ∷ 0 ∷ 0 ∷ 0x10 ∷ 0 ∷ 0 ∷ 0 ∷ 0 ∷ [])
   -- weak for `__imp_stat`, whose entry is at 0x90, it is not at 0x88
   pub astray : ResolvesAliases (placed_from flavor_bases_8 (alias_flavors (imp_symbol (codes "stat"))))
       (linked_codes AMD64 0x1_4000_0000 (all_at 0x88) alias_codes) (as_placed (all_at 0x88)) → ⊥

@@ -14,11 +14,9 @@ use Rattle.implib.specs.Link.Load.{BytesAt}
 use Rattle.implib.specs.Link.Placement.{Bases, Placed, Unplaced, placed_from}
 use Rattle.implib.specs.Link.Resolution.{target_address}
 use Rattle.implib.specs.Members.Gnu.{section, stub_bytes, stub_relocations, text_name}
-use Rattle.implib.specs.Members.ImportTables.{thunk_width, zeros}
-use Rattle.implib_link.specs.Directory.{imported}
-use Rattle.implib_link.specs.Flavors.Program.{IsFlavorProgram, IsMadeFor, imported_in, objects_taken}
-use Rattle.implib_link.specs.Gnu.Calls.{CallArrives, Defines, DirectCallArrives, HasCall, HasDirectCall, PlacedCode, call_bytes, call_reads, call_relocations, direct_bytes, direct_leads, direct_relocations, moved_by}
-use Rattle.implib_link.specs.Gnu.Loaded.{Writes}
+use Rattle.implib.specs.Members.ImportTables.{zeros}
+use Rattle.implib_link.specs.Flavors.Program.{IsFlavorProgram, IsMadeFor, objects_taken}
+use Rattle.implib_link.specs.Gnu.Calls.{Defines, HasCall, HasDirectCall, PlacedCode, call_bytes, call_reads, call_relocations, direct_bytes, direct_leads, direct_relocations, moved_by}
 use Rattle.implib_link.specs.Gnu.Program.{IsProgram, null_descriptor}
 use Rattle.implib_link.specs.Gnu.Reading.{ReadsAndWrites}
 use Rattle.implib_link.specs.Stub.{CanJump, jump_reads}
@@ -104,10 +102,9 @@ given_on AMD64 = given 4
 given_on ARM64 = given 4
 
 -- The program and the code at 0x1000 meet all that the law of calls asks for; the call is relocated to these
--- bytes, which read this entry; and whatever a loader writes, the call at 0x1004 arrives at what foo.dll gives
--- for `open`.
+-- bytes, which read this entry.
 pub record WorkedCall (machine : MachineType) (image_base : ℕ) (bases : Bases) (relocated : List ℕ) (entry : ℕ)
-    (address : List ℕ) : Type 0 where
+    : Type 0 where
   pub made : AllByRecursion (IsMade machine) (both_inputs machine)
   pub program : IsProgram machine bases (both_inputs machine) (calling_objects machine)
   pub can : CanJump machine image_base bases
@@ -117,23 +114,16 @@ pub record WorkedCall (machine : MachineType) (image_base : ℕ) (bases : Bases)
   pub bytes : (code_range machine image_base (table_targets machine bases) (calling_at machine 0x1000)).bytes
       ≡ first_bytes machine ++ (relocated ++ last_bytes machine)
   pub reads : call_reads machine (image_base + 0x1004) relocated ≡ Some (image_base + entry)
-  pub arrives : (written : List Range) →
-      Writes (image_of machine bases (calling_placed machine bases)) (thunk_width machine) (given_on machine)
-      bases.descriptors (map (imported machine) (both_inputs machine)) written →
-      CallArrives machine image_base (written ++ calling_memory machine image_base bases) 0x1004 address
 
 -- the calls of `open`, whose entry is at 0x80 or 0x60
 pub record WorkedCalls : Type 0 where
   -- call [rip - 0xF8A]
   pub amd64 : WorkedCall AMD64 0x1_4000_0000 touching_8 (0xFF ∷ 0x15 ∷ 0x76 ∷ 0xF0 ∷ 0xFF ∷ 0xFF ∷ []) 0x80
-      (0x40 ∷ 0 ∷ 0 ∷ 0x10 ∷ 0 ∷ 0 ∷ 0 ∷ 0 ∷ [])
   -- call [0x400060]
   pub i386 : WorkedCall I386 0x40_0000 touching_4 (0xFF ∷ 0x15 ∷ 0x60 ∷ 0 ∷ 0x40 ∷ 0 ∷ []) 0x60
-      (0x40 ∷ 0 ∷ 0 ∷ 0x10 ∷ [])
   -- adrp x16, -0x1000; ldr x16, [x16, 0x80]; blr x16
   pub arm64 : WorkedCall ARM64 0x1_4000_0000 touching_8
       (0xF0 ∷ 0xFF ∷ 0xFF ∷ 0xF0 ∷ 0x10 ∷ 0x42 ∷ 0x40 ∷ 0xF9 ∷ 0 ∷ 2 ∷ 0x3F ∷ 0xD6 ∷ []) 0x80
-      (0x40 ∷ 0 ∷ 0 ∷ 0x10 ∷ 0 ∷ 0 ∷ 0 ∷ 0 ∷ [])
   -- code at 0x78, over the address tables, is not beside them
   pub refused : CodesBeside AMD64 0x1_4000_0000 touching_8 (calling_objects AMD64) (calling_at AMD64 0x78 ∷ [])
       (table_targets AMD64 touching_8) → ⊥
@@ -151,7 +141,7 @@ abbrev pub flavor_targets : PlacedCode → ℕ → ℕ
 flavor_targets c index = target_address flavors_placed c.from index
 
 -- The program of both flavours and the code at 0x1000 meet all that the law of calls asks for; the entry of
--- `open` is at 0x88, and the call at 0x1004 arrives at what foo.dll gives for it.
+-- `open` is at 0x88, and the call at 0x1004 reads it.
 pub record WorkedFlavorCall : Type 0 where
   pub made : AllByRecursion (IsMadeFor AMD64) (flavor_inputs AMD64)
   pub program : IsFlavorProgram AMD64 flavor_bases_8 (flavor_inputs AMD64) calling_flavors
@@ -160,12 +150,6 @@ pub record WorkedFlavorCall : Type 0 where
   pub bytes : (code_range AMD64 0x1_4000_0000 flavor_targets (calling_at AMD64 0x1000)).bytes
       ≡ first_bytes AMD64 ++ (0xFF ∷ 0x15 ∷ 0x7E ∷ 0xF0 ∷ 0xFF ∷ 0xFF ∷ last_bytes AMD64)
   pub reads : call_reads AMD64 0x1_4000_1004 (0xFF ∷ 0x15 ∷ 0x7E ∷ 0xF0 ∷ 0xFF ∷ 0xFF ∷ []) ≡ Some 0x1_4000_0088
-  pub arrives : (written : List Range) →
-      Writes (image_of AMD64 flavor_bases_8 flavors_placed) 8 (given_on AMD64) 8
-      (map (imported_in AMD64) (flavor_inputs AMD64)) written →
-      CallArrives AMD64 0x1_4000_0000 (written ++ (image_of AMD64 flavor_bases_8 flavors_placed
-      ++ code_ranges AMD64 0x1_4000_0000 flavor_targets (calling_at AMD64 0x1000 ∷ []))) 0x1004
-      (0x40 ∷ 0 ∷ 0 ∷ 0x10 ∷ 0 ∷ 0 ∷ 0 ∷ 0 ∷ [])
 
 -- code that calls `open` by its name, at offset 4: `sub rsp, 40`, `call open`, `add rsp, 40`, `ret`
 abbrev pub direct_code : ObjectSection
@@ -230,7 +214,7 @@ abbrev pub direct_targets : PlacedCode → ℕ → ℕ
 direct_targets c index = open_targets direct_placed c index
 
 -- The program, the code and the stub meet all that the law of direct calls asks for; they are relocated to these
--- bytes; the call leads to 0x1010, the jump there reads 0x80, and the call arrives at what foo.dll gives for `open`.
+-- bytes; the call leads to 0x1010, and the jump there reads 0x80.
 pub record WorkedDirectCall : Type 0 where
   pub program : IsProgram AMD64 touching_8 (both_inputs AMD64) direct_objects
   pub beside : CodesBeside AMD64 0x1_4000_0000 touching_8 direct_objects (direct_at ∷ stub_at ∷ []) direct_targets
@@ -244,12 +228,6 @@ pub record WorkedDirectCall : Type 0 where
   pub stub : (code_range AMD64 0x1_4000_0000 direct_targets stub_at).bytes
       ≡ 0xFF ∷ 0x25 ∷ 0x6A ∷ 0xF0 ∷ 0xFF ∷ 0xFF ∷ 0x90 ∷ 0x90 ∷ []
   pub reads : jump_reads AMD64 0x1_4000_1010 (0xFF ∷ 0x25 ∷ 0x6A ∷ 0xF0 ∷ 0xFF ∷ 0xFF ∷ 0x90 ∷ 0x90 ∷ []) ≡ Some 0x1_4000_0080
-  pub arrives : (written : List Range) →
-      Writes (image_of AMD64 touching_8 direct_placed) 8 (given_on AMD64) 4
-      (map (imported AMD64) (both_inputs AMD64)) written →
-      DirectCallArrives AMD64 0x1_4000_0000 (written ++ (image_of AMD64 touching_8 direct_placed
-      ++ code_ranges AMD64 0x1_4000_0000 direct_targets (direct_at ∷ stub_at ∷ []))) 0x1004
-      (0x40 ∷ 0 ∷ 0 ∷ 0x10 ∷ 0 ∷ 0 ∷ 0 ∷ 0 ∷ [])
 
 -- the image of the worked program with zeros where the first descriptor has the address of the DLL's name
 abbrev pub nameless_image : List Range

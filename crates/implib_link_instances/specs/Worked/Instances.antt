@@ -27,7 +27,6 @@ use Rattle.implib_link.specs.Gnu.OtherLibraries.{IsProgramBeside, keeps_fours}
 use Rattle.implib_link.specs.Search.Archives.{IsArchive, Library}
 use Rattle.implib_link.specs.Search.Given.{AreGiven}
 use Rattle.implib_link.specs.Search.MsvcArchives.{IsMsvcArchive}
-use Rattle.implib_link.specs.Search.MsvcGiven.{AreGivenForMsvc}
 use Rattle.implib_link.specs.Search.NamedApart.{AreNamedApart}
 use Rattle.implib_link_instances.specs.Worked.Calls.{calling_at, calling_code, calling_objects, table_targets}
 use Rattle.implib_link_instances.specs.Worked.Flavors.{foo_input as foo_flavor, zed_input as zed_flavor}
@@ -120,7 +119,6 @@ pub record MachineInstances : Type 0 where
   pub apart : AreNamedApart I386 (i386_library ∷ [])
   pub given : AreGiven I386 (i386_library ∷ []) i386_own
   pub msvc_archive : IsMsvcArchive I386 (i386_msvc ∷ [])
-  pub given_for_msvc : AreGivenForMsvc (i386_msvc ∷ []) i386_own
   pub sections : AreSections I386 touching_4 (calling_objects I386) (moving_codes I386 touching_4)
 
 -- code of an object that defines `f` twice, 8 bytes apart

@@ -8,7 +8,8 @@ use Rattle.implib.specs.Import.{Name, Ordinal}
 use Rattle.implib_link.specs.Flavors.LldTables.{IsAskable}
 use Rattle.implib_link.specs.Gnu.Calls.{CanBranch, call_reads, direct_leads}
 use Rattle.implib_link.specs.Gnu.Pointers.{load_reads}
-use Rattle.implib_link.specs.Gnu.Rebased.{CanMove, Place, covers}
+use Rattle.implib_link.specs.Gnu.Moves.{ArePaged}
+use Rattle.implib_link.specs.Gnu.Rebased.{Place, covers}
 use Rattle.implib_link.specs.Search.Given.{is_data_alias}
 use Rattle.implib_link.specs.Stub.{CanJump}
 use Rattle.implib_link_instances.specs.Worked.Calls.{calling_at, calling_objects, table_targets}
@@ -108,11 +109,8 @@ pub record Conditions : Type 0 where
   pub arm64_branches_back : CanBranch ARM64 0x800_1000 0x1000
   pub arm64_branches_too_far_back : CanBranch ARM64 0x800_1004 0x1000 → ⊥
   pub armnt_branches_not : CanBranch ARMNT 0x1000 0x1010 → ⊥
-  pub i386_moves : CanMove I386 0x40_0000 0x8000_0000 far_4
-  pub i386_moves_from_anywhere : CanMove I386 0x9000_0000 0x40_0000 far_4
-  pub i386_moves_not : CanMove I386 0x40_0000 0x9000_0000 far_4 → ⊥
-  pub amd64_moves : CanMove AMD64 0x1_4000_0000 0x7FF6_1234_0001 far_4
-  pub arm64_moves : CanMove ARM64 0x1_4000_0000 0x1_4000_1000 far_8
+  pub arm64_moves : ArePaged ARM64 0x1_4000_0000 0x1_4000_1000
+  pub arm64_moves_not : ArePaged ARM64 0x1_4000_0000 0x1_4000_0800 → ⊥
   pub covers_the_first : covers 0x2000 four_bytes ≡ true
   pub covers_the_last : covers 0x2003 four_bytes ≡ true
   pub covers_none_before : covers 0x1FFF four_bytes ≡ false

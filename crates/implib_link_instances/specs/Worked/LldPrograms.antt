@@ -14,19 +14,15 @@ use Rattle.implib.specs.Link.Placement.{Placed, Unplaced}
 use Rattle.implib.specs.Link.Resolution.{symbol_address}
 use Rattle.implib.specs.Machine.{machine_number}
 use Rattle.implib.specs.Members.Gnu.{section, text_name}
-use Rattle.implib.specs.Members.ImportTables.{thunk_width}
 use Rattle.implib_link.specs.Flavors.LldImports.{IsLldProgram, imports_of_lld, placed_by_lld, short_for}
-use Rattle.implib_link.specs.Flavors.LldLoaded.{IsLldLoaded}
 use Rattle.implib_link.specs.Flavors.LldTables.{built_bytes}
 use Rattle.implib_link.specs.Flavors.LldThunks.{BranchArrivesByThunk, IsThunk, ThunkArrives, placed_thunk, thunk_section}
 use Rattle.implib_link.specs.Gnu.Calls.{arm64_branch26, i386_rel32}
 use Rattle.implib_link.specs.Gnu.Fields.{IsRelocated, LinkedCode, ranges_of_codes}
 use Rattle.implib_link.specs.Gnu.Moves.{AreInMemory}
-use Rattle.implib_link.specs.Gnu.Operands.{AllLead, HasBranch, HasInstruction, HasOffsetField, HasPageField}
-use Rattle.implib_link.specs.Gnu.Reading.{ReadsAndWrites}
+use Rattle.implib_link.specs.Gnu.Operands.{HasBranch, HasInstruction, HasOffsetField, HasPageField}
 use Rattle.implib_link.specs.Gnu.Rebased.{Place}
 use Rattle.implib_link.specs.Tables.{AreSteady, AreTables, CanReadFrom, IsInTable, RiseFrom, Table, Tables, tables_of_lld}
-use Rattle.implib_link_instances.specs.Worked.Calls.{given_on}
 use Rattle.implib_link_instances.specs.Worked.Lld.{gee_bytes, mid_bytes, written_by_lld, zeta_bytes}
 use Rattle.implib_link_instances.specs.Worked.Programs.{symbol_of_class, symbol_on}
 
@@ -100,24 +96,6 @@ addresses_on I386 = 0x2050
 addresses_on ARMNT = 0
 addresses_on AMD64 = 0x2068
 addresses_on ARM64 = 0x2068
-
-abbrev pub lookups_on : MachineType → ℕ
-lookups_on I386 = 0x203C
-lookups_on ARMNT = 0
-lookups_on AMD64 = 0x2040
-lookups_on ARM64 = 0x2040
-
-abbrev pub hints_on : MachineType → ℕ
-hints_on I386 = 0x2064
-hints_on ARMNT = 0
-hints_on AMD64 = 0x2090
-hints_on ARM64 = 0x2090
-
-abbrev pub names_on : MachineType → ℕ
-names_on I386 = 0x2072
-names_on ARMNT = 0
-names_on AMD64 = 0x209E
-names_on ARM64 = 0x209E
 
 -- The code of the object. I386: `call [__imp__zeta]`, `mov eax, [__imp__gee]`, `call _mid`, `ret`; AMD64: the same of
 -- `__imp_zeta`, `__imp_gee`, into `rax`, and `mid`; ARM64: `adrp x8`, `ldr x8, [x8]`, `blr x8` for `__imp_zeta`,
@@ -268,12 +246,9 @@ lld_moved_memory ARMNT = []
 lld_moved_memory AMD64 = lld_memory AMD64
 lld_moved_memory ARM64 = lld_memory ARM64
 
--- The program is one of the laws, its code is linked beside its tables, and it is in memory at a base. Whatever a loader
--- writes that reads it there, it stops after two descriptors; each field against `__imp_zeta` and `__imp_gee` leads to
--- what beta.dll and alpha.dll give for them; and the call of `mid`, whose field is so far from the code's beginning,
--- leads to the thunk, by which it arrives at what beta.dll gives for its ordinal 7.
-pub record WorkedLldProgram (machine : MachineType) (image_base : ℕ) (memory : List Range) (call : ℕ)
-    (zeta gee mid : List ℕ) : Type 0 where
+-- The program is one of the laws, its code is linked beside its tables, and it is in memory at a base; it has the thunk
+-- of `mid`, and a call of it, whose field is so far from the code's beginning.
+pub record WorkedLldProgram (machine : MachineType) (image_base : ℕ) (memory : List Range) (call : ℕ) : Type 0 where
   pub program : IsLldProgram machine 0x2000 (addresses_on machine) (shorts_on machine) (lld_image_on machine)
       (lld_linked_on machine)
   pub steady : AreSteady machine (lld_linked_on machine)
@@ -281,22 +256,6 @@ pub record WorkedLldProgram (machine : MachineType) (image_base : ℕ) (memory :
       (lld_targets machine) memory
   pub thunk : IsThunk machine (code_of_thunk machine) (mid_on machine)
   pub branch : HasBranch machine (code_of_object machine) call 0 (symbol_on machine (codes "mid"))
-  pub loads : (n : ℕ) (written : List Range) →
-      ReadsAndWrites memory (thunk_width machine) (given_on machine) n 0x2000 written →
-      (n ≡ 2) × IsLldLoaded machine (addresses_on machine) (shorts_on machine) (lld_image_on machine)
-      (lld_linked_on machine) (given_on machine) written
-  pub leads_zeta : (n : ℕ) (written : List Range) →
-      ReadsAndWrites memory (thunk_width machine) (given_on machine) n 0x2000 written →
-      AllLead machine image_base (lld_linked_on machine) (lld_codes machine) (written ++ memory)
-      (imp_symbol (symbol_on machine (codes "zeta"))) zeta
-  pub leads_gee : (n : ℕ) (written : List Range) →
-      ReadsAndWrites memory (thunk_width machine) (given_on machine) n 0x2000 written →
-      AllLead machine image_base (lld_linked_on machine) (lld_codes machine) (written ++ memory)
-      (imp_symbol (symbol_on machine (codes "gee"))) gee
-  pub calls : (n : ℕ) (written : List Range) →
-      ReadsAndWrites memory (thunk_width machine) (given_on machine) n 0x2000 written →
-      BranchArrivesByThunk machine image_base (written ++ memory) (0x1000 + call) 0 mid
-  pub ends : (written : List Range) × ReadsAndWrites memory (thunk_width machine) (given_on machine) 2 0x2000 written
 
 -- what the DLLs give, in entries of 4 and 8 bytes
 abbrev pub four_bytes : ℕ → List ℕ
@@ -308,17 +267,12 @@ eight_bytes low = low ∷ 0 ∷ 0 ∷ 0x10 ∷ 0 ∷ 0 ∷ 0 ∷ 0 ∷ []
 -- The three programs, at the bases that they were linked for and at others; the fields of their code; the short imports
 -- and the tables, byte for byte.
 pub record WorkedLldPrograms : Type 0 where
-  pub i386 : WorkedLldProgram I386 0x40_0000 (lld_memory I386) 12 (four_bytes 0x40) (four_bytes 0x30) (four_bytes 0)
-  pub i386_moved : WorkedLldProgram I386 0x1000_0000 (lld_moved_memory I386) 12 (four_bytes 0x40) (four_bytes 0x30)
-      (four_bytes 0)
-  pub amd64 : WorkedLldProgram AMD64 0x1_4000_0000 (lld_memory AMD64) 14 (eight_bytes 0x40) (eight_bytes 0x30)
-      (eight_bytes 0)
-  pub amd64_moved : WorkedLldProgram AMD64 0x7FF6_1234_0000 (lld_moved_memory AMD64) 14 (eight_bytes 0x40)
-      (eight_bytes 0x30) (eight_bytes 0)
-  pub arm64 : WorkedLldProgram ARM64 0x1_4000_0000 (lld_memory ARM64) 20 (eight_bytes 0x40) (eight_bytes 0x30)
-      (eight_bytes 0)
-  pub arm64_moved : WorkedLldProgram ARM64 0x4000_0000 (lld_moved_memory ARM64) 20 (eight_bytes 0x40)
-      (eight_bytes 0x30) (eight_bytes 0)
+  pub i386 : WorkedLldProgram I386 0x40_0000 (lld_memory I386) 12
+  pub i386_moved : WorkedLldProgram I386 0x1000_0000 (lld_moved_memory I386) 12
+  pub amd64 : WorkedLldProgram AMD64 0x1_4000_0000 (lld_memory AMD64) 14
+  pub amd64_moved : WorkedLldProgram AMD64 0x7FF6_1234_0000 (lld_moved_memory AMD64) 14
+  pub arm64 : WorkedLldProgram ARM64 0x1_4000_0000 (lld_memory ARM64) 20
+  pub arm64_moved : WorkedLldProgram ARM64 0x4000_0000 (lld_moved_memory ARM64) 20
   pub i386_call : HasInstruction I386 (code_of_object I386) 0 (0xFF ∷ 0x15 ∷ []) [] (codes "__imp__zeta")
   pub i386_load : HasInstruction I386 (code_of_object I386) 6 (0xA1 ∷ []) [] (codes "__imp__gee")
   pub amd64_call : HasInstruction AMD64 (code_of_object AMD64) 0 (0xFF ∷ 0x15 ∷ []) [] (codes "__imp_zeta")
@@ -388,17 +342,8 @@ pub record RefusedThunks : Type 0 where
   pub linked : IsRelocated AMD64 0x1_4000_0000 (lld_targets AMD64 (code_of_thunk AMD64)) 0x1020 (thunk_section AMD64)
       (0xFF ∷ 0x25 ∷ 0x4A ∷ 0x10 ∷ 0 ∷ 0 ∷ []) → ⊥
 
--- AMD64's program with what a loader wrote
-abbrev pub LoadedWith : List Range → Type 0
-LoadedWith written =
-    IsLldLoaded AMD64 0x2068 (shorts_on AMD64) (lld_image_on AMD64) (lld_linked_on AMD64) (given_on AMD64) written
-
--- Nothing is written; something is written before the address tables, or after them. A thunk without its last byte; and
--- code of another section of the thunk's object.
+-- A thunk without its last byte; and code of another section of the thunk's object.
 pub record RefusedLoads : Type 0 where
-  pub nothing : LoadedWith [] → ⊥
-  pub before : LoadedWith (record { start = 0x2060; bytes = eight_bytes 0 } ∷ []) → ⊥
-  pub behind : LoadedWith (record { start = 0x2090; bytes = eight_bytes 0 } ∷ []) → ⊥
   pub whole : ThunkOfMid 0x1020 (0xFF ∷ 0x25 ∷ 0x42 ∷ 0x10 ∷ 0 ∷ []) (eight_bytes 0) → ⊥
   pub number : IsThunk AMD64 (record (code_of_thunk AMD64) { number = 2 }) (mid_on AMD64) → ⊥
 

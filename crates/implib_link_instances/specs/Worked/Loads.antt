@@ -1,6 +1,7 @@
 -- The programs by hand, loaded by hand and called: that they meet what the laws ask for, and what the laws say
 -- of them.
-use Rattle.std.specs.Prelude.{◌≡◌, ℕ, ◌-◌, List, [], ◌∷◌, ◌++◌, codes, length, map, slice_index}
+use Rattle.implib_link.specs.Tables.{AreTablesLoaded, tables_at, block_of_input}
+use Rattle.std.specs.Prelude.{◌≡◌, ℕ, ◌-◌, List, [], ◌∷◌, codes, length, map, slice_index}
 use Rattle.implib.specs.declared.machine.MachineType.{MachineType}
 use Rattle.implib.specs.declared.machine.MachineType.TheVariants.{I386, ARMNT, AMD64, ARM64}
 use Rattle.implib.specs.Import.{Ask, Name, Ordinal}
@@ -8,9 +9,9 @@ use Rattle.implib.specs.Link.Image.{Range}
 use Rattle.implib.specs.Link.Placement.{Bases}
 use Rattle.implib.specs.Members.ImportTables.{thunk_width, zeros}
 use Rattle.implib_link.specs.Directory.{WalkFinds, imported}
-use Rattle.implib_link.specs.Gnu.Loaded.{IsLoaded, Writes}
+use Rattle.implib_link.specs.Gnu.Loaded.{Writes}
 use Rattle.implib_link.specs.Gnu.Program.{LinksAmong}
-use Rattle.implib_link.specs.Stub.{CallReaches, CanJump, JumpsThrough}
+use Rattle.implib_link.specs.Stub.{CanJump, JumpsThrough}
 use Rattle.implib_link_instances.specs.Worked.Programs.{both_inputs, program_image, program_objects, program_placed, symbol_on, touching_4, touching_8}
 
 -- what DLLs give by hand: the ordinal or the name's first letter, the DLL's first letter, and zeros
@@ -51,21 +52,18 @@ pub record WorkedLoad (machine : MachineType) (bases : Bases) (written : List Ra
   pub given : (dll : List ℕ) (ask : Ask) → length (gives_by_hand machine dll ask) ≡ thunk_width machine
   pub writes : Writes (program_image machine bases) (thunk_width machine) (gives_by_hand machine)
       bases.descriptors (map (imported machine) (both_inputs machine)) written
-  pub loaded : IsLoaded machine bases (both_inputs machine) (program_objects machine) (gives_by_hand machine)
-      written
+  pub loaded : AreTablesLoaded machine
+      (tables_at machine bases (program_objects machine) (map (block_of_input machine) (both_inputs machine)))
+      (gives_by_hand machine) written
 
--- The stubs of `open` and of `queue` jump through their entries, and a call of `queue` reaches what zed.dll
--- gives.
-pub record WorkedCall (machine : MachineType) (image_base : ℕ) (bases : Bases) (written : List Range)
-    (open_entry queue_entry : ℕ) : Type 0 where
+-- The stubs of `open` and of `queue` jump through their entries.
+pub record WorkedCall (machine : MachineType) (image_base : ℕ) (bases : Bases) (open_entry queue_entry : ℕ)
+    : Type 0 where
   pub can : CanJump machine image_base bases
   pub open_jumps : JumpsThrough machine image_base (program_placed machine bases) (symbol_on machine (codes "open"))
       open_entry
   pub queue_jumps : JumpsThrough machine image_base (program_placed machine bases) (symbol_on machine (codes "queue"))
       queue_entry
-  pub reaches : CallReaches machine image_base (written ++ program_image machine bases)
-      (program_placed machine bases) (symbol_on machine (codes "queue"))
-      (0x71 ∷ 0x7A ∷ zeros (thunk_width machine - 2))
 
 -- on all machines that have such stubs; and where there are none: an image that does not end below 2^32, an
 -- image or address tables at no multiple of 8, and ARMNT
@@ -76,9 +74,9 @@ pub record WorkedLoads : Type 0 where
   pub armnt : WorkedLoad ARMNT touching_4 (written_4 ARMNT)
 
 pub record WorkedCalls : Type 0 where
-  pub amd64 : WorkedCall AMD64 0x1_4000_0000 touching_8 (written_8 AMD64) 128 160
-  pub arm64 : WorkedCall ARM64 0x1_4000_0000 touching_8 (written_8 ARM64) 128 160
-  pub i386 : WorkedCall I386 0x40_0000 touching_4 (written_4 I386) 96 112
+  pub amd64 : WorkedCall AMD64 0x1_4000_0000 touching_8 128 160
+  pub arm64 : WorkedCall ARM64 0x1_4000_0000 touching_8 128 160
+  pub i386 : WorkedCall I386 0x40_0000 touching_4 96 112
   pub i386_at_most : CanJump I386 0x8000_0000 touching_4
   pub i386_above : CanJump I386 0x8000_0001 touching_4 → ⊥
   pub arm64_image : CanJump ARM64 0x1_4000_0004 touching_8 → ⊥

@@ -12,7 +12,7 @@ use Rattle.implib.specs.Worked.Members.{of_dll}
 use Rattle.implib.specs.Worked.Statements.{plain_export}
 use Rattle.implib_link.specs.Search.Archives.{Library, archive_of}
 use Rattle.implib_link.specs.Search.Msvc.{TakesFor}
-use Rattle.implib_link.specs.Search.MsvcArchives.{IsMsvcArchive, NamesNoHeaderOf, TakesOfShorts, shorts_linked, wanted_with_weak, weak_in}
+use Rattle.implib_link.specs.Search.MsvcArchives.{IsMsvcArchive, NamesNoHeaderOf, shorts_linked, wanted_with_weak, weak_in}
 use Rattle.implib_link.specs.Search.Search.{first_listed}
 use Rattle.implib_link_instances.specs.Worked.Archives.{both_wanted}
 use Rattle.implib_link_instances.specs.Worked.Search.{aliased}
@@ -76,19 +76,9 @@ queue_taken =
     ∷ short_named (codes "zed.dll") (codes "queue")
     ∷ []
 
--- the same with zed.dll's
-abbrev pub zed_null_taken : List MemberView
-zed_null_taken =
-    thunk_named (codes "zed.dll")
-    ∷ null_named (codes "zed.dll")
-    ∷ descriptor_named (codes "zed.dll")
-    ∷ short_named (codes "zed.dll") (codes "queue")
-    ∷ []
-
 -- The two are an archive that the law speaks of; one of them twice is none, since it shares its symbols. For
 -- `bar` a linker takes the weak external, for which `baz` is wanted, whose short import brings foo.dll's
--- header; for `__imp_queue` zed.dll's members. The address of the alias finds its other weak external. For
--- `__imp_queue` alone the null descriptor is foo.dll's, and never zed.dll's.
+-- header; for `__imp_queue` zed.dll's members. The address of the alias finds its other weak external.
 pub record WorkedMsvcArchives : Type 0 where
   pub archive : IsMsvcArchive AMD64 two_msvc
   pub twice : IsMsvcArchive AMD64 (msvc_zed ∷ msvc_zed ∷ []) → ⊥
@@ -97,11 +87,8 @@ pub record WorkedMsvcArchives : Type 0 where
   pub wanted : wanted_with_weak AMD64 both_wanted shorts_of_both
       ≡ codes "bar" ∷ codes "__imp_queue" ∷ codes "printf" ∷ codes "baz" ∷ []
   pub plain : NamesNoHeaderOf two_msvc (wanted_with_weak AMD64 both_wanted shorts_of_both)
-  pub just : TakesOfShorts AMD64 two_msvc both_wanted shorts_of_both
   pub address : first_listed (archive_of two_msvc) (codes "__imp_bar")
       ≡ Some (weak_named (codes "__imp_bar") (codes "__imp_baz"))
   pub queue_takes : TakesFor AMD64 (archive_of two_msvc) queue_wanted queue_taken
-  pub queue_just : TakesOfShorts AMD64 two_msvc queue_wanted queue_taken
   pub queue_linked : map (λ m. m.name) (shorts_linked AMD64 two_msvc queue_wanted)
       ≡ codes "foo.dll" ∷ codes "zed.dll" ∷ codes "zed.dll" ∷ codes "zed.dll" ∷ []
-  pub other_null : TakesFor AMD64 (archive_of two_msvc) queue_wanted zed_null_taken → ⊥

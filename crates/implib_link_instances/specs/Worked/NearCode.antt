@@ -1,18 +1,19 @@
 -- Near misses of instructions in code and of what arrives. A record `NearX` has those of `X`, each by the name of the
 -- field that refuses it.
+use Rattle.implib_link.specs.Gnu.Fields.{placed_code}
 use Rattle.std.specs.Prelude.{ℕ, List, [], ◌∷◌, codes}
 use Rattle.implib.specs.declared.coff.object.Relocation.{Relocation}
 use Rattle.implib.specs.declared.machine.MachineType.TheVariants.{AMD64}
 use Rattle.implib.specs.Formats.Constants.{amd64_rel32, arm64_pagebase_rel21, class_external}
 use Rattle.implib.specs.Formats.Object.{ASymbol, ObjectSymbol}
 use Rattle.implib.specs.Link.Placement.{Unplaced}
-use Rattle.implib_link.specs.Gnu.Calls.{CallArrives, Defines, DirectCallArrives, HasCall, HasDirectCall, PlacedCode}
+use Rattle.implib_link.specs.Gnu.Calls.{CallArrives, Defines, DirectCallArrives, HasCall, HasDirectCall, PlacedCode, StubAt}
 use Rattle.implib_link.specs.Gnu.Pages.{HasPage}
 use Rattle.implib_link.specs.Gnu.Pointers.{HasLoad, LoadArrives}
 use Rattle.implib_link.specs.Gnu.Rebased.{StubArrives}
 use Rattle.implib_link_instances.specs.Worked.Calls.{calling, calling_code}
-use Rattle.implib_link_instances.specs.Worked.Operands.{field}
-use Rattle.implib_link_instances.specs.Worked.Programs.{symbol_of_class}
+use Rattle.implib_link_instances.specs.Worked.Operands.{field, open_on, passing_placed, stub_section, stub_of_open}
+use Rattle.implib_link_instances.specs.Worked.Programs.{symbol_of_class, touching_8, code_object}
 use Rattle.implib_link_instances.specs.Worked.RefusedFields.{open_address, two_ranges}
 
 -- code of these bytes and relocations, in an object whose symbol 1 is this one
@@ -150,3 +151,27 @@ pub record NearDirectCallArrives : Type 0 where
       (record { start = 0x1026; bytes = 0xE8 ∷ 0x15 ∷ 0 ∷ 0 ∷ 0 ∷ [] }
       ∷ two_ranges 0x1040 (0xFF ∷ 0x25 ∷ 0x3B ∷ 0xF0 ∷ 0xFF ∷ 0xFF ∷ 0x90 ∷ 0x90 ∷ []) open_address)
       0x1026 open_address → ⊥
+
+-- the stub of `open` of Worked/Operands, and the symbol at its beginning
+abbrev pub open_code : PlacedCode
+open_code = placed_code (stub_of_open AMD64 touching_8)
+
+abbrev pub open_symbol : ObjectSymbol
+open_symbol = symbol_of_class (open_on AMD64) 1 class_external
+
+abbrev pub StubOfOpen : PlacedCode → ObjectSymbol → ℕ → Type 0
+StubOfOpen d t entry = StubAt AMD64 (passing_placed AMD64 touching_8) d t entry
+
+-- a call in the place of the jump; a field that nothing relocates; a name behind the beginning; an object without
+-- symbols; and the entry of another export
+pub record NearStubAt : Type 0 where
+  pub stands : StubOfOpen open_code open_symbol 0x80
+  pub bytes : StubOfOpen
+      (record open_code { code = record (stub_section AMD64) { bytes = 0xFF ∷ 0x15 ∷ 0 ∷ 0 ∷ 0 ∷ 0 ∷ 0x90 ∷ 0x90 ∷ [] } })
+      open_symbol 0x80 → ⊥
+  pub relocations : StubOfOpen (record open_code { code = record (stub_section AMD64) { relocations = [] } }) open_symbol
+      0x80 → ⊥
+  pub begins : StubOfOpen open_code (record open_symbol { value = 8 }) 0x80 → ⊥
+  pub held : StubOfOpen (record open_code { from = record { object = code_object []; section_addresses = [] } })
+      open_symbol 0x80 → ⊥
+  pub placed : StubOfOpen open_code open_symbol 0x88 → ⊥

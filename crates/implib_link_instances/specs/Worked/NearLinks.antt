@@ -18,19 +18,14 @@ use Rattle.implib_link.specs.Gnu.Moves.{AreMoved}
 use Rattle.implib_link.specs.Gnu.Operands.{HasBranch, HasField, HasOperand, Names, HasInstruction}
 use Rattle.implib_link.specs.Search.Closed.{TakesInto}
 use Rattle.implib_link.specs.Search.Given.{AreGiven}
-use Rattle.implib_link.specs.Search.MsvcClosed.{IsClosedForMsvc, TakesIntoFor}
-use Rattle.implib_link.specs.Search.MsvcGiven.{AreGivenForMsvc}
+use Rattle.implib_link.specs.Search.MsvcClosed.{TakesIntoFor}
 use Rattle.implib_link.specs.Search.Search.{Takes}
-use Rattle.implib_link.specs.Stub.{CallReaches, JumpsThrough}
+use Rattle.implib_link.specs.Stub.{JumpsThrough}
 use Rattle.implib_link_instances.specs.Worked.Calls.{calling_at, calling_objects, calling_placed}
-use Rattle.implib_link_instances.specs.Worked.Closed.{choosing}
 use Rattle.implib_link_instances.specs.Worked.Lld.{two_dlls}
-use Rattle.implib_link_instances.specs.Worked.Loads.{written_8}
-use Rattle.implib_link_instances.specs.Worked.MsvcArchives.{shorts_of_both, two_msvc}
-use Rattle.implib_link_instances.specs.Worked.MsvcClosed.{msvc_bases, msvc_objects, msvc_zed_first}
-use Rattle.implib_link_instances.specs.Worked.NearSearches.{again, listing, zed_library, zed_short}
+use Rattle.implib_link_instances.specs.Worked.NearSearches.{again, listing, zed_library}
 use Rattle.implib_link_instances.specs.Worked.Operands.{field, imp_open, passing_at, passing_code, passing_codes, passing_image, passing_placed, passing_targets, overlapping_at, open_on}
-use Rattle.implib_link_instances.specs.Worked.Programs.{code_object, program_image, program_placed, symbol_of_class, touching_4, touching_8}
+use Rattle.implib_link_instances.specs.Worked.Programs.{code_object, program_placed, symbol_of_class, touching_4, touching_8}
 use Rattle.implib_link_instances.specs.Worked.RefusedLinks.{five_and_six, foo, ordinal_8, right_image}
 use Rattle.implib_link_instances.specs.Worked.Rules.{early_caller, late_open}
 use Rattle.implib_link_instances.specs.Worked.Walks.{without_addresses, without_name}
@@ -50,17 +45,6 @@ pub record NearTakesIntoFor : Type 0 where
 pub record NearAreGiven : Type 0 where
   pub names : AreGiven AMD64 (zed_library ∷ [])
       (code_object (symbol_of_class (codes "_head_zed_dll") 0 class_external ∷ []) ∷ []) → ⊥
-
-pub record NearAreGivenForMsvc : Type 0 where
-  pub names : AreGivenForMsvc (zed_short (codes "queue") ∷ [])
-      (code_object (symbol_of_class (codes "__NULL_IMPORT_DESCRIPTOR") 0 class_external ∷ []) ∷ []) → ⊥
-
--- the closed program of Worked/MsvcClosed with its tables 4 bytes on
-pub record NearIsClosedForMsvc : Type 0 where
-  pub lookups : IsClosedForMsvc AMD64 two_msvc (choosing ∷ []) shorts_of_both msvc_zed_first
-      (record msvc_bases { lookups = 0x2044 }) msvc_objects → ⊥
-  pub addresses : IsClosedForMsvc AMD64 two_msvc (choosing ∷ []) shorts_of_both msvc_zed_first
-      (record msvc_bases { addresses = 0x2044 }) msvc_objects → ⊥
 
 -- I386's `jmp [0x400060]`, in an object whose symbol `f` is at a value of a section
 abbrev pub jump_section : ObjectSection
@@ -100,13 +84,6 @@ pub record NearJumpsThrough : Type 0 where
   pub jumps : JumpsThrough I386 0x40_0000 (jumping 1 0 (jump_section ∷ [])) (codes "f") 0x64 → ⊥
   pub named : JumpsThrough I386 0x40_0000 (jumping_as (late_f ∷ symbol_of_class (codes "g") 1 class_external ∷ [])) (codes "f") 0x60 → ⊥
   pub shared : JumpsThrough I386 0x40_0000 (jumping_as (late_f ∷ symbol_of_class (codes "f") 1 class_static ∷ [])) (codes "f") 0x60 → ⊥
-
--- a name without an entry; and another first byte at the entry
-pub record NearCallReaches : Type 0 where
-  pub once : CallReaches AMD64 0x1_4000_0000 (program_image AMD64 touching_8) (program_placed AMD64 touching_8)
-      (codes "hello") [] → ⊥
-  pub located : CallReaches AMD64 0x1_4000_0000 (written_8 AMD64 ++ program_image AMD64 touching_8)
-      (program_placed AMD64 touching_8) (codes "queue") (0x72 ∷ 0x7A ∷ []) → ⊥
 
 -- code of an object that is not linked, and of a section that the object does not have; too high; and code over the
 -- address tables

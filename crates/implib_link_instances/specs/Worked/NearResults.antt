@@ -3,7 +3,6 @@
 use Rattle.implib_link.specs.Gnu.Packed.{packed}
 use Rattle.implib_link_instances.specs.Worked.Searched.{as_taken, searched_objects}
 use Rattle.implib_link.specs.Search.Search.{IsLinkedWith}
-use Rattle.implib_link.specs.Search.MsvcArchives.{first_null}
 use Rattle.std.specs.Prelude.{ℕ, List, [], ◌∷◌, codes}
 use Rattle.implib.specs.declared.flavor.Flavor.TheVariants.{Gnu}
 use Rattle.implib.specs.declared.machine.MachineType.TheVariants.{AMD64, ARM64, I386}
@@ -16,7 +15,7 @@ use Rattle.implib.specs.Link.LinkedMembers.{chosen_exports}
 use Rattle.implib.specs.Link.Placement.{At, Descriptors, Placed}
 use Rattle.implib.specs.Members.Gnu.{section}
 use Rattle.implib.specs.Members.ImportTables.{table_flags, zeros}
-use Rattle.implib_link.specs.Flavors.Program.{FlavorsLink, InputImports, objects_taken}
+use Rattle.implib_link.specs.Flavors.Program.{FlavorsLink, InputImports}
 use Rattle.implib_link.specs.Gnu.Choices.{DefineOnce}
 use Rattle.implib_link.specs.Gnu.Fields.{LinkedCode}
 use Rattle.implib_link.specs.Gnu.Operands.{BranchStays, HasOffsetField, HasPageField, HasPointer, InstructionArrives, PairArrives}
@@ -26,17 +25,14 @@ use Rattle.implib_link.specs.Gnu.Program.{ImportsBy, LinksAmong, null_descriptor
 use Rattle.implib_link.specs.Gnu.Writing.{FillsBy}
 use Rattle.implib_link.specs.Search.Closed.{AreLinkedFor, IsClosed, LinksClosed}
 use Rattle.implib_link.specs.Search.Exists.{AreChosenFor}
-use Rattle.implib_link.specs.Search.MsvcClosed.{AreClosedForMsvc, AreLinkedForMsvc, LinksClosedForMsvc}
 use Rattle.implib_link_instances.specs.Worked.Archives.{two_libraries}
 use Rattle.implib_link_instances.specs.Worked.Calls.{calling_at, calling_placed}
 use Rattle.implib_link_instances.specs.Worked.Closed.{closed_bases, zed_first}
 use Rattle.implib_link_instances.specs.Worked.Flavors.{both_inputs as flavor_inputs, flavor_bases_8, flavor_image, flavor_placed, foo_input as foo_flavor}
-use Rattle.implib_link_instances.specs.Worked.MsvcArchives.{two_msvc}
-use Rattle.implib_link_instances.specs.Worked.MsvcClosed.{msvc_bases, msvc_zed_first}
 use Rattle.implib_link_instances.specs.Worked.NearCode.{code_of}
 use Rattle.implib_link_instances.specs.Worked.NearLinks.{found_elsewhere, found_there, table_elsewhere}
 use Rattle.implib_link_instances.specs.Worked.NearPrograms.{run_with, table_object}
-use Rattle.implib_link_instances.specs.Worked.NearSearches.{asking, zed_library, zed_short}
+use Rattle.implib_link_instances.specs.Worked.NearSearches.{asking, zed_library}
 use Rattle.implib_link_instances.specs.Worked.Operands.{field, imp_open, passing_at, passing_code, open_on, passing_placed}
 use Rattle.implib_link_instances.specs.Worked.Programs.{both_inputs, code_object, foo_input, program_image, program_placed, symbol_of_class, touching_8}
 use Rattle.implib_link_instances.specs.Worked.RefusedFields.{linked_on_amd64, open_address, two_ranges, with_byte}
@@ -120,24 +116,12 @@ pub record NearFillsBy : Type 0 where
 pub record NearLinksClosed : Type 0 where
   pub closed : LinksClosed AMD64 two_libraries (asking ∷ []) [] zed_first closed_bases (asking ∷ []) → ⊥
 
-pub record NearLinksClosedForMsvc : Type 0 where
-  pub closed : LinksClosedForMsvc AMD64 two_msvc (asking ∷ []) [] msvc_zed_first msvc_bases (asking ∷ []) → ⊥
-
 -- an object that names a DLL's head
 abbrev pub naming_head : Object
 naming_head = code_object (symbol_of_class (codes "_head_zed_dll") 0 class_external ∷ [])
 
 pub record NearIsClosed : Type 0 where
   pub names : IsClosed AMD64 (zed_library ∷ []) (naming_head ∷ []) [] (zed_library ∷ []) closed_bases [] → ⊥
-
--- an object that names the null descriptor; and no short import
-abbrev pub naming_null : Object
-naming_null = code_object (symbol_of_class (codes "__NULL_IMPORT_DESCRIPTOR") 0 class_external ∷ [])
-
-pub record NearAreClosedForMsvc : Type 0 where
-  pub names : AreClosedForMsvc AMD64 (zed_short (codes "queue") ∷ []) (naming_null ∷ []) [] (zed_short (codes "queue") ∷ [])
-      [] → ⊥
-  pub some : AreClosedForMsvc AMD64 [] [] [] [] [] → ⊥
 
 -- in an order of no libraries; without the given object; without the null descriptor; and with it alone
 pub record NearAreLinkedFor : Type 0 where
@@ -149,13 +133,6 @@ pub record NearAreChosenFor : Type 0 where
   pub order : AreChosenFor AMD64 two_libraries [] [] [] (null_descriptor ∷ []) → ⊥
   pub others : AreChosenFor AMD64 [] (asking ∷ []) [] [] (null_descriptor ∷ []) → ⊥
   pub tables : AreChosenFor AMD64 [] [] [] [] [] → ⊥
-
-pub record NearAreLinkedForMsvc : Type 0 where
-  pub order : AreLinkedForMsvc AMD64 two_msvc [] [] [] (objects_taken AMD64 (first_null AMD64 two_msvc)) → ⊥
-  pub others : AreLinkedForMsvc AMD64 [] (asking ∷ []) [] [] [] → ⊥
-  pub tables : AreLinkedForMsvc AMD64 two_msvc [] [] two_msvc [] → ⊥
-  pub members : AreLinkedForMsvc AMD64 two_msvc (asking ∷ []) [] two_msvc
-      (asking ∷ objects_taken AMD64 (first_null AMD64 two_msvc)) → ⊥
 
 -- no null descriptor
 pub record NearIsLinkedWith : Type 0 where

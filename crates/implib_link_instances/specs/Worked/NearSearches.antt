@@ -11,18 +11,16 @@ use Rattle.implib.specs.Members.GnuMembers.{export_spec}
 use Rattle.implib.specs.Members.MemberSpec.{MemberView, member_of}
 use Rattle.implib.specs.Worked.Members.{of_dll}
 use Rattle.implib.specs.Worked.Statements.{plain_export}
-use Rattle.implib_link.specs.Flavors.Program.{FlavorInput}
 use Rattle.implib_link.specs.Search.Archives.{IsArchive, IsWeakData, Library}
 use Rattle.implib_link.specs.Search.Closed.{IsAliasTaken, IsImported, IsUsed, PullsInto, inputs_in}
 use Rattle.implib_link.specs.Search.Msvc.{PullsInFor}
 use Rattle.implib_link.specs.Search.MsvcArchives.{IsMsvcArchive, IsWeakShort}
-use Rattle.implib_link.specs.Search.MsvcClosed.{IsImportedShort, IsUsedShort, IsWeakTaken, PullsIntoFor, inputs_for}
+use Rattle.implib_link.specs.Search.MsvcClosed.{IsWeakTaken, PullsIntoFor}
 use Rattle.implib_link.specs.Search.NamedApart.{AreNamedApart}
 use Rattle.implib_link.specs.Search.Search.{NamesNoHeadOrTail, PullsIn}
 use Rattle.implib_link_instances.specs.Worked.Archives.{library_of, two_libraries}
 use Rattle.implib_link_instances.specs.Worked.Closed.{choosing, closed_bases, closed_objects, closed_taken, foo_alias, zed_first}
 use Rattle.implib_link_instances.specs.Worked.MsvcArchives.{msvc_library, null_named, short_named, shorts_of_both, two_msvc, weak_named}
-use Rattle.implib_link_instances.specs.Worked.MsvcClosed.{msvc_bases, msvc_objects, msvc_zed_first}
 use Rattle.implib_link_instances.specs.Worked.Programs.{code_object, symbol_of_class}
 
 -- a member without an object, that is listed for `queue`, and another one
@@ -88,10 +86,6 @@ pub record NearIsUsed : Type 0 where
   pub wanted : IsUsed (codes "bar" ∷ codes "printf" ∷ []) (plain_export (codes "queue")) → ⊥
   pub among : IsUsed (codes "qux" ∷ []) (record empty_export { name = codes "qux"; is_data = true }) → ⊥
 
-pub record NearIsUsedShort : Type 0 where
-  pub wanted : IsUsedShort (codes "bar" ∷ codes "printf" ∷ []) (plain_export (codes "queue")) → ⊥
-  pub among : IsUsedShort (codes "qux" ∷ []) (record empty_export { name = codes "qux"; is_data = true }) → ⊥
-
 -- the name of a tail that is taken and is no weak external, and of a weak external that is not taken
 pub record NearIsAliasTaken : Type 0 where
   pub weak : IsAliasTaken closed_taken (codes "zed_dll_iname") → ⊥
@@ -116,13 +110,6 @@ closed_inputs = inputs_in zed_first (choosing ∷ []) closed_taken
 pub record NearIsImported : Type 0 where
   pub by : IsImported AMD64 (again ∷ placed_from closed_bases closed_objects) closed_bases closed_inputs (codes "queue") → ⊥
   pub input_is_and_export_is : IsImported AMD64 (again ∷ []) closed_bases closed_inputs (codes "printf") → ⊥
-
-abbrev pub msvc_inputs : List FlavorInput
-msvc_inputs = inputs_for AMD64 msvc_zed_first (choosing ∷ []) shorts_of_both
-
-pub record NearIsImportedShort : Type 0 where
-  pub by : IsImportedShort AMD64 (again ∷ placed_from msvc_bases msvc_objects) msvc_bases msvc_inputs (codes "queue") → ⊥
-  pub input_is_and_export_is : IsImportedShort AMD64 (again ∷ []) msvc_bases msvc_inputs (codes "printf") → ⊥
 
 -- zed.dll twice, and without its members
 abbrev pub zed_library : Library

@@ -16,11 +16,9 @@ use Rattle.implib_link.specs.Gnu.Bounds.{AreBounded}
 use Rattle.implib_link.specs.Gnu.OtherLibraries.{Run, RunLinks}
 use Rattle.implib_link.specs.Gnu.Packed.{packed}
 use Rattle.implib_link.specs.Search.Archives.{TakesOfLibraries}
-use Rattle.implib_link.specs.Search.MsvcArchives.{TakesOfShorts}
 use Rattle.implib_link.specs.Search.Search.{ImportsWanted, IsArranged, IsLinkedOfWanted}
 use Rattle.implib_link_instances.specs.Worked.Archives.{both_wanted, two_libraries}
 use Rattle.implib_link_instances.specs.Worked.Flavors.{foo_input as foo_flavor}
-use Rattle.implib_link_instances.specs.Worked.MsvcArchives.{two_msvc}
 use Rattle.implib_link_instances.specs.Worked.NearPrograms.{lld_defines, lld_range, mid_alone, short_of, table_object}
 use Rattle.implib_link_instances.specs.Worked.Programs.{foo_input, program_image, touching_8, zed_input}
 use Rattle.implib_link_instances.specs.Worked.Search.{members_of, three, wanted}
@@ -41,9 +39,6 @@ pub record NearImportsWanted : Type 0 where
 -- nothing is taken
 pub record NearTakesOfLibraries : Type 0 where
   pub inputs : TakesOfLibraries AMD64 two_libraries both_wanted [] → ⊥
-
-pub record NearTakesOfShorts : Type 0 where
-  pub inputs : TakesOfShorts AMD64 two_msvc both_wanted [] → ⊥
 
 -- an input for Microsoft's linker with other members
 abbrev pub foo_with : List MemberView → FlavorInput

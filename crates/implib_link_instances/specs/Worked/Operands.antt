@@ -11,17 +11,15 @@ use Rattle.implib.specs.Link.Image.{Range, image_of}
 use Rattle.implib.specs.Link.Placement.{Bases, Placed, SectionAddress, Unplaced, placed_from}
 use Rattle.implib.specs.Link.Resolution.{target_address}
 use Rattle.implib.specs.Members.Gnu.{section, stub_bytes, stub_relocations, text_name}
-use Rattle.implib.specs.Members.ImportTables.{thunk_width}
 use Rattle.implib_link.specs.Flavors.Program.{IsFlavorProgram}
-use Rattle.implib_link.specs.Gnu.Calls.{HasCall, HasDirectCall, IsAside, amd64_addr64, arm64_addr64, arm64_branch26, i386_rel32}
-use Rattle.implib_link.specs.Gnu.Fields.{LinkedCode, field_at, placed_code, ranges_of_codes}
+use Rattle.implib_link.specs.Gnu.Calls.{HasCall, HasDirectCall, IsAside, amd64_addr64, arm64_addr64, arm64_branch26, i386_rel32, StubAt}
+use Rattle.implib_link.specs.Gnu.Fields.{LinkedCode, placed_code, ranges_of_codes}
 use Rattle.implib_link.specs.Gnu.Moves.{AreInMemory, CanBeMoved}
-use Rattle.implib_link.specs.Gnu.Operands.{AllLead, AreKept, BranchArrives, BranchStays, HasBranch, HasInstruction, HasOffsetField, HasOperand, HasPageField, HasPointer, InstructionArrives, IsOperand, branch_leads, operand_leads}
+use Rattle.implib_link.specs.Gnu.Operands.{HasBranch, HasInstruction, HasOffsetField, HasOperand, HasPageField, HasPointer, IsOperand, branch_leads, operand_leads}
 use Rattle.implib_link.specs.Gnu.Pages.{HasPage, HasPageOffset}
 use Rattle.implib_link.specs.Gnu.Program.{IsProgram, null_descriptor}
-use Rattle.implib_link.specs.Gnu.Reading.{ReadsAndWrites}
-use Rattle.implib_link.specs.Gnu.Rebased.{Place, StubArrives}
-use Rattle.implib_link_instances.specs.Worked.Calls.{calling, calling_code, calling_flavors, first_bytes, flavors_placed, given_on, last_bytes}
+use Rattle.implib_link.specs.Gnu.Rebased.{Place}
+use Rattle.implib_link_instances.specs.Worked.Calls.{calling, calling_code, calling_flavors, first_bytes, flavors_placed, last_bytes}
 use Rattle.implib_link_instances.specs.Worked.Flavors.{both_inputs as flavor_inputs, flavor_bases_8}
 use Rattle.implib_link_instances.specs.Worked.Programs.{another, both_inputs, foo_input, input_objects, symbol_of_class, symbol_on, touching_4, touching_8, zed_input}
 
@@ -165,12 +163,15 @@ abbrev pub placed_or_passing : MachineType → Option Placed → Placed
 placed_or_passing machine None = record { object = passing machine; section_addresses = [] }
 placed_or_passing machine (Some p) = p
 
+abbrev pub stub_section : MachineType → ObjectSection
+stub_section machine = section text_name (cnt_code + align_4bytes + mem_execute_read) (stub_bytes machine)
+    (stub_relocations machine 2)
+
 abbrev pub stub_of_open : MachineType → Bases → LinkedCode
 stub_of_open machine bases = record {
   from = placed_or_passing machine (slice_get (passing_placed machine bases) 3);
   number = 1;
-  code = section text_name (cnt_code + align_4bytes + mem_execute_read) (stub_bytes machine)
-      (stub_relocations machine 2);
+  code = stub_section machine;
   position = 0x1040;
   bytes = stub_linked machine;
 }
@@ -276,46 +277,23 @@ pub record AdjacentCalls : Type 0 where
   -- 8 bytes of an address before them would be changed
   pub addr64 : IsAside AMD64 11 6 (field 7 2 amd64_addr64) → ⊥
 
--- The program is in memory at a base, by these numbers of relocated fields, and whatever a loader writes that reads it
--- there, every field against `__imp_open` leads to what foo.dll gives for it, and the call of `open` to its stub, which
--- arrives there, too.
-pub record WorkedFields (machine : MachineType) (image_base : ℕ) (bases : Bases) (memory : List Range) (call : ℕ)
-    (address : List ℕ) : Type 0 where
+-- The program is in memory at a base, by these numbers of relocated fields; its second code is the stub of this entry.
+pub record WorkedFields (machine : MachineType) (image_base : ℕ) (bases : Bases) (memory : List Range) (entry : ℕ)
+    : Type 0 where
   pub program : IsProgram machine bases (both_inputs machine) (passing_objects machine)
   pub at : AreInMemory machine image_base (passing_image machine bases) (passing_placed machine bases)
       (passing_codes machine bases) (passing_targets machine bases) memory
-  pub leads : (n : ℕ) (written : List Range) →
-      ReadsAndWrites memory (thunk_width machine) (given_on machine) n bases.descriptors written →
-      AllLead machine image_base (passing_placed machine bases) (passing_codes machine bases) (written ++ memory)
-      (imp_open machine) address
-  pub branches : (n : ℕ) (written : List Range) →
-      ReadsAndWrites memory (thunk_width machine) (given_on machine) n bases.descriptors written →
-      BranchArrives machine image_base (written ++ memory) (0x1000 + call) 0 0x1040
-  pub stays : (n : ℕ) (written : List Range) →
-      ReadsAndWrites memory (thunk_width machine) (given_on machine) n bases.descriptors written →
-      BranchStays machine (written ++ memory) (0x1000 + call) (field_at (passing_bytes machine) call 4)
-  pub stub : (n : ℕ) (written : List Range) →
-      ReadsAndWrites memory (thunk_width machine) (given_on machine) n bases.descriptors written →
-      StubArrives machine image_base (written ++ memory) 0x1040 address
-  pub kept : (n : ℕ) (written : List Range) →
-      ReadsAndWrites memory (thunk_width machine) (given_on machine) n bases.descriptors written →
-      AreKept machine (passing_codes machine bases) (written ++ memory)
-  pub ends : (written : List Range)
-      × ReadsAndWrites memory (thunk_width machine) (given_on machine) 2 bases.descriptors written
+  pub stub : StubAt machine (passing_placed machine bases) (placed_code (stub_of_open machine bases))
+      (symbol_of_class (open_on machine) 1 class_external) entry
 
 -- the three programs, as they were linked and moved
 pub record WorkedOperands : Type 0 where
-  pub amd64 : WorkedFields AMD64 0x1_4000_0000 touching_8 (passing_memory AMD64 touching_8) 39
-      (0x40 ∷ 0 ∷ 0 ∷ 0x10 ∷ 0 ∷ 0 ∷ 0 ∷ 0 ∷ [])
-  pub amd64_moved : WorkedFields AMD64 0x7FF6_1234_0000 touching_8 (moved_memory AMD64 touching_8) 39
-      (0x40 ∷ 0 ∷ 0 ∷ 0x10 ∷ 0 ∷ 0 ∷ 0 ∷ 0 ∷ [])
-  pub i386 : WorkedFields I386 0x40_0000 touching_4 (passing_memory I386 touching_4) 37 (0x40 ∷ 0 ∷ 0 ∷ 0x10 ∷ [])
-  pub i386_moved : WorkedFields I386 0x1000_0000 touching_4 (moved_memory I386 touching_4) 37
-      (0x40 ∷ 0 ∷ 0 ∷ 0x10 ∷ [])
-  pub arm64 : WorkedFields ARM64 0x1_4000_0000 touching_8 (passing_memory ARM64 touching_8) 28
-      (0x40 ∷ 0 ∷ 0 ∷ 0x10 ∷ 0 ∷ 0 ∷ 0 ∷ 0 ∷ [])
-  pub arm64_moved : WorkedFields ARM64 0x4000_0000 touching_8 (moved_memory ARM64 touching_8) 28
-      (0x40 ∷ 0 ∷ 0 ∷ 0x10 ∷ 0 ∷ 0 ∷ 0 ∷ 0 ∷ [])
+  pub amd64 : WorkedFields AMD64 0x1_4000_0000 touching_8 (passing_memory AMD64 touching_8) 0x80
+  pub amd64_moved : WorkedFields AMD64 0x7FF6_1234_0000 touching_8 (moved_memory AMD64 touching_8) 0x80
+  pub i386 : WorkedFields I386 0x40_0000 touching_4 (passing_memory I386 touching_4) 0x60
+  pub i386_moved : WorkedFields I386 0x1000_0000 touching_4 (moved_memory I386 touching_4) 0x60
+  pub arm64 : WorkedFields ARM64 0x1_4000_0000 touching_8 (passing_memory ARM64 touching_8) 0x80
+  pub arm64_moved : WorkedFields ARM64 0x4000_0000 touching_8 (moved_memory ARM64 touching_8) 0x80
   -- where the linked numbers lead: the call, the comparisons and the move, of AMD64 and of I386
   pub amd64_call : operand_leads AMD64 0x1_4000_100D 0 0xFFFF_F06F ≡ Some 0x1_4000_0080
   pub amd64_compare : operand_leads AMD64 0x1_4000_1013 1 0xFFFF_F068 ≡ Some 0x1_4000_0080
@@ -361,8 +339,7 @@ linked_targets c index =
 abbrev pub flavors_linked : List Range
 flavors_linked = image_of AMD64 flavor_bases_8 flavors_placed ++ ranges_of_codes (calling_linked ∷ [])
 
--- It is in memory as it was linked for 0x140000000, and at 0x200000000, where nothing changes; at both the call arrives
--- at what foo.dll gives for `open`.
+-- It is in memory as it was linked for 0x140000000, and at 0x200000000, where nothing changes.
 pub record WorkedFlavorFields : Type 0 where
   pub program : IsFlavorProgram AMD64 flavor_bases_8 (flavor_inputs AMD64) calling_flavors
   pub linked : AreInMemory AMD64 0x1_4000_0000 (image_of AMD64 flavor_bases_8 flavors_placed) flavors_placed
@@ -370,11 +347,3 @@ pub record WorkedFlavorFields : Type 0 where
   pub moved : AreInMemory AMD64 0x2_0000_0000 (image_of AMD64 flavor_bases_8 flavors_placed) flavors_placed
       (calling_linked ∷ []) linked_targets flavors_linked
   pub call : HasInstruction AMD64 calling_linked 4 (0xFF ∷ 0x15 ∷ []) [] (imp_open AMD64)
-  pub arrives : (n : ℕ) (written : List Range) →
-      ReadsAndWrites flavors_linked 8 (given_on AMD64) n 8 written →
-      InstructionArrives AMD64 0x1_4000_0000 flavors_placed (written ++ flavors_linked) 0x1004 (0xFF ∷ 0x15 ∷ []) []
-      (imp_open AMD64) (0x40 ∷ 0 ∷ 0 ∷ 0x10 ∷ 0 ∷ 0 ∷ 0 ∷ 0 ∷ [])
-  pub arrives_moved : (n : ℕ) (written : List Range) →
-      ReadsAndWrites flavors_linked 8 (given_on AMD64) n 8 written →
-      InstructionArrives AMD64 0x2_0000_0000 flavors_placed (written ++ flavors_linked) 0x1004 (0xFF ∷ 0x15 ∷ []) []
-      (imp_open AMD64) (0x40 ∷ 0 ∷ 0 ∷ 0x10 ∷ 0 ∷ 0 ∷ 0 ∷ 0 ∷ [])

@@ -6,21 +6,15 @@ use Rattle.implib.specs.declared.machine.MachineType.TheVariants.{I386, AMD64, A
 use Rattle.implib.specs.Formats.Constants.{align_16bytes, class_external, cnt_code, mem_execute_read}
 use Rattle.implib.specs.Formats.Object.{ASymbol, Object, ObjectSection}
 use Rattle.implib.specs.Import.{imp_symbol}
-use Rattle.implib.specs.Link.Image.{Range, image_of}
 use Rattle.implib.specs.Link.Placement.{Bases, Placed, Unplaced, placed_from}
 use Rattle.implib.specs.Link.Resolution.{target_address}
 use Rattle.implib.specs.Members.Gnu.{section, text_name}
-use Rattle.implib.specs.Members.ImportTables.{thunk_width}
-use Rattle.implib_link.specs.Directory.{imported}
-use Rattle.implib_link.specs.Flavors.Program.{IsFlavorProgram, imported_in, objects_taken}
 use Rattle.implib_link.specs.Gnu.Calls.{PlacedCode, moved_by}
-use Rattle.implib_link.specs.Gnu.Loaded.{Writes}
-use Rattle.implib_link.specs.Gnu.Pointers.{HasLoad, LoadArrives, load_bytes, load_reads, load_relocations}
-use Rattle.implib_link.specs.Gnu.Program.{IsProgram, null_descriptor}
-use Rattle.implib_link_instances.specs.Worked.Calls.{calling, first_bytes, given_on, last_bytes}
-use Rattle.implib_link_instances.specs.Worked.Flavors.{both_inputs as flavor_inputs, flavor_bases_8, members_with_null}
-use Rattle.implib_link_instances.specs.Worked.Programs.{another, both_inputs, foo_input, input_objects, symbol_of_class, symbol_on, touching_4, touching_8, zed_input}
-use Rattle.implib_link_instances.specs.Worked.Relocated.{CodesBeside, code_range, code_ranges}
+use Rattle.implib_link.specs.Gnu.Pointers.{HasLoad, load_bytes, load_reads, load_relocations}
+use Rattle.implib_link.specs.Gnu.Program.{null_descriptor}
+use Rattle.implib_link_instances.specs.Worked.Calls.{calling, first_bytes, last_bytes}
+use Rattle.implib_link_instances.specs.Worked.Programs.{foo_input, input_objects, symbol_of_class, symbol_on, touching_4, touching_8, zed_input}
+use Rattle.implib_link_instances.specs.Worked.Relocated.{code_range}
 
 -- code that reads a pointer under the symbol of index 1, at offset 4
 abbrev pub loading_code : MachineType → ObjectSection
@@ -59,51 +53,20 @@ loading_at machine = record {
 abbrev pub tables_of : List Placed → PlacedCode → ℕ → ℕ
 tables_of linked c index = target_address linked c.from index
 
--- The program meets all that the law of pointers asks for; the instructions are relocated to these bytes, which read
--- this entry; and whatever a loader writes, they read what foo.dll gives for `stat`.
+-- The code reads a pointer as the law of instructions asks; it is relocated to these bytes, which read this entry.
 pub record WorkedPointer (machine : MachineType) (image_base : ℕ) (bases : Bases) (relocated : List ℕ) (entry : ℕ)
-    (address : List ℕ) : Type 0 where
-  pub program : IsProgram machine bases (both_inputs machine) (loading_objects machine)
-  pub beside : CodesBeside machine image_base bases (loading_objects machine) (loading_at machine ∷ [])
-      (tables_of (loading_placed machine bases))
+    : Type 0 where
   pub loads : HasLoad machine (loading_at machine) 4 (imp_symbol (symbol_on machine (codes "stat")))
   pub bytes : (code_range machine image_base (tables_of (loading_placed machine bases)) (loading_at machine)).bytes
       ≡ first_bytes machine ++ (relocated ++ last_bytes machine)
   pub reads : load_reads machine (image_base + 0x1004) relocated ≡ Some (image_base + entry)
-  pub arrives : (written : List Range) →
-      Writes (image_of machine bases (loading_placed machine bases)) (thunk_width machine) (given_on machine)
-      bases.descriptors (map (imported machine) (both_inputs machine)) written →
-      LoadArrives machine image_base (written ++ (image_of machine bases (loading_placed machine bases)
-      ++ code_ranges machine image_base (tables_of (loading_placed machine bases)) (loading_at machine ∷ []))) 0x1004
-      address
 
--- what is linked of both flavours: the reading object of AMD64, and what the members are taken for
-abbrev pub loading_flavors : List Object
-loading_flavors = loading AMD64 ∷ (objects_taken AMD64 (members_with_null AMD64 0) ++ another AMD64 ∷ [])
-
-abbrev pub loading_flavors_placed : List Placed
-loading_flavors_placed = placed_from flavor_bases_8 loading_flavors
-
--- the entry of `stat` is at 0x88 or 0x64, and in the program of both flavours at 0x90
+-- the entry of `stat` is at 0x88 or 0x64
 pub record WorkedPointers : Type 0 where
   -- mov rax, [rip - 0xF83]
   pub amd64 : WorkedPointer AMD64 0x1_4000_0000 touching_8 (0x48 ∷ 0x8B ∷ 5 ∷ 0x7D ∷ 0xF0 ∷ 0xFF ∷ 0xFF ∷ []) 0x88
-      (0x40 ∷ 0 ∷ 0 ∷ 0x10 ∷ 0 ∷ 0 ∷ 0 ∷ 0 ∷ [])
   -- mov eax, [0x400064]
   pub i386 : WorkedPointer I386 0x40_0000 touching_4 (0xA1 ∷ 0x64 ∷ 0 ∷ 0x40 ∷ 0 ∷ []) 0x64
-      (0x40 ∷ 0 ∷ 0 ∷ 0x10 ∷ [])
   -- adrp x8, -0x1000; ldr x8, [x8, 0x88]
   pub arm64 : WorkedPointer ARM64 0x1_4000_0000 touching_8
-      (0xE8 ∷ 0xFF ∷ 0xFF ∷ 0xF0 ∷ 8 ∷ 0x45 ∷ 0x40 ∷ 0xF9 ∷ []) 0x88 (0x40 ∷ 0 ∷ 0 ∷ 0x10 ∷ 0 ∷ 0 ∷ 0 ∷ 0 ∷ [])
-  pub flavors : IsFlavorProgram AMD64 flavor_bases_8 (flavor_inputs AMD64) loading_flavors
-  pub flavors_beside : CodesBeside AMD64 0x1_4000_0000 flavor_bases_8 loading_flavors (loading_at AMD64 ∷ [])
-      (tables_of loading_flavors_placed)
-  -- mov rax, [rip - 0xF7B]
-  pub flavors_bytes : (code_range AMD64 0x1_4000_0000 (tables_of loading_flavors_placed) (loading_at AMD64)).bytes
-      ≡ first_bytes AMD64 ++ (0x48 ∷ 0x8B ∷ 5 ∷ 0x85 ∷ 0xF0 ∷ 0xFF ∷ 0xFF ∷ last_bytes AMD64)
-  pub flavors_arrive : (written : List Range) →
-      Writes (image_of AMD64 flavor_bases_8 loading_flavors_placed) 8 (given_on AMD64) 8
-      (map (imported_in AMD64) (flavor_inputs AMD64)) written →
-      LoadArrives AMD64 0x1_4000_0000 (written ++ (image_of AMD64 flavor_bases_8 loading_flavors_placed
-      ++ code_ranges AMD64 0x1_4000_0000 (tables_of loading_flavors_placed) (loading_at AMD64 ∷ []))) 0x1004
-      (0x40 ∷ 0 ∷ 0 ∷ 0x10 ∷ 0 ∷ 0 ∷ 0 ∷ 0 ∷ [])
+      (0xE8 ∷ 0xFF ∷ 0xFF ∷ 0xF0 ∷ 8 ∷ 0x45 ∷ 0x40 ∷ 0xF9 ∷ []) 0x88

@@ -1,17 +1,14 @@
 -- Linked bytes of worked code, computed by what a linker makes of the fields that calls, loads and stubs have: I386's
 -- DIR32 and REL32, AMD64's REL32, and ARM64's BRANCH26, PAGEBASE_REL21 and PAGEOFFSET_12L.
-use Rattle.std.specs.Prelude.{ℕ, ◌+◌, ◌-◌, ◌/◌, ◌%◌, ◌^◌, ◌==◌, List, [], ◌∷◌, ◌++◌, map, if◌then◌else◌}
-use Rattle.std.specs.List.{flat_map}
+use Rattle.std.specs.Prelude.{ℕ, ◌+◌, ◌-◌, ◌/◌, ◌%◌, ◌^◌, ◌==◌, List, [], ◌∷◌, map, if◌then◌else◌}
 use Rattle.implib.specs.declared.coff.object.Relocation.{Relocation}
 use Rattle.implib.specs.declared.machine.MachineType.{MachineType}
 use Rattle.implib.specs.declared.machine.MachineType.TheVariants.{I386, ARMNT, AMD64, ARM64}
 use Rattle.implib.specs.Formats.Object.{Object}
 use Rattle.implib.specs.Link.Image.{Range}
-use Rattle.implib.specs.Link.Placement.{Bases, Placed}
+use Rattle.implib.specs.Link.Placement.{Bases}
 use Rattle.implib_link.specs.Gnu.Calls.{PlacedCode, arm64_branch26, i386_rel32}
 use Rattle.implib_link.specs.Gnu.Fields.{AreBeside, LinkedCode, placed_code}
-use Rattle.implib_link.specs.Gnu.Moves.{IsAtBase}
-use Rattle.implib_link.specs.Gnu.Rebased.{Place, places_at, table_places}
 use Rattle.implib_link.specs.Stub.{bits_of, code_word, with_bits, with_word, word_at}
 
 -- a word that a relocation changes in code: as in a stub's, on I386 relative to the byte after the field too, and
@@ -70,18 +67,3 @@ as_placed targets c index = targets (placed_code c) index
 abbrev pub CodesBeside : MachineType → ℕ → Bases → List Object → List PlacedCode → (PlacedCode → ℕ → ℕ) → Type 0
 CodesBeside machine image_base bases objects codes targets =
     AreBeside machine image_base bases objects (linked_codes machine image_base targets codes) (as_placed targets)
-
--- and is in memory at another base
-abbrev pub CodesAtBase : MachineType → ℕ → ℕ → Bases → List Object → List PlacedCode → (PlacedCode → ℕ → ℕ) →
-    List Range → Type 0
-CodesAtBase machine from to bases objects codes targets memory =
-    IsAtBase machine from to bases objects (linked_codes machine from targets codes) (as_placed targets) memory
-
--- those of placed code
-abbrev pub code_places : MachineType → PlacedCode → List Place
-code_places machine c = places_at machine c.position c.code.relocations
-
--- The base relocations that a program needs: where relocations of its sections store addresses whole, in the import
--- tables and in the code beside them.
-abbrev pub base_relocations : MachineType → List Placed → List PlacedCode → List Place
-base_relocations machine linked codes = table_places machine linked ++ flat_map (code_places machine) codes

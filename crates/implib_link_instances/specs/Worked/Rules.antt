@@ -17,12 +17,12 @@ use Rattle.implib_link.specs.Gnu.Calls.{CallArrives, DirectCallArrives, PlacedCo
 use Rattle.implib_link.specs.Gnu.Fields.{LinkedCode, TakesSymbols, meets, placed_code}
 use Rattle.implib_link.specs.Gnu.Pages.{PageArrives}
 use Rattle.implib_link.specs.Gnu.Pointers.{LoadArrives}
-use Rattle.implib_link.specs.Gnu.Rebased.{CanMove, StubArrives, places_at, table_places_in}
+use Rattle.implib_link.specs.Gnu.Rebased.{StubArrives, places_at, table_places_in}
 use Rattle.implib_link.specs.Stub.{plus_signed}
 use Rattle.implib_link.specs.Tables.{CanReadFrom}
 use Rattle.implib_link_instances.specs.Worked.Lld.{two_dlls, zeta_bytes}
 use Rattle.implib_link_instances.specs.Worked.Operands.{field, passing, passing_code, x86_secrel}
-use Rattle.implib_link_instances.specs.Worked.Programs.{symbol_of_class, touching_8}
+use Rattle.implib_link_instances.specs.Worked.Programs.{symbol_of_class}
 use Rattle.implib_link_instances.specs.Worked.RefusedFields.{open_address, two_ranges}
 
 -- lld: names of DLLs are alike whatever the case of their letters, and of those alone; a prefix comes first; lookup
@@ -52,8 +52,6 @@ pub record MovingRules : Type 0 where
   pub tables : table_places_in AMD64 (Unplaced ∷ At Addresses 0x2000 ∷ [])
       (section (codes ".text") 0 [] [] ∷ section (codes ".idata$5") 0 (zeros 8) (field 0 1 amd64_addr64 ∷ []) ∷ [])
       ≡ record { address = 0x2000; width = 8 } ∷ []
-  pub amd64_down : CanMove AMD64 0x7FF6_1234_0000 0x1_4000_0000 touching_8
-  pub arm64_down : CanMove ARM64 0x1_4000_1000 0x1_4000_0000 touching_8
 
 -- The least and the greatest number of 32 bits that are negative, from an address on; a field meets its last byte, and not
 -- the one behind it; a symbol of class section stands for the section of its name where it is undefined, and not where it

@@ -4,20 +4,18 @@ use Rattle.std.specs.Prelude.{◌≡◌, ℕ, List, [], ◌∷◌, ◌++◌, map
 use Rattle.implib.specs.declared.machine.MachineType.{MachineType}
 use Rattle.implib.specs.declared.machine.MachineType.TheVariants.{I386, ARMNT, AMD64, ARM64}
 use Rattle.implib.specs.Import.{Ask, Ordinal}
-use Rattle.implib.specs.Link.Image.{Range, image_of}
-use Rattle.implib.specs.Link.Load.{BytesAt}
+use Rattle.implib.specs.Link.Image.{Range}
 use Rattle.implib.specs.Link.Placement.{Bases}
 use Rattle.implib.specs.Members.ImportTables.{thunk_width, zeros}
 use Rattle.implib_link.specs.Directory.{Imported, imported}
 use Rattle.implib_link.specs.Flavors.Program.{imported_in}
-use Rattle.implib_link.specs.Gnu.Calls.{CallArrives}
 use Rattle.implib_link.specs.Gnu.Reading.{ReadsAndWrites}
 use Rattle.implib_link.specs.Gnu.Writing.{AreAlike, WritesAsItGoes}
-use Rattle.implib_link_instances.specs.Worked.Calls.{flavors_placed, given_on}
-use Rattle.implib_link_instances.specs.Worked.Flavors.{both_inputs as flavor_inputs, flavor_bases_8, foo_input as msvc_input}
+use Rattle.implib_link_instances.specs.Worked.Operands.{flavors_linked, moved_memory}
+use Rattle.implib_link_instances.specs.Worked.Calls.{given_on}
+use Rattle.implib_link_instances.specs.Worked.Flavors.{both_inputs as flavor_inputs}
 use Rattle.implib_link_instances.specs.Worked.Loads.{entry_of, gives_by_hand}
 use Rattle.implib_link_instances.specs.Worked.Programs.{both_inputs, program_image, touching_4, touching_8}
-use Rattle.implib_link_instances.specs.Worked.Rebased.{i386_memory, moving_memory}
 use Rattle.implib_link_instances.specs.Worked.RefusedLinks.{descriptor_bytes, five_and_six, foo, image_by_hand, ordinal_8, table_8}
 
 -- what is left in front of the image, the last entry first: `queue` of zed.dll, and `move`, `stat`, `open`
@@ -76,10 +74,6 @@ pub record WorkedWritings : Type 0 where
   pub arm64 : WorkedWriting ARM64 touching_8 (left_8 ARM64)
   pub i386 : WorkedWriting I386 touching_4 (left_4 I386)
   pub armnt : WorkedWriting ARMNT touching_4 (left_4 ARMNT)
-  -- of AMD64's program it leaves byte for byte what one that reads first leaves
-  pub alike : (written : List Range)
-      × (ReadsAndWrites (program_image AMD64 touching_8) 8 (gives_by_hand AMD64) 2 4 written
-      × AreAlike (left_8 AMD64 ++ program_image AMD64 touching_8) (written ++ program_image AMD64 touching_8))
   -- of the tables one on another, a loader that reads first asks for both ordinals
   pub reads_both : ReadsAndWrites overlapping 8 gives_zeros 1 0x1000
       (record { start = 0x1030; bytes = zeros 8 } ∷ record { start = 0x1038; bytes = zeros 8 } ∷ [])
@@ -96,33 +90,18 @@ pub record WorkedWritings : Type 0 where
   -- without the null descriptor no loader stops after the DLL
   pub never_stops : (after : List Range) →
       WritesAsItGoes 8 gives_zeros 0x1000 without_null (record { dll = foo; asks = five_and_six } ∷ []) after → ⊥
-  -- I386's program of Worked/Rebased, linked for 0x400000 and in memory at 0x10000000: at 0x60 is what
-  -- foo.dll gives for `open`, and the call at 0x1004 arrives there
+  -- I386's program of Worked/Operands at another base, and that of both flavours there: it leaves what one that reads
+  -- first leaves
   pub moved : (found : List Imported) (after : List Range) →
-      WritesAsItGoes 4 (given_on I386) touching_4.descriptors (i386_memory (0x60 ∷ 0 ∷ 0 ∷ 0x10 ∷ [])) found after →
-      (found ≡ map (imported I386) (both_inputs I386)) × (BytesAt after 0x60 (0x40 ∷ 0 ∷ 0 ∷ 0x10 ∷ [])
-      × CallArrives I386 0x1000_0000 after 0x1004 (0x40 ∷ 0 ∷ 0 ∷ 0x10 ∷ []))
+      WritesAsItGoes 4 (given_on I386) touching_4.descriptors (moved_memory I386 touching_4) found after →
+      (found ≡ map (imported I386) (both_inputs I386)) × ((written : List Range)
+      × (ReadsAndWrites (moved_memory I386 touching_4) 4 (given_on I386) 2 touching_4.descriptors written
+      × AreAlike after (written ++ moved_memory I386 touching_4)))
   pub moved_end : (after : List Range)
-      × WritesAsItGoes 4 (given_on I386) touching_4.descriptors (i386_memory (0x60 ∷ 0 ∷ 0 ∷ 0x10 ∷ []))
+      × WritesAsItGoes 4 (given_on I386) touching_4.descriptors (moved_memory I386 touching_4)
       (map (imported I386) (both_inputs I386)) after
-  -- the program of both flavours: of both DLLs exactly the imports
   pub flavors : (found : List Imported) (after : List Range) →
-      WritesAsItGoes 8 (given_on AMD64) 8 (image_of AMD64 flavor_bases_8 flavors_placed) found after →
+      WritesAsItGoes 8 (given_on AMD64) 8 flavors_linked found after →
       found ≡ map (imported_in AMD64) (flavor_inputs AMD64)
   pub flavors_end : (after : List Range)
-      × WritesAsItGoes 8 (given_on AMD64) 8 (image_of AMD64 flavor_bases_8 flavors_placed)
-      (map (imported_in AMD64) (flavor_inputs AMD64)) after
-  -- I386's program of both flavours of Worked/Rebased, linked for 0x400000 and in memory at 0x10000000: at 0x64 is
-  -- what foo.dll gives for `open`, and there the call at 0x1004 arrives
-  pub flavors_moved : (found : List Imported) (after : List Range) →
-      WritesAsItGoes 4 (given_on I386) 8 (moving_memory (0x64 ∷ 0 ∷ 0 ∷ 0x10 ∷ [])) found after →
-      (found ≡ map (imported_in I386) (flavor_inputs I386))
-      × (BytesAt after 0x64 (0x40 ∷ 0 ∷ 0 ∷ 0x10 ∷ [])
-      × CallArrives I386 0x1000_0000 after 0x1004 (0x40 ∷ 0 ∷ 0 ∷ 0x10 ∷ []))
-  pub flavors_moved_end : (after : List Range)
-      × WritesAsItGoes 4 (given_on I386) 8 (moving_memory (0x64 ∷ 0 ∷ 0 ∷ 0x10 ∷ []))
-      (map (imported_in I386) (flavor_inputs I386)) after
-  -- it does not stop after foo.dll, at the second descriptor
-  pub flavors_not_one : (after : List Range) →
-      WritesAsItGoes 4 (given_on I386) 8 (moving_memory (0x64 ∷ 0 ∷ 0 ∷ 0x10 ∷ []))
-      (imported_in I386 (msvc_input I386) ∷ []) after → ⊥
+      × WritesAsItGoes 8 (given_on AMD64) 8 flavors_linked (map (imported_in AMD64) (flavor_inputs AMD64)) after

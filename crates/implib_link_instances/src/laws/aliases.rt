@@ -2,9 +2,8 @@
 
 ghost use Rattle.implib_link_instances.specs.Worked.Aliases.{OverriddenAlias, WorkedAlias, WorkedFlavorAlias};
 
-/// A call by an alias of a program that was linked by hand goes to what the DLL gives for the
-/// alias's target, and so does a pointer; in a program of both flavours, too. A name that is defined
-/// is no alias.
+/// A call by an alias of a program that was linked by hand, and a pointer, are resolved to the
+/// alias's target; in a program of both flavours, too. A name that is defined is no alias.
 pub fn worked_alias()
     ensures one { WorkedAlias }
     ensures flavors { WorkedFlavorAlias }

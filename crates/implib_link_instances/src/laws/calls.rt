@@ -1,22 +1,20 @@
 //! Calls, and pointers that code reads, worked by hand.
 
-ghost use Rattle.implib_link_instances.specs.Worked.DirectCalls.{WorkedBranch, WorkedFlavorDirect};
-ghost use Rattle.implib_link_instances.specs.Worked.Pages.{WorkedFlavorPages, WorkedPages};
+ghost use Rattle.implib_link_instances.specs.Worked.DirectCalls.{WorkedBranch};
+ghost use Rattle.implib_link_instances.specs.Worked.Pages.{WorkedPages};
 ghost use Rattle.implib_link_instances.specs.Worked.Pointers.{WorkedPointers};
 ghost use Rattle.implib_link_instances.specs.Worked.Calls.{WorkedCalls, WorkedDirectCall, WorkedFlavorCall};
 ghost use Rattle.implib_link_instances.specs.Worked.Calls.{WorkedReading};
 
-/// Calls that were relocated by hand arrive, on three machines; a loader that reads the image of a
-/// program that was linked by hand loads it, and one that reads an image without the DLL's name
-/// does not.
+/// Calls and loads of pointers that were relocated by hand read their entries, on three machines; a
+/// loader that reads the image of a program that was linked by hand loads it, and one that reads an
+/// image without the DLL's name does not.
 pub fn worked_calls()
     ensures calls { WorkedCalls }
     ensures flavors { WorkedFlavorCall }
     ensures direct { WorkedDirectCall }
     ensures branch { WorkedBranch }
-    ensures flavor_direct { WorkedFlavorDirect }
     ensures pointers { WorkedPointers }
     ensures pages { WorkedPages }
-    ensures flavor_pages { WorkedFlavorPages }
     ensures reading { WorkedReading }
 {}

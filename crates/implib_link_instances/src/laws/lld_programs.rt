@@ -11,8 +11,7 @@ pub fn worked_lld_programs()
     ensures worked { WorkedLldPrograms }
 {}
 
-/// Near misses of import tables, of thunks and calls, and of what a loader leaves, each with one
-/// thing wrong.
+/// Near misses of import tables, of thunks and of calls, each with one thing wrong.
 pub fn refused_lld_programs()
     ensures tables { RefusedTables }
     ensures thunks { RefusedThunks }

@@ -4,7 +4,7 @@
 //! calls, by the laws of `implib_archive_link`. The functions do nothing: their contracts are the
 //! instances.
 
-ghost use Rattle.implib_link_instances.specs.Machines.Closed.{WorkedGnu, WorkedMixed, WorkedMsvc};
+ghost use Rattle.implib_link_instances.specs.Machines.Closed.{WorkedGnu, WorkedMixed};
 ghost use Rattle.implib_link_instances.specs.Machines.Crossed.{WorkedCrossed};
 ghost use Rattle.implib_link_instances.specs.Machines.GnuWay.{WorkedGnuWay};
 ghost use Rattle.implib_link_instances.specs.Machines.LldWay.{WorkedLldWay};
@@ -18,13 +18,6 @@ pub fn worked_gnu_programs()
     ensures arm64 { WorkedGnu ARM64 0x5060 0x5070 0x5186 }
     ensures i386 { WorkedGnu I386 0x5050 0x5058 0x518A }
     ensures armnt { WorkedGnu ARMNT 0x5050 0x5058 0x5186 }
-{}
-
-/// Closed programs of libraries for Microsoft's linker, worked by hand.
-pub fn worked_msvc_programs()
-    ensures arm64 { WorkedMsvc ARM64 0x9060 0x9070 0x9196 }
-    ensures i386 { WorkedMsvc I386 0x9050 0x9058 0x919A }
-    ensures armnt { WorkedMsvc ARMNT 0x9050 0x9058 0x9196 }
 {}
 
 /// Closed programs of a library for Microsoft's linker and one for GNU's, worked by hand.

@@ -4,19 +4,17 @@
 ghost use Rattle.implib_link_instances.specs.Worked.Instances.{CodeInstances, MachineInstances};
 ghost use Rattle.implib_link_instances.specs.Worked.Instances.{ProgramInstances, SectionInstances};
 ghost use Rattle.implib_link_instances.specs.Worked.Instances.{TypeInstances};
-ghost use Rattle.implib_link_instances.specs.Worked.MoreCalls.{WorkedFlavorPointers, WorkedI386Direct};
 ghost use Rattle.implib_link_instances.specs.Worked.NearCode.{NearCallArrives, NearDefines};
 ghost use Rattle.implib_link_instances.specs.Worked.NearCode.{NearDirectCallArrives, NearHasDirectCall};
 ghost use Rattle.implib_link_instances.specs.Worked.NearCode.{NearHasInstructions, NearHasLoad, NearHasPage};
-ghost use Rattle.implib_link_instances.specs.Worked.NearCode.{NearLoadArrives, NearStubArrives};
+ghost use Rattle.implib_link_instances.specs.Worked.NearCode.{NearLoadArrives, NearStubArrives, NearStubAt};
 ghost use Rattle.implib_link_instances.specs.Worked.NearLinks.{NearAreGiven};
-ghost use Rattle.implib_link_instances.specs.Worked.NearLinks.{NearAreGivenForMsvc, NearAreLinkedBeside};
+ghost use Rattle.implib_link_instances.specs.Worked.NearLinks.{NearAreLinkedBeside};
 ghost use Rattle.implib_link_instances.specs.Worked.NearLinks.{NearAreMoved, NearArePiecesAt};
-ghost use Rattle.implib_link_instances.specs.Worked.NearLinks.{NearAreSections, NearCallReaches};
+ghost use Rattle.implib_link_instances.specs.Worked.NearLinks.{NearAreSections};
 ghost use Rattle.implib_link_instances.specs.Worked.NearLinks.{NearDefinesIn};
 ghost use Rattle.implib_link_instances.specs.Worked.NearLinks.{NearFindsBy, NearHasBranch};
 ghost use Rattle.implib_link_instances.specs.Worked.NearLinks.{NearHasField, NearHasInstruction, NearHasOperand};
-ghost use Rattle.implib_link_instances.specs.Worked.NearLinks.{NearIsClosedForMsvc};
 ghost use Rattle.implib_link_instances.specs.Worked.NearLinks.{NearJumpsThrough, NearNames};
 ghost use Rattle.implib_link_instances.specs.Worked.NearLinks.{NearResolves, NearTakes};
 ghost use Rattle.implib_link_instances.specs.Worked.NearLinks.{NearTakesInto, NearTakesIntoFor};
@@ -25,30 +23,30 @@ ghost use Rattle.implib_link_instances.specs.Worked.NearPrograms.{NearAreFlavorO
 ghost use Rattle.implib_link_instances.specs.Worked.NearPrograms.{NearIsFlavorProgram, NearIsProgram};
 ghost use Rattle.implib_link_instances.specs.Worked.NearPrograms.{NearIsImportable, NearIsLldProgram};
 ghost use Rattle.implib_link_instances.specs.Worked.NearPrograms.{NearIsProgramBeside, NearLldLinks};
-ghost use Rattle.implib_link_instances.specs.Worked.NearResults.{NearAreChosenFor, NearAreClosedForMsvc};
-ghost use Rattle.implib_link_instances.specs.Worked.NearResults.{NearAreLinkedFor, NearAreLinkedForMsvc};
+ghost use Rattle.implib_link_instances.specs.Worked.NearResults.{NearAreChosenFor};
+ghost use Rattle.implib_link_instances.specs.Worked.NearResults.{NearAreLinkedFor};
 ghost use Rattle.implib_link_instances.specs.Worked.NearResults.{NearBranchStays, NearDefineOnce, NearFillsBy};
 ghost use Rattle.implib_link_instances.specs.Worked.NearResults.{NearFlavorsLink, NearHasOffsetField};
 ghost use Rattle.implib_link_instances.specs.Worked.NearResults.{NearHasPageField, NearHasPointer};
 ghost use Rattle.implib_link_instances.specs.Worked.NearResults.{NearImportsBy, NearInputImports};
 ghost use Rattle.implib_link_instances.specs.Worked.NearResults.{NearInstructionArrives, NearIsClosed, NearIsLinkedWith};
 ghost use Rattle.implib_link_instances.specs.Worked.NearResults.{NearLinksAmong, NearLinksBeside};
-ghost use Rattle.implib_link_instances.specs.Worked.NearResults.{NearLinksClosed, NearLinksClosedForMsvc};
+ghost use Rattle.implib_link_instances.specs.Worked.NearResults.{NearLinksClosed};
 ghost use Rattle.implib_link_instances.specs.Worked.NearResults.{NearPageArrives, NearPairArrives};
 ghost use Rattle.implib_link_instances.specs.Worked.NearSearches.{NearAreNamedApart, NearIsAliasTaken};
 ghost use Rattle.implib_link_instances.specs.Worked.NearSearches.{NearIsArchive, NearIsImported};
-ghost use Rattle.implib_link_instances.specs.Worked.NearSearches.{NearIsImportedShort, NearIsMsvcArchive};
+ghost use Rattle.implib_link_instances.specs.Worked.NearSearches.{NearIsMsvcArchive};
 ghost use Rattle.implib_link_instances.specs.Worked.NearSearches.{NearIsUsed, NearNamesNoHeadOrTail};
-ghost use Rattle.implib_link_instances.specs.Worked.NearSearches.{NearIsUsedShort, NearIsWeakData};
+ghost use Rattle.implib_link_instances.specs.Worked.NearSearches.{NearIsWeakData};
 ghost use Rattle.implib_link_instances.specs.Worked.NearSearches.{NearIsWeakShort, NearIsWeakTaken};
 ghost use Rattle.implib_link_instances.specs.Worked.NearSearches.{NearPullsIn, NearPullsInFor, NearPullsInto};
 ghost use Rattle.implib_link_instances.specs.Worked.NearSearches.{NearPullsIntoFor};
 ghost use Rattle.implib_link_instances.specs.Worked.NearTaken.{NearAreBounded, NearImportsWanted, NearIsArranged};
 ghost use Rattle.implib_link_instances.specs.Worked.NearTaken.{NearIsImportedBy, NearIsLinkedOfWanted, NearIsTaken};
-ghost use Rattle.implib_link_instances.specs.Worked.NearTaken.{NearRunLinks, NearTakesOfLibraries, NearTakesOfShorts};
-ghost use Rattle.implib_link_instances.specs.Worked.NearTables.{NearAreAlike, NearAreLoaded, NearBeginsWith};
+ghost use Rattle.implib_link_instances.specs.Worked.NearTaken.{NearRunLinks, NearTakesOfLibraries};
+ghost use Rattle.implib_link_instances.specs.Worked.NearTables.{NearAreAlike, NearBeginsWith};
 ghost use Rattle.implib_link_instances.specs.Worked.NearTables.{NearGetsAddress, NearHoldsAt, NearIsInEntry};
-ghost use Rattle.implib_link_instances.specs.Worked.NearTables.{NearIsLoaded, NearLieWithin};
+ghost use Rattle.implib_link_instances.specs.Worked.NearTables.{NearLieWithin};
 
 /// What is not said of linked and loaded import tables: of their bounds, and of what a loader
 /// leaves.
@@ -56,8 +54,6 @@ pub fn near_misses_of_tables()
     ensures in_entry { NearIsInEntry }
     ensures begins { NearBeginsWith }
     ensures lie { NearLieWithin }
-    ensures loaded { NearIsLoaded }
-    ensures flavors_loaded { NearAreLoaded }
     ensures holds { NearHoldsAt }
     ensures alike { NearAreAlike }
     ensures gets { NearGetsAddress }
@@ -73,11 +69,9 @@ pub fn near_misses_of_searches()
     ensures weak_data { NearIsWeakData }
     ensures weak_short { NearIsWeakShort }
     ensures used { NearIsUsed }
-    ensures used_short { NearIsUsedShort }
     ensures aliases { NearIsAliasTaken }
     ensures weak { NearIsWeakTaken }
     ensures imports { NearIsImported }
-    ensures shorts { NearIsImportedShort }
 {}
 
 /// What is no archive of libraries, and which names are not apart.
@@ -109,6 +103,7 @@ pub fn near_misses_of_code()
     ensures defines { NearDefines }
     ensures call_arrives { NearCallArrives }
     ensures stub_arrives { NearStubArrives }
+    ensures stub_at { NearStubAt }
     ensures load_arrives { NearLoadArrives }
     ensures direct_call_arrives { NearDirectCallArrives }
 {}
@@ -119,7 +114,6 @@ pub fn near_misses_of_members()
     ensures linked_of_wanted { NearIsLinkedOfWanted }
     ensures imports_wanted { NearImportsWanted }
     ensures takes_of_libraries { NearTakesOfLibraries }
-    ensures takes_of_shorts { NearTakesOfShorts }
     ensures taken { NearIsTaken }
     ensures run_links { NearRunLinks }
     ensures imported_by { NearIsImportedBy }
@@ -136,29 +130,19 @@ pub fn second_instances()
     ensures codes { CodeInstances }
 {}
 
-/// Direct calls on I386, as they were linked and at another base, and pointers of both flavours on
-/// I386 and ARM64, by hand.
-pub fn more_worked_calls()
-    ensures direct { WorkedI386Direct }
-    ensures pointers { WorkedFlavorPointers }
-{}
-
 /// What is no search at its end, no code beside the tables, and no moved program.
 pub fn near_misses_of_links()
     ensures are_given { NearAreGiven }
-    ensures are_given_for_msvc { NearAreGivenForMsvc }
     ensures are_linked_beside { NearAreLinkedBeside }
     ensures are_moved { NearAreMoved }
     ensures are_pieces_at { NearArePiecesAt }
     ensures are_sections { NearAreSections }
-    ensures call_reaches { NearCallReaches }
     ensures defines_in { NearDefinesIn }
     ensures finds_by { NearFindsBy }
     ensures has_branch { NearHasBranch }
     ensures has_field { NearHasField }
     ensures has_instruction { NearHasInstruction }
     ensures has_operand { NearHasOperand }
-    ensures is_closed_for_msvc { NearIsClosedForMsvc }
     ensures jumps_through { NearJumpsThrough }
     ensures names { NearNames }
     ensures resolves { NearResolves }
@@ -171,9 +155,7 @@ pub fn near_misses_of_links()
 /// What no link and no loader gives, and what is not linked for given objects.
 pub fn near_misses_of_results()
     ensures are_chosen_for { NearAreChosenFor }
-    ensures are_closed_for_msvc { NearAreClosedForMsvc }
     ensures are_linked_for { NearAreLinkedFor }
-    ensures are_linked_for_msvc { NearAreLinkedForMsvc }
     ensures branch_stays { NearBranchStays }
     ensures define_once { NearDefineOnce }
     ensures fills_by { NearFillsBy }
@@ -189,7 +171,6 @@ pub fn near_misses_of_results()
     ensures links_among { NearLinksAmong }
     ensures links_beside { NearLinksBeside }
     ensures links_closed { NearLinksClosed }
-    ensures links_closed_for_msvc { NearLinksClosedForMsvc }
     ensures page_arrives { NearPageArrives }
     ensures pair_arrives { NearPairArrives }
 {}

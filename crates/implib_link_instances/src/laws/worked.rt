@@ -75,7 +75,7 @@ pub fn worked_msvc_searches()
 {}
 
 /// The programs that were linked by hand link as the laws say, on each machine; loaded by hand,
-/// they hold what the DLLs give, and calls of their stubs reach it.
+/// they hold what the DLLs give, and their stubs jump through their entries.
 pub fn worked_loads()
     ensures loads { WorkedLoads }
     ensures calls { WorkedCalls }
@@ -88,8 +88,8 @@ pub fn worked_searched_programs()
     ensures two { WorkedLibraries }
 {}
 
-/// The programs of both flavours that were linked by hand link, load and are called as the laws
-/// say, on each machine.
+/// The programs of both flavours that were linked by hand link and load as the laws say, on each
+/// machine, and their stubs jump through their entries.
 pub fn worked_flavor_loads()
     ensures loads { WorkedFlavorLoads }
     ensures calls { WorkedFlavorCalls }

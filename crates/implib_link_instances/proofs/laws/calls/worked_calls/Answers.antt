@@ -1,7 +1,7 @@
-use Rattle.implib_link_instances.proofs.Worked.Pages.{worked_flavor_pages, worked_pages}
-use Rattle.implib_link_instances.proofs.Worked.Pointers.{worked_pointers}
-use Rattle.implib_link_instances.proofs.Worked.DirectCalls.{worked_branch, worked_flavor_direct}
 use Rattle.implib_link_instances.proofs.Worked.Calls.{worked_calls, worked_direct_call, worked_flavor_call, worked_reading}
+use Rattle.implib_link_instances.proofs.Worked.DirectCalls.{worked_branch}
+use Rattle.implib_link_instances.proofs.Worked.Pages.{worked_pages}
+use Rattle.implib_link_instances.proofs.Worked.Pointers.{worked_pointers}
 use Rattle.implib_link_instances.proofs.laws.calls.worked_calls.Goals as goal
 
 pub returns : goal.returns
@@ -10,9 +10,7 @@ returns c = record {
   flavors = worked_flavor_call;
   direct = worked_direct_call;
   branch = worked_branch;
-  flavor_direct = worked_flavor_direct;
   pointers = worked_pointers;
   pages = worked_pages;
-  flavor_pages = worked_flavor_pages;
   reading = worked_reading;
 }

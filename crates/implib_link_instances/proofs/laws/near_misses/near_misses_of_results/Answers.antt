@@ -1,12 +1,10 @@
-use Rattle.implib_link_instances.proofs.Worked.NearResults.{near_are_chosen_for, near_are_closed_for_msvc, near_are_linked_for, near_are_linked_for_msvc, near_branch_stays, near_define_once, near_fills_by, near_flavors_link, near_has_offset_field, near_has_page_field, near_has_pointer, near_imports_by, near_input_imports, near_instruction_arrives, near_is_closed, near_is_linked_with, near_links_among, near_links_beside, near_links_closed, near_links_closed_for_msvc, near_page_arrives, near_pair_arrives}
+use Rattle.implib_link_instances.proofs.Worked.NearResults.{near_are_chosen_for, near_are_linked_for, near_branch_stays, near_define_once, near_fills_by, near_flavors_link, near_has_offset_field, near_has_page_field, near_has_pointer, near_imports_by, near_input_imports, near_instruction_arrives, near_is_closed, near_is_linked_with, near_links_among, near_links_beside, near_links_closed, near_page_arrives, near_pair_arrives}
 use Rattle.implib_link_instances.proofs.laws.near_misses.near_misses_of_results.Goals as goal
 
 pub returns : goal.returns
 returns c = record {
   are_chosen_for = near_are_chosen_for;
-  are_closed_for_msvc = near_are_closed_for_msvc;
   are_linked_for = near_are_linked_for;
-  are_linked_for_msvc = near_are_linked_for_msvc;
   branch_stays = near_branch_stays;
   define_once = near_define_once;
   fills_by = near_fills_by;
@@ -22,7 +20,6 @@ returns c = record {
   links_among = near_links_among;
   links_beside = near_links_beside;
   links_closed = near_links_closed;
-  links_closed_for_msvc = near_links_closed_for_msvc;
   page_arrives = near_page_arrives;
   pair_arrives = near_pair_arrives;
 }

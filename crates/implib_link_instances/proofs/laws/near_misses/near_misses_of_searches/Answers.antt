@@ -1,4 +1,4 @@
-use Rattle.implib_link_instances.proofs.Worked.NearSearches.{near_is_alias_taken, near_is_imported, near_is_imported_short, near_is_used, near_is_used_short, near_is_weak_data, near_is_weak_short, near_is_weak_taken, near_pulls_in, near_pulls_in_for, near_pulls_into, near_pulls_into_for}
+use Rattle.implib_link_instances.proofs.Worked.NearSearches.{near_is_alias_taken, near_is_imported, near_is_used, near_is_weak_data, near_is_weak_short, near_is_weak_taken, near_pulls_in, near_pulls_in_for, near_pulls_into, near_pulls_into_for}
 use Rattle.implib_link_instances.proofs.laws.near_misses.near_misses_of_searches.Goals as goal
 
 pub returns : goal.returns
@@ -10,9 +10,7 @@ returns c = record {
   weak_data = near_is_weak_data;
   weak_short = near_is_weak_short;
   used = near_is_used;
-  used_short = near_is_used_short;
   aliases = near_is_alias_taken;
   weak = near_is_weak_taken;
   imports = near_is_imported;
-  shorts = near_is_imported_short;
 }

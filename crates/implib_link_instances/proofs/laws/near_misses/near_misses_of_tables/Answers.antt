@@ -1,4 +1,4 @@
-use Rattle.implib_link_instances.proofs.Worked.NearTables.{near_are_alike, near_are_loaded, near_begins_with, near_gets_address, near_holds_at, near_is_in_entry, near_is_loaded, near_lie_within}
+use Rattle.implib_link_instances.proofs.Worked.NearTables.{near_are_alike, near_begins_with, near_gets_address, near_holds_at, near_is_in_entry, near_lie_within}
 use Rattle.implib_link_instances.proofs.laws.near_misses.near_misses_of_tables.Goals as goal
 
 pub returns : goal.returns
@@ -6,8 +6,6 @@ returns c = record {
   in_entry = near_is_in_entry;
   begins = near_begins_with;
   lie = near_lie_within;
-  loaded = near_is_loaded;
-  flavors_loaded = near_are_loaded;
   holds = near_holds_at;
   alike = near_are_alike;
   gets = near_gets_address;

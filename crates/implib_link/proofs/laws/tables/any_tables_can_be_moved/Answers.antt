@@ -1,0 +1,5 @@
+use Rattle.implib_link.proofs.Gnu.MovedPrograms.{moved_memory_exists}
+use Rattle.implib_link.proofs.laws.tables.any_tables_can_be_moved.Goals as goal
+
+pub returns : goal.returns
+returns c = record { moved = moved_memory_exists }
