@@ -1,0 +1,4 @@
+pub mod Definition
+pub mod Laws
+pub mod Unsaid
+pub mod Worked
