@@ -285,7 +285,9 @@ fn define_in<'a>(reading: Reading<'a>) -> Option<Define<'a>>
 {
     if lacks_older(&reading)
         || reading.naming.kills_at
-        || reading.naming.exports_as || reading.dll.is_some() {
+        || reading.naming.exports_as
+        || reading.dll.is_some()
+    {
         return None;
     }
     match (reading.library, reading.definition, reading.waiting) {

@@ -58,15 +58,7 @@ pub fn definition_of<O: Write>(
     let Ok(text) = definition_text(form.alloc, options, members) else {
         return Err(Undefined::Failed(Failure::OutOfMemory));
     };
-    let checked = check_definition(
-        form,
-        printer,
-        paths,
-        members,
-        &text,
-        options,
-        older_symbols,
-    );
+    let checked = check_definition(form, printer, paths, members, &text, options, older_symbols);
     match checked {
         Ok(Verdict::Different) => Err(Undefined::Different),
         Ok(Verdict::Same) => Ok(text),

@@ -548,11 +548,7 @@ fn tell_cuts<O: Write>(
     cut: &[CutApart],
 ) -> Result<(), Failure> {
     for apart in cut {
-        tell(
-            form,
-            printer,
-            &Finding::Fault(path, Fault::CutApart(apart)),
-        )?;
+        tell(form, printer, &Finding::Fault(path, Fault::CutApart(apart)))?;
     }
     Ok(())
 }

@@ -53,7 +53,11 @@ fn flavor_for(named: Option<Flavor>, older_symbols: bool, members: &[MemberRead]
 {
     match named {
         Some(flavor) => flavor,
-        None => if older_symbols { Flavor::Gnu } else { flavor_of(members) },
+        None => if older_symbols {
+            Flavor::Gnu
+        } else {
+            flavor_of(members)
+        },
     }
 }
 

@@ -67,11 +67,7 @@ fn ask_by_gnu<'a>(import: &ShortImport<'a>) -> AskFound<'a>
 }
 
 /// The names of two asks, if they differ.
-fn cut_of<'a>(
-    symbol: &'a [u8],
-    lld: Option<AskFound<'a>>,
-    gnu: AskFound<'a>,
-) -> Option<Cut<'a>>
+fn cut_of<'a>(symbol: &'a [u8], lld: Option<AskFound<'a>>, gnu: AskFound<'a>) -> Option<Cut<'a>>
     ensures { option_map cut_view result ≡ cut_of symbol.now (option_map ask_view lld.entry) (ask_view gnu.entry) }
 {
     let Some(AskFound::Name(by_lld, _)) = lld else {
