@@ -40,7 +40,7 @@ use Rattle.implib_link_instances.proofs.Worked.Calls.{wide}
 use Rattle.implib_link_instances.proofs.Worked.Choices.{once_by}
 use Rattle.implib_link_instances.proofs.Worked.NearSearches.{searched}
 use Rattle.implib_link_instances.proofs.Worked.Programs.{claims_none_by, distinct_by}
-use Rattle.implib_link_instances.proofs.Worked.Search.{pulls_in_now, settled_ends}
+use Rattle.implib_link_instances.proofs.Worked.Search.{takes_by}
 use Rattle.implib_link_instances.proofs.Worked.Searched.{below_limit}
 use Rattle.implib_link_instances.specs.Machines.Closed.{IsPointerAt}
 use Rattle.implib_link_instances.specs.Machines.GnuWay.{Arrives, WorkedGnuWay, bases, both, foo_library, objects, taken, zed_library}
@@ -116,25 +116,7 @@ given_arm64 = record {
 
 takes_arm64 : Takes (archive_of (both ARM64)) (unresolved (own ARM64)) (taken ARM64)
 unfolding searched IsTakenInTurn
-takes_arm64 = record {
-  in_turn = (
-    (iname_symbol ARM64 zed, pulls_in_now _ _ _ _ _ refl refl refl refl),
-    (
-      (head_symbol ARM64 zed, pulls_in_now _ _ _ _ _ refl refl refl refl),
-      (
-        (imp_symbol (queue ARM64), pulls_in_now _ _ _ _ _ refl refl refl refl),
-        (
-          (iname_symbol ARM64 foo, pulls_in_now _ _ _ _ _ refl refl refl refl),
-          (
-            (head_symbol ARM64 foo, pulls_in_now _ _ _ _ _ refl refl refl refl),
-            ((imp_symbol (bar ARM64), pulls_in_now _ _ _ _ _ refl refl refl refl), tt),
-          ),
-        ),
-      ),
-    ),
-  );
-  ended = settled_ends (archive_of (both ARM64)) (unresolved (own ARM64)) (taken ARM64) refl;
-}
+takes_arm64 = takes_by (iname_symbol ARM64 zed ∷ head_symbol ARM64 zed ∷ imp_symbol (queue ARM64) ∷ iname_symbol ARM64 foo ∷ head_symbol ARM64 foo ∷ imp_symbol (bar ARM64) ∷ []) refl refl refl
 
 claims_arm64 : AllByRecursion (ClaimsNone (listed_in (taken ARM64) ++ names_undefined (taken ARM64))) (own ARM64)
 unfolding searched
@@ -228,25 +210,7 @@ given_i386 = record {
 
 takes_i386 : Takes (archive_of (both I386)) (unresolved (own I386)) (taken I386)
 unfolding searched IsTakenInTurn
-takes_i386 = record {
-  in_turn = (
-    (iname_symbol I386 zed, pulls_in_now _ _ _ _ _ refl refl refl refl),
-    (
-      (head_symbol I386 zed, pulls_in_now _ _ _ _ _ refl refl refl refl),
-      (
-        (imp_symbol (queue I386), pulls_in_now _ _ _ _ _ refl refl refl refl),
-        (
-          (iname_symbol I386 foo, pulls_in_now _ _ _ _ _ refl refl refl refl),
-          (
-            (head_symbol I386 foo, pulls_in_now _ _ _ _ _ refl refl refl refl),
-            ((imp_symbol (bar I386), pulls_in_now _ _ _ _ _ refl refl refl refl), tt),
-          ),
-        ),
-      ),
-    ),
-  );
-  ended = settled_ends (archive_of (both I386)) (unresolved (own I386)) (taken I386) refl;
-}
+takes_i386 = takes_by (iname_symbol I386 zed ∷ head_symbol I386 zed ∷ imp_symbol (queue I386) ∷ iname_symbol I386 foo ∷ head_symbol I386 foo ∷ imp_symbol (bar I386) ∷ []) refl refl refl
 
 claims_i386 : AllByRecursion (ClaimsNone (listed_in (taken I386) ++ names_undefined (taken I386))) (own I386)
 unfolding searched

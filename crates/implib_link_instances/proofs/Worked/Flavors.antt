@@ -18,7 +18,6 @@ use Rattle.implib.specs.Members.MsvcObjects.{base_name, descriptor, descriptor_s
 use Rattle.implib.specs.Formats.ShortImport.{short_import_in}
 use Rattle.implib.specs.Members.WeakExternal.{weak_object}
 use Rattle.implib.proofs.Link.Loading.{number_once}
-use Rattle.implib.proofs.Link.Ranges.{apart_as_they_rise, ends_below}
 use Rattle.implib_link.specs.Flavors.Expansion.{import_object, descriptor_symbol_by_name, expanded_in}
 use Rattle.implib_link.specs.Flavors.Program.{all_members, symbols_listed}
 use Rattle.implib_link.specs.Gnu.Packed.{group_end, sections_end}
@@ -27,7 +26,7 @@ use Rattle.implib_link.specs.Flavors.SectionSymbols.{with_section_symbols}
 use Rattle.implib_link_instances.specs.Worked.Flavors.{RefusedTables, WorkedFlavorProgram, WorkedFlavors, both_inputs, flavor_bases_4, flavor_bases_8, flavor_expected_4, flavor_expected_8, flavor_image, foo_asks, foo_input, shifted_bases}
 use Rattle.implib_link_instances.specs.Worked.Programs.{another, caller}
 use Rattle.implib_link_instances.proofs.Worked.RefusedLinks.{differ, number}
-use Rattle.implib_link_instances.proofs.Worked.Programs.{claims_none_by, distinct_by}
+use Rattle.implib_link_instances.proofs.Worked.Programs.{claims_none_by, distinct_by, admissible_by}
 
 -- what the computing has to open
 unfoldable pub opened : Unit {0}
@@ -54,16 +53,7 @@ amd64 = record {
       );
       found = (refl, (tt, tt));
     };
-    admissible = record {
-      descriptors = (omega arith, refl);
-      directory_ends = (omega arith, refl);
-      lookups = (omega arith, refl);
-      addresses = (omega arith, refl);
-      hint_names = (omega arith, refl);
-      dll_names = (omega arith, refl);
-      ends = ends_below (2 ^ 31) (flavor_image AMD64 0 flavor_bases_8) refl;
-      apart = apart_as_they_rise (2 ^ 31) (flavor_image AMD64 0 flavor_bases_8) refl;
-    };
+    admissible = admissible_by refl refl;
     lookups = refl;
     addresses = refl;
     follows = refl;
@@ -97,16 +87,7 @@ i386 = record {
       );
       found = (refl, (tt, tt));
     };
-    admissible = record {
-      descriptors = (omega arith, refl);
-      directory_ends = (omega arith, refl);
-      lookups = (omega arith, refl);
-      addresses = (omega arith, refl);
-      hint_names = (omega arith, refl);
-      dll_names = (omega arith, refl);
-      ends = ends_below (2 ^ 31) (flavor_image I386 2 flavor_bases_4) refl;
-      apart = apart_as_they_rise (2 ^ 31) (flavor_image I386 2 flavor_bases_4) refl;
-    };
+    admissible = admissible_by refl refl;
     lookups = refl;
     addresses = refl;
     follows = refl;
@@ -140,16 +121,7 @@ arm64 = record {
       );
       found = (refl, (tt, tt));
     };
-    admissible = record {
-      descriptors = (omega arith, refl);
-      directory_ends = (omega arith, refl);
-      lookups = (omega arith, refl);
-      addresses = (omega arith, refl);
-      hint_names = (omega arith, refl);
-      dll_names = (omega arith, refl);
-      ends = ends_below (2 ^ 31) (flavor_image ARM64 9 flavor_bases_8) refl;
-      apart = apart_as_they_rise (2 ^ 31) (flavor_image ARM64 9 flavor_bases_8) refl;
-    };
+    admissible = admissible_by refl refl;
     lookups = refl;
     addresses = refl;
     follows = refl;
@@ -183,16 +155,7 @@ armnt = record {
       );
       found = (refl, (tt, tt));
     };
-    admissible = record {
-      descriptors = (omega arith, refl);
-      directory_ends = (omega arith, refl);
-      lookups = (omega arith, refl);
-      addresses = (omega arith, refl);
-      hint_names = (omega arith, refl);
-      dll_names = (omega arith, refl);
-      ends = ends_below (2 ^ 31) (flavor_image ARMNT 2 flavor_bases_4) refl;
-      apart = apart_as_they_rise (2 ^ 31) (flavor_image ARMNT 2 flavor_bases_4) refl;
-    };
+    admissible = admissible_by refl refl;
     lookups = refl;
     addresses = refl;
     follows = refl;
@@ -237,16 +200,7 @@ nine_refused image field number_there dll loads =
 pub refused_tables : RefusedTables
 unfolding opened refusal renamed_refusal alias_specs encoded_size weak_object has_tables expanded_in short_import_in import_object descriptor_symbol_by_name with_section_symbols descriptor null_descriptor null_thunk descriptor_symbol null_descriptor_symbol null_thunk_symbol base_name descriptor_spec null_descriptor_spec null_thunk_spec header_specs weak_specs group_end sections_end
 refused_tables = record {
-  admissible = record {
-    descriptors = (omega arith, refl);
-    directory_ends = (omega arith, refl);
-    lookups = (omega arith, refl);
-    addresses = (omega arith, refl);
-    hint_names = (omega arith, refl);
-    dll_names = (omega arith, refl);
-    ends = ends_below (2 ^ 31) shifted refl;
-    apart = apart_as_they_rise (2 ^ 31) shifted refl;
-  };
+  admissible = admissible_by refl refl;
   field = refl;
   thunk = refl;
   refused = nine_refused shifted here there _;

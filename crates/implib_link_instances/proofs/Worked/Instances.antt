@@ -12,7 +12,7 @@ use Rattle.implib.specs.Link.Placement.{placed_from}
 use Rattle.implib.specs.Members.ImportTables.{zeros}
 use Rattle.implib.specs.Members.MsvcObjects.{null_descriptor_symbol}
 use Rattle.implib.proofs.Link.Linked.{all_append}
-use Rattle.implib.proofs.Link.Ranges.{apart_as_they_rise, ends_below}
+use Rattle.implib.proofs.Link.Ranges.{apart_as_they_rise}
 use Rattle.implib_link.specs.Flavors.LldImports.{imp_symbols_of, imports_of_lld}
 use Rattle.implib_link.specs.Flavors.LldTables.{IsAskable, built}
 use Rattle.implib_link.specs.Flavors.Program.{all_members, members_linked, symbols_listed}
@@ -36,7 +36,7 @@ use Rattle.implib_link_instances.proofs.Worked.Calls.{one_code_resolves}
 use Rattle.implib_link_instances.proofs.Worked.Lld.{alike, lld_opened}
 use Rattle.implib_link_instances.proofs.Worked.NearSearches.{searched}
 use Rattle.implib_link_instances.proofs.Worked.Operands.{movable_code}
-use Rattle.implib_link_instances.proofs.Worked.Programs.{claims_none_by, distinct_by}
+use Rattle.implib_link_instances.proofs.Worked.Programs.{claims_none_by, distinct_by, admissible_by}
 use Rattle.implib_link_instances.proofs.Worked.RefusedLinks.{are_located, differ}
 use Rattle.implib_link_instances.specs.Worked.Relocated.{CodesBeside, code_range, code_ranges}
 
@@ -97,16 +97,7 @@ program_instances = record {
     );
     others = tt;
     ended = inr (are_located (image_of AMD64 spread_8 (placed_from spread_8 (members_of_both ++ ending))) (zeros 20) 44 refl);
-    admissible = record {
-      descriptors = (omega arith, refl);
-      directory_ends = (omega arith, refl);
-      lookups = (omega arith, refl);
-      addresses = (omega arith, refl);
-      hint_names = (omega arith, refl);
-      dll_names = (omega arith, refl);
-      ends = ends_below (2 ^ 31) (image_of AMD64 spread_8 (placed_from spread_8 (members_of_both ++ ending))) refl;
-      apart = apart_as_they_rise (2 ^ 31) (image_of AMD64 spread_8 (placed_from spread_8 (members_of_both ++ ending))) refl;
-    };
+    admissible = admissible_by refl refl;
     whole = (record { sized = tt; fours = refl; rows = refl }, tt);
     taken = (tt, tt);
   };

@@ -1,8 +1,8 @@
 -- The search of members for Microsoft's linker, by computing.
 use Rattle.std.proofs.Common.{◌≡◌, ℕ, Bool, true, false, List, [], ◌∷◌, ◌++◌, map, Option, None, Some, refl, sym, ◌∙◌, subst, inl, inr, codes}
-use Rattle.std.specs.Prelude.{bytes_eq, ◌||◌, is_none}
+use Rattle.std.specs.Prelude.{bytes_eq, ◌||◌, is_none, ◌&&◌, not}
 use Rattle.std.specs.List.{flat_map, list_all, list_any}
-use Rattle.std.proofs.lemmas.Bool.{and_parts, true≢false}
+use Rattle.std.proofs.lemmas.Bool.{and_parts, true≢false, not-true}
 use Rattle.implib.specs.declared.machine.MachineType.{MachineType}
 use Rattle.implib.specs.declared.machine.MachineType.TheVariants.{I386, ARMNT, AMD64, ARM64}
 use Rattle.implib.specs.Formats.ShortImport.{short_import_in}
@@ -63,6 +63,42 @@ pulls_in_now machine archive names taken name m named undefined listed new = rec
   new = λ has. true≢false (sym (among_any (first_symbol m) (map first_symbol taken) (among_map first_symbol m taken (contains_among m taken has))) ∙ new);
 }
 
+-- whether members are taken in turn, each for its name: the name is left after those before it, and they do not have the member
+abbrev are_in_turn : MachineType → List (List ℕ) → List (List ℕ) → List MemberView → Bool
+are_in_turn machine wanted names [] = true
+are_in_turn machine wanted [] (m ∷ earlier) = false
+are_in_turn machine wanted (name ∷ names) (m ∷ earlier) =
+    (list_any (bytes_eq name) (wanted ++ left_in machine earlier)
+    && (not (list_any (bytes_eq name) (claimed_in machine earlier)) && not (list_any (bytes_eq (first_symbol m)) (map first_symbol earlier))))
+    && are_in_turn machine wanted names earlier
+
+turns_by : (machine : MachineType) (archive : List MemberView) (wanted names : List (List ℕ)) (taken : List MemberView) → map (first_listed archive) names ≡ map Some taken → are_in_turn machine wanted names taken ≡ true →
+    AreTakenInTurn machine archive wanted taken
+unfolding AreTakenInTurn
+turns_by machine archive wanted names [] listed all = tt
+turns_by machine archive wanted [] (m ∷ earlier) listed all = absurd (true≢false (sym all))
+turns_by machine archive wanted (name ∷ names) (m ∷ earlier) listed all =
+    let new : Bool = not (list_any (bytes_eq (first_symbol m)) (map first_symbol earlier)) in
+    let undefined : Bool = not (list_any (bytes_eq name) (claimed_in machine earlier)) in
+    let left : Bool = list_any (bytes_eq name) (wanted ++ left_in machine earlier) in
+    let parts = and_parts (left && (undefined && new)) (are_in_turn machine wanted names earlier) all in
+    let first = and_parts left (undefined && new) parts.0 in
+    let last = and_parts undefined new first.1 in
+    let is : first_listed archive name ≡ Some m = cc in
+    let others : map (first_listed archive) names ≡ map Some earlier = cc in (
+      (
+        name,
+        pulls_in_now machine archive wanted earlier name m first.0 (not-true (list_any (bytes_eq name) (claimed_in machine earlier)) last.0) is
+            (not-true (list_any (bytes_eq (first_symbol m)) (map first_symbol earlier)) last.1),
+      ),
+      turns_by machine archive wanted names earlier others parts.1,
+    )
+
+-- What a linker takes, each member for a name, by computing.
+pub takes_by : {machine : MachineType} {archive : List MemberView} {wanted : List (List ℕ)} {taken : List MemberView} (names : List (List ℕ)) → map (first_listed archive) names ≡ map Some taken →
+    are_in_turn machine wanted names taken ≡ true → list_all (is_settled machine archive taken) (wanted ++ left_in machine taken) ≡ true → TakesFor machine archive wanted taken
+takes_by {machine} {archive} {wanted} {taken} names listed turns settled = record { in_turn = turns_by machine archive wanted names taken listed turns; ended = settled_ends machine archive wanted taken settled }
+
 -- a name that no member is listed for takes none
 no_member : (m : MemberView) (found : Option MemberView) → found ≡ None → found ≡ Some m → ⊥
 no_member m found none some = (let same : None ≡ Some m = sym none ∙ some in cc)
@@ -96,19 +132,7 @@ the_descriptor machine = member_of (descriptor_spec machine (own_names (codes "f
 
 amd64_takes : TakesFor AMD64 (short_members AMD64) (one_wanted AMD64) (four_taken AMD64)
 unfolding opened refusal renamed_refusal encoded_size expanded_in short_import_in import_object descriptor_symbol_by_name with_section_symbols descriptor null_descriptor null_thunk descriptor_symbol null_descriptor_symbol null_thunk_symbol base_name descriptor_spec null_descriptor_spec null_thunk_spec header_specs weak_specs left_in claimed_in undefined_in AreTakenInTurn
-amd64_takes = record {
-  in_turn = (
-    (to_thunk, pulls_in_now AMD64 (short_members AMD64) (one_wanted AMD64) (the_null AMD64 ∷ the_descriptor AMD64 ∷ baz_member AMD64 ∷ []) to_thunk (the_thunk AMD64) refl refl refl refl),
-    (
-      (to_null, pulls_in_now AMD64 (short_members AMD64) (one_wanted AMD64) (the_descriptor AMD64 ∷ baz_member AMD64 ∷ []) to_null (the_null AMD64) refl refl refl refl),
-      (
-        (to_descriptor, pulls_in_now AMD64 (short_members AMD64) (one_wanted AMD64) (baz_member AMD64 ∷ []) to_descriptor (the_descriptor AMD64) refl refl refl refl),
-        ((symbol_on AMD64 (codes "baz"), pulls_in_now AMD64 (short_members AMD64) (one_wanted AMD64) [] (symbol_on AMD64 (codes "baz")) (baz_member AMD64) refl refl refl refl), tt),
-      ),
-    ),
-  );
-  ended = settled_ends AMD64 (short_members AMD64) (one_wanted AMD64) (four_taken AMD64) refl;
-}
+amd64_takes = takes_by (to_thunk ∷ to_null ∷ to_descriptor ∷ symbol_on AMD64 (codes "baz") ∷ []) refl refl refl
 
 amd64 : WorkedMsvcSearch AMD64
 unfolding opened refusal renamed_refusal encoded_size expanded_in short_import_in import_object descriptor_symbol_by_name with_section_symbols descriptor null_descriptor null_thunk descriptor_symbol null_descriptor_symbol null_thunk_symbol base_name descriptor_spec null_descriptor_spec null_thunk_spec header_specs weak_specs left_in claimed_in undefined_in AreTakenInTurn
@@ -132,19 +156,7 @@ amd64 = record {
 
 arm64_takes : TakesFor ARM64 (short_members ARM64) (one_wanted ARM64) (four_taken ARM64)
 unfolding opened refusal renamed_refusal encoded_size expanded_in short_import_in import_object descriptor_symbol_by_name with_section_symbols descriptor null_descriptor null_thunk descriptor_symbol null_descriptor_symbol null_thunk_symbol base_name descriptor_spec null_descriptor_spec null_thunk_spec header_specs weak_specs left_in claimed_in undefined_in AreTakenInTurn
-arm64_takes = record {
-  in_turn = (
-    (to_thunk, pulls_in_now ARM64 (short_members ARM64) (one_wanted ARM64) (the_null ARM64 ∷ the_descriptor ARM64 ∷ baz_member ARM64 ∷ []) to_thunk (the_thunk ARM64) refl refl refl refl),
-    (
-      (to_null, pulls_in_now ARM64 (short_members ARM64) (one_wanted ARM64) (the_descriptor ARM64 ∷ baz_member ARM64 ∷ []) to_null (the_null ARM64) refl refl refl refl),
-      (
-        (to_descriptor, pulls_in_now ARM64 (short_members ARM64) (one_wanted ARM64) (baz_member ARM64 ∷ []) to_descriptor (the_descriptor ARM64) refl refl refl refl),
-        ((symbol_on ARM64 (codes "baz"), pulls_in_now ARM64 (short_members ARM64) (one_wanted ARM64) [] (symbol_on ARM64 (codes "baz")) (baz_member ARM64) refl refl refl refl), tt),
-      ),
-    ),
-  );
-  ended = settled_ends ARM64 (short_members ARM64) (one_wanted ARM64) (four_taken ARM64) refl;
-}
+arm64_takes = takes_by (to_thunk ∷ to_null ∷ to_descriptor ∷ symbol_on ARM64 (codes "baz") ∷ []) refl refl refl
 
 arm64 : WorkedMsvcSearch ARM64
 unfolding opened refusal renamed_refusal encoded_size expanded_in short_import_in import_object descriptor_symbol_by_name with_section_symbols descriptor null_descriptor null_thunk descriptor_symbol null_descriptor_symbol null_thunk_symbol base_name descriptor_spec null_descriptor_spec null_thunk_spec header_specs weak_specs left_in claimed_in undefined_in AreTakenInTurn
@@ -168,19 +180,7 @@ arm64 = record {
 
 i386_takes : TakesFor I386 (short_members I386) (one_wanted I386) (four_taken I386)
 unfolding opened refusal renamed_refusal encoded_size expanded_in short_import_in import_object descriptor_symbol_by_name with_section_symbols descriptor null_descriptor null_thunk descriptor_symbol null_descriptor_symbol null_thunk_symbol base_name descriptor_spec null_descriptor_spec null_thunk_spec header_specs weak_specs left_in claimed_in undefined_in AreTakenInTurn
-i386_takes = record {
-  in_turn = (
-    (to_thunk, pulls_in_now I386 (short_members I386) (one_wanted I386) (the_null I386 ∷ the_descriptor I386 ∷ baz_member I386 ∷ []) to_thunk (the_thunk I386) refl refl refl refl),
-    (
-      (to_null, pulls_in_now I386 (short_members I386) (one_wanted I386) (the_descriptor I386 ∷ baz_member I386 ∷ []) to_null (the_null I386) refl refl refl refl),
-      (
-        (to_descriptor, pulls_in_now I386 (short_members I386) (one_wanted I386) (baz_member I386 ∷ []) to_descriptor (the_descriptor I386) refl refl refl refl),
-        ((symbol_on I386 (codes "baz"), pulls_in_now I386 (short_members I386) (one_wanted I386) [] (symbol_on I386 (codes "baz")) (baz_member I386) refl refl refl refl), tt),
-      ),
-    ),
-  );
-  ended = settled_ends I386 (short_members I386) (one_wanted I386) (four_taken I386) refl;
-}
+i386_takes = takes_by (to_thunk ∷ to_null ∷ to_descriptor ∷ symbol_on I386 (codes "baz") ∷ []) refl refl refl
 
 i386 : WorkedMsvcSearch I386
 unfolding opened refusal renamed_refusal encoded_size expanded_in short_import_in import_object descriptor_symbol_by_name with_section_symbols descriptor null_descriptor null_thunk descriptor_symbol null_descriptor_symbol null_thunk_symbol base_name descriptor_spec null_descriptor_spec null_thunk_spec header_specs weak_specs left_in claimed_in undefined_in AreTakenInTurn
@@ -204,19 +204,7 @@ i386 = record {
 
 armnt_takes : TakesFor ARMNT (short_members ARMNT) (one_wanted ARMNT) (four_taken ARMNT)
 unfolding opened refusal renamed_refusal encoded_size expanded_in short_import_in import_object descriptor_symbol_by_name with_section_symbols descriptor null_descriptor null_thunk descriptor_symbol null_descriptor_symbol null_thunk_symbol base_name descriptor_spec null_descriptor_spec null_thunk_spec header_specs weak_specs left_in claimed_in undefined_in AreTakenInTurn
-armnt_takes = record {
-  in_turn = (
-    (to_thunk, pulls_in_now ARMNT (short_members ARMNT) (one_wanted ARMNT) (the_null ARMNT ∷ the_descriptor ARMNT ∷ baz_member ARMNT ∷ []) to_thunk (the_thunk ARMNT) refl refl refl refl),
-    (
-      (to_null, pulls_in_now ARMNT (short_members ARMNT) (one_wanted ARMNT) (the_descriptor ARMNT ∷ baz_member ARMNT ∷ []) to_null (the_null ARMNT) refl refl refl refl),
-      (
-        (to_descriptor, pulls_in_now ARMNT (short_members ARMNT) (one_wanted ARMNT) (baz_member ARMNT ∷ []) to_descriptor (the_descriptor ARMNT) refl refl refl refl),
-        ((symbol_on ARMNT (codes "baz"), pulls_in_now ARMNT (short_members ARMNT) (one_wanted ARMNT) [] (symbol_on ARMNT (codes "baz")) (baz_member ARMNT) refl refl refl refl), tt),
-      ),
-    ),
-  );
-  ended = settled_ends ARMNT (short_members ARMNT) (one_wanted ARMNT) (four_taken ARMNT) refl;
-}
+armnt_takes = takes_by (to_thunk ∷ to_null ∷ to_descriptor ∷ symbol_on ARMNT (codes "baz") ∷ []) refl refl refl
 
 armnt : WorkedMsvcSearch ARMNT
 unfolding opened refusal renamed_refusal encoded_size expanded_in short_import_in import_object descriptor_symbol_by_name with_section_symbols descriptor null_descriptor null_thunk descriptor_symbol null_descriptor_symbol null_thunk_symbol base_name descriptor_spec null_descriptor_spec null_thunk_spec header_specs weak_specs left_in claimed_in undefined_in AreTakenInTurn

@@ -1,9 +1,9 @@
 -- The search that was done by hand, by computing.
 use Rattle.std.proofs.Common.{◌≡◌, ℕ, Bool, true, false, List, [], ◌∷◌, ◌++◌, map, Some, refl, sym, ◌∙◌, subst, inl, inr, codes}
-use Rattle.std.specs.Prelude.{bytes_eq, ◌||◌, is_none}
+use Rattle.std.specs.Prelude.{bytes_eq, ◌||◌, is_none, ◌&&◌, not}
 use Rattle.std.specs.Fmt.{digits}
 use Rattle.std.specs.List.{IsDistinct, list_all, list_any}
-use Rattle.std.proofs.lemmas.Bool.{and_parts, true≢false}
+use Rattle.std.proofs.lemmas.Bool.{and_parts, true≢false, not-true}
 use Rattle.implib.specs.declared.machine.MachineType.TheVariants.{AMD64}
 use Rattle.implib.specs.Definition.{empty_export}
 use Rattle.implib.specs.Worked.Statements.{plain_export}
@@ -52,6 +52,41 @@ pulls_in_now archive names taken name m named undefined listed new = record {
   new = λ has. true≢false (sym (among_any m.name (map (λ (x : MemberView). x.name) taken) (among_map (λ (x : MemberView). x.name) m taken (contains_among m taken has))) ∙ new);
 }
 
+-- whether members are taken in turn, each for its name: the name is left after those before it, and they do not have the member
+abbrev are_in_turn : List (List ℕ) → List (List ℕ) → List MemberView → Bool
+are_in_turn wanted names [] = true
+are_in_turn wanted [] (m ∷ earlier) = false
+are_in_turn wanted (name ∷ names) (m ∷ earlier) =
+    (list_any (bytes_eq name) (wanted ++ names_undefined earlier)
+    && (not (list_any (bytes_eq name) (names_claimed earlier)) && not (list_any (bytes_eq m.name) (map (λ (x : MemberView). x.name) earlier))))
+    && are_in_turn wanted names earlier
+
+turns_by : (archive : List MemberView) (wanted names : List (List ℕ)) (taken : List MemberView) → map (first_listed archive) names ≡ map Some taken → are_in_turn wanted names taken ≡ true → IsTakenInTurn archive wanted taken
+unfolding IsTakenInTurn
+turns_by archive wanted names [] listed all = tt
+turns_by archive wanted [] (m ∷ earlier) listed all = absurd (true≢false (sym all))
+turns_by archive wanted (name ∷ names) (m ∷ earlier) listed all =
+    let new : Bool = not (list_any (bytes_eq m.name) (map (λ (x : MemberView). x.name) earlier)) in
+    let undefined : Bool = not (list_any (bytes_eq name) (names_claimed earlier)) in
+    let left : Bool = list_any (bytes_eq name) (wanted ++ names_undefined earlier) in
+    let parts = and_parts (left && (undefined && new)) (are_in_turn wanted names earlier) all in
+    let first = and_parts left (undefined && new) parts.0 in
+    let last = and_parts undefined new first.1 in
+    let is : first_listed archive name ≡ Some m = cc in
+    let others : map (first_listed archive) names ≡ map Some earlier = cc in (
+      (
+        name,
+        pulls_in_now archive wanted earlier name m first.0 (not-true (list_any (bytes_eq name) (names_claimed earlier)) last.0) is
+            (not-true (list_any (bytes_eq m.name) (map (λ (x : MemberView). x.name) earlier)) last.1),
+      ),
+      turns_by archive wanted names earlier others parts.1,
+    )
+
+-- What a linker takes, each member for a name, by computing.
+pub takes_by : {archive : List MemberView} {wanted : List (List ℕ)} {taken : List MemberView} (names : List (List ℕ)) → map (first_listed archive) names ≡ map Some taken → are_in_turn wanted names taken ≡ true →
+    list_all (is_settled archive taken) (wanted ++ names_undefined taken) ≡ true → Takes archive wanted taken
+takes_by {archive} {wanted} {taken} names listed turns settled = record { in_turn = turns_by archive wanted names taken listed turns; ended = settled_ends archive wanted taken settled }
+
 -- what the computing has to open
 unfoldable pub opened : Unit {0}
 unfolding digits u16_bytes u32_bytes export_object five_digits head_name head_object head_symbol hint_name iname_symbol numbered_name relocations_of_stub relocations_of_thunk mangled_name stub tail_name tail_object thunk export_spec head_spec tail_spec before_nul bytes_at data_at each_at entries_at name_of object_in object_of_header relocation_at relocation_of section_at section_of strings_at symbol_of u16_at u32_at up_to_nul auxiliary_bytes auxiliary_count contents contents_offset contents_size header_bytes encoded name_field offsets_from pointer_or_zero record_count records relocation_bytes section_header section_headers string_bytes_of string_offsets string_size string_table strings_size symbol_bytes symbol_table_offset long_names name_location layout_of symbol_written with_long_name with_name
@@ -71,22 +106,7 @@ qux = member_of (export_spec AMD64 (codes "foo.dll") 2 (record empty_export { na
 
 pub three_takes : Takes (members_of three) wanted (qux ∷ the_tail ∷ the_head ∷ bar ∷ [])
 unfolding opened alias_specs encoded_size names_undefined names_claimed undefined_in IsTakenInTurn
-three_takes = record {
-  in_turn = (
-    (codes "__imp_qux", pulls_in_now (members_of three) wanted (the_tail ∷ the_head ∷ bar ∷ []) (codes "__imp_qux") qux refl refl refl refl),
-    (
-      (codes "foo_dll_iname", pulls_in_now (members_of three) wanted (the_head ∷ bar ∷ []) (codes "foo_dll_iname") the_tail refl refl refl refl),
-      (
-        (codes "_head_foo_dll", pulls_in_now (members_of three) wanted (bar ∷ []) (codes "_head_foo_dll") the_head refl refl refl refl),
-        (
-          (codes "bar", pulls_in_now (members_of three) wanted [] (codes "bar") bar refl refl refl refl),
-          tt,
-        ),
-      ),
-    ),
-  );
-  ended = settled_ends (members_of three) wanted (qux ∷ the_tail ∷ the_head ∷ bar ∷ []) refl;
-}
+three_takes = takes_by (codes "__imp_qux" ∷ codes "foo_dll_iname" ∷ codes "_head_foo_dll" ∷ codes "bar" ∷ []) refl refl refl
 
 takes_three : MayTake three wanted (codes "foo_dll_a_s00002.o" ∷ codes "foo_dll_a_t.o" ∷ codes "foo_dll_a_h.o" ∷ codes "foo_dll_a_s00000.o" ∷ [])
 unfolding opened
@@ -100,16 +120,7 @@ takes_head_and_tail : MayTake three (codes "_head_foo_dll" ∷ []) (codes "foo_d
 unfolding opened alias_specs encoded_size names_undefined names_claimed undefined_in IsTakenInTurn
 takes_head_and_tail = (
   the_tail ∷ the_head ∷ [],
-  record {
-    in_turn = (
-      (codes "foo_dll_iname", pulls_in_now (members_of three) (codes "_head_foo_dll" ∷ []) (the_head ∷ []) (codes "foo_dll_iname") the_tail refl refl refl refl),
-      (
-        (codes "_head_foo_dll", pulls_in_now (members_of three) (codes "_head_foo_dll" ∷ []) [] (codes "_head_foo_dll") the_head refl refl refl refl),
-        tt,
-      ),
-    );
-    ended = settled_ends (members_of three) (codes "_head_foo_dll" ∷ []) (the_tail ∷ the_head ∷ []) refl;
-  },
+  takes_by (codes "foo_dll_iname" ∷ codes "_head_foo_dll" ∷ []) refl refl refl,
   refl,
 )
 
