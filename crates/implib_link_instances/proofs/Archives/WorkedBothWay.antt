@@ -26,7 +26,7 @@ use Rattle.implib_link.specs.Gnu.Packed.{group_end, packed_end, sections_end}
 use Rattle.implib_link.specs.Gnu.Program.{ClaimsNone}
 use Rattle.implib_link.specs.Search.BothFlavors.{AreGivenForBoth, IsClosedForBoth, IsFlavorArchive, archive_of_both, kept_of_both}
 use Rattle.implib_link.specs.Search.Closed.{listed_in, unresolved}
-use Rattle.implib_link.specs.Search.Msvc.{AreTakenInTurn, TakesFor, left_in}
+use Rattle.implib_link.specs.Search.Msvc.{TakesFor, left_in}
 use Rattle.implib_link.specs.Search.MsvcClosed.{TakesIntoFor}
 use Rattle.implib_link_instances.specs.Worked.Calls.{first_bytes, given_on, last_bytes}
 use Rattle.implib_link_instances.specs.Worked.MsvcArchives.{thunk_named}
@@ -35,15 +35,16 @@ use Rattle.implib_link.proofs.Gnu.LinkedCodes.{codes_can_be_linked}
 use Rattle.implib_link.proofs.Gnu.Loaded.{mapped_at}
 use Rattle.implib_link.proofs.Search.BothClosed.{packed_both}
 use Rattle.implib_link.proofs.Search.BothGiven.{both_given_closes}
-use Rattle.implib_link.proofs.Search.Closed.{claims_apart}
+use Rattle.implib_link.proofs.Search.Closed.{claims_apart, takes_into}
 use Rattle.implib_link.proofs.Search.Lists.{among_at}
-use Rattle.implib_link.proofs.Search.MsvcClosed.{takes_into}
 use Rattle.implib_link_instances.proofs.Worked.BothFlavors.{archive_by}
 use Rattle.implib_link_instances.proofs.Worked.Calls.{wide}
 use Rattle.implib_link_instances.proofs.Worked.Choices.{once_by}
-use Rattle.implib_link_instances.proofs.Worked.MsvcSearch.{takes_by}
 use Rattle.implib_link_instances.proofs.Worked.NearSearches.{searched}
 use Rattle.implib_link_instances.proofs.Worked.Programs.{claims_none_by, instructions_at}
+use Rattle.implib_link.specs.Search.Search.{left_as, AreTakenInTurnAs}
+use Rattle.implib_link.specs.Flavors.Expansion.{expanded_in}
+use Rattle.implib_link_instances.proofs.Worked.Search.{takes_by}
 use Rattle.implib_link_instances.proofs.Worked.Searched.{below_limit}
 
 archive : IsFlavorArchive AMD64 both
@@ -62,7 +63,7 @@ given = record {
 }
 
 wanted_takes : TakesFor AMD64 (archive_of_both both) (unresolved own) taken
-unfolding searched AreTakenInTurn
+unfolding searched AreTakenInTurnAs
 wanted_takes = takes_by ((0x7F ∷ codes "zed_NULL_THUNK_DATA") ∷ codes "__NULL_IMPORT_DESCRIPTOR" ∷ codes "__IMPORT_DESCRIPTOR_zed" ∷ codes "__imp_queue" ∷ codes "foo_dll_iname" ∷ codes "_head_foo_dll" ∷ codes "__imp_bar" ∷ []) refl refl refl
 
 claims : AllByRecursion (ClaimsNone (listed_in taken ++ left_in AMD64 taken)) own
@@ -70,9 +71,9 @@ unfolding searched
 claims = (claims_none_by (listed_in taken ++ left_in AMD64 taken) calls_bar refl, (claims_none_by (listed_in taken ++ left_in AMD64 taken) calls_queue refl, tt))
 
 takes : TakesIntoFor AMD64 (archive_of_both both) own taken
-unfolding left_in
+unfolding left_as
 takes =
-    takes_into AMD64 (archive_of_both both) own taken (λ name left. claims_apart (listed_in taken ++ left_in AMD64 taken) own claims name (among_back name (listed_in taken) (left_in AMD64 taken) left)) wanted_takes
+    takes_into (expanded_in AMD64) (archive_of_both both) own taken (λ name left. claims_apart (listed_in taken ++ left_in AMD64 taken) own claims name (among_back name (listed_in taken) (left_in AMD64 taken) left)) wanted_takes
 
 closed : IsClosedForBoth AMD64 both own taken both bases objects
 unfolding searched group_end sections_end

@@ -31,13 +31,14 @@ use Rattle.implib_link.specs.Gnu.Program.{ClaimsNone, claimed_names, has_tables}
 use Rattle.implib_link.specs.Search.Archives.{IsArchive, archive_of, is_weak, symbols_of_library}
 use Rattle.implib_link.specs.Search.Closed.{AreLinkedFor, TakesInto, claims_of, listed_in, references_of}
 use Rattle.implib_link.specs.Search.Given.{AreGiven, symbols_kept}
-use Rattle.implib_link.specs.Search.Search.{IsTakenInTurn, Takes, names_claimed, names_undefined, undefined_in}
+use Rattle.implib_link.specs.Search.Search.{Takes, names_undefined, undefined_in, left_as, claimed_as, AreTakenInTurnAs}
 use Rattle.implib_link_instances.specs.Worked.Calls.{first_bytes, given_on, last_bytes}
 use Rattle.implib_link_instances.specs.Worked.Programs.{symbol_of_class}
 use Rattle.implib_link.proofs.Search.Closed.{claims_apart, takes_into}
 use Rattle.implib_link.proofs.Search.Lists.{any_among}
 use Rattle.implib_link_instances.proofs.Worked.Calls.{one_code_resolves, wide}
 use Rattle.implib_link_instances.proofs.Worked.Programs.{claims_none_by, distinct_by, opened, admissible_by, instructions_at}
+use Rattle.implib.specs.Formats.Object.{object_in}
 use Rattle.implib_link_instances.proofs.Worked.Search.{bar, takes_by}
 
 is_archive : IsArchive AMD64 libraries
@@ -65,23 +66,23 @@ refused is =
     true≢false (all_among (λ name. list_any (bytes_eq name) (claimed_names clashing) ≡ false) (codes "bar") names (any_among (codes "bar") names refl) is.claims.0)
 
 claims : AllByRecursion (ClaimsNone (listed_in taken ++ names_undefined taken)) own
-unfolding opened alias_specs encoded_size weak_object names_undefined undefined_in
+unfolding opened alias_specs encoded_size weak_object left_as undefined_in
 claims = (claims_none_by (listed_in taken ++ names_undefined taken) caller refl, tt)
 
 left_apart : (name : List ℕ) → Among name (flat_map undefined_in (objects_in taken)) → Among name (flat_map claimed_names own) → ⊥
-unfolding names_undefined
+unfolding left_as
 left_apart name left = claims_apart (listed_in taken ++ names_undefined taken) own claims name (among_back name (listed_in taken) (names_undefined taken) left)
 
 wanted_takes : Takes (archive_of libraries) (codes "__imp_bar" ∷ []) taken
-unfolding opened alias_specs encoded_size names_undefined names_claimed undefined_in IsTakenInTurn weak_object archive_of
+unfolding opened alias_specs encoded_size left_as claimed_as undefined_in AreTakenInTurnAs weak_object archive_of
 wanted_takes = takes_by (codes "foo_dll_iname" ∷ codes "_head_foo_dll" ∷ codes "__imp_bar" ∷ []) refl refl refl
 
 takes : TakesInto (archive_of libraries) own taken
 unfolding references_of claims_of undefined_in
-takes = takes_into (archive_of libraries) own taken left_apart wanted_takes
+takes = takes_into object_in (archive_of libraries) own taken left_apart wanted_takes
 
 linked_for : AreLinkedFor AMD64 libraries own taken libraries bases objects
-unfolding opened alias_specs encoded_size weak_object is_weak names_undefined undefined_in references_of claims_of has_tables
+unfolding opened alias_specs encoded_size weak_object is_weak left_as undefined_in references_of claims_of has_tables
 linked_for = record {
   order = record { moves = []; below = tt; is = refl };
   others = λ x. (λ held. held, λ held. held);
@@ -116,7 +117,7 @@ unfolding text_opened
 bar_parses = parses bar_text AMD64 bar_definition refl refl
 
 pub worked_way : WorkedWay
-unfolding opened refusal renamed_refusal alias_specs encoded_size weak_object has_tables is_weak names_undefined undefined_in references_of claims_of archive_of
+unfolding opened refusal renamed_refusal alias_specs encoded_size weak_object has_tables is_weak left_as undefined_in references_of claims_of archive_of
 worked_way = record {
   parses = bar_parses;
   archive = is_archive;

@@ -9,21 +9,22 @@ use Rattle.implib_link.specs.Gnu.Packed.{group_end, packed_end, sections_end}
 use Rattle.implib_link.specs.Gnu.Program.{ClaimsNone}
 use Rattle.implib_link.specs.Search.BothFlavors.{AreClosedForBoth, AreGivenForBoth, IsFlavorArchive, NamesNoMembers, archive_of_both, kept_of_both}
 use Rattle.implib_link.specs.Search.Closed.{listed_in, unresolved}
-use Rattle.implib_link.specs.Search.Msvc.{AreTakenInTurn, TakesFor, left_in}
+use Rattle.implib_link.specs.Search.Msvc.{TakesFor, left_in}
 use Rattle.implib_link.specs.Search.MsvcArchives.{wanted_with_weak}
 use Rattle.implib_link.specs.Search.MsvcClosed.{TakesIntoFor, wanted_for}
 use Rattle.implib_link_instances.specs.Worked.Programs.{symbol_on}
 use Rattle.implib_link.proofs.Search.BothArchives.{both_taken}
 use Rattle.implib_link.proofs.Search.BothClosed.{closed_links_of_both, packed_both}
-use Rattle.implib_link.proofs.Search.Closed.{claims_apart}
-use Rattle.implib_link.proofs.Search.MsvcClosed.{takes_into}
+use Rattle.implib_link.proofs.Search.Closed.{claims_apart, takes_into}
 use Rattle.implib_link_instances.proofs.Worked.BothFlavors.{archive_by, closed_by}
-use Rattle.implib_link_instances.proofs.Worked.MsvcSearch.{takes_by}
 use Rattle.implib_link_instances.proofs.Worked.NearSearches.{searched}
 use Rattle.implib_link_instances.proofs.Worked.Programs.{claims_none_by}
 use Rattle.implib_link_instances.proofs.Worked.Searched.{below_limit}
 use Rattle.implib_link_instances.specs.Machines.Closed.{IsLeft, IsPointerAt}
 use Rattle.implib_link_instances.specs.Machines.Crossed.{WorkedCrossed, bases, libraries, naming, objects, own, taken, zed_shorts}
+use Rattle.implib_link.specs.Search.Search.{left_as, AreTakenInTurnAs}
+use Rattle.implib_link.specs.Flavors.Expansion.{expanded_in}
+use Rattle.implib_link_instances.proofs.Worked.Search.{takes_by}
 use Rattle.implib_link_instances.specs.Machines.Parts.{bar, queue, zed}
 
 -- what is computed of the program on a machine
@@ -41,9 +42,9 @@ record Computed (machine : MachineType) (queue_at : ℕ) : Type 0 where
   queue_pointer : IsPointerAt (bases machine) (objects machine) (queue machine) queue_at
 
 worked : (machine : MachineType) (queue_at : ℕ) → Computed machine queue_at → WorkedCrossed machine queue_at
-unfolding left_in
+unfolding left_as
 worked machine queue_at is =
-    let into = takes_into machine (archive_of_both (libraries machine)) (own machine) (taken machine)
+    let into = takes_into (expanded_in machine) (archive_of_both (libraries machine)) (own machine) (taken machine)
     (λ name left. claims_apart (listed_in (taken machine) ++ left_in machine (taken machine)) (own machine) is.claims name (among_back name (listed_in (taken machine)) (left_in machine (taken machine)) left))
     is.takes in
     let closed = packed_both machine (libraries machine) (own machine) (taken machine) (libraries machine) 0x25000 (objects machine) is.archive (is.closed into) (omega arith) is.end in
@@ -64,7 +65,7 @@ unfolding searched
 archive_amd64 = archive_by (record { accepted = refl; made = refl; ordinals = refl }, tt) (record { accepted = refl; made = refl; ordinals = refl }, tt) (refl, tt) refl refl refl
 
 takes_amd64 : TakesFor AMD64 (archive_of_both (libraries AMD64)) (unresolved (own AMD64)) (taken AMD64)
-unfolding searched AreTakenInTurn
+unfolding searched AreTakenInTurnAs
 takes_amd64 = takes_by (null_thunk_symbol zed ∷ null_descriptor_symbol ∷ descriptor_symbol zed ∷ queue AMD64 ∷ bar AMD64 ∷ []) refl refl refl
 
 names_amd64 : NamesNoMembers AMD64 (libraries AMD64) (wanted_for AMD64 (own AMD64) (taken AMD64))
@@ -103,7 +104,7 @@ unfolding searched
 archive_arm64 = archive_by (record { accepted = refl; made = refl; ordinals = refl }, tt) (record { accepted = refl; made = refl; ordinals = refl }, tt) (refl, tt) refl refl refl
 
 takes_arm64 : TakesFor ARM64 (archive_of_both (libraries ARM64)) (unresolved (own ARM64)) (taken ARM64)
-unfolding searched AreTakenInTurn
+unfolding searched AreTakenInTurnAs
 takes_arm64 = takes_by (null_thunk_symbol zed ∷ null_descriptor_symbol ∷ descriptor_symbol zed ∷ queue ARM64 ∷ bar ARM64 ∷ []) refl refl refl
 
 names_arm64 : NamesNoMembers ARM64 (libraries ARM64) (wanted_for ARM64 (own ARM64) (taken ARM64))
@@ -142,7 +143,7 @@ unfolding searched
 archive_i386 = archive_by (record { accepted = refl; made = refl; ordinals = refl }, tt) (record { accepted = refl; made = refl; ordinals = refl }, tt) (refl, tt) refl refl refl
 
 takes_i386 : TakesFor I386 (archive_of_both (libraries I386)) (unresolved (own I386)) (taken I386)
-unfolding searched AreTakenInTurn
+unfolding searched AreTakenInTurnAs
 takes_i386 = takes_by (null_thunk_symbol zed ∷ null_descriptor_symbol ∷ descriptor_symbol zed ∷ queue I386 ∷ bar I386 ∷ []) refl refl refl
 
 names_i386 : NamesNoMembers I386 (libraries I386) (wanted_for I386 (own I386) (taken I386))
@@ -181,7 +182,7 @@ unfolding searched
 archive_armnt = archive_by (record { accepted = refl; made = refl; ordinals = refl }, tt) (record { accepted = refl; made = refl; ordinals = refl }, tt) (refl, tt) refl refl refl
 
 takes_armnt : TakesFor ARMNT (archive_of_both (libraries ARMNT)) (unresolved (own ARMNT)) (taken ARMNT)
-unfolding searched AreTakenInTurn
+unfolding searched AreTakenInTurnAs
 takes_armnt = takes_by (null_thunk_symbol zed ∷ null_descriptor_symbol ∷ descriptor_symbol zed ∷ queue ARMNT ∷ bar ARMNT ∷ []) refl refl refl
 
 names_armnt : NamesNoMembers ARMNT (libraries ARMNT) (wanted_for ARMNT (own ARMNT) (taken ARMNT))

@@ -15,20 +15,21 @@ use Rattle.implib_link.specs.Search.BothFlavors.{AreClosedForBoth, AreGivenForBo
 use Rattle.implib_link.specs.Search.BothExists.{tables_end_of_both}
 use Rattle.implib_link.specs.Search.Closed.{listed_in, unresolved}
 use Rattle.implib_link.specs.Search.Exists.{LieWithin}
-use Rattle.implib_link.specs.Search.Msvc.{AreTakenInTurn, TakesFor, left_in}
+use Rattle.implib_link.specs.Search.Msvc.{TakesFor, left_in}
 use Rattle.implib_link.specs.Search.MsvcArchives.{wanted_with_weak}
 use Rattle.implib_link.specs.Search.MsvcClosed.{TakesIntoFor, wanted_for}
 use Rattle.implib_link.proofs.Search.BothArchives.{both_taken}
 use Rattle.implib_link.proofs.Search.BothClosed.{closed_links_of_both, packed_both}
 use Rattle.implib_link.proofs.Search.BothExists.{placed_within}
-use Rattle.implib_link.proofs.Search.Closed.{claims_apart}
-use Rattle.implib_link.proofs.Search.MsvcClosed.{takes_into}
+use Rattle.implib_link.proofs.Search.Closed.{claims_apart, takes_into}
 use Rattle.implib_link_instances.proofs.Worked.BothFlavors.{archive_by, closed_by}
-use Rattle.implib_link_instances.proofs.Worked.MsvcSearch.{takes_by}
 use Rattle.implib_link_instances.proofs.Worked.NearSearches.{searched}
 use Rattle.implib_link_instances.proofs.Worked.Programs.{claims_none_by}
 use Rattle.implib_link_instances.proofs.Worked.Searched.{below_limit}
 use Rattle.implib_link_instances.specs.Machines.Closed.{IsLeft, IsPointerAt, WorkedMixed, foo_shorts, mixed_bases, mixed_libraries, mixed_objects, mixed_taken, own_on, zed_first, zed_members}
+use Rattle.implib_link.specs.Search.Search.{left_as, AreTakenInTurnAs}
+use Rattle.implib_link.specs.Flavors.Expansion.{expanded_in}
+use Rattle.implib_link_instances.proofs.Worked.Search.{takes_by}
 use Rattle.implib_link_instances.specs.Machines.Parts.{bar, baz, choosing_on, foo, queue, zed}
 
 -- what is computed of the program on a machine
@@ -48,9 +49,9 @@ record Computed (machine : MachineType) (baz_at queue_at end_at : ℕ) : Type 0 
   below : tables_end_of_both 0x13000 (mixed_libraries machine) < 2 ^ 31
 
 worked : (machine : MachineType) (baz_at queue_at end_at : ℕ) → Computed machine baz_at queue_at end_at → WorkedMixed machine baz_at queue_at end_at
-unfolding left_in
+unfolding left_as
 worked machine baz_at queue_at end_at is =
-    let into = takes_into machine (archive_of_both (mixed_libraries machine)) (own_on machine) (mixed_taken machine)
+    let into = takes_into (expanded_in machine) (archive_of_both (mixed_libraries machine)) (own_on machine) (mixed_taken machine)
     (λ name left. claims_apart (listed_in (mixed_taken machine) ++ left_in machine (mixed_taken machine)) (own_on machine) is.claims name (among_back name (listed_in (mixed_taken machine)) (left_in machine (mixed_taken machine)) left))
     is.takes in
     let closed = packed_both machine (mixed_libraries machine) (own_on machine) (mixed_taken machine) (zed_first machine) 0x13000 (mixed_objects machine) is.archive (is.closed into) (omega arith) is.end in
@@ -74,7 +75,7 @@ unfolding searched
 archive_arm64 = archive_by (record { accepted = refl; made = refl; ordinals = refl }, tt) (record { accepted = refl; made = refl; ordinals = refl }, tt) (refl, tt) refl refl refl
 
 takes_arm64 : TakesFor ARM64 (archive_of_both (mixed_libraries ARM64)) (unresolved (own_on ARM64)) (mixed_taken ARM64)
-unfolding searched AreTakenInTurn
+unfolding searched AreTakenInTurnAs
 takes_arm64 = takes_by (null_descriptor_symbol ∷ null_thunk_symbol foo ∷ descriptor_symbol foo ∷ baz ARM64 ∷ bar ARM64 ∷ iname_symbol ARM64 zed ∷ head_symbol ARM64 zed ∷ imp_symbol (queue ARM64) ∷ []) refl refl refl
 
 names_arm64 : NamesNoMembers ARM64 (mixed_libraries ARM64) (wanted_for ARM64 (own_on ARM64) (mixed_taken ARM64))
@@ -115,7 +116,7 @@ unfolding searched
 archive_i386 = archive_by (record { accepted = refl; made = refl; ordinals = refl }, tt) (record { accepted = refl; made = refl; ordinals = refl }, tt) (refl, tt) refl refl refl
 
 takes_i386 : TakesFor I386 (archive_of_both (mixed_libraries I386)) (unresolved (own_on I386)) (mixed_taken I386)
-unfolding searched AreTakenInTurn
+unfolding searched AreTakenInTurnAs
 takes_i386 = takes_by (null_descriptor_symbol ∷ null_thunk_symbol foo ∷ descriptor_symbol foo ∷ baz I386 ∷ bar I386 ∷ iname_symbol I386 zed ∷ head_symbol I386 zed ∷ imp_symbol (queue I386) ∷ []) refl refl refl
 
 names_i386 : NamesNoMembers I386 (mixed_libraries I386) (wanted_for I386 (own_on I386) (mixed_taken I386))
@@ -156,7 +157,7 @@ unfolding searched
 archive_armnt = archive_by (record { accepted = refl; made = refl; ordinals = refl }, tt) (record { accepted = refl; made = refl; ordinals = refl }, tt) (refl, tt) refl refl refl
 
 takes_armnt : TakesFor ARMNT (archive_of_both (mixed_libraries ARMNT)) (unresolved (own_on ARMNT)) (mixed_taken ARMNT)
-unfolding searched AreTakenInTurn
+unfolding searched AreTakenInTurnAs
 takes_armnt = takes_by (null_descriptor_symbol ∷ null_thunk_symbol foo ∷ descriptor_symbol foo ∷ baz ARMNT ∷ bar ARMNT ∷ iname_symbol ARMNT zed ∷ head_symbol ARMNT zed ∷ imp_symbol (queue ARMNT) ∷ []) refl refl refl
 
 names_armnt : NamesNoMembers ARMNT (mixed_libraries ARMNT) (wanted_for ARMNT (own_on ARMNT) (mixed_taken ARMNT))

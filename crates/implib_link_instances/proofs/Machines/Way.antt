@@ -31,7 +31,7 @@ use Rattle.implib_link.specs.Gnu.Program.{ClaimsNone}
 use Rattle.implib_link.specs.Gnu.Reading.{ReadsAndWrites}
 use Rattle.implib_link.specs.Search.BothFlavors.{AreGivenForBoth, IsClosedForBoth, IsFlavorArchive, archive_of_both, kept_of_both, msvc_among}
 use Rattle.implib_link.specs.Search.Closed.{listed_in, unresolved}
-use Rattle.implib_link.specs.Search.Msvc.{AreTakenInTurn, TakesFor, left_in}
+use Rattle.implib_link.specs.Search.Msvc.{TakesFor, left_in}
 use Rattle.implib_link.specs.Search.MsvcArchives.{short_inputs}
 use Rattle.implib_link.specs.Search.MsvcClosed.{TakesIntoFor}
 use Rattle.implib_link.specs.Stub.{CanJump}
@@ -41,18 +41,19 @@ use Rattle.implib_link.proofs.Gnu.LinkedCodes.{codes_can_be_linked}
 use Rattle.implib_link.proofs.Gnu.Loaded.{mapped_at}
 use Rattle.implib_link.proofs.Search.BothClosed.{packed_both}
 use Rattle.implib_link.proofs.Search.BothGiven.{both_given_closes}
-use Rattle.implib_link.proofs.Search.Closed.{claims_apart}
+use Rattle.implib_link.proofs.Search.Closed.{claims_apart, takes_into}
 use Rattle.implib_link.proofs.Search.Lists.{among_at}
-use Rattle.implib_link.proofs.Search.MsvcClosed.{takes_into}
 use Rattle.implib_link_instances.proofs.Worked.BothFlavors.{archive_by}
 use Rattle.implib_link_instances.proofs.Worked.Calls.{wide}
 use Rattle.implib_link_instances.proofs.Worked.Choices.{once_by}
-use Rattle.implib_link_instances.proofs.Worked.MsvcSearch.{takes_by}
 use Rattle.implib_link_instances.proofs.Worked.NearSearches.{searched}
 use Rattle.implib_link_instances.proofs.Worked.Programs.{claims_none_by, instructions_at}
 use Rattle.implib_link_instances.proofs.Worked.Searched.{below_limit}
 use Rattle.implib_link_instances.specs.Machines.Closed.{IsPointerAt}
 use Rattle.implib_link_instances.specs.Machines.Parts.{bar, foo, queue, zed}
+use Rattle.implib_link.specs.Search.Search.{left_as, AreTakenInTurnAs}
+use Rattle.implib_link.specs.Flavors.Expansion.{expanded_in}
+use Rattle.implib_link_instances.proofs.Worked.Search.{takes_by}
 use Rattle.implib_link_instances.specs.Machines.Way.{Arrives, WorkedWay, bar_for_gnu, bases, both, calls_bar, calls_queue, code_at, members, objects, own, placed, queue_for_msvc, taken}
 
 abbrev bar_input : MachineType → FlavorInput
@@ -100,9 +101,9 @@ record Computed (machine : MachineType) (image_base first bar_at queue_at : ℕ)
 
 worked : (machine : MachineType) (image_base first bar_at queue_at : ℕ) (bar_given queue_given : List ℕ) → Computed machine image_base first bar_at queue_at bar_given queue_given →
     WorkedWay machine image_base first bar_at queue_at bar_given queue_given
-unfolding left_in
+unfolding left_as
 worked machine image_base first bar_at queue_at bar_given queue_given is =
-    let into = takes_into machine (archive_of_both (both machine)) (own machine) (taken machine)
+    let into = takes_into (expanded_in machine) (archive_of_both (both machine)) (own machine) (taken machine)
     (λ name left. claims_apart (listed_in (taken machine) ++ left_in machine (taken machine)) (own machine) is.claims name (among_back name (listed_in (taken machine)) (left_in machine (taken machine)) left))
     is.takes in
     let arrive = both_arrive machine (both machine) (own machine) (taken machine) (both machine) (bases machine first) (objects machine) is.archive is.given is.wants into (is.linked into) in
@@ -142,7 +143,7 @@ unfolding searched
 wants_arm64 = omega arith
 
 takes_arm64 : TakesFor ARM64 (archive_of_both (both ARM64)) (unresolved (own ARM64)) (taken ARM64)
-unfolding searched AreTakenInTurn
+unfolding searched AreTakenInTurnAs
 takes_arm64 = takes_by (iname_symbol ARM64 foo ∷ head_symbol ARM64 foo ∷ imp_symbol (bar ARM64) ∷ null_descriptor_symbol ∷ null_thunk_symbol zed ∷ descriptor_symbol zed ∷ imp_symbol (queue ARM64) ∷ []) refl refl refl
 
 claims_arm64 : AllByRecursion (ClaimsNone (listed_in (taken ARM64) ++ left_in ARM64 (taken ARM64))) (own ARM64)
@@ -261,7 +262,7 @@ unfolding searched
 wants_i386 = omega arith
 
 takes_i386 : TakesFor I386 (archive_of_both (both I386)) (unresolved (own I386)) (taken I386)
-unfolding searched AreTakenInTurn
+unfolding searched AreTakenInTurnAs
 takes_i386 = takes_by (iname_symbol I386 foo ∷ head_symbol I386 foo ∷ imp_symbol (bar I386) ∷ null_descriptor_symbol ∷ null_thunk_symbol zed ∷ descriptor_symbol zed ∷ imp_symbol (queue I386) ∷ []) refl refl refl
 
 claims_i386 : AllByRecursion (ClaimsNone (listed_in (taken I386) ++ left_in I386 (taken I386))) (own I386)

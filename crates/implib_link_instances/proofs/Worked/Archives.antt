@@ -10,7 +10,7 @@ use Rattle.implib.specs.Members.Members.{refusal, renamed_refusal}
 use Rattle.implib.specs.Members.MemberSpec.{MemberView, member_of}
 use Rattle.implib.specs.Worked.Statements.{plain_export}
 use Rattle.implib_link.specs.Search.Archives.{archive_of, is_weak, symbols_of_library}
-use Rattle.implib_link.specs.Search.Search.{IsTakenInTurn, Takes, undefined_in, names_claimed, names_undefined}
+use Rattle.implib_link.specs.Search.Search.{Takes, undefined_in, left_as, claimed_as, AreTakenInTurnAs}
 use Rattle.implib_link_instances.specs.Worked.Archives.{WorkedArchives, both_wanted, two_libraries}
 use Rattle.implib_link_instances.proofs.Worked.Search.{opened, takes_by}
 use Rattle.implib.specs.LibraryName.{own_names}
@@ -40,11 +40,11 @@ abbrev archive : List MemberView
 archive = archive_of two_libraries
 
 pub both_takes : Takes (archive_of two_libraries) both_wanted both_taken
-unfolding opened alias_specs encoded_size names_undefined names_claimed undefined_in IsTakenInTurn weak_object archive_of
+unfolding opened alias_specs encoded_size left_as claimed_as undefined_in AreTakenInTurnAs weak_object archive_of
 both_takes = takes_by (codes "zed_dll_iname" ∷ codes "_head_zed_dll" ∷ codes "__imp_queue" ∷ codes "foo_dll_iname" ∷ codes "_head_foo_dll" ∷ codes "baz" ∷ codes "bar" ∷ []) refl refl refl
 
 pub worked_archives : WorkedArchives
-unfolding opened refusal renamed_refusal alias_specs encoded_size IsDistinct weak_object symbols_of_library is_weak names_undefined undefined_in
+unfolding opened refusal renamed_refusal alias_specs encoded_size IsDistinct weak_object symbols_of_library is_weak left_as undefined_in
 worked_archives = record {
   archive = record {
     made = (record { accepted = refl; made = refl; ordinals = refl }, (record { accepted = refl; made = refl; ordinals = refl }, tt));

@@ -25,10 +25,10 @@ use Rattle.implib_link.specs.Gnu.Program.{ClaimsNone, claimed_names, has_tables}
 use Rattle.implib_link.specs.Search.Archives.{IsArchive, symbols_of_library, IsLibrary}
 use Rattle.implib_link.specs.Search.BothFlavors.{AreClosedForBoth, AreGivenForBoth, FlavorLibrary, IsClosedForBoth, IsFlavorArchive, NamesNoMembers, archive_of_both, gnu_among, kept_of_both, msvc_among, inputs_of_both}
 use Rattle.implib_link.specs.Search.Closed.{listed_in, unresolved}
-use Rattle.implib_link.specs.Search.Msvc.{AreTakenInTurn, TakesFor, left_in}
+use Rattle.implib_link.specs.Search.Msvc.{TakesFor, left_in}
 use Rattle.implib_link.specs.Search.MsvcArchives.{IsMsvcArchive, first_null, symbols_of_shorts, wanted_with_weak, IsMsvcLibrary, short_inputs, weak_in}
 use Rattle.implib_link.specs.Search.MsvcClosed.{PullsIntoFor, TakesIntoFor, wanted_for}
-use Rattle.implib_link.specs.Search.Search.{undefined_in, HaveSame}
+use Rattle.implib_link.specs.Search.Search.{undefined_in, HaveSame, left_as, AreTakenInTurnAs}
 use Rattle.implib_link_instances.specs.Worked.BothFlavors.{NearAreClosedForBoth, NearAreGivenForBoth, NearIsClosedForBoth, NearIsFlavorArchive, NearIsImportedOfBoth, NearIsUsedIn, NearLinksClosedForBoth, NearNamesNoMembers, NearTakesOfBoth, WorkedBoth, WorkedGivenForBoth, foo_and_zed, mixed_bases, mixed_inputs, mixed_objects, mixed_taken, mixed_without_last, zed_and_foo}
 use Rattle.implib_link_instances.specs.Worked.Closed.{choosing, clashing, foo_alias, foo_linked}
 use Rattle.implib_link_instances.specs.Worked.MsvcArchives.{thunk_named}
@@ -37,19 +37,18 @@ use Rattle.implib_link_instances.specs.Worked.NearSearches.{again}
 use Rattle.implib_link.proofs.Search.BothArchives.{both_taken}
 use Rattle.implib_link.proofs.Search.BothClosed.{closed_links_of_both, packed_both}
 use Rattle.implib_link.proofs.Search.BothGiven.{both_given_ends}
-use Rattle.implib_link.proofs.Search.Closed.{claims_apart, unresolved_parts}
+use Rattle.implib_link.proofs.Search.Closed.{claims_apart, unresolved_parts, takes_into}
 use Rattle.implib_link.proofs.Search.Lists.{among_any, among_at, any_among, contains_among}
-use Rattle.implib_link.proofs.Search.MsvcClosed.{takes_into}
-use Rattle.implib_link_instances.proofs.Worked.MsvcSearch.{takes_by}
 use Rattle.implib_link_instances.proofs.Worked.NearMisses.{in_one_alone, none_passes, some_passes}
 use Rattle.implib_link_instances.proofs.Worked.NearPrograms.{no_eights}
 use Rattle.implib_link_instances.proofs.Worked.NearResults.{more_taken, no_length, no_order, none_taken}
 use Rattle.implib_link_instances.proofs.Worked.NearSearches.{none_in, not_address, searched, twice, weak_data, weak_short}
 use Rattle.implib_link_instances.proofs.Worked.Programs.{claims_none_by, distinct_by, all_differ}
 use Rattle.implib_link_instances.proofs.Worked.RefusedLinks.{differ}
-use Rattle.implib_link.specs.Flavors.Expansion.{descriptor_symbol_by_name}
+use Rattle.implib_link.specs.Flavors.Expansion.{descriptor_symbol_by_name, expanded_in}
 use Rattle.implib.specs.LibraryName.{linked_dll}
 use Rattle.implib.specs.declared.machine.MachineType.{MachineType}
+use Rattle.implib_link_instances.proofs.Worked.Search.{takes_by}
 use Rattle.implib_link_instances.proofs.Worked.Searched.{below_limit}
 
 abbrev own : List Object
@@ -126,7 +125,7 @@ abbrev wants : List (List ℕ)
 wants = unresolved (choosing ∷ [])
 
 takes_wanted : TakesFor AMD64 (archive_of_both foo_and_zed) (unresolved (choosing ∷ [])) mixed_taken
-unfolding searched AreTakenInTurn
+unfolding searched AreTakenInTurnAs
 takes_wanted = takes_by ((0x7F ∷ codes "zed_NULL_THUNK_DATA") ∷ codes "__NULL_IMPORT_DESCRIPTOR" ∷ codes "__IMPORT_DESCRIPTOR_zed" ∷ codes "__imp_queue" ∷ codes "foo_dll_iname" ∷ codes "_head_foo_dll" ∷ codes "baz" ∷ codes "bar" ∷ []) refl refl refl
 
 pub claims : AllByRecursion (ClaimsNone (listed_in mixed_taken ++ left_in AMD64 mixed_taken)) (choosing ∷ [])
@@ -135,11 +134,11 @@ claims = (claims_none_by (listed_in mixed_taken ++ left_in AMD64 mixed_taken) ch
 
 -- what the members that are taken leave, the object does not claim
 pub left_apart : (name : List ℕ) → Among name (flat_map undefined_in (objects_taken AMD64 mixed_taken)) → Among name (flat_map claimed_names own) → ⊥
-unfolding left_in
+unfolding left_as
 left_apart name left = claims_apart (listed_in mixed_taken ++ left_in AMD64 mixed_taken) own claims name (among_back name (listed_in mixed_taken) (left_in AMD64 mixed_taken) left)
 
 takes : TakesIntoFor AMD64 (archive_of_both foo_and_zed) (choosing ∷ []) mixed_taken
-takes = takes_into AMD64 members own mixed_taken left_apart takes_wanted
+takes = takes_into (expanded_in AMD64) members own mixed_taken left_apart takes_wanted
 
 names : NamesNoMembers AMD64 foo_and_zed (wanted_for AMD64 (choosing ∷ []) mixed_taken)
 unfolding searched

@@ -9,7 +9,7 @@ use Rattle.implib_link.specs.Gnu.Packed.{group_end, packed_end, sections_end}
 use Rattle.implib_link.specs.Search.Archives.{symbols_of_library}
 use Rattle.implib_link.specs.Search.BothFlavors.{AreClosedForBoth, IsClosedForBoth, IsFlavorArchive, NamesNoMembers, archive_of_both, gnu_among, msvc_among}
 use Rattle.implib_link.specs.Search.Closed.{unresolved}
-use Rattle.implib_link.specs.Search.Msvc.{AreTakenInTurn, TakesFor}
+use Rattle.implib_link.specs.Search.Msvc.{TakesFor}
 use Rattle.implib_link.specs.Search.MsvcArchives.{symbols_of_shorts}
 use Rattle.implib_link.specs.Search.MsvcClosed.{TakesIntoFor, wanted_for}
 use Rattle.implib_link_instances.specs.Worked.BothFlavors.{foo_and_zed, mixed_taken, zed_and_foo}
@@ -17,11 +17,13 @@ use Rattle.implib_link_instances.specs.Worked.Closed.{choosing, foo_linked}
 use Rattle.implib_link_instances.specs.Worked.MsvcClosed.{zed_members}
 use Rattle.implib_link.proofs.Search.BothArchives.{both_taken}
 use Rattle.implib_link.proofs.Search.BothClosed.{closed_links_of_both, packed_both}
-use Rattle.implib_link.proofs.Search.MsvcClosed.{takes_into}
-use Rattle.implib_link_instances.proofs.Worked.MsvcSearch.{takes_by}
 use Rattle.implib_link_instances.proofs.Worked.NearSearches.{searched}
 use Rattle.implib_link_instances.proofs.Worked.Searched.{below_limit}
 use Rattle.implib_link_instances.specs.Worked.BothReversed.{WorkedReversed, reversed_bases, reversed_objects}
+use Rattle.implib_link.specs.Search.Search.{AreTakenInTurnAs}
+use Rattle.implib_link.proofs.Search.Closed.{takes_into}
+use Rattle.implib_link.specs.Flavors.Expansion.{expanded_in}
+use Rattle.implib_link_instances.proofs.Worked.Search.{takes_by}
 use Rattle.implib_link_instances.proofs.Worked.BothFlavors.{apart_by, claims, gnu_archive, left_apart, msvc_archive, closed_by}
 
 abbrev own : List Object
@@ -42,11 +44,11 @@ abbrev wants : List (List ℕ)
 wants = unresolved (choosing ∷ [])
 
 takes_wanted : TakesFor AMD64 (archive_of_both zed_and_foo) (unresolved (choosing ∷ [])) mixed_taken
-unfolding searched AreTakenInTurn
+unfolding searched AreTakenInTurnAs
 takes_wanted = takes_by ((0x7F ∷ codes "zed_NULL_THUNK_DATA") ∷ codes "__NULL_IMPORT_DESCRIPTOR" ∷ codes "__IMPORT_DESCRIPTOR_zed" ∷ codes "__imp_queue" ∷ codes "foo_dll_iname" ∷ codes "_head_foo_dll" ∷ codes "baz" ∷ codes "bar" ∷ []) refl refl refl
 
 takes : TakesIntoFor AMD64 (archive_of_both zed_and_foo) (choosing ∷ []) mixed_taken
-takes = takes_into AMD64 members own mixed_taken left_apart takes_wanted
+takes = takes_into (expanded_in AMD64) members own mixed_taken left_apart takes_wanted
 
 names : NamesNoMembers AMD64 zed_and_foo (wanted_for AMD64 (choosing ∷ []) mixed_taken)
 unfolding searched
