@@ -32,7 +32,7 @@ use Rattle.implib_link.specs.Gnu.Program.{IsProgram, has_tables, linked_symbols}
 use Rattle.implib_link_instances.specs.Worked.Aliases.{WorkedAlias, WorkedFlavorAlias, alias_at, alias_calling, alias_codes, alias_flavors, alias_load_at, alias_loading, alias_objects, alias_placed, all_at, opened_flavors, opened_name, opened_placed, OverriddenAlias, overridden_code, overridden_placed}
 use Rattle.implib_link_instances.specs.Worked.Calls.{first_bytes, last_bytes}
 use Rattle.implib_link_instances.specs.Worked.Flavors.{both_inputs as flavor_inputs, flavor_bases_8, foo_input as msvc_input}
-use Rattle.implib_link_instances.specs.Worked.Programs.{another, both_inputs, symbol_of_class, touching_8}
+use Rattle.implib_link_instances.specs.Worked.Programs.{both_inputs, symbol_of_class, touching_8}
 use Rattle.implib_link.proofs.Gnu.Aliases.{weak_is_weak}
 use Rattle.implib_link.proofs.Search.Lists.{among_at, contains_among}
 use Rattle.implib_link_instances.proofs.Worked.Calls.{is_none, one_of, second_at}
@@ -41,6 +41,7 @@ use Rattle.implib_link_instances.proofs.Worked.Programs.{claims_none_by, distinc
 use Rattle.implib_link_instances.proofs.Worked.Rebased.{all_unwanted, none_wanted}
 use Rattle.implib_link_instances.specs.Worked.Relocated.{CodesBeside, code_ranges, linked_codes, as_placed, linked_by}
 use Rattle.implib_link_instances.proofs.Worked.Relocated.{beside_by, codes_tested}
+use Rattle.implib_link_instances.proofs.Worked.Flavors.{flavor_objects_by}
 use Rattle.implib_link_instances.proofs.Worked.LinkedCode.{relocated_test}
 
 program : IsProgram AMD64 touching_8 (both_inputs AMD64) alias_objects
@@ -153,24 +154,7 @@ unfolding opened refusal renamed_refusal alias_specs encoded_size weak_object ha
 flavors_program =
     let symbols : List (List ℕ) = null_descriptor_symbol ∷ symbols_listed (all_members AMD64 (flavor_inputs AMD64)) in
     record {
-      held = record {
-        distinct = distinct_by symbols refl;
-        null_from = msvc_input AMD64;
-        null_held = (0, omega arith, refl);
-        null_flavor = refl;
-        before = take 0 (all_members AMD64 (flavor_inputs AMD64));
-        behind = drop 0 (all_members AMD64 (flavor_inputs AMD64));
-        members = refl;
-        tables = refl;
-        others = (
-          claims_none_by symbols alias_calling refl,
-          (
-            claims_none_by symbols alias_loading refl,
-            (claims_none_by symbols (object_of (weak_object AMD64 opened_name (imp_symbol (codes "open")))) refl, (claims_none_by symbols (another AMD64) refl, tt)),
-          ),
-        );
-        found = (refl, (tt, tt));
-      };
+      held = flavor_objects_by (msvc_input AMD64) (take 0 (all_members AMD64 (flavor_inputs AMD64))) (drop 0 (all_members AMD64 (flavor_inputs AMD64))) (0, omega arith, refl) (refl, (tt, tt)) refl refl refl refl refl;
       admissible = admissible_by refl refl;
       lookups = refl;
       addresses = refl;

@@ -37,20 +37,20 @@ use Rattle.implib.specs.Members.MsvcObjects.{base_name, descriptor, descriptor_s
 use Rattle.implib.specs.Formats.ShortImport.{short_import_in}
 use Rattle.std.specs.Prelude.{drop, take}
 use Rattle.implib_link.specs.Flavors.Expansion.{import_object, descriptor_symbol_by_name, expanded_in}
-use Rattle.implib_link.specs.Flavors.Program.{IsFlavorProgram, all_members, symbols_listed, FlavorInput, IsMadeFor, exports_chosen, symbol_in, ask_in, dll_of}
+use Rattle.implib_link.specs.Flavors.Program.{IsFlavorProgram, all_members, FlavorInput, IsMadeFor, exports_chosen, symbol_in, ask_in, dll_of}
 use Rattle.implib_link.specs.Flavors.SectionSymbols.{with_section_symbols}
 use Rattle.implib_link.specs.Gnu.Packed.{group_end, sections_end}
 use Rattle.implib_link_instances.specs.Worked.Flavors.{both_inputs as flavor_inputs, flavor_bases_8, flavor_image, flavor_objects, flavor_placed, foo_input as msvc_input}
-use Rattle.implib_link_instances.proofs.Worked.Flavors.{worked_flavors}
+use Rattle.implib_link_instances.proofs.Worked.Flavors.{worked_flavors, flavor_objects_by}
 use Rattle.implib_link.specs.Gnu.Calls.{Defines, HasCall, HasDirectCall, PlacedCode, Resolves}
 use Rattle.implib_link.specs.Gnu.Program.{IsProgram, has_tables}
 use Rattle.implib_link.specs.Gnu.Reading.{ReadsAndWrites}
-use Rattle.implib_link_instances.specs.Worked.Calls.{WorkedDirectCall, direct_at, direct_objects, direct_placed, direct_targets, is_open, open_or, open_targets, stub_at, WorkedFlavorCall, calling_flavors, flavor_targets, flavors_placed, WorkedCall, WorkedCalls, WorkedReading, calling, calling_at, calling_memory, calling_objects, calling_placed, first_bytes, given_on, last_bytes, nameless_image, table_targets}
-use Rattle.implib_link_instances.specs.Worked.Programs.{another, both_inputs, foo_input, program_image, program_objects, program_placed, symbol_of_class, symbol_on, touching_4, touching_8}
+use Rattle.implib_link_instances.specs.Worked.Calls.{WorkedDirectCall, direct_at, direct_objects, direct_placed, direct_targets, is_open, open_or, open_targets, stub_at, WorkedFlavorCall, calling_flavors, flavor_targets, flavors_placed, WorkedCall, WorkedCalls, WorkedReading, calling_at, calling_memory, calling_objects, calling_placed, first_bytes, given_on, last_bytes, nameless_image, table_targets}
+use Rattle.implib_link_instances.specs.Worked.Programs.{both_inputs, foo_input, program_image, program_objects, program_placed, symbol_of_class, symbol_on, touching_4, touching_8}
 use Rattle.implib_link.proofs.Gnu.Memory.{holder, not_in_both}
 use Rattle.implib_link.proofs.Gnu.Stubs.{same_address}
 use Rattle.implib_link.proofs.Search.Lists.{among_at, contains_among, each_of}
-use Rattle.implib_link_instances.proofs.Worked.Programs.{claims_none_by, distinct_by, worked_programs, admissible_by, instructions_at, program_by}
+use Rattle.implib_link_instances.proofs.Worked.Programs.{worked_programs, admissible_by, instructions_at, program_by}
 use Rattle.implib_link_instances.proofs.Worked.RefusedLinks.{differ, number}
 use Rattle.implib_link_instances.specs.Worked.Relocated.{CodesBeside, code_range, code_ranges}
 use Rattle.implib_link_instances.proofs.Worked.Relocated.{beside_by, codes_tested}
@@ -323,21 +323,7 @@ worked_reading = record {
 pub flavors_program : IsFlavorProgram AMD64 flavor_bases_8 (flavor_inputs AMD64) calling_flavors
 unfolding opened refusal renamed_refusal alias_specs encoded_size weak_object has_tables expanded_in short_import_in import_object descriptor_symbol_by_name with_section_symbols descriptor null_descriptor null_thunk descriptor_symbol null_descriptor_symbol null_thunk_symbol base_name descriptor_spec null_descriptor_spec null_thunk_spec header_specs weak_specs group_end sections_end
 flavors_program = record {
-  held = record {
-    distinct = distinct_by (null_descriptor_symbol ∷ symbols_listed (all_members AMD64 (flavor_inputs AMD64))) refl;
-    null_from = msvc_input AMD64;
-    null_held = (0, omega arith, refl);
-    null_flavor = refl;
-    before = take 0 (all_members AMD64 (flavor_inputs AMD64));
-    behind = drop 0 (all_members AMD64 (flavor_inputs AMD64));
-    members = refl;
-    tables = refl;
-    others = (
-      claims_none_by (null_descriptor_symbol ∷ symbols_listed (all_members AMD64 (flavor_inputs AMD64))) (calling AMD64) refl,
-      (claims_none_by (null_descriptor_symbol ∷ symbols_listed (all_members AMD64 (flavor_inputs AMD64))) (another AMD64) refl, tt),
-    );
-    found = (refl, (tt, tt));
-  };
+  held = flavor_objects_by (msvc_input AMD64) (take 0 (all_members AMD64 (flavor_inputs AMD64))) (drop 0 (all_members AMD64 (flavor_inputs AMD64))) (0, omega arith, refl) (refl, (tt, tt)) refl refl refl refl refl;
   admissible = admissible_by refl refl;
   lookups = refl;
   addresses = refl;

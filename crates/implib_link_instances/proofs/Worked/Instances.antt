@@ -15,7 +15,7 @@ use Rattle.implib.proofs.Link.Linked.{all_append}
 use Rattle.implib.proofs.Link.Ranges.{apart_as_they_rise}
 use Rattle.implib_link.specs.Flavors.LldImports.{imp_symbols_of, imports_of_lld}
 use Rattle.implib_link.specs.Flavors.LldTables.{IsAskable, built}
-use Rattle.implib_link.specs.Flavors.Program.{all_members, members_linked, symbols_listed}
+use Rattle.implib_link.specs.Flavors.Program.{members_linked}
 use Rattle.implib_link.specs.Gnu.Calls.{Defines}
 use Rattle.implib_link.specs.Gnu.Choices.{plain_range}
 use Rattle.implib_link.specs.Gnu.OtherLibraries.{AllTaken, DescriptorsAt, inputs_of_runs}
@@ -38,6 +38,7 @@ use Rattle.implib_link_instances.proofs.Worked.NearSearches.{searched}
 use Rattle.implib_link_instances.proofs.Worked.Operands.{movable_code}
 use Rattle.implib_link_instances.proofs.Worked.Programs.{claims_none_by, distinct_by, admissible_by}
 use Rattle.implib_link_instances.proofs.Worked.RefusedLinks.{are_located, differ}
+use Rattle.implib_link_instances.proofs.Worked.Flavors.{flavor_objects_by}
 use Rattle.implib_link_instances.specs.Worked.Relocated.{CodesBeside, code_range, code_ranges}
 
 pub section_instances : SectionInstances
@@ -75,18 +76,7 @@ not_odd n is even_number = omega arith
 pub program_instances : ProgramInstances
 unfolding searched AllTaken DescriptorsAt
 program_instances = record {
-  gnu_first = record {
-    distinct = distinct_by (null_descriptor_symbol ∷ symbols_listed (all_members AMD64 (zed_flavor AMD64 ∷ foo_flavor AMD64 ∷ []))) refl;
-    null_from = foo_flavor AMD64;
-    null_held = (1, omega arith, refl);
-    null_flavor = refl;
-    before = members_linked AMD64 (zed_flavor AMD64);
-    behind = members_linked AMD64 (foo_flavor AMD64);
-    members = refl;
-    tables = refl;
-    others = tt;
-    found = (tt, (refl, tt));
-  };
+  gnu_first = flavor_objects_by (foo_flavor AMD64) (members_linked AMD64 (zed_flavor AMD64)) (members_linked AMD64 (foo_flavor AMD64)) (1, omega arith, refl) (tt, (refl, tt)) refl refl refl refl refl;
   ended = record {
     distinct = distinct_by (linked_symbols AMD64 (inputs_of_runs (run_with [] []))) refl;
     last = ending;

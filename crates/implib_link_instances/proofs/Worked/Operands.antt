@@ -30,7 +30,7 @@ use Rattle.implib_link.proofs.Gnu.Steady.{program_tables_none}
 use Rattle.implib_link.specs.Gnu.Calls.{StubAt}
 use Rattle.implib_link_instances.proofs.Worked.Calls.{wide}
 use Rattle.implib_link_instances.proofs.Worked.LinkedCode.{all_needed, only_absolute, rebased_by, relocated_by, relocated_test, takes_by}
-use Rattle.implib_link_instances.proofs.Worked.Programs.{opened, worked_programs, admissible_by, instructions_at, program_by}
+use Rattle.implib_link_instances.proofs.Worked.Programs.{opened, worked_programs, admissible_by, instructions_at, program_by, instruction_by}
 use Rattle.implib_link_instances.proofs.Worked.RefusedLinks.{differ, number}
 
 amd64_program : IsProgram AMD64 touching_8 (both_inputs AMD64) (passing_objects AMD64)
@@ -167,88 +167,25 @@ arm64_names_3 : Names (passing_at ARM64).from 3 (open_on ARM64)
 arm64_names_3 = record { symbol = symbol_of_class (open_on ARM64) 0 class_external; target = refl; undefined = refl; named = refl }
 
 amd64_call : HasInstruction AMD64 (passing_at AMD64) 11 (0xFF ∷ 0x15 ∷ []) ([]) (imp_open AMD64)
-amd64_call = record {
-  type = amd64_rel32;
-  symbol = 1;
-  alone = refl;
-  names = amd64_names_1;
-  field = 0 ∷ 0 ∷ 0 ∷ 0 ∷ [];
-  four = refl;
-  code = refl;
-  counts = (0, (omega arith, (refl, refl)));
-}
+amd64_call = instruction_by amd64_rel32 1 (0 ∷ 0 ∷ 0 ∷ 0 ∷ []) amd64_names_1 (0, (omega arith, (refl, refl))) refl refl refl
 
 amd64_compare : HasInstruction AMD64 (passing_at AMD64) 17 (0x83 ∷ 0x3D ∷ []) (1 ∷ []) (imp_open AMD64)
-amd64_compare = record {
-  type = amd64_rel32_1;
-  symbol = 1;
-  alone = refl;
-  names = amd64_names_1;
-  field = 0 ∷ 0 ∷ 0 ∷ 0 ∷ [];
-  four = refl;
-  code = refl;
-  counts = (1, (omega arith, (refl, refl)));
-}
+amd64_compare = instruction_by amd64_rel32_1 1 (0 ∷ 0 ∷ 0 ∷ 0 ∷ []) amd64_names_1 (1, (omega arith, (refl, refl))) refl refl refl
 
 amd64_again : HasInstruction AMD64 (passing_at AMD64) 24 (0x83 ∷ 0x3D ∷ []) (1 ∷ []) (imp_open AMD64)
-amd64_again = record {
-  type = amd64_rel32;
-  symbol = 1;
-  alone = refl;
-  names = amd64_names_1;
-  field = 0xFF ∷ 0xFF ∷ 0xFF ∷ 0xFF ∷ [];
-  four = refl;
-  code = refl;
-  counts = (0, (omega arith, (refl, refl)));
-}
+amd64_again = instruction_by amd64_rel32 1 (0xFF ∷ 0xFF ∷ 0xFF ∷ 0xFF ∷ []) amd64_names_1 (0, (omega arith, (refl, refl))) refl refl refl
 
 amd64_move : HasInstruction AMD64 (passing_at AMD64) 31 (0x4C ∷ 0x8B ∷ 0x1D ∷ []) ([]) (imp_open AMD64)
-amd64_move = record {
-  type = amd64_rel32;
-  symbol = 1;
-  alone = refl;
-  names = amd64_names_1;
-  field = 0 ∷ 0 ∷ 0 ∷ 0 ∷ [];
-  four = refl;
-  code = refl;
-  counts = (0, (omega arith, (refl, refl)));
-}
+amd64_move = instruction_by amd64_rel32 1 (0 ∷ 0 ∷ 0 ∷ 0 ∷ []) amd64_names_1 (0, (omega arith, (refl, refl))) refl refl refl
 
 i386_call : HasInstruction I386 (passing_at I386) 9 (0xFF ∷ 0x15 ∷ []) ([]) (imp_open I386)
-i386_call = record {
-  type = i386_dir32;
-  symbol = 1;
-  alone = refl;
-  names = i386_names_1;
-  field = 0 ∷ 0 ∷ 0 ∷ 0 ∷ [];
-  four = refl;
-  code = refl;
-  counts = (refl, refl);
-}
+i386_call = instruction_by i386_dir32 1 (0 ∷ 0 ∷ 0 ∷ 0 ∷ []) i386_names_1 (refl, refl) refl refl refl
 
 i386_compare : HasInstruction I386 (passing_at I386) 15 (0x83 ∷ 0x3D ∷ []) (1 ∷ []) (imp_open I386)
-i386_compare = record {
-  type = i386_dir32;
-  symbol = 1;
-  alone = refl;
-  names = i386_names_1;
-  field = 0 ∷ 0 ∷ 0 ∷ 0 ∷ [];
-  four = refl;
-  code = refl;
-  counts = (refl, refl);
-}
+i386_compare = instruction_by i386_dir32 1 (0 ∷ 0 ∷ 0 ∷ 0 ∷ []) i386_names_1 (refl, refl) refl refl refl
 
 i386_move : HasInstruction I386 (passing_at I386) 22 (0x8B ∷ 0x0D ∷ []) ([]) (imp_open I386)
-i386_move = record {
-  type = i386_dir32;
-  symbol = 1;
-  alone = refl;
-  names = i386_names_1;
-  field = 0 ∷ 0 ∷ 0 ∷ 0 ∷ [];
-  four = refl;
-  code = refl;
-  counts = (refl, refl);
-}
+i386_move = instruction_by i386_dir32 1 (0 ∷ 0 ∷ 0 ∷ 0 ∷ []) i386_names_1 (refl, refl) refl refl refl
 
 amd64_operand : HasOperand AMD64 (passing_at AMD64) 19 1 (imp_open AMD64)
 amd64_operand = record {

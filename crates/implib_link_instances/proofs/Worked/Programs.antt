@@ -1,11 +1,12 @@
 -- The programs that were linked by hand, by computing.
+use Rattle.implib.specs.Link.Load.{number_in}
 use Rattle.implib.specs.Formats.Constants.{class_external}
 use Rattle.implib.specs.declared.coff.object.Relocation.{Relocation}
 use Rattle.implib_link.specs.Gnu.Calls.{PlacedCode, IsAside, HasInstructions, moved_by}
 use Rattle.implib.specs.Link.LinkedMembers.{LinkInput, objects_in, all_linked}
 use Rattle.implib.specs.declared.machine.MachineType.{MachineType}
-use Rattle.std.proofs.Common.{◌≡◌, ℕ, ◌^◌, Bool, true, false, List, [], ◌∷◌, refl, nat_lt, length, ◌++◌, map, Some}
-use Rattle.std.specs.Prelude.{◌&&◌, bytes_eq, not, ◌%◌, slice_get, ◌==◌}
+use Rattle.std.proofs.Common.{◌≡◌, ℕ, ◌^◌, Bool, true, false, List, [], ◌∷◌, refl, nat_lt, length, ◌++◌, map, Some, ◌+◌}
+use Rattle.std.specs.Prelude.{◌&&◌, bytes_eq, not, ◌%◌, slice_get, ◌==◌, take, drop}
 use Rattle.std.specs.Fmt.{digits}
 use Rattle.std.specs.List.{AllByRecursion, IsDistinct, list_all, list_any, filter}
 use Rattle.std.proofs.lemmas.Bool.{and_parts, not-true, eqb-true, ltb-true}
@@ -22,6 +23,8 @@ use Rattle.implib.specs.Link.Placement.{next_multiple, Bases, placed_from}
 use Rattle.implib.specs.Formats.Writer.{long_names, name_location, layout_of, symbol_written, with_long_name, with_name}
 use Rattle.implib.proofs.Link.Ranges.{apart_as_they_rise, ends_below, rise_below}
 use Rattle.implib_link.specs.Gnu.Program.{ClaimsNone, claimed_names, has_tables, linked_symbols, null_descriptor, IsProgram}
+use Rattle.implib_link.specs.Gnu.Operands.{HasInstruction, IsOperand, Names}
+use Rattle.implib_link.specs.Gnu.Fields.{LinkedCode, MeetsAlone}
 use Rattle.implib_link_instances.specs.Worked.Programs.{WorkedProgram, WorkedPrograms, WorkedStubs, expected_4, expected_8, touching_4, touching_8, symbol_of_class}
 
 -- what the computing has to open
@@ -84,7 +87,7 @@ admissible_by {machine} {bases} {objects} are rise =
     }
 
 -- whether objects claim none of some names
-abbrev claim_none : List (List ℕ) → List Object → Bool
+abbrev pub claim_none : List (List ℕ) → List Object → Bool
 claim_none names objects = list_all (λ o. list_all (λ name. not (list_any (bytes_eq name) (claimed_names o))) names) objects
 
 pub all_claim_none : (names : List (List ℕ)) (objects : List Object) → claim_none names objects ≡ true → AllByRecursion (ClaimsNone names) objects
@@ -125,6 +128,12 @@ instructions_at {machine} {c} {offset} {name} {bytes} {relocations} front back i
   undefined = refl;
   named = refl;
 }
+
+-- Linked code has an instruction at an offset, by computing: its one relocation is in a field of four bytes.
+pub instruction_by : {machine : MachineType} {c : LinkedCode} {offset : ℕ} {head tail name : List ℕ} (type symbol : ℕ) (field : List ℕ) → Names c.from symbol name → IsOperand machine type (length tail) (number_in field) →
+    MeetsAlone machine c.code.relocations offset (length head + (4 + length tail)) (record { offset = offset + length head; symbol = symbol; kind = type }) → length field ≡ 4 →
+    take (length head + (4 + length tail)) (drop offset c.code.bytes) ≡ head ++ (field ++ tail) → HasInstruction machine c offset head tail name
+instruction_by type symbol field names counts alone four code = record { type = type; symbol = symbol; alone = alone; names = names; field = field; four = four; code = code; counts = counts }
 
 amd64 : WorkedProgram AMD64 touching_8 expected_8
 unfolding opened refusal renamed_refusal alias_specs encoded_size weak_object has_tables
