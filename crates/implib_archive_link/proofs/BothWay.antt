@@ -10,7 +10,7 @@ use Rattle.implib_archive.specs.declared.kind.Kind.{Kind}
 use Rattle.implib_archive_link.specs.BothWay.{AreLinkedForBoth, BothArrive}
 use Rattle.implib_archive_link.specs.InBytes.{LinkerMember, asks_with_on}
 use Rattle.implib_archive_link.specs.Results.{HaveArchive, IsEnding, TakesJust}
-use Rattle.implib_archive_link.proofs.Corollaries.{are_found_in_bytes, ending, given_short_taken}
+use Rattle.implib_archive_link.proofs.Corollaries.{are_found_in_bytes, ending, given_taken}
 use Rattle.implib_archive_link.proofs.InBytes.{takes_just}
 use Rattle.implib_link.specs.Flavors.Program.{FlavorInput, IsMadeFor, ask_in, dll_of, symbol_in, thunks_of}
 use Rattle.implib_link.specs.Search.BothFlavors.{AreGivenForBoth, FlavorLibrary, IsFlavorArchive, LinksClosedForBoth, archive_of_both, inputs_of_both, msvc_among}
@@ -25,6 +25,7 @@ use Rattle.implib_link.proofs.Tables.{tables_read}
 use Rattle.implib_link.proofs.TablesInMemory.{calls_beside}
 use Rattle.implib_link.proofs.TablesOfPrograms.{can_read, flavors_count, flavors_entry, flavors_tables}
 use Rattle.implib_link.specs.Tables.{AreTables, Tables, block_of_flavor, tables_at}
+use Rattle.implib_link.specs.Flavors.Expansion.{expanded_in}
 use Rattle.implib.specs.Import.{imp_symbol}
 
 pub both_arrive : (machine : MachineType) (libraries : List FlavorLibrary) (own : List Object) (taken : List MemberView) (arranged : List FlavorLibrary) (bases : Bases) (objects : List Object) →
@@ -55,7 +56,7 @@ pub bytes_lead_to_both : (kind : Kind) (linker : LinkerMember) (machine : Machin
 bytes_lead_to_both kind linker machine libraries own ready archive given some =
     takes_just kind linker (archive_of_both libraries) (asks_with_on machine own)
     (λ taken. (arranged : List FlavorLibrary) (bases : Bases) (objects : List Object) → AreLinkedForBoth machine libraries own taken arranged bases objects → BothArrive machine libraries own taken arranged bases objects) ready
-    (λ taken takes arranged bases objects linked. both_arrive machine libraries own taken arranged bases objects archive given some (given_short_taken machine (archive_of_both libraries) own taken takes) linked)
+    (λ taken takes arranged bases objects linked. both_arrive machine libraries own taken arranged bases objects archive given some (given_taken (expanded_in machine) (archive_of_both libraries) own taken takes) linked)
 
 pub ends_for_both : (kind : Kind) (linker : LinkerMember) (machine : MachineType) (libraries : List FlavorLibrary) (own : List Object) → HaveArchive kind linker (archive_of_both libraries) →
     IsFlavorArchive machine libraries → AreGivenForBoth machine libraries own → IsEnding kind linker (archive_of_both libraries) (asks_with_on machine own)

@@ -48,8 +48,8 @@ use Rattle.implib_link.proofs.Flavors.Expanded.{AskFits, taken_descriptor, taken
 use Rattle.implib_link.proofs.Flavors.Inputs.{descriptor_at, export_fits, null_at, read_of, short_at, thunk_at}
 use Rattle.implib_link.proofs.Flavors.LldPrograms.{lld_calls, lld_count, lld_leads}
 use Rattle.implib_link.proofs.Search.ArchiveGroups.{first_is}
-use Rattle.implib_link.proofs.Search.Lists.{any_among, any_member, contains_among, none_listed}
-use Rattle.implib_link.proofs.Search.Msvc.{among_passing, passing_among, taken_name}
+use Rattle.implib_link.proofs.Search.Lists.{any_among, any_member, contains_among, none_listed, name_as}
+use Rattle.implib_link.proofs.Search.Msvc.{among_passing, passing_among}
 use Rattle.implib_link.proofs.Search.MsvcArchives.{made_of}
 use Rattle.implib_link.proofs.Search.MsvcMembers.{Found, FoundDescriptor, FoundNull, FoundShort, FoundThunk, FoundWeak, claims_weak, descriptor_found, descriptor_is, descriptor_of, found, null_found, null_is, null_of, pair_there, short_found, short_is, short_of, taken_weak, thunk_found, thunk_is, thunk_of, weak_found, weak_is, weak_of}
 use Rattle.implib_link.proofs.Search.Search.{only_one}
@@ -187,7 +187,7 @@ module _ (machine : MachineType) (libraries : List Library) (archive : IsMsvcArc
             among_contains name (references_of own ++ references_of (objects_for machine (not_shorts (map (λ x. x.bytes) taken)))) (among_front name (references_of own) _ parts.0),
             none_claims name (claims_of own) (claims_of (objects_for machine (map (λ x. x.bytes) taken))) (not_true (list_any (bytes_eq name) (claims_of own)) parts.1)
                 (false_from_ne_true (list_any (bytes_eq name) (claims_of (objects_for machine (map (λ x. x.bytes) taken)))) (λ claimed.
-                let by = taken_name machine claimed_names name taken (any_among name _ (subst (λ objects. list_any (bytes_eq name) (flat_map claimed_names objects) ≡ true) (objects_same taken) claimed)) in
+                let by = name_as (expanded_in machine) claimed_names name taken (any_among name _ (subst (λ objects. list_any (bytes_eq name) (flat_map claimed_names objects) ≡ true) (objects_same taken) claimed)) in
                 none_listed name by.member taken none by.held
                 (claims_listed (pulled own taken takes.in_turn by.member by.held).name by.member by.object name (pulled own taken takes.in_turn by.member by.held).by by.taken by.among))),
           );

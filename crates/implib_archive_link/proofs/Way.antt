@@ -2,7 +2,7 @@
 use Rattle.std.proofs.Common.{◌+◌, ◌*◌, List, map, ◌∙◌}
 use Rattle.std.specs.List.{AllByRecursion}
 use Rattle.implib.specs.declared.machine.MachineType.{MachineType}
-use Rattle.implib.specs.Formats.Object.{Object}
+use Rattle.implib.specs.Formats.Object.{Object, object_in}
 use Rattle.implib.specs.Link.LinkedMembers.{IsMade, LinkInput}
 use Rattle.implib.specs.Link.Placement.{Bases}
 use Rattle.implib.specs.Members.ImportTables.{thunk_width}
@@ -54,4 +54,4 @@ pub bytes_lead_to_calls : (kind : Kind) (linker : LinkerMember) (machine : Machi
 bytes_lead_to_calls kind linker machine libraries own ready archive given =
     takes_just kind linker (archive_of libraries) (asks_with own)
     (λ taken. (arranged : List Library) (bases : Bases) (objects : List Object) → AreLinkedFor machine libraries own taken arranged bases objects → CallsArrive machine libraries own taken arranged bases objects) ready
-    (λ taken takes arranged bases objects linked. calls_arrive machine libraries own taken arranged bases objects archive given (given_taken (archive_of libraries) own taken takes) linked)
+    (λ taken takes arranged bases objects linked. calls_arrive machine libraries own taken arranged bases objects archive given (given_taken object_in (archive_of libraries) own taken takes) linked)

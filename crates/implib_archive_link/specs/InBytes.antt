@@ -75,18 +75,22 @@ is_undefined wanted objects name =
     Contains (wanted ++ flat_map undefined_in objects) name
     × (list_any (bytes_eq name) (flat_map claimed_names objects) ≡ false)
 
--- of members for GNU's linker, for wanted names
-abbrev pub asks_for : List (List ℕ) → Asks
-asks_for wanted contents name = is_undefined wanted (objects_of contents) name
+-- for wanted names, of members as a linker reads them: as objects, or for a machine
+abbrev pub asks_as : (List ℕ → Option Object) → List (List ℕ) → Asks
+asks_as reads wanted contents name = is_undefined wanted (filter_map reads contents) name
 
--- of members for Microsoft's linker, for wanted names
+abbrev pub asks_for : List (List ℕ) → Asks
+asks_for = asks_as object_in
+
 abbrev pub asks_on : MachineType → List (List ℕ) → Asks
-asks_on machine wanted contents name = is_undefined wanted (objects_for machine contents) name
+asks_on machine = asks_as (expanded_in machine)
 
 -- for given objects: a name that they and the members that are taken leave unresolved
-abbrev pub asks_with : List Object → Asks
-asks_with own contents name = Contains (unresolved (own ++ objects_of contents)) name
+abbrev pub asks_with_as : (List ℕ → Option Object) → List Object → Asks
+asks_with_as reads own contents name = Contains (unresolved (own ++ filter_map reads contents)) name
 
--- for given objects, of members for either linker
+abbrev pub asks_with : List Object → Asks
+asks_with = asks_with_as object_in
+
 abbrev pub asks_with_on : MachineType → List Object → Asks
-asks_with_on machine own contents name = Contains (unresolved (own ++ objects_for machine contents)) name
+asks_with_on machine = asks_with_as (expanded_in machine)

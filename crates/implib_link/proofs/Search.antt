@@ -10,7 +10,6 @@ pub mod One
 pub mod Searched
 pub mod Sorted
 pub mod Msvc
-pub mod MsvcEnds
 pub mod Counts
 pub mod Arranged
 pub mod Closed

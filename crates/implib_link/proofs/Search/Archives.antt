@@ -18,13 +18,13 @@ use Rattle.implib.proofs.Link.Placement.{export, head, tail}
 use Rattle.implib.proofs.Link.Ranges.{Among, all_among, among_back, among_first, among_front, among_later}
 use Rattle.implib_link.specs.Search.Archives.{IsArchive, IsLibrary, IsWeakData, Library, NamesNoHeadOrTailOf, TakesOfLibraries, archive_of, exports_of, input_if_any, inputs_wanted, is_weak, others_among, wanted_with, weak_among}
 use Rattle.implib_link.specs.Gnu.Program.{IsProgram, LinksAmong, claimed_names}
-use Rattle.implib_link.specs.Search.Search.{IsTakenInTurn, NamesNoHeadOrTail, Takes, exports_wanted, first_listed, is_listed_for, is_wanted, undefined_in, linked_if_any, names_claimed, names_undefined}
+use Rattle.implib_link.specs.Search.Search.{IsTakenInTurn, NamesNoHeadOrTail, Takes, exports_wanted, first_listed, is_listed_for, is_wanted, undefined_in, linked_if_any, names_undefined, left_as, claimed_as, AreTakenInTurnAs}
 use Rattle.implib_link.proofs.Search.ArchiveGroups.{export_of, first_is, head_of, tail_of, weak_of}
 use Rattle.implib_link.proofs.Search.ArchiveMembers.{Found, FoundExport, FoundHead, FoundTail, FoundWeak, claimed_weak, export_found, export_not_weak, export_object_is, found, head_found, head_not_weak, head_object_is, tail_found, tail_not_weak, tail_object_is, weak_found, weak_is_weak, weak_object_is}
 use Rattle.implib_link.proofs.Gnu.Claims.{claimed_export, claimed_head, claimed_tail}
 use Rattle.implib_link.proofs.Gnu.Program.{program_links}
 use Rattle.implib_link.proofs.Search.Search.{AnExport, AnyWanted, Needed, TheHead, TheTail, any_wanted, in_nothing, left_export, left_head, left_tail, linked_if_needed, listed_export, listed_head, listed_tail, needed_if_linked, numbers_are_wanted, only_one, wanted_name, wants}
-use Rattle.implib_link.proofs.Search.Lists.{among_any, among_at, among_either, any_among, any_member, contains_among, name_read, none_listed, read_name}
+use Rattle.implib_link.proofs.Search.Lists.{among_any, among_at, among_either, any_among, any_member, contains_among, none_listed, name_as, as_name}
 use Rattle.implib.specs.LibraryName.{linked_name, names_for}
 use Rattle.implib.specs.declared.flavor.Flavor.TheVariants.{Gnu}
 
@@ -207,7 +207,7 @@ module _ (machine : MachineType) (libraries : List Library) (archive : IsArchive
     -- a member that a name finds which a needed member leaves
     needed_by_left : (x : MemberView) → IsNeeded all_wanted x → Among x taken → (o : Object) → object_in x.bytes ≡ Some o → (name : List ℕ) → Among name (undefined_in o) →
         (m : MemberView) → first_listed (archive_of libraries) name ≡ Some m → IsNeeded all_wanted m
-    unfolding names_undefined
+    unfolding left_as
     needed_by_left x (ForExport l held (TheTail same any)) there o read name left m is =
         absurd (in_nothing name (names_of undefined_in [] name x (tail_of machine l) o (tail machine (names_for Gnu l.definition)) same (tail_object_is machine l (made_of l held)) read
         (left_tail machine (names_for Gnu l.definition)) left))
@@ -226,12 +226,12 @@ module _ (machine : MachineType) (libraries : List Library) (archive : IsArchive
     needed_by_left x (ForAlias l held n e at alias is_data same named) there o read name left m is =
         let kept : Among x (weak_among taken) = among_kept is_weak x taken there (alias_is_weak x l held n e at alias same) in
         needed_by_wanted name m (found machine libraries archive name m is)
-        (among_back name wanted (flat_map undefined_in (objects_in (weak_among taken))) (read_name undefined_in name (weak_among taken) x o kept read left))
+        (among_back name wanted (flat_map undefined_in (objects_in (weak_among taken))) (as_name object_in undefined_in name (weak_among taken) x o kept read left))
 
     -- whatever is taken is needed
     needed : (earlier : List MemberView) → ((m : MemberView) → Among m earlier → Among m taken) → IsTakenInTurn (archive_of libraries) wanted earlier → (m : MemberView) → Among m earlier →
         IsNeeded all_wanted m
-    unfolding Among IsTakenInTurn names_undefined
+    unfolding Among AreTakenInTurnAs left_as
     needed [] there turn m held = absurd held
     needed (t ∷ earlier) there turn m (inr held) = needed earlier (λ x behind. there x (inr behind)) turn.1 m held
     needed (t ∷ earlier) there turn m (inl e) =
@@ -241,8 +241,8 @@ module _ (machine : MachineType) (libraries : List Library) (archive : IsArchive
         (elim (among_either turn.0.0 wanted (flat_map undefined_in (objects_in earlier)) (contains_among turn.0.0 _ pulls.named)) [
           | inl want ↦ needed_by_wanted turn.0.0 t (found machine libraries archive turn.0.0 t pulls.listed) (among_front turn.0.0 wanted (names_undefined (weak_among taken)) want)
           | inr left ↦
-              let from = name_read undefined_in turn.0.0 earlier left in
-              needed_by_left from.0 (before from.0 from.2) (there from.0 (inr from.2)) from.1 from.3 turn.0.0 from.4 t pulls.listed
+              let from = name_as object_in undefined_in turn.0.0 earlier left in
+              needed_by_left from.member (before from.member from.held) (there from.member (inr from.held)) from.object from.taken turn.0.0 from.among t pulls.listed
         ])
 
     module _ (takes : Takes (archive_of libraries) wanted taken) where
@@ -251,7 +251,7 @@ module _ (machine : MachineType) (libraries : List Library) (archive : IsArchive
 
       -- a member that an undefined name finds is taken
       reached : (name : List ℕ) (m : MemberView) → first_listed (archive_of libraries) name ≡ Some m → Among name (wanted ++ names_undefined taken) → Among m taken
-      unfolding names_claimed
+      unfolding claimed_as
       reached name m is named =
           elim (cases_Bool (list_any (is_listed_for name) taken)) [
             | inl some ↦
@@ -260,8 +260,8 @@ module _ (machine : MachineType) (libraries : List Library) (archive : IsArchive
             | inr none ↦ absurd (takes.ended name m (record {
               named = among_contains name (wanted ++ names_undefined taken) named;
               undefined = false_from_ne_true (list_any (bytes_eq name) (flat_map claimed_names (objects_in taken))) (λ claimed.
-                  let by = name_read claimed_names name taken (any_among name _ claimed) in
-                  none_listed name by.0 taken none by.2 (claims_listed all_wanted by.0 by.1 name (needed_all by.0 by.2) by.3 by.4));
+                  let by = name_as object_in claimed_names name taken (any_among name _ claimed) in
+                  none_listed name by.member taken none by.held (claims_listed all_wanted by.member by.object name (needed_all by.member by.held) by.taken by.among));
               listed = is;
               new = λ has. none_listed name m taken none (contains_among m taken has) (first_is name (archive_of libraries) m is).1;
             }))
@@ -269,13 +269,13 @@ module _ (machine : MachineType) (libraries : List Library) (archive : IsArchive
 
       -- a wanted name is one of the names that are undefined
       still_named : (name : List ℕ) → Among name all_wanted → Among name (wanted ++ names_undefined taken)
-      unfolding names_undefined
+      unfolding left_as
       still_named name want =
           elim (among_either name wanted (flat_map undefined_in (objects_in (weak_among taken))) want) [
             | inl own ↦ among_front name wanted (flat_map undefined_in (objects_in taken)) own
             | inr left ↦
-                let from = name_read undefined_in name (weak_among taken) left in
-                among_back name wanted (flat_map undefined_in (objects_in taken)) (read_name undefined_in name taken from.0 from.1 (kept_among is_weak from.0 taken from.2).0 from.3 from.4)
+                let from = name_as object_in undefined_in name (weak_among taken) left in
+                among_back name wanted (flat_map undefined_in (objects_in taken)) (as_name object_in undefined_in name taken from.member from.object (kept_among is_weak from.member taken from.held).0 from.taken from.among)
           ]
 
       export_taken : (l : Library) → Among l libraries → (n : ℕ) (e : ExportView) → slice_get (exports_of l) n ≡ Some e → is_wanted all_wanted e ≡ true → Among (export_of machine l n e) taken
@@ -284,18 +284,18 @@ module _ (machine : MachineType) (libraries : List Library) (archive : IsArchive
           reached name.0 (export_of machine l n e) (export_found machine libraries archive l n e name.0 held is name.1) (still_named name.0 name.2)
 
       head_taken : (l : Library) → Among l libraries → AnyWanted (exports_of l) all_wanted → Among (head_of machine l) taken
-      unfolding names_undefined
+      unfolding left_as
       head_taken l held any =
           reached (head_symbol machine (linked_name l.definition)) (head_of machine l) (head_found machine libraries archive l held)
-          (among_back _ wanted (flat_map undefined_in (objects_in taken)) (read_name undefined_in _ taken (export_of machine l any.number any.export) (export machine (names_for Gnu l.definition) any.export)
+          (among_back _ wanted (flat_map undefined_in (objects_in taken)) (as_name object_in undefined_in _ taken (export_of machine l any.number any.export) (export machine (names_for Gnu l.definition) any.export)
           (export_taken l held any.number any.export any.is any.want) (export_object_is machine l (made_of l held) any.number any.export any.is)
           (subst (Among (head_symbol machine (linked_name l.definition))) (sym (left_export machine (names_for Gnu l.definition) any.export)) (among_first _ _))))
 
       tail_taken : (l : Library) → Among l libraries → AnyWanted (exports_of l) all_wanted → Among (tail_of machine l) taken
-      unfolding names_undefined
+      unfolding left_as
       tail_taken l held any =
           reached (iname_symbol machine (linked_name l.definition)) (tail_of machine l) (tail_found machine libraries archive l held)
-          (among_back _ wanted (flat_map undefined_in (objects_in taken)) (read_name undefined_in _ taken (head_of machine l) (head machine (names_for Gnu l.definition))
+          (among_back _ wanted (flat_map undefined_in (objects_in taken)) (as_name object_in undefined_in _ taken (head_of machine l) (head machine (names_for Gnu l.definition))
           (head_taken l held any) (head_object_is machine l (made_of l held))
           (subst (Among (iname_symbol machine (linked_name l.definition))) (sym (left_head machine (names_for Gnu l.definition))) (among_first _ _))))
 

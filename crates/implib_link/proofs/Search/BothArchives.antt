@@ -22,9 +22,9 @@ use Rattle.implib_link.specs.Flavors.Program.{all_members, ask_in, objects_taken
 use Rattle.implib_link.specs.Gnu.Program.{claimed_names}
 use Rattle.implib_link.specs.Search.Archives.{Library, exports_of, has_weak, inputs_wanted}
 use Rattle.implib_link.specs.Search.BothFlavors.{FlavorLibrary, IsFlavorArchive, IsWeakOfBoth, NamesNoMembers, TakesOfBoth, archive_of_both, gnu_among, msvc_among}
-use Rattle.implib_link.specs.Search.Msvc.{AreTakenInTurn, NamesNoHeader, TakesFor, claimed_in, left_in}
+use Rattle.implib_link.specs.Search.Msvc.{AreTakenInTurn, NamesNoHeader, TakesFor, left_in}
 use Rattle.implib_link.specs.Search.MsvcArchives.{first_null, is_import_wanted, is_short_alias, is_weak_in, others_in, short_inputs, shorts_linked, wanted_with_weak, weak_in}
-use Rattle.implib_link.specs.Search.Search.{NamesNoHeadOrTail, exports_wanted, first_listed, is_listed_for, is_wanted, undefined_in}
+use Rattle.implib_link.specs.Search.Search.{NamesNoHeadOrTail, exports_wanted, first_listed, is_listed_for, is_wanted, undefined_in, left_as, claimed_as, AreTakenInTurnAs}
 use Rattle.implib_link.proofs.Flavors.Block.{asking, use_for}
 use Rattle.implib_link.proofs.Flavors.Expanded.{taken_descriptor, taken_null, taken_null_thunk}
 use Rattle.implib_link.proofs.Search.ArchiveGroups.{export_of, first_is, head_of, tail_of, weak_of as data_weak_of}
@@ -32,11 +32,10 @@ use Rattle.implib_link.proofs.Search.ArchiveMembers.{FoundExport, FoundHead, Fou
 use Rattle.implib_link.proofs.Search.Archives.{linked_of as data_linked_of, of_linked as of_data_linked}
 use Rattle.implib_link.proofs.Search.Arranged.{all_each}
 use Rattle.implib_link.proofs.Search.BothMembers.{FoundInBoth, IsFirst, first_held, found_in_both, found_is_first, gnu_export_is, gnu_head_is, gnu_in_both, gnu_made, gnu_tail_is, gnu_weak_is, msvc_in_both, msvc_made}
-use Rattle.implib_link.proofs.Search.Closed.{from_not, passes, passing, there_not, to_not}
-use Rattle.implib_link.proofs.Search.Lists.{among_at, among_either, any_among, any_member, contains_among, none_listed}
-use Rattle.implib_link.proofs.Search.Msvc.{left_asking, left_descriptor, left_null, left_thunk, name_taken, taken_name}
+use Rattle.implib_link.proofs.Search.Closed.{from_not, passes, passing, there_not, to_not, pulled}
+use Rattle.implib_link.proofs.Search.Lists.{among_at, among_either, any_among, any_member, contains_among, none_listed, name_as, as_name}
+use Rattle.implib_link.proofs.Search.Msvc.{left_asking, left_descriptor, left_null, left_thunk}
 use Rattle.implib_link.proofs.Search.MsvcArchives.{AShort, AnyImport, Linked, TheDescriptor, TheThunk, any_of, both_parts, descriptor_plain, import_parts, linked_of, linked_there, member_with, null_or_member, null_plain, null_with, of_linked, short_plain, there_linked, thunk_plain, weak_by, weak_is_weak}
-use Rattle.implib_link.proofs.Search.MsvcClosed.{pulled}
 use Rattle.implib_link.proofs.Search.MsvcMembers.{FoundDescriptor, FoundNull, FoundShort, FoundThunk, FoundWeak as FoundShortWeak, IsPair, descriptor_found, descriptor_is, descriptor_of, null_found, null_is, null_of, short_found, short_is, short_of, taken_weak, thunk_found, thunk_is, thunk_of, weak_is, weak_of as short_weak_of}
 use Rattle.implib_link.proofs.Search.Search.{AnExport, AnyWanted, Needed, TheHead, TheTail, any_wanted, in_nothing, left_export, left_head, left_tail, linked_if_needed, needed_if_linked, numbers_are_wanted, only_one, wanted_name, wants}
 
@@ -186,11 +185,11 @@ module _ (machine : MachineType) (libraries : List FlavorLibrary) (archive : IsF
     -- what a weak external that is taken leaves is wanted
     left_by_weak : (x : MemberView) (o : Object) (name : List ℕ) (m : MemberView) → Among x taken → is_weak_in machine x ≡ true → expanded_in machine x.bytes ≡ Some o → Among name (undefined_in o) →
         first_listed (archive_of_both libraries) name ≡ Some m → IsNeededOf all_wanted m
-    unfolding left_in
+    unfolding left_as
     left_by_weak x o name m there weak read left is =
         needed_by_wanted name m (found_in_both machine libraries archive name m is)
         (among_back name wanted (flat_map undefined_in (objects_taken machine (weak_in machine taken)))
-        (name_taken machine undefined_in name (weak_in machine taken) x o (passes (is_weak_in machine) x taken there weak) read left))
+        (as_name (expanded_in machine) undefined_in name (weak_in machine taken) x o (passes (is_weak_in machine) x taken there weak) read left))
 
     -- a member that a name finds which a needed member leaves
     needed_by_left : (x : MemberView) → IsNeededOf all_wanted x → Among x taken → (o : Object) → expanded_in machine x.bytes ≡ Some o → (name : List ℕ) → Among name (undefined_in o) →
@@ -233,7 +232,7 @@ module _ (machine : MachineType) (libraries : List FlavorLibrary) (archive : IsF
     -- whatever is taken is needed
     pub needed : (earlier : List MemberView) → ((m : MemberView) → Among m earlier → Among m taken) → AreTakenInTurn machine (archive_of_both libraries) wanted earlier → (m : MemberView) → Among m earlier →
         IsNeededOf all_wanted m
-    unfolding Among AreTakenInTurn left_in
+    unfolding Among AreTakenInTurnAs left_as
     needed [] there turn m held = absurd held
     needed (t ∷ earlier) there turn m (inr held) = needed earlier (λ x behind. there x (inr behind)) turn.1 m held
     needed (t ∷ earlier) there turn m (inl e) =
@@ -243,7 +242,7 @@ module _ (machine : MachineType) (libraries : List FlavorLibrary) (archive : IsF
         (elim (among_either turn.0.0 wanted (flat_map undefined_in (objects_taken machine earlier)) (contains_among turn.0.0 _ pulls.named)) [
           | inl want ↦ needed_by_wanted turn.0.0 t (found_in_both machine libraries archive turn.0.0 t pulls.listed) (among_front turn.0.0 wanted (left_in machine (weak_in machine taken)) want)
           | inr left ↦
-              let from = taken_name machine undefined_in turn.0.0 earlier left in
+              let from = name_as (expanded_in machine) undefined_in turn.0.0 earlier left in
               needed_by_left from.member (before from.member from.held) (there from.member (inr from.held)) from.object from.taken turn.0.0 from.among t pulls.listed
         ])
 
@@ -252,11 +251,11 @@ module _ (machine : MachineType) (libraries : List FlavorLibrary) (archive : IsF
       needed_all = needed taken (λ m held. held) takes.in_turn
 
       each_first : (m : MemberView) → Among m taken → IsFirst machine libraries archive m
-      each_first m held = let by = pulled machine (archive_of_both libraries) wanted taken takes.in_turn m held in found_is_first machine libraries archive by.0 m by.1
+      each_first m held = let by = pulled (expanded_in machine) (archive_of_both libraries) wanted taken takes.in_turn m held in found_is_first machine libraries archive by.0 m by.1
 
       -- a member that an undefined name finds is taken
       reached : (name : List ℕ) (m : MemberView) → first_listed (archive_of_both libraries) name ≡ Some m → Among name (wanted ++ left_in machine taken) → Among m taken
-      unfolding claimed_in
+      unfolding claimed_as
       reached name m is named =
           elim (cases_Bool (list_any (is_listed_for name) taken)) [
             | inl some ↦
@@ -265,7 +264,7 @@ module _ (machine : MachineType) (libraries : List FlavorLibrary) (archive : IsF
             | inr none ↦ absurd (takes.ended name m (record {
               named = among_contains name (wanted ++ left_in machine taken) named;
               undefined = false_from_ne_true (list_any (bytes_eq name) (flat_map claimed_names (objects_taken machine taken))) (λ claimed.
-                  let by = taken_name machine claimed_names name taken (any_among name _ claimed) in
+                  let by = name_as (expanded_in machine) claimed_names name taken (any_among name _ claimed) in
                   let one = each_first by.member by.held in
                   let same : by.object ≡ one.object = (let e : Some by.object ≡ Some one.object = sym by.taken ∙ one.read in cc) in
                   none_listed name by.member taken none by.held (subst (Among name) one.claims (subst (λ o. Among name (claimed_names o)) same by.among)));
@@ -276,19 +275,19 @@ module _ (machine : MachineType) (libraries : List FlavorLibrary) (archive : IsF
 
       -- a wanted name is one of the names that are undefined
       still_named : (name : List ℕ) → Among name all_wanted → Among name (wanted ++ left_in machine taken)
-      unfolding left_in
+      unfolding left_as
       still_named name want =
           elim (among_either name wanted (flat_map undefined_in (objects_taken machine (weak_in machine taken))) want) [
             | inl own ↦ among_front name wanted (flat_map undefined_in (objects_taken machine taken)) own
             | inr left ↦
-                let from = taken_name machine undefined_in name (weak_in machine taken) left in
+                let from = name_as (expanded_in machine) undefined_in name (weak_in machine taken) left in
                 among_back name wanted (flat_map undefined_in (objects_taken machine taken))
-                (name_taken machine undefined_in name taken from.member from.object (passing (is_weak_in machine) from.member taken from.held).0 from.taken from.among)
+                (as_name (expanded_in machine) undefined_in name taken from.member from.object (passing (is_weak_in machine) from.member taken from.held).0 from.taken from.among)
           ]
 
       left_by : (x : MemberView) (o : Object) (name : List ℕ) → Among x taken → expanded_in machine x.bytes ≡ Some o → Among name (undefined_in o) → Among name (wanted ++ left_in machine taken)
-      unfolding left_in
-      left_by x o name held is left = among_back name wanted (flat_map undefined_in (objects_taken machine taken)) (name_taken machine undefined_in name taken x o held is left)
+      unfolding left_as
+      left_by x o name held is left = among_back name wanted (flat_map undefined_in (objects_taken machine taken)) (as_name (expanded_in machine) undefined_in name taken x o held is left)
 
       short_taken : (l : Library) → Among l (msvc_among libraries) → (e : ExportView) → Among e (exports_of l) → is_import_wanted all_wanted e ≡ true → Among (short_of machine l e) taken
       short_taken l held e there want =

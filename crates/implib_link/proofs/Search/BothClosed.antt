@@ -29,10 +29,10 @@ use Rattle.implib_link.specs.Gnu.Program.{ClaimsNone, claimed_names, has_tables}
 use Rattle.implib_link.specs.Search.Archives.{Library, exports_of, inputs_wanted}
 use Rattle.implib_link.specs.Search.BothFlavors.{AreClosedForBoth, FlavorLibrary, IsClosedForBoth, IsFlavorArchive, IsImportedOfBoth, IsUsedIn, LinksClosedForBoth, TakesOfBoth, archive_of_both, gnu_among, gnu_input, inputs_of_both, msvc_among}
 use Rattle.implib_link.specs.Search.Closed.{listed_in, unresolved}
-use Rattle.implib_link.specs.Search.Msvc.{NamesNoHeader, TakesFor, claimed_in, left_in}
+use Rattle.implib_link.specs.Search.Msvc.{NamesNoHeader, TakesFor, left_in}
 use Rattle.implib_link.specs.Search.MsvcArchives.{first_null, is_import_wanted, is_short_alias, is_weak_in, others_in, short_inputs, shorts_linked, weak_in}
 use Rattle.implib_link.specs.Search.MsvcClosed.{IsWeakTaken, wanted_for}
-use Rattle.implib_link.specs.Search.Search.{NamesNoHeadOrTail, exports_wanted, first_listed, is_listed_for, is_wanted, undefined_in}
+use Rattle.implib_link.specs.Search.Search.{NamesNoHeadOrTail, exports_wanted, first_listed, is_listed_for, is_wanted, undefined_in, left_as, claimed_as}
 use Rattle.implib_link.proofs.Flavors.Expanded.{taken_null}
 use Rattle.implib_link.proofs.Flavors.Inputs.{null_object}
 use Rattle.implib_link.proofs.Flavors.Loaded.{entry_of}
@@ -46,12 +46,11 @@ use Rattle.implib_link.proofs.Search.Arranged.{all_each, chosen_are, input_for, 
 use Rattle.implib_link.proofs.Search.BothArchives.{both_taken, data_alias_weak, plain_gnu, plain_short, short_alias_weak}
 use Rattle.implib_link.proofs.Search.BothArranged.{both_distinct, both_found, both_made, exports_join, gnu_joins, gnu_moved, members_of_each, msvc_moved, of_each, short_joins, shorts_join}
 use Rattle.implib_link.proofs.Search.BothMembers.{FoundInBoth, IsFirst, first_held, found_in_both, found_is_first}
-use Rattle.implib_link.proofs.Search.Closed.{at_index, claims_apart, claims_none, from_not, not_there, passes, passing, there_not, to_not, unresolved_from, unresolved_parts}
-use Rattle.implib_link.proofs.Search.Lists.{among_any, among_at, among_either, among_flat_map, any_member, contains_among, listed_is, none_listed}
-use Rattle.implib_link.proofs.Search.Msvc.{name_taken, taken_name}
+use Rattle.implib_link.proofs.Search.Closed.{at_index, claims_apart, claims_none, from_not, not_there, passes, passing, there_not, to_not, unresolved_from, unresolved_parts, pulled, takes_for}
+use Rattle.implib_link.proofs.Search.Lists.{among_any, among_at, among_either, among_flat_map, any_member, contains_among, listed_is, none_listed, name_as, as_name}
 use Rattle.implib_link.proofs.Search.MsvcArchives.{AShort, AnyImport, TheDescriptor, both_parts, import_parts, imports_are, linked_of, linked_there, member_with, null_or_member, null_with, of_linked}
 use Rattle.implib_link.proofs.Search.MsvcArranged.{short_input_for, short_input_held, short_input_is}
-use Rattle.implib_link.proofs.Search.MsvcClosed.{by_symbol, first_one, null_tables, pulled, takes_for}
+use Rattle.implib_link.proofs.Search.MsvcClosed.{by_symbol, first_one, null_tables}
 use Rattle.implib_link.proofs.Search.MsvcMembers.{FoundDescriptor, FoundNull, FoundShort, FoundThunk, FoundWeak as FoundShortWeak, descriptor_of, null_of, short_of, weak_of as short_weak_of}
 use Rattle.implib_link.proofs.Search.Search.{AnExport, linked_if_needed, listed_export, numbers_are_wanted, only_one, wanted_name, wants}
 
@@ -103,18 +102,18 @@ module _ (machine : MachineType) (libraries : List FlavorLibrary) (archive : IsF
 
   -- given objects claim nothing that members which are taken are listed for or leave to others
   left_apart : (name : List ℕ) → Among name (flat_map undefined_in (objects_taken machine taken)) → Among name (flat_map claimed_names own) → ⊥
-  unfolding left_in
+  unfolding left_as
   left_apart name left = claims_apart (listed_in taken ++ left_in machine taken) own is.claims name (among_back name (listed_in taken) (left_in machine taken) left)
 
   listed_apart : (name : List ℕ) → Among name (listed_in taken) → Among name (flat_map claimed_names own) → ⊥
   listed_apart name held = claims_apart (listed_in taken ++ left_in machine taken) own is.claims name (among_front name (listed_in taken) (left_in machine taken) held)
 
   takes : TakesFor machine (archive_of_both libraries) (unresolved own) taken
-  takes = takes_for machine (archive_of_both libraries) own taken left_apart is.takes
+  takes = takes_for (expanded_in machine) (archive_of_both libraries) own taken left_apart is.takes
 
   each_first : (m : MemberView) → Among m taken → IsFirst machine libraries archive m
   each_first m held =
-      let by = pulled machine (archive_of_both libraries) (unresolved own) taken takes.in_turn m held in
+      let by = pulled (expanded_in machine) (archive_of_both libraries) (unresolved own) taken takes.in_turn m held in
       found_is_first machine libraries archive by.0 m by.1
 
   taken_is : TakesOfBoth machine libraries (unresolved own) taken
@@ -243,7 +242,7 @@ module _ (machine : MachineType) (libraries : List FlavorLibrary) (archive : IsF
   claimed_listed : (name : List ℕ) (members : List MemberView) → ((m : MemberView) → Among m members → Among m taken) → Among name (flat_map claimed_names (objects_taken machine members)) →
       (m : MemberView) × Among m members × Among name m.symbols
   claimed_listed name members there claimed =
-      let by = taken_name machine claimed_names name members claimed in
+      let by = name_as (expanded_in machine) claimed_names name members claimed in
       let one = each_first by.member (there by.member by.held) in
       let same : by.object ≡ one.object = (let e : Some by.object ≡ Some one.object = sym by.taken ∙ one.read in cc) in
       (by.member, by.held, subst (Among name) one.claims (subst (λ o. Among name (claimed_names o)) same by.among))
@@ -252,7 +251,7 @@ module _ (machine : MachineType) (libraries : List FlavorLibrary) (archive : IsF
   listed_claimed : (name : List ℕ) (m : MemberView) → Among m taken → Among name m.symbols → Among name (flat_map claimed_names (objects_taken machine taken))
   listed_claimed name m held listed =
       let one = each_first m held in
-      name_taken machine claimed_names name taken m one.object held one.read (subst (Among name) (sym one.claims) listed)
+      as_name (expanded_in machine) claimed_names name taken m one.object held one.read (subst (Among name) (sym one.claims) listed)
 
   weak_apart : (name : List ℕ) → Listed name → Among name (flat_map claimed_names (objects_taken machine (weak_in machine taken))) → ⊥
   weak_apart name m claimed =
@@ -331,19 +330,19 @@ module _ (machine : MachineType) (libraries : List FlavorLibrary) (archive : IsF
     -- A name that is wanted and listed.
 
     still_named : (name : List ℕ) → Among name wanted → Among name (unresolved own ++ left_in machine taken)
-    unfolding left_in
+    unfolding left_as
     still_named name want =
         elim (among_either name (unresolved own) (flat_map undefined_in weak_objects) want) [
           | inl given ↦ among_front name (unresolved own) (flat_map undefined_in (objects_taken machine taken)) given
           | inr left ↦
-              let by = taken_name machine undefined_in name (weak_in machine taken) left in
+              let by = name_as (expanded_in machine) undefined_in name (weak_in machine taken) left in
               among_back name (unresolved own) (flat_map undefined_in (objects_taken machine taken))
-              (name_taken machine undefined_in name taken by.member by.object (passing (is_weak_in machine) by.member taken by.held).0 by.taken by.among)
+              (as_name (expanded_in machine) undefined_in name taken by.member by.object (passing (is_weak_in machine) by.member taken by.held).0 by.taken by.among)
         ]
 
     -- the first member that is listed for it is taken
     reached : (name : List ℕ) (m : MemberView) → Among name wanted → first_listed (archive_of_both libraries) name ≡ Some m → Among m taken
-    unfolding claimed_in
+    unfolding claimed_as
     reached name m want at =
         elim (cases_Bool (list_any (is_listed_for name) taken)) [
           | inl some ↦
@@ -473,8 +472,8 @@ module _ (machine : MachineType) (libraries : List FlavorLibrary) (archive : IsF
     same_names : (f : Object → List (List ℕ)) (name : List ℕ) (members : List MemberView) → ((m : MemberView) → Among m members → Among m taken) → Among name (flat_map f (objects_taken machine members)) →
         Among name (flat_map f (objects_taken machine taken))
     same_names f name members there named =
-        let by = taken_name machine f name members named in
-        name_taken machine f name taken by.member by.object (there by.member by.held) by.taken by.among
+        let by = name_as (expanded_in machine) f name members named in
+        as_name (expanded_in machine) f name taken by.member by.object (there by.member by.held) by.taken by.among
 
     from_sources : (f : Object → List (List ℕ)) (name : List ℕ) → Among name (flat_map f objects) → Among name (flat_map f sources)
     from_sources f name named =
@@ -500,12 +499,12 @@ module _ (machine : MachineType) (libraries : List FlavorLibrary) (archive : IsF
     member_object f name m o there read named =
         elim (cases_Bool (is_weak_in machine m)) [
           | inl weak ↦
-              let x = among_flat_map f name weak_objects (name_taken machine f name (weak_in machine taken) m o (passes (is_weak_in machine) m taken there weak) read named) in
+              let x = among_flat_map f name weak_objects (as_name (expanded_in machine) f name (weak_in machine taken) m o (passes (is_weak_in machine) m taken there weak) read named) in
               among_flat f x.0 objects name
               (other_held x.0 (contains_among x.0 others ((is.others x.0).1 (among_contains x.0 (own ++ weak_objects) (among_back x.0 own weak_objects x.1))))) x.2
           | inr plain ↦
               let all : Among m linked = other_linked m (passes (λ x. not (is_weak_in machine x)) m taken there (to_not (is_weak_in machine m) plain)) in
-              let x = among_flat_map f name (objects_taken machine linked) (name_taken machine f name linked m o all read named) in
+              let x = among_flat_map f name (objects_taken machine linked) (as_name (expanded_in machine) f name linked m o all read named) in
               among_flat f x.0 objects name (passing has_tables x.0 objects (subst (Among x.0) (sym is.tables) x.1)).0 x.2
         ]
 
@@ -517,7 +516,7 @@ module _ (machine : MachineType) (libraries : List FlavorLibrary) (archive : IsF
               among_flat f by.0 objects name
               (other_held by.0 (contains_among by.0 others ((is.others by.0).1 (among_contains by.0 (own ++ weak_objects) (among_front by.0 own weak_objects by.1))))) by.2
           | inr member ↦
-              let by = taken_name machine f name taken member in
+              let by = name_as (expanded_in machine) f name taken member in
               member_object f name by.member by.object by.held by.taken by.among
         ]
 

@@ -36,11 +36,10 @@ use Rattle.implib_link.proofs.Search.BothClosed.{both_held, closed_links_of_both
 use Rattle.implib_link.proofs.Search.BothGiven.{both_given_closes, both_given_ends}
 use Rattle.implib_link.proofs.Search.BothMembers.{FoundInBoth, found_in_both, gnu_export_is, gnu_head_is, gnu_made, gnu_tail_is, gnu_weak_is}
 use Rattle.implib_link.proofs.Search.BothRooms.{both_tables_near}
-use Rattle.implib_link.proofs.Search.Closed.{passing}
+use Rattle.implib_link.proofs.Search.Closed.{passing, in_turn_for, pulled}
 use Rattle.implib_link.proofs.Search.Exists.{NoneHave, others_first, tables_last, within_by}
 use Rattle.implib_link.proofs.Search.Lists.{among_either}
 use Rattle.implib_link.proofs.Search.MsvcArchives.{linked_of, there_linked, weak_by}
-use Rattle.implib_link.proofs.Search.MsvcClosed.{in_turn_for, pulled}
 use Rattle.implib_link.proofs.Search.MsvcExists.{each_taken, first_has, linked_has, none_of, same_object, weak_has_none}
 use Rattle.implib_link.proofs.Search.MsvcMembers.{taken_weak}
 use Rattle.implib_link.proofs.Search.Search.{AnExport, Needed, TheHead, TheTail, needed_if_linked, numbers_are_wanted}
@@ -98,7 +97,7 @@ module _ (machine : MachineType) (libraries : List FlavorLibrary) (archive : IsF
 
   module _ (own : List Object) (plain : NoneHave own) (taken : List MemberView) (takes : TakesIntoFor machine (archive_of_both libraries) own taken) where
     turn : AreTakenInTurn machine (archive_of_both libraries) (unresolved own) taken
-    turn = in_turn_for machine (archive_of_both libraries) own taken takes.in_turn
+    turn = in_turn_for (expanded_in machine) (archive_of_both libraries) own taken takes.in_turn
 
     abbrev members : List MemberView
     members = all_members machine (inputs_of_both machine libraries own taken)
@@ -112,7 +111,7 @@ module _ (machine : MachineType) (libraries : List FlavorLibrary) (archive : IsF
     weak_none : NoneHave weak
     weak_none = each_taken machine (λ o. has_tables o ≡ false) (weak_in machine taken) (λ m o there read.
         let kept = passing (is_weak_in machine) m taken there in
-        let by = pulled machine (archive_of_both libraries) (unresolved own) taken turn m kept.0 in
+        let by = pulled (expanded_in machine) (archive_of_both libraries) (unresolved own) taken turn m kept.0 in
         none_of_both by.0 m o kept.1 (found_in_both machine libraries archive by.0 m by.1) read)
 
     all_have : AllByRecursion (λ o. has_tables o ≡ true) tables

@@ -28,7 +28,7 @@ use Rattle.implib_link.specs.Search.Msvc.{AreTakenInTurn, NamesNoHeader, left_in
 use Rattle.implib_link.specs.Search.MsvcArchives.{first_null, is_import_wanted, is_short_alias, is_weak_in, short_inputs, weak_in}
 use Rattle.implib_link.specs.Search.MsvcClosed.{TakesIntoFor, wanted_for}
 use Rattle.implib_link.specs.Search.MsvcGiven.{headers_of, import_symbols_wanted, short_targets}
-use Rattle.implib_link.specs.Search.Search.{HaveSame, NamesNoHeadOrTail, is_wanted, undefined_in}
+use Rattle.implib_link.specs.Search.Search.{HaveSame, NamesNoHeadOrTail, is_wanted, undefined_in, left_as}
 use Rattle.implib_link.proofs.Flavors.Block.{asking, use_for}
 use Rattle.implib_link.proofs.Flavors.Expanded.{taken_descriptor, taken_null, taken_null_thunk}
 use Rattle.implib_link.proofs.Search.ArchiveGroups.{export_of, head_of, tail_of, weak_of as data_weak_of}
@@ -36,12 +36,12 @@ use Rattle.implib_link.proofs.Search.ArchiveMembers.{FoundExport, FoundHead, Fou
 use Rattle.implib_link.proofs.Search.Arranged.{all_each}
 use Rattle.implib_link.proofs.Search.BothArchives.{ForAlias, ForDataAlias, ForExport, ForImport, ForNull, IsNeededOf, by_name, head_has_none, needed, tail_has_none}
 use Rattle.implib_link.proofs.Search.BothMembers.{FoundInBoth, first_held, found_in_both, gnu_export_is, gnu_head_is, gnu_made, gnu_tail_is, gnu_weak_is, msvc_made}
-use Rattle.implib_link.proofs.Search.Closed.{claims_apart, claims_none, not_there, passes, passing, there_not, unresolved_parts}
-use Rattle.implib_link.proofs.Search.Lists.{among_at, among_either, among_flat_map}
-use Rattle.implib_link.proofs.Search.Msvc.{left_asking, left_descriptor, left_null, left_thunk, taken_name}
+use Rattle.implib_link.proofs.Search.Closed.{claims_apart, claims_none, not_there, passes, passing, there_not, unresolved_parts, in_turn_for, pulled, takes_into}
+use Rattle.implib_link.proofs.Search.Lists.{among_at, among_either, among_flat_map, name_as}
+use Rattle.implib_link.proofs.Search.Msvc.{left_asking, left_descriptor, left_null, left_thunk}
 use Rattle.implib_link.proofs.Search.MsvcArchives.{AShort, TheDescriptor, TheThunk, both_parts, descriptor_plain, import_parts, null_plain, short_plain, thunk_plain, weak_by}
-use Rattle.implib_link.proofs.Search.MsvcClosed.{first_one, in_turn_for, pulled, takes_into}
-use Rattle.implib_link.proofs.Search.MsvcEnds.{short_search_ends}
+use Rattle.implib_link.proofs.Search.MsvcClosed.{first_one}
+use Rattle.implib_link.proofs.Search.Ends.{search_ends}
 use Rattle.implib_link.proofs.Search.MsvcGiven.{more_wanted, some_there}
 use Rattle.implib_link.proofs.Search.MsvcArranged.{short_input_for, short_input_held, short_input_is}
 use Rattle.implib_link.proofs.Search.MsvcMembers.{FoundDescriptor, FoundNull, FoundShort, FoundThunk, FoundWeak as FoundShortWeak, IsPair, descriptor_is, descriptor_of, left_weak, null_is, null_of, short_is, short_of, taken_weak, thunk_is, thunk_of, weak_is, weak_of as short_weak_of}
@@ -188,14 +188,14 @@ module _ (machine : MachineType) (libraries : List FlavorLibrary) (archive : IsF
 
     -- no more is wanted
     within_most : (name : List ℕ) → Among name wanted → Among name most
-    unfolding left_in
+    unfolding left_as
     within_most name want =
         elim (among_either name (unresolved own) (flat_map undefined_in (objects_taken machine (weak_in machine taken))) want) [
           | inl left ↦ among_front name (unresolved own) (targets_of_both libraries) left
           | inr target ↦
-              let from = taken_name machine undefined_in name (weak_in machine taken) target in
+              let from = name_as (expanded_in machine) undefined_in name (weak_in machine taken) target in
               let there = passing (is_weak_in machine) from.member taken from.held in
-              let by = pulled machine (archive_of_both libraries) (unresolved own) taken turn from.member there.0 in
+              let by = pulled (expanded_in machine) (archive_of_both libraries) (unresolved own) taken turn from.member there.0 in
               among_back name (unresolved own) (targets_of_both libraries)
               (weak_left by.0 name from.member from.object there.1 (found_in_both machine libraries archive by.0 from.member by.1) from.taken from.among)
         ]
@@ -299,7 +299,7 @@ module _ (machine : MachineType) (libraries : List FlavorLibrary) (archive : IsF
 
     left_of : (name : List ℕ) → Among name (flat_map undefined_in (objects_taken machine taken)) → Among name kept
     left_of name left =
-        let from = taken_name machine undefined_in name taken left in
+        let from = name_as (expanded_in machine) undefined_in name taken left in
         left_kept from.member from.object name (needed_here from.member from.held) from.taken from.among
 
     -- the objects claim nothing of it
@@ -311,7 +311,7 @@ module _ (machine : MachineType) (libraries : List FlavorLibrary) (archive : IsF
     left_apart name left = none_kept name (inl (left_of name left))
 
     claims : AllByRecursion (ClaimsNone (listed_in taken ++ left_in machine taken)) own
-    unfolding left_in
+    unfolding left_as
     claims =
         all_each (ClaimsNone (listed_in taken ++ flat_map undefined_in (objects_taken machine taken))) own (λ o held.
         claims_none (listed_in taken ++ flat_map undefined_in (objects_taken machine taken)) o (λ name is claimed.
@@ -323,8 +323,8 @@ module _ (machine : MachineType) (libraries : List FlavorLibrary) (archive : IsF
 pub both_given_ends : (machine : MachineType) (libraries : List FlavorLibrary) (own : List Object) → IsFlavorArchive machine libraries → AreGivenForBoth machine libraries own →
     (taken : List MemberView) × TakesIntoFor machine (archive_of_both libraries) own taken
 both_given_ends machine libraries own archive given =
-    let found = short_search_ends machine (archive_of_both libraries) (unresolved own) in
-    (found.0, takes_into machine (archive_of_both libraries) own found.0 (left_apart machine libraries archive own given found.0 found.1.in_turn) found.1)
+    let found = search_ends (expanded_in machine) (archive_of_both libraries) (unresolved own) in
+    (found.0, takes_into (expanded_in machine) (archive_of_both libraries) own found.0 (left_apart machine libraries archive own given found.0 found.1.in_turn) found.1)
 
 some_wanted : (machine : MachineType) (shorts : List Library) (own : List Object) (taken : List MemberView) → 0 < length (short_inputs shorts (unresolved own)) → 0 < length (short_inputs shorts (wanted_for machine own taken))
 some_wanted machine shorts own taken some =
@@ -341,7 +341,7 @@ pub both_given_closes : (machine : MachineType) (libraries : List FlavorLibrary)
     filter has_tables objects ≡ objects_taken machine (before ++ (first_null machine (msvc_among libraries) ++ behind)) →
     AreClosedForBoth machine libraries own taken arranged objects
 both_given_closes machine libraries own taken arranged objects before behind archive given takes some order others members tables =
-    let turn : AreTakenInTurn machine (archive_of_both libraries) (unresolved own) taken = in_turn_for machine (archive_of_both libraries) own taken takes.in_turn in
+    let turn : AreTakenInTurn machine (archive_of_both libraries) (unresolved own) taken = in_turn_for (expanded_in machine) (archive_of_both libraries) own taken takes.in_turn in
     record {
       takes = takes;
       some = some_wanted machine (msvc_among libraries) own taken some;

@@ -26,8 +26,8 @@ use Rattle.implib.proofs.Link.Placement.{export, head, tail}
 use Rattle.implib.proofs.Link.Ranges.{Among, all_among, among_back, among_flat, among_front, among_later}
 use Rattle.implib_link.specs.Gnu.Program.{ClaimsNone, IsProgram, LinksAmong, claimed_names, has_tables, linked_symbols, null_descriptor, thunks_before}
 use Rattle.implib_link.specs.Search.Archives.{IsArchive, IsLibrary, Library, TakesOfLibraries, archive_of, exports_of, is_weak, others_among, weak_among}
-use Rattle.implib_link.specs.Search.Closed.{AreTakenInto, IsAliasTaken, IsClosed, IsImported, IsUsed, LinksClosed, PullsInto, TakesInto, claims_of, inputs_in, listed_in, references_of, unresolved, wanted_in}
-use Rattle.implib_link.specs.Search.Search.{IsTakenInTurn, NamesNoHeadOrTail, PullsIn, Takes, exports_wanted, first_listed, is_listed_for, is_wanted, names_claimed, names_undefined, undefined_in}
+use Rattle.implib_link.specs.Search.Closed.{IsAliasTaken, IsClosed, IsImported, IsUsed, LinksClosed, claims_of, inputs_in, listed_in, references_of, unresolved, wanted_in, AreTakenIntoAs, PullsIntoAs, TakesIntoAs}
+use Rattle.implib_link.specs.Search.Search.{NamesNoHeadOrTail, Takes, exports_wanted, first_listed, is_listed_for, is_wanted, names_undefined, undefined_in, left_as, claimed_as, AreTakenInTurnAs, objects_as, PullsInAs, TakesAs}
 use Rattle.implib_link.proofs.Gnu.Claims.{claimed_export, claimed_head, claimed_tail}
 use Rattle.implib_link.proofs.Gnu.Loaded.{entry_once}
 use Rattle.implib_link.proofs.Gnu.Program.{program_links}
@@ -35,7 +35,7 @@ use Rattle.implib_link.proofs.Search.ArchiveGroups.{export_of, head_of, tail_of,
 use Rattle.implib_link.proofs.Search.ArchiveMembers.{Found, FoundExport, FoundHead, FoundTail, FoundWeak, claimed_weak, export_found, export_object_is, found, head_found, head_object_is, tail_found, tail_object_is, weak_found, weak_is_weak, weak_object_is}
 use Rattle.implib_link.proofs.Search.Archives.{inputs_made, libraries_taken}
 use Rattle.implib_link.proofs.Search.Arranged.{all_each, among_moved, archive_moved, chosen_are, input_for, input_held, input_is, inputs_distinct, linked_moved}
-use Rattle.implib_link.proofs.Search.Lists.{NameRead, among_any, among_at, among_either, among_flat_map, any_among, any_member, contains_among, listed_is, name_read, none_listed, read_name}
+use Rattle.implib_link.proofs.Search.Lists.{among_any, among_at, among_either, among_flat_map, any_among, any_member, contains_among, listed_is, none_listed, name_as, as_name, NameAs}
 use Rattle.implib_link.proofs.Search.Search.{in_nothing, listed_export, listed_head, listed_tail, numbers_are_wanted, only_one, wanted_name, wants}
 use Rattle.implib.specs.LibraryName.{linked_name}
 use Rattle.implib.specs.LibraryName.{NamesOfDll, names_for}
@@ -117,53 +117,53 @@ unresolved_from objects name left none =
 
 -- The search for given objects is one for what they leave unresolved.
 
-module _ (archive : List MemberView) (own : List Object) where
-  pulls_for : (taken : List MemberView) (name : List ℕ) (m : MemberView) → PullsInto archive own taken name m → PullsIn archive (unresolved own) taken name m
-  unfolding names_undefined names_claimed
+module _ (reads : List ℕ → Option Object) (archive : List MemberView) (own : List Object) where
+  pulls_for : (taken : List MemberView) (name : List ℕ) (m : MemberView) → PullsIntoAs reads archive own taken name m → PullsInAs reads archive (unresolved own) taken name m
+  unfolding left_as claimed_as
   pulls_for taken name m pulls =
-      let parts = unresolved_parts (own ++ objects_in taken) name (contains_among name (unresolved (own ++ objects_in taken)) pulls.named) in
-      let none : Among name (flat_map claimed_names own ++ flat_map claimed_names (objects_in taken)) → ⊥ =
-      λ claimed. parts.1 (subst (Among name) (sym (flat_map-append claimed_names own (objects_in taken))) claimed) in
+      let parts = unresolved_parts (own ++ objects_as reads taken) name (contains_among name (unresolved (own ++ objects_as reads taken)) pulls.named) in
+      let none : Among name (flat_map claimed_names own ++ flat_map claimed_names (objects_as reads taken)) → ⊥ =
+      λ claimed. parts.1 (subst (Among name) (sym (flat_map-append claimed_names own (objects_as reads taken))) claimed) in
       record {
-        named = among_contains name (unresolved own ++ flat_map undefined_in (objects_in taken))
-            (elim (among_either name (flat_map undefined_in own) (flat_map undefined_in (objects_in taken)) (subst (Among name) (flat_map-append undefined_in own (objects_in taken)) parts.0)) [
-              | inl left ↦ among_front name (unresolved own) (flat_map undefined_in (objects_in taken))
-                  (unresolved_from own name left (λ claimed. none (among_front name (flat_map claimed_names own) (flat_map claimed_names (objects_in taken)) claimed)))
-              | inr left ↦ among_back name (unresolved own) (flat_map undefined_in (objects_in taken)) left
+        named = among_contains name (unresolved own ++ flat_map undefined_in (objects_as reads taken))
+            (elim (among_either name (flat_map undefined_in own) (flat_map undefined_in (objects_as reads taken)) (subst (Among name) (flat_map-append undefined_in own (objects_as reads taken)) parts.0)) [
+              | inl left ↦ among_front name (unresolved own) (flat_map undefined_in (objects_as reads taken))
+                  (unresolved_from own name left (λ claimed. none (among_front name (flat_map claimed_names own) (flat_map claimed_names (objects_as reads taken)) claimed)))
+              | inr left ↦ among_back name (unresolved own) (flat_map undefined_in (objects_as reads taken)) left
             ]);
-        undefined = not_there name (flat_map claimed_names (objects_in taken)) (λ claimed. none (among_back name (flat_map claimed_names own) (flat_map claimed_names (objects_in taken)) claimed));
+        undefined = not_there name (flat_map claimed_names (objects_as reads taken)) (λ claimed. none (among_back name (flat_map claimed_names own) (flat_map claimed_names (objects_as reads taken)) claimed));
         listed = pulls.listed;
         new = pulls.new;
       }
 
-  pulls_into : (taken : List MemberView) (name : List ℕ) (m : MemberView) → (Among name (flat_map undefined_in (objects_in taken)) → Among name (flat_map claimed_names own) → ⊥) →
-      PullsIn archive (unresolved own) taken name m → PullsInto archive own taken name m
-  unfolding names_undefined names_claimed
+  pulls_into : (taken : List MemberView) (name : List ℕ) (m : MemberView) → (Among name (flat_map undefined_in (objects_as reads taken)) → Among name (flat_map claimed_names own) → ⊥) →
+      PullsInAs reads archive (unresolved own) taken name m → PullsIntoAs reads archive own taken name m
+  unfolding left_as claimed_as
   pulls_into taken name m apart pulls =
-      let named : Among name (flat_map undefined_in own ++ flat_map undefined_in (objects_in taken)) × (Among name (flat_map claimed_names own) → ⊥) =
-      elim (among_either name (unresolved own) (flat_map undefined_in (objects_in taken)) (contains_among name (unresolved own ++ flat_map undefined_in (objects_in taken)) pulls.named)) [
-        | inl given ↦ let parts = unresolved_parts own name given in (among_front name (flat_map undefined_in own) (flat_map undefined_in (objects_in taken)) parts.0, parts.1)
-        | inr left ↦ (among_back name (flat_map undefined_in own) (flat_map undefined_in (objects_in taken)) left, apart left)
+      let named : Among name (flat_map undefined_in own ++ flat_map undefined_in (objects_as reads taken)) × (Among name (flat_map claimed_names own) → ⊥) =
+      elim (among_either name (unresolved own) (flat_map undefined_in (objects_as reads taken)) (contains_among name (unresolved own ++ flat_map undefined_in (objects_as reads taken)) pulls.named)) [
+        | inl given ↦ let parts = unresolved_parts own name given in (among_front name (flat_map undefined_in own) (flat_map undefined_in (objects_as reads taken)) parts.0, parts.1)
+        | inr left ↦ (among_back name (flat_map undefined_in own) (flat_map undefined_in (objects_as reads taken)) left, apart left)
       ] in
       record {
-        named = among_contains name (unresolved (own ++ objects_in taken)) (unresolved_from (own ++ objects_in taken) name
-            (subst (Among name) (sym (flat_map-append undefined_in own (objects_in taken))) named.0)
-            (λ claimed. elim (among_either name (flat_map claimed_names own) (flat_map claimed_names (objects_in taken)) (subst (Among name) (flat_map-append claimed_names own (objects_in taken)) claimed)) [
+        named = among_contains name (unresolved (own ++ objects_as reads taken)) (unresolved_from (own ++ objects_as reads taken) name
+            (subst (Among name) (sym (flat_map-append undefined_in own (objects_as reads taken))) named.0)
+            (λ claimed. elim (among_either name (flat_map claimed_names own) (flat_map claimed_names (objects_as reads taken)) (subst (Among name) (flat_map-append claimed_names own (objects_as reads taken)) claimed)) [
               | inl here ↦ named.1 here
-              | inr there ↦ there_not name (flat_map claimed_names (objects_in taken)) pulls.undefined there
+              | inr there ↦ there_not name (flat_map claimed_names (objects_as reads taken)) pulls.undefined there
             ]));
         listed = pulls.listed;
         new = pulls.new;
       }
 
-  pub in_turn_for : (taken : List MemberView) → AreTakenInto archive own taken → IsTakenInTurn archive (unresolved own) taken
-  unfolding AreTakenInto IsTakenInTurn
+  pub in_turn_for : (taken : List MemberView) → AreTakenIntoAs reads archive own taken → AreTakenInTurnAs reads archive (unresolved own) taken
+  unfolding AreTakenIntoAs AreTakenInTurnAs
   in_turn_for [] turn = tt
   in_turn_for (m ∷ earlier) turn = ((turn.0.0, pulls_for earlier turn.0.0 m turn.0.1), in_turn_for earlier turn.1)
 
   -- where the given objects claim nothing that members which are taken leave to others
-  pub takes_for : (taken : List MemberView) → ((name : List ℕ) → Among name (flat_map undefined_in (objects_in taken)) → Among name (flat_map claimed_names own) → ⊥) →
-      TakesInto archive own taken → Takes archive (unresolved own) taken
+  pub takes_for : (taken : List MemberView) → ((name : List ℕ) → Among name (flat_map undefined_in (objects_as reads taken)) → Among name (flat_map claimed_names own) → ⊥) →
+      TakesIntoAs reads archive own taken → TakesAs reads archive (unresolved own) taken
   takes_for taken apart takes = record {
     in_turn = in_turn_for taken takes.in_turn;
     ended = λ name m pulls. takes.ended name m (pulls_into taken name m (apart name) pulls);
@@ -171,32 +171,32 @@ module _ (archive : List MemberView) (own : List Object) where
 
   -- the other way round, each list of members that are taken before leaves fewer names
   in_turn_into : (taken earlier : List MemberView) → ((m : MemberView) → Among m earlier → Among m taken) →
-      ((name : List ℕ) → Among name (flat_map undefined_in (objects_in taken)) → Among name (flat_map claimed_names own) → ⊥) → IsTakenInTurn archive (unresolved own) earlier → AreTakenInto archive own earlier
-  unfolding AreTakenInto IsTakenInTurn
+      ((name : List ℕ) → Among name (flat_map undefined_in (objects_as reads taken)) → Among name (flat_map claimed_names own) → ⊥) → AreTakenInTurnAs reads archive (unresolved own) earlier → AreTakenIntoAs reads archive own earlier
+  unfolding AreTakenIntoAs AreTakenInTurnAs
   in_turn_into taken [] within apart turn = tt
   in_turn_into taken (m ∷ earlier) within apart turn =
       let before : (x : MemberView) → Among x earlier → Among x taken = λ x held. within x (among_later x m earlier held) in (
         (
           turn.0.0,
-          pulls_into earlier turn.0.0 m (λ left. apart turn.0.0 (let by = name_read undefined_in turn.0.0 earlier left in read_name undefined_in turn.0.0 taken by.0 by.1 (before by.0 by.2) by.3 by.4)) turn.0.1,
+          pulls_into earlier turn.0.0 m (λ left. apart turn.0.0 (let by = name_as reads undefined_in turn.0.0 earlier left in as_name reads undefined_in turn.0.0 taken by.member by.object (before by.member by.held) by.taken by.among)) turn.0.1,
         ),
         in_turn_into taken earlier before apart turn.1,
       )
 
-  pub takes_into : (taken : List MemberView) → ((name : List ℕ) → Among name (flat_map undefined_in (objects_in taken)) → Among name (flat_map claimed_names own) → ⊥) →
-      Takes archive (unresolved own) taken → TakesInto archive own taken
+  pub takes_into : (taken : List MemberView) → ((name : List ℕ) → Among name (flat_map undefined_in (objects_as reads taken)) → Among name (flat_map claimed_names own) → ⊥) →
+      TakesAs reads archive (unresolved own) taken → TakesIntoAs reads archive own taken
   takes_into taken apart takes = record {
     in_turn = in_turn_into taken taken (λ m held. held) apart takes.in_turn;
     ended = λ name m pulls. takes.ended name m (pulls_for taken name m pulls);
   }
 
 -- a member that is taken is the first for some name
-pulled : (archive : List MemberView) (own : List Object) (taken : List MemberView) → AreTakenInto archive own taken → (m : MemberView) → Among m taken →
+pub pulled : (reads : List ℕ → Option Object) (archive : List MemberView) (wanted : List (List ℕ)) (taken : List MemberView) → AreTakenInTurnAs reads archive wanted taken → (m : MemberView) → Among m taken →
     (name : List ℕ) × (first_listed archive name ≡ Some m)
-unfolding Among AreTakenInto
-pulled archive own [] turn m held = absurd held
-pulled archive own (t ∷ earlier) turn m (inl e) = (turn.0.0, turn.0.1.listed ∙ ap Some (sym e))
-pulled archive own (t ∷ earlier) turn m (inr held) = pulled archive own earlier turn.1 m held
+unfolding Among AreTakenInTurnAs
+pulled reads archive wanted [] turn m held = absurd held
+pulled reads archive wanted (t ∷ earlier) turn m (inl e) = (turn.0.0, turn.0.1.listed ∙ ap Some (sym e))
+pulled reads archive wanted (t ∷ earlier) turn m (inr held) = pulled reads archive wanted earlier turn.1 m held
 
 -- What is so of each member that a name finds.
 
@@ -249,19 +249,19 @@ module _ (machine : MachineType) (libraries : List Library) (archive : IsArchive
 
     each_first : (m : MemberView) → Among m taken → IsFirst m
     each_first m held =
-        let by = pulled (archive_of libraries) own taken is.takes.in_turn m held in
+        let by = pulled object_in (archive_of libraries) (unresolved own) taken (in_turn_for object_in (archive_of libraries) own taken is.takes.in_turn) m held in
         found_first by.0 m (found machine libraries archive by.0 m by.1)
 
     -- given objects claim nothing that members which are taken are listed for or leave to others
     left_apart : (name : List ℕ) → Among name (flat_map undefined_in (objects_in taken)) → Among name (flat_map claimed_names own) → ⊥
-    unfolding names_undefined
+    unfolding left_as
     left_apart name left = claims_apart (listed_in taken ++ names_undefined taken) own is.claims name (among_back name (listed_in taken) (names_undefined taken) left)
 
     listed_apart : (name : List ℕ) → Among name (listed_in taken) → Among name (flat_map claimed_names own) → ⊥
     listed_apart name held = claims_apart (listed_in taken ++ names_undefined taken) own is.claims name (among_front name (listed_in taken) (names_undefined taken) held)
 
     takes : Takes (archive_of libraries) (unresolved own) taken
-    takes = takes_for (archive_of libraries) own taken left_apart is.takes
+    takes = takes_for object_in (archive_of libraries) own taken left_apart is.takes
 
     taken_is : TakesOfLibraries machine libraries (unresolved own) taken
     taken_is = libraries_taken machine libraries taken (unresolved own) archive is.names takes
@@ -294,16 +294,16 @@ module _ (machine : MachineType) (libraries : List Library) (archive : IsArchive
     claimed_listed : (name : List ℕ) (members : List MemberView) → ((m : MemberView) → Among m members → Among m taken) → Among name (flat_map claimed_names (objects_in members)) →
         (m : MemberView) × Among m members × Among name m.symbols
     claimed_listed name members there claimed =
-        let by = name_read claimed_names name members claimed in
-        let one = each_first by.0 (there by.0 by.2) in
-        let same : by.1 ≡ one.object = (let e : Some by.1 ≡ Some one.object = sym by.3 ∙ one.read in cc) in
-        (by.0, by.2, subst (Among name) one.claims (subst (λ o. Among name (claimed_names o)) same by.4))
+        let by = name_as object_in claimed_names name members claimed in
+        let one = each_first by.member (there by.member by.held) in
+        let same : by.object ≡ one.object = (let e : Some by.object ≡ Some one.object = sym by.taken ∙ one.read in cc) in
+        (by.member, by.held, subst (Among name) one.claims (subst (λ o. Among name (claimed_names o)) same by.among))
 
     -- and the other way round
     listed_claimed : (name : List ℕ) (m : MemberView) → Among m taken → Among name m.symbols → Among name (flat_map claimed_names (objects_in taken))
     listed_claimed name m held listed =
         let one = each_first m held in
-        read_name claimed_names name taken m one.object held one.read (subst (Among name) (sym one.claims) listed)
+        as_name object_in claimed_names name taken m one.object held one.read (subst (Among name) (sym one.claims) listed)
 
     weak_apart : (name : List ℕ) → Among name (linked_symbols machine inputs) → Among name (flat_map claimed_names (objects_in (weak_among taken))) → ⊥
     weak_apart name linked claimed =
@@ -356,19 +356,19 @@ module _ (machine : MachineType) (libraries : List Library) (archive : IsArchive
 
     -- a wanted name is one of the names that are undefined
     still_named : (name : List ℕ) → Among name wanted → Among name (unresolved own ++ names_undefined taken)
-    unfolding names_undefined
+    unfolding left_as
     still_named name want =
         elim (among_either name (unresolved own) (flat_map undefined_in (objects_in (weak_among taken))) want) [
           | inl given ↦ among_front name (unresolved own) (flat_map undefined_in (objects_in taken)) given
           | inr left ↦
-              let by = name_read undefined_in name (weak_among taken) left in
+              let by = name_as object_in undefined_in name (weak_among taken) left in
               among_back name (unresolved own) (flat_map undefined_in (objects_in taken))
-              (read_name undefined_in name taken by.0 by.1 (passing is_weak by.0 taken by.2).0 by.3 by.4)
+              (as_name object_in undefined_in name taken by.member by.object (passing is_weak by.member taken by.held).0 by.taken by.among)
         ]
 
     -- the first member that is listed for it is taken
     reached : (name : List ℕ) (m : MemberView) → Among name wanted → first_listed (archive_of libraries) name ≡ Some m → Among m taken
-    unfolding names_claimed
+    unfolding claimed_as
     reached name m want at =
         elim (cases_Bool (list_any (is_listed_for name) taken)) [
           | inl some ↦
@@ -496,8 +496,8 @@ module _ (machine : MachineType) (libraries : List Library) (archive : IsArchive
     same_names : (f : Object → List (List ℕ)) (name : List ℕ) (members : List MemberView) → ((m : MemberView) → Among m members → Among m taken) → Among name (flat_map f (objects_in members)) →
         Among name (flat_map f (objects_in taken))
     same_names f name members there held =
-        let by = name_read f name members held in
-        read_name f name taken by.0 by.1 (there by.0 by.2) by.3 by.4
+        let by = name_as object_in f name members held in
+        as_name object_in f name taken by.member by.object (there by.member by.held) by.taken by.among
 
     pub from_sources : (f : Object → List (List ℕ)) → f null_descriptor ≡ [] → (name : List ℕ) → Among name (flat_map f objects) → Among name (flat_map f (own ++ objects_in taken))
     from_sources f nothing name held =
@@ -531,20 +531,20 @@ module _ (machine : MachineType) (libraries : List Library) (archive : IsArchive
               among_flat f by.0 objects name
               (other_held by.0 (contains_among by.0 others ((is.linked.others by.0).1
               (among_contains by.0 (own ++ objects_in (weak_among taken)) (among_front by.0 own (objects_in (weak_among taken)) by.1))))) by.2
-          | inr member ↦ of_member (name_read f name taken member)
+          | inr member ↦ of_member (name_as object_in f name taken member)
         ]
       where
-        of_member : NameRead f name taken → Among name (flat_map f objects)
+        of_member : NameAs object_in f name taken → Among name (flat_map f objects)
         of_member by =
-            elim (cases_Bool (is_weak by.0)) [
+            elim (cases_Bool (is_weak by.member)) [
               | inl weak ↦
-                  let o = among_flat_map f name (objects_in (weak_among taken)) (read_name f name (weak_among taken) by.0 by.1 (passes is_weak by.0 taken by.2 weak) by.3 by.4) in
+                  let o = among_flat_map f name (objects_in (weak_among taken)) (as_name object_in f name (weak_among taken) by.member by.object (passes is_weak by.member taken by.held weak) by.taken by.among) in
                   among_flat f o.0 objects name
                   (other_held o.0 (contains_among o.0 others ((is.linked.others o.0).1
                   (among_contains o.0 (own ++ objects_in (weak_among taken)) (among_back o.0 own (objects_in (weak_among taken)) o.1))))) o.2
               | inr plain ↦
-                  let linked : Among by.0 (all_linked machine inputs) = other_linked by.0 (passes (λ x. not (is_weak x)) by.0 taken by.2 (to_not (is_weak by.0) plain)) in
-                  let o = among_flat_map f name (objects_in (all_linked machine inputs)) (read_name f name (all_linked machine inputs) by.0 by.1 linked by.3 by.4) in
+                  let linked : Among by.member (all_linked machine inputs) = other_linked by.member (passes (λ x. not (is_weak x)) by.member taken by.held (to_not (is_weak by.member) plain)) in
+                  let o = among_flat_map f name (objects_in (all_linked machine inputs)) (as_name object_in f name (all_linked machine inputs) by.member by.object linked by.taken by.among) in
                   among_flat f o.0 objects name
                   (passing has_tables o.0 objects
                   (subst (Among o.0) (sym is.linked.tables) (among_front o.0 (objects_in (all_linked machine inputs)) (null_descriptor ∷ []) o.1))).0 o.2

@@ -1,5 +1,5 @@
 -- A search of any archive ends: each member that is taken was not taken before, and an archive has so many.
-use Rattle.std.proofs.Common.{◌≡◌, ℕ, zero, suc, ◌+◌, ◌<◌, ◌≤◌, Bool, true, false, List, [], ◌∷◌, ◌++◌, length, Some, None, refl, ap, sym, ◌∙◌, subst, inl, inr, ◌⊎◌, arith, if◌then◌else◌}
+use Rattle.std.proofs.Common.{◌≡◌, ℕ, zero, suc, ◌+◌, ◌<◌, ◌≤◌, Bool, true, false, List, [], ◌∷◌, ◌++◌, length, Some, None, refl, ap, sym, ◌∙◌, subst, inl, inr, ◌⊎◌, arith, if◌then◌else◌, Option}
 use Rattle.std.specs.Prelude.{◌&&◌, ◌||◌, bytes_eq}
 use Rattle.std.specs.List.{Contains, list_any}
 use Rattle.std.proofs.lemmas.Bool.{and_parts, cases_Bool, false_from_ne_true, true≢false}
@@ -7,8 +7,9 @@ use Rattle.std.proofs.lemmas.Slice.Eq.{bytes_eq-Decides}
 use Rattle.implib.specs.Members.MemberSpec.{MemberView}
 use Rattle.implib.proofs.Link.LinkedMembers.{among_contains}
 use Rattle.implib.proofs.Link.Ranges.{Among}
-use Rattle.implib_link.specs.Search.Search.{PullsIn, IsTakenInTurn, Takes, names_claimed, names_undefined}
+use Rattle.implib_link.specs.Search.Search.{AreTakenInTurnAs, PullsInAs, TakesAs, left_as, claimed_as}
 use Rattle.implib_link.proofs.Search.ArchiveGroups.{first_is, found_or_not}
+use Rattle.implib.specs.Formats.Object.{Object}
 use Rattle.implib_link.proofs.Search.Lists.{contains_among}
 
 -- Whether two members are the same.
@@ -123,21 +124,21 @@ fewer (m ∷ archive) taken t (inr held) new =
       ]
     ]
 
-module _ (archive : List MemberView) (wanted : List (List ℕ)) where
+module _ (reads : List ℕ → Option Object) (archive : List MemberView) (wanted : List (List ℕ)) where
   -- an undefined name that pulls in a member, of these
   PulledIn : List MemberView → List (List ℕ) → Type 0
-  PulledIn taken names = (name : List ℕ) × (m : MemberView) × Among name names × PullsIn archive wanted taken name m
+  PulledIn taken names = (name : List ℕ) × (m : MemberView) × Among name names × PullsInAs reads archive wanted taken name m
 
   NonePullsIn : List MemberView → List (List ℕ) → Type 0
-  NonePullsIn taken names = (name : List ℕ) (m : MemberView) → Among name names → PullsIn archive wanted taken name m → ⊥
+  NonePullsIn taken names = (name : List ℕ) (m : MemberView) → Among name names → PullsInAs reads archive wanted taken name m → ⊥
 
   same_first : (m other : MemberView) → Some m ≡ Some other → m ≡ other
   same_first m other e = cc
 
-  one_asks : (taken : List MemberView) (name : List ℕ) → Contains (wanted ++ names_undefined taken) name →
-      ((m : MemberView) × PullsIn archive wanted taken name m) ⊎ ((m : MemberView) → PullsIn archive wanted taken name m → ⊥)
+  one_asks : (taken : List MemberView) (name : List ℕ) → Contains (wanted ++ left_as reads taken) name →
+      ((m : MemberView) × PullsInAs reads archive wanted taken name m) ⊎ ((m : MemberView) → PullsInAs reads archive wanted taken name m → ⊥)
   one_asks taken name named =
-      elim (cases_Bool (list_any (bytes_eq name) (names_claimed taken))) [
+      elim (cases_Bool (list_any (bytes_eq name) (claimed_as reads taken))) [
         | inl claimed ↦ inr (λ m pulls. true≢false (sym claimed ∙ pulls.undefined))
         | inr undefined ↦ elim (found_or_not name archive) [
           | inl none ↦ inr (λ m pulls. (let found : None ≡ Some m = sym none ∙ pulls.listed in cc))
@@ -158,7 +159,7 @@ module _ (archive : List MemberView) (wanted : List (List ℕ)) where
         ]
       ]
 
-  pulls_or_not : (taken : List MemberView) (names : List (List ℕ)) → ((name : List ℕ) → Among name names → Contains (wanted ++ names_undefined taken) name) →
+  pulls_or_not : (taken : List MemberView) (names : List (List ℕ)) → ((name : List ℕ) → Among name names → Contains (wanted ++ left_as reads taken) name) →
       PulledIn taken names ⊎ NonePullsIn taken names
   unfolding PulledIn NonePullsIn Among
   pulls_or_not taken [] within = inr (λ name m held pulls. held)
@@ -168,7 +169,7 @@ module _ (archive : List MemberView) (wanted : List (List ℕ)) where
         | inr none ↦ elim (pulls_or_not taken names (λ name held. within name (inr held))) [
           | inl later ↦ inl (later.0, later.1, inr later.2, later.3)
           | inr others ↦ inr (λ name m held pulls. elim held [
-            | inl e ↦ none m (subst (λ n. PullsIn archive wanted taken n m) e pulls)
+            | inl e ↦ none m (subst (λ n. PullsInAs reads archive wanted taken n m) e pulls)
             | inr behind ↦ others name m behind pulls
           ])
         ]
@@ -180,30 +181,30 @@ module _ (archive : List MemberView) (wanted : List (List ℕ)) where
   less_left : (n m k : ℕ) → n < m → m ≤ suc k → n ≤ k
   less_left n m k less most = omega arith
 
-  is_new : (taken : List MemberView) (name : List ℕ) (m : MemberView) → PullsIn archive wanted taken name m → is_taken taken m ≡ false
+  is_new : (taken : List MemberView) (name : List ℕ) (m : MemberView) → PullsInAs reads archive wanted taken name m → is_taken taken m ≡ false
   is_new taken name m pulls = false_from_ne_true (is_taken taken m) (λ is. pulls.new (among_contains m taken (taken_among taken m is)))
 
   -- from members that are taken, with at most so many left
-  ends_from : (most : ℕ) (taken : List MemberView) → not_taken archive taken ≤ most → IsTakenInTurn archive wanted taken → (t : List MemberView) × Takes archive wanted t
-  unfolding PulledIn NonePullsIn IsTakenInTurn
+  ends_from : (most : ℕ) (taken : List MemberView) → not_taken archive taken ≤ most → AreTakenInTurnAs reads archive wanted taken → (t : List MemberView) × TakesAs reads archive wanted t
+  unfolding PulledIn NonePullsIn AreTakenInTurnAs
   ends_from zero taken few turn =
-      elim (pulls_or_not taken (wanted ++ names_undefined taken) (λ name held. among_contains name (wanted ++ names_undefined taken) held)) [
-        | inr none ↦ (taken, record { in_turn = turn; ended = λ name m pulls. none name m (contains_among name (wanted ++ names_undefined taken) pulls.named) pulls })
+      elim (pulls_or_not taken (wanted ++ left_as reads taken) (λ name held. among_contains name (wanted ++ left_as reads taken) held)) [
+        | inr none ↦ (taken, record { in_turn = turn; ended = λ name m pulls. none name m (contains_among name (wanted ++ left_as reads taken) pulls.named) pulls })
         | inl found ↦
             let less = fewer archive taken found.1 (first_is found.0 archive found.1 found.3.listed).0 (is_new taken found.0 found.1 found.3) in
             absurd (none_left (not_taken archive (found.1 ∷ taken)) (not_taken archive taken) less few)
       ]
   ends_from (suc most) taken few turn =
-      elim (pulls_or_not taken (wanted ++ names_undefined taken) (λ name held. among_contains name (wanted ++ names_undefined taken) held)) [
-        | inr none ↦ (taken, record { in_turn = turn; ended = λ name m pulls. none name m (contains_among name (wanted ++ names_undefined taken) pulls.named) pulls })
+      elim (pulls_or_not taken (wanted ++ left_as reads taken) (λ name held. among_contains name (wanted ++ left_as reads taken) held)) [
+        | inr none ↦ (taken, record { in_turn = turn; ended = λ name m pulls. none name m (contains_among name (wanted ++ left_as reads taken) pulls.named) pulls })
         | inl found ↦
             let less = fewer archive taken found.1 (first_is found.0 archive found.1 found.3.listed).0 (is_new taken found.0 found.1 found.3) in
             ends_from most (found.1 ∷ taken) (less_left (not_taken archive (found.1 ∷ taken)) (not_taken archive taken) most less few) ((found.0, found.3), turn)
       ]
 
   -- each member that is taken leaves fewer
-  taken_and_left : (taken : List MemberView) → IsTakenInTurn archive wanted taken → length taken + not_taken archive taken ≤ not_taken archive []
-  unfolding IsTakenInTurn
+  taken_and_left : (taken : List MemberView) → AreTakenInTurnAs reads archive wanted taken → length taken + not_taken archive taken ≤ not_taken archive []
+  unfolding AreTakenInTurnAs
   taken_and_left [] turn = omega arith
   taken_and_left (m ∷ earlier) turn =
       let less : not_taken archive (m ∷ earlier) < not_taken archive earlier =
@@ -220,12 +221,12 @@ none_taken (m ∷ archive) =
     let counted : length (m ∷ archive) ≡ suc (length archive) = refl in
     omega arith
 
-pub search_bounded : (archive taken : List MemberView) (wanted : List (List ℕ)) → IsTakenInTurn archive wanted taken → length taken ≤ length archive
-search_bounded archive taken wanted turn =
-    let most : length taken + not_taken archive taken ≤ not_taken archive [] = taken_and_left archive wanted taken turn in
+pub search_bounded : (reads : List ℕ → Option Object) (archive taken : List MemberView) (wanted : List (List ℕ)) → AreTakenInTurnAs reads archive wanted taken → length taken ≤ length archive
+search_bounded reads archive taken wanted turn =
+    let most : length taken + not_taken archive taken ≤ not_taken archive [] = taken_and_left reads archive wanted taken turn in
     let first : not_taken archive [] ≤ length archive = none_taken archive in
     omega arith
 
-pub search_ends : (archive : List MemberView) (wanted : List (List ℕ)) → (taken : List MemberView) × Takes archive wanted taken
-unfolding IsTakenInTurn
-search_ends archive wanted = ends_from archive wanted (not_taken archive []) [] (omega arith) tt
+pub search_ends : (reads : List ℕ → Option Object) (archive : List MemberView) (wanted : List (List ℕ)) → (taken : List MemberView) × TakesAs reads archive wanted taken
+unfolding AreTakenInTurnAs
+search_ends reads archive wanted = ends_from reads archive wanted (not_taken archive []) [] (omega arith) tt

@@ -150,7 +150,7 @@ module _ (machine : MachineType) (libraries : List Library) (archive : IsArchive
 
   module _ (taken : List MemberView) (takes : TakesInto (archive_of libraries) own taken) where
     turn : IsTakenInTurn (archive_of libraries) (unresolved own) taken
-    turn = in_turn_for (archive_of libraries) own taken takes.in_turn
+    turn = in_turn_for object_in (archive_of libraries) own taken takes.in_turn
 
     weak_none : NoneHave (objects_in (weak_among taken))
     weak_none = no_objects (weak_among taken) (λ m o held read.

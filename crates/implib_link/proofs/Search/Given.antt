@@ -20,13 +20,13 @@ use Rattle.implib_link.specs.Gnu.Program.{ClaimsNone, claimed_names}
 use Rattle.implib_link.specs.Search.Archives.{IsArchive, IsLibrary, Library, NamesNoHeadOrTailOf, archive_of, exports_of, is_weak, weak_among}
 use Rattle.implib_link.specs.Search.Closed.{AreLinkedFor, IsClosed, TakesInto, listed_in, unresolved, wanted_in}
 use Rattle.implib_link.specs.Search.Given.{AreGiven, alias_targets, heads_of, is_data_alias, symbols_kept, symbols_wanted, tails_of, wanted_at_most}
-use Rattle.implib_link.specs.Search.Search.{IsTakenInTurn, NamesNoHeadOrTail, first_listed, is_wanted, names_undefined, undefined_in}
+use Rattle.implib_link.specs.Search.Search.{IsTakenInTurn, NamesNoHeadOrTail, first_listed, is_wanted, names_undefined, undefined_in, left_as, AreTakenInTurnAs}
 use Rattle.implib_link.proofs.Search.ArchiveGroups.{export_of, head_of, tail_of, weak_of}
 use Rattle.implib_link.proofs.Search.ArchiveMembers.{Found, FoundExport, FoundHead, FoundTail, FoundWeak, export_not_weak, export_object_is, found, head_found, head_not_weak, head_object_is, tail_found, tail_not_weak, tail_object_is, weak_object_is}
 use Rattle.implib_link.proofs.Search.Arranged.{all_each}
 use Rattle.implib_link.proofs.Search.Closed.{claims_apart, claims_none, in_turn_for, passes, passing, takes_into, there_not, not_there, unresolved_parts}
 use Rattle.implib_link.proofs.Search.Ends.{search_ends}
-use Rattle.implib_link.proofs.Search.Lists.{among_at, among_either, among_flat_map, contains_among, name_read}
+use Rattle.implib_link.proofs.Search.Lists.{among_at, among_either, among_flat_map, contains_among, name_as}
 use Rattle.implib_link.proofs.Search.Search.{in_nothing, left_export, left_head, left_tail, listed_export, listed_head, listed_tail, only_one, wants}
 use Rattle.implib.specs.LibraryName.{linked_name}
 use Rattle.implib.specs.LibraryName.{NamesOfDll, names_for}
@@ -163,13 +163,13 @@ module _ (machine : MachineType) (libraries : List Library) (archive : IsArchive
 
   pub pulled_by : (taken : List MemberView) → IsTakenInTurn (archive_of libraries) (unresolved own) taken → (m : MemberView) → Among m taken →
       (by : List ℕ) × Found machine libraries archive by m
-  unfolding Among IsTakenInTurn
+  unfolding Among AreTakenInTurnAs
   pulled_by [] turn m held = absurd held
   pulled_by (t ∷ earlier) turn m (inl e) = (turn.0.0, subst (Found machine libraries archive turn.0.0) (sym e) (found machine libraries archive turn.0.0 t turn.0.1.listed))
   pulled_by (t ∷ earlier) turn m (inr held) = pulled_by earlier turn.1 m held
 
   listed_by : (taken : List MemberView) → IsTakenInTurn (archive_of libraries) (unresolved own) taken → (m : MemberView) (name : List ℕ) → Among m taken → Among name m.symbols → IsKept name
-  unfolding Among IsTakenInTurn names_undefined
+  unfolding Among AreTakenInTurnAs left_as
   listed_by [] turn m name held listed = absurd held
   listed_by (t ∷ earlier) turn m name (inr held) listed = listed_by earlier turn.1 m name held listed
   listed_by (t ∷ earlier) turn m name (inl e) listed =
@@ -178,17 +178,17 @@ module _ (machine : MachineType) (libraries : List Library) (archive : IsArchive
       elim (among_either by (unresolved own) (flat_map undefined_in (objects_in earlier)) (contains_among by (unresolved own ++ flat_map undefined_in (objects_in earlier)) turn.0.1.named)) [
         | inl given_name ↦ wanted_listed by name t (among_front by (unresolved own) (alias_targets libraries) given_name) (found machine libraries archive by t turn.0.1.listed) own_name
         | inr left ↦
-            let from = name_read undefined_in by earlier left in
-            let x = pulled_by earlier turn.1 from.0 from.2 in
-            left_listed by name t from.0 (left_by machine libraries archive x.0 by from.0 from.1 x.1 from.3 from.4) turn.0.1.listed own_name
+            let from = name_as object_in undefined_in by earlier left in
+            let x = pulled_by earlier turn.1 from.member from.held in
+            left_listed by name t from.member (left_by machine libraries archive x.0 by from.member from.object x.1 from.taken from.among) turn.0.1.listed own_name
       ]
 
   module _ (taken : List MemberView) (turn : IsTakenInTurn (archive_of libraries) (unresolved own) taken) where
     left_of : (name : List ℕ) → Among name (flat_map undefined_in (objects_in taken)) → Among name kept
     left_of name left =
-        let from = name_read undefined_in name taken left in
-        let x = pulled_by taken turn from.0 from.2 in
-        left_kept name from.0 (left_by machine libraries archive x.0 name from.0 from.1 x.1 from.3 from.4)
+        let from = name_as object_in undefined_in name taken left in
+        let x = pulled_by taken turn from.member from.held in
+        left_kept name from.member (left_by machine libraries archive x.0 name from.member from.object x.1 from.taken from.among)
 
     -- the objects claim nothing of it
     none_kept : (name : List ℕ) → IsKept name → Among name (flat_map claimed_names own) → ⊥
@@ -199,7 +199,7 @@ module _ (machine : MachineType) (libraries : List Library) (archive : IsArchive
     left_apart name left = none_kept name (inl (left_of name left))
 
     claims : AllByRecursion (ClaimsNone (listed_in taken ++ names_undefined taken)) own
-    unfolding names_undefined
+    unfolding left_as
     claims =
         all_each (ClaimsNone (listed_in taken ++ flat_map undefined_in (objects_in taken))) own (λ o held.
         claims_none (listed_in taken ++ flat_map undefined_in (objects_in taken)) o (λ name is claimed.
@@ -224,15 +224,15 @@ module _ (machine : MachineType) (libraries : List Library) (archive : IsArchive
         (target_is machine libraries archive l n e held is alias is_data)
 
     wanted_most : (name : List ℕ) → Among name (wanted_in own taken) → Among name most
-    unfolding names_undefined
+    unfolding left_as
     wanted_most name want =
         elim (among_either name (unresolved own) (flat_map undefined_in (objects_in (weak_among taken))) want) [
           | inl left ↦ among_front name (unresolved own) (alias_targets libraries) left
           | inr target ↦
-              let from = name_read undefined_in name (weak_among taken) target in
-              let there = passing is_weak from.0 taken from.2 in
-              let x = pulled_by taken turn from.0 there.0 in
-              among_back name (unresolved own) (alias_targets libraries) (weak_left x.0 name from.0 from.1 there.1 x.1 from.3 from.4)
+              let from = name_as object_in undefined_in name (weak_among taken) target in
+              let there = passing is_weak from.member taken from.held in
+              let x = pulled_by taken turn from.member there.0 in
+              among_back name (unresolved own) (alias_targets libraries) (weak_left x.0 name from.member from.object there.1 x.1 from.taken from.among)
         ]
 
     names : NamesNoHeadOrTailOf machine libraries (wanted_in own taken)
@@ -249,12 +249,12 @@ module _ (machine : MachineType) (libraries : List Library) (archive : IsArchive
 pub given_ends : (machine : MachineType) (libraries : List Library) (own : List Object) → IsArchive machine libraries → AreGiven machine libraries own →
     (taken : List MemberView) × TakesInto (archive_of libraries) own taken
 given_ends machine libraries own archive given =
-    let found = search_ends (archive_of libraries) (unresolved own) in
-    (found.0, takes_into (archive_of libraries) own found.0 (left_apart machine libraries archive own given found.0 found.1.in_turn) found.1)
+    let found = search_ends object_in (archive_of libraries) (unresolved own) in
+    (found.0, takes_into object_in (archive_of libraries) own found.0 (left_apart machine libraries archive own given found.0 found.1.in_turn) found.1)
 
 pub given_closes : (machine : MachineType) (libraries : List Library) (own : List Object) (taken : List MemberView) (arranged : List Library) (bases : Bases) (objects : List Object) →
     IsArchive machine libraries → AreGiven machine libraries own → TakesInto (archive_of libraries) own taken → AreLinkedFor machine libraries own taken arranged bases objects →
     IsClosed machine libraries own taken arranged bases objects
 given_closes machine libraries own taken arranged bases objects archive given takes linked =
-    let turn : IsTakenInTurn (archive_of libraries) (unresolved own) taken = in_turn_for (archive_of libraries) own taken takes.in_turn in
+    let turn : IsTakenInTurn (archive_of libraries) (unresolved own) taken = in_turn_for object_in (archive_of libraries) own taken takes.in_turn in
     record { takes = takes; linked = linked; claims = claims machine libraries archive own given taken turn; names = names machine libraries archive own given taken turn }

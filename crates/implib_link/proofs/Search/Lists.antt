@@ -6,12 +6,11 @@ use Rattle.std.proofs.lemmas.Bool.{cases_Bool, false_from_ne_true, or_parts, tru
 use Rattle.std.proofs.lemmas.List.{reverse-append}
 use Rattle.std.proofs.lemmas.Grind.{flat_map-append}
 use Rattle.std.proofs.lemmas.Slice.Eq.{bytes_eq-Decides}
-use Rattle.implib.specs.Link.LinkedMembers.{objects_in}
 use Rattle.implib.specs.Members.MemberSpec.{MemberSpec, MemberView, member_of}
-use Rattle.implib.specs.Formats.Object.{Object, object_in}
+use Rattle.implib.specs.Formats.Object.{Object}
 use Rattle.implib.proofs.Link.LinkedMembers.{among_map, among_reverse}
 use Rattle.implib.proofs.Link.Ranges.{Among, all_among, among_back, among_front}
-use Rattle.implib_link.specs.Search.Search.{first_listed, is_listed_for}
+use Rattle.implib_link.specs.Search.Search.{first_listed, is_listed_for, objects_as}
 
 pub contains_among : {X : Type 0} (x : X) (xs : List X) → Contains xs x → Among x xs
 unfolding Among
@@ -126,41 +125,47 @@ pub one_member : (archive : List MemberView) (name : List ℕ) (m other : Member
 one_member archive name m other distinct held held_too is is_too =
     same_member m other (sym (listed_once archive name m distinct held is) ∙ listed_once archive name other distinct held_too is_too)
 
--- a name of what is read in a member
-abbrev pub NameRead : (Object → List (List ℕ)) → List ℕ → List MemberView → Type 0
-NameRead f name members = (m : MemberView) × (o : Object) × Among m members × (object_in m.bytes ≡ Some o) × Among name (f o)
+-- a name of what a linker reads a member as
+pub record NameAs (reads : List ℕ → Option Object) (f : Object → List (List ℕ)) (name : List ℕ) (members : List MemberView) : Type 0 where
+  pub member : MemberView
+  pub held : Among member members
+  pub object : Object
+  pub taken : reads member.bytes ≡ Some object
+  pub among : Among name (f object)
 
-read_first : (f : Object → List (List ℕ)) (name : List ℕ) (x : MemberView) (members : List MemberView) (read : Option Object) → object_in x.bytes ≡ read →
-    (Among name (flat_map f (objects_in members)) → NameRead f name members) → Among name (flat_map f (cons_option read (objects_in members))) → NameRead f name (x ∷ members)
-unfolding Among
-read_first f name x members None is next held = let later = next held in (later.0, later.1, inr later.2, later.3, later.4)
-read_first f name x members (Some o) is next held =
-    elim (among_either name (f o) (flat_map f (objects_in members)) held) [
-      | inl here ↦ (x, o, inl refl, is, here)
-      | inr behind ↦ let later = next behind in (later.0, later.1, inr later.2, later.3, later.4)
-    ]
+module _ (reads : List ℕ → Option Object) (f : Object → List (List ℕ)) (name : List ℕ) where
+  later_name : (m : MemberView) (members : List MemberView) → NameAs reads f name members → NameAs reads f name (m ∷ members)
+  unfolding Among
+  later_name m members t = record { member = t.member; held = inr t.held; object = t.object; taken = t.taken; among = t.among }
 
--- a name of the objects that are read in members is one of the object of some member
-pub name_read : (f : Object → List (List ℕ)) (name : List ℕ) (members : List MemberView) → Among name (flat_map f (objects_in members)) → NameRead f name members
-unfolding Among
-name_read f name [] held = absurd held
-name_read f name (x ∷ members) held = read_first f name x members (object_in x.bytes) refl (name_read f name members) held
+  first_name : (x : MemberView) (members : List MemberView) (read : Option Object) → reads x.bytes ≡ read → (Among name (flat_map f (objects_as reads members)) → NameAs reads f name members) →
+      Among name (flat_map f (cons_option read (objects_as reads members))) → NameAs reads f name (x ∷ members)
+  unfolding Among
+  first_name x members None is next held = later_name x members (next held)
+  first_name x members (Some o) is next held =
+      elim (among_either name (f o) (flat_map f (objects_as reads members)) held) [
+        | inl here ↦ record { member = x; held = inl refl; object = o; taken = is; among = here }
+        | inr behind ↦ later_name x members (next behind)
+      ]
 
-read_behind : (f : Object → List (List ℕ)) (name : List ℕ) (objects : List Object) (read : Option Object) → Among name (flat_map f objects) →
-    Among name (flat_map f (cons_option read objects))
-read_behind f name objects None held = held
-read_behind f name objects (Some o) held = among_back name (f o) (flat_map f objects) held
+  -- a name of the objects that members are read as is one of the object of some member
+  pub name_as : (members : List MemberView) → Among name (flat_map f (objects_as reads members)) → NameAs reads f name members
+  unfolding Among
+  name_as [] held = absurd held
+  name_as (x ∷ members) held = first_name x members (reads x.bytes) refl (name_as members) held
 
--- and a name of the object of a member is one of theirs
-pub read_name : (f : Object → List (List ℕ)) (name : List ℕ) (members : List MemberView) (m : MemberView) (o : Object) → Among m members →
-    object_in m.bytes ≡ Some o → Among name (f o) → Among name (flat_map f (objects_in members))
-unfolding Among
-read_name f name [] m o held is there = absurd held
-read_name f name (x ∷ members) m o (inl e) is there =
-    let read : object_in x.bytes ≡ Some o = subst (λ (y : MemberView). object_in y.bytes ≡ Some o) e is in
-    rw read (among_front name (f o) (flat_map f (objects_in members)) there)
-read_name f name (x ∷ members) m o (inr held) is there =
-    read_behind f name (objects_in members) (object_in x.bytes) (read_name f name members m o held is there)
+  read_behind : (objects : List Object) (read : Option Object) → Among name (flat_map f objects) → Among name (flat_map f (cons_option read objects))
+  read_behind objects None held = held
+  read_behind objects (Some o) held = among_back name (f o) (flat_map f objects) held
+
+  -- and a name of the object of a member is one of theirs
+  pub as_name : (members : List MemberView) (m : MemberView) (o : Object) → Among m members → reads m.bytes ≡ Some o → Among name (f o) → Among name (flat_map f (objects_as reads members))
+  unfolding Among
+  as_name [] m o held is there = absurd held
+  as_name (x ∷ members) m o (inl e) is there =
+      let read : reads x.bytes ≡ Some o = subst (λ (y : MemberView). reads y.bytes ≡ Some o) e is in
+      rw read (among_front name (f o) (flat_map f (objects_as reads members)) there)
+  as_name (x ∷ members) m o (inr held) is there = read_behind (objects_as reads members) (reads x.bytes) (as_name members m o held is there)
 
 -- a name that some of these is listed for
 pub any_member : (name : List ℕ) (members : List MemberView) → list_any (is_listed_for name) members ≡ true →

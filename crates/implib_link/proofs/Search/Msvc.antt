@@ -1,7 +1,7 @@
 -- What a linker takes of the members for Microsoft's linker.
-use Rattle.std.proofs.Common.{◌≡◌, ℕ, ◌+◌, Bool, true, false, List, [], ◌∷◌, ◌++◌, length, map, Option, Some, None, refl, ap, sym, ◌∙◌, subst, inl, inr}
+use Rattle.std.proofs.Common.{◌≡◌, ℕ, ◌+◌, Bool, true, false, List, [], ◌∷◌, ◌++◌, length, map, Some, refl, ap, sym, ◌∙◌, subst, inl, inr}
 use Rattle.std.specs.Prelude.{bytes_eq, slice_get}
-use Rattle.std.specs.List.{IsDistinct, cons_option, filter, filter_map, flat_map, list_any}
+use Rattle.std.specs.List.{IsDistinct, filter, filter_map, flat_map, list_any}
 use Rattle.std.proofs.lemmas.Bool.{cases_Bool, true≢false}
 use Rattle.std.proofs.lemmas.List.{append_assoc, length-append}
 use Rattle.implib.specs.declared.machine.MachineType.{MachineType}
@@ -22,16 +22,16 @@ use Rattle.implib.specs.Members.WeakExternal.{weak_object, weak_spec}
 use Rattle.implib.proofs.Link.LinkedMembers.{among_contains, among_map}
 use Rattle.implib.proofs.Link.Ranges.{Among, among_back, among_first, among_flat, among_front, among_later}
 use Rattle.implib_link.specs.Flavors.Expansion.{Code, Constant, Data, Use, import_object, descriptor_symbol_by_name, expanded_in}
-use Rattle.implib_link.specs.Flavors.Program.{ask_in, objects_taken, specs_in}
+use Rattle.implib_link.specs.Flavors.Program.{ask_in, specs_in}
 use Rattle.implib_link.specs.Search.Msvc.{AreTakenInTurn, PullsInFor, NamesNoHeader, TakesFor, claimed_in, is_short_wanted, left_in, msvc_if_any, numbers_passing, shorts_wanted}
 use Rattle.implib_link.specs.Gnu.Program.{claimed_names}
-use Rattle.implib_link.specs.Search.Search.{HaveSame, undefined_in}
+use Rattle.implib_link.specs.Search.Search.{HaveSame, undefined_in, left_as, claimed_as, AreTakenInTurnAs}
 use Rattle.implib_link.specs.Flavors.SectionSymbols.{with_section_symbols}
 use Rattle.implib_link.proofs.Flavors.Block.{asking, use_for}
 use Rattle.implib_link.proofs.Flavors.Claims.{claims_asking, claims_descriptor, claims_null, claims_thunk}
 use Rattle.implib_link.proofs.Flavors.Inputs.{descriptor_at, descriptor_taken, null_at, null_taken, read_of, short_at, short_taken, thunk_at, thunk_taken}
 use Rattle.implib_link.proofs.Search.Search.{in_nothing, only_one, wanted_name, wants}
-use Rattle.implib_link.proofs.Search.Lists.{all_listed, among_any, among_either, among_mapped, any_among, contains_among, listed_is, listed_once, one_member}
+use Rattle.implib_link.proofs.Search.Lists.{all_listed, among_any, among_either, among_mapped, any_among, contains_among, listed_is, listed_once, one_member, name_as, as_name}
 use Rattle.implib_link.proofs.Flavors.Expanded.{taken_descriptor, taken_null, taken_null_thunk}
 use Rattle.implib.specs.LibraryName.{NamesOfDll, linked_dll, names_for}
 
@@ -76,44 +76,6 @@ passing_among test x (y ∷ xs) held =
           ]
       | inr fails ↦ let later = passing_among test x xs (rw fails at held) in (among_later x y xs later.0, later.1)
     ]
-
-behind_option : (f : Object → List (List ℕ)) (name : List ℕ) (o : Option Object) (objects : List Object) → Among name (flat_map f objects) → Among name (flat_map f (cons_option o objects))
-behind_option f name None objects held = held
-behind_option f name (Some o) objects held = among_back name (f o) (flat_map f objects) held
-
--- Names of objects that members are taken for.
-
-pub record TakenName (machine : MachineType) (f : Object → List (List ℕ)) (name : List ℕ) (members : List MemberView) : Type 0 where
-  pub member : MemberView
-  pub held : Among member members
-  pub object : Object
-  pub taken : expanded_in machine member.bytes ≡ Some object
-  pub among : Among name (f object)
-
-later_name : (machine : MachineType) (f : Object → List (List ℕ)) (name : List ℕ) (m : MemberView) (members : List MemberView) → TakenName machine f name members → TakenName machine f name (m ∷ members)
-later_name machine f name m members t = record { member = t.member; held = among_later t.member m members t.held; object = t.object; taken = t.taken; among = t.among }
-
-first_taken : (machine : MachineType) (f : Object → List (List ℕ)) (name : List ℕ) (m : MemberView) (members : List MemberView) → (Among name (flat_map f (objects_taken machine members)) → TakenName machine f name members) →
-    (o : Option Object) → expanded_in machine m.bytes ≡ o → Among name (flat_map f (cons_option o (objects_taken machine members))) → TakenName machine f name (m ∷ members)
-first_taken machine f name m members later None is held = later_name machine f name m members (later held)
-first_taken machine f name m members later (Some o) is held =
-    elim (among_either name (f o) (flat_map f (objects_taken machine members)) held) [
-      | inl own ↦ record { member = m; held = among_first m members; object = o; taken = is; among = own }
-      | inr behind ↦ later_name machine f name m members (later behind)
-    ]
-
-pub taken_name : (machine : MachineType) (f : Object → List (List ℕ)) (name : List ℕ) (members : List MemberView) → Among name (flat_map f (objects_taken machine members)) → TakenName machine f name members
-taken_name machine f name [] held = absurd (in_nothing name held)
-taken_name machine f name (m ∷ members) held = first_taken machine f name m members (λ behind. taken_name machine f name members behind) (expanded_in machine m.bytes) refl held
-
-pub name_taken : (machine : MachineType) (f : Object → List (List ℕ)) (name : List ℕ) (members : List MemberView) (m : MemberView) (o : Object) → Among m members → expanded_in machine m.bytes ≡ Some o →
-    Among name (f o) → Among name (flat_map f (objects_taken machine members))
-unfolding Among
-name_taken machine f name [] m o held is own = absurd held
-name_taken machine f name (x ∷ members) m o (inl e) is own =
-    subst (λ (other : Option Object). Among name (flat_map f (cons_option other (objects_taken machine members)))) (sym (ap (λ (y : MemberView). expanded_in machine y.bytes) (sym e) ∙ is))
-    (among_front name (f o) (flat_map f (objects_taken machine members)) own)
-name_taken machine f name (x ∷ members) m o (inr held) is own = behind_option f name (expanded_in machine x.bytes) (objects_taken machine members) (name_taken machine f name members m o held is own)
 
 -- The members.
 
@@ -306,18 +268,18 @@ module _ (d : DefinitionView) (machine : MachineType) (members : List MemberView
 
   needed_next : (earlier : List MemberView) → ((x : MemberView) → Among x earlier → Needed machine (names_for Msvc d) (public_exports (renamed d)) wanted x) → (m : MemberView) (name : List ℕ) →
       PullsInFor machine members wanted earlier name m → Needed machine (names_for Msvc d) (public_exports (renamed d)) wanted m
-  unfolding left_in
+  unfolding left_as
   needed_next earlier needed m name pulls =
       let listed = listed_is members name m pulls.listed in
       elim (among_either name wanted (left_in machine earlier) (contains_among name (wanted ++ left_in machine earlier) pulls.named)) [
         | inl held ↦ from_wanted m name (kind m listed.0) listed.1 held
         | inr left ↦
-            let x = taken_name machine undefined_in name earlier left in
+            let x = name_as (expanded_in machine) undefined_in name earlier left in
             from_left m x.member name x.object listed.0 listed.1 (needed x.member x.held) x.taken x.among
       ]
 
   all_needed : (taken : List MemberView) → AreTakenInTurn machine members wanted taken → (m : MemberView) → Among m taken → Needed machine (names_for Msvc d) (public_exports (renamed d)) wanted m
-  unfolding AreTakenInTurn Among
+  unfolding AreTakenInTurnAs Among
   all_needed [] turn m held = absurd held
   all_needed (x ∷ earlier) turn m (inl e) = needed_next earlier (all_needed earlier turn.1) m turn.0.0 (subst (λ y. PullsInFor machine members wanted earlier turn.0.0 y) (sym e) turn.0.1)
   all_needed (x ∷ earlier) turn m (inr held) = all_needed earlier turn.1 m held
@@ -335,11 +297,11 @@ module _ (d : DefinitionView) (machine : MachineType) (members : List MemberView
 
     -- a member that is listed for a name that is asked for is taken
     settled : (m : MemberView) (name : List ℕ) → Among m members → Among name m.symbols → Among name (wanted ++ left_in machine taken) → Among m taken
-    unfolding claimed_in
+    unfolding claimed_as
     settled m name held listed named =
         elim (cases_Bool (list_any (bytes_eq name) (claimed_in machine taken))) [
           | inl is ↦
-              let x = taken_name machine claimed_names name taken (any_among name (claimed_in machine taken) is) in
+              let x = name_as (expanded_in machine) claimed_names name taken (any_among name (claimed_in machine taken) is) in
               let within : Among x.member members = needed_held x.member (needed x.member x.held) in
               let reads = reads_of x.member (kind x.member within) in
               let object : x.object ≡ reads.object = same_object x.member x.object reads.object x.taken reads.taken in
@@ -353,14 +315,14 @@ module _ (d : DefinitionView) (machine : MachineType) (members : List MemberView
                 listed = listed_once members name m distinct held listed;
                 new = λ is.
                     let claimed : Among name (claimed_in machine taken) =
-                    name_taken machine claimed_names name taken m reads.object (contains_among m taken is) reads.taken (subst (Among name) (sym reads.claims) listed) in
+                    as_name (expanded_in machine) claimed_names name taken m reads.object (contains_among m taken is) reads.taken (subst (Among name) (sym reads.claims) listed) in
                     true≢false (sym (among_any name (claimed_in machine taken) claimed) ∙ none);
               }))
         ]
 
     left_among : (x : MemberView) (o : Object) (name : List ℕ) → Among x taken → expanded_in machine x.bytes ≡ Some o → Among name (undefined_in o) → Among name (wanted ++ left_in machine taken)
-    unfolding left_in
-    left_among x o name held is left = among_back name wanted (left_in machine taken) (name_taken machine undefined_in name taken x o held is left)
+    unfolding left_as
+    left_among x o name held is left = among_back name wanted (left_in machine taken) (as_name (expanded_in machine) undefined_in name taken x o held is left)
 
     S_taken : (e : ExportView) → Among e (public_exports (renamed d)) → is_short_wanted wanted e ≡ true → Among (S machine (names_for Msvc d) e) taken
     S_taken e among want =

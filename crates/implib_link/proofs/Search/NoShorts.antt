@@ -22,7 +22,7 @@ use Rattle.implib_link.specs.Flavors.SectionSymbols.{with_section_symbols}
 use Rattle.implib_link.specs.Gnu.Program.{ClaimsNone, claimed_names}
 use Rattle.implib_link.specs.Search.Archives.{Library, archive_of, exports_of, symbols_of_library}
 use Rattle.implib_link.specs.Search.BothFlavors.{AreGivenForBoth, FlavorLibrary, IsFlavorArchive, archive_of_both, gnu_among, kept_of_both, msvc_among, targets_of_both, wanted_of_both}
-use Rattle.implib_link.specs.Search.Closed.{AreLinkedFor, AreTakenInto, IsClosed, LinksClosed, PullsInto, TakesInto, listed_in, unresolved}
+use Rattle.implib_link.specs.Search.Closed.{AreLinkedFor, AreTakenInto, IsClosed, LinksClosed, PullsInto, TakesInto, listed_in, unresolved, AreTakenIntoAs}
 use Rattle.implib_link.specs.Search.Given.{AreGiven, alias_targets, heads_of, symbols_kept, symbols_wanted, tails_of, wanted_at_most}
 use Rattle.implib_link.specs.Search.MsvcArchives.{symbols_of_shorts}
 use Rattle.implib_link.specs.Search.MsvcClosed.{AreTakenIntoFor, PullsIntoFor, TakesIntoFor}
@@ -36,7 +36,7 @@ use Rattle.implib_link.proofs.Search.BothGiven.{export_kept, export_wanted_too, 
 use Rattle.implib_link.proofs.Search.BothMembers.{found_either, gnu_export_is, gnu_head_is, gnu_in_both, gnu_made, gnu_tail_is, gnu_weak_is, msvc_symbol, symbols_apart}
 use Rattle.implib_link.proofs.Search.Closed.{claims_apart, claims_none, closed_links, from_sources, into_objects, not_there, passing, there_not, unresolved_from, unresolved_parts}
 use Rattle.implib_link.proofs.Search.Given.{Left, LeftByExport, LeftByHead, LeftByWeak, given_closes, left_by}
-use Rattle.implib_link.proofs.Search.Lists.{among_either, among_flat_map, contains_among, listed_is, name_read}
+use Rattle.implib_link.proofs.Search.Lists.{among_either, among_flat_map, contains_among, listed_is, name_as}
 use Rattle.implib_link.proofs.Search.MsvcMembers.{found as msvc_found, taken_weak}
 
 -- a weak external is taken as it is
@@ -100,9 +100,9 @@ module _ (machine : MachineType) (libraries : List FlavorLibrary) (archive : IsF
               (unresolved_from own name given (λ claimed. parts.1 (subst (Among name) (sym (flat_map-append claimed_names own (objects_in members)))
               (among_front name (flat_map claimed_names own) (flat_map claimed_names (objects_in members)) claimed)))))
           | inr left ↦
-              let from = name_read undefined_in name members left in
-              let by = all from.0 from.2 in
-              left_short name from.0 (left_by machine (gnu_among libraries) archive.gnu by.0 name from.0 from.1 (found machine (gnu_among libraries) archive.gnu by.0 from.0 by.1) from.3 from.4) short
+              let from = name_as object_in undefined_in name members left in
+              let by = all from.member from.held in
+              left_short name from.member (left_by machine (gnu_among libraries) archive.gnu by.0 name from.member from.object (found machine (gnu_among libraries) archive.gnu by.0 from.member by.1) from.taken from.among) short
         ]
 
     -- so an unresolved name finds what it finds in the libraries for GNU's linker
@@ -142,7 +142,7 @@ module _ (machine : MachineType) (libraries : List FlavorLibrary) (archive : IsF
     nothing_found m held = absurd held
 
     turn_alone : (taken : List MemberView) → AreTakenIntoFor machine (archive_of_both libraries) own taken → AreTakenInto (archive_of (gnu_among libraries)) own taken × AllFound taken
-    unfolding AreTakenIntoFor AreTakenInto
+    unfolding AreTakenIntoAs
     turn_alone [] turn = (tt, nothing_found)
     turn_alone (m ∷ earlier) turn =
         let later = turn_alone earlier turn.1 in
@@ -150,7 +150,7 @@ module _ (machine : MachineType) (libraries : List FlavorLibrary) (archive : IsF
         (((turn.0.0, pulls), later.0), one_more m earlier turn.0.0 pulls.listed later.1)
 
     turn_of_both : (taken : List MemberView) → AreTakenInto (archive_of (gnu_among libraries)) own taken → AreTakenIntoFor machine (archive_of_both libraries) own taken × AllFound taken
-    unfolding AreTakenIntoFor AreTakenInto
+    unfolding AreTakenIntoAs
     turn_of_both [] turn = (tt, nothing_found)
     turn_of_both (m ∷ earlier) turn =
         let later = turn_of_both earlier turn.1 in

@@ -19,7 +19,7 @@ use Rattle.implib.specs.Renaming.{renamed}
 use Rattle.implib.proofs.Link.LinkedMembers.{among_contains}
 use Rattle.implib.proofs.Link.Ranges.{Among, among_first, among_later}
 use Rattle.implib_link.specs.Search.Archives.{IsArchive, Library, NamesNoHeadOrTailOf, archive_of, inputs_wanted, is_weak, others_among, symbols_of_export, symbols_of_library, wanted_with, weak_among}
-use Rattle.implib_link.specs.Search.Search.{HaveSame, IsTakenInTurn, NamesNoHeadOrTail, Takes, exports_wanted, linked_if_any, names_undefined}
+use Rattle.implib_link.specs.Search.Search.{HaveSame, IsTakenInTurn, NamesNoHeadOrTail, Takes, exports_wanted, linked_if_any, left_as, AreTakenInTurnAs}
 use Rattle.implib_link.proofs.Search.ArchiveMembers.{export_not_weak, export_object_is, head_not_weak, head_object_is, tail_not_weak, tail_object_is}
 use Rattle.implib_link.proofs.Search.Archives.{input_linked, libraries_taken}
 use Rattle.implib_link.proofs.Search.Search.{IsHead, IsTail, Kind, Needed, OfAnExport, kind, linked_if_needed, needed_if_linked, no_alias, numbers_are_wanted}
@@ -28,7 +28,7 @@ use Rattle.implib.specs.LibraryName.{linked_name, names_for}
 
 -- members that are taken are members of the archive
 pub taken_held : (archive : List MemberView) (wanted : List (List ℕ)) (taken : List MemberView) → IsTakenInTurn archive wanted taken → (m : MemberView) → Among m taken → Among m archive
-unfolding Among IsTakenInTurn
+unfolding Among AreTakenInTurnAs
 taken_held archive wanted [] turn m held = absurd held
 taken_held archive wanted (t ∷ earlier) turn m (inl e) = subst (λ x. Among x archive) (sym e) (listed_is archive turn.0.0 t turn.0.1.listed).0
 taken_held archive wanted (t ∷ earlier) turn m (inr held) = taken_held archive wanted earlier turn.1 m held
@@ -114,7 +114,7 @@ module _ (d : DefinitionView) (machine : MachineType) (members : List MemberView
         (λ m held. not_weak m (kind d machine members made distinct m (taken_held members wanted taken takes.in_turn m held)))
 
     wanted_alone : wanted_with wanted taken ≡ wanted
-    unfolding names_undefined
+    unfolding left_as
     wanted_alone = rw (none_weak taken none) (append-nil wanted)
 
     plain_of_one : NamesNoHeadOrTailOf machine (record { definition = d; members = members } ∷ []) (wanted_with wanted taken)

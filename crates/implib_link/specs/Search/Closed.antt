@@ -1,10 +1,10 @@
 -- Closed programs: objects that are given, and what a linker takes for them of an archive of libraries. Nothing
 -- is wanted but what the objects leave unresolved.
-use Rattle.std.specs.Prelude.{◌≡◌, ℕ, ◌+◌, ◌*◌, false, List, [], ◌∷◌, ◌++◌, IsPermutation, bytes_eq, not, slice_get, Some, ◌⊎◌}
+use Rattle.std.specs.Prelude.{◌≡◌, ℕ, ◌+◌, ◌*◌, false, List, [], ◌∷◌, ◌++◌, IsPermutation, bytes_eq, not, slice_get, Option, Some, ◌⊎◌}
 use Rattle.std.specs.List.{AllByRecursion, Contains, filter, flat_map, list_any}
 use Rattle.implib.specs.declared.machine.MachineType.{MachineType}
 use Rattle.implib.specs.Definition.{ExportView}
-use Rattle.implib.specs.Formats.Object.{Object}
+use Rattle.implib.specs.Formats.Object.{Object, object_in}
 use Rattle.implib.specs.Import.{imp_symbol}
 use Rattle.implib.specs.Link.Image.{IsAdmissible}
 use Rattle.implib.specs.Link.Linked.{IsDefinedOnce}
@@ -16,7 +16,7 @@ use Rattle.implib.specs.Members.ImportTables.{thunk_width}
 use Rattle.implib.specs.Members.MemberSpec.{MemberView}
 use Rattle.implib_link.specs.Gnu.Program.{ClaimsNone, IsProgram, LinksAmong, claimed_names, has_tables, null_descriptor, thunks_before}
 use Rattle.implib_link.specs.Search.Archives.{Library, NamesNoHeadOrTailOf, TakesOfLibraries, archive_of, inputs_wanted, wanted_with, weak_among}
-use Rattle.implib_link.specs.Search.Search.{HaveSame, first_listed, names_undefined, undefined_in}
+use Rattle.implib_link.specs.Search.Search.{HaveSame, first_listed, names_undefined, objects_as, undefined_in}
 
 -- the names that objects leave to others, and those that they claim
 unfoldable pub references_of : List Object → List (List ℕ)
@@ -32,25 +32,35 @@ unresolved objects =
 
 -- An unresolved name pulls in a member: the given objects and the members that are taken leave it unresolved, and
 -- the first member that it is listed for is this one, which is not taken.
-pub record PullsInto (archive : List MemberView) (own : List Object) (taken : List MemberView)
-    (name : List ℕ) (m : MemberView) : Type 0 where
-  pub named : Contains (unresolved (own ++ objects_in taken)) name
+pub record PullsIntoAs (reads : List ℕ → Option Object) (archive : List MemberView) (own : List Object)
+    (taken : List MemberView) (name : List ℕ) (m : MemberView) : Type 0 where
+  pub named : Contains (unresolved (own ++ objects_as reads taken)) name
   pub listed : first_listed archive name ≡ Some m
   pub new : Contains taken m → ⊥
 
 -- Members are taken one after another, the last one first: each is pulled in by some name that is unresolved
 -- after those before it. The linker may take up the unresolved names in any order.
-unfoldable pub AreTakenInto : List MemberView → List Object → List MemberView → Type 0
-AreTakenInto archive own [] = Unit {0}
-AreTakenInto archive own (m ∷ earlier) =
-    ((name : List ℕ) × PullsInto archive own earlier name m) × AreTakenInto archive own earlier
+unfoldable pub AreTakenIntoAs : (List ℕ → Option Object) → List MemberView → List Object → List MemberView → Type 0
+AreTakenIntoAs reads archive own [] = Unit {0}
+AreTakenIntoAs reads archive own (m ∷ earlier) =
+    ((name : List ℕ) × PullsIntoAs reads archive own earlier name m) × AreTakenIntoAs reads archive own earlier
 
 -- What a linker takes of an archive for given objects: it takes members in turn until no unresolved name pulls
 -- in another.
-pub record TakesInto (archive : List MemberView) (own : List Object) (taken : List MemberView)
-    : Type 0 where
-  pub in_turn : AreTakenInto archive own taken
-  pub ended : (name : List ℕ) (m : MemberView) → PullsInto archive own taken name m → ⊥
+pub record TakesIntoAs (reads : List ℕ → Option Object) (archive : List MemberView) (own : List Object)
+    (taken : List MemberView) : Type 0 where
+  pub in_turn : AreTakenIntoAs reads archive own taken
+  pub ended : (name : List ℕ) (m : MemberView) → PullsIntoAs reads archive own taken name m → ⊥
+
+-- by a linker that reads members as the objects that their bytes are
+abbrev pub PullsInto : List MemberView → List Object → List MemberView → List ℕ → MemberView → Type 0
+PullsInto = PullsIntoAs object_in
+
+abbrev pub AreTakenInto : List MemberView → List Object → List MemberView → Type 0
+AreTakenInto = AreTakenIntoAs object_in
+
+abbrev pub TakesInto : List MemberView → List Object → List MemberView → Type 0
+TakesInto = TakesIntoAs object_in
 
 -- the symbols that an archive lists
 abbrev pub listed_in : List MemberView → List (List ℕ)

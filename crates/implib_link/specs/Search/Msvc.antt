@@ -1,7 +1,8 @@
 -- Archive search of members for Microsoft's linker. The archive lists symbols for each member; what a member
 -- leaves to others is read in what a linker takes it for.
-use Rattle.std.specs.Prelude.{◌≡◌, ℕ, ◌+◌, Bool, false, List, [], ◌∷◌, ◌++◌, bytes_eq, map, Some, if◌then◌else◌}
-use Rattle.std.specs.List.{Contains, flat_map, list_any}
+use Rattle.implib_link.specs.Flavors.Expansion.{expanded_in}
+use Rattle.std.specs.Prelude.{◌≡◌, ℕ, ◌+◌, Bool, false, List, [], ◌∷◌, bytes_eq, map, if◌then◌else◌}
+use Rattle.std.specs.List.{list_any}
 use Rattle.implib.specs.declared.machine.MachineType.{MachineType}
 use Rattle.implib.specs.declared.flavor.Flavor.TheVariants.{Msvc}
 use Rattle.implib.specs.Definition.{DefinitionView, ExportView}
@@ -10,41 +11,25 @@ use Rattle.implib.specs.Members.MemberSpec.{MemberView, member_of}
 use Rattle.implib.specs.Members.Msvc.{short_import_symbols}
 use Rattle.implib.specs.Members.MsvcObjects.{descriptor_symbol, null_descriptor_symbol, null_thunk_symbol}
 use Rattle.implib.specs.Renaming.{renamed}
-use Rattle.implib_link.specs.Flavors.Program.{null_member, objects_taken, specs_in}
-use Rattle.implib_link.specs.Gnu.Program.{claimed_names}
-use Rattle.implib_link.specs.Search.Search.{first_listed, undefined_in}
+use Rattle.implib_link.specs.Flavors.Program.{null_member, specs_in}
+use Rattle.implib_link.specs.Search.Search.{AreTakenInTurnAs, PullsInAs, TakesAs, claimed_as, left_as}
 use Rattle.implib.specs.LibraryName.{linked_dll}
 
--- the names that members leave to others, and those that they claim, as a linker for a machine takes them
-unfoldable pub left_in : MachineType → List MemberView → List (List ℕ)
-left_in machine members = flat_map undefined_in (objects_taken machine members)
+-- A linker for a machine: it reads short imports, too, as what it takes them for.
+abbrev pub left_in : MachineType → List MemberView → List (List ℕ)
+left_in machine = left_as (expanded_in machine)
 
-unfoldable pub claimed_in : MachineType → List MemberView → List (List ℕ)
-claimed_in machine members = flat_map claimed_names (objects_taken machine members)
+abbrev pub claimed_in : MachineType → List MemberView → List (List ℕ)
+claimed_in machine = claimed_as (expanded_in machine)
 
--- An undefined name pulls in a member: the name is wanted or left by a member that is taken, no member that
--- is taken defines it, and the first member that it is listed for is this one, which is not taken.
-pub record PullsInFor (machine : MachineType) (archive : List MemberView) (wanted : List (List ℕ))
-    (taken : List MemberView) (name : List ℕ) (m : MemberView) : Type 0 where
-  pub named : Contains (wanted ++ left_in machine taken) name
-  pub undefined : list_any (bytes_eq name) (claimed_in machine taken) ≡ false
-  pub listed : first_listed archive name ≡ Some m
-  pub new : Contains taken m → ⊥
+abbrev pub PullsInFor : MachineType → List MemberView → List (List ℕ) → List MemberView → List ℕ → MemberView → Type 0
+PullsInFor machine = PullsInAs (expanded_in machine)
 
--- Members are taken one after another, the last one first: each is pulled in by some name that is undefined
--- after those before it. The linker may take up the undefined names in any order.
-unfoldable pub AreTakenInTurn : MachineType → List MemberView → List (List ℕ) → List MemberView → Type 0
-AreTakenInTurn machine archive wanted [] = Unit {0}
-AreTakenInTurn machine archive wanted (m ∷ earlier) =
-    ((name : List ℕ) × PullsInFor machine archive wanted earlier name m)
-    × AreTakenInTurn machine archive wanted earlier
+abbrev pub AreTakenInTurn : MachineType → List MemberView → List (List ℕ) → List MemberView → Type 0
+AreTakenInTurn machine = AreTakenInTurnAs (expanded_in machine)
 
--- What a linker takes of an archive for wanted names: it takes members in turn until no undefined name pulls
--- in another.
-pub record TakesFor (machine : MachineType) (archive : List MemberView) (wanted : List (List ℕ))
-    (taken : List MemberView) : Type 0 where
-  pub in_turn : AreTakenInTurn machine archive wanted taken
-  pub ended : (name : List ℕ) (m : MemberView) → PullsInFor machine archive wanted taken name m → ⊥
+abbrev pub TakesFor : MachineType → List MemberView → List (List ℕ) → List MemberView → Type 0
+TakesFor machine = TakesAs (expanded_in machine)
 
 -- whether an export is wanted: one of the symbols that its short import is listed for is
 abbrev pub is_short_wanted : List (List ℕ) → ExportView → Bool

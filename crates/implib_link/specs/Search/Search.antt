@@ -12,7 +12,7 @@ use Rattle.implib.specs.Link.Linked.{undefined_name}
 use Rattle.implib.specs.Link.LinkedMembers.{linked_members, objects_in}
 use Rattle.implib.specs.Members.MemberSpec.{MemberView, member_of}
 use Rattle.implib.specs.Members.GnuMembers.{head_spec, tail_spec}
-use Rattle.implib.specs.Formats.Object.{Object}
+use Rattle.implib.specs.Formats.Object.{Object, object_in}
 use Rattle.implib.specs.Link.Placement.{Bases}
 use Rattle.implib.specs.Renaming.{renamed}
 use Rattle.implib_link.specs.Gnu.Program.{ClaimsNone, LinksAmong, claimed_names, has_tables, null_descriptor}
@@ -31,35 +31,55 @@ first_listed (m ∷ archive) name = if is_listed_for name m then Some m else fir
 unfoldable pub undefined_in : Object → List (List ℕ)
 undefined_in o = filter_map undefined_name o.entries
 
--- the names that members leave to others, read in their bytes
-unfoldable pub names_undefined : List MemberView → List (List ℕ)
-names_undefined members = flat_map undefined_in (objects_in members)
+-- The objects that a linker reads members as: each by its bytes, or not at all.
+abbrev pub objects_as : (List ℕ → Option Object) → List MemberView → List Object
+objects_as reads members = filter_map (λ m. reads m.bytes) members
 
--- the names that members claim: they define them, read in their bytes
-unfoldable pub names_claimed : List MemberView → List (List ℕ)
-names_claimed members = flat_map claimed_names (objects_in members)
+-- The names that members leave to others, and those that they claim, by these objects.
+unfoldable pub left_as : (List ℕ → Option Object) → List MemberView → List (List ℕ)
+left_as reads members = flat_map undefined_in (objects_as reads members)
+
+unfoldable pub claimed_as : (List ℕ → Option Object) → List MemberView → List (List ℕ)
+claimed_as reads members = flat_map claimed_names (objects_as reads members)
 
 -- An undefined name pulls in a member: the name is wanted or left by a member that is taken, no member that
 -- is taken defines it, and the first member that it is listed for is this one, which is not taken.
-pub record PullsIn (archive : List MemberView) (wanted : List (List ℕ)) (taken : List MemberView)
-    (name : List ℕ) (m : MemberView) : Type 0 where
-  pub named : Contains (wanted ++ names_undefined taken) name
-  pub undefined : list_any (bytes_eq name) (names_claimed taken) ≡ false
+pub record PullsInAs (reads : List ℕ → Option Object) (archive : List MemberView) (wanted : List (List ℕ))
+    (taken : List MemberView) (name : List ℕ) (m : MemberView) : Type 0 where
+  pub named : Contains (wanted ++ left_as reads taken) name
+  pub undefined : list_any (bytes_eq name) (claimed_as reads taken) ≡ false
   pub listed : first_listed archive name ≡ Some m
   pub new : Contains taken m → ⊥
 
 -- Members are taken one after another, the last one first: each is pulled in by some name that is undefined
 -- after those before it. The linker may take up the undefined names in any order.
-unfoldable pub IsTakenInTurn : List MemberView → List (List ℕ) → List MemberView → Type 0
-IsTakenInTurn archive wanted [] = Unit {0}
-IsTakenInTurn archive wanted (m ∷ earlier) =
-    ((name : List ℕ) × PullsIn archive wanted earlier name m) × IsTakenInTurn archive wanted earlier
+unfoldable pub AreTakenInTurnAs : (List ℕ → Option Object) → List MemberView → List (List ℕ) → List MemberView → Type 0
+AreTakenInTurnAs reads archive wanted [] = Unit {0}
+AreTakenInTurnAs reads archive wanted (m ∷ earlier) =
+    ((name : List ℕ) × PullsInAs reads archive wanted earlier name m) × AreTakenInTurnAs reads archive wanted earlier
 
 -- What a linker takes of an archive for wanted names: it takes members in turn until no undefined name pulls
 -- in another.
-pub record Takes (archive : List MemberView) (wanted : List (List ℕ)) (taken : List MemberView) : Type 0 where
-  pub in_turn : IsTakenInTurn archive wanted taken
-  pub ended : (name : List ℕ) (m : MemberView) → PullsIn archive wanted taken name m → ⊥
+pub record TakesAs (reads : List ℕ → Option Object) (archive : List MemberView) (wanted : List (List ℕ))
+    (taken : List MemberView) : Type 0 where
+  pub in_turn : AreTakenInTurnAs reads archive wanted taken
+  pub ended : (name : List ℕ) (m : MemberView) → PullsInAs reads archive wanted taken name m → ⊥
+
+-- A linker that reads members as the objects that their bytes are.
+abbrev pub names_undefined : List MemberView → List (List ℕ)
+names_undefined = left_as object_in
+
+abbrev pub names_claimed : List MemberView → List (List ℕ)
+names_claimed = claimed_as object_in
+
+abbrev pub PullsIn : List MemberView → List (List ℕ) → List MemberView → List ℕ → MemberView → Type 0
+PullsIn = PullsInAs object_in
+
+abbrev pub IsTakenInTurn : List MemberView → List (List ℕ) → List MemberView → Type 0
+IsTakenInTurn = AreTakenInTurnAs object_in
+
+abbrev pub Takes : List MemberView → List (List ℕ) → List MemberView → Type 0
+Takes = TakesAs object_in
 
 -- whether an export is wanted: one of its symbols is, its name, where it is no data, or `__imp_` and its name
 abbrev pub is_wanted : List (List ℕ) → ExportView → Bool

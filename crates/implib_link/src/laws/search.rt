@@ -13,13 +13,12 @@ ghost use Rattle.implib_link.specs.Search.Archives.{IsArchive, Library, NamesNoH
 ghost use Rattle.implib_link.specs.Search.Archives.{TakesOfLibraries, archive_of, inputs_wanted};
 ghost use Rattle.implib_link.specs.Search.Archives.{wanted_with};
 ghost use Rattle.implib_link.specs.Gnu.Program.{IsProgram, LinksAmong};
-ghost use Rattle.implib_link.specs.Search.Msvc.{AreTakenInTurn, TakesFor};
 ghost use Rattle.implib_link.specs.Search.Search.{HaveSame, ImportsWanted, IsArranged};
-ghost use Rattle.implib_link.specs.Search.Search.{IsLinkedOfWanted, IsLinkedWith, IsTakenInTurn};
-ghost use Rattle.implib_link.specs.Search.Search.{NamesNoHeadOrTail, Takes, exports_wanted};
+ghost use Rattle.implib_link.specs.Search.Search.{AreTakenInTurnAs, IsLinkedOfWanted, IsLinkedWith};
+ghost use Rattle.implib_link.specs.Search.Search.{NamesNoHeadOrTail, Takes, TakesAs, exports_wanted};
 ghost use Rattle.implib_link.specs.Search.Search.{linked_if_any};
 ghost use Rattle.std.specs.List.{Contains, IsDistinct, flat_map};
-ghost use Rattle.std.specs.Prelude.{◌≤◌, ℕ, List, bytes_eq, length, map};
+ghost use Rattle.std.specs.Prelude.{◌≤◌, ℕ, List, Option, bytes_eq, length, map};
 
 /// A linker takes of an archive of the members exactly the head, the members of the exports that
 /// are wanted and the tail, whichever undefined name it takes up first; nothing, where no export is
@@ -91,17 +90,14 @@ pub fn libraries_are_searched()
         LinksAmong machine bases (inputs_wanted libraries wanted) objects }
 {}
 
-/// A search of any archive, whose members are read as objects, or as what a linker for a machine
-/// takes them for, for any names ends, whichever undefined name the linker takes up first: it can go
-/// on until no undefined name pulls in a member, and never takes more members than the archive has.
+/// A search of any archive for any names ends, however a linker reads members, and whichever
+/// undefined name it takes up first: it can go on until no undefined name pulls in a member, and
+/// never takes more members than the archive has.
 pub fn search_ends()
-    ensures found { (archive : List MemberView) (wanted : List (List ℕ)) →
-        (taken : List MemberView) × Takes archive wanted taken }
-    ensures bounded { (archive taken : List MemberView) (wanted : List (List ℕ)) →
-        IsTakenInTurn archive wanted taken → length taken ≤ length archive }
-    ensures short { (machine : MachineType) (archive : List MemberView) (wanted : List (List ℕ)) →
-        (taken : List MemberView) × TakesFor machine archive wanted taken }
-    ensures short_bounded { (machine : MachineType) (archive taken : List MemberView)
+    ensures found { (reads : List ℕ → Option Object) (archive : List MemberView)
         (wanted : List (List ℕ)) →
-        AreTakenInTurn machine archive wanted taken → length taken ≤ length archive }
+        (taken : List MemberView) × TakesAs reads archive wanted taken }
+    ensures bounded { (reads : List ℕ → Option Object) (archive taken : List MemberView)
+        (wanted : List (List ℕ)) →
+        AreTakenInTurnAs reads archive wanted taken → length taken ≤ length archive }
 {}

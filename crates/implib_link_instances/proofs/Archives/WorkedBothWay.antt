@@ -1,12 +1,10 @@
 -- The whole way for libraries of both flavours by hand, by computing and by the laws.
 use Rattle.std.proofs.Common.{◌≡◌, ℕ, ◌^◌, ◌<◌, ◌+◌, List, [], ◌∷◌, ◌++◌, codes, map, refl, ap, sym, ◌∙◌, subst, Some, arith}
 use Rattle.std.specs.Prelude.{slice_get}
-use Rattle.std.specs.List.{AllByRecursion, Contains, flat_map}
+use Rattle.std.specs.List.{AllByRecursion, Contains}
 use Rattle.implib.specs.declared.flavor.Flavor.TheVariants.{Gnu, Msvc}
 use Rattle.implib.specs.declared.machine.MachineType.TheVariants.{AMD64}
-use Rattle.implib.specs.Formats.Constants.{class_external}
 use Rattle.implib.specs.Link.Image.{image_of}
-use Rattle.implib.specs.Members.MsvcObjects.{null_descriptor_symbol}
 use Rattle.implib.specs.Worked.Statements.{plain_export}
 use Rattle.implib.proofs.Link.LinkedMembers.{among_contains}
 use Rattle.implib.proofs.Link.Ranges.{among_back, apart_as_they_rise}
@@ -26,45 +24,32 @@ use Rattle.implib_link.specs.Gnu.Choices.{AreSections, DefineOnce, plain_range}
 use Rattle.implib_link.specs.Gnu.Fields.{AreBeside, LinkedCode, placed_code, ranges_of_codes}
 use Rattle.implib_link.specs.Gnu.Packed.{group_end, packed_end, sections_end}
 use Rattle.implib_link.specs.Gnu.Program.{ClaimsNone}
-use Rattle.implib_link.specs.Search.Archives.{symbols_of_library}
-use Rattle.implib_link.specs.Search.BothFlavors.{AreGivenForBoth, IsClosedForBoth, IsFlavorArchive, archive_of_both, gnu_among, kept_of_both, msvc_among}
+use Rattle.implib_link.specs.Search.BothFlavors.{AreGivenForBoth, IsClosedForBoth, IsFlavorArchive, archive_of_both, kept_of_both}
 use Rattle.implib_link.specs.Search.Closed.{listed_in, unresolved}
-use Rattle.implib_link.specs.Search.Msvc.{AreTakenInTurn, TakesFor, left_in}
-use Rattle.implib_link.specs.Search.MsvcArchives.{symbols_of_shorts}
+use Rattle.implib_link.specs.Search.Msvc.{TakesFor, left_in}
 use Rattle.implib_link.specs.Search.MsvcClosed.{TakesIntoFor}
 use Rattle.implib_link_instances.specs.Worked.Calls.{first_bytes, given_on, last_bytes}
 use Rattle.implib_link_instances.specs.Worked.MsvcArchives.{thunk_named}
-use Rattle.implib_link_instances.specs.Worked.Programs.{symbol_of_class}
 use Rattle.implib_link.proofs.Gnu.Choices.{found, found_in}
 use Rattle.implib_link.proofs.Gnu.LinkedCodes.{codes_can_be_linked}
 use Rattle.implib_link.proofs.Gnu.Loaded.{mapped_at}
 use Rattle.implib_link.proofs.Search.BothClosed.{packed_both}
 use Rattle.implib_link.proofs.Search.BothGiven.{both_given_closes}
-use Rattle.implib_link.proofs.Search.Closed.{claims_apart}
+use Rattle.implib_link.proofs.Search.Closed.{claims_apart, takes_into}
 use Rattle.implib_link.proofs.Search.Lists.{among_at}
-use Rattle.implib_link.proofs.Search.MsvcClosed.{takes_into}
-use Rattle.implib_link_instances.proofs.Worked.BothFlavors.{apart_by}
+use Rattle.implib_link_instances.proofs.Worked.BothFlavors.{archive_by}
 use Rattle.implib_link_instances.proofs.Worked.Calls.{wide}
 use Rattle.implib_link_instances.proofs.Worked.Choices.{once_by}
-use Rattle.implib_link_instances.proofs.Worked.MsvcSearch.{pulls_in_now, settled_ends}
 use Rattle.implib_link_instances.proofs.Worked.NearSearches.{searched}
-use Rattle.implib_link_instances.proofs.Worked.Programs.{claims_none_by, distinct_by}
+use Rattle.implib_link_instances.proofs.Worked.Programs.{claims_none_by, instructions_at}
+use Rattle.implib_link.specs.Search.Search.{left_as, AreTakenInTurnAs}
+use Rattle.implib_link.specs.Flavors.Expansion.{expanded_in}
+use Rattle.implib_link_instances.proofs.Worked.Search.{takes_by}
 use Rattle.implib_link_instances.proofs.Worked.Searched.{below_limit}
 
 archive : IsFlavorArchive AMD64 both
 unfolding searched
-archive = record {
-  gnu = record {
-    made = (record { accepted = refl; made = refl; ordinals = refl }, tt);
-    distinct = distinct_by (flat_map (symbols_of_library AMD64) (gnu_among both)) refl;
-  };
-  msvc = record {
-    made = (record { accepted = refl; made = refl; ordinals = refl }, tt);
-    distinct = distinct_by (null_descriptor_symbol ∷ flat_map symbols_of_shorts (msvc_among both)) refl;
-    found = (refl, tt);
-  };
-  apart = apart_by (null_descriptor_symbol ∷ flat_map symbols_of_shorts (msvc_among both)) (flat_map (symbols_of_library AMD64) (gnu_among both)) refl;
-}
+archive = archive_by (record { accepted = refl; made = refl; ordinals = refl }, tt) (record { accepted = refl; made = refl; ordinals = refl }, tt) (refl, tt) refl refl refl
 
 ready : HaveArchive Coff Second (archive_of_both both)
 unfolding searched entries_from entries_of first_linker_size first_place front_size is_long archive_long_names name_end names_bytes names_size offset_of places_from second_linker_size strings_of with_first archive_with_name has_short_places has_too_many member_refusal members_refusal name_refusal places_refusal refusal_of symbol_refusal symbols_refusal
@@ -78,38 +63,17 @@ given = record {
 }
 
 wanted_takes : TakesFor AMD64 (archive_of_both both) (unresolved own) taken
-unfolding searched AreTakenInTurn
-wanted_takes = record {
-  in_turn = (
-    (0x7F ∷ codes "zed_NULL_THUNK_DATA", pulls_in_now _ _ _ _ _ _ refl refl refl refl),
-    (
-      (codes "__NULL_IMPORT_DESCRIPTOR", pulls_in_now _ _ _ _ _ _ refl refl refl refl),
-      (
-        (codes "__IMPORT_DESCRIPTOR_zed", pulls_in_now _ _ _ _ _ _ refl refl refl refl),
-        (
-          (codes "__imp_queue", pulls_in_now _ _ _ _ _ _ refl refl refl refl),
-          (
-            (codes "foo_dll_iname", pulls_in_now _ _ _ _ _ _ refl refl refl refl),
-            (
-              (codes "_head_foo_dll", pulls_in_now _ _ _ _ _ _ refl refl refl refl),
-              ((codes "__imp_bar", pulls_in_now _ _ _ _ _ _ refl refl refl refl), tt),
-            ),
-          ),
-        ),
-      ),
-    ),
-  );
-  ended = settled_ends AMD64 (archive_of_both both) (unresolved own) taken refl;
-}
+unfolding searched AreTakenInTurnAs
+wanted_takes = takes_by ((0x7F ∷ codes "zed_NULL_THUNK_DATA") ∷ codes "__NULL_IMPORT_DESCRIPTOR" ∷ codes "__IMPORT_DESCRIPTOR_zed" ∷ codes "__imp_queue" ∷ codes "foo_dll_iname" ∷ codes "_head_foo_dll" ∷ codes "__imp_bar" ∷ []) refl refl refl
 
 claims : AllByRecursion (ClaimsNone (listed_in taken ++ left_in AMD64 taken)) own
 unfolding searched
 claims = (claims_none_by (listed_in taken ++ left_in AMD64 taken) calls_bar refl, (claims_none_by (listed_in taken ++ left_in AMD64 taken) calls_queue refl, tt))
 
 takes : TakesIntoFor AMD64 (archive_of_both both) own taken
-unfolding left_in
+unfolding left_as
 takes =
-    takes_into AMD64 (archive_of_both both) own taken (λ name left. claims_apart (listed_in taken ++ left_in AMD64 taken) own claims name (among_back name (listed_in taken) (left_in AMD64 taken) left)) wanted_takes
+    takes_into (expanded_in AMD64) (archive_of_both both) own taken (λ name left. claims_apart (listed_in taken ++ left_in AMD64 taken) own claims name (among_back name (listed_in taken) (left_in AMD64 taken) left)) wanted_takes
 
 closed : IsClosedForBoth AMD64 both own taken both bases objects
 unfolding searched group_end sections_end
@@ -147,40 +111,10 @@ unfolding searched group_end sections_end found found_in
 once = once_by linked placed refl refl
 
 bar_called : HasCall AMD64 (code_at calls_bar 0x3000) 4 (codes "__imp_bar")
-bar_called = record {
-  front = first_bytes AMD64;
-  back = last_bytes AMD64;
-  instructions = refl;
-  here = refl;
-  index = 1;
-  before = [];
-  behind = [];
-  relocated = refl;
-  aside_before = tt;
-  aside_behind = tt;
-  symbol = symbol_of_class (codes "__imp_bar") 0 class_external;
-  target = refl;
-  undefined = refl;
-  named = refl;
-}
+bar_called = instructions_at (first_bytes AMD64) (last_bytes AMD64) 1 [] [] tt tt refl refl refl refl
 
 queue_called : HasCall AMD64 (code_at calls_queue 0x3020) 4 (codes "__imp_queue")
-queue_called = record {
-  front = first_bytes AMD64;
-  back = last_bytes AMD64;
-  instructions = refl;
-  here = refl;
-  index = 1;
-  before = [];
-  behind = [];
-  relocated = refl;
-  aside_before = tt;
-  aside_behind = tt;
-  symbol = symbol_of_class (codes "__imp_queue") 0 class_external;
-  target = refl;
-  undefined = refl;
-  named = refl;
-}
+queue_called = instructions_at (first_bytes AMD64) (last_bytes AMD64) 1 [] [] tt tt refl refl refl refl
 
 beside : (codes : List LinkedCode) × ((targets : LinkedCode → ℕ → ℕ) × ((map placed_code codes ≡ placed) × AreBeside AMD64 0x1_4000_0000 bases objects codes targets))
 unfolding searched group_end sections_end

@@ -46,7 +46,7 @@ use Rattle.implib_link_instances.proofs.Worked.Calls.{wide}
 use Rattle.implib_link_instances.proofs.Worked.LinkedCode.{all_needed, only_absolute, rebased_by, relocated_by, relocated_test}
 use Rattle.implib_link_instances.proofs.Worked.Lld.{lld_opened}
 use Rattle.implib_link_instances.proofs.Worked.LldPrograms.{disjoint, meet_test, takes_with_thunk}
-use Rattle.implib_link_instances.proofs.Worked.Programs.{distinct_by, opened}
+use Rattle.implib_link_instances.proofs.Worked.Programs.{distinct_by, opened, instruction_by}
 use Rattle.implib_link_instances.proofs.Worked.RefusedFields.{value}
 use Rattle.implib_link_instances.proofs.Worked.RefusedLinks.{differ}
 
@@ -189,16 +189,7 @@ moved : AreInMemory AMD64 0x7FF6_1234_0000 lld_image lld_linked lld_codes lld_ta
 moved = inr (0x1_4000_0000, ([], (tt, moves)))
 
 call : HasInstruction AMD64 calls_linked 0 (0xFF ∷ 0x15 ∷ []) [] (codes "__imp_bar")
-call = record {
-  type = amd64_rel32;
-  symbol = 1;
-  alone = refl;
-  names = record { symbol = symbol_of_class (codes "__imp_bar") 0 class_external; target = refl; undefined = refl; named = refl };
-  field = 0 ∷ 0 ∷ 0 ∷ 0 ∷ [];
-  four = refl;
-  code = refl;
-  counts = (0, (omega arith, (refl, refl)));
-}
+call = instruction_by amd64_rel32 1 (0 ∷ 0 ∷ 0 ∷ 0 ∷ []) (record { symbol = symbol_of_class (codes "__imp_bar") 0 class_external; target = refl; undefined = refl; named = refl }) (0, (omega arith, (refl, refl))) refl refl refl
 
 branch : HasBranch AMD64 calls_linked 7 0 (codes "bar")
 branch = record {

@@ -9,12 +9,11 @@ use Rattle.implib.specs.Formats.Layout.{encoded_size}
 use Rattle.implib.specs.Members.GnuMembers.{alias_specs}
 use Rattle.implib.specs.Members.Members.{refusal, renamed_refusal}
 use Rattle.implib.specs.Members.WeakExternal.{weak_object}
-use Rattle.implib.specs.Link.Image.{image_of}
 use Rattle.implib.specs.Link.LinkedMembers.{LinkInput, objects_in}
 use Rattle.implib.specs.Text.Parses.{Parses}
 use Rattle.implib.specs.Worked.Statements.{plain_export}
 use Rattle.implib.proofs.Worked.Statements.{opened as text_opened, parses}
-use Rattle.implib.proofs.Link.Ranges.{Among, all_among, among_back, apart_as_they_rise, ends_below}
+use Rattle.implib.proofs.Link.Ranges.{Among, all_among, among_back, apart_as_they_rise}
 use Rattle.implib_archive.specs.Archive.{entries_from, entries_of, first_linker_size, first_place, front_size, is_long, long_names as archive_long_names, name_end, names_bytes, names_size, offset_of, places_from, second_linker_size, strings_of, with_first, with_name as archive_with_name}
 use Rattle.implib_archive.specs.Refusal.{has_short_places, has_too_many, member_refusal, members_refusal, name_refusal, places_refusal, refusal_of, symbol_refusal, symbols_refusal}
 use Rattle.implib_archive.specs.declared.kind.Kind.TheVariants.{Gnu}
@@ -32,15 +31,15 @@ use Rattle.implib_link.specs.Gnu.Program.{ClaimsNone, claimed_names, has_tables}
 use Rattle.implib_link.specs.Search.Archives.{IsArchive, archive_of, is_weak, symbols_of_library}
 use Rattle.implib_link.specs.Search.Closed.{AreLinkedFor, TakesInto, claims_of, listed_in, references_of}
 use Rattle.implib_link.specs.Search.Given.{AreGiven, symbols_kept}
-use Rattle.implib_link.specs.Search.Search.{IsTakenInTurn, Takes, names_claimed, names_undefined, undefined_in}
+use Rattle.implib_link.specs.Search.Search.{Takes, names_undefined, undefined_in, left_as, claimed_as, AreTakenInTurnAs}
 use Rattle.implib_link_instances.specs.Worked.Calls.{first_bytes, given_on, last_bytes}
 use Rattle.implib_link_instances.specs.Worked.Programs.{symbol_of_class}
 use Rattle.implib_link.proofs.Search.Closed.{claims_apart, takes_into}
 use Rattle.implib_link.proofs.Search.Lists.{any_among}
-use Rattle.implib_link_instances.proofs.Worked.Archives.{head_named, tail_named}
 use Rattle.implib_link_instances.proofs.Worked.Calls.{one_code_resolves, wide}
-use Rattle.implib_link_instances.proofs.Worked.Programs.{claims_none_by, distinct_by, opened}
-use Rattle.implib_link_instances.proofs.Worked.Search.{bar, pulls_in_now, settled_ends}
+use Rattle.implib_link_instances.proofs.Worked.Programs.{claims_none_by, distinct_by, opened, admissible_by, instructions_at}
+use Rattle.implib.specs.Formats.Object.{object_in}
+use Rattle.implib_link_instances.proofs.Worked.Search.{bar, takes_by}
 
 is_archive : IsArchive AMD64 libraries
 unfolding opened refusal renamed_refusal alias_specs encoded_size weak_object symbols_of_library is_weak
@@ -67,46 +66,28 @@ refused is =
     true≢false (all_among (λ name. list_any (bytes_eq name) (claimed_names clashing) ≡ false) (codes "bar") names (any_among (codes "bar") names refl) is.claims.0)
 
 claims : AllByRecursion (ClaimsNone (listed_in taken ++ names_undefined taken)) own
-unfolding opened alias_specs encoded_size weak_object names_undefined undefined_in
+unfolding opened alias_specs encoded_size weak_object left_as undefined_in
 claims = (claims_none_by (listed_in taken ++ names_undefined taken) caller refl, tt)
 
 left_apart : (name : List ℕ) → Among name (flat_map undefined_in (objects_in taken)) → Among name (flat_map claimed_names own) → ⊥
-unfolding names_undefined
+unfolding left_as
 left_apart name left = claims_apart (listed_in taken ++ names_undefined taken) own claims name (among_back name (listed_in taken) (names_undefined taken) left)
 
 wanted_takes : Takes (archive_of libraries) (codes "__imp_bar" ∷ []) taken
-unfolding opened alias_specs encoded_size names_undefined names_claimed undefined_in IsTakenInTurn weak_object archive_of
-wanted_takes = record {
-  in_turn = (
-    (codes "foo_dll_iname", pulls_in_now (archive_of libraries) (codes "__imp_bar" ∷ []) (head_named (codes "foo.dll") ∷ bar ∷ []) (codes "foo_dll_iname") (tail_named (codes "foo.dll")) refl refl refl refl),
-    (
-      (codes "_head_foo_dll", pulls_in_now (archive_of libraries) (codes "__imp_bar" ∷ []) (bar ∷ []) (codes "_head_foo_dll") (head_named (codes "foo.dll")) refl refl refl refl),
-      ((codes "__imp_bar", pulls_in_now (archive_of libraries) (codes "__imp_bar" ∷ []) [] (codes "__imp_bar") bar refl refl refl refl), tt),
-    ),
-  );
-  ended = settled_ends (archive_of libraries) (codes "__imp_bar" ∷ []) taken refl;
-}
+unfolding opened alias_specs encoded_size left_as claimed_as undefined_in AreTakenInTurnAs weak_object archive_of
+wanted_takes = takes_by (codes "foo_dll_iname" ∷ codes "_head_foo_dll" ∷ codes "__imp_bar" ∷ []) refl refl refl
 
 takes : TakesInto (archive_of libraries) own taken
 unfolding references_of claims_of undefined_in
-takes = takes_into (archive_of libraries) own taken left_apart wanted_takes
+takes = takes_into object_in (archive_of libraries) own taken left_apart wanted_takes
 
 linked_for : AreLinkedFor AMD64 libraries own taken libraries bases objects
-unfolding opened alias_specs encoded_size weak_object is_weak names_undefined undefined_in references_of claims_of has_tables
+unfolding opened alias_specs encoded_size weak_object is_weak left_as undefined_in references_of claims_of has_tables
 linked_for = record {
   order = record { moves = []; below = tt; is = refl };
   others = λ x. (λ held. held, λ held. held);
   tables = refl;
-  admissible = record {
-    descriptors = (omega arith, refl);
-    directory_ends = (omega arith, refl);
-    lookups = (omega arith, refl);
-    addresses = (omega arith, refl);
-    hint_names = (omega arith, refl);
-    dll_names = (omega arith, refl);
-    ends = ends_below (2 ^ 31) (image_of AMD64 bases linked) refl;
-    apart = apart_as_they_rise (2 ^ 31) (image_of AMD64 bases linked) refl;
-  };
+  admissible = admissible_by refl refl;
 }
 
 beside : CodesBeside AMD64 0x1_4000_0000 bases objects (placed_code ∷ []) targets
@@ -123,22 +104,7 @@ beside =
     refl
 
 has_call : HasCall AMD64 placed_code 4 (codes "__imp_bar")
-has_call = record {
-  front = first_bytes AMD64;
-  back = last_bytes AMD64;
-  instructions = refl;
-  here = refl;
-  index = 1;
-  before = [];
-  behind = [];
-  relocated = refl;
-  aside_before = tt;
-  aside_behind = tt;
-  symbol = symbol_of_class (codes "__imp_bar") 0 class_external;
-  target = refl;
-  undefined = refl;
-  named = refl;
-}
+has_call = instructions_at (first_bytes AMD64) (last_bytes AMD64) 1 [] [] tt tt refl refl refl refl
 
 arrive : CallsArrive AMD64 libraries own taken libraries bases objects
 arrive = calls_arrive AMD64 libraries own taken libraries bases objects is_archive given takes linked_for
@@ -151,7 +117,7 @@ unfolding text_opened
 bar_parses = parses bar_text AMD64 bar_definition refl refl
 
 pub worked_way : WorkedWay
-unfolding opened refusal renamed_refusal alias_specs encoded_size weak_object has_tables is_weak names_undefined undefined_in references_of claims_of archive_of
+unfolding opened refusal renamed_refusal alias_specs encoded_size weak_object has_tables is_weak left_as undefined_in references_of claims_of archive_of
 worked_way = record {
   parses = bar_parses;
   archive = is_archive;

@@ -1,30 +1,30 @@
 -- The closed program in which an alias stands for a function of the other flavour, by computing and by the laws.
 use Rattle.std.proofs.Common.{codes, ◌≡◌, ℕ, ◌^◌, ◌<◌, [], ◌∷◌, ◌++◌, refl, arith}
-use Rattle.std.specs.List.{AllByRecursion, flat_map}
+use Rattle.std.specs.List.{AllByRecursion}
 use Rattle.implib.specs.declared.machine.MachineType.{MachineType}
 use Rattle.implib.specs.declared.machine.MachineType.TheVariants.{AMD64, ARM64, ARMNT, I386}
 use Rattle.implib.specs.Members.MsvcObjects.{descriptor_symbol, null_descriptor_symbol, null_thunk_symbol}
 use Rattle.implib.proofs.Link.Ranges.{among_back}
 use Rattle.implib_link.specs.Gnu.Packed.{group_end, packed_end, sections_end}
 use Rattle.implib_link.specs.Gnu.Program.{ClaimsNone}
-use Rattle.implib_link.specs.Search.Archives.{symbols_of_library}
-use Rattle.implib_link.specs.Search.BothFlavors.{AreClosedForBoth, AreGivenForBoth, IsFlavorArchive, NamesNoMembers, archive_of_both, gnu_among, kept_of_both, msvc_among}
+use Rattle.implib_link.specs.Search.BothFlavors.{AreClosedForBoth, AreGivenForBoth, IsFlavorArchive, NamesNoMembers, archive_of_both, kept_of_both}
 use Rattle.implib_link.specs.Search.Closed.{listed_in, unresolved}
-use Rattle.implib_link.specs.Search.Msvc.{AreTakenInTurn, TakesFor, left_in}
-use Rattle.implib_link.specs.Search.MsvcArchives.{symbols_of_shorts, wanted_with_weak}
+use Rattle.implib_link.specs.Search.Msvc.{TakesFor, left_in}
+use Rattle.implib_link.specs.Search.MsvcArchives.{wanted_with_weak}
 use Rattle.implib_link.specs.Search.MsvcClosed.{TakesIntoFor, wanted_for}
 use Rattle.implib_link_instances.specs.Worked.Programs.{symbol_on}
 use Rattle.implib_link.proofs.Search.BothArchives.{both_taken}
 use Rattle.implib_link.proofs.Search.BothClosed.{closed_links_of_both, packed_both}
-use Rattle.implib_link.proofs.Search.Closed.{claims_apart}
-use Rattle.implib_link.proofs.Search.MsvcClosed.{takes_into}
-use Rattle.implib_link_instances.proofs.Worked.BothFlavors.{apart_by}
-use Rattle.implib_link_instances.proofs.Worked.MsvcSearch.{pulls_in_now, settled_ends}
+use Rattle.implib_link.proofs.Search.Closed.{claims_apart, takes_into}
+use Rattle.implib_link_instances.proofs.Worked.BothFlavors.{archive_by, closed_by}
 use Rattle.implib_link_instances.proofs.Worked.NearSearches.{searched}
-use Rattle.implib_link_instances.proofs.Worked.Programs.{claims_none_by, distinct_by}
+use Rattle.implib_link_instances.proofs.Worked.Programs.{claims_none_by}
 use Rattle.implib_link_instances.proofs.Worked.Searched.{below_limit}
 use Rattle.implib_link_instances.specs.Machines.Closed.{IsLeft, IsPointerAt}
 use Rattle.implib_link_instances.specs.Machines.Crossed.{WorkedCrossed, bases, libraries, naming, objects, own, taken, zed_shorts}
+use Rattle.implib_link.specs.Search.Search.{left_as, AreTakenInTurnAs}
+use Rattle.implib_link.specs.Flavors.Expansion.{expanded_in}
+use Rattle.implib_link_instances.proofs.Worked.Search.{takes_by}
 use Rattle.implib_link_instances.specs.Machines.Parts.{bar, queue, zed}
 
 -- what is computed of the program on a machine
@@ -42,9 +42,9 @@ record Computed (machine : MachineType) (queue_at : ℕ) : Type 0 where
   queue_pointer : IsPointerAt (bases machine) (objects machine) (queue machine) queue_at
 
 worked : (machine : MachineType) (queue_at : ℕ) → Computed machine queue_at → WorkedCrossed machine queue_at
-unfolding left_in
+unfolding left_as
 worked machine queue_at is =
-    let into = takes_into machine (archive_of_both (libraries machine)) (own machine) (taken machine)
+    let into = takes_into (expanded_in machine) (archive_of_both (libraries machine)) (own machine) (taken machine)
     (λ name left. claims_apart (listed_in (taken machine) ++ left_in machine (taken machine)) (own machine) is.claims name (among_back name (listed_in (taken machine)) (left_in machine (taken machine)) left))
     is.takes in
     let closed = packed_both machine (libraries machine) (own machine) (taken machine) (libraries machine) 0x25000 (objects machine) is.archive (is.closed into) (omega arith) is.end in
@@ -62,37 +62,11 @@ worked machine queue_at is =
 
 archive_amd64 : IsFlavorArchive AMD64 (libraries AMD64)
 unfolding searched
-archive_amd64 = record {
-  gnu = record {
-    made = (record { accepted = refl; made = refl; ordinals = refl }, tt);
-    distinct = distinct_by (flat_map (symbols_of_library AMD64) (gnu_among (libraries AMD64))) refl;
-  };
-  msvc = record {
-    made = (record { accepted = refl; made = refl; ordinals = refl }, tt);
-    distinct = distinct_by (null_descriptor_symbol ∷ flat_map symbols_of_shorts (msvc_among (libraries AMD64))) refl;
-    found = (refl, tt);
-  };
-  apart = apart_by (null_descriptor_symbol ∷ flat_map symbols_of_shorts (msvc_among (libraries AMD64))) (flat_map (symbols_of_library AMD64) (gnu_among (libraries AMD64))) refl;
-}
+archive_amd64 = archive_by (record { accepted = refl; made = refl; ordinals = refl }, tt) (record { accepted = refl; made = refl; ordinals = refl }, tt) (refl, tt) refl refl refl
 
 takes_amd64 : TakesFor AMD64 (archive_of_both (libraries AMD64)) (unresolved (own AMD64)) (taken AMD64)
-unfolding searched AreTakenInTurn
-takes_amd64 = record {
-  in_turn = (
-    (null_thunk_symbol zed, pulls_in_now _ _ _ _ _ _ refl refl refl refl),
-    (
-      (null_descriptor_symbol, pulls_in_now _ _ _ _ _ _ refl refl refl refl),
-      (
-        (descriptor_symbol zed, pulls_in_now _ _ _ _ _ _ refl refl refl refl),
-        (
-          (queue AMD64, pulls_in_now _ _ _ _ _ _ refl refl refl refl),
-          ((bar AMD64, pulls_in_now _ _ _ _ _ _ refl refl refl refl), tt),
-        ),
-      ),
-    ),
-  );
-  ended = settled_ends AMD64 (archive_of_both (libraries AMD64)) (unresolved (own AMD64)) (taken AMD64) refl;
-}
+unfolding searched AreTakenInTurnAs
+takes_amd64 = takes_by (null_thunk_symbol zed ∷ null_descriptor_symbol ∷ descriptor_symbol zed ∷ queue AMD64 ∷ bar AMD64 ∷ []) refl refl refl
 
 names_amd64 : NamesNoMembers AMD64 (libraries AMD64) (wanted_for AMD64 (own AMD64) (taken AMD64))
 unfolding searched
@@ -105,18 +79,7 @@ claims_amd64 = (claims_none_by (listed_in (taken AMD64) ++ left_in AMD64 (taken 
 closed_amd64 : TakesIntoFor AMD64 (archive_of_both (libraries AMD64)) (own AMD64) (taken AMD64) →
     AreClosedForBoth AMD64 (libraries AMD64) (own AMD64) (taken AMD64) (libraries AMD64) (objects AMD64)
 unfolding searched
-closed_amd64 takes = record {
-  takes = takes;
-  some = omega arith;
-  order = record { moves = []; below = tt; is = refl };
-  others = λ o. (λ held. held, λ held. held);
-  before = [];
-  behind = zed_shorts AMD64;
-  members = refl;
-  tables = refl;
-  claims = claims_amd64;
-  names = names_amd64;
-}
+closed_amd64 takes = closed_by [] (zed_shorts AMD64) takes (omega arith) (record { moves = []; below = tt; is = refl }) refl refl refl claims_amd64 names_amd64
 
 pub crossed_amd64 : WorkedCrossed AMD64 0x25038
 unfolding searched group_end sections_end
@@ -138,37 +101,11 @@ crossed_amd64 = worked AMD64 0x25038 (record {
 
 archive_arm64 : IsFlavorArchive ARM64 (libraries ARM64)
 unfolding searched
-archive_arm64 = record {
-  gnu = record {
-    made = (record { accepted = refl; made = refl; ordinals = refl }, tt);
-    distinct = distinct_by (flat_map (symbols_of_library ARM64) (gnu_among (libraries ARM64))) refl;
-  };
-  msvc = record {
-    made = (record { accepted = refl; made = refl; ordinals = refl }, tt);
-    distinct = distinct_by (null_descriptor_symbol ∷ flat_map symbols_of_shorts (msvc_among (libraries ARM64))) refl;
-    found = (refl, tt);
-  };
-  apart = apart_by (null_descriptor_symbol ∷ flat_map symbols_of_shorts (msvc_among (libraries ARM64))) (flat_map (symbols_of_library ARM64) (gnu_among (libraries ARM64))) refl;
-}
+archive_arm64 = archive_by (record { accepted = refl; made = refl; ordinals = refl }, tt) (record { accepted = refl; made = refl; ordinals = refl }, tt) (refl, tt) refl refl refl
 
 takes_arm64 : TakesFor ARM64 (archive_of_both (libraries ARM64)) (unresolved (own ARM64)) (taken ARM64)
-unfolding searched AreTakenInTurn
-takes_arm64 = record {
-  in_turn = (
-    (null_thunk_symbol zed, pulls_in_now _ _ _ _ _ _ refl refl refl refl),
-    (
-      (null_descriptor_symbol, pulls_in_now _ _ _ _ _ _ refl refl refl refl),
-      (
-        (descriptor_symbol zed, pulls_in_now _ _ _ _ _ _ refl refl refl refl),
-        (
-          (queue ARM64, pulls_in_now _ _ _ _ _ _ refl refl refl refl),
-          ((bar ARM64, pulls_in_now _ _ _ _ _ _ refl refl refl refl), tt),
-        ),
-      ),
-    ),
-  );
-  ended = settled_ends ARM64 (archive_of_both (libraries ARM64)) (unresolved (own ARM64)) (taken ARM64) refl;
-}
+unfolding searched AreTakenInTurnAs
+takes_arm64 = takes_by (null_thunk_symbol zed ∷ null_descriptor_symbol ∷ descriptor_symbol zed ∷ queue ARM64 ∷ bar ARM64 ∷ []) refl refl refl
 
 names_arm64 : NamesNoMembers ARM64 (libraries ARM64) (wanted_for ARM64 (own ARM64) (taken ARM64))
 unfolding searched
@@ -181,18 +118,7 @@ claims_arm64 = (claims_none_by (listed_in (taken ARM64) ++ left_in ARM64 (taken 
 closed_arm64 : TakesIntoFor ARM64 (archive_of_both (libraries ARM64)) (own ARM64) (taken ARM64) →
     AreClosedForBoth ARM64 (libraries ARM64) (own ARM64) (taken ARM64) (libraries ARM64) (objects ARM64)
 unfolding searched
-closed_arm64 takes = record {
-  takes = takes;
-  some = omega arith;
-  order = record { moves = []; below = tt; is = refl };
-  others = λ o. (λ held. held, λ held. held);
-  before = [];
-  behind = zed_shorts ARM64;
-  members = refl;
-  tables = refl;
-  claims = claims_arm64;
-  names = names_arm64;
-}
+closed_arm64 takes = closed_by [] (zed_shorts ARM64) takes (omega arith) (record { moves = []; below = tt; is = refl }) refl refl refl claims_arm64 names_arm64
 
 pub crossed_arm64 : WorkedCrossed ARM64 0x25038
 unfolding searched group_end sections_end
@@ -214,37 +140,11 @@ crossed_arm64 = worked ARM64 0x25038 (record {
 
 archive_i386 : IsFlavorArchive I386 (libraries I386)
 unfolding searched
-archive_i386 = record {
-  gnu = record {
-    made = (record { accepted = refl; made = refl; ordinals = refl }, tt);
-    distinct = distinct_by (flat_map (symbols_of_library I386) (gnu_among (libraries I386))) refl;
-  };
-  msvc = record {
-    made = (record { accepted = refl; made = refl; ordinals = refl }, tt);
-    distinct = distinct_by (null_descriptor_symbol ∷ flat_map symbols_of_shorts (msvc_among (libraries I386))) refl;
-    found = (refl, tt);
-  };
-  apart = apart_by (null_descriptor_symbol ∷ flat_map symbols_of_shorts (msvc_among (libraries I386))) (flat_map (symbols_of_library I386) (gnu_among (libraries I386))) refl;
-}
+archive_i386 = archive_by (record { accepted = refl; made = refl; ordinals = refl }, tt) (record { accepted = refl; made = refl; ordinals = refl }, tt) (refl, tt) refl refl refl
 
 takes_i386 : TakesFor I386 (archive_of_both (libraries I386)) (unresolved (own I386)) (taken I386)
-unfolding searched AreTakenInTurn
-takes_i386 = record {
-  in_turn = (
-    (null_thunk_symbol zed, pulls_in_now _ _ _ _ _ _ refl refl refl refl),
-    (
-      (null_descriptor_symbol, pulls_in_now _ _ _ _ _ _ refl refl refl refl),
-      (
-        (descriptor_symbol zed, pulls_in_now _ _ _ _ _ _ refl refl refl refl),
-        (
-          (queue I386, pulls_in_now _ _ _ _ _ _ refl refl refl refl),
-          ((bar I386, pulls_in_now _ _ _ _ _ _ refl refl refl refl), tt),
-        ),
-      ),
-    ),
-  );
-  ended = settled_ends I386 (archive_of_both (libraries I386)) (unresolved (own I386)) (taken I386) refl;
-}
+unfolding searched AreTakenInTurnAs
+takes_i386 = takes_by (null_thunk_symbol zed ∷ null_descriptor_symbol ∷ descriptor_symbol zed ∷ queue I386 ∷ bar I386 ∷ []) refl refl refl
 
 names_i386 : NamesNoMembers I386 (libraries I386) (wanted_for I386 (own I386) (taken I386))
 unfolding searched
@@ -257,18 +157,7 @@ claims_i386 = (claims_none_by (listed_in (taken I386) ++ left_in I386 (taken I38
 closed_i386 : TakesIntoFor I386 (archive_of_both (libraries I386)) (own I386) (taken I386) →
     AreClosedForBoth I386 (libraries I386) (own I386) (taken I386) (libraries I386) (objects I386)
 unfolding searched
-closed_i386 takes = record {
-  takes = takes;
-  some = omega arith;
-  order = record { moves = []; below = tt; is = refl };
-  others = λ o. (λ held. held, λ held. held);
-  before = [];
-  behind = zed_shorts I386;
-  members = refl;
-  tables = refl;
-  claims = claims_i386;
-  names = names_i386;
-}
+closed_i386 takes = closed_by [] (zed_shorts I386) takes (omega arith) (record { moves = []; below = tt; is = refl }) refl refl refl claims_i386 names_i386
 
 pub crossed_i386 : WorkedCrossed I386 0x25030
 unfolding searched group_end sections_end
@@ -290,37 +179,11 @@ crossed_i386 = worked I386 0x25030 (record {
 
 archive_armnt : IsFlavorArchive ARMNT (libraries ARMNT)
 unfolding searched
-archive_armnt = record {
-  gnu = record {
-    made = (record { accepted = refl; made = refl; ordinals = refl }, tt);
-    distinct = distinct_by (flat_map (symbols_of_library ARMNT) (gnu_among (libraries ARMNT))) refl;
-  };
-  msvc = record {
-    made = (record { accepted = refl; made = refl; ordinals = refl }, tt);
-    distinct = distinct_by (null_descriptor_symbol ∷ flat_map symbols_of_shorts (msvc_among (libraries ARMNT))) refl;
-    found = (refl, tt);
-  };
-  apart = apart_by (null_descriptor_symbol ∷ flat_map symbols_of_shorts (msvc_among (libraries ARMNT))) (flat_map (symbols_of_library ARMNT) (gnu_among (libraries ARMNT))) refl;
-}
+archive_armnt = archive_by (record { accepted = refl; made = refl; ordinals = refl }, tt) (record { accepted = refl; made = refl; ordinals = refl }, tt) (refl, tt) refl refl refl
 
 takes_armnt : TakesFor ARMNT (archive_of_both (libraries ARMNT)) (unresolved (own ARMNT)) (taken ARMNT)
-unfolding searched AreTakenInTurn
-takes_armnt = record {
-  in_turn = (
-    (null_thunk_symbol zed, pulls_in_now _ _ _ _ _ _ refl refl refl refl),
-    (
-      (null_descriptor_symbol, pulls_in_now _ _ _ _ _ _ refl refl refl refl),
-      (
-        (descriptor_symbol zed, pulls_in_now _ _ _ _ _ _ refl refl refl refl),
-        (
-          (queue ARMNT, pulls_in_now _ _ _ _ _ _ refl refl refl refl),
-          ((bar ARMNT, pulls_in_now _ _ _ _ _ _ refl refl refl refl), tt),
-        ),
-      ),
-    ),
-  );
-  ended = settled_ends ARMNT (archive_of_both (libraries ARMNT)) (unresolved (own ARMNT)) (taken ARMNT) refl;
-}
+unfolding searched AreTakenInTurnAs
+takes_armnt = takes_by (null_thunk_symbol zed ∷ null_descriptor_symbol ∷ descriptor_symbol zed ∷ queue ARMNT ∷ bar ARMNT ∷ []) refl refl refl
 
 names_armnt : NamesNoMembers ARMNT (libraries ARMNT) (wanted_for ARMNT (own ARMNT) (taken ARMNT))
 unfolding searched
@@ -333,18 +196,7 @@ claims_armnt = (claims_none_by (listed_in (taken ARMNT) ++ left_in ARMNT (taken 
 closed_armnt : TakesIntoFor ARMNT (archive_of_both (libraries ARMNT)) (own ARMNT) (taken ARMNT) →
     AreClosedForBoth ARMNT (libraries ARMNT) (own ARMNT) (taken ARMNT) (libraries ARMNT) (objects ARMNT)
 unfolding searched
-closed_armnt takes = record {
-  takes = takes;
-  some = omega arith;
-  order = record { moves = []; below = tt; is = refl };
-  others = λ o. (λ held. held, λ held. held);
-  before = [];
-  behind = zed_shorts ARMNT;
-  members = refl;
-  tables = refl;
-  claims = claims_armnt;
-  names = names_armnt;
-}
+closed_armnt takes = closed_by [] (zed_shorts ARMNT) takes (omega arith) (record { moves = []; below = tt; is = refl }) refl refl refl claims_armnt names_armnt
 
 pub crossed_armnt : WorkedCrossed ARMNT 0x25030
 unfolding searched group_end sections_end

@@ -16,7 +16,7 @@ use Rattle.implib_link.specs.Search.BothFlavors.{IsFlavorArchive, gnu_among, msv
 use Rattle.implib_link.specs.Search.Given.{AreGiven, symbols_kept, wanted_at_most}
 use Rattle.implib_link.specs.Search.MsvcArchives.{symbols_of_shorts}
 use Rattle.implib_link.specs.Search.NoShorts.{WantsNoShort}
-use Rattle.implib_link.specs.Search.Search.{IsTakenInTurn, Takes, names_undefined}
+use Rattle.implib_link.specs.Search.Search.{Takes, names_undefined, left_as, AreTakenInTurnAs}
 use Rattle.implib_link.proofs.Gnu.Packed.{packed_is_admissible}
 use Rattle.implib_link.proofs.Search.Archives.{inputs_made}
 use Rattle.implib_link.proofs.Search.Closed.{claims_apart, closed_links, takes_into}
@@ -26,9 +26,10 @@ use Rattle.implib_link.proofs.Search.NoShorts.{takes_of_both}
 use Rattle.implib_link_instances.proofs.Worked.BothFlavors.{apart_by}
 use Rattle.implib_link_instances.proofs.Worked.NearSearches.{searched}
 use Rattle.implib_link_instances.proofs.Worked.Programs.{claims_none_by, distinct_by}
-use Rattle.implib_link_instances.proofs.Worked.Search.{pulls_in_now, settled_ends}
+use Rattle.implib_link_instances.proofs.Worked.Search.{takes_by}
 use Rattle.implib_link_instances.proofs.Worked.Searched.{below_limit}
 use Rattle.implib_link_instances.specs.Machines.Closed.{IsLeft, IsPointerAt, WorkedGnu, gnu_bases, gnu_libraries, gnu_objects, gnu_taken, own_on, with_far}
+use Rattle.implib.specs.Formats.Object.{object_in}
 use Rattle.implib_link_instances.specs.Machines.Parts.{bar, baz, choosing_on, foo, queue, zed}
 
 -- what is computed of the program on a machine
@@ -48,10 +49,10 @@ record Computed (machine : MachineType) (baz_at queue_at end_at : ℕ) : Type 0 
   none : WantsNoShort (with_far machine) (own_on machine)
 
 worked : (machine : MachineType) (baz_at queue_at end_at : ℕ) → Computed machine baz_at queue_at end_at → WorkedGnu machine baz_at queue_at end_at
-unfolding names_undefined
+unfolding left_as
 worked machine baz_at queue_at end_at is =
     let listed : List (List ℕ) = listed_in (gnu_taken machine) in
-    let into = takes_into (archive_of (gnu_libraries machine)) (own_on machine) (gnu_taken machine)
+    let into = takes_into object_in (archive_of (gnu_libraries machine)) (own_on machine) (gnu_taken machine)
     (λ name left. claims_apart (listed_in (gnu_taken machine) ++ names_undefined (gnu_taken machine)) (own_on machine) is.claims name (among_back name listed (names_undefined (gnu_taken machine)) left))
     is.takes in
     let closed = given_closes machine (gnu_libraries machine) (own_on machine) (gnu_taken machine) (gnu_libraries machine) (gnu_bases machine) (gnu_objects machine) is.archive is.given into is.linked in
@@ -79,29 +80,8 @@ archive_arm64 = record {
 }
 
 takes_arm64 : Takes (archive_of (gnu_libraries ARM64)) (unresolved (own_on ARM64)) (gnu_taken ARM64)
-unfolding searched IsTakenInTurn
-takes_arm64 = record {
-  in_turn = (
-    (iname_symbol ARM64 foo, pulls_in_now _ _ _ _ _ refl refl refl refl),
-    (
-      (head_symbol ARM64 foo, pulls_in_now _ _ _ _ _ refl refl refl refl),
-      (
-        (baz ARM64, pulls_in_now _ _ _ _ _ refl refl refl refl),
-        (
-          (bar ARM64, pulls_in_now _ _ _ _ _ refl refl refl refl),
-          (
-            (iname_symbol ARM64 zed, pulls_in_now _ _ _ _ _ refl refl refl refl),
-            (
-              (head_symbol ARM64 zed, pulls_in_now _ _ _ _ _ refl refl refl refl),
-              ((imp_symbol (queue ARM64), pulls_in_now _ _ _ _ _ refl refl refl refl), tt),
-            ),
-          ),
-        ),
-      ),
-    ),
-  );
-  ended = settled_ends (archive_of (gnu_libraries ARM64)) (unresolved (own_on ARM64)) (gnu_taken ARM64) refl;
-}
+unfolding searched AreTakenInTurnAs
+takes_arm64 = takes_by (iname_symbol ARM64 foo ∷ head_symbol ARM64 foo ∷ baz ARM64 ∷ bar ARM64 ∷ iname_symbol ARM64 zed ∷ head_symbol ARM64 zed ∷ imp_symbol (queue ARM64) ∷ []) refl refl refl
 
 linked_arm64 : AreLinkedFor ARM64 (gnu_libraries ARM64) (own_on ARM64) (gnu_taken ARM64) (gnu_libraries ARM64) (gnu_bases ARM64) (gnu_objects ARM64)
 unfolding searched group_end sections_end
@@ -150,29 +130,8 @@ archive_i386 = record {
 }
 
 takes_i386 : Takes (archive_of (gnu_libraries I386)) (unresolved (own_on I386)) (gnu_taken I386)
-unfolding searched IsTakenInTurn
-takes_i386 = record {
-  in_turn = (
-    (iname_symbol I386 foo, pulls_in_now _ _ _ _ _ refl refl refl refl),
-    (
-      (head_symbol I386 foo, pulls_in_now _ _ _ _ _ refl refl refl refl),
-      (
-        (baz I386, pulls_in_now _ _ _ _ _ refl refl refl refl),
-        (
-          (bar I386, pulls_in_now _ _ _ _ _ refl refl refl refl),
-          (
-            (iname_symbol I386 zed, pulls_in_now _ _ _ _ _ refl refl refl refl),
-            (
-              (head_symbol I386 zed, pulls_in_now _ _ _ _ _ refl refl refl refl),
-              ((imp_symbol (queue I386), pulls_in_now _ _ _ _ _ refl refl refl refl), tt),
-            ),
-          ),
-        ),
-      ),
-    ),
-  );
-  ended = settled_ends (archive_of (gnu_libraries I386)) (unresolved (own_on I386)) (gnu_taken I386) refl;
-}
+unfolding searched AreTakenInTurnAs
+takes_i386 = takes_by (iname_symbol I386 foo ∷ head_symbol I386 foo ∷ baz I386 ∷ bar I386 ∷ iname_symbol I386 zed ∷ head_symbol I386 zed ∷ imp_symbol (queue I386) ∷ []) refl refl refl
 
 linked_i386 : AreLinkedFor I386 (gnu_libraries I386) (own_on I386) (gnu_taken I386) (gnu_libraries I386) (gnu_bases I386) (gnu_objects I386)
 unfolding searched group_end sections_end
@@ -221,29 +180,8 @@ archive_armnt = record {
 }
 
 takes_armnt : Takes (archive_of (gnu_libraries ARMNT)) (unresolved (own_on ARMNT)) (gnu_taken ARMNT)
-unfolding searched IsTakenInTurn
-takes_armnt = record {
-  in_turn = (
-    (iname_symbol ARMNT foo, pulls_in_now _ _ _ _ _ refl refl refl refl),
-    (
-      (head_symbol ARMNT foo, pulls_in_now _ _ _ _ _ refl refl refl refl),
-      (
-        (baz ARMNT, pulls_in_now _ _ _ _ _ refl refl refl refl),
-        (
-          (bar ARMNT, pulls_in_now _ _ _ _ _ refl refl refl refl),
-          (
-            (iname_symbol ARMNT zed, pulls_in_now _ _ _ _ _ refl refl refl refl),
-            (
-              (head_symbol ARMNT zed, pulls_in_now _ _ _ _ _ refl refl refl refl),
-              ((imp_symbol (queue ARMNT), pulls_in_now _ _ _ _ _ refl refl refl refl), tt),
-            ),
-          ),
-        ),
-      ),
-    ),
-  );
-  ended = settled_ends (archive_of (gnu_libraries ARMNT)) (unresolved (own_on ARMNT)) (gnu_taken ARMNT) refl;
-}
+unfolding searched AreTakenInTurnAs
+takes_armnt = takes_by (iname_symbol ARMNT foo ∷ head_symbol ARMNT foo ∷ baz ARMNT ∷ bar ARMNT ∷ iname_symbol ARMNT zed ∷ head_symbol ARMNT zed ∷ imp_symbol (queue ARMNT) ∷ []) refl refl refl
 
 linked_armnt : AreLinkedFor ARMNT (gnu_libraries ARMNT) (own_on ARMNT) (gnu_taken ARMNT) (gnu_libraries ARMNT) (gnu_bases ARMNT) (gnu_objects ARMNT)
 unfolding searched group_end sections_end

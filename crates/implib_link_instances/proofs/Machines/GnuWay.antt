@@ -28,7 +28,7 @@ use Rattle.implib_link.specs.Gnu.Reading.{ReadsAndWrites}
 use Rattle.implib_link.specs.Search.Archives.{IsArchive, archive_of, symbols_of_library}
 use Rattle.implib_link.specs.Search.Closed.{AreLinkedFor, inputs_in, listed_in, unresolved, wanted_in}
 use Rattle.implib_link.specs.Search.Given.{AreGiven, symbols_kept}
-use Rattle.implib_link.specs.Search.Search.{IsTakenInTurn, Takes, names_undefined}
+use Rattle.implib_link.specs.Search.Search.{Takes, names_undefined, left_as, AreTakenInTurnAs}
 use Rattle.implib_link.specs.Stub.{CanJump}
 use Rattle.implib_link_instances.specs.Worked.Calls.{calling_code, given_on}
 use Rattle.implib_link.proofs.Gnu.Choices.{found, found_in}
@@ -40,12 +40,13 @@ use Rattle.implib_link_instances.proofs.Worked.Calls.{wide}
 use Rattle.implib_link_instances.proofs.Worked.Choices.{once_by}
 use Rattle.implib_link_instances.proofs.Worked.NearSearches.{searched}
 use Rattle.implib_link_instances.proofs.Worked.Programs.{claims_none_by, distinct_by}
-use Rattle.implib_link_instances.proofs.Worked.Search.{pulls_in_now, settled_ends}
+use Rattle.implib_link_instances.proofs.Worked.Search.{takes_by}
 use Rattle.implib_link_instances.proofs.Worked.Searched.{below_limit}
 use Rattle.implib_link_instances.specs.Machines.Closed.{IsPointerAt}
 use Rattle.implib_link_instances.specs.Machines.GnuWay.{Arrives, WorkedGnuWay, bases, both, foo_library, objects, taken, zed_library}
 use Rattle.implib_link_instances.specs.Machines.Parts.{bar, foo, queue, zed}
 use Rattle.implib_link_instances.specs.Machines.Way.{calls_bar, calls_queue, code_at, own, placed}
+use Rattle.implib.specs.Formats.Object.{object_in}
 use Rattle.implib_link_instances.proofs.Machines.Way.{linked_code, bar_called_arm64, bar_called_i386, queue_called_arm64, queue_called_i386, small_arm64, small_i386}
 
 abbrev bar_input : MachineType → LinkInput
@@ -77,9 +78,9 @@ record Computed (machine : MachineType) (image_base first bar_at queue_at : ℕ)
 
 worked : (machine : MachineType) (image_base first bar_at queue_at : ℕ) (bar_given queue_given : List ℕ) → Computed machine image_base first bar_at queue_at bar_given queue_given →
     WorkedGnuWay machine image_base first bar_at queue_at bar_given queue_given
-unfolding names_undefined
+unfolding left_as
 worked machine image_base first bar_at queue_at bar_given queue_given is =
-    let into = takes_into (archive_of (both machine)) (own machine) (taken machine)
+    let into = takes_into object_in (archive_of (both machine)) (own machine) (taken machine)
     (λ name left. claims_apart (listed_in (taken machine) ++ names_undefined (taken machine)) (own machine) is.claims name (among_back name (listed_in (taken machine)) (names_undefined (taken machine)) left))
     is.takes in
     let arrive = calls_arrive machine (both machine) (own machine) (taken machine) (both machine) (bases machine first) (objects machine) is.archive is.given into is.linked in
@@ -115,26 +116,8 @@ given_arm64 = record {
 }
 
 takes_arm64 : Takes (archive_of (both ARM64)) (unresolved (own ARM64)) (taken ARM64)
-unfolding searched IsTakenInTurn
-takes_arm64 = record {
-  in_turn = (
-    (iname_symbol ARM64 zed, pulls_in_now _ _ _ _ _ refl refl refl refl),
-    (
-      (head_symbol ARM64 zed, pulls_in_now _ _ _ _ _ refl refl refl refl),
-      (
-        (imp_symbol (queue ARM64), pulls_in_now _ _ _ _ _ refl refl refl refl),
-        (
-          (iname_symbol ARM64 foo, pulls_in_now _ _ _ _ _ refl refl refl refl),
-          (
-            (head_symbol ARM64 foo, pulls_in_now _ _ _ _ _ refl refl refl refl),
-            ((imp_symbol (bar ARM64), pulls_in_now _ _ _ _ _ refl refl refl refl), tt),
-          ),
-        ),
-      ),
-    ),
-  );
-  ended = settled_ends (archive_of (both ARM64)) (unresolved (own ARM64)) (taken ARM64) refl;
-}
+unfolding searched AreTakenInTurnAs
+takes_arm64 = takes_by (iname_symbol ARM64 zed ∷ head_symbol ARM64 zed ∷ imp_symbol (queue ARM64) ∷ iname_symbol ARM64 foo ∷ head_symbol ARM64 foo ∷ imp_symbol (bar ARM64) ∷ []) refl refl refl
 
 claims_arm64 : AllByRecursion (ClaimsNone (listed_in (taken ARM64) ++ names_undefined (taken ARM64))) (own ARM64)
 unfolding searched
@@ -227,26 +210,8 @@ given_i386 = record {
 }
 
 takes_i386 : Takes (archive_of (both I386)) (unresolved (own I386)) (taken I386)
-unfolding searched IsTakenInTurn
-takes_i386 = record {
-  in_turn = (
-    (iname_symbol I386 zed, pulls_in_now _ _ _ _ _ refl refl refl refl),
-    (
-      (head_symbol I386 zed, pulls_in_now _ _ _ _ _ refl refl refl refl),
-      (
-        (imp_symbol (queue I386), pulls_in_now _ _ _ _ _ refl refl refl refl),
-        (
-          (iname_symbol I386 foo, pulls_in_now _ _ _ _ _ refl refl refl refl),
-          (
-            (head_symbol I386 foo, pulls_in_now _ _ _ _ _ refl refl refl refl),
-            ((imp_symbol (bar I386), pulls_in_now _ _ _ _ _ refl refl refl refl), tt),
-          ),
-        ),
-      ),
-    ),
-  );
-  ended = settled_ends (archive_of (both I386)) (unresolved (own I386)) (taken I386) refl;
-}
+unfolding searched AreTakenInTurnAs
+takes_i386 = takes_by (iname_symbol I386 zed ∷ head_symbol I386 zed ∷ imp_symbol (queue I386) ∷ iname_symbol I386 foo ∷ head_symbol I386 foo ∷ imp_symbol (bar I386) ∷ []) refl refl refl
 
 claims_i386 : AllByRecursion (ClaimsNone (listed_in (taken I386) ++ names_undefined (taken I386))) (own I386)
 unfolding searched

@@ -30,9 +30,10 @@ use Rattle.implib_link.proofs.Search.Lists.{contains_among}
 use Rattle.implib_link_instances.proofs.Worked.Calls.{wide}
 use Rattle.implib_link_instances.proofs.Worked.Lld.{lld_opened}
 use Rattle.implib_link_instances.proofs.Worked.LldPrograms.{worked_lld_programs}
-use Rattle.implib_link_instances.proofs.Worked.MsvcSearch.{pulls_in_now}
 use Rattle.implib_link_instances.proofs.Worked.NearSearches.{searched}
 use Rattle.implib_link_instances.proofs.Worked.Programs.{distinct_by}
+use Rattle.implib_link_instances.proofs.Worked.Search.{pulls_in_now}
+use Rattle.implib_link.specs.Flavors.Expansion.{expanded_in}
 use Rattle.implib_link_instances.specs.Machines.LldWay.{WorkedLldWay, alpha_library, beta_library, both, gee, is_live, mid, own, short_member, taken, zeta}
 
 -- what the program names
@@ -115,9 +116,9 @@ takes_arm64 =
     let zeta_member : MemberView = short_member ARM64 (codes "beta.dll") (zeta ARM64) in
     let gee_member : MemberView = short_member ARM64 (codes "alpha.dll") (gee ARM64) in
     let mid_member : MemberView = short_member ARM64 (codes "beta.dll") (mid ARM64) in
-    let first = pulls_in_now ARM64 (archive_of (both ARM64)) (unresolved (own ARM64)) [] (imp_symbol (symbol_on ARM64 (codes "zeta"))) zeta_member refl refl refl refl in
-    let second = pulls_in_now ARM64 (archive_of (both ARM64)) (unresolved (own ARM64)) (zeta_member ∷ []) (imp_symbol (symbol_on ARM64 (codes "gee"))) gee_member refl refl refl refl in
-    let third = pulls_in_now ARM64 (archive_of (both ARM64)) (unresolved (own ARM64)) (gee_member ∷ zeta_member ∷ []) (symbol_on ARM64 (codes "mid")) mid_member refl refl refl refl in
+    let first = pulls_in_now (expanded_in ARM64) (archive_of (both ARM64)) (unresolved (own ARM64)) [] (imp_symbol (symbol_on ARM64 (codes "zeta"))) zeta_member refl refl refl refl in
+    let second = pulls_in_now (expanded_in ARM64) (archive_of (both ARM64)) (unresolved (own ARM64)) (zeta_member ∷ []) (imp_symbol (symbol_on ARM64 (codes "gee"))) gee_member refl refl refl refl in
+    let third = pulls_in_now (expanded_in ARM64) (archive_of (both ARM64)) (unresolved (own ARM64)) (gee_member ∷ zeta_member ∷ []) (symbol_on ARM64 (codes "mid")) mid_member refl refl refl refl in
     record {
       in_turn = (
         (symbol_on ARM64 (codes "mid"), record { asked = ((2, omega arith, refl), refl); listed = third.listed; new = third.new }),
@@ -236,9 +237,9 @@ takes_i386 =
     let zeta_member : MemberView = short_member I386 (codes "beta.dll") (zeta I386) in
     let gee_member : MemberView = short_member I386 (codes "alpha.dll") (gee I386) in
     let mid_member : MemberView = short_member I386 (codes "beta.dll") (mid I386) in
-    let first = pulls_in_now I386 (archive_of (both I386)) (unresolved (own I386)) [] (imp_symbol (symbol_on I386 (codes "zeta"))) zeta_member refl refl refl refl in
-    let second = pulls_in_now I386 (archive_of (both I386)) (unresolved (own I386)) (zeta_member ∷ []) (imp_symbol (symbol_on I386 (codes "gee"))) gee_member refl refl refl refl in
-    let third = pulls_in_now I386 (archive_of (both I386)) (unresolved (own I386)) (gee_member ∷ zeta_member ∷ []) (symbol_on I386 (codes "mid")) mid_member refl refl refl refl in
+    let first = pulls_in_now (expanded_in I386) (archive_of (both I386)) (unresolved (own I386)) [] (imp_symbol (symbol_on I386 (codes "zeta"))) zeta_member refl refl refl refl in
+    let second = pulls_in_now (expanded_in I386) (archive_of (both I386)) (unresolved (own I386)) (zeta_member ∷ []) (imp_symbol (symbol_on I386 (codes "gee"))) gee_member refl refl refl refl in
+    let third = pulls_in_now (expanded_in I386) (archive_of (both I386)) (unresolved (own I386)) (gee_member ∷ zeta_member ∷ []) (symbol_on I386 (codes "mid")) mid_member refl refl refl refl in
     record {
       in_turn = (
         (symbol_on I386 (codes "mid"), record { asked = ((2, omega arith, refl), refl); listed = third.listed; new = third.new }),

@@ -1,6 +1,6 @@
 -- The closed programs of libraries of both flavours, by computing and by the laws.
 use Rattle.std.proofs.Common.{◌≡◌, ℕ, ◌^◌, ◌<◌, [], ◌∷◌, ◌++◌, refl, subst, arith}
-use Rattle.std.specs.List.{AllByRecursion, flat_map}
+use Rattle.std.specs.List.{AllByRecursion}
 use Rattle.implib.specs.declared.machine.MachineType.{MachineType}
 use Rattle.implib.specs.declared.machine.MachineType.TheVariants.{ARM64, ARMNT, I386}
 use Rattle.implib.specs.Import.{imp_symbol}
@@ -11,25 +11,25 @@ use Rattle.implib.specs.Members.MsvcObjects.{descriptor_symbol, null_descriptor_
 use Rattle.implib.proofs.Link.Ranges.{among_back}
 use Rattle.implib_link.specs.Gnu.Packed.{group_end, packed_end, sections_end}
 use Rattle.implib_link.specs.Gnu.Program.{ClaimsNone}
-use Rattle.implib_link.specs.Search.Archives.{symbols_of_library}
-use Rattle.implib_link.specs.Search.BothFlavors.{AreClosedForBoth, AreGivenForBoth, IsFlavorArchive, NamesNoMembers, archive_of_both, gnu_among, kept_of_both, msvc_among}
+use Rattle.implib_link.specs.Search.BothFlavors.{AreClosedForBoth, AreGivenForBoth, IsFlavorArchive, NamesNoMembers, archive_of_both, kept_of_both}
 use Rattle.implib_link.specs.Search.BothExists.{tables_end_of_both}
 use Rattle.implib_link.specs.Search.Closed.{listed_in, unresolved}
 use Rattle.implib_link.specs.Search.Exists.{LieWithin}
-use Rattle.implib_link.specs.Search.Msvc.{AreTakenInTurn, TakesFor, left_in}
-use Rattle.implib_link.specs.Search.MsvcArchives.{symbols_of_shorts, wanted_with_weak}
+use Rattle.implib_link.specs.Search.Msvc.{TakesFor, left_in}
+use Rattle.implib_link.specs.Search.MsvcArchives.{wanted_with_weak}
 use Rattle.implib_link.specs.Search.MsvcClosed.{TakesIntoFor, wanted_for}
 use Rattle.implib_link.proofs.Search.BothArchives.{both_taken}
 use Rattle.implib_link.proofs.Search.BothClosed.{closed_links_of_both, packed_both}
 use Rattle.implib_link.proofs.Search.BothExists.{placed_within}
-use Rattle.implib_link.proofs.Search.Closed.{claims_apart}
-use Rattle.implib_link.proofs.Search.MsvcClosed.{takes_into}
-use Rattle.implib_link_instances.proofs.Worked.BothFlavors.{apart_by}
-use Rattle.implib_link_instances.proofs.Worked.MsvcSearch.{pulls_in_now, settled_ends}
+use Rattle.implib_link.proofs.Search.Closed.{claims_apart, takes_into}
+use Rattle.implib_link_instances.proofs.Worked.BothFlavors.{archive_by, closed_by}
 use Rattle.implib_link_instances.proofs.Worked.NearSearches.{searched}
-use Rattle.implib_link_instances.proofs.Worked.Programs.{claims_none_by, distinct_by}
+use Rattle.implib_link_instances.proofs.Worked.Programs.{claims_none_by}
 use Rattle.implib_link_instances.proofs.Worked.Searched.{below_limit}
 use Rattle.implib_link_instances.specs.Machines.Closed.{IsLeft, IsPointerAt, WorkedMixed, foo_shorts, mixed_bases, mixed_libraries, mixed_objects, mixed_taken, own_on, zed_first, zed_members}
+use Rattle.implib_link.specs.Search.Search.{left_as, AreTakenInTurnAs}
+use Rattle.implib_link.specs.Flavors.Expansion.{expanded_in}
+use Rattle.implib_link_instances.proofs.Worked.Search.{takes_by}
 use Rattle.implib_link_instances.specs.Machines.Parts.{bar, baz, choosing_on, foo, queue, zed}
 
 -- what is computed of the program on a machine
@@ -49,9 +49,9 @@ record Computed (machine : MachineType) (baz_at queue_at end_at : ℕ) : Type 0 
   below : tables_end_of_both 0x13000 (mixed_libraries machine) < 2 ^ 31
 
 worked : (machine : MachineType) (baz_at queue_at end_at : ℕ) → Computed machine baz_at queue_at end_at → WorkedMixed machine baz_at queue_at end_at
-unfolding left_in
+unfolding left_as
 worked machine baz_at queue_at end_at is =
-    let into = takes_into machine (archive_of_both (mixed_libraries machine)) (own_on machine) (mixed_taken machine)
+    let into = takes_into (expanded_in machine) (archive_of_both (mixed_libraries machine)) (own_on machine) (mixed_taken machine)
     (λ name left. claims_apart (listed_in (mixed_taken machine) ++ left_in machine (mixed_taken machine)) (own_on machine) is.claims name (among_back name (listed_in (mixed_taken machine)) (left_in machine (mixed_taken machine)) left))
     is.takes in
     let closed = packed_both machine (mixed_libraries machine) (own_on machine) (mixed_taken machine) (zed_first machine) 0x13000 (mixed_objects machine) is.archive (is.closed into) (omega arith) is.end in
@@ -72,46 +72,11 @@ worked machine baz_at queue_at end_at is =
 
 archive_arm64 : IsFlavorArchive ARM64 (mixed_libraries ARM64)
 unfolding searched
-archive_arm64 = record {
-  gnu = record {
-    made = (record { accepted = refl; made = refl; ordinals = refl }, tt);
-    distinct = distinct_by (flat_map (symbols_of_library ARM64) (gnu_among (mixed_libraries ARM64))) refl;
-  };
-  msvc = record {
-    made = (record { accepted = refl; made = refl; ordinals = refl }, tt);
-    distinct = distinct_by (null_descriptor_symbol ∷ flat_map symbols_of_shorts (msvc_among (mixed_libraries ARM64))) refl;
-    found = (refl, tt);
-  };
-  apart = apart_by (null_descriptor_symbol ∷ flat_map symbols_of_shorts (msvc_among (mixed_libraries ARM64))) (flat_map (symbols_of_library ARM64) (gnu_among (mixed_libraries ARM64))) refl;
-}
+archive_arm64 = archive_by (record { accepted = refl; made = refl; ordinals = refl }, tt) (record { accepted = refl; made = refl; ordinals = refl }, tt) (refl, tt) refl refl refl
 
 takes_arm64 : TakesFor ARM64 (archive_of_both (mixed_libraries ARM64)) (unresolved (own_on ARM64)) (mixed_taken ARM64)
-unfolding searched AreTakenInTurn
-takes_arm64 = record {
-  in_turn = (
-    (null_descriptor_symbol, pulls_in_now _ _ _ _ _ _ refl refl refl refl),
-    (
-      (null_thunk_symbol foo, pulls_in_now _ _ _ _ _ _ refl refl refl refl),
-      (
-        (descriptor_symbol foo, pulls_in_now _ _ _ _ _ _ refl refl refl refl),
-        (
-          (baz ARM64, pulls_in_now _ _ _ _ _ _ refl refl refl refl),
-          (
-            (bar ARM64, pulls_in_now _ _ _ _ _ _ refl refl refl refl),
-            (
-              (iname_symbol ARM64 zed, pulls_in_now _ _ _ _ _ _ refl refl refl refl),
-              (
-                (head_symbol ARM64 zed, pulls_in_now _ _ _ _ _ _ refl refl refl refl),
-                ((imp_symbol (queue ARM64), pulls_in_now _ _ _ _ _ _ refl refl refl refl), tt),
-              ),
-            ),
-          ),
-        ),
-      ),
-    ),
-  );
-  ended = settled_ends ARM64 (archive_of_both (mixed_libraries ARM64)) (unresolved (own_on ARM64)) (mixed_taken ARM64) refl;
-}
+unfolding searched AreTakenInTurnAs
+takes_arm64 = takes_by (null_descriptor_symbol ∷ null_thunk_symbol foo ∷ descriptor_symbol foo ∷ baz ARM64 ∷ bar ARM64 ∷ iname_symbol ARM64 zed ∷ head_symbol ARM64 zed ∷ imp_symbol (queue ARM64) ∷ []) refl refl refl
 
 names_arm64 : NamesNoMembers ARM64 (mixed_libraries ARM64) (wanted_for ARM64 (own_on ARM64) (mixed_taken ARM64))
 unfolding searched
@@ -124,18 +89,7 @@ claims_arm64 = (claims_none_by (listed_in (mixed_taken ARM64) ++ left_in ARM64 (
 closed_arm64 : TakesIntoFor ARM64 (archive_of_both (mixed_libraries ARM64)) (own_on ARM64) (mixed_taken ARM64) →
     AreClosedForBoth ARM64 (mixed_libraries ARM64) (own_on ARM64) (mixed_taken ARM64) (zed_first ARM64) (mixed_objects ARM64)
 unfolding searched
-closed_arm64 takes = record {
-  takes = takes;
-  some = omega arith;
-  order = record { moves = (0, 1) ∷ []; below = (omega arith, omega arith, tt); is = refl };
-  others = λ o. (λ held. held, λ held. held);
-  before = zed_members ARM64;
-  behind = foo_shorts ARM64;
-  members = refl;
-  tables = refl;
-  claims = claims_arm64;
-  names = names_arm64;
-}
+closed_arm64 takes = closed_by (zed_members ARM64) (foo_shorts ARM64) takes (omega arith) (record { moves = (0, 1) ∷ []; below = (omega arith, omega arith, tt); is = refl }) refl refl refl claims_arm64 names_arm64
 
 pub mixed_arm64 : WorkedMixed ARM64 0x13070 0x13060 0x1318E
 unfolding searched group_end sections_end
@@ -159,46 +113,11 @@ mixed_arm64 = worked ARM64 0x13070 0x13060 0x1318E (record {
 
 archive_i386 : IsFlavorArchive I386 (mixed_libraries I386)
 unfolding searched
-archive_i386 = record {
-  gnu = record {
-    made = (record { accepted = refl; made = refl; ordinals = refl }, tt);
-    distinct = distinct_by (flat_map (symbols_of_library I386) (gnu_among (mixed_libraries I386))) refl;
-  };
-  msvc = record {
-    made = (record { accepted = refl; made = refl; ordinals = refl }, tt);
-    distinct = distinct_by (null_descriptor_symbol ∷ flat_map symbols_of_shorts (msvc_among (mixed_libraries I386))) refl;
-    found = (refl, tt);
-  };
-  apart = apart_by (null_descriptor_symbol ∷ flat_map symbols_of_shorts (msvc_among (mixed_libraries I386))) (flat_map (symbols_of_library I386) (gnu_among (mixed_libraries I386))) refl;
-}
+archive_i386 = archive_by (record { accepted = refl; made = refl; ordinals = refl }, tt) (record { accepted = refl; made = refl; ordinals = refl }, tt) (refl, tt) refl refl refl
 
 takes_i386 : TakesFor I386 (archive_of_both (mixed_libraries I386)) (unresolved (own_on I386)) (mixed_taken I386)
-unfolding searched AreTakenInTurn
-takes_i386 = record {
-  in_turn = (
-    (null_descriptor_symbol, pulls_in_now _ _ _ _ _ _ refl refl refl refl),
-    (
-      (null_thunk_symbol foo, pulls_in_now _ _ _ _ _ _ refl refl refl refl),
-      (
-        (descriptor_symbol foo, pulls_in_now _ _ _ _ _ _ refl refl refl refl),
-        (
-          (baz I386, pulls_in_now _ _ _ _ _ _ refl refl refl refl),
-          (
-            (bar I386, pulls_in_now _ _ _ _ _ _ refl refl refl refl),
-            (
-              (iname_symbol I386 zed, pulls_in_now _ _ _ _ _ _ refl refl refl refl),
-              (
-                (head_symbol I386 zed, pulls_in_now _ _ _ _ _ _ refl refl refl refl),
-                ((imp_symbol (queue I386), pulls_in_now _ _ _ _ _ _ refl refl refl refl), tt),
-              ),
-            ),
-          ),
-        ),
-      ),
-    ),
-  );
-  ended = settled_ends I386 (archive_of_both (mixed_libraries I386)) (unresolved (own_on I386)) (mixed_taken I386) refl;
-}
+unfolding searched AreTakenInTurnAs
+takes_i386 = takes_by (null_descriptor_symbol ∷ null_thunk_symbol foo ∷ descriptor_symbol foo ∷ baz I386 ∷ bar I386 ∷ iname_symbol I386 zed ∷ head_symbol I386 zed ∷ imp_symbol (queue I386) ∷ []) refl refl refl
 
 names_i386 : NamesNoMembers I386 (mixed_libraries I386) (wanted_for I386 (own_on I386) (mixed_taken I386))
 unfolding searched
@@ -211,18 +130,7 @@ claims_i386 = (claims_none_by (listed_in (mixed_taken I386) ++ left_in I386 (mix
 closed_i386 : TakesIntoFor I386 (archive_of_both (mixed_libraries I386)) (own_on I386) (mixed_taken I386) →
     AreClosedForBoth I386 (mixed_libraries I386) (own_on I386) (mixed_taken I386) (zed_first I386) (mixed_objects I386)
 unfolding searched
-closed_i386 takes = record {
-  takes = takes;
-  some = omega arith;
-  order = record { moves = (0, 1) ∷ []; below = (omega arith, omega arith, tt); is = refl };
-  others = λ o. (λ held. held, λ held. held);
-  before = zed_members I386;
-  behind = foo_shorts I386;
-  members = refl;
-  tables = refl;
-  claims = claims_i386;
-  names = names_i386;
-}
+closed_i386 takes = closed_by (zed_members I386) (foo_shorts I386) takes (omega arith) (record { moves = (0, 1) ∷ []; below = (omega arith, omega arith, tt); is = refl }) refl refl refl claims_i386 names_i386
 
 pub mixed_i386 : WorkedMixed I386 0x13058 0x13050 0x13192
 unfolding searched group_end sections_end
@@ -246,46 +154,11 @@ mixed_i386 = worked I386 0x13058 0x13050 0x13192 (record {
 
 archive_armnt : IsFlavorArchive ARMNT (mixed_libraries ARMNT)
 unfolding searched
-archive_armnt = record {
-  gnu = record {
-    made = (record { accepted = refl; made = refl; ordinals = refl }, tt);
-    distinct = distinct_by (flat_map (symbols_of_library ARMNT) (gnu_among (mixed_libraries ARMNT))) refl;
-  };
-  msvc = record {
-    made = (record { accepted = refl; made = refl; ordinals = refl }, tt);
-    distinct = distinct_by (null_descriptor_symbol ∷ flat_map symbols_of_shorts (msvc_among (mixed_libraries ARMNT))) refl;
-    found = (refl, tt);
-  };
-  apart = apart_by (null_descriptor_symbol ∷ flat_map symbols_of_shorts (msvc_among (mixed_libraries ARMNT))) (flat_map (symbols_of_library ARMNT) (gnu_among (mixed_libraries ARMNT))) refl;
-}
+archive_armnt = archive_by (record { accepted = refl; made = refl; ordinals = refl }, tt) (record { accepted = refl; made = refl; ordinals = refl }, tt) (refl, tt) refl refl refl
 
 takes_armnt : TakesFor ARMNT (archive_of_both (mixed_libraries ARMNT)) (unresolved (own_on ARMNT)) (mixed_taken ARMNT)
-unfolding searched AreTakenInTurn
-takes_armnt = record {
-  in_turn = (
-    (null_descriptor_symbol, pulls_in_now _ _ _ _ _ _ refl refl refl refl),
-    (
-      (null_thunk_symbol foo, pulls_in_now _ _ _ _ _ _ refl refl refl refl),
-      (
-        (descriptor_symbol foo, pulls_in_now _ _ _ _ _ _ refl refl refl refl),
-        (
-          (baz ARMNT, pulls_in_now _ _ _ _ _ _ refl refl refl refl),
-          (
-            (bar ARMNT, pulls_in_now _ _ _ _ _ _ refl refl refl refl),
-            (
-              (iname_symbol ARMNT zed, pulls_in_now _ _ _ _ _ _ refl refl refl refl),
-              (
-                (head_symbol ARMNT zed, pulls_in_now _ _ _ _ _ _ refl refl refl refl),
-                ((imp_symbol (queue ARMNT), pulls_in_now _ _ _ _ _ _ refl refl refl refl), tt),
-              ),
-            ),
-          ),
-        ),
-      ),
-    ),
-  );
-  ended = settled_ends ARMNT (archive_of_both (mixed_libraries ARMNT)) (unresolved (own_on ARMNT)) (mixed_taken ARMNT) refl;
-}
+unfolding searched AreTakenInTurnAs
+takes_armnt = takes_by (null_descriptor_symbol ∷ null_thunk_symbol foo ∷ descriptor_symbol foo ∷ baz ARMNT ∷ bar ARMNT ∷ iname_symbol ARMNT zed ∷ head_symbol ARMNT zed ∷ imp_symbol (queue ARMNT) ∷ []) refl refl refl
 
 names_armnt : NamesNoMembers ARMNT (mixed_libraries ARMNT) (wanted_for ARMNT (own_on ARMNT) (mixed_taken ARMNT))
 unfolding searched
@@ -298,18 +171,7 @@ claims_armnt = (claims_none_by (listed_in (mixed_taken ARMNT) ++ left_in ARMNT (
 closed_armnt : TakesIntoFor ARMNT (archive_of_both (mixed_libraries ARMNT)) (own_on ARMNT) (mixed_taken ARMNT) →
     AreClosedForBoth ARMNT (mixed_libraries ARMNT) (own_on ARMNT) (mixed_taken ARMNT) (zed_first ARMNT) (mixed_objects ARMNT)
 unfolding searched
-closed_armnt takes = record {
-  takes = takes;
-  some = omega arith;
-  order = record { moves = (0, 1) ∷ []; below = (omega arith, omega arith, tt); is = refl };
-  others = λ o. (λ held. held, λ held. held);
-  before = zed_members ARMNT;
-  behind = foo_shorts ARMNT;
-  members = refl;
-  tables = refl;
-  claims = claims_armnt;
-  names = names_armnt;
-}
+closed_armnt takes = closed_by (zed_members ARMNT) (foo_shorts ARMNT) takes (omega arith) (record { moves = (0, 1) ∷ []; below = (omega arith, omega arith, tt); is = refl }) refl refl refl claims_armnt names_armnt
 
 pub mixed_armnt : WorkedMixed ARMNT 0x13058 0x13050 0x1318E
 unfolding searched group_end sections_end

@@ -1,11 +1,10 @@
 -- The whole way for libraries of both flavours by hand, by computing and by the laws.
 use Rattle.std.proofs.Common.{◌≡◌, ℕ, ◌^◌, ◌<◌, ◌+◌, List, [], ◌∷◌, ◌++◌, codes, length, map, refl, ap, sym, ◌∙◌, subst, Some, arith}
 use Rattle.std.specs.Prelude.{slice_get}
-use Rattle.std.specs.List.{AllByRecursion, Contains, flat_map}
+use Rattle.std.specs.List.{AllByRecursion, Contains}
 use Rattle.implib.specs.declared.flavor.Flavor.TheVariants.{Gnu, Msvc}
 use Rattle.implib.specs.declared.machine.MachineType.{MachineType}
 use Rattle.implib.specs.declared.machine.MachineType.TheVariants.{ARM64, I386}
-use Rattle.implib.specs.Formats.Constants.{class_external}
 use Rattle.implib.specs.Import.{imp_symbol}
 use Rattle.implib.specs.Link.Image.{Range, image_of}
 use Rattle.implib.specs.Link.Placement.{placed_from}
@@ -30,32 +29,31 @@ use Rattle.implib_link.specs.Gnu.Fields.{AreBeside, LinkedCode, placed_code, ran
 use Rattle.implib_link.specs.Gnu.Packed.{group_end, packed_end, sections_end}
 use Rattle.implib_link.specs.Gnu.Program.{ClaimsNone}
 use Rattle.implib_link.specs.Gnu.Reading.{ReadsAndWrites}
-use Rattle.implib_link.specs.Search.Archives.{symbols_of_library}
-use Rattle.implib_link.specs.Search.BothFlavors.{AreGivenForBoth, IsClosedForBoth, IsFlavorArchive, archive_of_both, gnu_among, kept_of_both, msvc_among}
+use Rattle.implib_link.specs.Search.BothFlavors.{AreGivenForBoth, IsClosedForBoth, IsFlavorArchive, archive_of_both, kept_of_both, msvc_among}
 use Rattle.implib_link.specs.Search.Closed.{listed_in, unresolved}
-use Rattle.implib_link.specs.Search.Msvc.{AreTakenInTurn, TakesFor, left_in}
-use Rattle.implib_link.specs.Search.MsvcArchives.{short_inputs, symbols_of_shorts}
+use Rattle.implib_link.specs.Search.Msvc.{TakesFor, left_in}
+use Rattle.implib_link.specs.Search.MsvcArchives.{short_inputs}
 use Rattle.implib_link.specs.Search.MsvcClosed.{TakesIntoFor}
 use Rattle.implib_link.specs.Stub.{CanJump}
 use Rattle.implib_link_instances.specs.Worked.Calls.{calling_code, first_bytes, given_on, last_bytes}
-use Rattle.implib_link_instances.specs.Worked.Programs.{symbol_of_class}
 use Rattle.implib_link.proofs.Gnu.Choices.{found, found_in}
 use Rattle.implib_link.proofs.Gnu.LinkedCodes.{codes_can_be_linked}
 use Rattle.implib_link.proofs.Gnu.Loaded.{mapped_at}
 use Rattle.implib_link.proofs.Search.BothClosed.{packed_both}
 use Rattle.implib_link.proofs.Search.BothGiven.{both_given_closes}
-use Rattle.implib_link.proofs.Search.Closed.{claims_apart}
+use Rattle.implib_link.proofs.Search.Closed.{claims_apart, takes_into}
 use Rattle.implib_link.proofs.Search.Lists.{among_at}
-use Rattle.implib_link.proofs.Search.MsvcClosed.{takes_into}
-use Rattle.implib_link_instances.proofs.Worked.BothFlavors.{apart_by}
+use Rattle.implib_link_instances.proofs.Worked.BothFlavors.{archive_by}
 use Rattle.implib_link_instances.proofs.Worked.Calls.{wide}
 use Rattle.implib_link_instances.proofs.Worked.Choices.{once_by}
-use Rattle.implib_link_instances.proofs.Worked.MsvcSearch.{pulls_in_now, settled_ends}
 use Rattle.implib_link_instances.proofs.Worked.NearSearches.{searched}
-use Rattle.implib_link_instances.proofs.Worked.Programs.{claims_none_by, distinct_by}
+use Rattle.implib_link_instances.proofs.Worked.Programs.{claims_none_by, instructions_at}
 use Rattle.implib_link_instances.proofs.Worked.Searched.{below_limit}
 use Rattle.implib_link_instances.specs.Machines.Closed.{IsPointerAt}
 use Rattle.implib_link_instances.specs.Machines.Parts.{bar, foo, queue, zed}
+use Rattle.implib_link.specs.Search.Search.{left_as, AreTakenInTurnAs}
+use Rattle.implib_link.specs.Flavors.Expansion.{expanded_in}
+use Rattle.implib_link_instances.proofs.Worked.Search.{takes_by}
 use Rattle.implib_link_instances.specs.Machines.Way.{Arrives, WorkedWay, bar_for_gnu, bases, both, calls_bar, calls_queue, code_at, members, objects, own, placed, queue_for_msvc, taken}
 
 abbrev bar_input : MachineType → FlavorInput
@@ -103,9 +101,9 @@ record Computed (machine : MachineType) (image_base first bar_at queue_at : ℕ)
 
 worked : (machine : MachineType) (image_base first bar_at queue_at : ℕ) (bar_given queue_given : List ℕ) → Computed machine image_base first bar_at queue_at bar_given queue_given →
     WorkedWay machine image_base first bar_at queue_at bar_given queue_given
-unfolding left_in
+unfolding left_as
 worked machine image_base first bar_at queue_at bar_given queue_given is =
-    let into = takes_into machine (archive_of_both (both machine)) (own machine) (taken machine)
+    let into = takes_into (expanded_in machine) (archive_of_both (both machine)) (own machine) (taken machine)
     (λ name left. claims_apart (listed_in (taken machine) ++ left_in machine (taken machine)) (own machine) is.claims name (among_back name (listed_in (taken machine)) (left_in machine (taken machine)) left))
     is.takes in
     let arrive = both_arrive machine (both machine) (own machine) (taken machine) (both machine) (bases machine first) (objects machine) is.archive is.given is.wants into (is.linked into) in
@@ -127,18 +125,7 @@ worked machine image_base first bar_at queue_at bar_given queue_given is =
 
 archive_arm64 : IsFlavorArchive ARM64 (both ARM64)
 unfolding searched
-archive_arm64 = record {
-  gnu = record {
-    made = (record { accepted = refl; made = refl; ordinals = refl }, tt);
-    distinct = distinct_by (flat_map (symbols_of_library ARM64) (gnu_among (both ARM64))) refl;
-  };
-  msvc = record {
-    made = (record { accepted = refl; made = refl; ordinals = refl }, tt);
-    distinct = distinct_by (null_descriptor_symbol ∷ flat_map symbols_of_shorts (msvc_among (both ARM64))) refl;
-    found = (refl, tt);
-  };
-  apart = apart_by (null_descriptor_symbol ∷ flat_map symbols_of_shorts (msvc_among (both ARM64))) (flat_map (symbols_of_library ARM64) (gnu_among (both ARM64))) refl;
-}
+archive_arm64 = archive_by (record { accepted = refl; made = refl; ordinals = refl }, tt) (record { accepted = refl; made = refl; ordinals = refl }, tt) (refl, tt) refl refl refl
 
 ready_arm64 : HaveArchive kind.Gnu First (archive_of_both (both ARM64))
 unfolding searched entries_from entries_of first_linker_size first_place front_size is_long archive_long_names name_end names_bytes names_size offset_of places_from second_linker_size strings_of with_first archive_with_name has_short_places has_too_many member_refusal members_refusal name_refusal places_refusal refusal_of symbol_refusal symbols_refusal
@@ -156,29 +143,8 @@ unfolding searched
 wants_arm64 = omega arith
 
 takes_arm64 : TakesFor ARM64 (archive_of_both (both ARM64)) (unresolved (own ARM64)) (taken ARM64)
-unfolding searched AreTakenInTurn
-takes_arm64 = record {
-  in_turn = (
-    (iname_symbol ARM64 foo, pulls_in_now _ _ _ _ _ _ refl refl refl refl),
-    (
-      (head_symbol ARM64 foo, pulls_in_now _ _ _ _ _ _ refl refl refl refl),
-      (
-        (imp_symbol (bar ARM64), pulls_in_now _ _ _ _ _ _ refl refl refl refl),
-        (
-          (null_descriptor_symbol, pulls_in_now _ _ _ _ _ _ refl refl refl refl),
-          (
-            (null_thunk_symbol zed, pulls_in_now _ _ _ _ _ _ refl refl refl refl),
-            (
-              (descriptor_symbol zed, pulls_in_now _ _ _ _ _ _ refl refl refl refl),
-              ((imp_symbol (queue ARM64), pulls_in_now _ _ _ _ _ _ refl refl refl refl), tt),
-            ),
-          ),
-        ),
-      ),
-    ),
-  );
-  ended = settled_ends ARM64 (archive_of_both (both ARM64)) (unresolved (own ARM64)) (taken ARM64) refl;
-}
+unfolding searched AreTakenInTurnAs
+takes_arm64 = takes_by (iname_symbol ARM64 foo ∷ head_symbol ARM64 foo ∷ imp_symbol (bar ARM64) ∷ null_descriptor_symbol ∷ null_thunk_symbol zed ∷ descriptor_symbol zed ∷ imp_symbol (queue ARM64) ∷ []) refl refl refl
 
 claims_arm64 : AllByRecursion (ClaimsNone (listed_in (taken ARM64) ++ left_in ARM64 (taken ARM64))) (own ARM64)
 unfolding searched
@@ -222,40 +188,10 @@ unfolding searched group_end sections_end found found_in
 once_arm64 = once_by (placed_from (bases ARM64 0x41000) (objects ARM64)) (placed ARM64 0x41000) refl refl
 
 pub bar_called_arm64 : (position : ℕ) → HasCall ARM64 (code_at ARM64 (calls_bar ARM64) position) 4 (imp_symbol (bar ARM64))
-bar_called_arm64 position = record {
-  front = first_bytes ARM64;
-  back = last_bytes ARM64;
-  instructions = refl;
-  here = refl;
-  index = 1;
-  before = [];
-  behind = [];
-  relocated = refl;
-  aside_before = tt;
-  aside_behind = tt;
-  symbol = symbol_of_class (imp_symbol (bar ARM64)) 0 class_external;
-  target = refl;
-  undefined = refl;
-  named = refl;
-}
+bar_called_arm64 position = instructions_at (first_bytes ARM64) (last_bytes ARM64) 1 [] [] tt tt refl refl refl refl
 
 pub queue_called_arm64 : (position : ℕ) → HasCall ARM64 (code_at ARM64 (calls_queue ARM64) position) 4 (imp_symbol (queue ARM64))
-queue_called_arm64 position = record {
-  front = first_bytes ARM64;
-  back = last_bytes ARM64;
-  instructions = refl;
-  here = refl;
-  index = 1;
-  before = [];
-  behind = [];
-  relocated = refl;
-  aside_before = tt;
-  aside_behind = tt;
-  symbol = symbol_of_class (imp_symbol (queue ARM64)) 0 class_external;
-  target = refl;
-  undefined = refl;
-  named = refl;
-}
+queue_called_arm64 position = instructions_at (first_bytes ARM64) (last_bytes ARM64) 1 [] [] tt tt refl refl refl refl
 
 pub small_arm64 : AllByRecursion (λ b. b < 256) (calling_code ARM64).bytes
 small_arm64 = (omega arith, (omega arith, (omega arith, (omega arith, (omega arith, (omega arith, (omega arith, (omega arith, (omega arith, (omega arith, (omega arith, (omega arith, (omega arith, (omega arith, (omega arith, (omega arith, (omega arith, (omega arith, (omega arith, (omega arith, (omega arith, (omega arith, (omega arith, (omega arith, tt))))))))))))))))))))))))
@@ -308,18 +244,7 @@ way_arm64 = worked ARM64 0x1_4000_0000 0x41000 0x41060 0x41070 (0x30 ∷ 0 ∷ 0
 
 archive_i386 : IsFlavorArchive I386 (both I386)
 unfolding searched
-archive_i386 = record {
-  gnu = record {
-    made = (record { accepted = refl; made = refl; ordinals = refl }, tt);
-    distinct = distinct_by (flat_map (symbols_of_library I386) (gnu_among (both I386))) refl;
-  };
-  msvc = record {
-    made = (record { accepted = refl; made = refl; ordinals = refl }, tt);
-    distinct = distinct_by (null_descriptor_symbol ∷ flat_map symbols_of_shorts (msvc_among (both I386))) refl;
-    found = (refl, tt);
-  };
-  apart = apart_by (null_descriptor_symbol ∷ flat_map symbols_of_shorts (msvc_among (both I386))) (flat_map (symbols_of_library I386) (gnu_among (both I386))) refl;
-}
+archive_i386 = archive_by (record { accepted = refl; made = refl; ordinals = refl }, tt) (record { accepted = refl; made = refl; ordinals = refl }, tt) (refl, tt) refl refl refl
 
 ready_i386 : HaveArchive kind.Gnu First (archive_of_both (both I386))
 unfolding searched entries_from entries_of first_linker_size first_place front_size is_long archive_long_names name_end names_bytes names_size offset_of places_from second_linker_size strings_of with_first archive_with_name has_short_places has_too_many member_refusal members_refusal name_refusal places_refusal refusal_of symbol_refusal symbols_refusal
@@ -337,29 +262,8 @@ unfolding searched
 wants_i386 = omega arith
 
 takes_i386 : TakesFor I386 (archive_of_both (both I386)) (unresolved (own I386)) (taken I386)
-unfolding searched AreTakenInTurn
-takes_i386 = record {
-  in_turn = (
-    (iname_symbol I386 foo, pulls_in_now _ _ _ _ _ _ refl refl refl refl),
-    (
-      (head_symbol I386 foo, pulls_in_now _ _ _ _ _ _ refl refl refl refl),
-      (
-        (imp_symbol (bar I386), pulls_in_now _ _ _ _ _ _ refl refl refl refl),
-        (
-          (null_descriptor_symbol, pulls_in_now _ _ _ _ _ _ refl refl refl refl),
-          (
-            (null_thunk_symbol zed, pulls_in_now _ _ _ _ _ _ refl refl refl refl),
-            (
-              (descriptor_symbol zed, pulls_in_now _ _ _ _ _ _ refl refl refl refl),
-              ((imp_symbol (queue I386), pulls_in_now _ _ _ _ _ _ refl refl refl refl), tt),
-            ),
-          ),
-        ),
-      ),
-    ),
-  );
-  ended = settled_ends I386 (archive_of_both (both I386)) (unresolved (own I386)) (taken I386) refl;
-}
+unfolding searched AreTakenInTurnAs
+takes_i386 = takes_by (iname_symbol I386 foo ∷ head_symbol I386 foo ∷ imp_symbol (bar I386) ∷ null_descriptor_symbol ∷ null_thunk_symbol zed ∷ descriptor_symbol zed ∷ imp_symbol (queue I386) ∷ []) refl refl refl
 
 claims_i386 : AllByRecursion (ClaimsNone (listed_in (taken I386) ++ left_in I386 (taken I386))) (own I386)
 unfolding searched
@@ -403,40 +307,10 @@ unfolding searched group_end sections_end found found_in
 once_i386 = once_by (placed_from (bases I386 0x61000) (objects I386)) (placed I386 0x61000) refl refl
 
 pub bar_called_i386 : (position : ℕ) → HasCall I386 (code_at I386 (calls_bar I386) position) 4 (imp_symbol (bar I386))
-bar_called_i386 position = record {
-  front = first_bytes I386;
-  back = last_bytes I386;
-  instructions = refl;
-  here = refl;
-  index = 1;
-  before = [];
-  behind = [];
-  relocated = refl;
-  aside_before = tt;
-  aside_behind = tt;
-  symbol = symbol_of_class (imp_symbol (bar I386)) 0 class_external;
-  target = refl;
-  undefined = refl;
-  named = refl;
-}
+bar_called_i386 position = instructions_at (first_bytes I386) (last_bytes I386) 1 [] [] tt tt refl refl refl refl
 
 pub queue_called_i386 : (position : ℕ) → HasCall I386 (code_at I386 (calls_queue I386) position) 4 (imp_symbol (queue I386))
-queue_called_i386 position = record {
-  front = first_bytes I386;
-  back = last_bytes I386;
-  instructions = refl;
-  here = refl;
-  index = 1;
-  before = [];
-  behind = [];
-  relocated = refl;
-  aside_before = tt;
-  aside_behind = tt;
-  symbol = symbol_of_class (imp_symbol (queue I386)) 0 class_external;
-  target = refl;
-  undefined = refl;
-  named = refl;
-}
+queue_called_i386 position = instructions_at (first_bytes I386) (last_bytes I386) 1 [] [] tt tt refl refl refl refl
 
 pub small_i386 : AllByRecursion (λ b. b < 256) (calling_code I386).bytes
 small_i386 = (omega arith, (omega arith, (omega arith, (omega arith, (omega arith, (omega arith, (omega arith, (omega arith, (omega arith, (omega arith, (omega arith, tt)))))))))))

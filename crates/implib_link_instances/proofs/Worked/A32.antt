@@ -12,15 +12,15 @@ use Rattle.implib.specs.Members.Members.{refusal, renamed_refusal}
 use Rattle.implib.specs.Members.WeakExternal.{weak_object}
 use Rattle.implib.specs.Worked.Statements.{plain_export}
 use Rattle.implib.proofs.Link.Loading.{number_once}
-use Rattle.implib.proofs.Link.Ranges.{Among, apart_as_they_rise, ends_below}
+use Rattle.implib.proofs.Link.Ranges.{Among, apart_as_they_rise}
 use Rattle.implib_link.specs.Gnu.A32.{A32JumpReads, HoldDistances, distance_from}
 use Rattle.implib_link.specs.Gnu.Fields.{AreBeside, DefinesIn, LinkedCode, field_at, placed_code}
-use Rattle.implib_link.specs.Gnu.Program.{IsProgram, has_tables, linked_symbols}
+use Rattle.implib_link.specs.Gnu.Program.{IsProgram, has_tables}
 use Rattle.implib_link.specs.Stub.{with_bits}
 use Rattle.implib_link_instances.specs.Worked.A32.{NearA32JumpReads, WorkedArmntStub, WorkedArmntStubs, a32_code, armnt_memory, armnt_stub, armnt_targets, entry_address, two_loads}
 use Rattle.implib_link_instances.specs.Worked.Jumps.{far_4}
 use Rattle.implib_link_instances.specs.Worked.Loads.{gives_by_hand}
-use Rattle.implib_link_instances.specs.Worked.Programs.{another, both_inputs, caller, foo_input, program_image, program_objects, program_placed, symbol_of_class, symbol_on, touching_4}
+use Rattle.implib_link_instances.specs.Worked.Programs.{both_inputs, foo_input, program_image, program_objects, program_placed, symbol_of_class, symbol_on, touching_4}
 use Rattle.implib_link_instances.specs.Worked.Relocated.{as_placed}
 use Rattle.implib_link.proofs.Gnu.A32.{armnt_misses, armnt_reads, jumps_once}
 use Rattle.implib_link.proofs.Gnu.Fields.{alone_among}
@@ -28,7 +28,7 @@ use Rattle.implib_link.proofs.Gnu.LinkedCodes.{takes_from}
 use Rattle.implib_link.proofs.Search.Lists.{contains_among}
 use Rattle.implib_link_instances.proofs.Worked.LinkedCode.{relocated_by, relocated_test}
 use Rattle.implib_link_instances.proofs.Worked.Loads.{armnt_given}
-use Rattle.implib_link_instances.proofs.Worked.Programs.{claims_none_by, distinct_by, opened, worked_programs}
+use Rattle.implib_link_instances.proofs.Worked.Programs.{opened, worked_programs, admissible_by, program_by}
 use Rattle.implib_link.proofs.Gnu.Memory.{byte_first}
 use Rattle.implib_link_instances.proofs.Worked.Instances.{put_last}
 use Rattle.implib_link_instances.proofs.Worked.Rebased.{resolves_by_tables}
@@ -38,21 +38,7 @@ use Rattle.implib_link_instances.proofs.Worked.RefusedLinks.{are_located, differ
 
 far_program : IsProgram ARMNT far_4 (both_inputs ARMNT) (program_objects ARMNT)
 unfolding opened refusal renamed_refusal alias_specs encoded_size weak_object has_tables
-far_program = record {
-  distinct = distinct_by (linked_symbols ARMNT (both_inputs ARMNT)) refl;
-  tables = refl;
-  others = (claims_none_by (linked_symbols ARMNT (both_inputs ARMNT)) (caller ARMNT) refl, (claims_none_by (linked_symbols ARMNT (both_inputs ARMNT)) (another ARMNT) refl, tt));
-  admissible = record {
-    descriptors = (omega arith, refl);
-    directory_ends = (omega arith, refl);
-    lookups = (omega arith, refl);
-    addresses = (omega arith, refl);
-    hint_names = (omega arith, refl);
-    dll_names = (omega arith, refl);
-    ends = ends_below (2 ^ 31) (program_image ARMNT far_4) refl;
-    apart = apart_as_they_rise (2 ^ 31) (program_image ARMNT far_4) refl;
-  };
-}
+far_program = program_by refl refl refl (admissible_by refl refl)
 
 only_code : (c x : LinkedCode) → Among c (x ∷ []) → c ≡ x
 unfolding Among

@@ -20,7 +20,7 @@ use Rattle.implib.specs.Members.Members.{refusal, renamed_refusal}
 use Rattle.implib.specs.Members.MsvcMembers.{descriptor_spec, header_specs, null_descriptor_spec, null_thunk_spec, weak_specs}
 use Rattle.implib.specs.Members.MsvcObjects.{base_name, descriptor, descriptor_symbol, null_descriptor, null_descriptor_symbol, null_thunk, null_thunk_symbol}
 use Rattle.implib.specs.Members.WeakExternal.{weak_object}
-use Rattle.implib.proofs.Link.Ranges.{apart_as_they_rise, ends_below}
+use Rattle.implib.proofs.Link.Ranges.{apart_as_they_rise}
 use Rattle.implib_link.specs.Flavors.Expansion.{descriptor_symbol_by_name, expanded_in, import_object}
 use Rattle.implib_link.specs.Flavors.Program.{IsFlavorProgram, all_members, symbols_listed}
 use Rattle.implib_link.specs.Flavors.SectionSymbols.{with_section_symbols}
@@ -32,15 +32,16 @@ use Rattle.implib_link.specs.Gnu.Program.{IsProgram, has_tables, linked_symbols}
 use Rattle.implib_link_instances.specs.Worked.Aliases.{WorkedAlias, WorkedFlavorAlias, alias_at, alias_calling, alias_codes, alias_flavors, alias_load_at, alias_loading, alias_objects, alias_placed, all_at, opened_flavors, opened_name, opened_placed, OverriddenAlias, overridden_code, overridden_placed}
 use Rattle.implib_link_instances.specs.Worked.Calls.{first_bytes, last_bytes}
 use Rattle.implib_link_instances.specs.Worked.Flavors.{both_inputs as flavor_inputs, flavor_bases_8, foo_input as msvc_input}
-use Rattle.implib_link_instances.specs.Worked.Programs.{another, both_inputs, symbol_of_class, touching_8}
+use Rattle.implib_link_instances.specs.Worked.Programs.{both_inputs, symbol_of_class, touching_8}
 use Rattle.implib_link.proofs.Gnu.Aliases.{weak_is_weak}
 use Rattle.implib_link.proofs.Search.Lists.{among_at, contains_among}
 use Rattle.implib_link_instances.proofs.Worked.Calls.{is_none, one_of, second_at}
 use Rattle.implib_link.proofs.Search.Lists.{each_of}
-use Rattle.implib_link_instances.proofs.Worked.Programs.{claims_none_by, distinct_by, opened}
+use Rattle.implib_link_instances.proofs.Worked.Programs.{claims_none_by, distinct_by, opened, admissible_by, instructions_at}
 use Rattle.implib_link_instances.proofs.Worked.Rebased.{all_unwanted, none_wanted}
 use Rattle.implib_link_instances.specs.Worked.Relocated.{CodesBeside, code_ranges, linked_codes, as_placed, linked_by}
 use Rattle.implib_link_instances.proofs.Worked.Relocated.{beside_by, codes_tested}
+use Rattle.implib_link_instances.proofs.Worked.Flavors.{flavor_objects_by}
 use Rattle.implib_link_instances.proofs.Worked.LinkedCode.{relocated_test}
 
 program : IsProgram AMD64 touching_8 (both_inputs AMD64) alias_objects
@@ -55,16 +56,7 @@ program = record {
       (claims_none_by (linked_symbols AMD64 (both_inputs AMD64)) (object_of (weak_object AMD64 opened_name (imp_symbol (codes "open")))) refl, tt),
     ),
   );
-  admissible = record {
-    descriptors = (omega arith, refl);
-    directory_ends = (omega arith, refl);
-    lookups = (omega arith, refl);
-    addresses = (omega arith, refl);
-    hint_names = (omega arith, refl);
-    dll_names = (omega arith, refl);
-    ends = ends_below (2 ^ 31) (image_of AMD64 touching_8 alias_placed) refl;
-    apart = apart_as_they_rise (2 ^ 31) (image_of AMD64 touching_8 alias_placed) refl;
-  };
+  admissible = admissible_by refl refl;
 }
 
 -- Code of which no entry is in the tables, and whose symbols no placed code defines: its symbols may be taken to be anywhere.
@@ -129,40 +121,10 @@ unfolding opened alias_specs encoded_size weak_object has_tables object_of entri
 resolves = aliases_at alias_placed (linked_codes AMD64 0x1_4000_0000 (all_at 0x80) alias_codes) 0x80 refl
 
 has : HasCall AMD64 alias_at 4 opened_name
-has = record {
-  front = first_bytes AMD64;
-  back = last_bytes AMD64;
-  instructions = refl;
-  here = refl;
-  index = 1;
-  before = [];
-  behind = [];
-  relocated = refl;
-  aside_before = tt;
-  aside_behind = tt;
-  symbol = symbol_of_class opened_name 0 class_external;
-  target = refl;
-  undefined = refl;
-  named = refl;
-}
+has = instructions_at (first_bytes AMD64) (last_bytes AMD64) 1 [] [] tt tt refl refl refl refl
 
 loads : HasLoad AMD64 alias_load_at 4 opened_name
-loads = record {
-  front = first_bytes AMD64;
-  back = last_bytes AMD64;
-  instructions = refl;
-  here = refl;
-  index = 1;
-  before = [];
-  behind = [];
-  relocated = refl;
-  aside_before = tt;
-  aside_behind = tt;
-  symbol = symbol_of_class opened_name 0 class_external;
-  target = refl;
-  undefined = refl;
-  named = refl;
-}
+loads = instructions_at (first_bytes AMD64) (last_bytes AMD64) 1 [] [] tt tt refl refl refl refl
 
 undefined : definitions_of opened_name alias_placed ≡ []
 unfolding opened alias_specs encoded_size weak_object has_tables object_of entries_of name_text u32_bytes
@@ -192,34 +154,8 @@ unfolding opened refusal renamed_refusal alias_specs encoded_size weak_object ha
 flavors_program =
     let symbols : List (List ℕ) = null_descriptor_symbol ∷ symbols_listed (all_members AMD64 (flavor_inputs AMD64)) in
     record {
-      held = record {
-        distinct = distinct_by symbols refl;
-        null_from = msvc_input AMD64;
-        null_held = (0, omega arith, refl);
-        null_flavor = refl;
-        before = take 0 (all_members AMD64 (flavor_inputs AMD64));
-        behind = drop 0 (all_members AMD64 (flavor_inputs AMD64));
-        members = refl;
-        tables = refl;
-        others = (
-          claims_none_by symbols alias_calling refl,
-          (
-            claims_none_by symbols alias_loading refl,
-            (claims_none_by symbols (object_of (weak_object AMD64 opened_name (imp_symbol (codes "open")))) refl, (claims_none_by symbols (another AMD64) refl, tt)),
-          ),
-        );
-        found = (refl, (tt, tt));
-      };
-      admissible = record {
-        descriptors = (omega arith, refl);
-        directory_ends = (omega arith, refl);
-        lookups = (omega arith, refl);
-        addresses = (omega arith, refl);
-        hint_names = (omega arith, refl);
-        dll_names = (omega arith, refl);
-        ends = ends_below (2 ^ 31) (image_of AMD64 flavor_bases_8 opened_placed) refl;
-        apart = apart_as_they_rise (2 ^ 31) (image_of AMD64 flavor_bases_8 opened_placed) refl;
-      };
+      held = flavor_objects_by (msvc_input AMD64) (take 0 (all_members AMD64 (flavor_inputs AMD64))) (drop 0 (all_members AMD64 (flavor_inputs AMD64))) (0, omega arith, refl) (refl, (tt, tt)) refl refl refl refl refl;
+      admissible = admissible_by refl refl;
       lookups = refl;
       addresses = refl;
       follows = refl;

@@ -10,9 +10,9 @@ use Rattle.implib.specs.Members.Members.{refusal, renamed_refusal}
 use Rattle.implib.specs.Members.MemberSpec.{MemberView, member_of}
 use Rattle.implib.specs.Worked.Statements.{plain_export}
 use Rattle.implib_link.specs.Search.Archives.{archive_of, is_weak, symbols_of_library}
-use Rattle.implib_link.specs.Search.Search.{IsTakenInTurn, Takes, undefined_in, names_claimed, names_undefined}
+use Rattle.implib_link.specs.Search.Search.{Takes, undefined_in, left_as, claimed_as, AreTakenInTurnAs}
 use Rattle.implib_link_instances.specs.Worked.Archives.{WorkedArchives, both_wanted, two_libraries}
-use Rattle.implib_link_instances.proofs.Worked.Search.{pulls_in_now, opened, settled_ends}
+use Rattle.implib_link_instances.proofs.Worked.Search.{opened, takes_by}
 use Rattle.implib.specs.LibraryName.{own_names}
 
 abbrev pub foo_weak : MemberView
@@ -40,32 +40,11 @@ abbrev archive : List MemberView
 archive = archive_of two_libraries
 
 pub both_takes : Takes (archive_of two_libraries) both_wanted both_taken
-unfolding opened alias_specs encoded_size names_undefined names_claimed undefined_in IsTakenInTurn weak_object archive_of
-both_takes = record {
-  in_turn = (
-    (codes "zed_dll_iname", pulls_in_now archive both_wanted (head_named (codes "zed.dll") ∷ zed_queue ∷ foo_taken) (codes "zed_dll_iname") (tail_named (codes "zed.dll")) refl refl refl refl),
-    (
-      (codes "_head_zed_dll", pulls_in_now archive both_wanted (zed_queue ∷ foo_taken) (codes "_head_zed_dll") (head_named (codes "zed.dll")) refl refl refl refl),
-      (
-        (codes "__imp_queue", pulls_in_now archive both_wanted foo_taken (codes "__imp_queue") zed_queue refl refl refl refl),
-        (
-          (codes "foo_dll_iname", pulls_in_now archive both_wanted (head_named (codes "foo.dll") ∷ foo_baz ∷ foo_weak ∷ []) (codes "foo_dll_iname") (tail_named (codes "foo.dll")) refl refl refl refl),
-          (
-            (codes "_head_foo_dll", pulls_in_now archive both_wanted (foo_baz ∷ foo_weak ∷ []) (codes "_head_foo_dll") (head_named (codes "foo.dll")) refl refl refl refl),
-            (
-              (codes "baz", pulls_in_now archive both_wanted (foo_weak ∷ []) (codes "baz") foo_baz refl refl refl refl),
-              ((codes "bar", pulls_in_now archive both_wanted [] (codes "bar") foo_weak refl refl refl refl), tt),
-            ),
-          ),
-        ),
-      ),
-    ),
-  );
-  ended = settled_ends archive both_wanted both_taken refl;
-}
+unfolding opened alias_specs encoded_size left_as claimed_as undefined_in AreTakenInTurnAs weak_object archive_of
+both_takes = takes_by (codes "zed_dll_iname" ∷ codes "_head_zed_dll" ∷ codes "__imp_queue" ∷ codes "foo_dll_iname" ∷ codes "_head_foo_dll" ∷ codes "baz" ∷ codes "bar" ∷ []) refl refl refl
 
 pub worked_archives : WorkedArchives
-unfolding opened refusal renamed_refusal alias_specs encoded_size IsDistinct weak_object symbols_of_library is_weak names_undefined undefined_in
+unfolding opened refusal renamed_refusal alias_specs encoded_size IsDistinct weak_object symbols_of_library is_weak left_as undefined_in
 worked_archives = record {
   archive = record {
     made = (record { accepted = refl; made = refl; ordinals = refl }, (record { accepted = refl; made = refl; ordinals = refl }, tt));

@@ -1,7 +1,7 @@
 -- The closed program of both flavours that was linked by hand, and near misses of it, by computing and by the laws.
 use Rattle.std.proofs.Common.{◌≡◌, ℕ, ◌+◌, ◌*◌, ◌⊎◌, Bool, true, false, List, [], ◌∷◌, ◌++◌, codes, length, map, Some, refl, ap, sym, ◌∙◌, subst, inl, inr, arith}
-use Rattle.std.specs.Prelude.{bytes_eq, not, slice_get}
-use Rattle.std.specs.List.{AllByRecursion, Contains, flat_map, list_all, list_any}
+use Rattle.std.specs.Prelude.{bytes_eq, not, slice_get, IsPermutation, ◌<◌}
+use Rattle.std.specs.List.{AllByRecursion, Contains, flat_map, list_all, list_any, filter}
 use Rattle.std.proofs.lemmas.Bool.{and_parts, not-true, true≢false}
 use Rattle.std.proofs.lemmas.Grind.{flat_map-append}
 use Rattle.implib.specs.declared.machine.MachineType.TheVariants.{AMD64}
@@ -15,38 +15,40 @@ use Rattle.implib.specs.Members.Gnu.{archive_symbols}
 use Rattle.implib.specs.Members.ImportTables.{thunk_width}
 use Rattle.implib.specs.Members.MemberSpec.{MemberView}
 use Rattle.implib.specs.Members.Msvc.{short_import_symbols}
-use Rattle.implib.specs.Members.MsvcObjects.{null_descriptor_symbol}
+use Rattle.implib.specs.Members.MsvcObjects.{null_descriptor_symbol, descriptor_symbol}
 use Rattle.implib.specs.Worked.Statements.{plain_export}
 use Rattle.implib.proofs.Link.LinkedMembers.{among_contains, among_map}
 use Rattle.implib.proofs.Link.Ranges.{Among, all_among, among_back, among_front}
-use Rattle.implib_link.specs.Flavors.Program.{FlavorInput, exports_chosen, objects_taken, symbol_in, thunks_of}
+use Rattle.implib_link.specs.Flavors.Program.{FlavorInput, exports_chosen, objects_taken, symbol_in, thunks_of, all_members}
 use Rattle.implib_link.specs.Gnu.Packed.{group_end, packed_end, sections_end}
-use Rattle.implib_link.specs.Gnu.Program.{ClaimsNone, claimed_names}
-use Rattle.implib_link.specs.Search.Archives.{IsArchive, symbols_of_library}
-use Rattle.implib_link.specs.Search.BothFlavors.{AreClosedForBoth, AreGivenForBoth, FlavorLibrary, IsClosedForBoth, IsFlavorArchive, NamesNoMembers, archive_of_both, gnu_among, kept_of_both, msvc_among}
+use Rattle.implib_link.specs.Gnu.Program.{ClaimsNone, claimed_names, has_tables}
+use Rattle.implib_link.specs.Search.Archives.{IsArchive, symbols_of_library, IsLibrary}
+use Rattle.implib_link.specs.Search.BothFlavors.{AreClosedForBoth, AreGivenForBoth, FlavorLibrary, IsClosedForBoth, IsFlavorArchive, NamesNoMembers, archive_of_both, gnu_among, kept_of_both, msvc_among, inputs_of_both}
 use Rattle.implib_link.specs.Search.Closed.{listed_in, unresolved}
-use Rattle.implib_link.specs.Search.Msvc.{AreTakenInTurn, TakesFor, left_in}
-use Rattle.implib_link.specs.Search.MsvcArchives.{IsMsvcArchive, first_null, symbols_of_shorts, wanted_with_weak}
+use Rattle.implib_link.specs.Search.Msvc.{TakesFor, left_in}
+use Rattle.implib_link.specs.Search.MsvcArchives.{IsMsvcArchive, first_null, symbols_of_shorts, wanted_with_weak, IsMsvcLibrary, short_inputs, weak_in}
 use Rattle.implib_link.specs.Search.MsvcClosed.{PullsIntoFor, TakesIntoFor, wanted_for}
-use Rattle.implib_link.specs.Search.Search.{undefined_in}
-use Rattle.implib_link_instances.specs.Worked.BothFlavors.{NearAreClosedForBoth, NearAreGivenForBoth, NearIsClosedForBoth, NearIsFlavorArchive, NearIsImportedOfBoth, NearIsUsedIn, NearLinksClosedForBoth, NearNamesNoMembers, NearTakesOfBoth, WorkedBoth, WorkedGivenForBoth, foo_and_zed, foo_members_taken, mixed_bases, mixed_inputs, mixed_objects, mixed_taken, mixed_without_last, zed_and_foo}
+use Rattle.implib_link.specs.Search.Search.{undefined_in, HaveSame, left_as, AreTakenInTurnAs}
+use Rattle.implib_link_instances.specs.Worked.BothFlavors.{NearAreClosedForBoth, NearAreGivenForBoth, NearIsClosedForBoth, NearIsFlavorArchive, NearIsImportedOfBoth, NearIsUsedIn, NearLinksClosedForBoth, NearNamesNoMembers, NearTakesOfBoth, WorkedBoth, WorkedGivenForBoth, foo_and_zed, mixed_bases, mixed_inputs, mixed_objects, mixed_taken, mixed_without_last, zed_and_foo}
 use Rattle.implib_link_instances.specs.Worked.Closed.{choosing, clashing, foo_alias, foo_linked}
-use Rattle.implib_link_instances.specs.Worked.MsvcArchives.{descriptor_named, null_named, short_named, thunk_named}
+use Rattle.implib_link_instances.specs.Worked.MsvcArchives.{thunk_named}
 use Rattle.implib_link_instances.specs.Worked.MsvcClosed.{zed_members}
 use Rattle.implib_link_instances.specs.Worked.NearSearches.{again}
 use Rattle.implib_link.proofs.Search.BothArchives.{both_taken}
 use Rattle.implib_link.proofs.Search.BothClosed.{closed_links_of_both, packed_both}
 use Rattle.implib_link.proofs.Search.BothGiven.{both_given_ends}
-use Rattle.implib_link.proofs.Search.Closed.{claims_apart, unresolved_parts}
+use Rattle.implib_link.proofs.Search.Closed.{claims_apart, unresolved_parts, takes_into}
 use Rattle.implib_link.proofs.Search.Lists.{among_any, among_at, any_among, contains_among}
-use Rattle.implib_link.proofs.Search.MsvcClosed.{takes_into}
-use Rattle.implib_link_instances.proofs.Worked.MsvcSearch.{pulls_in_now, settled_ends}
 use Rattle.implib_link_instances.proofs.Worked.NearMisses.{in_one_alone, none_passes, some_passes}
 use Rattle.implib_link_instances.proofs.Worked.NearPrograms.{no_eights}
 use Rattle.implib_link_instances.proofs.Worked.NearResults.{more_taken, no_length, no_order, none_taken}
 use Rattle.implib_link_instances.proofs.Worked.NearSearches.{none_in, not_address, searched, twice, weak_data, weak_short}
-use Rattle.implib_link_instances.proofs.Worked.Programs.{claims_none_by, distinct_by}
+use Rattle.implib_link_instances.proofs.Worked.Programs.{claims_none_by, distinct_by, all_differ}
 use Rattle.implib_link_instances.proofs.Worked.RefusedLinks.{differ}
+use Rattle.implib_link.specs.Flavors.Expansion.{descriptor_symbol_by_name, expanded_in}
+use Rattle.implib.specs.LibraryName.{linked_dll}
+use Rattle.implib.specs.declared.machine.MachineType.{MachineType}
+use Rattle.implib_link_instances.proofs.Worked.Search.{takes_by}
 use Rattle.implib_link_instances.proofs.Worked.Searched.{below_limit}
 
 abbrev own : List Object
@@ -58,6 +60,40 @@ apart_by others [] all = tt
 apart_by others (name ∷ texts) all =
     let parts = and_parts (not (list_any (bytes_eq name) others)) (list_all (λ n. not (list_any (bytes_eq n) others)) texts) all in
     (not-true (list_any (bytes_eq name) others) parts.0, apart_by others texts parts.1)
+
+-- Libraries are an archive of both flavours, by computing.
+pub archive_by : {machine : MachineType} {libraries : List FlavorLibrary} → AllByRecursion (IsLibrary machine) (gnu_among libraries) → AllByRecursion (IsMsvcLibrary machine) (msvc_among libraries) →
+    AllByRecursion (λ l. descriptor_symbol_by_name l.definition.import_name ≡ descriptor_symbol (linked_dll l.definition)) (msvc_among libraries) →
+    all_differ (flat_map (symbols_of_library machine) (gnu_among libraries)) ≡ true → all_differ (null_descriptor_symbol ∷ flat_map symbols_of_shorts (msvc_among libraries)) ≡ true →
+    list_all (λ name. not (list_any (bytes_eq name) (null_descriptor_symbol ∷ flat_map symbols_of_shorts (msvc_among libraries)))) (flat_map (symbols_of_library machine) (gnu_among libraries)) ≡ true →
+    IsFlavorArchive machine libraries
+archive_by {machine} {libraries} gnu_made msvc_made found gnu_differ msvc_differ apart = record {
+  gnu = record { made = gnu_made; distinct = distinct_by (flat_map (symbols_of_library machine) (gnu_among libraries)) gnu_differ };
+  msvc = record { made = msvc_made; distinct = distinct_by (null_descriptor_symbol ∷ flat_map symbols_of_shorts (msvc_among libraries)) msvc_differ; found = found };
+  apart = apart_by (null_descriptor_symbol ∷ flat_map symbols_of_shorts (msvc_among libraries)) (flat_map (symbols_of_library machine) (gnu_among libraries)) apart;
+}
+
+same_elements : {X : Type 0} (first second : List X) → first ≡ second → HaveSame first second
+same_elements first second is = subst (λ xs. HaveSame first xs) is (λ o. (λ held. held, λ held. held))
+
+-- Objects that close a program, which are linked in the order of what is given and taken, by computing.
+pub closed_by : {machine : MachineType} {libraries : List FlavorLibrary} {own : List Object} {taken : List MemberView} {arranged : List FlavorLibrary} {objects : List Object} (before behind : List MemberView) →
+    TakesIntoFor machine (archive_of_both libraries) own taken → 0 < length (short_inputs (msvc_among libraries) (wanted_for machine own taken)) → IsPermutation libraries arranged →
+    filter (λ o. not (has_tables o)) objects ≡ own ++ objects_taken machine (weak_in machine taken) → before ++ behind ≡ all_members machine (inputs_of_both machine arranged own taken) →
+    filter has_tables objects ≡ objects_taken machine (before ++ (first_null machine (msvc_among libraries) ++ behind)) → AllByRecursion (ClaimsNone (listed_in taken ++ left_in machine taken)) own →
+    NamesNoMembers machine libraries (wanted_for machine own taken) → AreClosedForBoth machine libraries own taken arranged objects
+closed_by {machine} {libraries} {own} {taken} {arranged} {objects} before behind takes some order others members tables claims names = record {
+  takes = takes;
+  some = some;
+  order = order;
+  others = same_elements (filter (λ o. not (has_tables o)) objects) (own ++ objects_taken machine (weak_in machine taken)) others;
+  before = before;
+  behind = behind;
+  members = members;
+  tables = tables;
+  claims = claims;
+  names = names;
+}
 
 pub gnu_archive : IsArchive AMD64 (gnu_among foo_and_zed)
 unfolding searched
@@ -89,36 +125,8 @@ abbrev wants : List (List ℕ)
 wants = unresolved (choosing ∷ [])
 
 takes_wanted : TakesFor AMD64 (archive_of_both foo_and_zed) (unresolved (choosing ∷ [])) mixed_taken
-unfolding searched AreTakenInTurn
-takes_wanted =
-    let zed : List ℕ = codes "zed.dll" in
-    let queue : MemberView = short_named (codes "zed.dll") (codes "queue") in
-    let null : List ℕ = codes "__NULL_IMPORT_DESCRIPTOR" in
-    record {
-      in_turn = (
-        (0x7F ∷ codes "zed_NULL_THUNK_DATA", pulls_in_now AMD64 members wants mixed_without_last (0x7F ∷ codes "zed_NULL_THUNK_DATA") (thunk_named zed) refl refl refl refl),
-        (
-          (codes "__NULL_IMPORT_DESCRIPTOR", pulls_in_now AMD64 members wants (descriptor_named zed ∷ queue ∷ foo_members_taken) null (null_named zed) refl refl refl refl),
-          (
-            (codes "__IMPORT_DESCRIPTOR_zed", pulls_in_now AMD64 members wants (queue ∷ foo_members_taken) (codes "__IMPORT_DESCRIPTOR_zed") (descriptor_named zed) refl refl refl refl),
-            (
-              (codes "__imp_queue", pulls_in_now AMD64 members wants foo_members_taken (codes "__imp_queue") queue refl refl refl refl),
-              (
-                (codes "foo_dll_iname", pulls_in_now AMD64 members wants _ (codes "foo_dll_iname") _ refl refl refl refl),
-                (
-                  (codes "_head_foo_dll", pulls_in_now AMD64 members wants _ (codes "_head_foo_dll") _ refl refl refl refl),
-                  (
-                    (codes "baz", pulls_in_now AMD64 members wants (foo_alias ∷ []) (codes "baz") _ refl refl refl refl),
-                    ((codes "bar", pulls_in_now AMD64 members wants [] (codes "bar") foo_alias refl refl refl refl), tt),
-                  ),
-                ),
-              ),
-            ),
-          ),
-        ),
-      );
-      ended = settled_ends AMD64 members wants mixed_taken refl;
-    }
+unfolding searched AreTakenInTurnAs
+takes_wanted = takes_by ((0x7F ∷ codes "zed_NULL_THUNK_DATA") ∷ codes "__NULL_IMPORT_DESCRIPTOR" ∷ codes "__IMPORT_DESCRIPTOR_zed" ∷ codes "__imp_queue" ∷ codes "foo_dll_iname" ∷ codes "_head_foo_dll" ∷ codes "baz" ∷ codes "bar" ∷ []) refl refl refl
 
 pub claims : AllByRecursion (ClaimsNone (listed_in mixed_taken ++ left_in AMD64 mixed_taken)) (choosing ∷ [])
 unfolding searched
@@ -126,11 +134,11 @@ claims = (claims_none_by (listed_in mixed_taken ++ left_in AMD64 mixed_taken) ch
 
 -- what the members that are taken leave, the object does not claim
 pub left_apart : (name : List ℕ) → Among name (flat_map undefined_in (objects_taken AMD64 mixed_taken)) → Among name (flat_map claimed_names own) → ⊥
-unfolding left_in
+unfolding left_as
 left_apart name left = claims_apart (listed_in mixed_taken ++ left_in AMD64 mixed_taken) own claims name (among_back name (listed_in mixed_taken) (left_in AMD64 mixed_taken) left)
 
 takes : TakesIntoFor AMD64 (archive_of_both foo_and_zed) (choosing ∷ []) mixed_taken
-takes = takes_into AMD64 members own mixed_taken left_apart takes_wanted
+takes = takes_into (expanded_in AMD64) members own mixed_taken left_apart takes_wanted
 
 names : NamesNoMembers AMD64 foo_and_zed (wanted_for AMD64 (choosing ∷ []) mixed_taken)
 unfolding searched
@@ -138,18 +146,7 @@ names = record { gnu = (record { head = refl; name = refl }, tt); msvc = (record
 
 closed_objects : AreClosedForBoth AMD64 foo_and_zed (choosing ∷ []) mixed_taken zed_and_foo mixed_objects
 unfolding searched
-closed_objects = record {
-  takes = takes;
-  some = omega arith;
-  order = record { moves = (0, 1) ∷ []; below = (omega arith, omega arith, tt); is = refl };
-  others = λ o. (λ held. held, λ held. held);
-  before = zed_members;
-  behind = foo_linked;
-  members = refl;
-  tables = refl;
-  claims = claims;
-  names = names;
-}
+closed_objects = closed_by zed_members foo_linked takes (omega arith) (record { moves = (0, 1) ∷ []; below = (omega arith, omega arith, tt); is = refl }) refl refl refl claims names
 
 closed : IsClosedForBoth AMD64 foo_and_zed (choosing ∷ []) mixed_taken zed_and_foo mixed_bases mixed_objects
 unfolding searched group_end sections_end

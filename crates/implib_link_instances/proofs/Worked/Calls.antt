@@ -30,27 +30,27 @@ use Rattle.implib.specs.Link.Placement.{Placed, next_multiple, Bases, placed_fro
 use Rattle.implib.specs.Link.Resolution.{address_or_zero, definitions_of, is_undefined_external, symbol_address, target_address}
 use Rattle.implib.specs.Formats.Writer.{long_names, name_location, layout_of, symbol_written, with_long_name, with_name}
 use Rattle.implib.proofs.Link.Loading.{number_once}
-use Rattle.implib.proofs.Link.Ranges.{Among, apart_as_they_rise, ends_below}
+use Rattle.implib.proofs.Link.Ranges.{Among, apart_as_they_rise}
 use Rattle.implib.specs.Worked.Statements.{plain_export}
 use Rattle.implib.specs.Members.MsvcMembers.{descriptor_spec, header_specs, null_descriptor_spec, null_thunk_spec, weak_specs}
 use Rattle.implib.specs.Members.MsvcObjects.{base_name, descriptor, descriptor_symbol, null_descriptor, null_descriptor_symbol, null_thunk, null_thunk_symbol}
 use Rattle.implib.specs.Formats.ShortImport.{short_import_in}
 use Rattle.std.specs.Prelude.{drop, take}
 use Rattle.implib_link.specs.Flavors.Expansion.{import_object, descriptor_symbol_by_name, expanded_in}
-use Rattle.implib_link.specs.Flavors.Program.{IsFlavorProgram, all_members, symbols_listed, FlavorInput, IsMadeFor, exports_chosen, symbol_in, ask_in, dll_of}
+use Rattle.implib_link.specs.Flavors.Program.{IsFlavorProgram, all_members, FlavorInput, IsMadeFor, exports_chosen, symbol_in, ask_in, dll_of}
 use Rattle.implib_link.specs.Flavors.SectionSymbols.{with_section_symbols}
 use Rattle.implib_link.specs.Gnu.Packed.{group_end, sections_end}
 use Rattle.implib_link_instances.specs.Worked.Flavors.{both_inputs as flavor_inputs, flavor_bases_8, flavor_image, flavor_objects, flavor_placed, foo_input as msvc_input}
-use Rattle.implib_link_instances.proofs.Worked.Flavors.{worked_flavors}
+use Rattle.implib_link_instances.proofs.Worked.Flavors.{worked_flavors, flavor_objects_by}
 use Rattle.implib_link.specs.Gnu.Calls.{Defines, HasCall, HasDirectCall, PlacedCode, Resolves}
-use Rattle.implib_link.specs.Gnu.Program.{IsProgram, has_tables, linked_symbols}
+use Rattle.implib_link.specs.Gnu.Program.{IsProgram, has_tables}
 use Rattle.implib_link.specs.Gnu.Reading.{ReadsAndWrites}
-use Rattle.implib_link_instances.specs.Worked.Calls.{WorkedDirectCall, direct_at, direct_calling, direct_objects, direct_placed, direct_targets, is_open, open_or, open_targets, stub_at, WorkedFlavorCall, calling_flavors, flavor_targets, flavors_placed, WorkedCall, WorkedCalls, WorkedReading, calling, calling_at, calling_memory, calling_objects, calling_placed, first_bytes, given_on, last_bytes, nameless_image, table_targets}
-use Rattle.implib_link_instances.specs.Worked.Programs.{another, both_inputs, foo_input, program_image, program_objects, program_placed, symbol_of_class, symbol_on, touching_4, touching_8}
+use Rattle.implib_link_instances.specs.Worked.Calls.{WorkedDirectCall, direct_at, direct_objects, direct_placed, direct_targets, is_open, open_or, open_targets, stub_at, WorkedFlavorCall, calling_flavors, flavor_targets, flavors_placed, WorkedCall, WorkedCalls, WorkedReading, calling_at, calling_memory, calling_objects, calling_placed, first_bytes, given_on, last_bytes, nameless_image, table_targets}
+use Rattle.implib_link_instances.specs.Worked.Programs.{both_inputs, foo_input, program_image, program_objects, program_placed, symbol_of_class, symbol_on, touching_4, touching_8}
 use Rattle.implib_link.proofs.Gnu.Memory.{holder, not_in_both}
 use Rattle.implib_link.proofs.Gnu.Stubs.{same_address}
 use Rattle.implib_link.proofs.Search.Lists.{among_at, contains_among, each_of}
-use Rattle.implib_link_instances.proofs.Worked.Programs.{claims_none_by, distinct_by, worked_programs}
+use Rattle.implib_link_instances.proofs.Worked.Programs.{worked_programs, admissible_by, instructions_at, program_by}
 use Rattle.implib_link_instances.proofs.Worked.RefusedLinks.{differ, number}
 use Rattle.implib_link_instances.specs.Worked.Relocated.{CodesBeside, code_range, code_ranges}
 use Rattle.implib_link_instances.proofs.Worked.Relocated.{beside_by, codes_tested}
@@ -105,21 +105,7 @@ one_code_resolves linked k m u entries own other differs = record {
 
 pub amd64_program : IsProgram AMD64 touching_8 (both_inputs AMD64) (calling_objects AMD64)
 unfolding opened refusal renamed_refusal alias_specs encoded_size weak_object has_tables
-amd64_program = record {
-  distinct = distinct_by (linked_symbols AMD64 (both_inputs AMD64)) refl;
-  tables = refl;
-  others = (claims_none_by (linked_symbols AMD64 (both_inputs AMD64)) (calling AMD64) refl, (claims_none_by (linked_symbols AMD64 (both_inputs AMD64)) (another AMD64) refl, tt));
-  admissible = record {
-    descriptors = (omega arith, refl);
-    directory_ends = (omega arith, refl);
-    lookups = (omega arith, refl);
-    addresses = (omega arith, refl);
-    hint_names = (omega arith, refl);
-    dll_names = (omega arith, refl);
-    ends = ends_below (2 ^ 31) (image_of AMD64 touching_8 (calling_placed AMD64 touching_8)) refl;
-    apart = apart_as_they_rise (2 ^ 31) (image_of AMD64 touching_8 (calling_placed AMD64 touching_8)) refl;
-  };
-}
+amd64_program = program_by refl refl refl (admissible_by refl refl)
 
 amd64_beside : CodesBeside AMD64 0x1_4000_0000 touching_8 (calling_objects AMD64) (calling_at AMD64 0x1000 ∷ []) (table_targets AMD64 touching_8)
 unfolding opened refusal renamed_refusal alias_specs encoded_size weak_object has_tables relocated_test codes_tested
@@ -151,40 +137,11 @@ far_beside =
     refl
 
 pub amd64_has : HasCall AMD64 (calling_at AMD64 0x1000) 4 (imp_symbol (symbol_on AMD64 (codes "open")))
-amd64_has = record {
-  front = first_bytes AMD64;
-  back = last_bytes AMD64;
-  instructions = refl;
-  here = refl;
-  index = 1;
-  before = [];
-  behind = [];
-  relocated = refl;
-  aside_before = tt;
-  aside_behind = tt;
-  symbol = symbol_of_class (imp_symbol (symbol_on AMD64 (codes "open"))) 0 class_external;
-  target = refl;
-  undefined = refl;
-  named = refl;
-}
+amd64_has = instructions_at (first_bytes AMD64) (last_bytes AMD64) 1 [] [] tt tt refl refl refl refl
 
 pub i386_program : IsProgram I386 touching_4 (both_inputs I386) (calling_objects I386)
 unfolding opened refusal renamed_refusal alias_specs encoded_size weak_object has_tables
-i386_program = record {
-  distinct = distinct_by (linked_symbols I386 (both_inputs I386)) refl;
-  tables = refl;
-  others = (claims_none_by (linked_symbols I386 (both_inputs I386)) (calling I386) refl, (claims_none_by (linked_symbols I386 (both_inputs I386)) (another I386) refl, tt));
-  admissible = record {
-    descriptors = (omega arith, refl);
-    directory_ends = (omega arith, refl);
-    lookups = (omega arith, refl);
-    addresses = (omega arith, refl);
-    hint_names = (omega arith, refl);
-    dll_names = (omega arith, refl);
-    ends = ends_below (2 ^ 31) (image_of I386 touching_4 (calling_placed I386 touching_4)) refl;
-    apart = apart_as_they_rise (2 ^ 31) (image_of I386 touching_4 (calling_placed I386 touching_4)) refl;
-  };
-}
+i386_program = program_by refl refl refl (admissible_by refl refl)
 
 i386_beside : CodesBeside I386 0x40_0000 touching_4 (calling_objects I386) (calling_at I386 0x1000 ∷ []) (table_targets I386 touching_4)
 unfolding opened refusal renamed_refusal alias_specs encoded_size weak_object has_tables relocated_test codes_tested
@@ -201,40 +158,11 @@ i386_beside =
     refl
 
 pub i386_has : HasCall I386 (calling_at I386 0x1000) 4 (imp_symbol (symbol_on I386 (codes "open")))
-i386_has = record {
-  front = first_bytes I386;
-  back = last_bytes I386;
-  instructions = refl;
-  here = refl;
-  index = 1;
-  before = [];
-  behind = [];
-  relocated = refl;
-  aside_before = tt;
-  aside_behind = tt;
-  symbol = symbol_of_class (imp_symbol (symbol_on I386 (codes "open"))) 0 class_external;
-  target = refl;
-  undefined = refl;
-  named = refl;
-}
+i386_has = instructions_at (first_bytes I386) (last_bytes I386) 1 [] [] tt tt refl refl refl refl
 
 pub arm64_program : IsProgram ARM64 touching_8 (both_inputs ARM64) (calling_objects ARM64)
 unfolding opened refusal renamed_refusal alias_specs encoded_size weak_object has_tables
-arm64_program = record {
-  distinct = distinct_by (linked_symbols ARM64 (both_inputs ARM64)) refl;
-  tables = refl;
-  others = (claims_none_by (linked_symbols ARM64 (both_inputs ARM64)) (calling ARM64) refl, (claims_none_by (linked_symbols ARM64 (both_inputs ARM64)) (another ARM64) refl, tt));
-  admissible = record {
-    descriptors = (omega arith, refl);
-    directory_ends = (omega arith, refl);
-    lookups = (omega arith, refl);
-    addresses = (omega arith, refl);
-    hint_names = (omega arith, refl);
-    dll_names = (omega arith, refl);
-    ends = ends_below (2 ^ 31) (image_of ARM64 touching_8 (calling_placed ARM64 touching_8)) refl;
-    apart = apart_as_they_rise (2 ^ 31) (image_of ARM64 touching_8 (calling_placed ARM64 touching_8)) refl;
-  };
-}
+arm64_program = program_by refl refl refl (admissible_by refl refl)
 
 arm64_beside : CodesBeside ARM64 0x1_4000_0000 touching_8 (calling_objects ARM64) (calling_at ARM64 0x1000 ∷ []) (table_targets ARM64 touching_8)
 unfolding opened refusal renamed_refusal alias_specs encoded_size weak_object has_tables relocated_test codes_tested
@@ -251,22 +179,7 @@ arm64_beside =
     refl
 
 pub arm64_has : HasCall ARM64 (calling_at ARM64 0x1000) 4 (imp_symbol (symbol_on ARM64 (codes "open")))
-arm64_has = record {
-  front = first_bytes ARM64;
-  back = last_bytes ARM64;
-  instructions = refl;
-  here = refl;
-  index = 1;
-  before = [];
-  behind = [];
-  relocated = refl;
-  aside_before = tt;
-  aside_behind = tt;
-  symbol = symbol_of_class (imp_symbol (symbol_on ARM64 (codes "open"))) 0 class_external;
-  target = refl;
-  undefined = refl;
-  named = refl;
-}
+arm64_has = instructions_at (first_bytes ARM64) (last_bytes ARM64) 1 [] [] tt tt refl refl refl refl
 
 pub wide : (machine : MachineType) (dll : List ℕ) (ask : Ask) → length (given_on machine dll ask) ≡ thunk_width machine
 unfolding u32_bytes
@@ -410,31 +323,8 @@ worked_reading = record {
 pub flavors_program : IsFlavorProgram AMD64 flavor_bases_8 (flavor_inputs AMD64) calling_flavors
 unfolding opened refusal renamed_refusal alias_specs encoded_size weak_object has_tables expanded_in short_import_in import_object descriptor_symbol_by_name with_section_symbols descriptor null_descriptor null_thunk descriptor_symbol null_descriptor_symbol null_thunk_symbol base_name descriptor_spec null_descriptor_spec null_thunk_spec header_specs weak_specs group_end sections_end
 flavors_program = record {
-  held = record {
-    distinct = distinct_by (null_descriptor_symbol ∷ symbols_listed (all_members AMD64 (flavor_inputs AMD64))) refl;
-    null_from = msvc_input AMD64;
-    null_held = (0, omega arith, refl);
-    null_flavor = refl;
-    before = take 0 (all_members AMD64 (flavor_inputs AMD64));
-    behind = drop 0 (all_members AMD64 (flavor_inputs AMD64));
-    members = refl;
-    tables = refl;
-    others = (
-      claims_none_by (null_descriptor_symbol ∷ symbols_listed (all_members AMD64 (flavor_inputs AMD64))) (calling AMD64) refl,
-      (claims_none_by (null_descriptor_symbol ∷ symbols_listed (all_members AMD64 (flavor_inputs AMD64))) (another AMD64) refl, tt),
-    );
-    found = (refl, (tt, tt));
-  };
-  admissible = record {
-    descriptors = (omega arith, refl);
-    directory_ends = (omega arith, refl);
-    lookups = (omega arith, refl);
-    addresses = (omega arith, refl);
-    hint_names = (omega arith, refl);
-    dll_names = (omega arith, refl);
-    ends = ends_below (2 ^ 31) (image_of AMD64 flavor_bases_8 flavors_placed) refl;
-    apart = apart_as_they_rise (2 ^ 31) (image_of AMD64 flavor_bases_8 flavors_placed) refl;
-  };
+  held = flavor_objects_by (msvc_input AMD64) (take 0 (all_members AMD64 (flavor_inputs AMD64))) (drop 0 (all_members AMD64 (flavor_inputs AMD64))) (0, omega arith, refl) (refl, (tt, tt)) refl refl refl refl refl;
+  admissible = admissible_by refl refl;
   lookups = refl;
   addresses = refl;
   follows = refl;
@@ -549,21 +439,7 @@ direct_resolved = open_resolved direct_placed (direct_at ∷ stub_at ∷ []) ref
 
 direct_program : IsProgram AMD64 touching_8 (both_inputs AMD64) direct_objects
 unfolding opened refusal renamed_refusal alias_specs encoded_size weak_object has_tables
-direct_program = record {
-  distinct = distinct_by (linked_symbols AMD64 (both_inputs AMD64)) refl;
-  tables = refl;
-  others = (claims_none_by (linked_symbols AMD64 (both_inputs AMD64)) direct_calling refl, tt);
-  admissible = record {
-    descriptors = (omega arith, refl);
-    directory_ends = (omega arith, refl);
-    lookups = (omega arith, refl);
-    addresses = (omega arith, refl);
-    hint_names = (omega arith, refl);
-    dll_names = (omega arith, refl);
-    ends = ends_below (2 ^ 31) (image_of AMD64 touching_8 direct_placed) refl;
-    apart = apart_as_they_rise (2 ^ 31) (image_of AMD64 touching_8 direct_placed) refl;
-  };
-}
+direct_program = program_by refl refl refl (admissible_by refl refl)
 
 direct_beside : CodesBeside AMD64 0x1_4000_0000 touching_8 direct_objects (direct_at ∷ stub_at ∷ []) direct_targets
 unfolding opened refusal renamed_refusal alias_specs encoded_size weak_object has_tables relocated_test codes_tested
@@ -583,22 +459,7 @@ unfolding opened refusal renamed_refusal alias_specs encoded_size weak_object ha
 direct_defines = record { held = (1, omega arith, refl); external = refl; here = refl }
 
 pub direct_has : HasDirectCall AMD64 direct_at 4 (codes "open")
-direct_has = record {
-  front = first_bytes AMD64;
-  back = last_bytes AMD64;
-  instructions = refl;
-  here = refl;
-  index = 1;
-  before = [];
-  behind = [];
-  relocated = refl;
-  aside_before = tt;
-  aside_behind = tt;
-  symbol = symbol_of_class (codes "open") 0 class_external;
-  target = refl;
-  undefined = refl;
-  named = refl;
-}
+direct_has = instructions_at (first_bytes AMD64) (last_bytes AMD64) 1 [] [] tt tt refl refl refl refl
 
 pub worked_direct_call : WorkedDirectCall
 unfolding opened refusal renamed_refusal alias_specs encoded_size weak_object has_tables

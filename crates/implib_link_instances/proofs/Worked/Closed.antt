@@ -6,7 +6,7 @@ use Rattle.std.proofs.lemmas.Bool.{ltb-true, true≢false}
 use Rattle.std.proofs.lemmas.Grind.{flat_map-append}
 use Rattle.implib.specs.declared.machine.MachineType.TheVariants.{AMD64}
 use Rattle.implib.specs.Formats.Layout.{encoded_size}
-use Rattle.implib.specs.Formats.Object.{Object}
+use Rattle.implib.specs.Formats.Object.{Object, object_in}
 use Rattle.implib.specs.Members.GnuMembers.{alias_specs}
 use Rattle.implib.specs.Members.MemberSpec.{MemberView}
 use Rattle.implib.specs.Members.WeakExternal.{weak_object}
@@ -19,7 +19,7 @@ use Rattle.implib_link.specs.Gnu.Program.{ClaimsNone, claimed_names, has_tables}
 use Rattle.implib_link.specs.Search.Archives.{Library, NamesNoHeadOrTailOf, archive_of, is_weak}
 use Rattle.implib_link.specs.Search.Closed.{IsClosed, PullsInto, TakesInto, claims_of, inputs_in, listed_in, references_of, unresolved, wanted_in}
 use Rattle.implib_link.specs.Search.Given.{AreGiven, symbols_kept}
-use Rattle.implib_link.specs.Search.Search.{HaveSame, names_undefined, undefined_in}
+use Rattle.implib_link.specs.Search.Search.{HaveSame, names_undefined, undefined_in, left_as}
 use Rattle.implib_link_instances.specs.Worked.Archives.{two_libraries}
 use Rattle.implib_link_instances.specs.Worked.Closed.{WorkedClosed, WorkedGiven, choosing, clashing, closed_bases, closed_objects, closed_taken, without_last, zed_first}
 use Rattle.implib_link.proofs.Gnu.Packed.{packed_is_admissible}
@@ -50,20 +50,20 @@ new_by : (taken : List MemberView) (m : MemberView) → list_any (bytes_eq m.nam
 new_by taken m new has = true≢false (sym (among_any m.name (map (λ (x : MemberView). x.name) taken) (among_map (λ (x : MemberView). x.name) m taken (contains_among m taken has))) ∙ new)
 
 claims : AllByRecursion (ClaimsNone (listed_in closed_taken ++ names_undefined closed_taken)) own
-unfolding opened alias_specs encoded_size weak_object names_undefined undefined_in
+unfolding opened alias_specs encoded_size weak_object left_as undefined_in
 claims = (claims_none_by (listed_in closed_taken ++ names_undefined closed_taken) choosing refl, tt)
 
 -- what the members that are taken leave, the object does not claim
 left_apart : (name : List ℕ) → Among name (flat_map undefined_in (objects_in closed_taken)) → Among name (flat_map claimed_names own) → ⊥
-unfolding names_undefined
+unfolding left_as
 left_apart name left = claims_apart (listed_in closed_taken ++ names_undefined closed_taken) own claims name (among_back name (listed_in closed_taken) (names_undefined closed_taken) left)
 
 takes : TakesInto (archive_of two_libraries) own closed_taken
 unfolding references_of claims_of undefined_in
-takes = takes_into (archive_of two_libraries) own closed_taken left_apart both_takes
+takes = takes_into object_in (archive_of two_libraries) own closed_taken left_apart both_takes
 
 plain : NamesNoHeadOrTailOf AMD64 two_libraries (wanted_in own closed_taken)
-unfolding opened alias_specs encoded_size weak_object is_weak names_undefined undefined_in references_of claims_of
+unfolding opened alias_specs encoded_size weak_object is_weak left_as undefined_in references_of claims_of
 plain = (record { head = refl; name = refl }, (record { head = refl; name = refl }, tt))
 
 abbrev inputs : List LinkInput
@@ -74,7 +74,7 @@ below_limit : (n : ℕ) → nat_lt n (2 ^ 31) ≡ true → n < 2 ^ 31
 below_limit n is = ltb-true n (2 ^ 31) is
 
 is_closed : IsClosed AMD64 two_libraries own closed_taken zed_first closed_bases closed_objects
-unfolding opened alias_specs encoded_size weak_object is_weak names_undefined undefined_in references_of claims_of has_tables group_end sections_end
+unfolding opened alias_specs encoded_size weak_object is_weak left_as undefined_in references_of claims_of has_tables group_end sections_end
 is_closed = record {
   takes = takes;
   linked = record {
@@ -106,7 +106,7 @@ claimed taken m pulls =
     (among_front name (flat_map claimed_names own) (flat_map claimed_names (objects_in taken)) (any_among name (flat_map claimed_names own) refl)))
 
 clashes : (arranged : List Library) (bases : Bases) (objects : List Object) → IsClosed AMD64 two_libraries (clashing ∷ []) closed_taken arranged bases objects → ⊥
-unfolding opened alias_specs encoded_size weak_object names_undefined undefined_in
+unfolding opened alias_specs encoded_size weak_object left_as undefined_in
 clashes arranged bases objects is =
     let none : list_any (bytes_eq (codes "queue")) (claimed_names clashing) ≡ false =
     all_among (λ name. list_any (bytes_eq name) (claimed_names clashing) ≡ false) (codes "queue") (listed_in closed_taken ++ names_undefined closed_taken)
@@ -114,7 +114,7 @@ clashes arranged bases objects is =
     true≢false none
 
 pub worked_closed : WorkedClosed
-unfolding opened alias_specs encoded_size weak_object is_weak names_undefined undefined_in references_of claims_of has_tables group_end sections_end
+unfolding opened alias_specs encoded_size weak_object is_weak left_as undefined_in references_of claims_of has_tables group_end sections_end
 worked_closed = record {
   archive = worked_archives.archive;
   leaves = refl;

@@ -6,35 +6,21 @@ use Rattle.implib.specs.Formats.Layout.{encoded_size}
 use Rattle.implib.specs.Link.Image.{image_of}
 use Rattle.implib.specs.Members.GnuMembers.{alias_specs}
 use Rattle.implib.specs.Members.WeakExternal.{weak_object}
-use Rattle.implib.proofs.Link.Ranges.{apart_as_they_rise, ends_below}
+use Rattle.implib.proofs.Link.Ranges.{apart_as_they_rise}
 use Rattle.implib_link.specs.Gnu.Calls.{Defines, HasDirectCall}
-use Rattle.implib_link.specs.Gnu.Program.{IsProgram, has_tables, linked_symbols}
+use Rattle.implib_link.specs.Gnu.Program.{IsProgram, has_tables}
 use Rattle.implib_link_instances.specs.Worked.Calls.{first_bytes, last_bytes, open_targets}
-use Rattle.implib_link_instances.specs.Worked.DirectCalls.{WorkedBranch, branch_at, branch_codes, branching, branching_objects, branching_placed, stub_of}
+use Rattle.implib_link_instances.specs.Worked.DirectCalls.{WorkedBranch, branch_at, branch_codes, branching_objects, branching_placed, stub_of}
 use Rattle.implib_link_instances.specs.Worked.Programs.{both_inputs, symbol_of_class, touching_8}
 use Rattle.implib_link_instances.proofs.Worked.Calls.{open_resolved}
-use Rattle.implib_link_instances.proofs.Worked.Programs.{claims_none_by, distinct_by, opened}
+use Rattle.implib_link_instances.proofs.Worked.Programs.{opened, admissible_by, instructions_at, program_by}
 use Rattle.implib_link_instances.specs.Worked.Relocated.{CodesBeside, code_ranges}
 use Rattle.implib_link_instances.proofs.Worked.Relocated.{beside_by, codes_tested}
 use Rattle.implib_link_instances.proofs.Worked.LinkedCode.{relocated_test}
 
 branch_program : IsProgram ARM64 touching_8 (both_inputs ARM64) branching_objects
 unfolding opened alias_specs encoded_size weak_object has_tables
-branch_program = record {
-  distinct = distinct_by (linked_symbols ARM64 (both_inputs ARM64)) refl;
-  tables = refl;
-  others = (claims_none_by (linked_symbols ARM64 (both_inputs ARM64)) branching refl, tt);
-  admissible = record {
-    descriptors = (omega arith, refl);
-    directory_ends = (omega arith, refl);
-    lookups = (omega arith, refl);
-    addresses = (omega arith, refl);
-    hint_names = (omega arith, refl);
-    dll_names = (omega arith, refl);
-    ends = ends_below (2 ^ 31) (image_of ARM64 touching_8 branching_placed) refl;
-    apart = apart_as_they_rise (2 ^ 31) (image_of ARM64 touching_8 branching_placed) refl;
-  };
-}
+branch_program = program_by refl refl refl (admissible_by refl refl)
 
 branch_beside : CodesBeside ARM64 0x1_4000_0000 touching_8 branching_objects branch_codes (open_targets branching_placed)
 unfolding opened alias_specs encoded_size weak_object has_tables relocated_test codes_tested
@@ -54,22 +40,7 @@ unfolding opened alias_specs encoded_size weak_object has_tables
 branch_defines = record { held = (1, omega arith, refl); external = refl; here = refl }
 
 branch_has : HasDirectCall ARM64 branch_at 4 (codes "open")
-branch_has = record {
-  front = first_bytes ARM64;
-  back = last_bytes ARM64;
-  instructions = refl;
-  here = refl;
-  index = 1;
-  before = [];
-  behind = [];
-  relocated = refl;
-  aside_before = tt;
-  aside_behind = tt;
-  symbol = symbol_of_class (codes "open") 0 class_external;
-  target = refl;
-  undefined = refl;
-  named = refl;
-}
+branch_has = instructions_at (first_bytes ARM64) (last_bytes ARM64) 1 [] [] tt tt refl refl refl refl
 
 pub worked_branch : WorkedBranch
 unfolding opened alias_specs encoded_size weak_object has_tables

@@ -25,7 +25,7 @@ use Rattle.implib_link_instances.specs.Worked.Operands.{WorkedFlavorFields, call
 use Rattle.implib_link_instances.specs.Worked.Programs.{symbol_of_class}
 use Rattle.implib_link_instances.proofs.Worked.Calls.{flavors_program}
 use Rattle.implib_link_instances.proofs.Worked.LinkedCode.{all_needed, only_absolute, relocated_by, relocated_test, takes_by}
-use Rattle.implib_link_instances.proofs.Worked.Programs.{opened}
+use Rattle.implib_link_instances.proofs.Worked.Programs.{opened, instruction_by}
 use Rattle.implib_link_instances.proofs.Worked.Rebased.{none_rebased}
 
 beside : AreLinkedBeside AMD64 0x1_4000_0000 (image_of AMD64 flavor_bases_8 flavors_placed) flavors_placed (calling_linked ∷ []) linked_targets
@@ -49,16 +49,7 @@ moves = record {
 }
 
 call : HasInstruction AMD64 calling_linked 4 (0xFF ∷ 0x15 ∷ []) [] (imp_open AMD64)
-call = record {
-  type = amd64_rel32;
-  symbol = 1;
-  alone = refl;
-  names = record { symbol = symbol_of_class (imp_open AMD64) 0 class_external; target = refl; undefined = refl; named = refl };
-  field = 0 ∷ 0 ∷ 0 ∷ 0 ∷ [];
-  four = refl;
-  code = refl;
-  counts = (0, (omega arith, (refl, refl)));
-}
+call = instruction_by amd64_rel32 1 (0 ∷ 0 ∷ 0 ∷ 0 ∷ []) (record { symbol = symbol_of_class (imp_open AMD64) 0 class_external; target = refl; undefined = refl; named = refl }) (0, (omega arith, (refl, refl))) refl refl refl
 
 in_linked : AreInMemory AMD64 0x1_4000_0000 (image_of AMD64 flavor_bases_8 flavors_placed) flavors_placed (calling_linked ∷ []) linked_targets flavors_linked
 in_linked = inl (beside, refl)

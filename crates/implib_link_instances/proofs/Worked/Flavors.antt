@@ -1,13 +1,13 @@
 -- Programs of DLLs in both flavours, by computing.
-use Rattle.std.proofs.Common.{◌≡◌, ℕ, ◌+◌, ◌^◌, List, [], ◌∷◌, refl, ◌∙◌, arith, subst}
-use Rattle.std.specs.Prelude.{drop, take}
+use Rattle.std.proofs.Common.{◌≡◌, ℕ, ◌+◌, ◌^◌, List, [], ◌∷◌, refl, ◌∙◌, arith, subst, true, ◌++◌}
+use Rattle.std.specs.Prelude.{drop, take, not}
 use Rattle.implib.specs.declared.machine.MachineType.TheVariants.{I386, ARMNT, AMD64, ARM64}
 use Rattle.implib.specs.Link.Image.{Range, with_address}
 use Rattle.std.specs.Fmt.{digits}
 use Rattle.implib.specs.Formats.Bytes.{u16_bytes, u32_bytes}
 use Rattle.implib.specs.Members.Gnu.{export_object, five_digits, head_name, head_object, head_symbol, hint_name, iname_symbol, numbered_name, relocations_of_stub, relocations_of_thunk, mangled_name, stub, tail_name, tail_object, thunk}
 use Rattle.implib.specs.Members.GnuMembers.{alias_specs, export_spec, head_spec, tail_spec}
-use Rattle.implib.specs.Formats.Object.{before_nul, bytes_at, data_at, each_at, entries_at, name_of, object_in, object_of_header, relocation_at, relocation_of, section_at, section_of, strings_at, symbol_of, u16_at, u32_at, up_to_nul}
+use Rattle.implib.specs.Formats.Object.{before_nul, bytes_at, data_at, each_at, entries_at, name_of, object_in, object_of_header, relocation_at, relocation_of, section_at, section_of, strings_at, symbol_of, u16_at, u32_at, up_to_nul, Object}
 use Rattle.implib.specs.Formats.Layout.{auxiliary_bytes, auxiliary_count, contents, contents_offset, contents_size, header_bytes, encoded, encoded_size, name_field, offsets_from, pointer_or_zero, record_count, records, relocation_bytes, section_header, section_headers, string_bytes_of, string_offsets, string_size, string_table, strings_size, symbol_bytes, symbol_table_offset}
 use Rattle.implib.specs.Link.Placement.{next_multiple}
 use Rattle.implib.specs.Formats.Writer.{long_names, name_location, layout_of, symbol_written, with_long_name, with_name}
@@ -18,52 +18,50 @@ use Rattle.implib.specs.Members.MsvcObjects.{base_name, descriptor, descriptor_s
 use Rattle.implib.specs.Formats.ShortImport.{short_import_in}
 use Rattle.implib.specs.Members.WeakExternal.{weak_object}
 use Rattle.implib.proofs.Link.Loading.{number_once}
-use Rattle.implib.proofs.Link.Ranges.{apart_as_they_rise, ends_below}
 use Rattle.implib_link.specs.Flavors.Expansion.{import_object, descriptor_symbol_by_name, expanded_in}
-use Rattle.implib_link.specs.Flavors.Program.{all_members, symbols_listed}
+use Rattle.implib_link.specs.Flavors.Program.{all_members, symbols_listed, AreFlavorObjects, FlavorInput, IsFoundByName, dll_names_in, null_member, objects_taken}
 use Rattle.implib_link.specs.Gnu.Packed.{group_end, sections_end}
 use Rattle.implib_link.specs.Gnu.Program.{has_tables}
 use Rattle.implib_link.specs.Flavors.SectionSymbols.{with_section_symbols}
 use Rattle.implib_link_instances.specs.Worked.Flavors.{RefusedTables, WorkedFlavorProgram, WorkedFlavors, both_inputs, flavor_bases_4, flavor_bases_8, flavor_expected_4, flavor_expected_8, flavor_image, foo_asks, foo_input, shifted_bases}
-use Rattle.implib_link_instances.specs.Worked.Programs.{another, caller}
 use Rattle.implib_link_instances.proofs.Worked.RefusedLinks.{differ, number}
-use Rattle.implib_link_instances.proofs.Worked.Programs.{claims_none_by, distinct_by}
+use Rattle.implib.specs.LibraryName.{linked_dll}
+use Rattle.std.specs.List.{AllByRecursion, Contains, filter}
+use Rattle.implib.specs.Members.MemberSpec.{MemberView}
+use Rattle.implib.specs.declared.machine.MachineType.{MachineType}
+use Rattle.implib.specs.declared.flavor.Flavor.TheVariants.{Msvc}
+use Rattle.implib_link_instances.proofs.Worked.Programs.{distinct_by, admissible_by, all_differ, claim_none, all_claim_none}
 
 -- what the computing has to open
 unfoldable pub opened : Unit {0}
 unfolding digits u16_bytes u32_bytes export_object five_digits head_name head_object head_symbol hint_name iname_symbol numbered_name relocations_of_stub relocations_of_thunk mangled_name stub tail_name tail_object thunk next_multiple with_address export_spec head_spec tail_spec before_nul bytes_at data_at each_at entries_at name_of object_in object_of_header relocation_at relocation_of section_at section_of strings_at symbol_of u16_at u32_at up_to_nul auxiliary_bytes auxiliary_count contents contents_offset contents_size header_bytes encoded name_field offsets_from pointer_or_zero record_count records relocation_bytes section_header section_headers string_bytes_of string_offsets string_size string_table strings_size symbol_bytes symbol_table_offset long_names name_location layout_of symbol_written with_long_name with_name
 opened = tt
 
+-- Objects may be linked with the members of inputs, by computing.
+pub flavor_objects_by : {machine : MachineType} {inputs : List FlavorInput} {objects : List Object} (null_from : FlavorInput) (before behind : List MemberView) → Contains inputs null_from →
+    AllByRecursion (λ p. IsFoundByName p.flavor (dll_names_in p)) inputs → null_from.flavor ≡ Msvc → all_differ (null_descriptor_symbol ∷ symbols_listed (all_members machine inputs)) ≡ true →
+    before ++ behind ≡ all_members machine inputs → filter has_tables objects ≡ objects_taken machine (before ++ null_member machine (linked_dll null_from.input.definition) ∷ behind) →
+    claim_none (null_descriptor_symbol ∷ symbols_listed (all_members machine inputs)) (filter (λ o. not (has_tables o)) objects) ≡ true → AreFlavorObjects machine inputs objects
+flavor_objects_by {machine} {inputs} {objects} null_from before behind held found flavor differ members tables none = record {
+  distinct = distinct_by (null_descriptor_symbol ∷ symbols_listed (all_members machine inputs)) differ;
+  null_from = null_from;
+  null_held = held;
+  null_flavor = flavor;
+  before = before;
+  behind = behind;
+  members = members;
+  tables = tables;
+  others = all_claim_none (null_descriptor_symbol ∷ symbols_listed (all_members machine inputs)) (filter (λ o. not (has_tables o)) objects) none;
+  found = found;
+}
+
 amd64 : WorkedFlavorProgram AMD64 0 flavor_bases_8 flavor_expected_8
 unfolding opened refusal renamed_refusal alias_specs encoded_size weak_object has_tables expanded_in short_import_in import_object descriptor_symbol_by_name with_section_symbols descriptor null_descriptor null_thunk descriptor_symbol null_descriptor_symbol null_thunk_symbol base_name descriptor_spec null_descriptor_spec null_thunk_spec header_specs weak_specs group_end sections_end
 amd64 = record {
   made = (record { accepted = refl; made = refl; ordinals = refl }, (record { accepted = refl; made = refl; ordinals = refl }, tt));
   program = record {
-    held = record {
-      distinct = distinct_by (null_descriptor_symbol ∷ symbols_listed (all_members AMD64 (both_inputs AMD64))) refl;
-      null_from = foo_input AMD64;
-      null_held = (0, omega arith, refl);
-      null_flavor = refl;
-      before = take 0 (all_members AMD64 (both_inputs AMD64));
-      behind = drop 0 (all_members AMD64 (both_inputs AMD64));
-      members = refl;
-      tables = refl;
-      others = (
-        claims_none_by (null_descriptor_symbol ∷ symbols_listed (all_members AMD64 (both_inputs AMD64))) (caller AMD64) refl,
-        (claims_none_by (null_descriptor_symbol ∷ symbols_listed (all_members AMD64 (both_inputs AMD64))) (another AMD64) refl, tt),
-      );
-      found = (refl, (tt, tt));
-    };
-    admissible = record {
-      descriptors = (omega arith, refl);
-      directory_ends = (omega arith, refl);
-      lookups = (omega arith, refl);
-      addresses = (omega arith, refl);
-      hint_names = (omega arith, refl);
-      dll_names = (omega arith, refl);
-      ends = ends_below (2 ^ 31) (flavor_image AMD64 0 flavor_bases_8) refl;
-      apart = apart_as_they_rise (2 ^ 31) (flavor_image AMD64 0 flavor_bases_8) refl;
-    };
+    held = flavor_objects_by (foo_input AMD64) (take 0 (all_members AMD64 (both_inputs AMD64))) (drop 0 (all_members AMD64 (both_inputs AMD64))) (0, omega arith, refl) (refl, (tt, tt)) refl refl refl refl refl;
+    admissible = admissible_by refl refl;
     lookups = refl;
     addresses = refl;
     follows = refl;
@@ -82,31 +80,8 @@ unfolding opened refusal renamed_refusal alias_specs encoded_size weak_object ha
 i386 = record {
   made = (record { accepted = refl; made = refl; ordinals = refl }, (record { accepted = refl; made = refl; ordinals = refl }, tt));
   program = record {
-    held = record {
-      distinct = distinct_by (null_descriptor_symbol ∷ symbols_listed (all_members I386 (both_inputs I386))) refl;
-      null_from = foo_input I386;
-      null_held = (0, omega arith, refl);
-      null_flavor = refl;
-      before = take 2 (all_members I386 (both_inputs I386));
-      behind = drop 2 (all_members I386 (both_inputs I386));
-      members = refl;
-      tables = refl;
-      others = (
-        claims_none_by (null_descriptor_symbol ∷ symbols_listed (all_members I386 (both_inputs I386))) (caller I386) refl,
-        (claims_none_by (null_descriptor_symbol ∷ symbols_listed (all_members I386 (both_inputs I386))) (another I386) refl, tt),
-      );
-      found = (refl, (tt, tt));
-    };
-    admissible = record {
-      descriptors = (omega arith, refl);
-      directory_ends = (omega arith, refl);
-      lookups = (omega arith, refl);
-      addresses = (omega arith, refl);
-      hint_names = (omega arith, refl);
-      dll_names = (omega arith, refl);
-      ends = ends_below (2 ^ 31) (flavor_image I386 2 flavor_bases_4) refl;
-      apart = apart_as_they_rise (2 ^ 31) (flavor_image I386 2 flavor_bases_4) refl;
-    };
+    held = flavor_objects_by (foo_input I386) (take 2 (all_members I386 (both_inputs I386))) (drop 2 (all_members I386 (both_inputs I386))) (0, omega arith, refl) (refl, (tt, tt)) refl refl refl refl refl;
+    admissible = admissible_by refl refl;
     lookups = refl;
     addresses = refl;
     follows = refl;
@@ -125,31 +100,8 @@ unfolding opened refusal renamed_refusal alias_specs encoded_size weak_object ha
 arm64 = record {
   made = (record { accepted = refl; made = refl; ordinals = refl }, (record { accepted = refl; made = refl; ordinals = refl }, tt));
   program = record {
-    held = record {
-      distinct = distinct_by (null_descriptor_symbol ∷ symbols_listed (all_members ARM64 (both_inputs ARM64))) refl;
-      null_from = foo_input ARM64;
-      null_held = (0, omega arith, refl);
-      null_flavor = refl;
-      before = take 9 (all_members ARM64 (both_inputs ARM64));
-      behind = drop 9 (all_members ARM64 (both_inputs ARM64));
-      members = refl;
-      tables = refl;
-      others = (
-        claims_none_by (null_descriptor_symbol ∷ symbols_listed (all_members ARM64 (both_inputs ARM64))) (caller ARM64) refl,
-        (claims_none_by (null_descriptor_symbol ∷ symbols_listed (all_members ARM64 (both_inputs ARM64))) (another ARM64) refl, tt),
-      );
-      found = (refl, (tt, tt));
-    };
-    admissible = record {
-      descriptors = (omega arith, refl);
-      directory_ends = (omega arith, refl);
-      lookups = (omega arith, refl);
-      addresses = (omega arith, refl);
-      hint_names = (omega arith, refl);
-      dll_names = (omega arith, refl);
-      ends = ends_below (2 ^ 31) (flavor_image ARM64 9 flavor_bases_8) refl;
-      apart = apart_as_they_rise (2 ^ 31) (flavor_image ARM64 9 flavor_bases_8) refl;
-    };
+    held = flavor_objects_by (foo_input ARM64) (take 9 (all_members ARM64 (both_inputs ARM64))) (drop 9 (all_members ARM64 (both_inputs ARM64))) (0, omega arith, refl) (refl, (tt, tt)) refl refl refl refl refl;
+    admissible = admissible_by refl refl;
     lookups = refl;
     addresses = refl;
     follows = refl;
@@ -168,31 +120,8 @@ unfolding opened refusal renamed_refusal alias_specs encoded_size weak_object ha
 armnt = record {
   made = (record { accepted = refl; made = refl; ordinals = refl }, (record { accepted = refl; made = refl; ordinals = refl }, tt));
   program = record {
-    held = record {
-      distinct = distinct_by (null_descriptor_symbol ∷ symbols_listed (all_members ARMNT (both_inputs ARMNT))) refl;
-      null_from = foo_input ARMNT;
-      null_held = (0, omega arith, refl);
-      null_flavor = refl;
-      before = take 2 (all_members ARMNT (both_inputs ARMNT));
-      behind = drop 2 (all_members ARMNT (both_inputs ARMNT));
-      members = refl;
-      tables = refl;
-      others = (
-        claims_none_by (null_descriptor_symbol ∷ symbols_listed (all_members ARMNT (both_inputs ARMNT))) (caller ARMNT) refl,
-        (claims_none_by (null_descriptor_symbol ∷ symbols_listed (all_members ARMNT (both_inputs ARMNT))) (another ARMNT) refl, tt),
-      );
-      found = (refl, (tt, tt));
-    };
-    admissible = record {
-      descriptors = (omega arith, refl);
-      directory_ends = (omega arith, refl);
-      lookups = (omega arith, refl);
-      addresses = (omega arith, refl);
-      hint_names = (omega arith, refl);
-      dll_names = (omega arith, refl);
-      ends = ends_below (2 ^ 31) (flavor_image ARMNT 2 flavor_bases_4) refl;
-      apart = apart_as_they_rise (2 ^ 31) (flavor_image ARMNT 2 flavor_bases_4) refl;
-    };
+    held = flavor_objects_by (foo_input ARMNT) (take 2 (all_members ARMNT (both_inputs ARMNT))) (drop 2 (all_members ARMNT (both_inputs ARMNT))) (0, omega arith, refl) (refl, (tt, tt)) refl refl refl refl refl;
+    admissible = admissible_by refl refl;
     lookups = refl;
     addresses = refl;
     follows = refl;
@@ -237,16 +166,7 @@ nine_refused image field number_there dll loads =
 pub refused_tables : RefusedTables
 unfolding opened refusal renamed_refusal alias_specs encoded_size weak_object has_tables expanded_in short_import_in import_object descriptor_symbol_by_name with_section_symbols descriptor null_descriptor null_thunk descriptor_symbol null_descriptor_symbol null_thunk_symbol base_name descriptor_spec null_descriptor_spec null_thunk_spec header_specs weak_specs group_end sections_end
 refused_tables = record {
-  admissible = record {
-    descriptors = (omega arith, refl);
-    directory_ends = (omega arith, refl);
-    lookups = (omega arith, refl);
-    addresses = (omega arith, refl);
-    hint_names = (omega arith, refl);
-    dll_names = (omega arith, refl);
-    ends = ends_below (2 ^ 31) shifted refl;
-    apart = apart_as_they_rise (2 ^ 31) shifted refl;
-  };
+  admissible = admissible_by refl refl;
   field = refl;
   thunk = refl;
   refused = nine_refused shifted here there _;

@@ -12,10 +12,10 @@ use Rattle.implib.specs.Link.Placement.{placed_from}
 use Rattle.implib.specs.Members.ImportTables.{zeros}
 use Rattle.implib.specs.Members.MsvcObjects.{null_descriptor_symbol}
 use Rattle.implib.proofs.Link.Linked.{all_append}
-use Rattle.implib.proofs.Link.Ranges.{apart_as_they_rise, ends_below}
+use Rattle.implib.proofs.Link.Ranges.{apart_as_they_rise}
 use Rattle.implib_link.specs.Flavors.LldImports.{imp_symbols_of, imports_of_lld}
 use Rattle.implib_link.specs.Flavors.LldTables.{IsAskable, built}
-use Rattle.implib_link.specs.Flavors.Program.{all_members, members_linked, symbols_listed}
+use Rattle.implib_link.specs.Flavors.Program.{members_linked}
 use Rattle.implib_link.specs.Gnu.Calls.{Defines}
 use Rattle.implib_link.specs.Gnu.Choices.{plain_range}
 use Rattle.implib_link.specs.Gnu.OtherLibraries.{AllTaken, DescriptorsAt, inputs_of_runs}
@@ -36,8 +36,9 @@ use Rattle.implib_link_instances.proofs.Worked.Calls.{one_code_resolves}
 use Rattle.implib_link_instances.proofs.Worked.Lld.{alike, lld_opened}
 use Rattle.implib_link_instances.proofs.Worked.NearSearches.{searched}
 use Rattle.implib_link_instances.proofs.Worked.Operands.{movable_code}
-use Rattle.implib_link_instances.proofs.Worked.Programs.{claims_none_by, distinct_by}
+use Rattle.implib_link_instances.proofs.Worked.Programs.{claims_none_by, distinct_by, admissible_by}
 use Rattle.implib_link_instances.proofs.Worked.RefusedLinks.{are_located, differ}
+use Rattle.implib_link_instances.proofs.Worked.Flavors.{flavor_objects_by}
 use Rattle.implib_link_instances.specs.Worked.Relocated.{CodesBeside, code_range, code_ranges}
 
 pub section_instances : SectionInstances
@@ -75,18 +76,7 @@ not_odd n is even_number = omega arith
 pub program_instances : ProgramInstances
 unfolding searched AllTaken DescriptorsAt
 program_instances = record {
-  gnu_first = record {
-    distinct = distinct_by (null_descriptor_symbol ∷ symbols_listed (all_members AMD64 (zed_flavor AMD64 ∷ foo_flavor AMD64 ∷ []))) refl;
-    null_from = foo_flavor AMD64;
-    null_held = (1, omega arith, refl);
-    null_flavor = refl;
-    before = members_linked AMD64 (zed_flavor AMD64);
-    behind = members_linked AMD64 (foo_flavor AMD64);
-    members = refl;
-    tables = refl;
-    others = tt;
-    found = (tt, (refl, tt));
-  };
+  gnu_first = flavor_objects_by (foo_flavor AMD64) (members_linked AMD64 (zed_flavor AMD64)) (members_linked AMD64 (foo_flavor AMD64)) (1, omega arith, refl) (tt, (refl, tt)) refl refl refl refl refl;
   ended = record {
     distinct = distinct_by (linked_symbols AMD64 (inputs_of_runs (run_with [] []))) refl;
     last = ending;
@@ -97,16 +87,7 @@ program_instances = record {
     );
     others = tt;
     ended = inr (are_located (image_of AMD64 spread_8 (placed_from spread_8 (members_of_both ++ ending))) (zeros 20) 44 refl);
-    admissible = record {
-      descriptors = (omega arith, refl);
-      directory_ends = (omega arith, refl);
-      lookups = (omega arith, refl);
-      addresses = (omega arith, refl);
-      hint_names = (omega arith, refl);
-      dll_names = (omega arith, refl);
-      ends = ends_below (2 ^ 31) (image_of AMD64 spread_8 (placed_from spread_8 (members_of_both ++ ending))) refl;
-      apart = apart_as_they_rise (2 ^ 31) (image_of AMD64 spread_8 (placed_from spread_8 (members_of_both ++ ending))) refl;
-    };
+    admissible = admissible_by refl refl;
     whole = (record { sized = tt; fours = refl; rows = refl }, tt);
     taken = (tt, tt);
   };

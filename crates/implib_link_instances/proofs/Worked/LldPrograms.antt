@@ -36,7 +36,7 @@ use Rattle.implib_link.proofs.TablesOfPrograms.{lld_tables}
 use Rattle.implib_link.proofs.Search.Lists.{each_of}
 use Rattle.implib_link_instances.proofs.Worked.LinkedCode.{all_needed, only_absolute, rebased_by, relocated_by, relocated_test}
 use Rattle.implib_link_instances.proofs.Worked.Lld.{alike, lld_opened}
-use Rattle.implib_link_instances.proofs.Worked.Programs.{distinct_by}
+use Rattle.implib_link_instances.proofs.Worked.Programs.{distinct_by, instruction_by}
 use Rattle.implib_link_instances.proofs.Worked.RefusedFields.{other_byte, value}
 use Rattle.implib_link_instances.proofs.Worked.RefusedLinks.{are_located, differ, number}
 use Rattle.implib_link_instances.proofs.Worked.Rules.{same_bytes}
@@ -462,10 +462,10 @@ worked_lld_programs = record {
   amd64_moved = amd64_moved_worked;
   arm64 = arm64_worked;
   arm64_moved = arm64_moved_worked;
-  i386_call = record { type = i386_dir32; symbol = 1; alone = refl; names = i386_zeta; field = 0 ∷ 0 ∷ 0 ∷ 0 ∷ []; four = refl; code = refl; counts = (refl, refl) };
-  i386_load = record { type = i386_dir32; symbol = 2; alone = refl; names = i386_gee; field = 0 ∷ 0 ∷ 0 ∷ 0 ∷ []; four = refl; code = refl; counts = (refl, refl) };
-  amd64_call = record { type = amd64_rel32; symbol = 1; alone = refl; names = amd64_zeta; field = 0 ∷ 0 ∷ 0 ∷ 0 ∷ []; four = refl; code = refl; counts = (0, (omega arith, (refl, refl))) };
-  amd64_load = record { type = amd64_rel32; symbol = 2; alone = refl; names = amd64_gee; field = 0 ∷ 0 ∷ 0 ∷ 0 ∷ []; four = refl; code = refl; counts = (0, (omega arith, (refl, refl))) };
+  i386_call = instruction_by i386_dir32 1 (0 ∷ 0 ∷ 0 ∷ 0 ∷ []) i386_zeta (refl, refl) refl refl refl;
+  i386_load = instruction_by i386_dir32 2 (0 ∷ 0 ∷ 0 ∷ 0 ∷ []) i386_gee (refl, refl) refl refl refl;
+  amd64_call = instruction_by amd64_rel32 1 (0 ∷ 0 ∷ 0 ∷ 0 ∷ []) amd64_zeta (0, (omega arith, (refl, refl))) refl refl refl;
+  amd64_load = instruction_by amd64_rel32 2 (0 ∷ 0 ∷ 0 ∷ 0 ∷ []) amd64_gee (0, (omega arith, (refl, refl))) refl refl refl;
   arm64_page = record { field = record { symbol = 2; alone = refl; inside = omega arith; names = arm64_gee }; empty = refl };
   arm64_offset = record { field = record { symbol = 2; alone = refl; inside = omega arith; names = arm64_gee }; eight = refl; empty = refl };
   i386_shorts = i386_shorts;

@@ -12,13 +12,13 @@ use Rattle.implib.specs.Members.WeakExternal.{weak_object}
 use Rattle.implib_link.specs.Flavors.Expansion.{descriptor_symbol_by_name, expanded_in, import_object}
 use Rattle.implib_link.specs.Flavors.SectionSymbols.{with_section_symbols}
 use Rattle.implib_link.specs.Search.Archives.{archive_of}
-use Rattle.implib_link.specs.Search.Msvc.{AreTakenInTurn, TakesFor, claimed_in, left_in}
+use Rattle.implib_link.specs.Search.Msvc.{TakesFor}
 use Rattle.implib_link.specs.Search.MsvcArchives.{IsMsvcArchive, NamesNoHeaderOf, is_weak_in, symbols_of_shorts, wanted_with_weak}
-use Rattle.implib_link.specs.Search.Search.{undefined_in}
+use Rattle.implib_link.specs.Search.Search.{undefined_in, left_as, claimed_as, AreTakenInTurnAs}
 use Rattle.implib_link_instances.specs.Worked.Archives.{both_wanted}
-use Rattle.implib_link_instances.specs.Worked.MsvcArchives.{WorkedMsvcArchives, descriptor_named, foo_shorts, msvc_zed, null_named, queue_taken, queue_wanted, short_named, shorts_of_both, thunk_named, two_msvc, weak_named}
+use Rattle.implib_link_instances.specs.Worked.MsvcArchives.{WorkedMsvcArchives, msvc_zed, queue_taken, queue_wanted, shorts_of_both, two_msvc}
 use Rattle.implib_link.proofs.Search.Lists.{any_among, apart_none}
-use Rattle.implib_link_instances.proofs.Worked.MsvcSearch.{pulls_in_now, settled_ends}
+use Rattle.implib_link_instances.proofs.Worked.Search.{takes_by}
 use Rattle.implib_link_instances.proofs.Worked.Programs.{distinct_by, opened}
 
 abbrev archive : List MemberView
@@ -34,59 +34,15 @@ abbrev to_null : List ℕ
 to_null = codes "__NULL_IMPORT_DESCRIPTOR"
 
 pub both_take : TakesFor AMD64 (archive_of two_msvc) both_wanted shorts_of_both
-unfolding opened refusal renamed_refusal encoded_size expanded_in short_import_in import_object descriptor_symbol_by_name with_section_symbols descriptor null_descriptor null_thunk descriptor_symbol null_descriptor_symbol null_thunk_symbol base_name descriptor_spec null_descriptor_spec null_thunk_spec header_specs weak_specs weak_object left_in claimed_in undefined_in AreTakenInTurn archive_of is_weak_in symbols_of_shorts
-both_take = record {
-  in_turn = (
-    (0x7F ∷ codes "zed_NULL_THUNK_DATA", pulls_in_now AMD64 archive both_wanted (descriptor_named zed ∷ short_named zed (codes "queue") ∷ foo_shorts) (0x7F ∷ codes "zed_NULL_THUNK_DATA") (thunk_named zed) refl refl refl refl),
-    (
-      (codes "__IMPORT_DESCRIPTOR_zed", pulls_in_now AMD64 archive both_wanted (short_named zed (codes "queue") ∷ foo_shorts) (codes "__IMPORT_DESCRIPTOR_zed") (descriptor_named zed) refl refl refl refl),
-      (
-        (codes "__imp_queue", pulls_in_now AMD64 archive both_wanted foo_shorts (codes "__imp_queue") (short_named zed (codes "queue")) refl refl refl refl),
-        (
-          (
-            0x7F ∷ codes "foo_NULL_THUNK_DATA",
-            pulls_in_now AMD64 archive both_wanted (null_named foo ∷ descriptor_named foo ∷ short_named foo (codes "baz") ∷ weak_named (codes "bar") (codes "baz") ∷ [])
-                (0x7F ∷ codes "foo_NULL_THUNK_DATA") (thunk_named foo) refl refl refl refl,
-          ),
-          (
-            (to_null, pulls_in_now AMD64 archive both_wanted (descriptor_named foo ∷ short_named foo (codes "baz") ∷ weak_named (codes "bar") (codes "baz") ∷ []) to_null (null_named foo) refl refl refl refl),
-            (
-              (
-                codes "__IMPORT_DESCRIPTOR_foo",
-                pulls_in_now AMD64 archive both_wanted (short_named foo (codes "baz") ∷ weak_named (codes "bar") (codes "baz") ∷ [])
-                    (codes "__IMPORT_DESCRIPTOR_foo") (descriptor_named foo) refl refl refl refl,
-              ),
-              (
-                (codes "baz", pulls_in_now AMD64 archive both_wanted (weak_named (codes "bar") (codes "baz") ∷ []) (codes "baz") (short_named foo (codes "baz")) refl refl refl refl),
-                ((codes "bar", pulls_in_now AMD64 archive both_wanted [] (codes "bar") (weak_named (codes "bar") (codes "baz")) refl refl refl refl), tt),
-              ),
-            ),
-          ),
-        ),
-      ),
-    ),
-  );
-  ended = settled_ends AMD64 archive both_wanted shorts_of_both refl;
-}
+unfolding opened refusal renamed_refusal encoded_size expanded_in short_import_in import_object descriptor_symbol_by_name with_section_symbols descriptor null_descriptor null_thunk descriptor_symbol null_descriptor_symbol null_thunk_symbol base_name descriptor_spec null_descriptor_spec null_thunk_spec header_specs weak_specs weak_object left_as claimed_as undefined_in AreTakenInTurnAs archive_of is_weak_in symbols_of_shorts
+both_take = takes_by ((0x7F ∷ codes "zed_NULL_THUNK_DATA") ∷ codes "__IMPORT_DESCRIPTOR_zed" ∷ codes "__imp_queue" ∷ (0x7F ∷ codes "foo_NULL_THUNK_DATA") ∷ to_null ∷ codes "__IMPORT_DESCRIPTOR_foo" ∷ codes "baz" ∷ codes "bar" ∷ []) refl refl refl
 
 queue_takes : TakesFor AMD64 (archive_of two_msvc) queue_wanted queue_taken
-unfolding opened refusal renamed_refusal encoded_size expanded_in short_import_in import_object descriptor_symbol_by_name with_section_symbols descriptor null_descriptor null_thunk descriptor_symbol null_descriptor_symbol null_thunk_symbol base_name descriptor_spec null_descriptor_spec null_thunk_spec header_specs weak_specs weak_object left_in claimed_in undefined_in AreTakenInTurn archive_of is_weak_in symbols_of_shorts
-queue_takes = record {
-  in_turn = (
-    (0x7F ∷ codes "zed_NULL_THUNK_DATA", pulls_in_now AMD64 archive queue_wanted (null_named foo ∷ descriptor_named zed ∷ short_named zed (codes "queue") ∷ []) (0x7F ∷ codes "zed_NULL_THUNK_DATA") (thunk_named zed) refl refl refl refl),
-    (
-      (to_null, pulls_in_now AMD64 archive queue_wanted (descriptor_named zed ∷ short_named zed (codes "queue") ∷ []) to_null (null_named foo) refl refl refl refl),
-      (
-        (codes "__IMPORT_DESCRIPTOR_zed", pulls_in_now AMD64 archive queue_wanted (short_named zed (codes "queue") ∷ []) (codes "__IMPORT_DESCRIPTOR_zed") (descriptor_named zed) refl refl refl refl),
-        ((codes "__imp_queue", pulls_in_now AMD64 archive queue_wanted [] (codes "__imp_queue") (short_named zed (codes "queue")) refl refl refl refl), tt),
-      ),
-    ),
-  );
-  ended = settled_ends AMD64 archive queue_wanted queue_taken refl;
-}
+unfolding opened refusal renamed_refusal encoded_size expanded_in short_import_in import_object descriptor_symbol_by_name with_section_symbols descriptor null_descriptor null_thunk descriptor_symbol null_descriptor_symbol null_thunk_symbol base_name descriptor_spec null_descriptor_spec null_thunk_spec header_specs weak_specs weak_object left_as claimed_as undefined_in AreTakenInTurnAs archive_of is_weak_in symbols_of_shorts
+queue_takes = takes_by ((0x7F ∷ codes "zed_NULL_THUNK_DATA") ∷ to_null ∷ codes "__IMPORT_DESCRIPTOR_zed" ∷ codes "__imp_queue" ∷ []) refl refl refl
 
 pub msvc_archive : IsMsvcArchive AMD64 two_msvc
-unfolding opened refusal renamed_refusal encoded_size expanded_in short_import_in import_object descriptor_symbol_by_name with_section_symbols descriptor null_descriptor null_thunk descriptor_symbol null_descriptor_symbol null_thunk_symbol base_name descriptor_spec null_descriptor_spec null_thunk_spec header_specs weak_specs weak_object left_in claimed_in undefined_in AreTakenInTurn archive_of is_weak_in symbols_of_shorts
+unfolding opened refusal renamed_refusal encoded_size expanded_in short_import_in import_object descriptor_symbol_by_name with_section_symbols descriptor null_descriptor null_thunk descriptor_symbol null_descriptor_symbol null_thunk_symbol base_name descriptor_spec null_descriptor_spec null_thunk_spec header_specs weak_specs weak_object left_as claimed_as undefined_in AreTakenInTurnAs archive_of is_weak_in symbols_of_shorts
 msvc_archive = record {
   made = (record { accepted = refl; made = refl; ordinals = refl }, (record { accepted = refl; made = refl; ordinals = refl }, tt));
   distinct = distinct_by (null_descriptor_symbol ∷ flat_map symbols_of_shorts two_msvc) refl;
@@ -94,17 +50,17 @@ msvc_archive = record {
 }
 
 pub both_plain : NamesNoHeaderOf two_msvc (wanted_with_weak AMD64 both_wanted shorts_of_both)
-unfolding opened refusal renamed_refusal encoded_size expanded_in short_import_in import_object descriptor_symbol_by_name with_section_symbols descriptor null_descriptor null_thunk descriptor_symbol null_descriptor_symbol null_thunk_symbol base_name descriptor_spec null_descriptor_spec null_thunk_spec header_specs weak_specs weak_object left_in claimed_in undefined_in AreTakenInTurn archive_of is_weak_in symbols_of_shorts
+unfolding opened refusal renamed_refusal encoded_size expanded_in short_import_in import_object descriptor_symbol_by_name with_section_symbols descriptor null_descriptor null_thunk descriptor_symbol null_descriptor_symbol null_thunk_symbol base_name descriptor_spec null_descriptor_spec null_thunk_spec header_specs weak_specs weak_object left_as claimed_as undefined_in AreTakenInTurnAs archive_of is_weak_in symbols_of_shorts
 both_plain = (record { descriptor = refl; null_descriptor = refl; null_thunk = refl }, (record { descriptor = refl; null_descriptor = refl; null_thunk = refl }, tt))
 
 twice : IsMsvcArchive AMD64 (msvc_zed ∷ msvc_zed ∷ []) → ⊥
-unfolding opened refusal renamed_refusal encoded_size expanded_in short_import_in import_object descriptor_symbol_by_name with_section_symbols descriptor null_descriptor null_thunk descriptor_symbol null_descriptor_symbol null_thunk_symbol base_name descriptor_spec null_descriptor_spec null_thunk_spec header_specs weak_specs weak_object left_in claimed_in undefined_in AreTakenInTurn archive_of is_weak_in symbols_of_shorts IsDistinct
+unfolding opened refusal renamed_refusal encoded_size expanded_in short_import_in import_object descriptor_symbol_by_name with_section_symbols descriptor null_descriptor null_thunk descriptor_symbol null_descriptor_symbol null_thunk_symbol base_name descriptor_spec null_descriptor_spec null_thunk_spec header_specs weak_specs weak_object left_as claimed_as undefined_in AreTakenInTurnAs archive_of is_weak_in symbols_of_shorts IsDistinct
 twice is =
     let others : List (List ℕ) = null_thunk_symbol zed ∷ codes "__imp_queue" ∷ codes "queue" ∷ codes "__imp_stack" ∷ codes "stack" ∷ symbols_of_shorts msvc_zed ++ [] in
     apart_none (descriptor_symbol zed) others (any_among (descriptor_symbol zed) others refl) is.distinct.1.0
 
 pub worked_msvc_archives : WorkedMsvcArchives
-unfolding opened refusal renamed_refusal encoded_size expanded_in short_import_in import_object descriptor_symbol_by_name with_section_symbols descriptor null_descriptor null_thunk descriptor_symbol null_descriptor_symbol null_thunk_symbol base_name descriptor_spec null_descriptor_spec null_thunk_spec header_specs weak_specs weak_object left_in claimed_in undefined_in AreTakenInTurn archive_of is_weak_in symbols_of_shorts
+unfolding opened refusal renamed_refusal encoded_size expanded_in short_import_in import_object descriptor_symbol_by_name with_section_symbols descriptor null_descriptor null_thunk descriptor_symbol null_descriptor_symbol null_thunk_symbol base_name descriptor_spec null_descriptor_spec null_thunk_spec header_specs weak_specs weak_object left_as claimed_as undefined_in AreTakenInTurnAs archive_of is_weak_in symbols_of_shorts
 worked_msvc_archives = record {
   archive = msvc_archive;
   twice = twice;

@@ -1,8 +1,7 @@
 -- The search of members for Microsoft's linker, by computing.
-use Rattle.std.proofs.Common.{◌≡◌, ℕ, Bool, true, false, List, [], ◌∷◌, ◌++◌, map, Option, None, Some, refl, sym, ◌∙◌, subst, inl, inr, codes}
-use Rattle.std.specs.Prelude.{bytes_eq, ◌||◌, is_none}
-use Rattle.std.specs.List.{flat_map, list_all, list_any}
-use Rattle.std.proofs.lemmas.Bool.{and_parts, true≢false}
+use Rattle.std.proofs.Common.{◌≡◌, ℕ, true, false, List, [], ◌∷◌, Option, None, Some, refl, sym, ◌∙◌, subst, inl, inr, codes}
+use Rattle.std.specs.List.{flat_map}
+use Rattle.std.proofs.lemmas.Bool.{true≢false}
 use Rattle.implib.specs.declared.machine.MachineType.{MachineType}
 use Rattle.implib.specs.declared.machine.MachineType.TheVariants.{I386, ARMNT, AMD64, ARM64}
 use Rattle.implib.specs.Formats.ShortImport.{short_import_in}
@@ -11,64 +10,26 @@ use Rattle.implib.specs.Members.Members.{refusal, renamed_refusal}
 use Rattle.implib.specs.Members.MemberSpec.{MemberView, member_of}
 use Rattle.implib.specs.Members.MsvcMembers.{descriptor_spec, header_specs, null_descriptor_spec, null_thunk_spec, weak_specs}
 use Rattle.implib.specs.Members.MsvcObjects.{base_name, descriptor, descriptor_symbol, null_descriptor, null_descriptor_symbol, null_thunk, null_thunk_symbol}
-use Rattle.implib.proofs.Link.LinkedMembers.{among_contains, among_map}
 use Rattle.implib.proofs.Link.Ranges.{Among}
 use Rattle.implib_link.specs.Flavors.Expansion.{import_object, descriptor_symbol_by_name, expanded_in}
 use Rattle.implib_link.specs.Flavors.SectionSymbols.{with_section_symbols}
-use Rattle.implib_link.specs.Search.Msvc.{AreTakenInTurn, PullsInFor, TakesFor, claimed_in, left_in}
-use Rattle.implib_link.specs.Search.Search.{first_listed, undefined_in}
+use Rattle.implib_link.specs.Search.Msvc.{TakesFor}
+use Rattle.implib_link.specs.Search.Search.{first_listed, undefined_in, left_as, claimed_as, AreTakenInTurnAs}
 use Rattle.implib_link_instances.specs.Worked.MsvcSearch.{WorkedMsvcSearch, WorkedMsvcSearches, baz_member, four_taken, one_wanted, short_members, three_on}
 use Rattle.implib_link_instances.specs.Worked.Programs.{symbol_on}
-use Rattle.implib_link.proofs.Search.Lists.{among_any, any_among, contains_among}
+use Rattle.implib_link.proofs.Search.Lists.{contains_among}
 use Rattle.implib_link.proofs.Search.Msvc.{search_takes}
-use Rattle.implib_link.proofs.Search.MsvcEnds.{short_search_bounded, short_search_ends}
+use Rattle.implib_link.proofs.Search.Ends.{search_ends, search_bounded}
 use Rattle.implib_link_instances.proofs.Worked.Programs.{distinct_by, opened}
+use Rattle.implib_link_instances.proofs.Worked.Search.{pulls_in_now, settled_ends, takes_by}
 use Rattle.implib.specs.LibraryName.{own_names}
-
--- whether a name pulls in no member any more
-abbrev is_settled : MachineType → List MemberView → List MemberView → List ℕ → Bool
-is_settled machine archive taken name = list_any (bytes_eq name) (claimed_in machine taken) || is_none (first_listed archive name)
-
-all_settled : (P : List ℕ → Bool) (names : List (List ℕ)) (name : List ℕ) → list_all P names ≡ true → Among name names → P name ≡ true
-unfolding Among
-all_settled P [] name all held = absurd held
-all_settled P (n ∷ names) name all (inl e) = subst (λ t. P t ≡ true) (sym e) (and_parts (P n) (list_all P names) all).0
-all_settled P (n ∷ names) name all (inr held) = all_settled P names name (and_parts (P n) (list_all P names) all).1 held
-
--- a search is at its end where each name is settled
-pub settled_ends : (machine : MachineType) (archive : List MemberView) (names : List (List ℕ)) (taken : List MemberView) → list_all (is_settled machine archive taken) (names ++ left_in machine taken) ≡ true →
-    (name : List ℕ) (m : MemberView) → PullsInFor machine archive names taken name m → ⊥
-settled_ends machine archive names taken all name m pulls =
-    let settled : is_settled machine archive taken name ≡ true =
-    all_settled (is_settled machine archive taken) (names ++ left_in machine taken) name all (contains_among name (names ++ left_in machine taken) pulls.named) in
-    let is : false ≡ true = rw (pulls.undefined, pulls.listed) at settled in
-    true≢false (sym is)
-
--- the first symbol that a member is listed for
-abbrev first_of : List (List ℕ) → List ℕ
-first_of [] = []
-first_of (name ∷ names) = name
-
-abbrev first_symbol : MemberView → List ℕ
-first_symbol m = first_of m.symbols
-
--- a name pulls in a member by what is computed
-pub pulls_in_now : (machine : MachineType) (archive : List MemberView) (names : List (List ℕ)) (taken : List MemberView) (name : List ℕ) (m : MemberView) →
-    list_any (bytes_eq name) (names ++ left_in machine taken) ≡ true → list_any (bytes_eq name) (claimed_in machine taken) ≡ false → first_listed archive name ≡ Some m →
-    list_any (bytes_eq (first_symbol m)) (map first_symbol taken) ≡ false → PullsInFor machine archive names taken name m
-pulls_in_now machine archive names taken name m named undefined listed new = record {
-  named = among_contains name (names ++ left_in machine taken) (any_among name (names ++ left_in machine taken) named);
-  undefined = undefined;
-  listed = listed;
-  new = λ has. true≢false (sym (among_any (first_symbol m) (map first_symbol taken) (among_map first_symbol m taken (contains_among m taken has))) ∙ new);
-}
 
 -- a name that no member is listed for takes none
 no_member : (m : MemberView) (found : Option MemberView) → found ≡ None → found ≡ Some m → ⊥
 no_member m found none some = (let same : None ≡ Some m = sym none ∙ some in cc)
 
 takes_none : (machine : MachineType) (archive : List MemberView) (name : List ℕ) (m : MemberView) → first_listed archive name ≡ None → TakesFor machine archive (name ∷ []) (m ∷ []) → ⊥
-unfolding AreTakenInTurn Among left_in
+unfolding AreTakenInTurnAs Among left_as
 takes_none machine archive name m none takes =
     elim (contains_among takes.in_turn.0.0 (name ∷ []) takes.in_turn.0.1.named) [
       | inl e ↦ no_member m (first_listed archive name) none (subst (λ n. first_listed archive n ≡ Some m) e takes.in_turn.0.1.listed)
@@ -95,23 +56,11 @@ abbrev the_descriptor : MachineType → MemberView
 the_descriptor machine = member_of (descriptor_spec machine (own_names (codes "foo.dll")))
 
 amd64_takes : TakesFor AMD64 (short_members AMD64) (one_wanted AMD64) (four_taken AMD64)
-unfolding opened refusal renamed_refusal encoded_size expanded_in short_import_in import_object descriptor_symbol_by_name with_section_symbols descriptor null_descriptor null_thunk descriptor_symbol null_descriptor_symbol null_thunk_symbol base_name descriptor_spec null_descriptor_spec null_thunk_spec header_specs weak_specs left_in claimed_in undefined_in AreTakenInTurn
-amd64_takes = record {
-  in_turn = (
-    (to_thunk, pulls_in_now AMD64 (short_members AMD64) (one_wanted AMD64) (the_null AMD64 ∷ the_descriptor AMD64 ∷ baz_member AMD64 ∷ []) to_thunk (the_thunk AMD64) refl refl refl refl),
-    (
-      (to_null, pulls_in_now AMD64 (short_members AMD64) (one_wanted AMD64) (the_descriptor AMD64 ∷ baz_member AMD64 ∷ []) to_null (the_null AMD64) refl refl refl refl),
-      (
-        (to_descriptor, pulls_in_now AMD64 (short_members AMD64) (one_wanted AMD64) (baz_member AMD64 ∷ []) to_descriptor (the_descriptor AMD64) refl refl refl refl),
-        ((symbol_on AMD64 (codes "baz"), pulls_in_now AMD64 (short_members AMD64) (one_wanted AMD64) [] (symbol_on AMD64 (codes "baz")) (baz_member AMD64) refl refl refl refl), tt),
-      ),
-    ),
-  );
-  ended = settled_ends AMD64 (short_members AMD64) (one_wanted AMD64) (four_taken AMD64) refl;
-}
+unfolding opened refusal renamed_refusal encoded_size expanded_in short_import_in import_object descriptor_symbol_by_name with_section_symbols descriptor null_descriptor null_thunk descriptor_symbol null_descriptor_symbol null_thunk_symbol base_name descriptor_spec null_descriptor_spec null_thunk_spec header_specs weak_specs left_as claimed_as undefined_in AreTakenInTurnAs
+amd64_takes = takes_by (to_thunk ∷ to_null ∷ to_descriptor ∷ symbol_on AMD64 (codes "baz") ∷ []) refl refl refl
 
 amd64 : WorkedMsvcSearch AMD64
-unfolding opened refusal renamed_refusal encoded_size expanded_in short_import_in import_object descriptor_symbol_by_name with_section_symbols descriptor null_descriptor null_thunk descriptor_symbol null_descriptor_symbol null_thunk_symbol base_name descriptor_spec null_descriptor_spec null_thunk_spec header_specs weak_specs left_in claimed_in undefined_in AreTakenInTurn
+unfolding opened refusal renamed_refusal encoded_size expanded_in short_import_in import_object descriptor_symbol_by_name with_section_symbols descriptor null_descriptor null_thunk descriptor_symbol null_descriptor_symbol null_thunk_symbol base_name descriptor_spec null_descriptor_spec null_thunk_spec header_specs weak_specs left_as claimed_as undefined_in AreTakenInTurnAs
 amd64 = record {
   made = record { accepted = refl; made = refl; ordinals = refl };
   distinct = distinct_by (flat_map (λ m. m.symbols) (short_members AMD64)) refl;
@@ -125,29 +74,17 @@ amd64 = record {
       refl
       (record { descriptor = refl; null_descriptor = refl; null_thunk = refl })
       amd64_takes;
-  nothing = record { in_turn = tt; ended = settled_ends AMD64 (short_members AMD64) (codes "printf" ∷ []) [] refl };
-  unfinished = λ takes. takes.ended to_descriptor (the_descriptor AMD64) (pulls_in_now AMD64 (short_members AMD64) (one_wanted AMD64) (baz_member AMD64 ∷ []) to_descriptor (the_descriptor AMD64) refl refl refl refl);
+  nothing = record { in_turn = tt; ended = settled_ends (expanded_in AMD64) (short_members AMD64) (codes "printf" ∷ []) [] refl };
+  unfinished = λ takes. takes.ended to_descriptor (the_descriptor AMD64) (pulls_in_now (expanded_in AMD64) (short_members AMD64) (one_wanted AMD64) (baz_member AMD64 ∷ []) to_descriptor (the_descriptor AMD64) refl refl refl refl);
   unasked = takes_none AMD64 (short_members AMD64) (codes "printf") (baz_member AMD64) refl;
 }
 
 arm64_takes : TakesFor ARM64 (short_members ARM64) (one_wanted ARM64) (four_taken ARM64)
-unfolding opened refusal renamed_refusal encoded_size expanded_in short_import_in import_object descriptor_symbol_by_name with_section_symbols descriptor null_descriptor null_thunk descriptor_symbol null_descriptor_symbol null_thunk_symbol base_name descriptor_spec null_descriptor_spec null_thunk_spec header_specs weak_specs left_in claimed_in undefined_in AreTakenInTurn
-arm64_takes = record {
-  in_turn = (
-    (to_thunk, pulls_in_now ARM64 (short_members ARM64) (one_wanted ARM64) (the_null ARM64 ∷ the_descriptor ARM64 ∷ baz_member ARM64 ∷ []) to_thunk (the_thunk ARM64) refl refl refl refl),
-    (
-      (to_null, pulls_in_now ARM64 (short_members ARM64) (one_wanted ARM64) (the_descriptor ARM64 ∷ baz_member ARM64 ∷ []) to_null (the_null ARM64) refl refl refl refl),
-      (
-        (to_descriptor, pulls_in_now ARM64 (short_members ARM64) (one_wanted ARM64) (baz_member ARM64 ∷ []) to_descriptor (the_descriptor ARM64) refl refl refl refl),
-        ((symbol_on ARM64 (codes "baz"), pulls_in_now ARM64 (short_members ARM64) (one_wanted ARM64) [] (symbol_on ARM64 (codes "baz")) (baz_member ARM64) refl refl refl refl), tt),
-      ),
-    ),
-  );
-  ended = settled_ends ARM64 (short_members ARM64) (one_wanted ARM64) (four_taken ARM64) refl;
-}
+unfolding opened refusal renamed_refusal encoded_size expanded_in short_import_in import_object descriptor_symbol_by_name with_section_symbols descriptor null_descriptor null_thunk descriptor_symbol null_descriptor_symbol null_thunk_symbol base_name descriptor_spec null_descriptor_spec null_thunk_spec header_specs weak_specs left_as claimed_as undefined_in AreTakenInTurnAs
+arm64_takes = takes_by (to_thunk ∷ to_null ∷ to_descriptor ∷ symbol_on ARM64 (codes "baz") ∷ []) refl refl refl
 
 arm64 : WorkedMsvcSearch ARM64
-unfolding opened refusal renamed_refusal encoded_size expanded_in short_import_in import_object descriptor_symbol_by_name with_section_symbols descriptor null_descriptor null_thunk descriptor_symbol null_descriptor_symbol null_thunk_symbol base_name descriptor_spec null_descriptor_spec null_thunk_spec header_specs weak_specs left_in claimed_in undefined_in AreTakenInTurn
+unfolding opened refusal renamed_refusal encoded_size expanded_in short_import_in import_object descriptor_symbol_by_name with_section_symbols descriptor null_descriptor null_thunk descriptor_symbol null_descriptor_symbol null_thunk_symbol base_name descriptor_spec null_descriptor_spec null_thunk_spec header_specs weak_specs left_as claimed_as undefined_in AreTakenInTurnAs
 arm64 = record {
   made = record { accepted = refl; made = refl; ordinals = refl };
   distinct = distinct_by (flat_map (λ m. m.symbols) (short_members ARM64)) refl;
@@ -161,29 +98,17 @@ arm64 = record {
       refl
       (record { descriptor = refl; null_descriptor = refl; null_thunk = refl })
       arm64_takes;
-  nothing = record { in_turn = tt; ended = settled_ends ARM64 (short_members ARM64) (codes "printf" ∷ []) [] refl };
-  unfinished = λ takes. takes.ended to_descriptor (the_descriptor ARM64) (pulls_in_now ARM64 (short_members ARM64) (one_wanted ARM64) (baz_member ARM64 ∷ []) to_descriptor (the_descriptor ARM64) refl refl refl refl);
+  nothing = record { in_turn = tt; ended = settled_ends (expanded_in ARM64) (short_members ARM64) (codes "printf" ∷ []) [] refl };
+  unfinished = λ takes. takes.ended to_descriptor (the_descriptor ARM64) (pulls_in_now (expanded_in ARM64) (short_members ARM64) (one_wanted ARM64) (baz_member ARM64 ∷ []) to_descriptor (the_descriptor ARM64) refl refl refl refl);
   unasked = takes_none ARM64 (short_members ARM64) (codes "printf") (baz_member ARM64) refl;
 }
 
 i386_takes : TakesFor I386 (short_members I386) (one_wanted I386) (four_taken I386)
-unfolding opened refusal renamed_refusal encoded_size expanded_in short_import_in import_object descriptor_symbol_by_name with_section_symbols descriptor null_descriptor null_thunk descriptor_symbol null_descriptor_symbol null_thunk_symbol base_name descriptor_spec null_descriptor_spec null_thunk_spec header_specs weak_specs left_in claimed_in undefined_in AreTakenInTurn
-i386_takes = record {
-  in_turn = (
-    (to_thunk, pulls_in_now I386 (short_members I386) (one_wanted I386) (the_null I386 ∷ the_descriptor I386 ∷ baz_member I386 ∷ []) to_thunk (the_thunk I386) refl refl refl refl),
-    (
-      (to_null, pulls_in_now I386 (short_members I386) (one_wanted I386) (the_descriptor I386 ∷ baz_member I386 ∷ []) to_null (the_null I386) refl refl refl refl),
-      (
-        (to_descriptor, pulls_in_now I386 (short_members I386) (one_wanted I386) (baz_member I386 ∷ []) to_descriptor (the_descriptor I386) refl refl refl refl),
-        ((symbol_on I386 (codes "baz"), pulls_in_now I386 (short_members I386) (one_wanted I386) [] (symbol_on I386 (codes "baz")) (baz_member I386) refl refl refl refl), tt),
-      ),
-    ),
-  );
-  ended = settled_ends I386 (short_members I386) (one_wanted I386) (four_taken I386) refl;
-}
+unfolding opened refusal renamed_refusal encoded_size expanded_in short_import_in import_object descriptor_symbol_by_name with_section_symbols descriptor null_descriptor null_thunk descriptor_symbol null_descriptor_symbol null_thunk_symbol base_name descriptor_spec null_descriptor_spec null_thunk_spec header_specs weak_specs left_as claimed_as undefined_in AreTakenInTurnAs
+i386_takes = takes_by (to_thunk ∷ to_null ∷ to_descriptor ∷ symbol_on I386 (codes "baz") ∷ []) refl refl refl
 
 i386 : WorkedMsvcSearch I386
-unfolding opened refusal renamed_refusal encoded_size expanded_in short_import_in import_object descriptor_symbol_by_name with_section_symbols descriptor null_descriptor null_thunk descriptor_symbol null_descriptor_symbol null_thunk_symbol base_name descriptor_spec null_descriptor_spec null_thunk_spec header_specs weak_specs left_in claimed_in undefined_in AreTakenInTurn
+unfolding opened refusal renamed_refusal encoded_size expanded_in short_import_in import_object descriptor_symbol_by_name with_section_symbols descriptor null_descriptor null_thunk descriptor_symbol null_descriptor_symbol null_thunk_symbol base_name descriptor_spec null_descriptor_spec null_thunk_spec header_specs weak_specs left_as claimed_as undefined_in AreTakenInTurnAs
 i386 = record {
   made = record { accepted = refl; made = refl; ordinals = refl };
   distinct = distinct_by (flat_map (λ m. m.symbols) (short_members I386)) refl;
@@ -197,29 +122,17 @@ i386 = record {
       refl
       (record { descriptor = refl; null_descriptor = refl; null_thunk = refl })
       i386_takes;
-  nothing = record { in_turn = tt; ended = settled_ends I386 (short_members I386) (codes "printf" ∷ []) [] refl };
-  unfinished = λ takes. takes.ended to_descriptor (the_descriptor I386) (pulls_in_now I386 (short_members I386) (one_wanted I386) (baz_member I386 ∷ []) to_descriptor (the_descriptor I386) refl refl refl refl);
+  nothing = record { in_turn = tt; ended = settled_ends (expanded_in I386) (short_members I386) (codes "printf" ∷ []) [] refl };
+  unfinished = λ takes. takes.ended to_descriptor (the_descriptor I386) (pulls_in_now (expanded_in I386) (short_members I386) (one_wanted I386) (baz_member I386 ∷ []) to_descriptor (the_descriptor I386) refl refl refl refl);
   unasked = takes_none I386 (short_members I386) (codes "printf") (baz_member I386) refl;
 }
 
 armnt_takes : TakesFor ARMNT (short_members ARMNT) (one_wanted ARMNT) (four_taken ARMNT)
-unfolding opened refusal renamed_refusal encoded_size expanded_in short_import_in import_object descriptor_symbol_by_name with_section_symbols descriptor null_descriptor null_thunk descriptor_symbol null_descriptor_symbol null_thunk_symbol base_name descriptor_spec null_descriptor_spec null_thunk_spec header_specs weak_specs left_in claimed_in undefined_in AreTakenInTurn
-armnt_takes = record {
-  in_turn = (
-    (to_thunk, pulls_in_now ARMNT (short_members ARMNT) (one_wanted ARMNT) (the_null ARMNT ∷ the_descriptor ARMNT ∷ baz_member ARMNT ∷ []) to_thunk (the_thunk ARMNT) refl refl refl refl),
-    (
-      (to_null, pulls_in_now ARMNT (short_members ARMNT) (one_wanted ARMNT) (the_descriptor ARMNT ∷ baz_member ARMNT ∷ []) to_null (the_null ARMNT) refl refl refl refl),
-      (
-        (to_descriptor, pulls_in_now ARMNT (short_members ARMNT) (one_wanted ARMNT) (baz_member ARMNT ∷ []) to_descriptor (the_descriptor ARMNT) refl refl refl refl),
-        ((symbol_on ARMNT (codes "baz"), pulls_in_now ARMNT (short_members ARMNT) (one_wanted ARMNT) [] (symbol_on ARMNT (codes "baz")) (baz_member ARMNT) refl refl refl refl), tt),
-      ),
-    ),
-  );
-  ended = settled_ends ARMNT (short_members ARMNT) (one_wanted ARMNT) (four_taken ARMNT) refl;
-}
+unfolding opened refusal renamed_refusal encoded_size expanded_in short_import_in import_object descriptor_symbol_by_name with_section_symbols descriptor null_descriptor null_thunk descriptor_symbol null_descriptor_symbol null_thunk_symbol base_name descriptor_spec null_descriptor_spec null_thunk_spec header_specs weak_specs left_as claimed_as undefined_in AreTakenInTurnAs
+armnt_takes = takes_by (to_thunk ∷ to_null ∷ to_descriptor ∷ symbol_on ARMNT (codes "baz") ∷ []) refl refl refl
 
 armnt : WorkedMsvcSearch ARMNT
-unfolding opened refusal renamed_refusal encoded_size expanded_in short_import_in import_object descriptor_symbol_by_name with_section_symbols descriptor null_descriptor null_thunk descriptor_symbol null_descriptor_symbol null_thunk_symbol base_name descriptor_spec null_descriptor_spec null_thunk_spec header_specs weak_specs left_in claimed_in undefined_in AreTakenInTurn
+unfolding opened refusal renamed_refusal encoded_size expanded_in short_import_in import_object descriptor_symbol_by_name with_section_symbols descriptor null_descriptor null_thunk descriptor_symbol null_descriptor_symbol null_thunk_symbol base_name descriptor_spec null_descriptor_spec null_thunk_spec header_specs weak_specs left_as claimed_as undefined_in AreTakenInTurnAs
 armnt = record {
   made = record { accepted = refl; made = refl; ordinals = refl };
   distinct = distinct_by (flat_map (λ m. m.symbols) (short_members ARMNT)) refl;
@@ -233,8 +146,8 @@ armnt = record {
       refl
       (record { descriptor = refl; null_descriptor = refl; null_thunk = refl })
       armnt_takes;
-  nothing = record { in_turn = tt; ended = settled_ends ARMNT (short_members ARMNT) (codes "printf" ∷ []) [] refl };
-  unfinished = λ takes. takes.ended to_descriptor (the_descriptor ARMNT) (pulls_in_now ARMNT (short_members ARMNT) (one_wanted ARMNT) (baz_member ARMNT ∷ []) to_descriptor (the_descriptor ARMNT) refl refl refl refl);
+  nothing = record { in_turn = tt; ended = settled_ends (expanded_in ARMNT) (short_members ARMNT) (codes "printf" ∷ []) [] refl };
+  unfinished = λ takes. takes.ended to_descriptor (the_descriptor ARMNT) (pulls_in_now (expanded_in ARMNT) (short_members ARMNT) (one_wanted ARMNT) (baz_member ARMNT ∷ []) to_descriptor (the_descriptor ARMNT) refl refl refl refl);
   unasked = takes_none ARMNT (short_members ARMNT) (codes "printf") (baz_member ARMNT) refl;
 }
 
@@ -248,7 +161,7 @@ worked_msvc_searches = record {
   no_descriptor = λ plain. true≢false plain.descriptor;
   no_null_descriptor = λ plain. true≢false plain.null_descriptor;
   no_null_thunk = λ plain. true≢false plain.null_thunk;
-  ends = short_search_ends AMD64 (short_members AMD64) (one_wanted AMD64);
-  bounded = short_search_bounded AMD64 (short_members AMD64) (four_taken AMD64) (one_wanted AMD64) amd64_takes.in_turn;
+  ends = search_ends (expanded_in AMD64) (short_members AMD64) (one_wanted AMD64);
+  bounded = search_bounded (expanded_in AMD64) (short_members AMD64) (four_taken AMD64) (one_wanted AMD64) amd64_takes.in_turn;
   members = refl;
 }

@@ -23,12 +23,11 @@ use Rattle.implib.specs.Link.Placement.{Placed, Unplaced}
 use Rattle.implib.specs.Link.Resolution.{definitions_of, is_undefined_external}
 use Rattle.implib.proofs.Link.Loading.{number_once}
 use Rattle.implib_link.specs.Flavors.LldTables.{directory_built}
-use Rattle.implib_link.specs.Search.MsvcClosed.{AreTakenIntoFor}
-use Rattle.implib_link.specs.Search.Closed.{AreTakenInto}
-use Rattle.implib_link.specs.Search.Search.{IsTakenInTurn}
+use Rattle.implib_link.specs.Search.Closed.{AreTakenIntoAs}
+use Rattle.implib_link.specs.Search.Search.{AreTakenInTurnAs}
 use Rattle.implib_link_instances.specs.Worked.Calls.{calling_at, calling_objects, calling_placed}
 use Rattle.implib_link_instances.specs.Worked.Lld.{two_dlls}
-use Rattle.implib_link_instances.specs.Worked.NearLinks.{NearAreGiven, NearAreLinkedBeside, NearAreMoved, NearArePiecesAt, NearAreSections, NearDefinesIn, NearFindsBy, NearHasBranch, NearHasField, NearHasOperand, NearJumpsThrough, NearNames, NearResolves, NearTakes, NearTakesInto, NearTakesIntoFor, NearTakesSymbols, NearHasInstruction, jumping, jump_section, jumping_as, late_f, table_elsewhere}
+use Rattle.implib_link_instances.specs.Worked.NearLinks.{NearAreGiven, NearAreLinkedBeside, NearAreMoved, NearArePiecesAt, NearAreSections, NearDefinesIn, NearFindsBy, NearHasBranch, NearHasField, NearHasOperand, NearJumpsThrough, NearNames, NearResolves, NearTakesAs, NearTakesIntoAs, NearTakesSymbols, NearHasInstruction, jumping, jump_section, jumping_as, late_f, table_elsewhere}
 use Rattle.implib_link_instances.specs.Worked.NearSearches.{again, listing}
 use Rattle.implib_link_instances.specs.Worked.Operands.{field, imp_open, passing_at}
 use Rattle.implib_link_instances.specs.Worked.Programs.{program_placed, symbol_of_class, symbol_on, touching_8, code_object}
@@ -44,20 +43,16 @@ use Rattle.implib_link_instances.proofs.Worked.RefusedLinks.{differ, number, zer
 use Rattle.implib_link_instances.specs.Worked.RefusedLinks.{ordinal_8}
 use Rattle.implib_link_instances.proofs.Worked.Rules.{symbol_rules}
 
-pub near_takes : NearTakes
-unfolding searched IsTakenInTurn
+pub near_takes : NearTakesAs
+unfolding searched AreTakenInTurnAs
 near_takes = record {
   in_turn = λ x. none_in x.in_turn.0.0 x.in_turn.0.1.named;
   ended = λ x. x.ended (codes "queue") listing (record { named = (0, omega arith, refl); undefined = refl; listed = refl; new = λ held. none_in listing held });
 }
 
-pub near_takes_into : NearTakesInto
-unfolding searched AreTakenInto
+pub near_takes_into : NearTakesIntoAs
+unfolding searched AreTakenIntoAs
 near_takes_into = record { in_turn = λ x. none_in x.in_turn.0.0 x.in_turn.0.1.named }
-
-pub near_takes_into_for : NearTakesIntoFor
-unfolding searched AreTakenIntoFor
-near_takes_into_for = record { in_turn = λ x. none_in x.in_turn.0.0 x.in_turn.0.1.named }
 
 pub near_are_given : NearAreGiven
 unfolding searched

@@ -24,18 +24,16 @@ use Rattle.implib.specs.Worked.Statements.{plain_export}
 use Rattle.implib.proofs.Link.LinkedMembers.{among_contains}
 use Rattle.implib.proofs.Link.Ranges.{Among, among_first}
 use Rattle.implib_link.specs.Flavors.Expansion.{descriptor_symbol_by_name, expanded_in, import_object}
-use Rattle.implib_link.specs.Flavors.Program.{objects_taken}
 use Rattle.implib_link.specs.Flavors.SectionSymbols.{with_section_symbols}
 use Rattle.implib_link.specs.Gnu.Program.{has_tables, thunks_before}
 use Rattle.implib_link.specs.Search.Archives.{IsArchive, IsWeakData, Library, archive_of, exports_of, is_weak, symbols_of_library, weak_among}
 use Rattle.implib_link.specs.Search.Closed.{claims_of, references_of, unresolved}
-use Rattle.implib_link.specs.Search.Msvc.{claimed_in, left_in}
 use Rattle.implib_link.specs.Search.MsvcArchives.{IsWeakShort, is_short_alias, is_weak_in, symbols_of_shorts, weak_in}
-use Rattle.implib_link.specs.Search.Search.{names_claimed, names_undefined, undefined_in}
+use Rattle.implib_link.specs.Search.Search.{undefined_in, left_as, claimed_as}
 use Rattle.implib_link_instances.specs.Worked.Archives.{two_libraries}
 use Rattle.implib_link_instances.specs.Worked.Closed.{closed_bases, closed_objects, closed_taken, foo_alias}
-use Rattle.implib_link_instances.specs.Worked.MsvcArchives.{null_named, short_named, shorts_of_both, two_msvc, weak_named}
-use Rattle.implib_link_instances.specs.Worked.NearSearches.{NearAreNamedApart, NearIsAliasTaken, NearIsArchive, NearIsImported, NearIsMsvcArchive, NearIsUsed, NearIsWeakData, NearIsWeakShort, NearIsWeakTaken, NearNamesNoHeadOrTail, NearPullsIn, NearPullsInFor, NearPullsInto, NearPullsIntoFor, again, asking, closed_inputs, later, listing, queue_member, zed_library, zed_short}
+use Rattle.implib_link_instances.specs.Worked.MsvcArchives.{null_named, shorts_of_both, two_msvc, weak_named}
+use Rattle.implib_link_instances.specs.Worked.NearSearches.{NearAreNamedApart, NearIsAliasTaken, NearIsArchive, NearIsImported, NearIsMsvcArchive, NearIsUsed, NearIsWeakData, NearIsWeakShort, NearIsWeakTaken, NearNamesNoHeadOrTail, NearPullsInAs, NearPullsIntoAs, again, asking, closed_inputs, later, listing, queue_member, zed_library, zed_short}
 use Rattle.implib_link.proofs.Search.Lists.{among_any, among_at, contains_among}
 use Rattle.implib_link_instances.proofs.Worked.RefusedLinks.{differ}
 use Rattle.implib.specs.Members.ImportTables.{thunk_width}
@@ -45,7 +43,7 @@ use Rattle.implib_link_instances.proofs.Worked.Programs.{distinct_by, opened}
 
 -- what the computing has to open
 unfoldable pub searched : Unit {0}
-unfolding opened refusal renamed_refusal alias_specs encoded_size weak_object expanded_in short_import_in import_object descriptor_symbol_by_name with_section_symbols descriptor null_descriptor null_thunk descriptor_symbol null_descriptor_symbol null_thunk_symbol base_name descriptor_spec null_descriptor_spec null_thunk_spec header_specs weak_specs has_tables archive_of is_weak is_weak_in left_in claimed_in names_undefined names_claimed undefined_in references_of claims_of symbols_of_library symbols_of_shorts
+unfolding opened refusal renamed_refusal alias_specs encoded_size weak_object expanded_in short_import_in import_object descriptor_symbol_by_name with_section_symbols descriptor null_descriptor null_thunk descriptor_symbol null_descriptor_symbol null_thunk_symbol base_name descriptor_spec null_descriptor_spec null_thunk_spec header_specs weak_specs has_tables archive_of is_weak is_weak_in left_as claimed_as undefined_in references_of claims_of symbols_of_library symbols_of_shorts
 searched = tt
 
 pub none_in : {X : Type 0} (x : X) → Contains [] x → ⊥
@@ -61,7 +59,7 @@ differ_in_name is = cc
 there : Contains (listing ∷ []) listing
 there = (0, omega arith, refl)
 
-pub near_pulls_in : NearPullsIn
+pub near_pulls_in : NearPullsInAs
 unfolding searched
 near_pulls_in = record {
   pulls = record { named = (0, omega arith, refl); undefined = refl; listed = refl; new = λ held. none_in listing held };
@@ -71,28 +69,11 @@ near_pulls_in = record {
   new = λ x. x.new there;
 }
 
-pub near_pulls_in_for : NearPullsInFor
-unfolding searched
-near_pulls_in_for = record {
-  named = λ x. none_in (codes "queue") x.named;
-  undefined = λ x. true≢false x.undefined;
-  listed = λ x. differ_in_name (other_first listing later x.listed);
-  new = λ x. x.new there;
-}
-
-pub near_pulls_into : NearPullsInto
+pub near_pulls_into : NearPullsIntoAs
 unfolding searched
 near_pulls_into = record {
   pulls = record { named = (0, omega arith, refl); listed = refl; new = λ held. none_in listing held };
   named = λ x. none_passes (bytes_eq (codes "queue")) (codes "queue") (unresolved (asking ∷ objects_in (queue_member ∷ []))) refl x.named refl;
-  listed = λ x. differ_in_name (other_first listing later x.listed);
-  new = λ x. x.new there;
-}
-
-pub near_pulls_into_for : NearPullsIntoFor
-unfolding searched
-near_pulls_into_for = record {
-  named = λ x. none_passes (bytes_eq (codes "queue")) (codes "queue") (unresolved (asking ∷ objects_taken AMD64 (short_named (codes "zed.dll") (codes "queue") ∷ []))) refl x.named refl;
   listed = λ x. differ_in_name (other_first listing later x.listed);
   new = λ x. x.new there;
 }

@@ -12,17 +12,17 @@ use Rattle.implib.specs.Members.GnuMembers.{alias_specs}
 use Rattle.implib.specs.Members.Members.{refusal, renamed_refusal}
 use Rattle.implib.specs.Members.WeakExternal.{weak_object}
 use Rattle.implib.specs.Formats.Layout.{encoded_size}
-use Rattle.implib.proofs.Link.Ranges.{apart_as_they_rise, ends_below}
+use Rattle.implib.proofs.Link.Ranges.{apart_as_they_rise}
 use Rattle.implib_link.specs.Gnu.Calls.{HasCall, HasDirectCall, amd64_addr64, arm64_addr64, arm64_branch26, field_width, i386_rel32}
 use Rattle.implib_link.specs.Gnu.Fields.{AreLinkedBeside, placed_code}
 use Rattle.implib_link.specs.Gnu.Moves.{AreInMemory, AreMoved, CanBeMoved, places_of_code}
 use Rattle.implib_link.specs.Gnu.Operands.{HasBranch, HasInstruction, HasOffsetField, HasOperand, HasPageField, HasPointer, IsOperand, Names}
 use Rattle.implib_link.specs.Gnu.Pages.{HasPage, HasPageOffset}
-use Rattle.implib_link.specs.Gnu.Program.{IsProgram, has_tables, linked_symbols}
+use Rattle.implib_link.specs.Gnu.Program.{IsProgram, has_tables}
 use Rattle.implib_link.specs.Gnu.Choices.{ArePlacesApart}
 use Rattle.implib_link.specs.Gnu.Rebased.{IsRebased, Place, covers, table_places}
-use Rattle.implib_link_instances.specs.Worked.Operands.{AdjacentCalls, MovableCode, PassingFields, WorkedFields, WorkedOperands, amd64_rel32_1, field, imp_open, arm64_pageoffset_12a, arm64_secrel, moved_memory, open_on, passing, passing_at, passing_bytes, passing_codes, passing_image, passing_memory, passing_objects, passing_placed, passing_places, passing_targets, stub_of_open, x86_secrel}
-use Rattle.implib_link_instances.specs.Worked.Programs.{another, both_inputs, symbol_of_class, touching_4, touching_8}
+use Rattle.implib_link_instances.specs.Worked.Operands.{AdjacentCalls, MovableCode, PassingFields, WorkedFields, WorkedOperands, amd64_rel32_1, field, imp_open, arm64_pageoffset_12a, arm64_secrel, moved_memory, open_on, passing_at, passing_bytes, passing_codes, passing_image, passing_memory, passing_objects, passing_placed, passing_places, passing_targets, stub_of_open, x86_secrel}
+use Rattle.implib_link_instances.specs.Worked.Programs.{both_inputs, symbol_of_class, touching_4, touching_8}
 use Rattle.implib_link.proofs.Gnu.Moved.{covered_bounds}
 use Rattle.implib_link.proofs.Gnu.MovedPrograms.{moved_memory_exists}
 use Rattle.implib_link.proofs.Gnu.Operands.{operand_width}
@@ -30,26 +30,12 @@ use Rattle.implib_link.proofs.Gnu.Steady.{program_tables_none}
 use Rattle.implib_link.specs.Gnu.Calls.{StubAt}
 use Rattle.implib_link_instances.proofs.Worked.Calls.{wide}
 use Rattle.implib_link_instances.proofs.Worked.LinkedCode.{all_needed, only_absolute, rebased_by, relocated_by, relocated_test, takes_by}
-use Rattle.implib_link_instances.proofs.Worked.Programs.{claims_none_by, distinct_by, opened, worked_programs}
+use Rattle.implib_link_instances.proofs.Worked.Programs.{opened, worked_programs, admissible_by, instructions_at, program_by, instruction_by}
 use Rattle.implib_link_instances.proofs.Worked.RefusedLinks.{differ, number}
 
 amd64_program : IsProgram AMD64 touching_8 (both_inputs AMD64) (passing_objects AMD64)
 unfolding opened refusal renamed_refusal alias_specs encoded_size weak_object has_tables relocated_test
-amd64_program = record {
-  distinct = distinct_by (linked_symbols AMD64 (both_inputs AMD64)) refl;
-  tables = refl;
-  others = (claims_none_by (linked_symbols AMD64 (both_inputs AMD64)) (passing AMD64) refl, (claims_none_by (linked_symbols AMD64 (both_inputs AMD64)) (another AMD64) refl, tt));
-  admissible = record {
-    descriptors = (omega arith, refl);
-    directory_ends = (omega arith, refl);
-    lookups = (omega arith, refl);
-    addresses = (omega arith, refl);
-    hint_names = (omega arith, refl);
-    dll_names = (omega arith, refl);
-    ends = ends_below (2 ^ 31) (passing_image AMD64 touching_8) refl;
-    apart = apart_as_they_rise (2 ^ 31) (passing_image AMD64 touching_8) refl;
-  };
-}
+amd64_program = program_by refl refl refl (admissible_by refl refl)
 
 amd64_beside : AreLinkedBeside AMD64 0x1_4000_0000 (passing_image AMD64 touching_8) (passing_placed AMD64 touching_8) (passing_codes AMD64 touching_8) (passing_targets AMD64 touching_8)
 unfolding opened refusal renamed_refusal alias_specs encoded_size weak_object has_tables relocated_test
@@ -67,21 +53,7 @@ amd64_beside = record {
 
 i386_program : IsProgram I386 touching_4 (both_inputs I386) (passing_objects I386)
 unfolding opened refusal renamed_refusal alias_specs encoded_size weak_object has_tables relocated_test
-i386_program = record {
-  distinct = distinct_by (linked_symbols I386 (both_inputs I386)) refl;
-  tables = refl;
-  others = (claims_none_by (linked_symbols I386 (both_inputs I386)) (passing I386) refl, (claims_none_by (linked_symbols I386 (both_inputs I386)) (another I386) refl, tt));
-  admissible = record {
-    descriptors = (omega arith, refl);
-    directory_ends = (omega arith, refl);
-    lookups = (omega arith, refl);
-    addresses = (omega arith, refl);
-    hint_names = (omega arith, refl);
-    dll_names = (omega arith, refl);
-    ends = ends_below (2 ^ 31) (passing_image I386 touching_4) refl;
-    apart = apart_as_they_rise (2 ^ 31) (passing_image I386 touching_4) refl;
-  };
-}
+i386_program = program_by refl refl refl (admissible_by refl refl)
 
 i386_beside : AreLinkedBeside I386 0x40_0000 (passing_image I386 touching_4) (passing_placed I386 touching_4) (passing_codes I386 touching_4) (passing_targets I386 touching_4)
 unfolding opened refusal renamed_refusal alias_specs encoded_size weak_object has_tables relocated_test
@@ -99,21 +71,7 @@ i386_beside = record {
 
 arm64_program : IsProgram ARM64 touching_8 (both_inputs ARM64) (passing_objects ARM64)
 unfolding opened refusal renamed_refusal alias_specs encoded_size weak_object has_tables relocated_test
-arm64_program = record {
-  distinct = distinct_by (linked_symbols ARM64 (both_inputs ARM64)) refl;
-  tables = refl;
-  others = (claims_none_by (linked_symbols ARM64 (both_inputs ARM64)) (passing ARM64) refl, (claims_none_by (linked_symbols ARM64 (both_inputs ARM64)) (another ARM64) refl, tt));
-  admissible = record {
-    descriptors = (omega arith, refl);
-    directory_ends = (omega arith, refl);
-    lookups = (omega arith, refl);
-    addresses = (omega arith, refl);
-    hint_names = (omega arith, refl);
-    dll_names = (omega arith, refl);
-    ends = ends_below (2 ^ 31) (passing_image ARM64 touching_8) refl;
-    apart = apart_as_they_rise (2 ^ 31) (passing_image ARM64 touching_8) refl;
-  };
-}
+arm64_program = program_by refl refl refl (admissible_by refl refl)
 
 arm64_beside : AreLinkedBeside ARM64 0x1_4000_0000 (passing_image ARM64 touching_8) (passing_placed ARM64 touching_8) (passing_codes ARM64 touching_8) (passing_targets ARM64 touching_8)
 unfolding opened refusal renamed_refusal alias_specs encoded_size weak_object has_tables relocated_test
@@ -209,88 +167,25 @@ arm64_names_3 : Names (passing_at ARM64).from 3 (open_on ARM64)
 arm64_names_3 = record { symbol = symbol_of_class (open_on ARM64) 0 class_external; target = refl; undefined = refl; named = refl }
 
 amd64_call : HasInstruction AMD64 (passing_at AMD64) 11 (0xFF ∷ 0x15 ∷ []) ([]) (imp_open AMD64)
-amd64_call = record {
-  type = amd64_rel32;
-  symbol = 1;
-  alone = refl;
-  names = amd64_names_1;
-  field = 0 ∷ 0 ∷ 0 ∷ 0 ∷ [];
-  four = refl;
-  code = refl;
-  counts = (0, (omega arith, (refl, refl)));
-}
+amd64_call = instruction_by amd64_rel32 1 (0 ∷ 0 ∷ 0 ∷ 0 ∷ []) amd64_names_1 (0, (omega arith, (refl, refl))) refl refl refl
 
 amd64_compare : HasInstruction AMD64 (passing_at AMD64) 17 (0x83 ∷ 0x3D ∷ []) (1 ∷ []) (imp_open AMD64)
-amd64_compare = record {
-  type = amd64_rel32_1;
-  symbol = 1;
-  alone = refl;
-  names = amd64_names_1;
-  field = 0 ∷ 0 ∷ 0 ∷ 0 ∷ [];
-  four = refl;
-  code = refl;
-  counts = (1, (omega arith, (refl, refl)));
-}
+amd64_compare = instruction_by amd64_rel32_1 1 (0 ∷ 0 ∷ 0 ∷ 0 ∷ []) amd64_names_1 (1, (omega arith, (refl, refl))) refl refl refl
 
 amd64_again : HasInstruction AMD64 (passing_at AMD64) 24 (0x83 ∷ 0x3D ∷ []) (1 ∷ []) (imp_open AMD64)
-amd64_again = record {
-  type = amd64_rel32;
-  symbol = 1;
-  alone = refl;
-  names = amd64_names_1;
-  field = 0xFF ∷ 0xFF ∷ 0xFF ∷ 0xFF ∷ [];
-  four = refl;
-  code = refl;
-  counts = (0, (omega arith, (refl, refl)));
-}
+amd64_again = instruction_by amd64_rel32 1 (0xFF ∷ 0xFF ∷ 0xFF ∷ 0xFF ∷ []) amd64_names_1 (0, (omega arith, (refl, refl))) refl refl refl
 
 amd64_move : HasInstruction AMD64 (passing_at AMD64) 31 (0x4C ∷ 0x8B ∷ 0x1D ∷ []) ([]) (imp_open AMD64)
-amd64_move = record {
-  type = amd64_rel32;
-  symbol = 1;
-  alone = refl;
-  names = amd64_names_1;
-  field = 0 ∷ 0 ∷ 0 ∷ 0 ∷ [];
-  four = refl;
-  code = refl;
-  counts = (0, (omega arith, (refl, refl)));
-}
+amd64_move = instruction_by amd64_rel32 1 (0 ∷ 0 ∷ 0 ∷ 0 ∷ []) amd64_names_1 (0, (omega arith, (refl, refl))) refl refl refl
 
 i386_call : HasInstruction I386 (passing_at I386) 9 (0xFF ∷ 0x15 ∷ []) ([]) (imp_open I386)
-i386_call = record {
-  type = i386_dir32;
-  symbol = 1;
-  alone = refl;
-  names = i386_names_1;
-  field = 0 ∷ 0 ∷ 0 ∷ 0 ∷ [];
-  four = refl;
-  code = refl;
-  counts = (refl, refl);
-}
+i386_call = instruction_by i386_dir32 1 (0 ∷ 0 ∷ 0 ∷ 0 ∷ []) i386_names_1 (refl, refl) refl refl refl
 
 i386_compare : HasInstruction I386 (passing_at I386) 15 (0x83 ∷ 0x3D ∷ []) (1 ∷ []) (imp_open I386)
-i386_compare = record {
-  type = i386_dir32;
-  symbol = 1;
-  alone = refl;
-  names = i386_names_1;
-  field = 0 ∷ 0 ∷ 0 ∷ 0 ∷ [];
-  four = refl;
-  code = refl;
-  counts = (refl, refl);
-}
+i386_compare = instruction_by i386_dir32 1 (0 ∷ 0 ∷ 0 ∷ 0 ∷ []) i386_names_1 (refl, refl) refl refl refl
 
 i386_move : HasInstruction I386 (passing_at I386) 22 (0x8B ∷ 0x0D ∷ []) ([]) (imp_open I386)
-i386_move = record {
-  type = i386_dir32;
-  symbol = 1;
-  alone = refl;
-  names = i386_names_1;
-  field = 0 ∷ 0 ∷ 0 ∷ 0 ∷ [];
-  four = refl;
-  code = refl;
-  counts = (refl, refl);
-}
+i386_move = instruction_by i386_dir32 1 (0 ∷ 0 ∷ 0 ∷ 0 ∷ []) i386_names_1 (refl, refl) refl refl refl
 
 amd64_operand : HasOperand AMD64 (passing_at AMD64) 19 1 (imp_open AMD64)
 amd64_operand = record {
@@ -413,114 +308,24 @@ passing_fields = record {
 -- The calls of the laws over placed code.
 
 amd64_adjacent : HasCall AMD64 (placed_code (passing_at AMD64)) 11 (imp_open AMD64)
-amd64_adjacent = record {
-  front = take 11 (passing_bytes AMD64);
-  back = drop 17 (passing_bytes AMD64);
-  instructions = refl;
-  here = refl;
-  index = 1;
-  before = field 7 2 amd64_rel32 ∷ [];
-  behind = field 19 1 amd64_rel32_1 ∷ field 26 1 amd64_rel32 ∷ field 34 1 amd64_rel32 ∷ field 39 3 amd64_rel32 ∷ field 43 2 x86_secrel ∷ field 52 1 amd64_addr64 ∷ [];
-  relocated = refl;
-  aside_before = (inl (omega arith), tt);
-  aside_behind = (inr (omega arith), (inr (omega arith), (inr (omega arith), (inr (omega arith), (inr (omega arith), (inr (omega arith), tt))))));
-  symbol = symbol_of_class (imp_open AMD64) 0 class_external;
-  target = refl;
-  undefined = refl;
-  named = refl;
-}
+amd64_adjacent = instructions_at (take 11 (passing_bytes AMD64)) (drop 17 (passing_bytes AMD64)) 1 (field 7 2 amd64_rel32 ∷ []) (field 19 1 amd64_rel32_1 ∷ field 26 1 amd64_rel32 ∷ field 34 1 amd64_rel32 ∷ field 39 3 amd64_rel32 ∷ field 43 2 x86_secrel ∷ field 52 1 amd64_addr64 ∷ []) (inl (omega arith), tt) (inr (omega arith), (inr (omega arith), (inr (omega arith), (inr (omega arith), (inr (omega arith), (inr (omega arith), tt)))))) refl refl refl refl
 
 amd64_direct : HasDirectCall AMD64 (placed_code (passing_at AMD64)) 38 (open_on AMD64)
-amd64_direct = record {
-  front = take 38 (passing_bytes AMD64);
-  back = drop 43 (passing_bytes AMD64);
-  instructions = refl;
-  here = refl;
-  index = 3;
-  before = field 7 2 amd64_rel32 ∷ field 13 1 amd64_rel32 ∷ field 19 1 amd64_rel32_1 ∷ field 26 1 amd64_rel32 ∷ field 34 1 amd64_rel32 ∷ [];
-  behind = field 43 2 x86_secrel ∷ field 52 1 amd64_addr64 ∷ [];
-  relocated = refl;
-  aside_before = (inl (omega arith), (inl (omega arith), (inl (omega arith), (inl (omega arith), (inl (omega arith), tt)))));
-  aside_behind = (inr (omega arith), (inr (omega arith), tt));
-  symbol = symbol_of_class (open_on AMD64) 0 class_external;
-  target = refl;
-  undefined = refl;
-  named = refl;
-}
+amd64_direct = instructions_at (take 38 (passing_bytes AMD64)) (drop 43 (passing_bytes AMD64)) 3 (field 7 2 amd64_rel32 ∷ field 13 1 amd64_rel32 ∷ field 19 1 amd64_rel32_1 ∷ field 26 1 amd64_rel32 ∷ field 34 1 amd64_rel32 ∷ []) (field 43 2 x86_secrel ∷ field 52 1 amd64_addr64 ∷ []) (inl (omega arith), (inl (omega arith), (inl (omega arith), (inl (omega arith), (inl (omega arith), tt))))) (inr (omega arith), (inr (omega arith), tt)) refl refl refl refl
 
 i386_adjacent : HasCall I386 (placed_code (passing_at I386)) 9 (imp_open I386)
-i386_adjacent = record {
-  front = take 9 (passing_bytes I386);
-  back = drop 15 (passing_bytes I386);
-  instructions = refl;
-  here = refl;
-  index = 1;
-  before = field 5 2 i386_dir32 ∷ [];
-  behind = field 17 1 i386_dir32 ∷ field 24 1 i386_dir32 ∷ field 28 1 i386_dir32 ∷ field 32 2 x86_secrel ∷ field 37 3 i386_rel32 ∷ [];
-  relocated = refl;
-  aside_before = (inl (omega arith), tt);
-  aside_behind = (inr (omega arith), (inr (omega arith), (inr (omega arith), (inr (omega arith), (inr (omega arith), tt)))));
-  symbol = symbol_of_class (imp_open I386) 0 class_external;
-  target = refl;
-  undefined = refl;
-  named = refl;
-}
+i386_adjacent = instructions_at (take 9 (passing_bytes I386)) (drop 15 (passing_bytes I386)) 1 (field 5 2 i386_dir32 ∷ []) (field 17 1 i386_dir32 ∷ field 24 1 i386_dir32 ∷ field 28 1 i386_dir32 ∷ field 32 2 x86_secrel ∷ field 37 3 i386_rel32 ∷ []) (inl (omega arith), tt) (inr (omega arith), (inr (omega arith), (inr (omega arith), (inr (omega arith), (inr (omega arith), tt))))) refl refl refl refl
 
 arm64_paged : HasPage (placed_code (passing_at ARM64)) 12 8 (imp_open ARM64)
 unfolding u32_bytes
-arm64_paged = record {
-  front = take 12 (passing_bytes ARM64);
-  back = drop 16 (passing_bytes ARM64);
-  instructions = refl;
-  here = refl;
-  index = 1;
-  before = field 4 2 arm64_pagebase_rel21 ∷ field 8 2 arm64_pageoffset_12a ∷ [];
-  behind = field 16 1 arm64_pageoffset_12l ∷ field 24 2 arm64_pageoffset_12l ∷ field 28 3 arm64_branch26 ∷ field 32 1 arm64_addr64 ∷ field 40 2 arm64_secrel ∷ [];
-  relocated = refl;
-  aside_before = (inl (omega arith), (inl (omega arith), tt));
-  aside_behind = (inr (omega arith), (inr (omega arith), (inr (omega arith), (inr (omega arith), (inr (omega arith), tt)))));
-  symbol = symbol_of_class (imp_open ARM64) 0 class_external;
-  target = refl;
-  undefined = refl;
-  named = refl;
-}
+arm64_paged = instructions_at (take 12 (passing_bytes ARM64)) (drop 16 (passing_bytes ARM64)) 1 (field 4 2 arm64_pagebase_rel21 ∷ field 8 2 arm64_pageoffset_12a ∷ []) (field 16 1 arm64_pageoffset_12l ∷ field 24 2 arm64_pageoffset_12l ∷ field 28 3 arm64_branch26 ∷ field 32 1 arm64_addr64 ∷ field 40 2 arm64_secrel ∷ []) (inl (omega arith), (inl (omega arith), tt)) (inr (omega arith), (inr (omega arith), (inr (omega arith), (inr (omega arith), (inr (omega arith), tt))))) refl refl refl refl
 
 arm64_placed : HasPageOffset (placed_code (passing_at ARM64)) 16 8 8 (imp_open ARM64)
 unfolding u32_bytes
-arm64_placed = record {
-  front = take 16 (passing_bytes ARM64);
-  back = drop 20 (passing_bytes ARM64);
-  instructions = refl;
-  here = refl;
-  index = 1;
-  before = field 4 2 arm64_pagebase_rel21 ∷ field 8 2 arm64_pageoffset_12a ∷ field 12 1 arm64_pagebase_rel21 ∷ [];
-  behind = field 24 2 arm64_pageoffset_12l ∷ field 28 3 arm64_branch26 ∷ field 32 1 arm64_addr64 ∷ field 40 2 arm64_secrel ∷ [];
-  relocated = refl;
-  aside_before = (inl (omega arith), (inl (omega arith), (inl (omega arith), tt)));
-  aside_behind = (inr (omega arith), (inr (omega arith), (inr (omega arith), (inr (omega arith), tt))));
-  symbol = symbol_of_class (imp_open ARM64) 0 class_external;
-  target = refl;
-  undefined = refl;
-  named = refl;
-}
+arm64_placed = instructions_at (take 16 (passing_bytes ARM64)) (drop 20 (passing_bytes ARM64)) 1 (field 4 2 arm64_pagebase_rel21 ∷ field 8 2 arm64_pageoffset_12a ∷ field 12 1 arm64_pagebase_rel21 ∷ []) (field 24 2 arm64_pageoffset_12l ∷ field 28 3 arm64_branch26 ∷ field 32 1 arm64_addr64 ∷ field 40 2 arm64_secrel ∷ []) (inl (omega arith), (inl (omega arith), (inl (omega arith), tt))) (inr (omega arith), (inr (omega arith), (inr (omega arith), (inr (omega arith), tt)))) refl refl refl refl
 
 arm64_direct : HasDirectCall ARM64 (placed_code (passing_at ARM64)) 28 (open_on ARM64)
-arm64_direct = record {
-  front = take 28 (passing_bytes ARM64);
-  back = drop 32 (passing_bytes ARM64);
-  instructions = refl;
-  here = refl;
-  index = 3;
-  before = field 4 2 arm64_pagebase_rel21 ∷ field 8 2 arm64_pageoffset_12a ∷ field 12 1 arm64_pagebase_rel21 ∷ field 16 1 arm64_pageoffset_12l ∷ field 24 2 arm64_pageoffset_12l ∷ [];
-  behind = field 32 1 arm64_addr64 ∷ field 40 2 arm64_secrel ∷ [];
-  relocated = refl;
-  aside_before = (inl (omega arith), (inl (omega arith), (inl (omega arith), (inl (omega arith), (inl (omega arith), tt)))));
-  aside_behind = (inr (omega arith), (inr (omega arith), tt));
-  symbol = symbol_of_class (open_on ARM64) 0 class_external;
-  target = refl;
-  undefined = refl;
-  named = refl;
-}
+arm64_direct = instructions_at (take 28 (passing_bytes ARM64)) (drop 32 (passing_bytes ARM64)) 3 (field 4 2 arm64_pagebase_rel21 ∷ field 8 2 arm64_pageoffset_12a ∷ field 12 1 arm64_pagebase_rel21 ∷ field 16 1 arm64_pageoffset_12l ∷ field 24 2 arm64_pageoffset_12l ∷ []) (field 32 1 arm64_addr64 ∷ field 40 2 arm64_secrel ∷ []) (inl (omega arith), (inl (omega arith), (inl (omega arith), (inl (omega arith), (inl (omega arith), tt))))) (inr (omega arith), (inr (omega arith), tt)) refl refl refl refl
 
 neither : (a b : ℕ) → (a ≤ b → ⊥) → (c d : ℕ) → (c ≤ d → ⊥) → (a ≤ b) ⊎ (c ≤ d) → ⊥
 neither a b first c d second (inl is) = first is

@@ -16,14 +16,13 @@ use Rattle.implib.specs.Link.Load.{IsWhole, Loads, LoadsStrictly, NumberAt, Tabl
 use Rattle.implib.specs.Members.GnuMembers.{alias_specs}
 use Rattle.implib.specs.Members.Members.{refusal, renamed_refusal}
 use Rattle.implib.specs.Members.WeakExternal.{weak_object}
-use Rattle.implib.proofs.Link.Ranges.{apart_as_they_rise, ends_below}
 use Rattle.implib_link.specs.Directory.{DirectoryAt}
 use Rattle.implib_link.specs.Gnu.OtherLibraries.{AllTaken, DescriptorsAt, HoldsFields, IsProgramBeside, imports_of_runs, inputs_of_runs}
 use Rattle.implib_link.specs.Gnu.Program.{ClaimsNone, claimed_names, has_tables, linked_symbols, null_descriptor}
 use Rattle.implib_link_instances.specs.Worked.OtherLibraries.{WorkedBeside, aaa, aaa_objects, beside_image, beside_objects, both_runs, caller_bytes, image_written, linker_bases, objects_of, torn_objects, zzz, zzz_objects}
 use Rattle.implib_link_instances.specs.Worked.Programs.{both_inputs, program_objects, touching_8}
 use Rattle.implib_link.proofs.Gnu.OtherLibraries.{links_beside, programs_beside_none}
-use Rattle.implib_link_instances.proofs.Worked.Programs.{claims_none_by, distinct_by, opened, worked_programs}
+use Rattle.implib_link_instances.proofs.Worked.Programs.{claims_none_by, distinct_by, opened, worked_programs, admissible_by}
 use Rattle.implib_link_instances.proofs.Worked.RefusedLinks.{are_located, number}
 
 -- by a computed answer
@@ -192,16 +191,7 @@ program = record {
   claimed = all_claim_none (linked_symbols AMD64 (inputs_of_runs both_runs)) (aaa_objects ++ (zzz_objects ++ null_descriptor ∷ [])) refl;
   others = all_claim_none (linked_symbols AMD64 (inputs_of_runs both_runs)) (objects_of (caller_bytes ∷ [])) refl;
   ended = inl refl;
-  admissible = record {
-    descriptors = (omega arith, refl);
-    directory_ends = (omega arith, refl);
-    lookups = (omega arith, refl);
-    addresses = (omega arith, refl);
-    hint_names = (omega arith, refl);
-    dll_names = (omega arith, refl);
-    ends = ends_below (2 ^ 31) beside_image refl;
-    apart = apart_as_they_rise (2 ^ 31) beside_image refl;
-  };
+  admissible = admissible_by refl refl;
   whole = (record { sized = all_hold_fields aaa_objects refl; fours = refl; rows = refl }, (record { sized = all_hold_fields zzz_objects refl; fours = refl; rows = refl }, tt));
   taken = subst (λ image. AllTaken image 8 0x2000 both_runs) (sym image_is) taken_written;
 }

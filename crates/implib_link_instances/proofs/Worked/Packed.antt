@@ -2,20 +2,18 @@
 use Rattle.std.proofs.Common.{◌≡◌, ℕ, ◌^◌, ◌<◌, refl, arith}
 use Rattle.implib.specs.declared.machine.MachineType.TheVariants.{I386, ARMNT, AMD64, ARM64}
 use Rattle.implib.specs.Formats.Layout.{encoded_size}
-use Rattle.implib.specs.Link.Image.{IsAdmissible, image_of}
+use Rattle.implib.specs.Link.Image.{IsAdmissible}
 use Rattle.implib.specs.Link.LinkedMembers.{all_linked, objects_in}
-use Rattle.implib.specs.Link.Placement.{placed_from}
 use Rattle.implib.specs.Members.GnuMembers.{alias_specs}
 use Rattle.implib.specs.Members.WeakExternal.{weak_object}
 use Rattle.implib.proofs.Link.LinkedInputs.{gnu_inputs_link}
-use Rattle.implib.proofs.Link.Ranges.{apart_as_they_rise, ends_below}
 use Rattle.implib_link.specs.Gnu.Packed.{group_end, packed, packed_end, sections_end}
 use Rattle.implib_link.specs.Gnu.Program.{has_tables}
 use Rattle.implib_link_instances.specs.Worked.Packed.{WorkedPacking, WorkedPackings, alone, packed_4, packed_8}
 use Rattle.implib_link_instances.specs.Worked.Programs.{both_inputs, program_objects, touching_8}
 use Rattle.implib_link.proofs.Gnu.Alone.{members_are_program}
 use Rattle.implib_link.proofs.Gnu.Packed.{packed_is_admissible, packed_is_program}
-use Rattle.implib_link_instances.proofs.Worked.Programs.{opened, worked_programs}
+use Rattle.implib_link_instances.proofs.Worked.Programs.{opened, worked_programs, admissible_by}
 use Rattle.implib_link_instances.proofs.Worked.Searched.{below_limit}
 
 amd64 : WorkedPacking AMD64 packed_8 0x10FC
@@ -60,29 +58,11 @@ armnt = record {
 
 members_admissible : IsAdmissible AMD64 touching_8 (objects_in (all_linked AMD64 (both_inputs AMD64)))
 unfolding opened alias_specs encoded_size weak_object has_tables group_end sections_end
-members_admissible = record {
-  descriptors = (omega arith, refl);
-  directory_ends = (omega arith, refl);
-  lookups = (omega arith, refl);
-  addresses = (omega arith, refl);
-  hint_names = (omega arith, refl);
-  dll_names = (omega arith, refl);
-  ends = ends_below (2 ^ 31) (image_of AMD64 touching_8 (placed_from touching_8 (objects_in (all_linked AMD64 (both_inputs AMD64))))) refl;
-  apart = apart_as_they_rise (2 ^ 31) (image_of AMD64 touching_8 (placed_from touching_8 (objects_in (all_linked AMD64 (both_inputs AMD64))))) refl;
-}
+members_admissible = admissible_by refl refl
 
 alone_admissible : IsAdmissible AMD64 touching_8 (alone AMD64)
 unfolding opened alias_specs encoded_size weak_object has_tables group_end sections_end
-alone_admissible = record {
-  descriptors = (omega arith, refl);
-  directory_ends = (omega arith, refl);
-  lookups = (omega arith, refl);
-  addresses = (omega arith, refl);
-  hint_names = (omega arith, refl);
-  dll_names = (omega arith, refl);
-  ends = ends_below (2 ^ 31) (image_of AMD64 touching_8 (placed_from touching_8 (alone AMD64))) refl;
-  apart = apart_as_they_rise (2 ^ 31) (image_of AMD64 touching_8 (placed_from touching_8 (alone AMD64))) refl;
-}
+alone_admissible = admissible_by refl refl
 
 above : (n m : ℕ) → n ≡ m → 2 ^ 31 < m → n < 2 ^ 31 → ⊥
 above n m same over below = omega arith

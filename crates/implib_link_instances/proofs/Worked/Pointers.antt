@@ -1,7 +1,6 @@
 -- The pointers by hand, by computing and by the laws.
 use Rattle.std.proofs.Common.{[], ◌∷◌, codes, refl}
 use Rattle.implib.specs.declared.machine.MachineType.TheVariants.{I386, AMD64, ARM64}
-use Rattle.implib.specs.Formats.Constants.{class_external}
 use Rattle.implib.specs.Formats.Layout.{encoded_size}
 use Rattle.implib.specs.Formats.ShortImport.{short_import_in}
 use Rattle.implib.specs.Import.{imp_symbol}
@@ -17,26 +16,11 @@ use Rattle.implib_link.specs.Gnu.Pointers.{HasLoad}
 use Rattle.implib_link.specs.Gnu.Program.{has_tables}
 use Rattle.implib_link_instances.specs.Worked.Calls.{first_bytes, last_bytes}
 use Rattle.implib_link_instances.specs.Worked.Pointers.{WorkedPointer, WorkedPointers, loading_at}
-use Rattle.implib_link_instances.specs.Worked.Programs.{symbol_of_class, symbol_on, touching_4, touching_8}
-use Rattle.implib_link_instances.proofs.Worked.Programs.{opened}
+use Rattle.implib_link_instances.specs.Worked.Programs.{symbol_on, touching_4, touching_8}
+use Rattle.implib_link_instances.proofs.Worked.Programs.{opened, instructions_at}
 
 amd64_has : HasLoad AMD64 (loading_at AMD64) 4 (imp_symbol (symbol_on AMD64 (codes "stat")))
-amd64_has = record {
-  front = first_bytes AMD64;
-  back = last_bytes AMD64;
-  instructions = refl;
-  here = refl;
-  index = 1;
-  before = [];
-  behind = [];
-  relocated = refl;
-  aside_before = tt;
-  aside_behind = tt;
-  symbol = symbol_of_class (imp_symbol (symbol_on AMD64 (codes "stat"))) 0 class_external;
-  target = refl;
-  undefined = refl;
-  named = refl;
-}
+amd64_has = instructions_at (first_bytes AMD64) (last_bytes AMD64) 1 [] [] tt tt refl refl refl refl
 
 amd64 : WorkedPointer AMD64 0x1_4000_0000 touching_8 (0x48 ∷ 0x8B ∷ 5 ∷ 0x7D ∷ 0xF0 ∷ 0xFF ∷ 0xFF ∷ []) 0x88
 unfolding opened alias_specs encoded_size weak_object has_tables
@@ -47,22 +31,7 @@ amd64 = record {
 }
 
 pub i386_has : HasLoad I386 (loading_at I386) 4 (imp_symbol (symbol_on I386 (codes "stat")))
-i386_has = record {
-  front = first_bytes I386;
-  back = last_bytes I386;
-  instructions = refl;
-  here = refl;
-  index = 1;
-  before = [];
-  behind = [];
-  relocated = refl;
-  aside_before = tt;
-  aside_behind = tt;
-  symbol = symbol_of_class (imp_symbol (symbol_on I386 (codes "stat"))) 0 class_external;
-  target = refl;
-  undefined = refl;
-  named = refl;
-}
+i386_has = instructions_at (first_bytes I386) (last_bytes I386) 1 [] [] tt tt refl refl refl refl
 
 i386 : WorkedPointer I386 0x40_0000 touching_4 (0xA1 ∷ 0x64 ∷ 0 ∷ 0x40 ∷ 0 ∷ []) 0x64
 unfolding opened alias_specs encoded_size weak_object has_tables
@@ -73,22 +42,7 @@ i386 = record {
 }
 
 pub arm64_has : HasLoad ARM64 (loading_at ARM64) 4 (imp_symbol (symbol_on ARM64 (codes "stat")))
-arm64_has = record {
-  front = first_bytes ARM64;
-  back = last_bytes ARM64;
-  instructions = refl;
-  here = refl;
-  index = 1;
-  before = [];
-  behind = [];
-  relocated = refl;
-  aside_before = tt;
-  aside_behind = tt;
-  symbol = symbol_of_class (imp_symbol (symbol_on ARM64 (codes "stat"))) 0 class_external;
-  target = refl;
-  undefined = refl;
-  named = refl;
-}
+arm64_has = instructions_at (first_bytes ARM64) (last_bytes ARM64) 1 [] [] tt tt refl refl refl refl
 
 arm64 : WorkedPointer ARM64 0x1_4000_0000 touching_8 (0xE8 ∷ 0xFF ∷ 0xFF ∷ 0xF0 ∷ 8 ∷ 0x45 ∷ 0x40 ∷ 0xF9 ∷ []) 0x88
 unfolding opened alias_specs encoded_size weak_object has_tables

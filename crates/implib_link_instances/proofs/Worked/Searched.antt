@@ -15,7 +15,7 @@ use Rattle.implib.proofs.Link.Ranges.{Among}
 use Rattle.implib_link.specs.Gnu.Packed.{group_end, packed, packed_end, sections_end}
 use Rattle.implib_link.specs.Gnu.Program.{IsProgram, has_tables, linked_symbols}
 use Rattle.implib_link.specs.Search.Archives.{NamesNoHeadOrTailOf, inputs_wanted, is_weak, wanted_with}
-use Rattle.implib_link.specs.Search.Search.{HaveSame, IsArranged, IsLinkedWith, Takes, names_undefined, undefined_in}
+use Rattle.implib_link.specs.Search.Search.{HaveSame, IsArranged, IsLinkedWith, Takes, undefined_in, left_as}
 use Rattle.implib_link_instances.specs.Worked.Archives.{both_wanted, two_libraries}
 use Rattle.implib_link_instances.specs.Worked.Programs.{chosen_input, code_object, symbol_of_class}
 use Rattle.implib_link_instances.specs.Worked.Search.{members_of, three, wanted}
@@ -30,6 +30,7 @@ use Rattle.implib_link.proofs.Search.Sorted.{sorted_is_arranged}
 use Rattle.implib_link_instances.proofs.Worked.Archives.{both_taken, both_takes, worked_archives}
 use Rattle.implib_link_instances.proofs.Worked.Programs.{claims_none_by, distinct_by, opened}
 use Rattle.implib_link_instances.proofs.Worked.Search.{three_takes, worked_search}
+use Rattle.implib.specs.Formats.Object.{object_in}
 use Rattle.implib.specs.LibraryName.{own_names}
 
 -- Four members in two orders.
@@ -86,7 +87,7 @@ pub below_limit : (n : ℕ) → nat_lt n (2 ^ 31) ≡ true → n < 2 ^ 31
 below_limit n is = ltb-true n (2 ^ 31) is
 
 plain_names : NamesNoHeadOrTailOf AMD64 two_libraries (wanted_with both_wanted both_taken)
-unfolding opened alias_specs encoded_size weak_object is_weak names_undefined undefined_in
+unfolding opened alias_specs encoded_size weak_object is_weak left_as undefined_in
 plain_names = (record { head = refl; name = refl }, (record { head = refl; name = refl }, tt))
 
 abbrev one_input : List LinkInput
@@ -115,8 +116,8 @@ worked_searched = record {
   twice = twice;
   program = program;
   imports = searched_links AMD64 three (members_of three) as_taken wanted (packed 1 searched_objects) searched_objects worked_search.made worked_search.distinct worked_search.plain takes program;
-  ends = search_ends (members_of three) wanted;
-  bounded = search_bounded (members_of three) as_taken wanted takes.in_turn;
+  ends = search_ends object_in (members_of three) wanted;
+  bounded = search_bounded object_in (members_of three) as_taken wanted takes.in_turn;
 }
 
 -- The two libraries.
@@ -125,7 +126,7 @@ abbrev libraries_inputs : List LinkInput
 libraries_inputs = inputs_wanted two_libraries (wanted_with both_wanted both_taken)
 
 libraries_program : IsProgram AMD64 (packed 1 (libraries_objects both_taken)) libraries_inputs (libraries_objects both_taken)
-unfolding opened alias_specs encoded_size weak_object is_weak names_undefined undefined_in has_tables group_end sections_end
+unfolding opened alias_specs encoded_size weak_object is_weak left_as undefined_in has_tables group_end sections_end
 libraries_program =
     packed_is_program AMD64 1 libraries_inputs (inputs_made AMD64 two_libraries (wanted_with both_wanted both_taken) worked_archives.archive.made)
     (distinct_by (linked_symbols AMD64 libraries_inputs) refl) (omega arith) (below_limit (packed_end 1 (libraries_objects both_taken)) refl)

@@ -13,7 +13,7 @@ use Rattle.implib.specs.Members.WeakExternal.{weak_object}
 use Rattle.implib.specs.Text.Parses.{Parses}
 use Rattle.implib.proofs.Worked.Statements.{opened as text_opened, parses}
 use Rattle.implib_link.specs.Flavors.Expansion.{import_object, descriptor_symbol_by_name, expanded_in}
-use Rattle.implib_link.specs.Flavors.Program.{AreFlavorObjects, IsFlavorProgram, all_members, symbols_listed}
+use Rattle.implib_link.specs.Flavors.Program.{AreFlavorObjects, IsFlavorProgram, all_members}
 use Rattle.implib_link.specs.Flavors.SectionSymbols.{with_section_symbols}
 use Rattle.implib_link.specs.Flavors.Texts.{IsFlavorSource, input_of}
 use Rattle.implib_link.specs.Gnu.Packed.{group_end, packed, packed_end, sections_end}
@@ -24,7 +24,7 @@ use Rattle.implib_link.proofs.Flavors.Packed.{packed_flavors}
 use Rattle.implib_link.proofs.Flavors.Texts.{flavor_texts_link}
 use Rattle.implib_link.proofs.Gnu.Packed.{packed_is_program}
 use Rattle.implib_link.proofs.Gnu.Texts.{texts_link}
-use Rattle.implib_link_instances.proofs.Worked.Flavors.{opened}
+use Rattle.implib_link_instances.proofs.Worked.Flavors.{opened, flavor_objects_by}
 use Rattle.implib_link_instances.proofs.Worked.Programs.{distinct_by}
 use Rattle.implib_link_instances.proofs.Worked.Searched.{below_limit}
 
@@ -58,18 +58,7 @@ amd64_both = (
 
 amd64_objects : AreFlavorObjects AMD64 (map input_of (both_sources AMD64)) (both_text_objects AMD64)
 unfolding opened refusal renamed_refusal alias_specs encoded_size weak_object has_tables expanded_in short_import_in import_object descriptor_symbol_by_name with_section_symbols descriptor null_descriptor null_thunk descriptor_symbol null_descriptor_symbol null_thunk_symbol base_name descriptor_spec null_descriptor_spec null_thunk_spec header_specs weak_specs group_end sections_end
-amd64_objects = record {
-  distinct = distinct_by (null_descriptor_symbol ∷ symbols_listed (all_members AMD64 (map input_of (both_sources AMD64)))) refl;
-  null_from = input_of (source_in Msvc AMD64 foo_text (foo_meant AMD64) (1 ∷ 0 ∷ []));
-  null_held = (0, omega arith, refl);
-  null_flavor = refl;
-  before = [];
-  behind = all_members AMD64 (map input_of (both_sources AMD64));
-  members = refl;
-  tables = refl;
-  others = tt;
-  found = (refl, (tt, tt));
-}
+amd64_objects = flavor_objects_by (input_of (source_in Msvc AMD64 foo_text (foo_meant AMD64) (1 ∷ 0 ∷ []))) [] (all_members AMD64 (map input_of (both_sources AMD64))) (0, omega arith, refl) (refl, (tt, tt)) refl refl refl refl refl
 
 amd64_both_program : IsFlavorProgram AMD64 (packed 1 (both_text_objects AMD64)) (map input_of (both_sources AMD64)) (both_text_objects AMD64)
 unfolding opened refusal renamed_refusal alias_specs encoded_size weak_object has_tables expanded_in short_import_in import_object descriptor_symbol_by_name with_section_symbols descriptor null_descriptor null_thunk descriptor_symbol null_descriptor_symbol null_thunk_symbol base_name descriptor_spec null_descriptor_spec null_thunk_spec header_specs weak_specs group_end sections_end
@@ -116,18 +105,7 @@ i386_both = (
 
 i386_objects : AreFlavorObjects I386 (map input_of (both_sources I386)) (both_text_objects I386)
 unfolding opened refusal renamed_refusal alias_specs encoded_size weak_object has_tables expanded_in short_import_in import_object descriptor_symbol_by_name with_section_symbols descriptor null_descriptor null_thunk descriptor_symbol null_descriptor_symbol null_thunk_symbol base_name descriptor_spec null_descriptor_spec null_thunk_spec header_specs weak_specs group_end sections_end
-i386_objects = record {
-  distinct = distinct_by (null_descriptor_symbol ∷ symbols_listed (all_members I386 (map input_of (both_sources I386)))) refl;
-  null_from = input_of (source_in Msvc I386 foo_text (foo_meant I386) (1 ∷ 0 ∷ []));
-  null_held = (0, omega arith, refl);
-  null_flavor = refl;
-  before = [];
-  behind = all_members I386 (map input_of (both_sources I386));
-  members = refl;
-  tables = refl;
-  others = tt;
-  found = (refl, (tt, tt));
-}
+i386_objects = flavor_objects_by (input_of (source_in Msvc I386 foo_text (foo_meant I386) (1 ∷ 0 ∷ []))) [] (all_members I386 (map input_of (both_sources I386))) (0, omega arith, refl) (refl, (tt, tt)) refl refl refl refl refl
 
 i386_both_program : IsFlavorProgram I386 (packed 1 (both_text_objects I386)) (map input_of (both_sources I386)) (both_text_objects I386)
 unfolding opened refusal renamed_refusal alias_specs encoded_size weak_object has_tables expanded_in short_import_in import_object descriptor_symbol_by_name with_section_symbols descriptor null_descriptor null_thunk descriptor_symbol null_descriptor_symbol null_thunk_symbol base_name descriptor_spec null_descriptor_spec null_thunk_spec header_specs weak_specs group_end sections_end

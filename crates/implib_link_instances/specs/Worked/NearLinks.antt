@@ -18,7 +18,6 @@ use Rattle.implib_link.specs.Gnu.Moves.{AreMoved}
 use Rattle.implib_link.specs.Gnu.Operands.{HasBranch, HasField, HasOperand, Names, HasInstruction}
 use Rattle.implib_link.specs.Search.Closed.{TakesInto}
 use Rattle.implib_link.specs.Search.Given.{AreGiven}
-use Rattle.implib_link.specs.Search.MsvcClosed.{TakesIntoFor}
 use Rattle.implib_link.specs.Search.Search.{Takes}
 use Rattle.implib_link.specs.Stub.{JumpsThrough}
 use Rattle.implib_link_instances.specs.Worked.Calls.{calling_at, calling_objects, calling_placed}
@@ -31,15 +30,12 @@ use Rattle.implib_link_instances.specs.Worked.Rules.{early_caller, late_open}
 use Rattle.implib_link_instances.specs.Worked.Walks.{without_addresses, without_name}
 
 -- what nothing asks for, and a name that still pulls in a member
-pub record NearTakes : Type 0 where
+pub record NearTakesAs : Type 0 where
   pub in_turn : Takes (listing ∷ []) [] (listing ∷ []) → ⊥
   pub ended : Takes (listing ∷ []) (codes "queue" ∷ []) [] → ⊥
 
-pub record NearTakesInto : Type 0 where
+pub record NearTakesIntoAs : Type 0 where
   pub in_turn : TakesInto (listing ∷ []) [] (listing ∷ []) → ⊥
-
-pub record NearTakesIntoFor : Type 0 where
-  pub in_turn : TakesIntoFor AMD64 (listing ∷ []) [] (listing ∷ []) → ⊥
 
 -- objects that name a descriptor themselves
 pub record NearAreGiven : Type 0 where

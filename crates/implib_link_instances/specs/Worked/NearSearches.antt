@@ -13,14 +13,13 @@ use Rattle.implib.specs.Worked.Members.{of_dll}
 use Rattle.implib.specs.Worked.Statements.{plain_export}
 use Rattle.implib_link.specs.Search.Archives.{IsArchive, IsWeakData, Library}
 use Rattle.implib_link.specs.Search.Closed.{IsAliasTaken, IsImported, IsUsed, PullsInto, inputs_in}
-use Rattle.implib_link.specs.Search.Msvc.{PullsInFor}
 use Rattle.implib_link.specs.Search.MsvcArchives.{IsMsvcArchive, IsWeakShort}
-use Rattle.implib_link.specs.Search.MsvcClosed.{IsWeakTaken, PullsIntoFor}
+use Rattle.implib_link.specs.Search.MsvcClosed.{IsWeakTaken}
 use Rattle.implib_link.specs.Search.NamedApart.{AreNamedApart}
 use Rattle.implib_link.specs.Search.Search.{NamesNoHeadOrTail, PullsIn}
 use Rattle.implib_link_instances.specs.Worked.Archives.{library_of, two_libraries}
 use Rattle.implib_link_instances.specs.Worked.Closed.{choosing, closed_bases, closed_objects, closed_taken, foo_alias, zed_first}
-use Rattle.implib_link_instances.specs.Worked.MsvcArchives.{msvc_library, null_named, short_named, shorts_of_both, two_msvc, weak_named}
+use Rattle.implib_link_instances.specs.Worked.MsvcArchives.{msvc_library, null_named, shorts_of_both, two_msvc, weak_named}
 use Rattle.implib_link_instances.specs.Worked.Programs.{code_object, symbol_of_class}
 
 -- a member without an object, that is listed for `queue`, and another one
@@ -36,37 +35,23 @@ queue_member = member_of (export_spec AMD64 (codes "zed.dll") 0 (plain_export (c
 
 -- a name that nothing wants; one that a taken member defines, though it is listed for another; the second member that it
 -- is listed for; and the member that is taken
-pub record NearPullsIn : Type 0 where
+pub record NearPullsInAs : Type 0 where
   pub pulls : PullsIn (listing ∷ later ∷ []) (codes "queue" ∷ []) [] (codes "queue") listing
   pub named : PullsIn (listing ∷ later ∷ []) [] [] (codes "queue") listing → ⊥
   pub undefined : PullsIn (listing ∷ later ∷ []) (codes "queue" ∷ []) (queue_member ∷ []) (codes "queue") listing → ⊥
   pub listed : PullsIn (listing ∷ later ∷ []) (codes "queue" ∷ []) [] (codes "queue") later → ⊥
   pub new : PullsIn (listing ∷ later ∷ []) (codes "queue" ∷ []) (listing ∷ []) (codes "queue") listing → ⊥
 
--- the same for Microsoft's linker
-pub record NearPullsInFor : Type 0 where
-  pub named : PullsInFor AMD64 (listing ∷ later ∷ []) [] [] (codes "queue") listing → ⊥
-  pub undefined : PullsInFor AMD64 (listing ∷ later ∷ []) (codes "queue" ∷ [])
-      (short_named (codes "zed.dll") (codes "queue") ∷ []) (codes "queue") listing → ⊥
-  pub listed : PullsInFor AMD64 (listing ∷ later ∷ []) (codes "queue" ∷ []) [] (codes "queue") later → ⊥
-  pub new : PullsInFor AMD64 (listing ∷ later ∷ []) (codes "queue" ∷ []) (listing ∷ []) (codes "queue") listing → ⊥
-
 -- an object that leaves `queue` to others
 abbrev pub asking : Object
 asking = code_object (symbol_of_class (codes "queue") 0 class_external ∷ [])
 
 -- for given objects; a name is none that the members leave unresolved, where one of them claims it
-pub record NearPullsInto : Type 0 where
+pub record NearPullsIntoAs : Type 0 where
   pub pulls : PullsInto (listing ∷ later ∷ []) (asking ∷ []) [] (codes "queue") listing
   pub named : PullsInto (listing ∷ later ∷ []) (asking ∷ []) (queue_member ∷ []) (codes "queue") listing → ⊥
   pub listed : PullsInto (listing ∷ later ∷ []) (asking ∷ []) [] (codes "queue") later → ⊥
   pub new : PullsInto (listing ∷ later ∷ []) (asking ∷ []) (listing ∷ []) (codes "queue") listing → ⊥
-
-pub record NearPullsIntoFor : Type 0 where
-  pub named : PullsIntoFor AMD64 (listing ∷ later ∷ []) (asking ∷ [])
-      (short_named (codes "zed.dll") (codes "queue") ∷ []) (codes "queue") listing → ⊥
-  pub listed : PullsIntoFor AMD64 (listing ∷ later ∷ []) (asking ∷ []) [] (codes "queue") later → ⊥
-  pub new : PullsIntoFor AMD64 (listing ∷ later ∷ []) (asking ∷ []) (listing ∷ []) (codes "queue") listing → ⊥
 
 -- the alias `bar` where nothing names it; a function; a name of no library; a member that is listed for another name
 pub record NearIsWeakData : Type 0 where

@@ -16,8 +16,8 @@ ghost use Rattle.implib_link_instances.specs.Worked.NearLinks.{NearDefinesIn};
 ghost use Rattle.implib_link_instances.specs.Worked.NearLinks.{NearFindsBy, NearHasBranch};
 ghost use Rattle.implib_link_instances.specs.Worked.NearLinks.{NearHasField, NearHasInstruction, NearHasOperand};
 ghost use Rattle.implib_link_instances.specs.Worked.NearLinks.{NearJumpsThrough, NearNames};
-ghost use Rattle.implib_link_instances.specs.Worked.NearLinks.{NearResolves, NearTakes};
-ghost use Rattle.implib_link_instances.specs.Worked.NearLinks.{NearTakesInto, NearTakesIntoFor};
+ghost use Rattle.implib_link_instances.specs.Worked.NearLinks.{NearResolves, NearTakesAs};
+ghost use Rattle.implib_link_instances.specs.Worked.NearLinks.{NearTakesIntoAs};
 ghost use Rattle.implib_link_instances.specs.Worked.NearLinks.{NearTakesSymbols};
 ghost use Rattle.implib_link_instances.specs.Worked.NearPrograms.{NearAreFlavorObjects, NearAreWhole};
 ghost use Rattle.implib_link_instances.specs.Worked.NearPrograms.{NearIsFlavorProgram, NearIsProgram};
@@ -39,8 +39,7 @@ ghost use Rattle.implib_link_instances.specs.Worked.NearSearches.{NearIsMsvcArch
 ghost use Rattle.implib_link_instances.specs.Worked.NearSearches.{NearIsUsed, NearNamesNoHeadOrTail};
 ghost use Rattle.implib_link_instances.specs.Worked.NearSearches.{NearIsWeakData};
 ghost use Rattle.implib_link_instances.specs.Worked.NearSearches.{NearIsWeakShort, NearIsWeakTaken};
-ghost use Rattle.implib_link_instances.specs.Worked.NearSearches.{NearPullsIn, NearPullsInFor, NearPullsInto};
-ghost use Rattle.implib_link_instances.specs.Worked.NearSearches.{NearPullsIntoFor};
+ghost use Rattle.implib_link_instances.specs.Worked.NearSearches.{NearPullsInAs, NearPullsIntoAs};
 ghost use Rattle.implib_link_instances.specs.Worked.NearTaken.{NearAreBounded, NearImportsWanted, NearIsArranged};
 ghost use Rattle.implib_link_instances.specs.Worked.NearTaken.{NearIsImportedBy, NearIsLinkedOfWanted, NearIsTaken};
 ghost use Rattle.implib_link_instances.specs.Worked.NearTaken.{NearRunLinks, NearTakesOfLibraries};
@@ -62,10 +61,8 @@ pub fn near_misses_of_tables()
 /// What is not said of archive searches: which members a name pulls in, and which weak externals
 /// and imports are used.
 pub fn near_misses_of_searches()
-    ensures pulls { NearPullsIn }
-    ensures pulls_for { NearPullsInFor }
-    ensures pulls_into { NearPullsInto }
-    ensures pulls_into_for { NearPullsIntoFor }
+    ensures pulls { NearPullsInAs }
+    ensures pulls_into { NearPullsIntoAs }
     ensures weak_data { NearIsWeakData }
     ensures weak_short { NearIsWeakShort }
     ensures used { NearIsUsed }
@@ -146,9 +143,8 @@ pub fn near_misses_of_links()
     ensures jumps_through { NearJumpsThrough }
     ensures names { NearNames }
     ensures resolves { NearResolves }
-    ensures takes { NearTakes }
-    ensures takes_into { NearTakesInto }
-    ensures takes_into_for { NearTakesIntoFor }
+    ensures takes { NearTakesAs }
+    ensures takes_into { NearTakesIntoAs }
     ensures takes_symbols { NearTakesSymbols }
 {}
 

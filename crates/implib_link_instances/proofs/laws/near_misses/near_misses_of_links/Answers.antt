@@ -1,4 +1,4 @@
-use Rattle.implib_link_instances.proofs.Worked.NearLinks.{near_are_given, near_are_linked_beside, near_are_moved, near_are_pieces_at, near_are_sections, near_defines_in, near_finds_by, near_has_branch, near_has_field, near_has_instruction, near_has_operand, near_jumps_through, near_names, near_resolves, near_takes, near_takes_into, near_takes_into_for, near_takes_symbols}
+use Rattle.implib_link_instances.proofs.Worked.NearLinks.{near_are_given, near_are_linked_beside, near_are_moved, near_are_pieces_at, near_are_sections, near_defines_in, near_finds_by, near_has_branch, near_has_field, near_has_instruction, near_has_operand, near_jumps_through, near_names, near_resolves, near_takes, near_takes_into, near_takes_symbols}
 use Rattle.implib_link_instances.proofs.laws.near_misses.near_misses_of_links.Goals as goal
 
 pub returns : goal.returns
@@ -19,6 +19,5 @@ returns c = record {
   resolves = near_resolves;
   takes = near_takes;
   takes_into = near_takes_into;
-  takes_into_for = near_takes_into_for;
   takes_symbols = near_takes_symbols;
 }
