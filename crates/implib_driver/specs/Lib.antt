@@ -2,12 +2,15 @@ pub mod Options
 pub mod Arguments
 pub mod Identity
 pub mod Request
+pub mod Dll
 pub mod LibWords
 pub mod Verbose
 pub mod Disk
 pub mod Reports
 pub mod Stubs
 pub mod Placing
+pub mod Verdicts
+pub mod DllProgram
 pub mod Program
 pub mod Worked
 pub mod WorkedCallers
