@@ -17,3 +17,4 @@ pub mod WorkedCallers
 pub mod WorkedOptions
 pub mod WorkedCalls
 pub mod WorkedLibWords
+pub mod WorkedDlls
