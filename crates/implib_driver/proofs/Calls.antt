@@ -3,7 +3,7 @@ use Rattle.std.proofs.Common.{◌≡◌, ℕ, ◌<◌, Bool, List, [], ◌∷◌
 use Rattle.implib_driver.specs.Arguments.{OccurrenceView}
 use Rattle.implib_driver.specs.LibWords.{words_read}
 use Rattle.implib_driver.specs.Program.{Devices, DoesOptions, DoesRead, DoesTask, DoesWords, Runs, Texts, own_name, subject_of}
-use Rattle.implib_driver.specs.Request.{Asked, TaskView, caller_of, task_of}
+use Rattle.implib_driver.specs.Request.{Asked, TaskView, caller_of, request_for, task_of}
 
 -- a command line without arguments
 pub runs_without : {A : Type 0} (view : A → List ℕ) (arguments : List A) (known : Bool) (texts : Texts) (before after : Devices) (printed prints : Option (List ℕ)) (status : ℕ)
@@ -20,6 +20,6 @@ module _ (known : Bool) (texts : Texts) (program : List ℕ) (words : List (List
   does_options does = inl (subst (λ read. DoesRead known texts program read before after printed prints status) (sym are) does)
 
   -- what is done for a task is done for the words that ask for it
-  pub does_task : (asked : Asked TaskView) → task_of (caller_of program) options ≡ asked → DoesTask known texts (subject_of program) asked before after printed prints status
+  pub does_task : (asked : Asked TaskView) → task_of (caller_of program) options ≡ asked → DoesTask known texts (subject_of program) (request_for (caller_of program) options) asked before after printed prints status
       → DoesWords known texts program words before after printed prints status
-  does_task asked is does = does_options (inl (subst (λ task. DoesTask known texts (subject_of program) task before after printed prints status) (sym is) does))
+  does_task asked is does = does_options (inl (subst (λ task. DoesTask known texts (subject_of program) (request_for (caller_of program) options) task before after printed prints status) (sym is) does))

@@ -1,7 +1,7 @@
 -- The words of a command line (this project's choice, after GNU dlltool's).
 use Rattle.std.specs.Prelude.{◌≡◌, ℕ, suc, ◌+◌, Bool, false, true, not, ◌||◌, ◌==◌, List, [], ◌∷◌, ◌++◌, length, drop, take, Option, None, Some, Result, Ok, Err, if◌then◌else◌, slice_index}
-use Rattle.std.specs.List.{after_first, before_first, flat_map, fold, list_any, position_or_len}
-use Rattle.std.specs.Prelude.{nat_lt}
+use Rattle.std.specs.List.{after_first, before_first, filter_map, flat_map, fold, list_any, position_or_len, starts_with}
+use Rattle.std.specs.Prelude.{codes, nat_eq, nat_lt}
 use Rattle.std.specs.Str.{byte}
 use Rattle.implib_driver.specs.declared.arguments.Before.{Before}
 use Rattle.implib_driver.specs.declared.arguments.Before.TheVariants as before
@@ -18,6 +18,7 @@ use Rattle.implib_driver.specs.declared.arguments.WordFault.TheVariants as fault
 use Rattle.implib_driver.specs.declared.options.Meaning.{Meaning}
 use Rattle.implib_driver.specs.declared.options.Meaning.TheVariants as meaning
 use Rattle.implib_driver.specs.declared.options.Setting.{Setting}
+use Rattle.implib_driver.specs.declared.options.Setting.TheVariants.{Input}
 use Rattle.implib_driver.specs.declared.options.Switch.{Switch}
 use Rattle.implib_driver.specs.Options.{is_same_setting, is_same_switch, option_lettered, option_named}
 
@@ -189,7 +190,8 @@ step_view (stage.Adds option) = Adds (occurrence_view option)
 step_view stage.Ends = Stops
 step_view (stage.Refuses fault) = Refuses (word_fault_view fault)
 
--- what a word is for that is no value
+-- What a word is for that is no value. One that is no option is the file of a definition or of a DLL, but for `@FILE`,
+-- as which GNU's programs take more options.
 abbrev pub first_step : WordView → List ℕ → StepView
 first_step (Takes setting) word = Waits setting
 first_step (Gives setting value) word = Adds (Given setting value)
@@ -197,7 +199,7 @@ first_step (Switches switch) word = Adds (Switched switch)
 first_step Unsupported word = Refuses (IsUnsupported word)
 first_step Unknown word = Refuses (IsUnknown word)
 first_step Ends word = Stops
-first_step File word = Refuses (IsFile word)
+first_step File word = if starts_with nat_eq word (codes "@") then Refuses (IsFile word) else Adds (Given Input word)
 
 -- what a word is for, by its last option and by what comes before the word
 abbrev pub step : Before → List ℕ → StepView
@@ -261,6 +263,10 @@ later None earlier = earlier
 abbrev pub last_given : Setting → List OccurrenceView → Option (List ℕ)
 last_given setting [] = None
 last_given setting (option ∷ options) = later (last_given setting options) (value_of setting option)
+
+-- the values that an option is given, in order
+abbrev pub all_given : Setting → List OccurrenceView → List (List ℕ)
+all_given setting options = filter_map (value_of setting) options
 
 -- whether an option without a value stands somewhere
 abbrev pub is_switched : Switch → List OccurrenceView → Bool

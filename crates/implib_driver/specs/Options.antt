@@ -5,7 +5,7 @@ use Rattle.implib_driver.specs.declared.options.Meaning.{Meaning}
 use Rattle.implib_driver.specs.declared.options.Meaning.TheVariants.{Takes, Switches, Unsupported, Unknown}
 use Rattle.implib_driver.specs.declared.options.Setting.{Setting}
 use Rattle.implib_driver.specs.declared.options.Switch.{Switch}
-use Rattle.implib_driver.specs.declared.options.Setting.TheVariants.{Definition, Output, Machine, Dll, Flavor, Assembler, AssemblerFlags, TemporaryPrefix, FurtherPrefix, Identify}
+use Rattle.implib_driver.specs.declared.options.Setting.TheVariants.{Definition, Output, Machine, Dll, Flavor, Assembler, AssemblerFlags, TemporaryPrefix, FurtherPrefix, Identify, Input}
 use Rattle.implib_driver.specs.declared.options.Switch.TheVariants.{KillAt, NoLeadingUnderscore, LeadingUnderscore, ExportAs, AddUnderscore, AddStdcallUnderscore, AddStdcallAlias, DeterministicLibraries, NonDeterministicLibraries, NoDelete, IdentifyStrict, KeepsDecorated, CompatImplib, Verbose, Help, Version}
 
 -- the long names, without `--`, of GNU dlltool's options that have no meaning here
@@ -30,6 +30,7 @@ abbrev pub option_named : List ℕ → Meaning
 option_named name =
     if bytes_eq name (codes "input-def") then Takes Definition
     else if bytes_eq name (codes "def") then Takes Definition
+    else if bytes_eq name (codes "dll") then Takes Definition
     else if bytes_eq name (codes "output-lib") then Takes Output
     else if bytes_eq name (codes "machine") then Takes Machine
     else if bytes_eq name (codes "dllname") then Takes Dll
@@ -98,6 +99,7 @@ setting_number AssemblerFlags = 6
 setting_number TemporaryPrefix = 7
 setting_number FurtherPrefix = 8
 setting_number Identify = 9
+setting_number Input = 10
 
 -- the number of an option without a value
 abbrev pub switch_number : Switch → ℕ

@@ -7,6 +7,9 @@ use Rattle.implib_driver.specs.Stubs.{has_failing_stub}
 use Rattle.implib_rules.specs.declared.library.LibraryError.{LibraryError}
 use Rattle.implib_rules.specs.declared.library.LibraryError.TheVariants.{Refused, Writing}
 use Rattle.implib_rules.specs.declared.library.Refusal.{Refusal}
+use Rattle.implib_archive.specs.Archive.{archive_of}
+use Rattle.implib_archive.specs.Refusal.{refusal_of}
+use Rattle.implib_rules.specs.Library.{IsRefusalOfArchive, kind_of}
 use Rattle.implib_rules.specs.Older.{IsLibraryAsked, IsRefusalOfBytesAsked, MembersAsked}
 
 -- a file is in its place, and all of it, where bytes are known; nothing new is left, and no call failed
@@ -54,6 +57,16 @@ abbrev pub Answers : Bool → DiskView → DiskView → List ℕ → RequestView
 Answers known before after bytes request (Ok made) = Puts known before after bytes request
 Answers known before after bytes request (Err (Refused refusal)) = PutsNone before after bytes request refusal
 Answers known before after bytes request (Err (Writing cause)) = FailsToPut before after bytes request
+
+-- what an answer says of the library of members, as far as a disk and an archive go
+abbrev pub AnswersMembers : Bool → DiskView → DiskView → List MemberView → RequestView → Answer → Type 0
+AnswersMembers known before after members request (Ok made) =
+    (refusal_of (kind_of request.library.flavor members) members ≡ None)
+    × IsPut known before after request.output (archive_of (kind_of request.library.flavor members) members)
+AnswersMembers known before after members request (Err (Refused refusal)) =
+    IsRefusalOfArchive request.library.flavor members refusal × (after ≡ before)
+AnswersMembers known before after members request (Err (Writing cause)) =
+    (refusal_of (kind_of request.library.flavor members) members ≡ None) × IsUnplaced before after
 
 -- what an answer says of the library of any bytes that have these members, whose stubs can run, and of the disk
 abbrev pub AnswersWith : Bool → DiskView → DiskView → List MemberView → RequestView → Answer → Type 0

@@ -7,6 +7,7 @@ use Rattle.std.specs.declared.io.ErrorKind.{ErrorKind}
 use Rattle.std.specs.declared.io.ErrorKind.TheVariants.{InvalidData}
 use Rattle.implib.specs.declared.flavor.Flavor.{Flavor}
 use Rattle.implib.specs.declared.flavor.Flavor.TheVariants.{Gnu, Msvc}
+use Rattle.implib.specs.declared.machine.MachineType.{MachineType}
 use Rattle.implib.specs.declared.machine.MachineType.TheVariants.{AMD64}
 use Rattle.implib.specs.Definition.{DefinitionView}
 use Rattle.implib.specs.Fault.{Cause}
@@ -20,7 +21,10 @@ use Rattle.implib_driver.specs.Identity.{identified}
 use Rattle.implib_driver.specs.Placing.{Answer, Answers}
 use Rattle.implib_driver.specs.Reports.{ComplaintView, Complains, Line, OfArgument, OfCall, OfIdentity, OfMemory, OfStub, OfSystem, OfUtf16, OfWord, OfWriting, Refuses, Says, Warns}
 use Rattle.implib_driver.specs.LibWords.{words_read}
-use Rattle.implib_driver.specs.Request.{Asked, AsksHelp, AsksIdentity, AsksVersion, Asks, RequestView, TaskView, caller_of, task_of}
+pub use Rattle.implib_driver.specs.Verdicts.{answer_status, output_or_none, verdict}
+use Rattle.implib_driver.specs.Dll.{begins_dll}
+use Rattle.implib_driver.specs.DllProgram.{FinishesDll}
+use Rattle.implib_driver.specs.Request.{Asked, AsksHelp, AsksIdentity, AsksVersion, Asks, RequestView, TaskView, caller_of, request_for, task_of}
 use Rattle.implib_driver.specs.Stubs.{has_failing_stub}
 use Rattle.implib_driver.specs.Verbose.{warnings_for}
 use Rattle.implib_rules.specs.declared.library.LibraryError.TheVariants.{Refused, Writing}
@@ -125,23 +129,6 @@ pub record CountsNone (bytes : List ℕ) (request : RequestView) (bare : Bool) :
 abbrev pub CountsBare : List ℕ → RequestView → Bool → Type 0
 CountsBare bytes request bare = CountsMade bytes request bare ⊎ CountsNone bytes request bare
 
--- the path that the library was to go to
-abbrev pub output_or_none : Option (List ℕ) → List ℕ
-output_or_none None = codes "-"
-output_or_none (Some path) = path
-
--- what is said of an answer
-abbrev pub verdict : RequestView → Answer → List Line
-verdict request (Ok made) = []
-verdict request (Err (Refused refusal)) = Refuses request.definition refusal ∷ []
-verdict request (Err (Writing cause)) = Complains (output_or_none request.output) OfWriting ∷ []
-
--- the exit status of an answer
-abbrev pub answer_status : Answer → ℕ
-answer_status (Ok made) = 0
-answer_status (Err (Refused refusal)) = status_of refusal
-answer_status (Err (Writing cause)) = 3
-
 -- whether bytes begin as a text in UTF-16 with a byte order mark (the Unicode Standard, "Byte Order Mark")
 abbrev pub begins_utf16 : List ℕ → Bool
 begins_utf16 bytes = starts_with nat_eq bytes (0xFF ∷ 0xFE ∷ []) || starts_with nat_eq bytes (0xFE ∷ 0xFF ∷ [])
@@ -209,21 +196,30 @@ FinishesWithout bytes refusal request before after status =
     begins_utf16 bytes ≡ false → IsRefusalOfAsked request.older_symbols bytes request.library refusal →
     (known : Bool) (disk : DiskView) → Finishes known bytes request disk disk before after status
 
--- the definition was read, and this was done with its bytes
-pub record IsRead (known : Bool) (request : RequestView) (before after : Devices) (status : ℕ) : Type 0 where
+-- the request that options make for a machine, as the one that a DLL is for
+abbrev pub ForMachine : Type 0
+ForMachine = MachineType → Asked RequestView
+
+-- what is done with bytes: those of a DLL where they begin so, and else of a definition
+abbrev pub FinishesRead : Bool → ForMachine → Bool → List ℕ → RequestView → DiskView → DiskView → Option (List Line) → Option (List Line) → ℕ → Type 0
+FinishesRead known machines true bytes request disk put before after status = FinishesDll known machines bytes request.definition disk put before after status
+FinishesRead known machines false bytes request disk put before after status = Finishes known bytes request disk put before after status
+
+-- the definition or the DLL was read, and this was done with its bytes
+pub record IsRead (known : Bool) (machines : ForMachine) (request : RequestView) (before after : Devices) (status : ℕ) : Type 0 where
   pub bytes : List ℕ
   pub read : IfSome (definition_in before.input before.disk request.definition) (λ file. bytes ≡ file)
-  pub finishes : Finishes known bytes request before.disk after.disk before.said after.said status
+  pub finishes : FinishesRead known machines (begins_dll bytes) bytes request before.disk after.disk before.said after.said status
 
--- the definition could not be read
+-- the definition or the DLL could not be read
 pub record IsUnread (request : RequestView) (before after : Devices) (status : ℕ) : Type 0 where
   pub keeps : KeepsFiles before.disk after.disk
   pub says : Says before.said after.said (Complains request.definition OfSystem ∷ [])
   pub is_status : status ≡ 3
 
 -- what is done for a library that is asked for
-abbrev pub Makes : Bool → RequestView → Devices → Devices → ℕ → Type 0
-Makes known request before after status = IsRead known request before after status ⊎ IsUnread request before after status
+abbrev pub Makes : Bool → ForMachine → RequestView → Devices → Devices → ℕ → Type 0
+Makes known machines request before after status = IsRead known machines request before after status ⊎ IsUnread request before after status
 
 -- the name of the program in what it says
 abbrev pub own_name : List ℕ
@@ -267,10 +263,10 @@ pub record OnlyPrints (name text : List ℕ) (before after : Devices) (printed p
   pub outcome : Prints name text before.said after.said printed prints status
 
 -- what was asked for was made, and nothing printed
-pub record OnlyMakes (known : Bool) (request : RequestView) (before after : Devices) (printed prints : Option (List ℕ))
+pub record OnlyMakes (known : Bool) (machines : ForMachine) (request : RequestView) (before after : Devices) (printed prints : Option (List ℕ))
     (status : ℕ) : Type 0 where
   pub same_output : prints ≡ printed
-  pub outcome : Makes known request before after status
+  pub outcome : Makes known machines request before after status
 
 -- a complaint of a file was said, and nothing printed
 pub record OnlyComplains (path : List ℕ) (complaint : ComplaintView) (number : ℕ) (before after : Option (List Line))
@@ -318,21 +314,21 @@ abbrev pub texts : List ℕ → List ℕ → Texts
 texts help version = record { help = help; version = version }
 
 -- what is done for what options ask for
-abbrev pub DoesTask : Bool → Texts → List ℕ → Asked TaskView → Devices → Devices → Option (List ℕ) → Option (List ℕ) → ℕ → Type 0
-DoesTask known texts name (Ok AsksHelp) before after printed prints status = OnlyPrints name texts.help before after printed prints status
-DoesTask known texts name (Ok AsksVersion) before after printed prints status =
+abbrev pub DoesTask : Bool → Texts → List ℕ → ForMachine → Asked TaskView → Devices → Devices → Option (List ℕ) → Option (List ℕ) → ℕ → Type 0
+DoesTask known texts name machines (Ok AsksHelp) before after printed prints status = OnlyPrints name texts.help before after printed prints status
+DoesTask known texts name machines (Ok AsksVersion) before after printed prints status =
     OnlyPrints name texts.version before after printed prints status
-DoesTask known texts name (Ok (AsksIdentity path is_strict)) before after printed prints status =
+DoesTask known texts name machines (Ok (AsksIdentity path is_strict)) before after printed prints status =
     Identifies name path is_strict before after printed prints status
-DoesTask known texts name (Ok (Asks request)) before after printed prints status =
-    OnlyMakes known request before after printed prints status
-DoesTask known texts name (Err fault) before after printed prints status =
+DoesTask known texts name machines (Ok (Asks request)) before after printed prints status =
+    OnlyMakes known machines request before after printed prints status
+DoesTask known texts name machines (Err fault) before after printed prints status =
     Complained name (OfCall fault) 2 before after printed prints status
 
 -- what is done for options, where the program is called so, unless memory is refused
 abbrev pub DoesOptions : Bool → Texts → List ℕ → List OccurrenceView → Devices → Devices → Option (List ℕ) → Option (List ℕ) → ℕ → Type 0
 DoesOptions known texts program options before after printed prints status =
-    DoesTask known texts (subject_of program) (task_of (caller_of program) options) before after printed prints status
+    DoesTask known texts (subject_of program) (request_for (caller_of program) options) (task_of (caller_of program) options) before after printed prints status
     ⊎ Complained (subject_of program) OfMemory 3 before after printed prints status
 
 -- what is done for words that are read so

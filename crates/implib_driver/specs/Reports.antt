@@ -1,5 +1,6 @@
 -- What the program says on standard error, as what it says and of what; the words of a line are not stated.
 use Rattle.std.specs.Prelude.{◌≡◌, ℕ, List, ◌++◌, Option, None, Some}
+use Rattle.implib_driver.specs.declared.dll.DllRefusal.{DllRefusal}
 use Rattle.implib_driver.specs.declared.identity.NotIdentified.{NotIdentified}
 use Rattle.implib_driver.specs.declared.reporter.Complaint.{Complaint}
 use Rattle.implib_driver.specs.declared.reporter.Complaint.TheVariants as complaint
@@ -28,6 +29,8 @@ pub data ComplaintView : Type 0 where
   OfStub : ComplaintView
   -- a definition in UTF-16
   OfUtf16 : ComplaintView
+  -- a DLL that has no library
+  OfDll : DllRefusal → ComplaintView
 
 -- the view of a complaint of the program
 abbrev pub complaint_view : Complaint → ComplaintView
@@ -40,6 +43,7 @@ complaint_view (complaint.Writing cause) = OfWriting
 complaint_view (complaint.Identity fault) = OfIdentity fault
 complaint_view complaint.FailingStub = OfStub
 complaint_view complaint.Utf16 = OfUtf16
+complaint_view (complaint.Dll refusal) = OfDll refusal
 
 -- what is said at once
 pub data Line : Type 0 where

@@ -8,7 +8,7 @@ use Rattle.implib.specs.declared.flavor.Flavor.{Flavor}
 use Rattle.implib.specs.declared.flavor.Flavor.TheVariants.{Msvc, Gnu}
 use Rattle.implib.specs.declared.machine.MachineType.{MachineType}
 use Rattle.implib.specs.declared.machine.MachineType.TheVariants.{I386, ARMNT, AMD64, ARM64}
-use Rattle.implib_driver.specs.declared.options.Setting.TheVariants.{Definition, Output, Machine, Dll, Flavor as FlavorSetting, Assembler, AssemblerFlags, TemporaryPrefix, FurtherPrefix, Identify}
+use Rattle.implib_driver.specs.declared.options.Setting.TheVariants.{Definition, Input, Output, Machine, Dll, Flavor as FlavorSetting, Assembler, AssemblerFlags, TemporaryPrefix, FurtherPrefix, Identify}
 use Rattle.implib_driver.specs.declared.options.Switch.TheVariants.{Help, IdentifyStrict, KeepsDecorated, KillAt, LeadingUnderscore, NoLeadingUnderscore, Verbose, Version, ExportAs, AddUnderscore, AddStdcallUnderscore, CompatImplib}
 use Rattle.implib_driver.specs.declared.request.CallError.{CallError}
 use Rattle.implib_driver.specs.declared.request.CallError.TheVariants as error
@@ -21,7 +21,7 @@ use Rattle.implib_driver.specs.declared.request.CallFault.TheVariants as fault
 use Rattle.implib_driver.specs.declared.request.Request.{Request}
 use Rattle.implib_driver.specs.declared.request.Task.{Task}
 use Rattle.implib_driver.specs.declared.request.Task.TheVariants as task
-use Rattle.implib_driver.specs.Arguments.{OccurrenceView, is_last, is_switched, last_given}
+use Rattle.implib_driver.specs.Arguments.{OccurrenceView, all_given, is_last, is_switched, last_given}
 use Rattle.implib.specs.Conversions.{flavor_named}
 use Rattle.implib.specs.Machine.{has_leading_underscore}
 use Rattle.implib_rules.specs.Additions.{AdditionsView}
@@ -32,7 +32,7 @@ use Rattle.implib_rules.specs.Machines.{machine_called}
 
 -- the library that is asked for
 pub record RequestView : Type 0 where
-  -- the file of the definition
+  -- the file of the definition, or of the DLL
   pub definition : List ℕ
   -- the file of the library
   pub output : Option (List ℕ)
@@ -71,6 +71,7 @@ task_view (task.Make request) = Asks (request_view request)
 -- why options ask for nothing that can be done
 pub data CallFaultView : Type 0 where
   LacksDefinition : CallFaultView
+  HasTwoInputs : CallFaultView
   IsUnknownMachine : List ℕ → CallFaultView
   IsUnknownFlavor : List ℕ → CallFaultView
   HasEmptyDll : CallFaultView
@@ -85,6 +86,7 @@ pub data CallFaultView : Type 0 where
 -- the view of a fault of the program
 abbrev pub call_fault_view : CallFault → CallFaultView
 call_fault_view fault.NoDefinition = LacksDefinition
+call_fault_view fault.TwoInputs = HasTwoInputs
 call_fault_view (fault.UnknownMachine name) = IsUnknownMachine name.now
 call_fault_view (fault.UnknownFlavor name) = IsUnknownFlavor name.now
 call_fault_view fault.EmptyDll = HasEmptyDll
@@ -341,9 +343,24 @@ request_of caller options given =
       is_verbose = is_switched Verbose options;
     }))))))))
 
+-- the file to make a library of: the definition's, or the one that is given without an option, but not both
+abbrev pub input_of : Option (List ℕ) → List (List ℕ) → Asked (Option (List ℕ))
+input_of definition [] = Ok definition
+input_of None (path ∷ []) = Ok (Some path)
+input_of (Some definition) (path ∷ []) = Err HasTwoInputs
+input_of definition (path ∷ other ∷ paths) = Err HasTwoInputs
+
+-- the file that options give to make a library of
+abbrev pub input_in : List OccurrenceView → Asked (Option (List ℕ))
+input_in options = input_of (last_given Definition options) (all_given Input options)
+
 -- the library that options ask for
 abbrev pub request_in : Caller → List OccurrenceView → Asked RequestView
-request_in caller options = request_of caller options (last_given Definition options)
+request_in caller options = with (input_in options) (request_of caller options)
+
+-- the library that options ask for where it is one of a DLL for this machine
+abbrev pub request_for : Caller → List OccurrenceView → MachineType → Asked RequestView
+request_for caller options machine = request_in (record caller { machine = Some machine }) options
 
 -- a library, as what is asked for
 abbrev pub made : Asked RequestView → Asked TaskView

@@ -1,6 +1,6 @@
 -- Command lines worked by hand, each word and each option written out.
 use Rattle.std.specs.Prelude.{◌≡◌, List, [], ◌∷◌, ℕ, Some, Ok, Err, codes}
-use Rattle.implib_driver.specs.declared.options.Setting.TheVariants.{Definition, Output, Machine, Dll, AssemblerFlags, TemporaryPrefix}
+use Rattle.implib_driver.specs.declared.options.Setting.TheVariants.{Definition, Input, Output, Machine, Dll, AssemblerFlags, TemporaryPrefix}
 use Rattle.implib_driver.specs.declared.options.Switch.TheVariants.{CompatImplib, KillAt, NoDelete, NoLeadingUnderscore, Verbose}
 use Rattle.implib_driver.specs.Arguments.{OccurrenceView, Given, Switched, IsFile, IsUnknown, IsUnsupported, LacksValue, last_given, read_words}
 
@@ -35,8 +35,10 @@ pub record CallsRead : Type 0 where
   pub lacks_value : read_words (codes "-k" ∷ codes "-d" ∷ []) ≡ Err (LacksValue Definition)
   pub unsupported : read_words (codes "-k" ∷ codes "-yX.a" ∷ codes "b" ∷ []) ≡ Err (IsUnsupported (codes "-yX.a"))
   pub unknown : read_words (codes "--kill-at=1" ∷ []) ≡ Err (IsUnknown (codes "--kill-at=1"))
-  pub file : read_words (codes "-k" ∷ codes "a.o" ∷ []) ≡ Err (IsFile (codes "a.o"))
-  pub minus : read_words (codes "-" ∷ []) ≡ Err (IsFile (codes "-"))
+  -- a word that is no option is a file, but one of options
+  pub file : read_words (codes "-k" ∷ codes "a.dll" ∷ []) ≡ Ok (Switched KillAt ∷ Given Input (codes "a.dll") ∷ [])
+  pub minus : read_words (codes "-" ∷ []) ≡ Ok (Given Input (codes "-") ∷ [])
+  pub options_file : read_words (codes "-k" ∷ codes "@a" ∷ []) ≡ Err (IsFile (codes "@a"))
   -- a value may be empty, and may look like an option
   pub empty_value : read_words (codes "--as-flags=" ∷ []) ≡ Ok (Given AssemblerFlags [] ∷ [])
   pub value_as_option : read_words (codes "-f" ∷ codes "-k" ∷ []) ≡ Ok (Given AssemblerFlags (codes "-k") ∷ [])

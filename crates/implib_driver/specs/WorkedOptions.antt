@@ -2,7 +2,7 @@
 use Rattle.std.specs.Prelude.{◌≡◌, ℕ, Bool, true, false, List, [], ◌∷◌, None, Some, Ok, Err, codes, map}
 use Rattle.implib.specs.declared.flavor.Flavor.TheVariants.{Msvc, Gnu}
 use Rattle.implib.specs.declared.machine.MachineType.TheVariants.{I386, ARMNT, AMD64, ARM64}
-use Rattle.implib_driver.specs.declared.options.Setting.TheVariants.{Definition, Output, Machine, Dll, Flavor, Assembler, AssemblerFlags, TemporaryPrefix, FurtherPrefix, Identify}
+use Rattle.implib_driver.specs.declared.options.Setting.TheVariants.{Definition, Output, Machine, Dll, Flavor, Assembler, AssemblerFlags, TemporaryPrefix, FurtherPrefix, Identify, Input}
 use Rattle.implib_driver.specs.declared.options.Switch.{Switch}
 use Rattle.implib_driver.specs.declared.options.Switch.TheVariants.{KeepsDecorated, KillAt, NoLeadingUnderscore, LeadingUnderscore, DeterministicLibraries, NonDeterministicLibraries, NoDelete, Verbose, Help, Version, ExportAs, AddUnderscore, AddStdcallUnderscore, AddStdcallAlias, IdentifyStrict, CompatImplib}
 use Rattle.implib.specs.Conversions.{flavor_named}
@@ -17,7 +17,7 @@ words_with_values =
     ∷ codes "--flavor" ∷ codes "i" ∷ codes "-S" ∷ codes "j" ∷ codes "--as" ∷ codes "k" ∷ codes "-f" ∷ codes "l"
     ∷ codes "--as-flags" ∷ codes "m" ∷ codes "-t" ∷ codes "n" ∷ codes "--temp-prefix" ∷ codes "o"
     ∷ codes "--def" ∷ codes "p" ∷ codes "-p" ∷ codes "q" ∷ codes "--ext-prefix-alias" ∷ codes "r"
-    ∷ codes "-I" ∷ codes "s" ∷ codes "--identify" ∷ codes "t" ∷ []
+    ∷ codes "-I" ∷ codes "s" ∷ codes "--identify" ∷ codes "t" ∷ codes "--dll" ∷ codes "u" ∷ codes "v" ∷ []
 
 -- what they give
 abbrev pub given : List OccurrenceView
@@ -27,7 +27,7 @@ given =
     ∷ Given Flavor (codes "i") ∷ Given Assembler (codes "j") ∷ Given Assembler (codes "k") ∷ Given AssemblerFlags (codes "l")
     ∷ Given AssemblerFlags (codes "m") ∷ Given TemporaryPrefix (codes "n") ∷ Given TemporaryPrefix (codes "o")
     ∷ Given Definition (codes "p") ∷ Given FurtherPrefix (codes "q") ∷ Given FurtherPrefix (codes "r")
-    ∷ Given Identify (codes "s") ∷ Given Identify (codes "t") ∷ []
+    ∷ Given Identify (codes "s") ∷ Given Identify (codes "t") ∷ Given Definition (codes "u") ∷ Given Input (codes "v") ∷ []
 
 -- each option without a value, by its letter, where it has one, and by its long name
 abbrev pub words_of_switches : List (List ℕ)
@@ -73,7 +73,8 @@ pub record OptionsNamed : Type 0 where
   pub values : read_words words_with_values ≡ Ok given
   pub no_values : read_words words_of_switches ≡ Ok switched
   pub refused : map (λ word. read_words (word ∷ [])) unsupported ≡ map (λ word. Err (IsUnsupported word)) unsupported
-  pub definition : last_given Definition given ≡ Some (codes "p")
+  pub definition : last_given Definition given ≡ Some (codes "u")
+  pub input : last_given Input given ≡ Some (codes "v")
   pub output : last_given Output given ≡ Some (codes "d")
   pub machine : last_given Machine given ≡ Some (codes "f")
   pub dll : last_given Dll given ≡ Some (codes "h")

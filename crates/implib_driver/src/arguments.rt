@@ -149,7 +149,8 @@ pub enum WordFault<'a> {
     Unsupported(&'a str),
     /// There is no such option.
     Unknown(&'a str),
-    /// The word is no option.
+    /// The word is no option, and no file where one may stand: it names a file of options, or comes
+    /// after `--`.
     File(&'a str),
     /// The last word is an option that lacks its value.
     NoValue(Setting),
@@ -225,7 +226,10 @@ fn step_at<'a>(before: Before, word: &'a str) -> Step<'a>
             Word::Ends => Step::Ends,
             Word::Unsupported => Step::Refuses(WordFault::Unsupported(word)),
             Word::Unknown => Step::Refuses(WordFault::Unknown(word)),
-            Word::File => Step::Refuses(WordFault::File(word)),
+            Word::File if word.as_bytes().starts_with(b"@") => {
+                Step::Refuses(WordFault::File(word))
+            }
+            Word::File => Step::Adds(Occurrence::Given(Setting::Input, word)),
         },
     }
 }

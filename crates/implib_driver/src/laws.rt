@@ -3,6 +3,7 @@
 ghost use Rattle.implib_driver.specs.Worked.{CallsRead};
 ghost use Rattle.implib_driver.specs.WorkedCallers.{CallersNamed, FaultsOrdered, FlavorsChosen};
 ghost use Rattle.implib_driver.specs.WorkedCalls.{AnswersTold, CallsAnswered};
+ghost use Rattle.implib_driver.specs.WorkedDlls.{DllsAsked};
 ghost use Rattle.implib_driver.specs.WorkedLibWords.{LibWordsRead};
 ghost use Rattle.implib_driver.specs.Stubs.{StubsTold};
 ghost use Rattle.implib_driver.specs.WorkedOptions.{OptionsNamed};
@@ -54,4 +55,10 @@ pub fn lib_words_read()
 /// were worked by hand.
 pub fn stubs_told()
     ensures { StubsTold }
+{}
+
+/// Which bytes are a DLL's, which file is made a library of, what is asked for by the machine of a DLL,
+/// and the name that it has are as was worked by hand.
+pub fn dlls_asked()
+    ensures { DllsAsked }
 {}

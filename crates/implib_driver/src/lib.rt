@@ -7,6 +7,7 @@
 
 pub mod arguments;
 pub mod disk;
+pub mod dll;
 pub mod identity;
 pub mod laws;
 pub mod lib_words;

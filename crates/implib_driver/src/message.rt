@@ -1,6 +1,7 @@
 //! What the program says of a call that it refuses, or that failed.
 
 use crate::arguments::WordFault;
+use crate::dll::DllRefusal;
 use crate::identity::NotIdentified;
 use crate::options::Setting;
 use crate::reporter::Complaint;
@@ -21,14 +22,16 @@ impl fmt::Display for Setting {
             Setting::TemporaryPrefix => "-t",
             Setting::FurtherPrefix => "-p",
             Setting::Identify => "-I",
+            Setting::Input => "FILE",
         })
     }
 }
 
 /// The long names of options, one of which a message may tell in full.
-pub const NAMES: [&str; 38] = [
+pub const NAMES: [&str; 39] = [
     "input-def",
     "def",
+    "dll",
     "output-lib",
     "machine",
     "dllname",
@@ -125,6 +128,9 @@ impl<'a> fmt::Display for WordFault<'a> {
 impl<'a> fmt::Display for CallFault<'a> {
     fn fmt<W: fmt::Write>(&self, f: &mut fmt::Formatter<W>) -> fmt::Result {
         match self {
+            CallFault::TwoInputs => {
+                f.write_str("expected one definition or DLL; objects are not supported")
+            }
             CallFault::NoDefinition => f.write_str(
                 "no definition: expected the option -d\n\
                  usage: implib_dlltool -d FILE [-l OUT] [-m MACHINE] [-D DLL] [--flavor FLAVOUR]",
@@ -162,6 +168,30 @@ impl<'a> fmt::Display for CallFault<'a> {
     }
 }
 
+impl fmt::Display for DllRefusal {
+    fn fmt<W: fmt::Write>(&self, f: &mut fmt::Formatter<W>) -> fmt::Result {
+        match self {
+            DllRefusal::Read(fault) => { write!(f, "{} (offset {})", fault.cause, fault.offset) }
+            DllRefusal::NoExports => f.write_str("it exports nothing"),
+            DllRefusal::UnknownMachine(number) => write!(
+                f,
+                "it is for machine {number:#06x}: expected i386, i386:x86-64, arm or arm64"
+            ),
+            DllRefusal::OtherMachine => f.write_str("it is for another machine than -m names"),
+            DllRefusal::OlderSymbols => {
+                f.write_str("--compat-implib: not supported for a DLL; for a definition it is")
+            }
+            DllRefusal::NameNotUtf8 => {
+                f.write_str("the name in its export directory is not UTF-8; -D can give one")
+            }
+            DllRefusal::Unsaid(unsaid) => write!(f, "{unsaid}"),
+            DllRefusal::NoName => f.write_str("no name of the DLL; -D can give one"),
+            DllRefusal::Members(fault) => write!(f, "{fault}"),
+            DllRefusal::OutOfMemory => f.write_str("out of memory"),
+        }
+    }
+}
+
 impl<'a> fmt::Display for Complaint<'a> {
     fn fmt<W: fmt::Write>(&self, f: &mut fmt::Formatter<W>) -> fmt::Result {
         match self {
@@ -177,6 +207,7 @@ impl<'a> fmt::Display for Complaint<'a> {
                 NotIdentified::NoDll => "no import of a DLL is in it",
                 NotIdentified::SeveralDlls => "it imports from two DLLs or more",
             }),
+            Complaint::Dll(refusal) => write!(f, "{refusal}"),
             Complaint::Utf16 => f.write_str("the definition is UTF-16; expected UTF-8"),
             Complaint::FailingStub => f.write_str(
                 "functions for GNU's linker cannot run on arm, by the stubs that they have there; \

@@ -8,7 +8,8 @@ ghost use Rattle.std.specs.Prelude.{◌≡◌};
 /// An option that takes a value.
 #[derive(Clone, Copy, Debug, PartialEq, Eq)]
 pub enum Setting {
-    /// `-d`, `--input-def`, `--def`: the module definition.
+    /// `-d`, `--input-def`, `--def`: the module definition; `--dll`: the DLL. Which of them it is its
+    /// bytes tell.
     Definition,
     /// `-l`, `--output-lib`: the import library.
     Output,
@@ -28,6 +29,8 @@ pub enum Setting {
     Identify,
     /// `-p`, `--ext-prefix-alias`: a further export of each has this in front of its symbol.
     FurtherPrefix,
+    /// No option: the file of a word that is none, a module definition or a DLL.
+    Input,
 }
 
 /// An option without a value.
@@ -85,6 +88,7 @@ impl Setting {
             Setting::TemporaryPrefix => 7,
             Setting::FurtherPrefix => 8,
             Setting::Identify => 9,
+            Setting::Input => 10,
         }
     }
 
@@ -160,7 +164,7 @@ pub fn option_named(name: &str) -> Meaning
     ensures { result ≡ option_named name.now }
 {
     match name {
-        "input-def" | "def" => Meaning::Takes(Setting::Definition),
+        "input-def" | "def" | "dll" => Meaning::Takes(Setting::Definition),
         "output-lib" => Meaning::Takes(Setting::Output),
         "machine" => Meaning::Takes(Setting::Machine),
         "dllname" => Meaning::Takes(Setting::Dll),

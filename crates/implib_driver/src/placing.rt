@@ -1,7 +1,7 @@
 //! The library of a definition, and its way to its place.
 
 ghost use Rattle.implib_archive.specs.Archive.{archive_of};
-ghost use Rattle.implib_driver.specs.Placing.{AnswersWith, IsPlaced, IsPut, IsUnplaced};
+ghost use Rattle.implib_driver.specs.Placing.{AnswersMembers, AnswersWith, IsPlaced, IsPut, IsUnplaced};
 ghost use Rattle.implib_driver.specs.Request.{request_view};
 ghost use Rattle.std.specs.Io.KnownBytes.{Appends};
 ghost use Rattle.std.specs.Option.{option_map};
@@ -96,7 +96,9 @@ pub fn put<D: Disk>(
     request: &Request<'_>,
 ) -> Result<(), LibraryError>
     requires { (D.view disk.old).left ≡ None }
-    ensures { AnswersWith D.is_known (D.view disk.old) (D.view disk.new)
+    ensures answers { AnswersWith D.is_known (D.view disk.old) (D.view disk.new)
+        members.now (request_view request.now) result }
+    ensures of_members { AnswersMembers D.is_known (D.view disk.old) (D.view disk.new)
         members.now (request_view request.now) result }
 {
     let archive = archive_for(alloc, members, request.library.flavor)?;

@@ -1,7 +1,7 @@
 //! The program: its arguments, its run over files, and its exit status.
 
 ghost use Rattle.implib.specs.Definition.{definition_view};
-ghost use Rattle.implib_driver.specs.Program.{DoesWords, Finishes, FinishesWith};
+ghost use Rattle.implib_driver.specs.Program.{DoesWords, Finishes, FinishesRead, FinishesWith};
 ghost use Rattle.implib_driver.specs.Program.{FinishesFailing, FinishesWithout, members_counted};
 ghost use Rattle.implib_driver.specs.Identity.{identified};
 ghost use Rattle.implib_driver.specs.Program.{Identifies, IsUncalled, KeepsFiles, Makes, Performs};
@@ -10,9 +10,13 @@ ghost use Rattle.implib_driver.specs.Program.{SaysWarnings, Warned, answer_statu
 ghost use Rattle.implib_driver.specs.Program.{begins_utf16, is_bare, subject_of};
 ghost use Rattle.implib_driver.specs.Program.{devices, own_name, texts};
 ghost use Rattle.implib_driver.specs.Program.{verdict, warning_lines};
-ghost use Rattle.implib_driver.specs.Reports.{Complains, OfMemory, Refuses, Says, complaint_view};
+ghost use Rattle.implib_driver.specs.Reports.{Complains, OfDll, OfMemory, Refuses, Says, complaint_view};
 ghost use Rattle.implib_rules.specs.declared.library.Refusal.TheVariants.{OutOfMemory};
-ghost use Rattle.implib_driver.specs.Request.{request_view};
+ghost use Rattle.implib_dll.specs.Views.{exports_view};
+ghost use Rattle.implib_driver.specs.Arguments.{occurrence_view};
+ghost use Rattle.implib_driver.specs.Dll.{IsRefusalOfRequest, IsRequested, begins_dll, dll_status};
+ghost use Rattle.implib_driver.specs.DllProgram.{FinishesDll, FinishesExports, PutsMembers, call_status, complaint_of};
+ghost use Rattle.implib_driver.specs.Request.{request_for, request_view};
 ghost use Rattle.implib_rules.specs.Library.{CountsMembers, status_of};
 ghost use Rattle.implib_rules.specs.Warnings.{warning_view};
 ghost use Rattle.std.specs.IoError.{error_kind};
@@ -20,17 +24,22 @@ ghost use Rattle.std.specs.Prelude.{◌≡◌, ◌⊎◌, [], ◌∷◌, IfErr, 
 ghost use Rattle.std.specs.String.{string_bytes};
 ghost use Rattle.std.specs.Vec.Iter.{into_iter_items};
 
-use crate::arguments::ReadWordsError;
+use crate::arguments::{Occurrence, ReadWordsError};
 use crate::disk::Disk;
+use crate::dll::{DllCallError, DllRefusal, begins_dll, dll_exports, members_of_dll};
 use crate::identity::{IdentifyError, identify};
 use crate::lib_words::words_read;
 use crate::placing::put;
 use crate::reporter::{Complaint, Reporter};
-use crate::request::{CallError, Identification, Request, Task, caller_of, task_of};
+use crate::request::{
+    CallError, Caller, Identification, Request, Task, caller_of, request_in, task_of,
+};
 use crate::stubs::has_failing_stub;
 use crate::verbose::warnings_for;
 use implib::def::ModuleDef;
 use implib::{Flavor, MachineType, ParseError};
+use implib_dll::Exports;
+use implib_from_dll::machine_of;
 use implib_rules::library::{LibraryError, Refusal, members_asked};
 use implib_rules::members::LibraryMembers;
 use implib_rules::name::last_part;
@@ -46,10 +55,13 @@ use std::{io, mem};
 // What the program prints for `--help`.
 const HELP: &str = "\
 usage: implib_dlltool -d FILE [-l OUT] [-m MACHINE] [-D DLL] [--flavor FLAVOUR]
+       implib_dlltool -l OUT FOO.dll
 
-Makes the import library of a module definition.
+Makes the import library of a module definition, or of all that a DLL exports.
 
   -d, --input-def FILE     the module definition; - is standard input; also --def
+      --dll FILE           the DLL; its machine is the library's. A FILE that begins
+                           with MZ is a DLL, and any other a definition
   -l, --output-lib OUT     the import library; without it FILE is checked
   -m, --machine MACHINE    i386 or x86; i386:x86-64, amd64, x64 or x86_64; arm or
                            armnt; arm64 or aarch64; by default the one that the
@@ -429,7 +441,7 @@ fn begins_utf16(bytes: &[u8]) -> bool
 }
 
 // Warns of a definition that is read, and puts its library; gives the exit status.
-fn answer<D: Disk, T: Reporter>(
+fn answer_definition<D: Disk, T: Reporter>(
     alloc: Global,
     bytes: &[u8],
     disk: &mut D,
@@ -453,23 +465,174 @@ fn answer<D: Disk, T: Reporter>(
     }
 }
 
+// A call for a library: what is asked for, by these options of a caller.
+#[derive(Clone, Copy, Debug)]
+struct LibraryCall<'a> {
+    caller: Caller,
+    options: &'a [Occurrence<'a>],
+    request: Request<'a>,
+}
+
+// Says why a DLL has no library, and gives the exit status.
+fn refuse_dll<T: Reporter>(reporter: &mut T, path: &str, refusal: DllRefusal) -> u8
+    ensures said { Says (T.said reporter.old) (T.said reporter.new)
+        (Complains path.now (OfDll refusal) ∷ []) }
+    ensures status { result ≡ dll_status refusal }
+{
+    let status = refusal.status();
+    reporter.complain(path, Complaint::Dll(refusal));
+    status
+}
+
+// Says why a call asks for no library of a DLL, and gives the exit status.
+fn refuse_call<T: Reporter>(reporter: &mut T, path: &str, error: DllCallError<'_>) -> u8
+    ensures said { Says (T.said reporter.old) (T.said reporter.new)
+        (Complains path.now (complaint_of error.entry) ∷ []) }
+    ensures status { result ≡ call_status error.entry }
+{
+    match error {
+        DllCallError::Call(fault) => {
+            reporter.complain(path, Complaint::Call(fault));
+            2
+        }
+        DllCallError::Dll(refusal) => refuse_dll(reporter, path, refusal),
+    }
+}
+
+// What a call asks for of a DLL, by the machine of its file.
+fn request_of_dll<'a>(
+    alloc: Global,
+    exports: &Exports<'_>,
+    call: &LibraryCall<'a>,
+) -> Result<Request<'a>, DllCallError<'a>>
+    ensures asked { IfOk result (λ request. IsRequested
+        (request_for call.now.caller (map occurrence_view call.now.options.now))
+        (exports_view exports.now) (request_view request)) }
+    ensures refused { IfErr result (IsRefusalOfRequest
+        (request_for call.now.caller (map occurrence_view call.now.options.now))
+        (exports_view exports.now)) }
+{
+    let Ok(machine) = machine_of(exports) else {
+        return Err(DllCallError::Dll(DllRefusal::UnknownMachine(exports.machine)));
+    };
+    let caller = Caller {
+        machine: Some(machine),
+        ..call.caller
+    };
+    match request_in(alloc, call.options, caller) {
+        Ok(request) if request.library.machine == machine => Ok(request),
+        Ok(_) => Err(DllCallError::Dll(DllRefusal::OtherMachine)),
+        Err(CallError::Refused(fault)) => Err(DllCallError::Call(fault)),
+        Err(CallError::OutOfMemory) => Err(DllCallError::Dll(DllRefusal::OutOfMemory)),
+    }
+}
+
+// Puts the library of a DLL that has these members, and gives the exit status.
+fn finish_dll<D: Disk, T: Reporter>(
+    alloc: Global,
+    members: LibraryMembers,
+    disk: &mut D,
+    request: &Request<'_>,
+    reporter: &mut T,
+) -> u8
+    requires { (D.view disk.old).left ≡ None }
+    ensures { PutsMembers D.is_known members (request_view request.now) (D.view disk.old)
+        (D.view disk.new) (T.said reporter.old) (T.said reporter.new) result }
+{
+    let put = put(alloc, disk, &members, request);
+    mem::forget(members);
+    conclude(reporter, request, put)
+}
+
+// Puts the library of a DLL, and gives the exit status.
+fn answer_exports<D: Disk, T: Reporter>(
+    alloc: Global,
+    exports: &Exports<'_>,
+    disk: &mut D,
+    request: &Request<'_>,
+    reporter: &mut T,
+) -> u8
+    requires { (D.view disk.old).left ≡ None }
+    ensures { FinishesExports D.is_known (exports_view exports.now) (request_view request.now)
+        (D.view disk.old) (D.view disk.new) (T.said reporter.old) (T.said reporter.new) result }
+{
+    let path = request.definition;
+    match members_of_dll(alloc, exports, request) {
+        Ok(members) if !has_failing_stub(&members, &request.library) => {
+            finish_dll(alloc, members, disk, request, reporter)
+        }
+        Ok(_) => {
+            reporter.complain(path, Complaint::FailingStub);
+            1
+        }
+        Err(refusal) => refuse_dll(reporter, path, refusal),
+    }
+}
+
+// Puts the library of a DLL that is read, and gives the exit status.
+fn answer_dll<D: Disk, T: Reporter>(
+    alloc: Global,
+    bytes: &[u8],
+    disk: &mut D,
+    call: &LibraryCall<'_>,
+    reporter: &mut T,
+) -> u8
+    requires { (D.view disk.old).left ≡ None }
+    ensures { FinishesDll D.is_known
+        (request_for call.now.caller (map occurrence_view call.now.options.now)) bytes.now
+        (request_view call.now.request).definition (D.view disk.old) (D.view disk.new)
+        (T.said reporter.old) (T.said reporter.new) result }
+{
+    let path = call.request.definition;
+    let exports = match dll_exports(alloc, bytes) {
+        Ok(exports) => exports,
+        Err(refusal) => return refuse_dll(reporter, path, refusal),
+    };
+    match request_of_dll(alloc, &exports, call) {
+        Ok(request) => answer_exports(alloc, &exports, disk, &request, reporter),
+        Err(error) => refuse_call(reporter, path, error),
+    }
+}
+
+// Puts the library of a file that is read, a DLL or a definition, and gives the exit status.
+fn answer<D: Disk, T: Reporter>(
+    alloc: Global,
+    bytes: &[u8],
+    disk: &mut D,
+    call: &LibraryCall<'_>,
+    reporter: &mut T,
+) -> u8
+    requires { (D.view disk.old).left ≡ None }
+    ensures { FinishesRead D.is_known
+        (request_for call.now.caller (map occurrence_view call.now.options.now)) (begins_dll bytes.now)
+        bytes.now (request_view call.now.request) (D.view disk.old) (D.view disk.new)
+        (T.said reporter.old) (T.said reporter.new) result }
+{
+    if begins_dll(bytes) {
+        return answer_dll(alloc, bytes, disk, call, reporter);
+    }
+    answer_definition(alloc, bytes, disk, &call.request, reporter)
+}
+
 // Makes a library, and gives the exit status.
 fn make<D: Disk, I: Read, T: Reporter>(
     alloc: Global,
     disk: &mut D,
-    request: &Request<'_>,
+    call: &LibraryCall<'_>,
     input: &mut I,
     reporter: &mut T,
 ) -> u8
     requires { (D.view disk.old).left ≡ None }
-    ensures { Makes D.is_known (request_view request.now)
+    ensures { Makes D.is_known
+        (request_for call.now.caller (map occurrence_view call.now.options.now))
+        (request_view call.now.request)
         (devices (I.remaining input.old) (D.view disk.old) (T.said reporter.old))
         (devices (I.remaining input.new) (D.view disk.new) (T.said reporter.new)) result }
 {
-    match bytes_of(alloc, disk, input, request.definition) {
-        Ok(bytes) => answer(alloc, bytes.as_slice(), disk, request, reporter),
+    match bytes_of(alloc, disk, input, call.request.definition) {
+        Ok(bytes) => answer(alloc, bytes.as_slice(), disk, call, reporter),
         Err(error) => {
-            reporter.complain(request.definition, Complaint::System(error));
+            reporter.complain(call.request.definition, Complaint::System(error));
             3
         }
     }
@@ -575,11 +738,19 @@ fn perform_call<D: Disk, I: Read, O: Write, T: Reporter>(
             return complain(reporter, name, Complaint::OutOfMemory, 3);
         }
     };
-    match task_of(alloc, options.as_slice(), caller_of(call.program)) {
+    let caller = caller_of(call.program);
+    match task_of(alloc, options.as_slice(), caller) {
         Ok(Task::Help) => print(printer, reporter, name, HELP),
         Ok(Task::Version) => print(printer, reporter, name, VERSION),
         Ok(Task::Identify(wish)) => identify_library(alloc, name, disk, wish, printer, reporter),
-        Ok(Task::Make(request)) => make(alloc, disk, &request, input, reporter),
+        Ok(Task::Make(request)) => {
+            let library = LibraryCall {
+                caller,
+                options: options.as_slice(),
+                request,
+            };
+            make(alloc, disk, &library, input, reporter)
+        }
         Err(CallError::Refused(fault)) => complain(reporter, name, Complaint::Call(fault), 2),
         Err(CallError::OutOfMemory) => complain(reporter, name, Complaint::OutOfMemory, 3),
     }

@@ -5,6 +5,7 @@ ghost use Rattle.implib_rules.specs.Warnings.{warning_view};
 ghost use Rattle.std.specs.Prelude.{[], ◌∷◌, List, Option};
 
 use crate::arguments::WordFault;
+use crate::dll::DllRefusal;
 use crate::identity::NotIdentified;
 use crate::request::CallFault;
 use implib_archive::WriteError;
@@ -33,6 +34,8 @@ pub enum Complaint<'a> {
     FailingStub,
     /// A definition is in UTF-16.
     Utf16,
+    /// A DLL has no library.
+    Dll(DllRefusal),
 }
 
 /// Who says what is wrong, each a line.

@@ -1,6 +1,8 @@
 //! What the options of a command line ask for.
 
-ghost use Rattle.implib_driver.specs.Arguments.{occurrence_view};
+ghost use Rattle.implib_driver.specs.Arguments.{all_given, occurrence_view};
+ghost use Rattle.implib_driver.specs.declared.options.Setting.TheVariants.{Input};
+ghost use Rattle.implib_driver.specs.declared.request.CallFault.TheVariants.{TwoInputs};
 ghost use Rattle.implib_rules.specs.Additions.{additions_view};
 ghost use Rattle.implib_rules.specs.Linked.{naming_view};
 ghost use Rattle.implib_driver.specs.Request.{additions_in};
@@ -8,14 +10,14 @@ ghost use Rattle.implib_driver.specs.Request.{IsCallRefusal, architecture_named,
 ghost use Rattle.implib_driver.specs.Request.{caller_of};
 ghost use Rattle.implib_driver.specs.Request.{default_flavor, dll_in, flavor_by_ending};
 ghost use Rattle.implib_driver.specs.Request.{flavor_in};
-ghost use Rattle.implib_driver.specs.Request.{has_gnu_habits, holds_text, is_other_architecture};
+ghost use Rattle.implib_driver.specs.Request.{has_gnu_habits, holds_text, input_in, is_other_architecture};
 ghost use Rattle.implib_driver.specs.Request.{machine_in, machine_named, machine_of_architecture};
 ghost use Rattle.implib_driver.specs.Request.{machine_of_name};
 ghost use Rattle.implib_driver.specs.Request.{naming_in, older_symbols_in, output_in, request_in};
 ghost use Rattle.implib_driver.specs.Request.{request_view};
 ghost use Rattle.implib_driver.specs.Request.{task_of, task_view};
-ghost use Rattle.std.specs.Option.{option_map};
-ghost use Rattle.std.specs.Prelude.{◌≡◌, Err, IfErr, IfOk, Ok, map};
+ghost use Rattle.std.specs.Option.{option_map, option_to_list};
+ghost use Rattle.std.specs.Prelude.{◌≡◌, ◌<◌, Err, IfErr, IfOk, Ok, length, map};
 
 use crate::arguments::{Occurrence, is_last, is_switched, last_given};
 use crate::options::{Setting, Switch};
@@ -31,7 +33,7 @@ use std::str::FromStr;
 /// What is to be made.
 #[derive(Clone, Copy, Debug)]
 pub struct Request<'a> {
-    /// The file of the definition; `-` is standard input.
+    /// The file of the definition, or of the DLL; `-` is standard input.
     pub definition: &'a str,
     /// The file of the import library; none is written without it.
     pub output: Option<&'a str>,
@@ -70,6 +72,8 @@ pub enum Task<'a> {
 pub enum CallFault<'a> {
     /// There is no definition.
     NoDefinition,
+    /// There are two files to make a library of.
+    TwoInputs,
     /// There is no such machine.
     UnknownMachine(&'a str),
     /// There is no such flavour.
@@ -420,8 +424,47 @@ fn additions_in<'a>(options: &[Occurrence<'a>]) -> Additions<'a>
     }
 }
 
+// The one file that is given without an option, if there is one.
+fn only_input<'a>(options: &[Occurrence<'a>]) -> Result<Option<&'a str>, CallFault<'a>>
+    ensures ok { IfOk result (λ input. all_given Input (map occurrence_view options.now)
+        ≡ option_to_list (option_map (λ text. text.now) input)) }
+    ensures refused { IfErr result (λ fault. (fault ≡ TwoInputs)
+        × (1 < length (all_given Input (map occurrence_view options.now)))) }
+{
+    let mut found = None;
+    for option in options {
+        if let Occurrence::Given(given, value) = option {
+            if given.is(Setting::Input) {
+                if found.is_some() {
+                    return Err(CallFault::TwoInputs);
+                }
+                found = Some(*value);
+            }
+        }
+    }
+    Ok(found)
+}
+
+// The file that a library is to be made of, if there is one.
+fn input_in<'a>(options: &[Occurrence<'a>]) -> Result<Option<&'a str>, CallFault<'a>>
+    ensures ok { IfOk result (λ input.
+        input_in (map occurrence_view options.now) ≡ Ok (option_map (λ text. text.now) input)) }
+    ensures refused { IfErr result (λ fault.
+        input_in (map occurrence_view options.now) ≡ Err (call_fault_view fault)) }
+{
+    let input = only_input(options)?;
+    let definition = last_given(options, Setting::Definition);
+    match input {
+        None => Ok(definition),
+        Some(path) => match definition {
+            None => Ok(Some(path)),
+            Some(_) => Err(CallFault::TwoInputs),
+        },
+    }
+}
+
 // The library that the options ask for.
-fn request_in<'a>(
+pub(crate) fn request_in<'a>(
     alloc: Global,
     options: &[Occurrence<'a>],
     caller: Caller,
@@ -431,7 +474,7 @@ fn request_in<'a>(
     ensures refused { IfErr result
         (IsCallRefusal (request_in caller (map occurrence_view options.now))) }
 {
-    let Some(definition) = last_given(options, Setting::Definition) else {
+    let Some(definition) = input_in(options)? else {
         return Err(CallError::Refused(CallFault::NoDefinition));
     };
     if definition.is_empty() {
@@ -464,7 +507,7 @@ fn request_in<'a>(
 ///
 /// # Errors
 ///
-/// What is wrong first: no definition, or one in a file without a name; the library to standard output, to a file without a name or
+/// What is wrong first: two files to make a library of; no definition, or one in a file without a name; the library to standard output, to a file without a name or
 /// to the definition's;
 /// an unknown machine, or none where the program's name is of another architecture; an unknown
 /// flavour; an empty name of the DLL; an underscore where C's symbols have none; older symbols for

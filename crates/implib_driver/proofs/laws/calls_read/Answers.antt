@@ -14,6 +14,7 @@ calls = record {
   unknown = refl;
   file = refl;
   minus = refl;
+  options_file = refl;
   empty_value = refl;
   value_as_option = refl;
   bundle = refl;

@@ -10,6 +10,7 @@ options = record {
   no_values = refl;
   refused = refl;
   definition = refl;
+  input = refl;
   output = refl;
   machine = refl;
   dll = refl;

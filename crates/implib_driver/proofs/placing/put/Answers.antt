@@ -3,8 +3,8 @@ use Rattle.implib_archive.specs.Archive.{archive_of}
 use Rattle.implib_rules.specs.Library.{kind_of}
 use Rattle.implib_driver.proofs.placing.put.Goals as goal
 
-pub returns : goal.returns
-returns g c = λ bytes made runs.
+pub returns-clause-answers : goal.returns-clause-answers
+returns-clause-answers g c = λ bytes made runs.
     let members = c.args.members.now in
     record {
       file = archive_of (kind_of c.args.request.now.library.flavor members) members;
@@ -13,8 +13,8 @@ returns g c = λ bytes made runs.
       unplaced = c.in-Err.ensures.unplaced;
     }
 
-pub returns-in-Ok : goal.returns-in-Ok
-returns-in-Ok g c = λ bytes made runs.
+pub returns-in-Ok-clause-answers : goal.returns-in-Ok-clause-answers
+returns-in-Ok-clause-answers g c = λ bytes made runs.
     let members = c.args.members.now in
     let placed = rw c.in_ok-archive.ensures.holds at c.in-Ok.ensures.put in
     record {

@@ -20,7 +20,7 @@ returns-in-Ok g c = λ other made runs.
       warned = g.T.Reporter.said c.warn.new.reporter;
       warns = c.in-Ok.ensures.warned counts;
       answer = c.put-put.result;
-      answers = c.put-put.ensures bytes made runs;
+      answers = c.put-put.ensures.answers bytes made runs;
       says = c.conclude.ensures.said;
       is_status = c.conclude.ensures.status;
     })

@@ -5,5 +5,5 @@ use Rattle.implib_driver.proofs.program.perform_call.Goals as goal
 
 pub returns-in-Ok-Help : goal.returns-in-Ok-Help
 returns-in-Ok-Help g c =
-    let asked = rw (c.in-Ok-Help.field-0-is, c.caller_of.ensures, c.as_slice.ensures.value) at c.in-Ok-Help.ensures.ok in
+    let asked = rw (c.in-Ok-Help.field-0-is, c.caller_of-caller.ensures, c.as_slice.ensures.value) at c.in-Ok-Help.ensures.ok in
     does_task g.D.Disk.is_known _ _ (map string_bytes c.args.call.words.now) _ c.in-Ok.ensures.ok _ _ _ _ _ _ asked (record { same_disk = refl; same_input = refl; outcome = rw c.subject_of-name.ensures at c.print.ensures })

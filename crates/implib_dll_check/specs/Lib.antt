@@ -1,0 +1,4 @@
+pub mod DllName
+pub mod Laws
+pub mod Verdict
+pub mod Worked

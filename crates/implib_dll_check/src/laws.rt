@@ -1,0 +1,15 @@
+//! Laws of verdicts, and what is worked by hand. The functions do nothing: their contracts are the
+//! laws.
+
+ghost use Rattle.implib_dll_check.specs.Laws.{OwnAsksPass};
+ghost use Rattle.implib_dll_check.specs.Worked.{WorkedVerdicts};
+
+/// What is asked for by the imports that are made of a DLL is found there, and without a search.
+pub fn own_asks_pass()
+    ensures { OwnAsksPass }
+{}
+
+/// Imports and names of DLLs worked by hand have these verdicts.
+pub fn worked_verdicts()
+    ensures { WorkedVerdicts }
+{}

@@ -1,0 +1,14 @@
+//! The verdict of an import against the DLL that it is of.
+//!
+//! [`judge`] says what a loader finds for an import: the target, whether it needs a search, and
+//! whether data is imported as data. [`loader_name`] is the name by which a loader tells DLLs apart.
+//!
+//! Each equals a definition in `specs/`, over the lookups of `implib_dll`.
+#![tactic(auto)]
+
+mod dll_name;
+pub mod laws;
+mod verdict;
+
+pub use dll_name::loader_name;
+pub use verdict::{Ask, Verdict, judge};

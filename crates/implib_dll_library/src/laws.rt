@@ -1,0 +1,15 @@
+//! The law, and what meets its premises. The functions do nothing: their contracts are the laws.
+
+ghost use Rattle.implib_dll_library.specs.Libraries.{LibrariesAskForExports};
+ghost use Rattle.implib_dll_library.specs.Worked.{WorkedPremises};
+
+/// The members of a DLL's library, read by their bytes alone, ask for exactly what the DLL exports, and
+/// a loader finds each ask in the DLL at once.
+pub fn libraries_ask_for_exports()
+    ensures { LibrariesAskForExports }
+{}
+
+/// DLLs and options worked by hand meet the premises, and others do not.
+pub fn worked_premises()
+    ensures { WorkedPremises }
+{}

@@ -1,0 +1,99 @@
+-- The library of a DLL (this project's own; docs/DLLTOOL.md, "From a DLL").
+use Rattle.std.specs.Prelude.{◌≡◌, ◌≢◌, ◌⊎◌, ℕ, Bool, true, List, [], ◌∷◌, Option, None, Some, Ok, Err, codes, if◌then◌else◌, nat_eq}
+use Rattle.std.specs.List.{starts_with}
+use Rattle.std.specs.Str.{IsUtf8}
+use Rattle.implib.specs.declared.machine.MachineType.{MachineType}
+use Rattle.implib.specs.Conversions.{machine_numbered}
+use Rattle.implib.specs.Fault.{cause_of}
+use Rattle.implib.specs.Import.{is_empty_text}
+use Rattle.implib.specs.Members.MemberSpec.{MemberView}
+use Rattle.implib_dll.specs.declared.section.Layout.TheVariants.{File}
+use Rattle.implib_dll.specs.Exports.{Exports, exports_in}
+use Rattle.implib_driver.specs.declared.dll.DllRefusal.{DllRefusal}
+use Rattle.implib_driver.specs.declared.dll.DllRefusal.TheVariants.{Read, NoExports, UnknownMachine, OtherMachine, OlderSymbols, NameNotUtf8, Unsaid, NoName, Members, OutOfMemory}
+use Rattle.implib_driver.specs.declared.dll.DllCallError.{DllCallError}
+use Rattle.implib_driver.specs.declared.dll.DllCallError.TheVariants.{Call, Dll}
+use Rattle.implib_driver.specs.Request.{Asked, CallFaultView, RequestView, call_fault_view}
+use Rattle.implib_from_dll.specs.Definition.{exports_of}
+use Rattle.implib_from_dll.specs.Unsaid.{IsUnsaid}
+use Rattle.implib_rules.specs.Exports.{MembersOfExports, RefusesExports}
+use Rattle.implib_rules.specs.Names.{lacks_name}
+use Rattle.implib_rules.specs.Options.{LibraryOptionsView}
+
+-- whether bytes begin as an image does ("MS-DOS Stub": IMAGE_DOS_SIGNATURE)
+abbrev pub begins_dll : List ℕ → Bool
+begins_dll bytes = starts_with nat_eq bytes (codes "MZ")
+
+-- bytes are an image with this export directory
+abbrev pub ReadsDll : List ℕ → Exports → Type 0
+ReadsDll bytes e = exports_in File bytes ≡ Ok (Some e)
+
+-- the name of a DLL: the one that is given, or else that of its export directory, or that of its file where
+-- that is empty
+abbrev pub dll_named : List ℕ → List ℕ → Option (List ℕ) → List ℕ
+dll_named path own (Some given) = given
+dll_named path own None = if is_empty_text own then path else own
+
+-- what the library of a DLL is made for
+abbrev pub options_for : Exports → RequestView → LibraryOptionsView
+options_for e request = record request.library { dll = Some (dll_named request.definition e.dll request.library.dll) }
+
+-- the members of the library of a DLL: those of its exports
+abbrev pub MembersOfDll : Exports → RequestView → List MemberView → Type 0
+MembersOfDll e request members = MembersOfExports (exports_of e) (options_for e request) members
+
+-- why bytes have no export directory
+abbrev pub IsRefusalOfReading : List ℕ → DllRefusal → Type 0
+IsRefusalOfReading bytes (Read fault) = exports_in File bytes ≡ Err fault
+IsRefusalOfReading bytes NoExports = exports_in File bytes ≡ Ok None
+IsRefusalOfReading bytes OutOfMemory = Unit {0}
+IsRefusalOfReading bytes _ = ⊥
+
+-- why a DLL has no members
+abbrev pub IsUnmade : Exports → RequestView → DllRefusal → Type 0
+IsUnmade e request OlderSymbols = request.older_symbols ≡ true
+IsUnmade e request NameNotUtf8 = (request.library.dll ≡ None) × (¬ (IsUtf8 e.dll))
+IsUnmade e request (Unsaid why) = IsUnsaid e why
+IsUnmade e request NoName = lacks_name (options_for e request).dll [] ≡ true
+IsUnmade e request (Members fault) = RefusesExports (exports_of e) (options_for e request) (cause_of fault)
+IsUnmade e request OutOfMemory = Unit {0}
+IsUnmade e request _ = ⊥
+
+-- the exit status for a refusal: 1, and 3 for want of memory
+abbrev pub dll_status : DllRefusal → ℕ
+dll_status OutOfMemory = 3
+dll_status _ = 1
+
+-- The request for a DLL: its machine is that of the file, whatever the program's name says, and the flavour
+-- goes by it where none is named.
+pub record IsRequested (machines : MachineType → Asked RequestView) (e : Exports) (request : RequestView) : Type 0 where
+  pub machine : MachineType
+  pub numbered : machine_numbered e.machine ≡ Some machine
+  pub asked : machines machine ≡ Ok request
+  -- the options name no other machine
+  pub same : request.library.machine ≡ machine
+
+-- the options name another machine
+pub record NamesAnother (machines : MachineType → Asked RequestView) (e : Exports) : Type 0 where
+  pub machine : MachineType
+  pub numbered : machine_numbered e.machine ≡ Some machine
+  pub request : RequestView
+  pub asked : machines machine ≡ Ok request
+  pub other : request.library.machine ≢ machine
+
+-- why there is no such request: the number is of no machine, or the options name another
+abbrev pub IsUnrequested : (MachineType → Asked RequestView) → Exports → DllRefusal → Type 0
+IsUnrequested machines e (UnknownMachine number) = (number ≡ e.machine) × (machine_numbered e.machine ≡ None)
+IsUnrequested machines e OtherMachine = NamesAnother machines e
+IsUnrequested machines e OutOfMemory = Unit {0}
+IsUnrequested machines e _ = ⊥
+
+-- why a call asks for none: the options do not fit the machine of the DLL, or there is no such request
+pub record MisfitsMachine (machines : MachineType → Asked RequestView) (e : Exports) (fault : CallFaultView) : Type 0 where
+  pub machine : MachineType
+  pub numbered : machine_numbered e.machine ≡ Some machine
+  pub asked : machines machine ≡ Err fault
+
+abbrev pub IsRefusalOfRequest : (MachineType → Asked RequestView) → Exports → DllCallError → Type 0
+IsRefusalOfRequest machines e (Call fault) = MisfitsMachine machines e (call_fault_view fault)
+IsRefusalOfRequest machines e (Dll refusal) = IsUnrequested machines e refusal
