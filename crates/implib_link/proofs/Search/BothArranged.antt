@@ -2,7 +2,7 @@
 -- since those do that the archive lists.
 use Rattle.std.proofs.Common.{◌≡◌, ℕ, ◌+◌, ◌≤◌, ◌⊎◌, false, List, [], ◌∷◌, ◌++◌, map, Option, Some, None, refl, ap, sym, ◌∙◌, subst, inl, inr, arith}
 use Rattle.std.specs.Prelude.{IsPermutation, bytes_eq}
-use Rattle.std.specs.List.{AllByRecursion, IsDistinct, cons_option, flat_map, list_any}
+use Rattle.std.specs.List.{AllByRecursion, IsDistinct, cons_option, flat_map, list_any, filter_map}
 use Rattle.std.specs.Option.{option_map}
 use Rattle.std.proofs.lemmas.Bool.{cases_Bool}
 use Rattle.implib.specs.declared.flavor.Flavor.{Flavor}
@@ -29,49 +29,33 @@ use Rattle.implib_link.proofs.Search.Counts.{distinct_from, few_from, none_times
 use Rattle.implib_link.proofs.Search.Lists.{any_among}
 use Rattle.implib_link.proofs.Search.MsvcArranged.{library_fewer as short_fewer, short_input_is}
 
--- Libraries of one flavour, in another order.
+-- What is kept of a list, in another order.
 
-pub gnu_from : (libraries : List FlavorLibrary) (x : Library) → Among x (gnu_among libraries) → (l : FlavorLibrary) × Among l libraries × (if_gnu l.flavor l.library ≡ Some x)
+kept_from : {X Y : Type 0} (keep : X → Option Y) (xs : List X) (y : Y) → Among y (filter_map keep xs) → (x : X) × Among x xs × (keep x ≡ Some y)
 unfolding Among
-gnu_from [] x held = absurd held
-gnu_from (l ∷ rest) x held =
-    elim (input_from (if_gnu l.flavor l.library) x (gnu_among rest) held) [
-      | inl is ↦ (l, inl refl, is)
-      | inr behind ↦ let later = gnu_from rest x behind in (later.0, inr later.1, later.2)
+kept_from keep [] y held = absurd held
+kept_from keep (x ∷ rest) y held =
+    elim (input_from (keep x) y (filter_map keep rest) held) [
+      | inl is ↦ (x, inl refl, is)
+      | inr behind ↦ let later = kept_from keep rest y behind in (later.0, inr later.1, later.2)
     ]
 
-gnu_into : (libraries : List FlavorLibrary) (x : Library) (l : FlavorLibrary) → Among l libraries → if_gnu l.flavor l.library ≡ Some x → Among x (gnu_among libraries)
+kept_into : {X Y : Type 0} (keep : X → Option Y) (xs : List X) (y : Y) (x : X) → Among x xs → keep x ≡ Some y → Among y (filter_map keep xs)
 unfolding Among
-gnu_into [] x l held is = absurd held
-gnu_into (y ∷ rest) x l (inl same) is =
-    input_front (if_gnu y.flavor y.library) x (gnu_among rest) (subst (λ (z : FlavorLibrary). if_gnu z.flavor z.library ≡ Some x) same is)
-gnu_into (y ∷ rest) x l (inr held) is = input_behind (if_gnu y.flavor y.library) x (gnu_among rest) (gnu_into rest x l held is)
+kept_into keep [] y x held is = absurd held
+kept_into keep (z ∷ rest) y x (inl same) is = input_front (keep z) y (filter_map keep rest) (subst (λ w. keep w ≡ Some y) same is)
+kept_into keep (z ∷ rest) y x (inr held) is = input_behind (keep z) y (filter_map keep rest) (kept_into keep rest y x held is)
+
+kept_moved : {X Y : Type 0} (keep : X → Option Y) (xs arranged : List X) (y : Y) → IsPermutation xs arranged → Among y (filter_map keep xs) → Among y (filter_map keep arranged)
+kept_moved keep xs arranged y moved held =
+    let from = kept_from keep xs y held in
+    kept_into keep arranged y from.0 (among_moved from.0 xs arranged moved from.1) from.2
 
 pub gnu_moved : (libraries arranged : List FlavorLibrary) (x : Library) → IsPermutation libraries arranged → Among x (gnu_among libraries) → Among x (gnu_among arranged)
-gnu_moved libraries arranged x moved held =
-    let from = gnu_from libraries x held in
-    gnu_into arranged x from.0 (among_moved from.0 libraries arranged moved from.1) from.2
-
-msvc_from : (libraries : List FlavorLibrary) (x : Library) → Among x (msvc_among libraries) → (l : FlavorLibrary) × Among l libraries × (if_msvc l.flavor l.library ≡ Some x)
-unfolding Among
-msvc_from [] x held = absurd held
-msvc_from (l ∷ rest) x held =
-    elim (input_from (if_msvc l.flavor l.library) x (msvc_among rest) held) [
-      | inl is ↦ (l, inl refl, is)
-      | inr behind ↦ let later = msvc_from rest x behind in (later.0, inr later.1, later.2)
-    ]
-
-msvc_into : (libraries : List FlavorLibrary) (x : Library) (l : FlavorLibrary) → Among l libraries → if_msvc l.flavor l.library ≡ Some x → Among x (msvc_among libraries)
-unfolding Among
-msvc_into [] x l held is = absurd held
-msvc_into (y ∷ rest) x l (inl same) is =
-    input_front (if_msvc y.flavor y.library) x (msvc_among rest) (subst (λ (z : FlavorLibrary). if_msvc z.flavor z.library ≡ Some x) same is)
-msvc_into (y ∷ rest) x l (inr held) is = input_behind (if_msvc y.flavor y.library) x (msvc_among rest) (msvc_into rest x l held is)
+gnu_moved = kept_moved (λ (l : FlavorLibrary). if_gnu l.flavor l.library)
 
 pub msvc_moved : (libraries arranged : List FlavorLibrary) (x : Library) → IsPermutation libraries arranged → Among x (msvc_among libraries) → Among x (msvc_among arranged)
-msvc_moved libraries arranged x moved held =
-    let from = msvc_from libraries x held in
-    msvc_into arranged x from.0 (among_moved from.0 libraries arranged moved from.1) from.2
+msvc_moved = kept_moved (λ (l : FlavorLibrary). if_msvc l.flavor l.library)
 
 -- The inputs of both are those of each.
 
