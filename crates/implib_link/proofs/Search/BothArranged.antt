@@ -2,7 +2,7 @@
 -- since those do that the archive lists.
 use Rattle.std.proofs.Common.{◌≡◌, ℕ, ◌+◌, ◌≤◌, ◌⊎◌, false, List, [], ◌∷◌, ◌++◌, map, Option, Some, None, refl, ap, sym, ◌∙◌, subst, inl, inr, arith}
 use Rattle.std.specs.Prelude.{IsPermutation, bytes_eq}
-use Rattle.std.specs.List.{AllByRecursion, IsDistinct, cons_option, flat_map, list_any, filter_map}
+use Rattle.std.specs.List.{AllByRecursion, IsDistinct, cons_option, flat_map, list_any}
 use Rattle.std.specs.Option.{option_map}
 use Rattle.std.proofs.lemmas.Bool.{cases_Bool}
 use Rattle.implib.specs.declared.flavor.Flavor.{Flavor}
@@ -23,33 +23,13 @@ use Rattle.implib_link.specs.Search.Search.{exports_wanted}
 use Rattle.implib_link.proofs.Flavors.Block.{symbols_of}
 use Rattle.implib_link.proofs.Flavors.Blocks.{FlavorBlock}
 use Rattle.implib_link.proofs.Flavors.Inputs.{block_in, inputs_symbols}
-use Rattle.implib_link.proofs.Search.Arranged.{all_each, among_moved, flat_among, input_behind, input_from, input_front, input_is, library_fewer as gnu_fewer}
+use Rattle.implib_link.proofs.Search.Arranged.{all_each, flat_among, input_behind, input_from, input_front, input_is, library_fewer as gnu_fewer, kept_moved}
 use Rattle.implib_link.proofs.Search.BothMembers.{gnu_made, msvc_made}
 use Rattle.implib_link.proofs.Search.Counts.{distinct_from, few_from, none_times, times, times_both, times_moved}
 use Rattle.implib_link.proofs.Search.Lists.{any_among}
 use Rattle.implib_link.proofs.Search.MsvcArranged.{library_fewer as short_fewer, short_input_is}
 
--- What is kept of a list, in another order.
-
-kept_from : {X Y : Type 0} (keep : X → Option Y) (xs : List X) (y : Y) → Among y (filter_map keep xs) → (x : X) × Among x xs × (keep x ≡ Some y)
-unfolding Among
-kept_from keep [] y held = absurd held
-kept_from keep (x ∷ rest) y held =
-    elim (input_from (keep x) y (filter_map keep rest) held) [
-      | inl is ↦ (x, inl refl, is)
-      | inr behind ↦ let later = kept_from keep rest y behind in (later.0, inr later.1, later.2)
-    ]
-
-kept_into : {X Y : Type 0} (keep : X → Option Y) (xs : List X) (y : Y) (x : X) → Among x xs → keep x ≡ Some y → Among y (filter_map keep xs)
-unfolding Among
-kept_into keep [] y x held is = absurd held
-kept_into keep (z ∷ rest) y x (inl same) is = input_front (keep z) y (filter_map keep rest) (subst (λ w. keep w ≡ Some y) same is)
-kept_into keep (z ∷ rest) y x (inr held) is = input_behind (keep z) y (filter_map keep rest) (kept_into keep rest y x held is)
-
-kept_moved : {X Y : Type 0} (keep : X → Option Y) (xs arranged : List X) (y : Y) → IsPermutation xs arranged → Among y (filter_map keep xs) → Among y (filter_map keep arranged)
-kept_moved keep xs arranged y moved held =
-    let from = kept_from keep xs y held in
-    kept_into keep arranged y from.0 (among_moved from.0 xs arranged moved from.1) from.2
+-- Libraries of one flavour, in another order.
 
 pub gnu_moved : (libraries arranged : List FlavorLibrary) (x : Library) → IsPermutation libraries arranged → Among x (gnu_among libraries) → Among x (gnu_among arranged)
 gnu_moved = kept_moved (λ (l : FlavorLibrary). if_gnu l.flavor l.library)
