@@ -75,13 +75,15 @@ is_undefined wanted objects name =
     Contains (wanted ++ flat_map undefined_in objects) name
     × (list_any (bytes_eq name) (flat_map claimed_names objects) ≡ false)
 
--- for wanted names, of members as a linker reads them: as objects, or for a machine
+-- for wanted names, of members as a linker reads them
 abbrev pub asks_as : (List ℕ → Option Object) → List (List ℕ) → Asks
 asks_as reads wanted contents name = is_undefined wanted (filter_map reads contents) name
 
+-- as the objects that their bytes are
 abbrev pub asks_for : List (List ℕ) → Asks
 asks_for = asks_as object_in
 
+-- as a linker for a machine takes them
 abbrev pub asks_on : MachineType → List (List ℕ) → Asks
 asks_on machine = asks_as (expanded_in machine)
 
@@ -89,8 +91,10 @@ asks_on machine = asks_as (expanded_in machine)
 abbrev pub asks_with_as : (List ℕ → Option Object) → List Object → Asks
 asks_with_as reads own contents name = Contains (unresolved (own ++ filter_map reads contents)) name
 
+-- of members that are read as objects
 abbrev pub asks_with : List Object → Asks
 asks_with = asks_with_as object_in
 
+-- of members as a linker for a machine takes them
 abbrev pub asks_with_on : MachineType → List Object → Asks
 asks_with_on machine = asks_with_as (expanded_in machine)

@@ -110,8 +110,3 @@ byte_front (x ∷ xs) ys a b is =
       | inl within ↦ rw within (rw within at is)
       | inr outside ↦ rw outside (byte_front xs ys a b (rw outside at is))
     ]
-
-pub located_front : (xs ys : List Range) (bytes : List ℕ) (a : ℕ) → BytesAt xs a bytes → BytesAt (xs ++ ys) a bytes
-unfolding BytesAt
-located_front xs ys [] a located = tt
-located_front xs ys (b ∷ bytes) a located = (byte_front xs ys a b located.0, located_front xs ys bytes (a + 1) located.1)

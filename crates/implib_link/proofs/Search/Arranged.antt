@@ -97,14 +97,7 @@ chosen_behind wanted front (e ∷ exports) start is =
 pub chosen_are : (l : Library) (wanted : List (List ℕ)) → chosen_exports l.definition (exports_wanted l.definition wanted) ≡ filter (is_wanted wanted) (exports_of l)
 chosen_are l wanted = chosen_behind wanted [] (exports_of l) 0 refl
 
--- The input of a library that is wanted, and what is chosen by an input.
-
-abbrev pub input_for : Library → List (List ℕ) → LinkInput
-input_for l names = record { definition = l.definition; members = l.members; chosen = exports_wanted l.definition names }
-
-some_input : (l : Library) (chosen : List ℕ) (k : ℕ) → Among k chosen → input_if_any l chosen ≡ Some (record { definition = l.definition; members = l.members; chosen = chosen })
-some_input l [] k held = absurd (in_nothing k held)
-some_input l (n ∷ chosen) k held = refl
+-- What is kept of a list, in another order.
 
 pub input_front : {X : Type 0} (o : Option X) (x : X) (xs : List X) → o ≡ Some x → Among x (cons_option o xs)
 input_front None x xs is = cc
@@ -114,34 +107,54 @@ pub input_behind : {X : Type 0} (o : Option X) (x : X) (xs : List X) → Among x
 input_behind None x xs held = held
 input_behind (Some y) x xs held = among_later x y xs held
 
-pub input_held : (libraries : List Library) (names : List (List ℕ)) (l : Library) (k : ℕ) → Among l libraries → Among k (exports_wanted l.definition names) →
-    Among (input_for l names) (inputs_wanted libraries names)
-unfolding Among
-input_held [] names l k held some = absurd held
-input_held (x ∷ libraries) names l k (inl e) some =
-    input_front (input_if_any x (exports_wanted x.definition names)) (input_for l names) (inputs_wanted libraries names)
-    (subst (λ (y : Library). input_if_any y (exports_wanted y.definition names) ≡ Some (input_for l names)) e (some_input l (exports_wanted l.definition names) k some))
-input_held (x ∷ libraries) names l k (inr held) some =
-    input_behind (input_if_any x (exports_wanted x.definition names)) (input_for l names) (inputs_wanted libraries names) (input_held libraries names l k held some)
-
 pub input_from : {X : Type 0} (o : Option X) (x : X) (xs : List X) → Among x (cons_option o xs) → (o ≡ Some x) ⊎ Among x xs
 unfolding Among
 input_from None x xs held = inr held
 input_from (Some y) x xs (inl e) = inl (ap Some (sym e))
 input_from (Some y) x xs (inr held) = inr held
 
+pub kept_from : {X Y : Type 0} (keep : X → Option Y) (xs : List X) (y : Y) → Among y (filter_map keep xs) → (x : X) × Among x xs × (keep x ≡ Some y)
+unfolding Among
+kept_from keep [] y held = absurd held
+kept_from keep (x ∷ rest) y held =
+    elim (input_from (keep x) y (filter_map keep rest) held) [
+      | inl is ↦ (x, inl refl, is)
+      | inr behind ↦ let later = kept_from keep rest y behind in (later.0, inr later.1, later.2)
+    ]
+
+pub kept_into : {X Y : Type 0} (keep : X → Option Y) (xs : List X) (y : Y) (x : X) → Among x xs → keep x ≡ Some y → Among y (filter_map keep xs)
+unfolding Among
+kept_into keep [] y x held is = absurd held
+kept_into keep (z ∷ rest) y x (inl same) is = input_front (keep z) y (filter_map keep rest) (subst (λ w. keep w ≡ Some y) same is)
+kept_into keep (z ∷ rest) y x (inr held) is = input_behind (keep z) y (filter_map keep rest) (kept_into keep rest y x held is)
+
+pub kept_moved : {X Y : Type 0} (keep : X → Option Y) (xs arranged : List X) (y : Y) → IsPermutation xs arranged → Among y (filter_map keep xs) → Among y (filter_map keep arranged)
+kept_moved keep xs arranged y moved held =
+    let from = kept_from keep xs y held in
+    kept_into keep arranged y from.0 (among_moved from.0 xs arranged moved from.1) from.2
+
+-- The input of a library that is wanted, and what is chosen by an input.
+
+abbrev pub input_for : Library → List (List ℕ) → LinkInput
+input_for l names = record { definition = l.definition; members = l.members; chosen = exports_wanted l.definition names }
+
+some_input : (l : Library) (chosen : List ℕ) (k : ℕ) → Among k chosen → input_if_any l chosen ≡ Some (record { definition = l.definition; members = l.members; chosen = chosen })
+some_input l [] k held = absurd (in_nothing k held)
+some_input l (n ∷ chosen) k held = refl
+
+pub input_held : (libraries : List Library) (names : List (List ℕ)) (l : Library) (k : ℕ) → Among l libraries → Among k (exports_wanted l.definition names) →
+    Among (input_for l names) (inputs_wanted libraries names)
+input_held libraries names l k held some =
+    kept_into (λ (x : Library). input_if_any x (exports_wanted x.definition names)) libraries (input_for l names) l held (some_input l (exports_wanted l.definition names) k some)
+
 any_is : (l : Library) (chosen : List ℕ) (p : LinkInput) → input_if_any l chosen ≡ Some p → p ≡ record { definition = l.definition; members = l.members; chosen = chosen }
 any_is l [] p is = cc
 any_is l (n ∷ chosen) p is = cc
 
 pub input_is : (libraries : List Library) (names : List (List ℕ)) (p : LinkInput) → Among p (inputs_wanted libraries names) → (l : Library) × Among l libraries × (p ≡ input_for l names)
-unfolding Among
-input_is [] names p held = absurd held
-input_is (l ∷ libraries) names p held =
-    elim (input_from (input_if_any l (exports_wanted l.definition names)) p (inputs_wanted libraries names) held) [
-      | inl is ↦ (l, inl refl, any_is l (exports_wanted l.definition names) p is)
-      | inr behind ↦ let later = input_is libraries names p behind in (later.0, inr later.1, later.2)
-    ]
+input_is libraries names p held =
+    let from = kept_from (λ (x : Library). input_if_any x (exports_wanted x.definition names)) libraries p held in
+    (from.0, from.1, any_is from.0 (exports_wanted from.0.definition names) p from.2)
 
 -- The symbols of what is linked differ, since those do that the archive lists.
 

@@ -134,10 +134,6 @@ module _ (machine : MachineType) (libraries : List FlavorLibrary) (archive : IsF
   any_in : (names : List (List ℕ)) (l : Library) (e : ExportView) → Among e (exports_of l) → is_import_wanted names e ≡ true → AnyImport (exports_of l) names
   any_in names l e held want = record { export = e; held = held; want = want }
 
-  no_library : (l : Library) → Among l [] → ⊥
-  unfolding Among
-  no_library l held = held
-
   -- what the descriptor of a library leaves finds the null descriptor and its null thunk
   left_by_descriptor : (names : List (List ℕ)) (l : Library) → Among l (msvc_among libraries) → AnyImport (exports_of l) names → (name : List ℕ) →
       Among name (null_descriptor_symbol ∷ null_thunk_symbol (linked_dll l.definition) ∷ []) → (m : MemberView) → first_listed (archive_of_both libraries) name ≡ Some m → IsNeededOf names m

@@ -23,7 +23,7 @@ use Rattle.implib_link.specs.Search.Search.{exports_wanted}
 use Rattle.implib_link.proofs.Flavors.Block.{symbols_of}
 use Rattle.implib_link.proofs.Flavors.Blocks.{FlavorBlock}
 use Rattle.implib_link.proofs.Flavors.Inputs.{block_in, inputs_symbols}
-use Rattle.implib_link.proofs.Search.Arranged.{all_each, among_moved, flat_among, input_behind, input_from, input_front, input_is, library_fewer as gnu_fewer}
+use Rattle.implib_link.proofs.Search.Arranged.{all_each, flat_among, input_behind, input_from, input_front, input_is, library_fewer as gnu_fewer, kept_moved}
 use Rattle.implib_link.proofs.Search.BothMembers.{gnu_made, msvc_made}
 use Rattle.implib_link.proofs.Search.Counts.{distinct_from, few_from, none_times, times, times_both, times_moved}
 use Rattle.implib_link.proofs.Search.Lists.{any_among}
@@ -31,47 +31,11 @@ use Rattle.implib_link.proofs.Search.MsvcArranged.{library_fewer as short_fewer,
 
 -- Libraries of one flavour, in another order.
 
-pub gnu_from : (libraries : List FlavorLibrary) (x : Library) → Among x (gnu_among libraries) → (l : FlavorLibrary) × Among l libraries × (if_gnu l.flavor l.library ≡ Some x)
-unfolding Among
-gnu_from [] x held = absurd held
-gnu_from (l ∷ rest) x held =
-    elim (input_from (if_gnu l.flavor l.library) x (gnu_among rest) held) [
-      | inl is ↦ (l, inl refl, is)
-      | inr behind ↦ let later = gnu_from rest x behind in (later.0, inr later.1, later.2)
-    ]
-
-gnu_into : (libraries : List FlavorLibrary) (x : Library) (l : FlavorLibrary) → Among l libraries → if_gnu l.flavor l.library ≡ Some x → Among x (gnu_among libraries)
-unfolding Among
-gnu_into [] x l held is = absurd held
-gnu_into (y ∷ rest) x l (inl same) is =
-    input_front (if_gnu y.flavor y.library) x (gnu_among rest) (subst (λ (z : FlavorLibrary). if_gnu z.flavor z.library ≡ Some x) same is)
-gnu_into (y ∷ rest) x l (inr held) is = input_behind (if_gnu y.flavor y.library) x (gnu_among rest) (gnu_into rest x l held is)
-
 pub gnu_moved : (libraries arranged : List FlavorLibrary) (x : Library) → IsPermutation libraries arranged → Among x (gnu_among libraries) → Among x (gnu_among arranged)
-gnu_moved libraries arranged x moved held =
-    let from = gnu_from libraries x held in
-    gnu_into arranged x from.0 (among_moved from.0 libraries arranged moved from.1) from.2
-
-msvc_from : (libraries : List FlavorLibrary) (x : Library) → Among x (msvc_among libraries) → (l : FlavorLibrary) × Among l libraries × (if_msvc l.flavor l.library ≡ Some x)
-unfolding Among
-msvc_from [] x held = absurd held
-msvc_from (l ∷ rest) x held =
-    elim (input_from (if_msvc l.flavor l.library) x (msvc_among rest) held) [
-      | inl is ↦ (l, inl refl, is)
-      | inr behind ↦ let later = msvc_from rest x behind in (later.0, inr later.1, later.2)
-    ]
-
-msvc_into : (libraries : List FlavorLibrary) (x : Library) (l : FlavorLibrary) → Among l libraries → if_msvc l.flavor l.library ≡ Some x → Among x (msvc_among libraries)
-unfolding Among
-msvc_into [] x l held is = absurd held
-msvc_into (y ∷ rest) x l (inl same) is =
-    input_front (if_msvc y.flavor y.library) x (msvc_among rest) (subst (λ (z : FlavorLibrary). if_msvc z.flavor z.library ≡ Some x) same is)
-msvc_into (y ∷ rest) x l (inr held) is = input_behind (if_msvc y.flavor y.library) x (msvc_among rest) (msvc_into rest x l held is)
+gnu_moved = kept_moved (λ (l : FlavorLibrary). if_gnu l.flavor l.library)
 
 pub msvc_moved : (libraries arranged : List FlavorLibrary) (x : Library) → IsPermutation libraries arranged → Among x (msvc_among libraries) → Among x (msvc_among arranged)
-msvc_moved libraries arranged x moved held =
-    let from = msvc_from libraries x held in
-    msvc_into arranged x from.0 (among_moved from.0 libraries arranged moved from.1) from.2
+msvc_moved = kept_moved (λ (l : FlavorLibrary). if_msvc l.flavor l.library)
 
 -- The inputs of both are those of each.
 

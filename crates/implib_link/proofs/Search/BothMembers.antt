@@ -91,9 +91,6 @@ module _ (machine : MachineType) (l : Library) (made : IsLibrary machine l) wher
 
 -- A name finds a member in the whole archive where it does so in the libraries of one flavour.
 
-same_some : (m x : MemberView) → Some x ≡ Some m → x ≡ m
-same_some m x same = cc
-
 not_some : (m : MemberView) → None ≡ Some m → ⊥
 not_some m is = cc
 

@@ -14,7 +14,7 @@ use Rattle.implib_link.specs.Flavors.Program.{FlavorInput}
 use Rattle.implib_link.specs.Search.Archives.{Library, exports_of}
 use Rattle.implib_link.specs.Search.MsvcArchives.{imports_wanted, is_import_wanted, short_input_if_any, short_inputs, symbols_of_short, symbols_of_shorts}
 use Rattle.implib_link.proofs.Flavors.Block.{symbols_of}
-use Rattle.implib_link.proofs.Search.Arranged.{input_behind, input_from, input_front}
+use Rattle.implib_link.proofs.Search.Arranged.{kept_from, kept_into}
 use Rattle.implib_link.proofs.Search.Closed.{passes}
 use Rattle.implib_link.proofs.Search.Counts.{times, times_both}
 use Rattle.implib_link.proofs.Search.Msvc.{some_export}
@@ -39,14 +39,9 @@ some_input l (n ∷ chosen) e held = refl
 
 pub short_input_held : (libraries : List Library) (names : List (List ℕ)) (l : Library) (e : ExportView) → Among l libraries → Among e (exports_of l) → is_import_wanted names e ≡ true →
     Among (short_input_for l names) (short_inputs libraries names)
-unfolding Among
-short_input_held [] names l e held there want = absurd held
-short_input_held (x ∷ libraries) names l e (inl is) there want =
+short_input_held libraries names l e held there want =
     let chosen : Among e (chosen_exports l.definition (imports_wanted l names)) = subst (Among e) (sym (imports_are l names)) (passes (is_import_wanted names) e (exports_of l) there want) in
-    input_front (short_input_if_any x (imports_wanted x names)) (short_input_for l names) (short_inputs libraries names)
-    (subst (λ (y : Library). short_input_if_any y (imports_wanted y names) ≡ Some (short_input_for l names)) is (some_input l (imports_wanted l names) e chosen))
-short_input_held (x ∷ libraries) names l e (inr held) there want =
-    input_behind (short_input_if_any x (imports_wanted x names)) (short_input_for l names) (short_inputs libraries names) (short_input_held libraries names l e held there want)
+    kept_into (λ (x : Library). short_input_if_any x (imports_wanted x names)) libraries (short_input_for l names) l held (some_input l (imports_wanted l names) e chosen)
 
 any_is : (l : Library) (names : List (List ℕ)) (chosen : List ℕ) (p : FlavorInput) → imports_wanted l names ≡ chosen → short_input_if_any l chosen ≡ Some p →
     (p ≡ input_with l chosen) × AnyImport (exports_of l) names
@@ -58,13 +53,10 @@ any_is l names (n ∷ chosen) p is some =
 
 pub short_input_is : (libraries : List Library) (names : List (List ℕ)) (p : FlavorInput) → Among p (short_inputs libraries names) →
     (l : Library) × Among l libraries × (p ≡ short_input_for l names) × AnyImport (exports_of l) names
-unfolding Among
-short_input_is [] names p held = absurd held
-short_input_is (l ∷ libraries) names p held =
-    elim (input_from (short_input_if_any l (imports_wanted l names)) p (short_inputs libraries names) held) [
-      | inl is ↦ let own = any_is l names (imports_wanted l names) p refl is in (l, inl refl, own.0, own.1)
-      | inr behind ↦ let later = short_input_is libraries names p behind in (later.0, inr later.1, later.2, later.3)
-    ]
+short_input_is libraries names p held =
+    let from = kept_from (λ (x : Library). short_input_if_any x (imports_wanted x names)) libraries p held in
+    let own = any_is from.0 names (imports_wanted from.0 names) p refl from.2 in
+    (from.0, from.1, own.0, own.1)
 
 shorts_fewer : (name : List ℕ) (names : List (List ℕ)) (es : List ExportView) → times name (flat_map short_import_symbols (filter (is_import_wanted names) es)) ≤ times name (flat_map symbols_of_short es)
 unfolding times

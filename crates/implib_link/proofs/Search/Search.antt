@@ -15,7 +15,6 @@ use Rattle.implib.specs.Members.Members.{AreMembersOf}
 use Rattle.implib.specs.Members.MemberSpec.{MemberView, MemberSpec, member_of}
 use Rattle.implib.specs.Members.GnuMembers.{alias_specs, export_spec, gnu_specs, head_spec, numbered_specs, numbered_specs_of, tail_spec}
 use Rattle.implib.specs.Members.WeakExternal.{weak_spec}
-use Rattle.implib.specs.Formats.Object.{Object}
 use Rattle.implib.specs.Renaming.{renamed}
 use Rattle.implib.proofs.Link.LinkedMembers.{among_map, among_reverse}
 use Rattle.implib.proofs.Link.Placement.{export, head, tail}
@@ -209,9 +208,6 @@ in_nothing x held = held
 pub same_export : (e other : ExportView) → Some e ≡ Some other → e ≡ other
 same_export e other same = cc
 
-same_object : (o other : Object) → Some o ≡ Some other → o ≡ other
-same_object o other e = cc
-
 names_apart : (dll : List ℕ) (n : ℕ) → weak_address_name dll n ≡ export_name dll n → ⊥
 unfolding numbered_name
 names_apart dll n same = name_differs 0x78 0x73 (ap (λ text. slice_index text 3) (append_cancel_left (mangled_name dll) _ _ same)) (omega arith)
@@ -250,12 +246,6 @@ module _ (d : DefinitionView) (machine : MachineType) (members : List MemberView
     (distinct : IsDistinct bytes_eq (all_listed members)) where
   abbrev pub public : List ExportView
   public = public_exports (renamed d)
-
-  abbrev pub the_head : MemberView
-  the_head = member_of (head_spec machine (linked_name d))
-
-  abbrev pub the_tail : MemberView
-  the_tail = member_of (tail_spec machine (names_for Gnu d))
 
   abbrev pub the_export : ℕ → ExportView → MemberView
   the_export n e = member_of (export_spec machine (linked_name d) n e)

@@ -52,13 +52,15 @@ pub record TakesIntoAs (reads : List ℕ → Option Object) (archive : List Memb
   pub in_turn : AreTakenIntoAs reads archive own taken
   pub ended : (name : List ℕ) (m : MemberView) → PullsIntoAs reads archive own taken name m → ⊥
 
--- by a linker that reads members as the objects that their bytes are
+-- The same for a linker that reads members as the objects that their bytes are: an unresolved name pulls in a member.
 abbrev pub PullsInto : List MemberView → List Object → List MemberView → List ℕ → MemberView → Type 0
 PullsInto = PullsIntoAs object_in
 
+-- members are taken one after another
 abbrev pub AreTakenInto : List MemberView → List Object → List MemberView → Type 0
 AreTakenInto = AreTakenIntoAs object_in
 
+-- what the linker takes
 abbrev pub TakesInto : List MemberView → List Object → List MemberView → Type 0
 TakesInto = TakesIntoAs object_in
 

@@ -9,12 +9,15 @@ use Rattle.implib.specs.Members.MemberSpec.{MemberView}
 use Rattle.implib_link.specs.Search.Closed.{AreTakenIntoAs, PullsIntoAs, TakesIntoAs, unresolved}
 use Rattle.implib_link.specs.Search.MsvcArchives.{wanted_with_weak, weak_in}
 
+-- an unresolved name pulls in a member, where a linker for a machine reads short imports as what it takes them for
 abbrev pub PullsIntoFor : MachineType → List MemberView → List Object → List MemberView → List ℕ → MemberView → Type 0
 PullsIntoFor machine = PullsIntoAs (expanded_in machine)
 
+-- members are taken one after another
 abbrev pub AreTakenIntoFor : MachineType → List MemberView → List Object → List MemberView → Type 0
 AreTakenIntoFor machine = AreTakenIntoAs (expanded_in machine)
 
+-- what the linker takes
 abbrev pub TakesIntoFor : MachineType → List MemberView → List Object → List MemberView → Type 0
 TakesIntoFor machine = TakesIntoAs (expanded_in machine)
 

@@ -35,10 +35,11 @@ undefined_in o = filter_map undefined_name o.entries
 abbrev pub objects_as : (List ℕ → Option Object) → List MemberView → List Object
 objects_as reads members = filter_map (λ m. reads m.bytes) members
 
--- The names that members leave to others, and those that they claim, by these objects.
+-- the names that members leave to others, by these objects
 unfoldable pub left_as : (List ℕ → Option Object) → List MemberView → List (List ℕ)
 left_as reads members = flat_map undefined_in (objects_as reads members)
 
+-- the names that they claim
 unfoldable pub claimed_as : (List ℕ → Option Object) → List MemberView → List (List ℕ)
 claimed_as reads members = flat_map claimed_names (objects_as reads members)
 
@@ -65,19 +66,23 @@ pub record TakesAs (reads : List ℕ → Option Object) (archive : List MemberVi
   pub in_turn : AreTakenInTurnAs reads archive wanted taken
   pub ended : (name : List ℕ) (m : MemberView) → PullsInAs reads archive wanted taken name m → ⊥
 
--- A linker that reads members as the objects that their bytes are.
+-- The same for a linker that reads members as the objects that their bytes are: the names that members leave to others.
 abbrev pub names_undefined : List MemberView → List (List ℕ)
 names_undefined = left_as object_in
 
+-- the names that they claim
 abbrev pub names_claimed : List MemberView → List (List ℕ)
 names_claimed = claimed_as object_in
 
+-- an undefined name pulls in a member
 abbrev pub PullsIn : List MemberView → List (List ℕ) → List MemberView → List ℕ → MemberView → Type 0
 PullsIn = PullsInAs object_in
 
+-- members are taken one after another
 abbrev pub IsTakenInTurn : List MemberView → List (List ℕ) → List MemberView → Type 0
 IsTakenInTurn = AreTakenInTurnAs object_in
 
+-- what the linker takes
 abbrev pub Takes : List MemberView → List (List ℕ) → List MemberView → Type 0
 Takes = TakesAs object_in
 

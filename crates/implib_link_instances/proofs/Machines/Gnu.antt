@@ -83,16 +83,6 @@ takes_arm64 : Takes (archive_of (gnu_libraries ARM64)) (unresolved (own_on ARM64
 unfolding searched AreTakenInTurnAs
 takes_arm64 = takes_by (iname_symbol ARM64 foo ∷ head_symbol ARM64 foo ∷ baz ARM64 ∷ bar ARM64 ∷ iname_symbol ARM64 zed ∷ head_symbol ARM64 zed ∷ imp_symbol (queue ARM64) ∷ []) refl refl refl
 
-linked_arm64 : AreLinkedFor ARM64 (gnu_libraries ARM64) (own_on ARM64) (gnu_taken ARM64) (gnu_libraries ARM64) (gnu_bases ARM64) (gnu_objects ARM64)
-unfolding searched group_end sections_end
-linked_arm64 = record {
-  order = record { moves = []; below = tt; is = refl };
-  others = λ o. (λ held. held, λ held. held);
-  tables = refl;
-  admissible = packed_is_admissible ARM64 0x5000 (inputs_in (gnu_libraries ARM64) (own_on ARM64) (gnu_taken ARM64)) (gnu_objects ARM64) (inputs_made ARM64 (gnu_libraries ARM64) (wanted_in (own_on ARM64) (gnu_taken ARM64)) archive_arm64.made)
-      refl (omega arith) (below_limit (packed_end 0x5000 (gnu_objects ARM64)) refl);
-}
-
 pub gnu_arm64 : WorkedGnu ARM64 0x5060 0x5070 0x5186
 unfolding searched group_end sections_end
 gnu_arm64 = worked ARM64 0x5060 0x5070 0x5186 (record {
@@ -103,7 +93,13 @@ gnu_arm64 = worked ARM64 0x5060 0x5070 0x5186 (record {
   };
   takes = takes_arm64;
   claims = (claims_none_by (listed_in (gnu_taken ARM64) ++ names_undefined (gnu_taken ARM64)) (choosing_on ARM64) refl, tt);
-  linked = linked_arm64;
+  linked = record {
+    order = record { moves = []; below = tt; is = refl };
+    others = λ o. (λ held. held, λ held. held);
+    tables = refl;
+    admissible = packed_is_admissible ARM64 0x5000 (inputs_in (gnu_libraries ARM64) (own_on ARM64) (gnu_taken ARM64)) (gnu_objects ARM64) (inputs_made ARM64 (gnu_libraries ARM64) (wanted_in (own_on ARM64) (gnu_taken ARM64)) archive_arm64.made)
+        refl (omega arith) (below_limit (packed_end 0x5000 (gnu_objects ARM64)) refl);
+  };
   left = refl;
   baz_pointer = refl;
   queue_pointer = refl;
@@ -133,16 +129,6 @@ takes_i386 : Takes (archive_of (gnu_libraries I386)) (unresolved (own_on I386)) 
 unfolding searched AreTakenInTurnAs
 takes_i386 = takes_by (iname_symbol I386 foo ∷ head_symbol I386 foo ∷ baz I386 ∷ bar I386 ∷ iname_symbol I386 zed ∷ head_symbol I386 zed ∷ imp_symbol (queue I386) ∷ []) refl refl refl
 
-linked_i386 : AreLinkedFor I386 (gnu_libraries I386) (own_on I386) (gnu_taken I386) (gnu_libraries I386) (gnu_bases I386) (gnu_objects I386)
-unfolding searched group_end sections_end
-linked_i386 = record {
-  order = record { moves = []; below = tt; is = refl };
-  others = λ o. (λ held. held, λ held. held);
-  tables = refl;
-  admissible = packed_is_admissible I386 0x5000 (inputs_in (gnu_libraries I386) (own_on I386) (gnu_taken I386)) (gnu_objects I386) (inputs_made I386 (gnu_libraries I386) (wanted_in (own_on I386) (gnu_taken I386)) archive_i386.made)
-      refl (omega arith) (below_limit (packed_end 0x5000 (gnu_objects I386)) refl);
-}
-
 pub gnu_i386 : WorkedGnu I386 0x5050 0x5058 0x518A
 unfolding searched group_end sections_end
 gnu_i386 = worked I386 0x5050 0x5058 0x518A (record {
@@ -153,7 +139,13 @@ gnu_i386 = worked I386 0x5050 0x5058 0x518A (record {
   };
   takes = takes_i386;
   claims = (claims_none_by (listed_in (gnu_taken I386) ++ names_undefined (gnu_taken I386)) (choosing_on I386) refl, tt);
-  linked = linked_i386;
+  linked = record {
+    order = record { moves = []; below = tt; is = refl };
+    others = λ o. (λ held. held, λ held. held);
+    tables = refl;
+    admissible = packed_is_admissible I386 0x5000 (inputs_in (gnu_libraries I386) (own_on I386) (gnu_taken I386)) (gnu_objects I386) (inputs_made I386 (gnu_libraries I386) (wanted_in (own_on I386) (gnu_taken I386)) archive_i386.made)
+        refl (omega arith) (below_limit (packed_end 0x5000 (gnu_objects I386)) refl);
+  };
   left = refl;
   baz_pointer = refl;
   queue_pointer = refl;
@@ -183,16 +175,6 @@ takes_armnt : Takes (archive_of (gnu_libraries ARMNT)) (unresolved (own_on ARMNT
 unfolding searched AreTakenInTurnAs
 takes_armnt = takes_by (iname_symbol ARMNT foo ∷ head_symbol ARMNT foo ∷ baz ARMNT ∷ bar ARMNT ∷ iname_symbol ARMNT zed ∷ head_symbol ARMNT zed ∷ imp_symbol (queue ARMNT) ∷ []) refl refl refl
 
-linked_armnt : AreLinkedFor ARMNT (gnu_libraries ARMNT) (own_on ARMNT) (gnu_taken ARMNT) (gnu_libraries ARMNT) (gnu_bases ARMNT) (gnu_objects ARMNT)
-unfolding searched group_end sections_end
-linked_armnt = record {
-  order = record { moves = []; below = tt; is = refl };
-  others = λ o. (λ held. held, λ held. held);
-  tables = refl;
-  admissible = packed_is_admissible ARMNT 0x5000 (inputs_in (gnu_libraries ARMNT) (own_on ARMNT) (gnu_taken ARMNT)) (gnu_objects ARMNT) (inputs_made ARMNT (gnu_libraries ARMNT) (wanted_in (own_on ARMNT) (gnu_taken ARMNT)) archive_armnt.made)
-      refl (omega arith) (below_limit (packed_end 0x5000 (gnu_objects ARMNT)) refl);
-}
-
 pub gnu_armnt : WorkedGnu ARMNT 0x5050 0x5058 0x5186
 unfolding searched group_end sections_end
 gnu_armnt = worked ARMNT 0x5050 0x5058 0x5186 (record {
@@ -203,7 +185,13 @@ gnu_armnt = worked ARMNT 0x5050 0x5058 0x5186 (record {
   };
   takes = takes_armnt;
   claims = (claims_none_by (listed_in (gnu_taken ARMNT) ++ names_undefined (gnu_taken ARMNT)) (choosing_on ARMNT) refl, tt);
-  linked = linked_armnt;
+  linked = record {
+    order = record { moves = []; below = tt; is = refl };
+    others = λ o. (λ held. held, λ held. held);
+    tables = refl;
+    admissible = packed_is_admissible ARMNT 0x5000 (inputs_in (gnu_libraries ARMNT) (own_on ARMNT) (gnu_taken ARMNT)) (gnu_objects ARMNT) (inputs_made ARMNT (gnu_libraries ARMNT) (wanted_in (own_on ARMNT) (gnu_taken ARMNT)) archive_armnt.made)
+        refl (omega arith) (below_limit (packed_end 0x5000 (gnu_objects ARMNT)) refl);
+  };
   left = refl;
   baz_pointer = refl;
   queue_pointer = refl;

@@ -108,13 +108,6 @@ ready_arm64 : HaveArchive Coff Second (archive_of (both ARM64))
 unfolding searched entries_from entries_of first_linker_size first_place front_size is_long archive_long_names name_end names_bytes names_size offset_of places_from second_linker_size strings_of with_first archive_with_name has_short_places has_too_many member_refusal members_refusal name_refusal places_refusal refusal_of symbol_refusal symbols_refusal
 ready_arm64 = record { accepted = refl; has = tt }
 
-given_arm64 : AreGiven ARM64 (both ARM64) (own ARM64)
-unfolding searched
-given_arm64 = record {
-  claims = (claims_none_by (symbols_kept ARM64 (both ARM64) (own ARM64)) (calls_bar ARM64) refl, (claims_none_by (symbols_kept ARM64 (both ARM64) (own ARM64)) (calls_queue ARM64) refl, tt));
-  names = (record { head = refl; name = refl }, (record { head = refl; name = refl }, tt));
-}
-
 takes_arm64 : Takes (archive_of (both ARM64)) (unresolved (own ARM64)) (taken ARM64)
 unfolding searched AreTakenInTurnAs
 takes_arm64 = takes_by (iname_symbol ARM64 zed ∷ head_symbol ARM64 zed ∷ imp_symbol (queue ARM64) ∷ iname_symbol ARM64 foo ∷ head_symbol ARM64 foo ∷ imp_symbol (bar ARM64) ∷ []) refl refl refl
@@ -125,25 +118,6 @@ claims_arm64 = (
   claims_none_by (listed_in (taken ARM64) ++ names_undefined (taken ARM64)) (calls_bar ARM64) refl,
   (claims_none_by (listed_in (taken ARM64) ++ names_undefined (taken ARM64)) (calls_queue ARM64) refl, tt),
 )
-
-linked_arm64 : AreLinkedFor ARM64 (both ARM64) (own ARM64) (taken ARM64) (both ARM64) (bases ARM64 0x51000) (objects ARM64)
-unfolding searched group_end sections_end
-linked_arm64 = record {
-  order = record { moves = []; below = tt; is = refl };
-  others = λ o. (λ held. held, λ held. held);
-  tables = refl;
-  admissible = packed_is_admissible ARM64 0x51000 (inputs_in (both ARM64) (own ARM64) (taken ARM64)) (objects ARM64) (inputs_made ARM64 (both ARM64) (wanted_in (own ARM64) (taken ARM64)) archive_arm64.made)
-      refl (omega arith) (below_limit (packed_end 0x51000 (objects ARM64)) refl);
-}
-
-sections_arm64 : AreSections ARM64 (bases ARM64 0x51000) (objects ARM64) (placed ARM64 0x51000)
-unfolding searched group_end sections_end
-sections_arm64 = record {
-  held = ((0, omega arith, refl), ((1, omega arith, refl), tt));
-  sections = (refl, (refl, tt));
-  ends = (omega arith, (omega arith, tt));
-  apart = apart_as_they_rise (2 ^ 31) (image_of ARM64 (bases ARM64 0x51000) (placed_from (bases ARM64 0x51000) (objects ARM64)) ++ map plain_range (placed ARM64 0x51000)) refl;
-}
 
 once_arm64 : DefineOnce (placed_from (bases ARM64 0x51000) (objects ARM64)) (placed ARM64 0x51000)
 unfolding searched group_end sections_end found found_in
@@ -179,11 +153,25 @@ unfolding searched group_end sections_end
 gnu_way_arm64 = worked ARM64 0x1_4000_0000 0x51000 0x51060 0x51070 (0x30 ∷ 0 ∷ 0 ∷ 0x10 ∷ 0 ∷ 0 ∷ 0 ∷ 0 ∷ []) (0x50 ∷ 0 ∷ 0 ∷ 0x10 ∷ 0 ∷ 0 ∷ 0 ∷ 0 ∷ []) (record {
   archive = archive_arm64;
   ready = ready_arm64;
-  given = given_arm64;
+  given = record {
+    claims = (claims_none_by (symbols_kept ARM64 (both ARM64) (own ARM64)) (calls_bar ARM64) refl, (claims_none_by (symbols_kept ARM64 (both ARM64) (own ARM64)) (calls_queue ARM64) refl, tt));
+    names = (record { head = refl; name = refl }, (record { head = refl; name = refl }, tt));
+  };
   takes = takes_arm64;
   claims = claims_arm64;
-  linked = linked_arm64;
-  sections = sections_arm64;
+  linked = record {
+    order = record { moves = []; below = tt; is = refl };
+    others = λ o. (λ held. held, λ held. held);
+    tables = refl;
+    admissible = packed_is_admissible ARM64 0x51000 (inputs_in (both ARM64) (own ARM64) (taken ARM64)) (objects ARM64) (inputs_made ARM64 (both ARM64) (wanted_in (own ARM64) (taken ARM64)) archive_arm64.made)
+        refl (omega arith) (below_limit (packed_end 0x51000 (objects ARM64)) refl);
+  };
+  sections = record {
+    held = ((0, omega arith, refl), ((1, omega arith, refl), tt));
+    sections = (refl, (refl, tt));
+    ends = (omega arith, (omega arith, tt));
+    apart = apart_as_they_rise (2 ^ 31) (image_of ARM64 (bases ARM64 0x51000) (placed_from (bases ARM64 0x51000) (objects ARM64)) ++ map plain_range (placed ARM64 0x51000)) refl;
+  };
   once = once_arm64;
   small = small_arm64;
   bar_pointer = refl;
@@ -202,13 +190,6 @@ ready_i386 : HaveArchive Coff Second (archive_of (both I386))
 unfolding searched entries_from entries_of first_linker_size first_place front_size is_long archive_long_names name_end names_bytes names_size offset_of places_from second_linker_size strings_of with_first archive_with_name has_short_places has_too_many member_refusal members_refusal name_refusal places_refusal refusal_of symbol_refusal symbols_refusal
 ready_i386 = record { accepted = refl; has = tt }
 
-given_i386 : AreGiven I386 (both I386) (own I386)
-unfolding searched
-given_i386 = record {
-  claims = (claims_none_by (symbols_kept I386 (both I386) (own I386)) (calls_bar I386) refl, (claims_none_by (symbols_kept I386 (both I386) (own I386)) (calls_queue I386) refl, tt));
-  names = (record { head = refl; name = refl }, (record { head = refl; name = refl }, tt));
-}
-
 takes_i386 : Takes (archive_of (both I386)) (unresolved (own I386)) (taken I386)
 unfolding searched AreTakenInTurnAs
 takes_i386 = takes_by (iname_symbol I386 zed ∷ head_symbol I386 zed ∷ imp_symbol (queue I386) ∷ iname_symbol I386 foo ∷ head_symbol I386 foo ∷ imp_symbol (bar I386) ∷ []) refl refl refl
@@ -219,25 +200,6 @@ claims_i386 = (
   claims_none_by (listed_in (taken I386) ++ names_undefined (taken I386)) (calls_bar I386) refl,
   (claims_none_by (listed_in (taken I386) ++ names_undefined (taken I386)) (calls_queue I386) refl, tt),
 )
-
-linked_i386 : AreLinkedFor I386 (both I386) (own I386) (taken I386) (both I386) (bases I386 0x71000) (objects I386)
-unfolding searched group_end sections_end
-linked_i386 = record {
-  order = record { moves = []; below = tt; is = refl };
-  others = λ o. (λ held. held, λ held. held);
-  tables = refl;
-  admissible = packed_is_admissible I386 0x71000 (inputs_in (both I386) (own I386) (taken I386)) (objects I386) (inputs_made I386 (both I386) (wanted_in (own I386) (taken I386)) archive_i386.made)
-      refl (omega arith) (below_limit (packed_end 0x71000 (objects I386)) refl);
-}
-
-sections_i386 : AreSections I386 (bases I386 0x71000) (objects I386) (placed I386 0x71000)
-unfolding searched group_end sections_end
-sections_i386 = record {
-  held = ((0, omega arith, refl), ((1, omega arith, refl), tt));
-  sections = (refl, (refl, tt));
-  ends = (omega arith, (omega arith, tt));
-  apart = apart_as_they_rise (2 ^ 31) (image_of I386 (bases I386 0x71000) (placed_from (bases I386 0x71000) (objects I386)) ++ map plain_range (placed I386 0x71000)) refl;
-}
 
 once_i386 : DefineOnce (placed_from (bases I386 0x71000) (objects I386)) (placed I386 0x71000)
 unfolding searched group_end sections_end found found_in
@@ -273,11 +235,25 @@ unfolding searched group_end sections_end
 gnu_way_i386 = worked I386 0x40_0000 0x71000 0x71050 0x71058 (0x30 ∷ 0 ∷ 0 ∷ 0x10 ∷ []) (0x50 ∷ 0 ∷ 0 ∷ 0x10 ∷ []) (record {
   archive = archive_i386;
   ready = ready_i386;
-  given = given_i386;
+  given = record {
+    claims = (claims_none_by (symbols_kept I386 (both I386) (own I386)) (calls_bar I386) refl, (claims_none_by (symbols_kept I386 (both I386) (own I386)) (calls_queue I386) refl, tt));
+    names = (record { head = refl; name = refl }, (record { head = refl; name = refl }, tt));
+  };
   takes = takes_i386;
   claims = claims_i386;
-  linked = linked_i386;
-  sections = sections_i386;
+  linked = record {
+    order = record { moves = []; below = tt; is = refl };
+    others = λ o. (λ held. held, λ held. held);
+    tables = refl;
+    admissible = packed_is_admissible I386 0x71000 (inputs_in (both I386) (own I386) (taken I386)) (objects I386) (inputs_made I386 (both I386) (wanted_in (own I386) (taken I386)) archive_i386.made)
+        refl (omega arith) (below_limit (packed_end 0x71000 (objects I386)) refl);
+  };
+  sections = record {
+    held = ((0, omega arith, refl), ((1, omega arith, refl), tt));
+    sections = (refl, (refl, tt));
+    ends = (omega arith, (omega arith, tt));
+    apart = apart_as_they_rise (2 ^ 31) (image_of I386 (bases I386 0x71000) (placed_from (bases I386 0x71000) (objects I386)) ++ map plain_range (placed I386 0x71000)) refl;
+  };
   once = once_i386;
   small = small_i386;
   bar_pointer = refl;

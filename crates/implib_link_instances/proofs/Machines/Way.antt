@@ -174,15 +174,6 @@ linked_arm64 takes =
       follows = closed.follows;
     }
 
-sections_arm64 : AreSections ARM64 (bases ARM64 0x41000) (objects ARM64) (placed ARM64 0x41000)
-unfolding searched group_end sections_end
-sections_arm64 = record {
-  held = ((0, omega arith, refl), ((1, omega arith, refl), tt));
-  sections = (refl, (refl, tt));
-  ends = (omega arith, (omega arith, tt));
-  apart = apart_as_they_rise (2 ^ 31) (image_of ARM64 (bases ARM64 0x41000) (placed_from (bases ARM64 0x41000) (objects ARM64)) ++ map plain_range (placed ARM64 0x41000)) refl;
-}
-
 once_arm64 : DefineOnce (placed_from (bases ARM64 0x41000) (objects ARM64)) (placed ARM64 0x41000)
 unfolding searched group_end sections_end found found_in
 once_arm64 = once_by (placed_from (bases ARM64 0x41000) (objects ARM64)) (placed ARM64 0x41000) refl refl
@@ -231,7 +222,12 @@ way_arm64 = worked ARM64 0x1_4000_0000 0x41000 0x41060 0x41070 (0x30 ∷ 0 ∷ 0
   takes = takes_arm64;
   claims = claims_arm64;
   linked = linked_arm64;
-  sections = sections_arm64;
+  sections = record {
+    held = ((0, omega arith, refl), ((1, omega arith, refl), tt));
+    sections = (refl, (refl, tt));
+    ends = (omega arith, (omega arith, tt));
+    apart = apart_as_they_rise (2 ^ 31) (image_of ARM64 (bases ARM64 0x41000) (placed_from (bases ARM64 0x41000) (objects ARM64)) ++ map plain_range (placed ARM64 0x41000)) refl;
+  };
   once = once_arm64;
   small = small_arm64;
   bar_called = bar_called_arm64 (0x41000 + 0x1000);
@@ -293,15 +289,6 @@ linked_i386 takes =
       follows = closed.follows;
     }
 
-sections_i386 : AreSections I386 (bases I386 0x61000) (objects I386) (placed I386 0x61000)
-unfolding searched group_end sections_end
-sections_i386 = record {
-  held = ((0, omega arith, refl), ((1, omega arith, refl), tt));
-  sections = (refl, (refl, tt));
-  ends = (omega arith, (omega arith, tt));
-  apart = apart_as_they_rise (2 ^ 31) (image_of I386 (bases I386 0x61000) (placed_from (bases I386 0x61000) (objects I386)) ++ map plain_range (placed I386 0x61000)) refl;
-}
-
 once_i386 : DefineOnce (placed_from (bases I386 0x61000) (objects I386)) (placed I386 0x61000)
 unfolding searched group_end sections_end found found_in
 once_i386 = once_by (placed_from (bases I386 0x61000) (objects I386)) (placed I386 0x61000) refl refl
@@ -350,7 +337,12 @@ way_i386 = worked I386 0x40_0000 0x61000 0x61050 0x61058 (0x30 ∷ 0 ∷ 0 ∷ 0
   takes = takes_i386;
   claims = claims_i386;
   linked = linked_i386;
-  sections = sections_i386;
+  sections = record {
+    held = ((0, omega arith, refl), ((1, omega arith, refl), tt));
+    sections = (refl, (refl, tt));
+    ends = (omega arith, (omega arith, tt));
+    apart = apart_as_they_rise (2 ^ 31) (image_of I386 (bases I386 0x61000) (placed_from (bases I386 0x61000) (objects I386)) ++ map plain_range (placed I386 0x61000)) refl;
+  };
   once = once_i386;
   small = small_i386;
   bar_called = bar_called_i386 (0x61000 + 0x1000);

@@ -49,6 +49,18 @@ flavors_loaded machine bases inputs objects gives written made program wide writ
     (subst (λ is. Writes (image_of machine bases (placed_from bases objects)) (thunk_width machine) gives bases.descriptors is written)
     (sym (packed_imports (thunk_width machine) (map (block_of_flavor machine) inputs) bases.addresses ∙ flavors_blocks machine inputs)) writes)
 
+-- what is worked of a program, where its own writes and its end are computed
+worked : (machine : MachineType) (n : ℕ) (bases : Bases) (written : List Range) → AllByRecursion (IsMadeFor machine) (both_inputs machine) → IsFlavorProgram machine bases (both_inputs machine) (flavor_objects machine n) →
+    ((dll : List ℕ) (ask : Ask) → length (gives_by_hand machine dll ask) ≡ thunk_width machine) →
+    Writes (flavor_image machine n bases) (thunk_width machine) (gives_by_hand machine) bases.descriptors (map (imported_in machine) (both_inputs machine)) written →
+    packed_end 1 (flavor_objects machine n) < 2 ^ 31 → WorkedFlavorLoad machine n bases written
+worked machine n bases written made program given writes below = record {
+  links = flavors_link machine bases (both_inputs machine) (flavor_objects machine n) made program;
+  writes = writes;
+  loaded = flavors_loaded machine bases (both_inputs machine) (flavor_objects machine n) (gives_by_hand machine) written made program given writes;
+  packed_program = packed_flavors machine 1 (both_inputs machine) (flavor_objects machine n) made program.held (omega arith) below;
+}
+
 amd64_writes : Writes (flavor_image AMD64 0 flavor_bases_8) (thunk_width AMD64) (gives_by_hand AMD64) flavor_bases_8.descriptors (map (imported_in AMD64) (both_inputs AMD64)) (flavors_written_8 AMD64)
 unfolding opened refusal renamed_refusal alias_specs encoded_size weak_object has_tables expanded_in short_import_in import_object descriptor_symbol_by_name with_section_symbols descriptor null_descriptor null_thunk descriptor_symbol null_descriptor_symbol null_thunk_symbol base_name descriptor_spec null_descriptor_spec null_thunk_spec header_specs weak_specs group_end sections_end Writes entries_written
 amd64_writes = (
@@ -61,12 +73,7 @@ unfolding opened refusal renamed_refusal alias_specs encoded_size weak_object ha
 amd64_below = below_limit (packed_end 1 (flavor_objects AMD64 0)) refl
 
 amd64 : WorkedFlavorLoad AMD64 0 flavor_bases_8 (flavors_written_8 AMD64)
-amd64 = record {
-  links = flavors_link AMD64 flavor_bases_8 (both_inputs AMD64) (flavor_objects AMD64 0) worked_flavors.amd64.made worked_flavors.amd64.program;
-  writes = amd64_writes;
-  loaded = flavors_loaded AMD64 flavor_bases_8 (both_inputs AMD64) (flavor_objects AMD64 0) (gives_by_hand AMD64) (flavors_written_8 AMD64) worked_flavors.amd64.made worked_flavors.amd64.program amd64_given amd64_writes;
-  packed_program = packed_flavors AMD64 1 (both_inputs AMD64) (flavor_objects AMD64 0) worked_flavors.amd64.made worked_flavors.amd64.program.held (omega arith) amd64_below;
-}
+amd64 = worked AMD64 0 flavor_bases_8 (flavors_written_8 AMD64) worked_flavors.amd64.made worked_flavors.amd64.program amd64_given amd64_writes amd64_below
 
 amd64_can : CanJump AMD64 0x1_4000_0000 flavor_bases_8
 amd64_can = tt
@@ -91,12 +98,7 @@ unfolding opened refusal renamed_refusal alias_specs encoded_size weak_object ha
 arm64_below = below_limit (packed_end 1 (flavor_objects ARM64 9)) refl
 
 arm64 : WorkedFlavorLoad ARM64 9 flavor_bases_8 (flavors_written_8 ARM64)
-arm64 = record {
-  links = flavors_link ARM64 flavor_bases_8 (both_inputs ARM64) (flavor_objects ARM64 9) worked_flavors.arm64.made worked_flavors.arm64.program;
-  writes = arm64_writes;
-  loaded = flavors_loaded ARM64 flavor_bases_8 (both_inputs ARM64) (flavor_objects ARM64 9) (gives_by_hand ARM64) (flavors_written_8 ARM64) worked_flavors.arm64.made worked_flavors.arm64.program arm64_given arm64_writes;
-  packed_program = packed_flavors ARM64 1 (both_inputs ARM64) (flavor_objects ARM64 9) worked_flavors.arm64.made worked_flavors.arm64.program.held (omega arith) arm64_below;
-}
+arm64 = worked ARM64 9 flavor_bases_8 (flavors_written_8 ARM64) worked_flavors.arm64.made worked_flavors.arm64.program arm64_given arm64_writes arm64_below
 
 arm64_can : CanJump ARM64 0x1_4000_0000 flavor_bases_8
 arm64_can = (refl, refl)
@@ -121,12 +123,7 @@ unfolding opened refusal renamed_refusal alias_specs encoded_size weak_object ha
 i386_below = below_limit (packed_end 1 (flavor_objects I386 2)) refl
 
 i386 : WorkedFlavorLoad I386 2 flavor_bases_4 (flavors_written_4 I386)
-i386 = record {
-  links = flavors_link I386 flavor_bases_4 (both_inputs I386) (flavor_objects I386 2) worked_flavors.i386.made worked_flavors.i386.program;
-  writes = i386_writes;
-  loaded = flavors_loaded I386 flavor_bases_4 (both_inputs I386) (flavor_objects I386 2) (gives_by_hand I386) (flavors_written_4 I386) worked_flavors.i386.made worked_flavors.i386.program i386_given i386_writes;
-  packed_program = packed_flavors I386 1 (both_inputs I386) (flavor_objects I386 2) worked_flavors.i386.made worked_flavors.i386.program.held (omega arith) i386_below;
-}
+i386 = worked I386 2 flavor_bases_4 (flavors_written_4 I386) worked_flavors.i386.made worked_flavors.i386.program i386_given i386_writes i386_below
 
 i386_can : CanJump I386 0x40_0000 flavor_bases_4
 i386_can = omega arith
@@ -151,12 +148,7 @@ unfolding opened refusal renamed_refusal alias_specs encoded_size weak_object ha
 armnt_below = below_limit (packed_end 1 (flavor_objects ARMNT 2)) refl
 
 armnt : WorkedFlavorLoad ARMNT 2 flavor_bases_4 (flavors_written_4 ARMNT)
-armnt = record {
-  links = flavors_link ARMNT flavor_bases_4 (both_inputs ARMNT) (flavor_objects ARMNT 2) worked_flavors.armnt.made worked_flavors.armnt.program;
-  writes = armnt_writes;
-  loaded = flavors_loaded ARMNT flavor_bases_4 (both_inputs ARMNT) (flavor_objects ARMNT 2) (gives_by_hand ARMNT) (flavors_written_4 ARMNT) worked_flavors.armnt.made worked_flavors.armnt.program armnt_given armnt_writes;
-  packed_program = packed_flavors ARMNT 1 (both_inputs ARMNT) (flavor_objects ARMNT 2) worked_flavors.armnt.made worked_flavors.armnt.program.held (omega arith) armnt_below;
-}
+armnt = worked ARMNT 2 flavor_bases_4 (flavors_written_4 ARMNT) worked_flavors.armnt.made worked_flavors.armnt.program armnt_given armnt_writes armnt_below
 
 pub worked_flavor_loads : WorkedFlavorLoads
 worked_flavor_loads = record { amd64 = amd64; arm64 = arm64; i386 = i386; armnt = armnt }

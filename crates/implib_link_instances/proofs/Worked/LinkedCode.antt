@@ -11,7 +11,7 @@ use Rattle.implib.specs.Formats.Constants.{amd64_rel32, arm64_pagebase_rel21, ar
 use Rattle.implib.specs.Formats.File.{is_defined_external}
 use Rattle.implib.specs.Formats.Object.{ASymbol, Auxiliary, Entry, ObjectSection}
 use Rattle.implib.specs.Link.Image.{AllApart, Range, is_in}
-use Rattle.implib.specs.Link.Load.{NumberAt, number_in}
+use Rattle.implib.specs.Link.Load.{NumberAt, number_in, BytesAt}
 use Rattle.implib.specs.Link.Placement.{Placed}
 use Rattle.implib.specs.Link.Resolution.{address_or_zero, is_undefined_external, symbol_address, target_address}
 use Rattle.implib.proofs.Link.Definitions.{same_text}
@@ -26,7 +26,7 @@ use Rattle.implib_link.specs.Stub.{adrp_immediate, bits_of, ldr_immediate, page,
 use Rattle.implib_link_instances.specs.Worked.Operands.{in_code, named_or, or_else}
 use Rattle.implib_link.proofs.Gnu.Fields.{alone_among}
 use Rattle.implib_link.proofs.Gnu.Loaded.{kept_outside}
-use Rattle.implib_link.proofs.Gnu.Memory.{located_front}
+use Rattle.implib_link.proofs.Gnu.Memory.{byte_front}
 use Rattle.implib_link.proofs.Gnu.Moved.{among_place}
 use Rattle.implib_link.proofs.Search.Lists.{among_at, among_mapped, contains_among}
 use Rattle.implib_link.proofs.Search.Lists.{each_of}
@@ -234,6 +234,11 @@ none_in a (r ∷ fronts) none =
     let parts = or_parts (covers a (place_of_range r)) (list_any (covers a) (map place_of_range fronts)) none in
     let first : is_in a r ≡ false = parts.0 in
     rw (first, none_in a fronts parts.1) refl
+
+located_front : (xs ys : List Range) (bytes : List ℕ) (a : ℕ) → BytesAt xs a bytes → BytesAt (xs ++ ys) a bytes
+unfolding BytesAt
+located_front xs ys [] a located = tt
+located_front xs ys (b ∷ bytes) a located = (byte_front xs ys a b located.0, located_front xs ys bytes (a + 1) located.1)
 
 pub rebased_by : (from to : ℕ) (fronts linked : List Range) → AllApart fronts →
     AllByRecursion (λ (r : Range). (n : ℕ) × (NumberAt linked (length r.bytes) r.start n × (number_in r.bytes ≡ moved_number (length r.bytes) from to n))) fronts →

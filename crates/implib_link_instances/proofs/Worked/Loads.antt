@@ -39,6 +39,20 @@ gnu_loaded machine bases inputs objects gives written made program wide writes =
     (subst (λ is. Writes (image_of machine bases (placed_from bases objects)) (thunk_width machine) gives bases.descriptors is written)
     (sym (packed_imports (thunk_width machine) (map (block_of_input machine) inputs) bases.addresses ∙ inputs_blocks machine inputs)) writes)
 
+-- what is worked of a program, where its own writes are computed
+worked : (machine : MachineType) (bases : Bases) (written : List Range) → AllByRecursion (IsMade machine) (both_inputs machine) → IsProgram machine bases (both_inputs machine) (program_objects machine) →
+    ((dll : List ℕ) (ask : Ask) → length (gives_by_hand machine dll ask) ≡ thunk_width machine) →
+    Writes (program_image machine bases) (thunk_width machine) (gives_by_hand machine) bases.descriptors (map (imported machine) (both_inputs machine)) written → WorkedLoad machine bases written
+worked machine bases written made program given writes =
+    let links = program_links machine bases (both_inputs machine) (program_objects machine) made program in
+    record {
+      links = links;
+      walk = directory_walk (program_image machine bases) (thunk_width machine) bases.descriptors (map (imported machine) (both_inputs machine)) links.directory;
+      given = given;
+      writes = writes;
+      loaded = gnu_loaded machine bases (both_inputs machine) (program_objects machine) (gives_by_hand machine) written made program given writes;
+    }
+
 pub amd64_given : (dll : List ℕ) (ask : Ask) → length (gives_by_hand AMD64 dll ask) ≡ thunk_width AMD64
 amd64_given dll (Ordinal n) = refl
 amd64_given dll (Name text hint) = refl
@@ -51,15 +65,7 @@ amd64_writes = (
 )
 
 amd64 : WorkedLoad AMD64 touching_8 (written_8 AMD64)
-amd64 =
-    let links = program_links AMD64 touching_8 (both_inputs AMD64) (program_objects AMD64) worked_programs.amd64.made worked_programs.amd64.program in
-    record {
-      links = links;
-      walk = directory_walk (program_image AMD64 touching_8) (thunk_width AMD64) touching_8.descriptors (map (imported AMD64) (both_inputs AMD64)) links.directory;
-      given = amd64_given;
-      writes = amd64_writes;
-      loaded = gnu_loaded AMD64 touching_8 (both_inputs AMD64) (program_objects AMD64) (gives_by_hand AMD64) (written_8 AMD64) worked_programs.amd64.made worked_programs.amd64.program amd64_given amd64_writes;
-    }
+amd64 = worked AMD64 touching_8 (written_8 AMD64) worked_programs.amd64.made worked_programs.amd64.program amd64_given amd64_writes
 
 amd64_can : CanJump AMD64 0x1_4000_0000 touching_8
 amd64_can = tt
@@ -83,15 +89,7 @@ arm64_writes = (
 )
 
 arm64 : WorkedLoad ARM64 touching_8 (written_8 ARM64)
-arm64 =
-    let links = program_links ARM64 touching_8 (both_inputs ARM64) (program_objects ARM64) worked_programs.arm64.made worked_programs.arm64.program in
-    record {
-      links = links;
-      walk = directory_walk (program_image ARM64 touching_8) (thunk_width ARM64) touching_8.descriptors (map (imported ARM64) (both_inputs ARM64)) links.directory;
-      given = arm64_given;
-      writes = arm64_writes;
-      loaded = gnu_loaded ARM64 touching_8 (both_inputs ARM64) (program_objects ARM64) (gives_by_hand ARM64) (written_8 ARM64) worked_programs.arm64.made worked_programs.arm64.program arm64_given arm64_writes;
-    }
+arm64 = worked ARM64 touching_8 (written_8 ARM64) worked_programs.arm64.made worked_programs.arm64.program arm64_given arm64_writes
 
 arm64_can : CanJump ARM64 0x1_4000_0000 touching_8
 arm64_can = (refl, refl)
@@ -115,15 +113,7 @@ i386_writes = (
 )
 
 i386 : WorkedLoad I386 touching_4 (written_4 I386)
-i386 =
-    let links = program_links I386 touching_4 (both_inputs I386) (program_objects I386) worked_programs.i386.made worked_programs.i386.program in
-    record {
-      links = links;
-      walk = directory_walk (program_image I386 touching_4) (thunk_width I386) touching_4.descriptors (map (imported I386) (both_inputs I386)) links.directory;
-      given = i386_given;
-      writes = i386_writes;
-      loaded = gnu_loaded I386 touching_4 (both_inputs I386) (program_objects I386) (gives_by_hand I386) (written_4 I386) worked_programs.i386.made worked_programs.i386.program i386_given i386_writes;
-    }
+i386 = worked I386 touching_4 (written_4 I386) worked_programs.i386.made worked_programs.i386.program i386_given i386_writes
 
 i386_can : CanJump I386 0x40_0000 touching_4
 i386_can = omega arith
@@ -147,15 +137,7 @@ armnt_writes = (
 )
 
 armnt : WorkedLoad ARMNT touching_4 (written_4 ARMNT)
-armnt =
-    let links = program_links ARMNT touching_4 (both_inputs ARMNT) (program_objects ARMNT) worked_programs.armnt.made worked_programs.armnt.program in
-    record {
-      links = links;
-      walk = directory_walk (program_image ARMNT touching_4) (thunk_width ARMNT) touching_4.descriptors (map (imported ARMNT) (both_inputs ARMNT)) links.directory;
-      given = armnt_given;
-      writes = armnt_writes;
-      loaded = gnu_loaded ARMNT touching_4 (both_inputs ARMNT) (program_objects ARMNT) (gives_by_hand ARMNT) (written_4 ARMNT) worked_programs.armnt.made worked_programs.armnt.program armnt_given armnt_writes;
-    }
+armnt = worked ARMNT touching_4 (written_4 ARMNT) worked_programs.armnt.made worked_programs.armnt.program armnt_given armnt_writes
 
 pub worked_loads : WorkedLoads
 worked_loads = record { amd64 = amd64; arm64 = arm64; i386 = i386; armnt = armnt }

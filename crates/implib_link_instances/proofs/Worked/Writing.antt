@@ -1,4 +1,7 @@
 -- A loader that writes as it goes, by hand, by computing and by the law.
+use Rattle.implib.specs.Link.LinkedMembers.{IsMade}
+use Rattle.std.specs.List.{AllByRecursion}
+use Rattle.implib.specs.Link.Placement.{Bases}
 use Rattle.implib_link_instances.specs.Worked.Operands.{calling_linked, flavors_linked, linked_targets, moved_memory, passing_codes, passing_objects, passing_targets}
 use Rattle.implib_link_instances.proofs.Worked.FlavorFields.{worked_flavor_fields}
 use Rattle.implib_link_instances.proofs.Worked.Operands.{worked_operands}
@@ -11,7 +14,7 @@ use Rattle.implib.specs.Import.{Ask, Ordinal}
 use Rattle.implib.specs.Link.Image.{Range, byte_at}
 use Rattle.implib.specs.Link.Load.{BytesAt, NumberAt, TableAt, ThunkAsksFor, ThunkAt}
 use Rattle.implib.specs.Members.GnuMembers.{alias_specs}
-use Rattle.implib.specs.Members.ImportTables.{zeros}
+use Rattle.implib.specs.Members.ImportTables.{zeros, thunk_width}
 use Rattle.implib.specs.Members.WeakExternal.{weak_object}
 use Rattle.implib.proofs.Link.Loading.{number_once}
 use Rattle.implib_link.specs.Directory.{Imported, StopsAt, imported}
@@ -42,81 +45,49 @@ keeps_itself image a byte is = is
 abbrev imports : MachineType → List Imported
 imports machine = map (imported machine) (both_inputs machine)
 
+-- what is worked of a program, and what is left by computing
+worked : (machine : MachineType) (bases : Bases) (left : List Range) → AllByRecursion (IsMade machine) (both_inputs machine) → IsProgram machine bases (both_inputs machine) (program_objects machine) →
+    ((dll : List ℕ) (ask : Ask) → length (gives_by_hand machine dll ask) ≡ thunk_width machine) →
+    all_filled (thunk_width machine) (gives_by_hand machine) bases.addresses (imports machine) (program_image machine bases) ≡ left ++ program_image machine bases → WorkedWriting machine bases left
+worked machine bases left made program given is =
+    let long = gnu_long machine bases (both_inputs machine) (program_objects machine) made program in
+    let beside = gnu_beside machine bases (both_inputs machine) (program_objects machine) made program in
+    let image : List Range = program_image machine bases in
+    record {
+      runs = subst (WritesAsItGoes (thunk_width machine) (gives_by_hand machine) bases.descriptors image (imports machine)) is
+          (run_can machine bases (program_objects machine) program.admissible (imports machine) long beside (gives_by_hand machine) given image (keeps_itself image));
+      once = λ found after runs.
+          let same = run_once machine bases (program_objects machine) program.admissible (imports machine) long beside (gives_by_hand machine) given image (keeps_itself image) found after runs in
+          (same.0, same.1 ∙ is);
+    }
+
 amd64_left : all_filled 8 (gives_by_hand AMD64) 120 (imports AMD64) (program_image AMD64 touching_8) ≡ left_8 AMD64 ++ program_image AMD64 touching_8
 unfolding opened alias_specs encoded_size weak_object has_tables all_filled table_filled
 amd64_left = refl
 
 amd64 : WorkedWriting AMD64 touching_8 (left_8 AMD64)
-amd64 =
-    let made = worked_programs.amd64.made in
-    let program : IsProgram AMD64 touching_8 (both_inputs AMD64) (program_objects AMD64) = worked_programs.amd64.program in
-    let long = gnu_long AMD64 touching_8 (both_inputs AMD64) (program_objects AMD64) made program in
-    let beside = gnu_beside AMD64 touching_8 (both_inputs AMD64) (program_objects AMD64) made program in
-    let image : List Range = program_image AMD64 touching_8 in
-    record {
-      runs = subst (WritesAsItGoes 8 (gives_by_hand AMD64) touching_8.descriptors image (imports AMD64)) amd64_left
-          (run_can AMD64 touching_8 (program_objects AMD64) program.admissible (imports AMD64) long beside (gives_by_hand AMD64) amd64_given image (keeps_itself image));
-      once = λ found after runs.
-          let same = run_once AMD64 touching_8 (program_objects AMD64) program.admissible (imports AMD64) long beside (gives_by_hand AMD64) amd64_given image (keeps_itself image) found after runs in
-          (same.0, same.1 ∙ amd64_left);
-    }
+amd64 = worked AMD64 touching_8 (left_8 AMD64) worked_programs.amd64.made worked_programs.amd64.program amd64_given amd64_left
 
 arm64_left : all_filled 8 (gives_by_hand ARM64) 120 (imports ARM64) (program_image ARM64 touching_8) ≡ left_8 ARM64 ++ program_image ARM64 touching_8
 unfolding opened alias_specs encoded_size weak_object has_tables all_filled table_filled
 arm64_left = refl
 
 arm64 : WorkedWriting ARM64 touching_8 (left_8 ARM64)
-arm64 =
-    let made = worked_programs.arm64.made in
-    let program : IsProgram ARM64 touching_8 (both_inputs ARM64) (program_objects ARM64) = worked_programs.arm64.program in
-    let long = gnu_long ARM64 touching_8 (both_inputs ARM64) (program_objects ARM64) made program in
-    let beside = gnu_beside ARM64 touching_8 (both_inputs ARM64) (program_objects ARM64) made program in
-    let image : List Range = program_image ARM64 touching_8 in
-    record {
-      runs = subst (WritesAsItGoes 8 (gives_by_hand ARM64) touching_8.descriptors image (imports ARM64)) arm64_left
-          (run_can ARM64 touching_8 (program_objects ARM64) program.admissible (imports ARM64) long beside (gives_by_hand ARM64) arm64_given image (keeps_itself image));
-      once = λ found after runs.
-          let same = run_once ARM64 touching_8 (program_objects ARM64) program.admissible (imports ARM64) long beside (gives_by_hand ARM64) arm64_given image (keeps_itself image) found after runs in
-          (same.0, same.1 ∙ arm64_left);
-    }
+arm64 = worked ARM64 touching_8 (left_8 ARM64) worked_programs.arm64.made worked_programs.arm64.program arm64_given arm64_left
 
 i386_left : all_filled 4 (gives_by_hand I386) 92 (imports I386) (program_image I386 touching_4) ≡ left_4 I386 ++ program_image I386 touching_4
 unfolding opened alias_specs encoded_size weak_object has_tables all_filled table_filled
 i386_left = refl
 
 i386 : WorkedWriting I386 touching_4 (left_4 I386)
-i386 =
-    let made = worked_programs.i386.made in
-    let program : IsProgram I386 touching_4 (both_inputs I386) (program_objects I386) = worked_programs.i386.program in
-    let long = gnu_long I386 touching_4 (both_inputs I386) (program_objects I386) made program in
-    let beside = gnu_beside I386 touching_4 (both_inputs I386) (program_objects I386) made program in
-    let image : List Range = program_image I386 touching_4 in
-    record {
-      runs = subst (WritesAsItGoes 4 (gives_by_hand I386) touching_4.descriptors image (imports I386)) i386_left
-          (run_can I386 touching_4 (program_objects I386) program.admissible (imports I386) long beside (gives_by_hand I386) i386_given image (keeps_itself image));
-      once = λ found after runs.
-          let same = run_once I386 touching_4 (program_objects I386) program.admissible (imports I386) long beside (gives_by_hand I386) i386_given image (keeps_itself image) found after runs in
-          (same.0, same.1 ∙ i386_left);
-    }
+i386 = worked I386 touching_4 (left_4 I386) worked_programs.i386.made worked_programs.i386.program i386_given i386_left
 
 armnt_left : all_filled 4 (gives_by_hand ARMNT) 92 (imports ARMNT) (program_image ARMNT touching_4) ≡ left_4 ARMNT ++ program_image ARMNT touching_4
 unfolding opened alias_specs encoded_size weak_object has_tables all_filled table_filled
 armnt_left = refl
 
 armnt : WorkedWriting ARMNT touching_4 (left_4 ARMNT)
-armnt =
-    let made = worked_programs.armnt.made in
-    let program : IsProgram ARMNT touching_4 (both_inputs ARMNT) (program_objects ARMNT) = worked_programs.armnt.program in
-    let long = gnu_long ARMNT touching_4 (both_inputs ARMNT) (program_objects ARMNT) made program in
-    let beside = gnu_beside ARMNT touching_4 (both_inputs ARMNT) (program_objects ARMNT) made program in
-    let image : List Range = program_image ARMNT touching_4 in
-    record {
-      runs = subst (WritesAsItGoes 4 (gives_by_hand ARMNT) touching_4.descriptors image (imports ARMNT)) armnt_left
-          (run_can ARMNT touching_4 (program_objects ARMNT) program.admissible (imports ARMNT) long beside (gives_by_hand ARMNT) armnt_given image (keeps_itself image));
-      once = λ found after runs.
-          let same = run_once ARMNT touching_4 (program_objects ARMNT) program.admissible (imports ARMNT) long beside (gives_by_hand ARMNT) armnt_given image (keeps_itself image) found after runs in
-          (same.0, same.1 ∙ armnt_left);
-    }
+armnt = worked ARMNT touching_4 (left_4 ARMNT) worked_programs.armnt.made worked_programs.armnt.program armnt_given armnt_left
 
 -- Images that are read in two ways.
 
