@@ -1,12 +1,12 @@
 -- Verdicts and names of DLLs worked by hand, and near misses.
 use Rattle.std.specs.Prelude.{◌≡◌, true, false, [], ◌∷◌, None, Some, codes}
 use Rattle.implib.specs.Import.{Ordinal, Name}
-use Rattle.implib_dll.specs.declared.section.AddressKind.TheVariants.{Code, Data, Outside}
+use Rattle.implib_dll.specs.declared.section.AddressKind.TheVariants.{Code, Data}
 use Rattle.implib_dll.specs.Exports.{Exports, Address, Forwarder}
 use Rattle.implib_dll.specs.WorkedFiles.{named, worked_exports}
 use Rattle.implib_dll_check.specs.DllName.{loader_name}
 use Rattle.implib_dll_check.specs.Missing.{missing}
-use Rattle.implib_dll_check.specs.Verdict.{Verdicts, verdict_of}
+use Rattle.implib_dll_check.specs.Verdict.{verdict_of}
 use Rattle.implib_from_dll.specs.Laws.{asks_of}
 
 -- the names in the wrong order

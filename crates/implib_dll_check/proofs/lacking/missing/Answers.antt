@@ -1,4 +1,4 @@
-use Rattle.std.proofs.Common.{◌≡◌, ◌∙◌, ℕ, Bool, true, false, cond, [], ◌∷◌, ◌++◌, ◌<◌, length, map, get_or, ap, sym, append-nil, arith}
+use Rattle.std.proofs.Common.{◌≡◌, ◌∙◌, false, cond, [], ◌∷◌, ◌++◌, ◌<◌, length, map, get_or, ap, sym, append-nil, arith}
 use Rattle.implib_dll.specs.Views.{exports_view}
 use Rattle.implib_dll_check.specs.Missing.{is_missing, is_unmarked, missing_from}
 use Rattle.implib_dll_check.specs.Verdict.{ask_view}
