@@ -1,13 +1,13 @@
 -- What is asked for by the imports that are made of a DLL passes.
-use Rattle.std.proofs.Common.{◌≡◌, ℕ, Bool, true, false, List, Some, ap, ◌∙◌, refl}
-use Rattle.std.specs.Prelude.{All, bytes_eq}
+use Rattle.std.proofs.Common.{◌≡◌, ℕ, true, false, List, ap, ◌∙◌, refl}
+use Rattle.std.specs.Prelude.{bytes_eq}
 use Rattle.std.specs.Option.{option_map_or}
 use Rattle.std.proofs.lemmas.List.Elements.{All-weaker}
 use Rattle.implib.proofs.Members.GnuReadings.{same_bytes}
 use Rattle.implib.specs.Import.{Ask, Name, Ordinal}
 use Rattle.implib_dll.specs.Exports.{Exports}
 use Rattle.implib_from_dll.proofs.Found.{asks_are_found}
-use Rattle.implib_from_dll.specs.Laws.{Fits, IsFoundAtOnce, asks_of}
+use Rattle.implib_from_dll.specs.Laws.{IsFoundAtOnce, asks_of}
 use Rattle.implib_dll_check.specs.Laws.{OwnAsksPass, Passes}
 
 bytes_eq-itself : (bytes : List ℕ) → bytes_eq bytes bytes ≡ true

@@ -1,11 +1,13 @@
 -- Verdicts and names of DLLs worked by hand, and near misses.
 use Rattle.std.specs.Prelude.{◌≡◌, true, false, [], ◌∷◌, None, Some, codes}
 use Rattle.implib.specs.Import.{Ordinal, Name}
-use Rattle.implib_dll.specs.declared.section.AddressKind.TheVariants.{Code, Data, Outside}
+use Rattle.implib_dll.specs.declared.section.AddressKind.TheVariants.{Code, Data}
 use Rattle.implib_dll.specs.Exports.{Exports, Address, Forwarder}
 use Rattle.implib_dll.specs.WorkedFiles.{named, worked_exports}
 use Rattle.implib_dll_check.specs.DllName.{loader_name}
-use Rattle.implib_dll_check.specs.Verdict.{Verdicts, verdict_of}
+use Rattle.implib_dll_check.specs.Missing.{missing}
+use Rattle.implib_dll_check.specs.Verdict.{verdict_of}
+use Rattle.implib_from_dll.specs.Laws.{asks_of}
 
 -- the names in the wrong order
 abbrev pub falling : Exports
@@ -38,6 +40,13 @@ pub record WorkedVerdicts : Type 0 where
       ≡ record { target = Some (Forwarder (codes "K.f")); at_once = true; fits_kind = true }
   pub past : verdict_of worked_exports (Ordinal 10) false
       ≡ record { target = None; at_once = true; fits_kind = true }
+  -- what is missing where nothing is asked for: all but the hole; where all is; and where beta is, which is alpha's
+  -- target, and two ordinals, one of them of the hole
+  pub all_missing : missing worked_exports [] ≡ 0 ∷ 1 ∷ 3 ∷ 4 ∷ []
+  pub none_missing : missing worked_exports (asks_of worked_exports) ≡ []
+  pub some_missing : missing worked_exports (Name (codes "beta") 0 ∷ Ordinal 7 ∷ Ordinal 9 ∷ []) ≡ 1 ∷ 3 ∷ []
+  -- a name that a search misses is asked for in vain
+  pub in_vain : missing falling (Name (codes "alpha") 0 ∷ []) ≡ 0 ∷ 1 ∷ 3 ∷ 4 ∷ []
   -- names of DLLs
   pub capitals : loader_name (codes "KERNEL32.DLL") ≡ codes "kernel32.dll"
   pub no_ending : loader_name (codes "Kernel32") ≡ codes "kernel32.dll"

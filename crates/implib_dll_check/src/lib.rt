@@ -1,14 +1,17 @@
 //! The verdict of an import against the DLL that it is of.
 //!
 //! [`judge`] says what a loader finds for an import: the target, whether it needs a search, and
-//! whether data is imported as data. [`loader_name`] is the name by which a loader tells DLLs apart.
+//! whether data is imported as data. [`loader_name`] is the name by which a loader tells DLLs apart,
+//! and [`missing`] what a DLL exports and no import asks for.
 //!
 //! Each equals a definition in `specs/`, over the lookups of `implib_dll`.
 #![tactic(auto)]
 
 mod dll_name;
+mod lacking;
 pub mod laws;
 mod verdict;
 
 pub use dll_name::loader_name;
+pub use lacking::missing;
 pub use verdict::{Ask, Verdict, judge};

@@ -8,8 +8,8 @@ use Rattle.implib.specs.declared.flavor.Flavor.{Flavor}
 use Rattle.implib.specs.declared.flavor.Flavor.TheVariants.{Msvc, Gnu}
 use Rattle.implib.specs.declared.machine.MachineType.{MachineType}
 use Rattle.implib.specs.Definition.{DefinitionView, ExportView}
-use Rattle.implib.specs.Formats.File.{AnAlias, AnImport, Meaning, file_in, meaning_in}
-use Rattle.implib.specs.Import.{Alias, Ask, Import, aliases_for, Name, Ordinal, expected_ask, expected_import, public_exports}
+use Rattle.implib.specs.Formats.File.{AnAlias, AnImport, file_in, meaning_in}
+use Rattle.implib.specs.Import.{Alias, Import, aliases_for, Name, Ordinal, expected_ask, expected_import, public_exports}
 use Rattle.implib.specs.Machine.{has_leading_underscore}
 use Rattle.implib.specs.Members.GnuReader.{meaning_with}
 use Rattle.implib.specs.Members.MemberLists.{has_code, is_weak, kept_of_alias}
@@ -18,14 +18,14 @@ use Rattle.implib.specs.Members.Members.{member_specs}
 use Rattle.implib.specs.Members.ReadBack.{GnuReadBack, expected_meanings, file_at}
 use Rattle.implib.specs.Renaming.{renamed, renamed_export}
 use Rattle.implib_dll.specs.Exports.{Exports, NameEntry, Target}
-use Rattle.implib_dll.specs.Lookup.{filled, target_at}
+use Rattle.implib_dll.specs.Lookup.{target_at}
 use Rattle.implib_dll.specs.Rows.{Row, rows_of}
 use Rattle.implib_from_dll.proofs.Found.{asks_are_found}
 use Rattle.implib_from_dll.specs.Definition.{exports_of, named_from, named_of, numbered_of, numbered_to, target_unnamed}
 use Rattle.implib_from_dll.specs.Laws.{Fits, IsFoundAtOnce, ask_of, asks_of}
 use Rattle.implib_rules.proofs.Asked.{asks_as_linked}
 use Rattle.implib_rules.specs.Additions.{extended_exports, no_additions}
-use Rattle.implib_rules.specs.ExportAs.{AreMadeFor, definition_made, specs_made}
+use Rattle.implib_rules.specs.ExportAs.{AreMadeFor}
 use Rattle.implib_rules.specs.Exports.{LackSymbolNames, MembersOfExports, of_exports}
 use Rattle.implib_rules.specs.Library.{definition_for}
 use Rattle.implib_rules.specs.Linked.{NamingView, killed, linked_exports, word_asked}

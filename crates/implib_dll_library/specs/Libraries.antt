@@ -1,5 +1,5 @@
 -- What the library of a DLL asks for, from the DLL's exports to the bytes of its members and back.
-use Rattle.std.specs.Prelude.{◌≡◌, ℕ, Bool, true, false, ◌&&◌, not, List, [], ◌∷◌, All, Option, None, Some, bytes_eq, drop, map, reverse}
+use Rattle.std.specs.Prelude.{◌≡◌, ℕ, Bool, true, false, ◌&&◌, not, List, [], ◌∷◌, All, Some, bytes_eq, drop, map, reverse}
 use Rattle.std.specs.List.{list_any}
 use Rattle.std.specs.Option.{option_and_then}
 use Rattle.implib.specs.declared.flavor.Flavor.{Flavor}

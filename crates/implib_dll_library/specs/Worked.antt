@@ -1,9 +1,8 @@
 -- What meets the premises of the law, worked by hand, and what does not.
-use Rattle.std.specs.Prelude.{◌≡◌, ◌^◌, true, false, List, [], ◌∷◌, None, Some, codes}
+use Rattle.std.specs.Prelude.{◌≡◌, true, false, [], ◌∷◌, Some, codes}
 use Rattle.implib.specs.declared.flavor.Flavor.TheVariants.{Msvc, Gnu}
 use Rattle.implib.specs.declared.machine.MachineType.TheVariants.{AMD64, I386}
 use Rattle.implib.specs.Import.{Import, Ordinal}
-use Rattle.implib_dll.specs.Exports.{Exports}
 use Rattle.implib_dll.specs.WorkedFiles.{named, worked_exports}
 use Rattle.implib_from_dll.specs.Laws.{Fits}
 use Rattle.implib_rules.specs.Additions.{no_additions}

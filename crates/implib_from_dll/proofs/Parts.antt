@@ -13,7 +13,7 @@ use Rattle.implib_dll.specs.declared.rows.Row.{Row as BorrowedRow}
 use Rattle.implib_dll.specs.Views.{name_view, row_view}
 use Rattle.implib_from_dll.specs.Unsaid.{IsUnsaidName, IsUnsaidNamed, IsUnsaidNumber, IsUnsaidRow, RefusesName, RefusesRow}
 use Rattle.implib_from_dll.specs.declared.exports.Unsaid.{Unsaid}
-use Rattle.implib_from_dll.specs.declared.exports.Unsaid.TheVariants.{EmptyName, NotUtf8, LargeHint, LargeOrdinal, OutOfMemory}
+use Rattle.implib_from_dll.specs.declared.exports.Unsaid.TheVariants.{NotUtf8, LargeHint, LargeOrdinal, OutOfMemory}
 
 -- names and one more
 pub named_from-append : (targets : List Target) (names : List NameEntry) (n : NameEntry) (position : ℕ)
@@ -29,14 +29,12 @@ named_from-append targets (m ∷ names) n position =
 
 -- want of memory refuses any
 pub memory_refuses_name : (text : List ℕ) (position : ℕ) (unsaid : Unsaid) → unsaid ≡ OutOfMemory → IsUnsaidName text position unsaid
-memory_refuses_name text position (EmptyName at) is = absurd cc
 memory_refuses_name text position (NotUtf8 at) is = absurd cc
 memory_refuses_name text position (LargeHint at) is = absurd cc
 memory_refuses_name text position (LargeOrdinal at) is = absurd cc
 memory_refuses_name text position OutOfMemory is = tt
 
 pub memory_refuses_number : (ordinal : ℕ) (unsaid : Unsaid) → unsaid ≡ OutOfMemory → IsUnsaidNumber ordinal unsaid
-memory_refuses_number ordinal (EmptyName at) is = absurd cc
 memory_refuses_number ordinal (NotUtf8 at) is = absurd cc
 memory_refuses_number ordinal (LargeHint at) is = absurd cc
 memory_refuses_number ordinal (LargeOrdinal at) is = absurd cc

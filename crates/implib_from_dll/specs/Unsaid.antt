@@ -1,17 +1,16 @@
 -- Which exports of a DLL no definition can have.
-use Rattle.std.specs.Prelude.{◌≡◌, ◌⊎◌, ℕ, ◌<◌, List, [], Option, None, Some, slice_get}
+use Rattle.std.specs.Prelude.{◌≡◌, ◌⊎◌, ℕ, ◌<◌, List, Option, None, Some, slice_get}
 use Rattle.std.specs.Str.{IsUtf8}
 use Rattle.implib_dll.specs.Exports.{Exports, NameEntry, Target}
 use Rattle.implib_dll.specs.Lookup.{target_at}
 use Rattle.implib_dll.specs.Rows.{Row, rows_of}
 use Rattle.implib_from_dll.specs.declared.exports.Unsaid.{Unsaid}
 use Rattle.implib_from_dll.specs.Definition.{target_unnamed}
-use Rattle.implib_from_dll.specs.declared.exports.Unsaid.TheVariants.{EmptyName, NotUtf8, LargeHint, LargeOrdinal, OutOfMemory}
+use Rattle.implib_from_dll.specs.declared.exports.Unsaid.TheVariants.{NotUtf8, LargeHint, LargeOrdinal, OutOfMemory}
 
--- why a name at a position has no place in a definition: it is empty, it is not UTF-8, or its
--- position is past those of 16 bits; or memory was refused
+-- why a name at a position has no place in a definition: it is not UTF-8, or its position is past
+-- those of 16 bits; or memory was refused
 abbrev pub IsUnsaidName : List ℕ → ℕ → Unsaid → Type 0
-IsUnsaidName text position (EmptyName at) = (at ≡ position) × (text ≡ [])
 IsUnsaidName text position (NotUtf8 at) = (at ≡ position) × (¬ (IsUtf8 text))
 IsUnsaidName text position (LargeHint at) = (at ≡ position) × (0xFFFF < position)
 IsUnsaidName text position (LargeOrdinal at) = ⊥
@@ -19,7 +18,6 @@ IsUnsaidName text position OutOfMemory = Unit {0}
 
 -- why an ordinal without a name has none: it has more than 16 bits; or memory was refused
 abbrev pub IsUnsaidNumber : ℕ → Unsaid → Type 0
-IsUnsaidNumber ordinal (EmptyName at) = ⊥
 IsUnsaidNumber ordinal (NotUtf8 at) = ⊥
 IsUnsaidNumber ordinal (LargeHint at) = ⊥
 IsUnsaidNumber ordinal (LargeOrdinal number) = (number ≡ ordinal) × (0xFFFF < ordinal)

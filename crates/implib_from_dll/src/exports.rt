@@ -19,9 +19,6 @@ use std::alloc::{AllocError, AllocFailed, Global};
 /// Why an export of a DLL has no place in a definition.
 #[derive(Clone, Copy, Debug, PartialEq, Eq, Drop, thiserror::Error)]
 pub enum Unsaid {
-    /// The name at this position of the name table is empty.
-    #[error("name {0} is empty")]
-    EmptyName(usize),
     /// The name at this position of the name table is not UTF-8.
     #[error("name {0} is not UTF-8")]
     NotUtf8(usize),
@@ -74,9 +71,6 @@ fn named_export(
         (λ export. export_view export ≡ named_export text.now position (target_view target.entry)) }
     ensures refused { IfErr result (IsUnsaidName text.now position) }
 {
-    if text.is_empty() {
-        return Err(Unsaid::EmptyName(position));
-    }
     if position > 0xFFFF {
         return Err(Unsaid::LargeHint(position));
     }
