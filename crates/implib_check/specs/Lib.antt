@@ -17,3 +17,4 @@ pub mod WorkedDefinitions
 pub mod WorkedExportAs
 pub mod WorkedJson
 pub mod WorkedTogether
+pub mod Answers

@@ -18,6 +18,7 @@ pub mod laws;
 mod positions;
 pub mod program;
 mod report;
+pub mod shelf;
 pub mod status;
 pub mod target;
 pub mod task;
@@ -25,10 +26,12 @@ mod text;
 pub mod together;
 
 use crate::program::perform;
+use crate::shelf::SystemFiles;
 use std::process::ExitCode;
 
 fn main(rt: HostRuntime) -> ExitCode {
     let mut stdout = rt.stdout();
     let mut stderr = rt.stderr();
-    ExitCode::from(perform(&rt, &mut stdout, &mut stderr))
+    let files = SystemFiles { rt: &rt };
+    ExitCode::from(perform(&rt, &files, &mut stdout, &mut stderr))
 }

@@ -1,7 +1,18 @@
 //! The program: its arguments, its files, what it writes, and its exit status.
 
-ghost use Rattle.std.specs.Prelude.{◌≡◌};
-ghost use Rattle.implib_check.specs.Status.{no_library_status, refusal_status, undefined_status};
+ghost use Rattle.std.specs.Prelude.{◌≡◌, ◌⊎◌, None, Some, length, map, IfErr, IfOk, IfSome};
+ghost use Rattle.implib_check.specs.Answers.{AnswersOf, AnswersOfBoth, AnswersTask, IsReadAs, OrFailed, compared_as, identified, listed, worked};
+ghost use Rattle.implib_compare.specs.Comparison.{has_unread, verdict};
+ghost use Rattle.implib_compare.specs.Working.{working_of, working_status};
+ghost use Rattle.implib_compare.specs.declared.compare.Verdict.TheVariants.{Same};
+ghost use Rattle.implib_read.specs.ArchiveViews.{archive_view};
+ghost use Rattle.implib_read.specs.Archives.{archive_in};
+ghost use Rattle.implib_read.specs.ClassViews.{member_read_view};
+ghost use Rattle.implib_check.specs.Tasks.{in_form, task_named};
+ghost use Rattle.std.specs.Option.{option_and_then};
+ghost use Rattle.std.specs.String.{string_bytes};
+ghost use Rattle.implib_read.specs.Identity.{dlls_of};
+ghost use Rattle.implib_check.specs.Status.{identity_status, no_library_status, refusal_status, undefined_status};
 
 use crate::call::{Check, Define};
 use crate::defining::{Undefined, definition_of};
@@ -9,6 +20,7 @@ use crate::definition::{CheckError, check_definition};
 use crate::differences::tell_both;
 use crate::finding::{Fault, Finding, Side, Source};
 use crate::report::{BUFFER, Failure, Form, Lines, flushed, tell};
+use crate::shelf::Shelf;
 use crate::status::{
     comparison_status, identity_status, list_status, refusal_status, together_status,
     undefined_status,
@@ -29,9 +41,8 @@ use indexmap::IndexSet;
 use std::alloc::{AllocError, Global};
 use std::env::Env;
 use std::fmt::Write as _;
-use std::fs::Files;
 use std::io::{BufWriter, Write};
-use std::{env, fmt, fs};
+use std::{env, fmt};
 
 const NAME: &str = "implib_check";
 
@@ -104,7 +115,9 @@ fn complain<E: Write, D: fmt::Display + Drop>(
 }
 
 // Prints a text. A failure is status 3.
-fn print<O: Write, E: Write>(printer: &mut O, faults: &mut E, text: &str) -> u8 {
+fn print<O: Write, E: Write>(printer: &mut O, faults: &mut E, text: &str) -> u8
+    ensures { OrFailed result (result ≡ 0) }
+{
     match printer.write_all(text.as_bytes()) {
         Ok(()) => 0,
         Err(error) => complain(faults, NAME, error, 3),
@@ -150,12 +163,16 @@ fn write_names<O: Write>(printer: &mut O, names: &IndexSet<&[u8]>) -> Result<(),
 }
 
 // The bytes of a file, or an exit status.
-fn bytes_of<R: Files + AllocGlobal, E: Write>(
-    rt: &R,
+fn bytes_of<S: Shelf, E: Write>(
+    alloc: Global,
+    shelf: &S,
     faults: &mut E,
     path: &str,
-) -> Result<Vec<u8>, u8> {
-    match fs::read(rt, path) {
+) -> Result<Vec<u8>, u8>
+    ensures read { IfOk result (λ bytes. IfSome (S.seen shelf.now path.now) (λ file. bytes.items ≡ file)) }
+    ensures failed { IfErr result (λ status. status ≡ 3) }
+{
+    match shelf.read(alloc, path) {
         Ok(bytes) => Ok(bytes),
         Err(error) => Err(complain(faults, path, error, 3)),
     }
@@ -167,7 +184,10 @@ fn library_of<'a, E: Write>(
     faults: &mut E,
     path: &str,
     bytes: &'a [u8],
-) -> Result<Library<'a>, u8> {
+) -> Result<Library<'a>, u8>
+    ensures read { IfOk result (IsReadAs bytes.now) }
+    ensures none { IfErr result (λ status. OrFailed status ((archive_in bytes.now ≡ None) × (status ≡ no_library_status bytes.now))) }
+{
     match Library::read(alloc, bytes) {
         Ok(Some(library)) => Ok(library),
         Ok(None) => Err(complain(
@@ -207,7 +227,9 @@ fn no_library_status(bytes: &[u8]) -> u8
 }
 
 // The exit status of what was written.
-fn status_of<E: Write>(faults: &mut E, written: Result<(), Failure>, status: u8) -> u8 {
+fn status_of<E: Write>(faults: &mut E, written: Result<(), Failure>, status: u8) -> u8
+    ensures { OrFailed result (result ≡ status) }
+{
     match written {
         Ok(()) => status,
         Err(Failure::Writing) => complain(faults, NAME, "standard output failed", 3),
@@ -216,18 +238,22 @@ fn status_of<E: Write>(faults: &mut E, written: Result<(), Failure>, status: u8)
 }
 
 // Lists a library, and gives the exit status.
-fn run_list<R: Files + AllocGlobal, O: Write, E: Write>(
-    rt: &R,
+#[tactic(auto, using(crate::proofs::Answers::answered_failed, crate::proofs::Answers::answered_none, crate::proofs::Answers::answered_read))]
+fn run_list<S: Shelf, O: Write, E: Write>(
+    alloc: Global,
+    shelf: &S,
     form: Form,
     printer: &mut O,
     faults: &mut E,
     path: &str,
-) -> u8 {
-    let bytes = match bytes_of(rt, faults, path) {
+) -> u8
+    ensures { AnswersOf listed (S.seen shelf.now path.now) result }
+{
+    let bytes = match bytes_of(alloc, shelf, faults, path) {
         Ok(bytes) => bytes,
         Err(status) => return status,
     };
-    let library = match library_of(rt.alloc(), faults, path, &bytes) {
+    let library = match library_of(alloc, faults, path, &bytes) {
         Ok(library) => library,
         Err(status) => return status,
     };
@@ -249,25 +275,18 @@ fn list_buffered<O: Write>(
     flushed(&mut buffered, written)
 }
 
-// Names the DLLs of a library, and gives the exit status.
-fn run_identify<R: Files + AllocGlobal, O: Write, E: Write>(
-    rt: &R,
+// Names the DLLs of a library that is read, and gives the exit status.
+fn identify<O: Write, E: Write>(
+    alloc: Global,
     printer: &mut O,
     faults: &mut E,
     path: &str,
+    members: &[MemberRead],
     is_strict: bool,
-) -> u8 {
-    let bytes = match bytes_of(rt, faults, path) {
-        Ok(bytes) => bytes,
-        Err(status) => return status,
-    };
-    let library = match library_of(rt.alloc(), faults, path, &bytes) {
-        Ok(library) => library,
-        Err(status) => return status,
-    };
-    let members = library.members.as_slice();
-    doubt(faults, path, members, false);
-    let names = match dlls_of(rt.alloc(), members) {
+) -> u8
+    ensures { OrFailed result (result ≡ identity_status (has_unread (map member_read_view members.now)) (length (dlls_of (map member_read_view members.now))) is_strict) }
+{
+    let names = match dlls_of(alloc, members) {
         Ok(names) => names,
         Err(_) => return complain(faults, NAME, "out of memory", 3),
     };
@@ -282,6 +301,31 @@ fn run_identify<R: Files + AllocGlobal, O: Write, E: Write>(
     status_of(faults, written, status)
 }
 
+// Names the DLLs of a library, and gives the exit status.
+#[tactic(auto, using(crate::proofs::Answers::answered_failed, crate::proofs::Answers::answered_none, crate::proofs::Answers::answered_read))]
+fn run_identify<S: Shelf, O: Write, E: Write>(
+    alloc: Global,
+    shelf: &S,
+    printer: &mut O,
+    faults: &mut E,
+    path: &str,
+    is_strict: bool,
+) -> u8
+    ensures { AnswersOf (identified is_strict) (S.seen shelf.now path.now) result }
+{
+    let bytes = match bytes_of(alloc, shelf, faults, path) {
+        Ok(bytes) => bytes,
+        Err(status) => return status,
+    };
+    let library = match library_of(alloc, faults, path, &bytes) {
+        Ok(library) => library,
+        Err(status) => return status,
+    };
+    let members = library.members.as_slice();
+    doubt(faults, path, members, false);
+    identify(alloc, printer, faults, path, members, is_strict)
+}
+
 // Writes why a library that is the same as another does not work, if it does not.
 fn tell_working_if_same<O: Write>(
     form: Form,
@@ -289,7 +333,9 @@ fn tell_working_if_same<O: Write>(
     verdict: Verdict,
     path: &str,
     library: &Library,
-) -> Result<Working, Failure> {
+) -> Result<Working, Failure>
+    ensures { IfOk result (λ working. verdict ≡ Same → working ≡ working_of (archive_view library.now.archive) (map member_read_view library.now.members.items)) }
+{
     match verdict {
         Verdict::Same => tell_working(form, printer, path, library),
         Verdict::Different | Verdict::NotDecided => Ok(Working::Works),
@@ -303,7 +349,10 @@ fn tell_same<O: Write>(
     paths: (&str, &str),
     libraries: (&Library, &Library),
     found: &Comparison,
-) -> Result<u8, Failure> {
+) -> Result<u8, Failure>
+    ensures { IfOk result (λ status. found.now.verdict ≡ verdict (map member_read_view libraries.entry.0.now.members.items) (map member_read_view libraries.entry.1.now.members.items)
+        → status ≡ compared_as libraries.entry.0.now libraries.entry.1.now) }
+{
     let sources = (Source::Library(paths.0), Source::Library(paths.1));
     let (left, right) = libraries;
     tell_both(form, printer, sources, &left.members, &right.members, found)?;
@@ -327,40 +376,66 @@ fn tell_checked<O: Write, E: Write>(
     }
 }
 
-// Compares two libraries, and gives the exit status.
-fn run_same<R: Files + AllocGlobal, O: Write, E: Write>(
-    rt: &R,
+// Compares two libraries that are read, and gives the exit status.
+fn same<O: Write, E: Write>(
     form: Form,
     printer: &mut O,
     faults: &mut E,
     paths: (&str, &str),
-) -> u8 {
-    let left_bytes = match bytes_of(rt, faults, paths.0) {
-        Ok(bytes) => bytes,
-        Err(status) => return status,
-    };
-    let right_bytes = match bytes_of(rt, faults, paths.1) {
-        Ok(bytes) => bytes,
-        Err(status) => return status,
-    };
-    let left = match library_of(rt.alloc(), faults, paths.0, &left_bytes) {
-        Ok(library) => library,
-        Err(status) => return status,
-    };
-    let right = match library_of(rt.alloc(), faults, paths.1, &right_bytes) {
-        Ok(library) => library,
-        Err(status) => return status,
-    };
-    let found = match compare(rt.alloc(), &left.members, &right.members) {
+    left: &Library,
+    right: &Library,
+) -> u8
+    ensures { OrFailed result (result ≡ compared_as left.now right.now) }
+{
+    let found = match compare(form.alloc, &left.members, &right.members) {
         Ok(found) => found,
         Err(_) => return complain(faults, NAME, "out of memory", 3),
     };
     doubt(faults, paths.0, &left.members, true);
     doubt(faults, paths.1, &right.members, true);
-    match tell_same(form, printer, paths, (&left, &right), &found) {
+    match tell_same(form, printer, paths, (left, right), &found) {
         Ok(status) => status,
         Err(failure) => status_of(faults, Err(failure), 3),
     }
+}
+
+// Compares two libraries, and gives the exit status.
+#[tactic(auto, using(crate::proofs::Answers::both_failed))]
+fn run_same<S: Shelf, O: Write, E: Write>(
+    alloc: Global,
+    shelf: &S,
+    form: Form,
+    printer: &mut O,
+    faults: &mut E,
+    left_path: &str,
+    right_path: &str,
+) -> u8
+    ensures { AnswersOfBoth (S.seen shelf.now left_path.now) (S.seen shelf.now right_path.now) result }
+{
+    let left_bytes = match bytes_of(alloc, shelf, faults, left_path) {
+        Ok(bytes) => bytes,
+        Err(status) => return status,
+    };
+    let right_bytes = match bytes_of(alloc, shelf, faults, right_path) {
+        Ok(bytes) => bytes,
+        Err(status) => return status,
+    };
+    let left = match library_of(alloc, faults, left_path, &left_bytes) {
+        Ok(library) => library,
+        Err(status) => return status,
+    };
+    let right = match library_of(alloc, faults, right_path, &right_bytes) {
+        Ok(library) => library,
+        Err(status) => return status,
+    };
+    same(
+        form,
+        printer,
+        faults,
+        (left_path, right_path),
+        &left,
+        &right,
+    )
 }
 
 // Says why a definition is refused, and gives the exit status.
@@ -377,22 +452,23 @@ fn refuse<E: Write>(faults: &mut E, path: &str, refusal: &Refusal) -> u8
 }
 
 // Compares a library with a definition, and gives the exit status.
-fn run_check<R: Files + AllocGlobal, O: Write, E: Write>(
-    rt: &R,
+fn run_check<S: Shelf, O: Write, E: Write>(
+    alloc: Global,
+    shelf: &S,
     form: Form,
     printer: &mut O,
     faults: &mut E,
     check: &Check,
 ) -> u8 {
-    let bytes = match bytes_of(rt, faults, check.library) {
+    let bytes = match bytes_of(alloc, shelf, faults, check.library) {
         Ok(bytes) => bytes,
         Err(status) => return status,
     };
-    let definition = match bytes_of(rt, faults, check.definition) {
+    let definition = match bytes_of(alloc, shelf, faults, check.definition) {
         Ok(definition) => definition,
         Err(status) => return status,
     };
-    let library = match library_of(rt.alloc(), faults, check.library, &bytes) {
+    let library = match library_of(alloc, faults, check.library, &bytes) {
         Ok(library) => library,
         Err(status) => return status,
     };
@@ -473,25 +549,26 @@ fn say_dlls<E: Write>(faults: &mut E, path: &str, names: &IndexSet<&[u8]>) -> u8
 }
 
 // Writes the definition of a library, and gives the exit status.
-fn run_define<R: Files + AllocGlobal, O: Write, E: Write>(
-    rt: &R,
+fn run_define<S: Shelf, O: Write, E: Write>(
+    alloc: Global,
+    shelf: &S,
     printer: &mut O,
     faults: &mut E,
     define: &Define,
 ) -> u8 {
     let path = define.library;
-    let bytes = match bytes_of(rt, faults, path) {
+    let bytes = match bytes_of(alloc, shelf, faults, path) {
         Ok(bytes) => bytes,
         Err(status) => return status,
     };
-    let library = match library_of(rt.alloc(), faults, path, &bytes) {
+    let library = match library_of(alloc, faults, path, &bytes) {
         Ok(library) => library,
         Err(status) => return status,
     };
     let members = library.members.as_slice();
     let options = options_of(define, members);
     doubt(faults, path, members, true);
-    let names = match dlls_of(rt.alloc(), members) {
+    let names = match dlls_of(alloc, members) {
         Ok(names) => names,
         Err(_) => return complain(faults, NAME, "out of memory", 3),
     };
@@ -502,7 +579,7 @@ fn run_define<R: Files + AllocGlobal, O: Write, E: Write>(
         return say_dlls(faults, path, &names);
     }
     let form = Form {
-        alloc: rt.alloc(),
+        alloc,
         is_json: false,
     };
     let paths = (path, TRIED);
@@ -615,7 +692,9 @@ fn tell_working<O: Write>(
     printer: &mut O,
     path: &str,
     library: &Library,
-) -> Result<Working, Failure> {
+) -> Result<Working, Failure>
+    ensures { IfOk result (λ working. working ≡ working_of (archive_view library.now.archive) (map member_read_view library.now.members.items)) }
+{
     let examined = examine(form.alloc, library)?;
     tell_indexes(form, printer, path, &examined)?;
     tell_cuts(form, printer, path, &examined.cut)?;
@@ -628,38 +707,56 @@ fn tell_working<O: Write>(
     Ok(examined.working)
 }
 
-// Says whether a library works, and gives the exit status.
-fn run_works<R: Files + AllocGlobal, O: Write, E: Write>(
-    rt: &R,
+// Says whether a library that is read works, and gives the exit status.
+fn work<O: Write, E: Write>(
     form: Form,
     printer: &mut O,
     faults: &mut E,
     path: &str,
-) -> u8 {
-    let bytes = match bytes_of(rt, faults, path) {
-        Ok(bytes) => bytes,
-        Err(status) => return status,
-    };
-    let library = match library_of(rt.alloc(), faults, path, &bytes) {
-        Ok(library) => library,
-        Err(status) => return status,
-    };
-    doubt(faults, path, &library.members, false);
-    match tell_working(form, printer, path, &library) {
+    library: &Library,
+) -> u8
+    ensures { OrFailed result (result ≡ working_status (working_of (archive_view library.now.archive) (map member_read_view library.now.members.items))) }
+{
+    match tell_working(form, printer, path, library) {
         Ok(working) => working_status(working),
         Err(failure) => status_of(faults, Err(failure), 3),
     }
 }
 
+// Says whether a library works, and gives the exit status.
+#[tactic(auto, using(crate::proofs::Answers::answered_failed, crate::proofs::Answers::answered_none, crate::proofs::Answers::answered_read))]
+fn run_works<S: Shelf, O: Write, E: Write>(
+    alloc: Global,
+    shelf: &S,
+    form: Form,
+    printer: &mut O,
+    faults: &mut E,
+    path: &str,
+) -> u8
+    ensures { AnswersOf worked (S.seen shelf.now path.now) result }
+{
+    let bytes = match bytes_of(alloc, shelf, faults, path) {
+        Ok(bytes) => bytes,
+        Err(status) => return status,
+    };
+    let library = match library_of(alloc, faults, path, &bytes) {
+        Ok(library) => library,
+        Err(status) => return status,
+    };
+    doubt(faults, path, &library.members, false);
+    work(form, printer, faults, path, &library)
+}
+
 // The bytes of files, or an exit status.
-fn all_bytes<R: Files + AllocGlobal, E: Write>(
-    rt: &R,
+fn all_bytes<S: Shelf, E: Write>(
+    alloc: Global,
+    shelf: &S,
     faults: &mut E,
     paths: &[String],
 ) -> Result<Vec<Vec<u8>>, u8> {
-    let mut files = Vec::new(rt.alloc());
+    let mut files = Vec::new(alloc);
     for path in paths {
-        let bytes = bytes_of(rt, faults, path)?;
+        let bytes = bytes_of(alloc, shelf, faults, path)?;
         if files.push(bytes).is_err() {
             return Err(complain(faults, NAME, "out of memory", 3));
         }
@@ -769,18 +866,19 @@ fn tell_together<O: Write>(
 }
 
 // Says what libraries of one link do to each other, and gives the exit status.
-fn run_together<R: Files + AllocGlobal, O: Write, E: Write>(
-    rt: &R,
+fn run_together<S: Shelf, O: Write, E: Write>(
+    alloc: Global,
+    shelf: &S,
     form: Form,
     printer: &mut O,
     faults: &mut E,
     paths: &[String],
 ) -> u8 {
-    let files = match all_bytes(rt, faults, paths) {
+    let files = match all_bytes(alloc, shelf, faults, paths) {
         Ok(files) => files,
         Err(status) => return status,
     };
-    let libraries = match all_libraries(rt.alloc(), faults, paths, &files) {
+    let libraries = match all_libraries(alloc, faults, paths, &files) {
         Ok(libraries) => libraries,
         Err(status) => return status,
     };
@@ -802,26 +900,33 @@ fn wrong_call(words: &[String]) -> &'static str {
 }
 
 // Does what a command line asks for, and gives the exit status.
-fn run<R: Files + AllocGlobal, O: Write, E: Write>(
-    rt: &R,
+fn run<S: Shelf, O: Write, E: Write>(
+    alloc: Global,
+    shelf: &S,
     command_line: &CommandLine,
     printer: &mut O,
     faults: &mut E,
-) -> u8 {
+) -> u8
+    ensures { AnswersTask (S.seen shelf.now) (option_and_then (in_form command_line.now.is_json) (task_named (map string_bytes command_line.now.words.items))) result }
+{
     let form = Form {
-        alloc: rt.alloc(),
+        alloc,
         is_json: command_line.is_json,
     };
     match call_named(command_line) {
         Some(Task::Help) => print(printer, faults, HELP),
         Some(Task::Version) => print(printer, faults, VERSION),
-        Some(Task::List(path)) => run_list(rt, form, printer, faults, path),
-        Some(Task::Identify(path, is_strict)) => run_identify(rt, printer, faults, path, is_strict),
-        Some(Task::Works(path)) => run_works(rt, form, printer, faults, path),
-        Some(Task::Same(left, right)) => run_same(rt, form, printer, faults, (left, right)),
-        Some(Task::Together(paths)) => run_together(rt, form, printer, faults, paths),
-        Some(Task::Check(check)) => run_check(rt, form, printer, faults, &check),
-        Some(Task::Define(define)) => run_define(rt, printer, faults, &define),
+        Some(Task::List(path)) => run_list(alloc, shelf, form, printer, faults, path),
+        Some(Task::Identify(path, is_strict)) => run_identify(
+            alloc, shelf, printer, faults, path, is_strict,
+        ),
+        Some(Task::Works(path)) => run_works(alloc, shelf, form, printer, faults, path),
+        Some(Task::Same(left, right)) => {
+            run_same(alloc, shelf, form, printer, faults, left, right)
+        },
+        Some(Task::Together(paths)) => run_together(alloc, shelf, form, printer, faults, paths),
+        Some(Task::Check(check)) => run_check(alloc, shelf, form, printer, faults, &check),
+        Some(Task::Define(define)) => run_define(alloc, shelf, printer, faults, &define),
         None => complain(faults, NAME, wrong_call(&command_line.words), 2),
     }
 }
@@ -829,8 +934,9 @@ fn run<R: Files + AllocGlobal, O: Write, E: Write>(
 /// Runs the program with the command line of the process, and gives the exit status: 0 where it is done or the
 /// libraries are the same, 1 where they differ, a definition is refused or there is no DLL or no definition, 2 where the call is wrong,
 /// 3 where a file or an allocation failed, and 4 where a member that may matter was not understood.
-pub fn perform<R: Files + Env + AllocGlobal, O: Write, E: Write>(
+pub fn perform<R: Env + AllocGlobal, S: Shelf, O: Write, E: Write>(
     rt: &R,
+    shelf: &S,
     printer: &mut O,
     faults: &mut E,
 ) -> u8 {
@@ -843,7 +949,7 @@ pub fn perform<R: Files + Env + AllocGlobal, O: Write, E: Write>(
         return complain(faults, NAME, "out of memory", 3);
     };
     match CommandLine::read(rt.alloc(), &arguments) {
-        Ok(command_line) => run(rt, &command_line, printer, faults),
+        Ok(command_line) => run(rt.alloc(), shelf, &command_line, printer, faults),
         Err(_) => complain(faults, NAME, "out of memory", 3),
     }
 }
