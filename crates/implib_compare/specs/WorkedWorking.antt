@@ -3,7 +3,6 @@ use Rattle.std.specs.Prelude.{◌≡◌, ℕ, true, false, List, [], ◌∷◌, 
 use Rattle.implib.specs.declared.flavor.Flavor.TheVariants.{Gnu, Msvc}
 use Rattle.implib_read.specs.Archives.{Archive, Part, StoredMember}
 use Rattle.implib_read.specs.Classes.{Descriptor, Head, NullDescriptor, NullThunk, Other, Tail}
-use Rattle.implib_read.specs.Indexes.{IndexEntry}
 use Rattle.implib_read.specs.MemberNames.{LinkerMember, LongNamesMember, MemberName, Named}
 use Rattle.implib_compare.specs.declared.working.Working.TheVariants.{Broken, NotDecided, Works}
 use Rattle.implib_compare.specs.Working.{both_work, first_misleads, has_whole_tables, linker_member, misled, second_misleads, working_of, working_status, works_of}

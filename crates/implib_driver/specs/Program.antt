@@ -1,5 +1,5 @@
 -- What a run of the program does (this project's own).
-use Rattle.std.specs.Prelude.{◌≡◌, ◌⊎◌, ℕ, Bool, true, false, List, [], ◌∷◌, ◌++◌, Option, None, Some, Result, Ok, Err, IfSome, codes, drop, length, map, nat_eq, nat_lt, ◌||◌, if◌then◌else◌}
+use Rattle.std.specs.Prelude.{◌≡◌, ◌⊎◌, ℕ, Bool, true, false, List, [], ◌∷◌, ◌++◌, Option, Result, Ok, Err, IfSome, codes, drop, length, map, nat_eq, nat_lt, ◌||◌, if◌then◌else◌}
 use Rattle.std.specs.List.{starts_with}
 use Rattle.std.specs.Io.KnownBytes.{Appends}
 use Rattle.std.specs.Str.{IsUtf8, bytes_eq}
@@ -19,7 +19,7 @@ use Rattle.implib_driver.specs.Disk.{DiskView}
 use Rattle.implib_driver.specs.declared.identity.NotIdentified.{NotIdentified}
 use Rattle.implib_driver.specs.Identity.{identified}
 use Rattle.implib_driver.specs.Placing.{Answer, Answers}
-use Rattle.implib_driver.specs.Reports.{ComplaintView, Complains, Line, OfArgument, OfCall, OfIdentity, OfMemory, OfStub, OfSystem, OfUtf16, OfWord, OfWriting, Refuses, Says, Warns}
+use Rattle.implib_driver.specs.Reports.{ComplaintView, Complains, Line, OfArgument, OfCall, OfIdentity, OfMemory, OfStub, OfSystem, OfUtf16, OfWord, Refuses, Says, Warns}
 use Rattle.implib_driver.specs.LibWords.{words_read}
 pub use Rattle.implib_driver.specs.Verdicts.{answer_status, output_or_none, verdict}
 use Rattle.implib_driver.specs.Dll.{begins_dll}
@@ -27,11 +27,10 @@ use Rattle.implib_driver.specs.DllProgram.{FinishesDll}
 use Rattle.implib_driver.specs.Request.{Asked, AsksHelp, AsksIdentity, AsksVersion, Asks, RequestView, TaskView, caller_of, request_for, task_of}
 use Rattle.implib_driver.specs.Stubs.{has_failing_stub}
 use Rattle.implib_driver.specs.Verbose.{warnings_for}
-use Rattle.implib_rules.specs.declared.library.LibraryError.TheVariants.{Refused, Writing}
 use Rattle.implib_rules.specs.declared.library.Refusal.{Refusal}
 use Rattle.implib_rules.specs.declared.library.Refusal.TheVariants.{OutOfMemory}
 use Rattle.implib_rules.specs.declared.places.Place.{Place}
-use Rattle.implib_rules.specs.Library.{CountsMembers, definition_text, is_out_of_memory, status_of}
+use Rattle.implib_rules.specs.Library.{CountsMembers, definition_text, is_out_of_memory}
 use Rattle.implib_rules.specs.Names.{last_part}
 use Rattle.implib_rules.specs.Older.{IsRefusalOfAsked, MembersAsked}
 use Rattle.implib_rules.specs.Places.{ArePlacesOf, export_lines}

@@ -1,5 +1,5 @@
 -- What is asked of a DLL is found in it.
-use Rattle.std.proofs.Common.{◌≡◌, ℕ, zero, suc, ◌+◌, ◌<◌, ◌≤◌, ◌==◌, ◌^◌, Bool, true, false, cond, List, [], ◌∷◌, ◌++◌, Option, Some, None, length, map, refl, ap, ◌∙◌, sym, subst, inl, inr, arith}
+use Rattle.std.proofs.Common.{◌≡◌, ℕ, zero, suc, ◌+◌, ◌<◌, ◌≤◌, ◌==◌, ◌^◌, Bool, true, false, cond, List, [], ◌∷◌, ◌++◌, Option, Some, None, length, map, refl, ap, ◌∙◌, sym, subst, arith}
 use Rattle.std.specs.Prelude.{All, Contains, filter}
 use Rattle.std.specs.List.{flat_map, slice_get}
 use Rattle.std.specs.Option.{is_some, option_and_then, option_map}
@@ -10,10 +10,10 @@ use Rattle.std.proofs.lemmas.Option.{slice_get_within}
 use Rattle.implib.specs.Import.{Ask, Ordinal, Name}
 use Rattle.implib_dll.proofs.Finding.{ordinals_lead, right_hint_finds}
 use Rattle.implib_dll.specs.Exports.{Exports, NameEntry, Target}
-use Rattle.implib_dll.specs.Lookup.{by_name, by_ordinal, filled, ordinal_index, ordinal_of, position_of, target_at, text_at}
-use Rattle.implib_dll.specs.Rows.{Row, names_at, rows_from, rows_of}
-use Rattle.implib_from_dll.specs.Definition.{exports_of, named_from, named_of, numbered_of, numbered_to, unnamed}
-use Rattle.implib_from_dll.specs.Laws.{AsksAreFound, ExportsAreAsked, Fits, IsAsked, IsFoundAtOnce, IsReached, NamesAreAsked, NeedsNoSearch, ask_of, asks_of, found, index_found}
+use Rattle.implib_dll.specs.Lookup.{by_name, filled, ordinal_index, ordinal_of, position_of, target_at}
+use Rattle.implib_dll.specs.Rows.{names_at, rows_from, rows_of}
+use Rattle.implib_from_dll.specs.Definition.{named_from, named_of, numbered_of, numbered_to, unnamed}
+use Rattle.implib_from_dll.specs.Laws.{AsksAreFound, ExportsAreAsked, IsFoundAtOnce, IsReached, NamesAreAsked, ask_of, asks_of}
 
 -- a name is found at its position
 at_position : (e : Exports) (position : ℕ) (n : NameEntry) → slice_get e.names position ≡ Some n → position_of e.names n.text position ≡ Some position

@@ -1,7 +1,6 @@
 -- Lemmas on the exports of names and of rows, one at a time.
-use Rattle.std.proofs.Common.{◌≡◌, ℕ, suc, ◌+◌, ◌<◌, List, [], ◌∷◌, ◌++◌, Option, Some, None, length, map, drop, take, get_or, refl, ap, ◌∙◌, sym, subst, append_assoc, append-nil, arith}
-use Rattle.std.specs.List.{flat_map, slice_get}
-use Rattle.implib.specs.Definition.{ExportView}
+use Rattle.std.proofs.Common.{◌≡◌, ℕ, suc, ◌+◌, ◌<◌, List, [], ◌∷◌, ◌++◌, length, map, take, get_or, refl, ap, ◌∙◌, sym, append_assoc, append-nil, arith}
+use Rattle.std.specs.List.{slice_get}
 use Rattle.implib_dll.specs.Exports.{Exports, NameEntry, Target}
 use Rattle.implib_dll.specs.Lookup.{target_at}
 use Rattle.implib_from_dll.specs.Definition.{named_from, named_of}

@@ -1,5 +1,5 @@
 -- What the imports that are made of a DLL come to, looked up in the DLL as a loader does.
-use Rattle.std.specs.Prelude.{◌≡◌, ℕ, ◌<◌, ◌≤◌, ◌^◌, true, List, map, length, All, Contains, Option, None, Some, slice_get, if◌then◌else◌, option_map}
+use Rattle.std.specs.Prelude.{◌≡◌, ℕ, ◌<◌, ◌≤◌, ◌^◌, true, List, map, length, All, Contains, Option, Some, slice_get, if◌then◌else◌, option_map}
 use Rattle.std.specs.Option.{is_some, option_and_then}
 use Rattle.implib.specs.Definition.{ExportView}
 use Rattle.implib.specs.Import.{Ask, Ordinal, Name}

@@ -2,8 +2,8 @@
 use Rattle.std.specs.Prelude.{◌≡◌, ℕ, true, false, List, [], ◌∷◌, Bool, None, codes}
 use Rattle.implib.specs.Definition.{ExportView}
 use Rattle.implib.specs.Import.{Ordinal, Name}
-use Rattle.implib_dll.specs.declared.section.AddressKind.TheVariants.{Code, Data, Outside}
-use Rattle.implib_dll.specs.Exports.{Exports, NameEntry, Target, Empty, Address, Forwarder}
+use Rattle.implib_dll.specs.declared.section.AddressKind.TheVariants.{Outside}
+use Rattle.implib_dll.specs.Exports.{Exports, NameEntry, Empty, Address}
 use Rattle.implib_dll.specs.WorkedFiles.{named, worked_exports}
 use Rattle.implib_from_dll.specs.Definition.{exports_of}
 use Rattle.implib_from_dll.specs.Laws.{NeedsNoSearch, asks_of}

@@ -39,7 +39,7 @@ use Rattle.implib_link.proofs.Search.Lists.{any_among}
 use Rattle.implib_link_instances.proofs.Worked.Calls.{one_code_resolves, wide}
 use Rattle.implib_link_instances.proofs.Worked.Programs.{claims_none_by, distinct_by, opened, admissible_by, instructions_at}
 use Rattle.implib.specs.Formats.Object.{object_in}
-use Rattle.implib_link_instances.proofs.Worked.Search.{bar, takes_by}
+use Rattle.implib_link_instances.proofs.Worked.Search.{takes_by}
 
 is_archive : IsArchive AMD64 libraries
 unfolding opened refusal renamed_refusal alias_specs encoded_size weak_object symbols_of_library is_weak

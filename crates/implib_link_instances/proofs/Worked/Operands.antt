@@ -28,7 +28,6 @@ use Rattle.implib_link.proofs.Gnu.MovedPrograms.{moved_memory_exists}
 use Rattle.implib_link.proofs.Gnu.Operands.{operand_width}
 use Rattle.implib_link.proofs.Gnu.Steady.{program_tables_none}
 use Rattle.implib_link.specs.Gnu.Calls.{StubAt}
-use Rattle.implib_link_instances.proofs.Worked.Calls.{wide}
 use Rattle.implib_link_instances.proofs.Worked.LinkedCode.{all_needed, only_absolute, rebased_by, relocated_by, relocated_test, takes_by}
 use Rattle.implib_link_instances.proofs.Worked.Programs.{opened, worked_programs, admissible_by, instructions_at, program_by, instruction_by}
 use Rattle.implib_link_instances.proofs.Worked.RefusedLinks.{differ, number}

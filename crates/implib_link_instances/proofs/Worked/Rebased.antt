@@ -1,5 +1,5 @@
 -- The programs that were moved by hand, by computing and by the laws.
-use Rattle.std.proofs.Common.{◌≡◌, ℕ, Bool, true, false, List, [], codes, refl, ap, sym, ◌∙◌, subst, true≢false}
+use Rattle.std.proofs.Common.{◌≡◌, ℕ, Bool, true, List, [], codes, refl, ap, sym, ◌∙◌, subst, true≢false}
 use Rattle.std.specs.Prelude.{bytes_eq, not, slice_get, ◌&&◌, ◌==◌, Some, if◌then◌else◌}
 use Rattle.std.specs.List.{Contains, list_all}
 use Rattle.std.proofs.lemmas.Bool.{and_from, eq-eqb, not-true}
@@ -14,9 +14,8 @@ use Rattle.implib_link.specs.Gnu.Calls.{Defines, PlacedCode, Resolves}
 use Rattle.implib_link.specs.Gnu.Rebased.{IsRebased, Place}
 use Rattle.implib_link_instances.specs.Worked.Rebased.{WorkedPlaces}
 use Rattle.implib_link.proofs.Search.Lists.{among_at, contains_among}
-use Rattle.implib_link_instances.proofs.Worked.Calls.{is_wanted, wide}
+use Rattle.implib_link_instances.proofs.Worked.Calls.{is_wanted}
 use Rattle.implib_link.proofs.Search.Lists.{each_of}
-use Rattle.implib_link_instances.proofs.Worked.RefusedLinks.{number}
 
 -- Code whose symbols no code of another object defines is resolved by the tables.
 

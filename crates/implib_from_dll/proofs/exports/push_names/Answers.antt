@@ -1,4 +1,4 @@
-use Rattle.std.proofs.Common.{◌≡◌, ◌++◌, map, ap, ◌∙◌, sym, subst, refl, arith, append-nil, append_assoc}
+use Rattle.std.proofs.Common.{◌++◌, map, ap, ◌∙◌, sym, subst, refl, arith, append-nil, append_assoc}
 use Rattle.implib.specs.Definition.{export_view}
 use Rattle.implib_dll.specs.Lookup.{target_at}
 use Rattle.implib_dll.specs.Views.{exports_view, name_view, target_view}

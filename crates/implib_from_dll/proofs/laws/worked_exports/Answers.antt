@@ -1,4 +1,4 @@
-use Rattle.std.proofs.Common.{◌≡◌, refl}
+use Rattle.std.proofs.Common.{refl}
 use Rattle.std.specs.Fmt.{digits}
 use Rattle.implib_from_dll.specs.Definition.{named_from}
 use Rattle.implib_from_dll.specs.Worked.{WorkedExports}
