@@ -3,6 +3,7 @@
 
 ghost use Rattle.implib_dll_check.specs.Laws.{OwnAsksPass};
 ghost use Rattle.implib_dll_check.specs.Worked.{WorkedVerdicts};
+ghost use Rattle.implib_dll_check.specs.WorkedImports.{WorkedImports};
 
 /// What is asked for by the imports that are made of a DLL is found there, and without a search.
 pub fn own_asks_pass()
@@ -12,4 +13,9 @@ pub fn own_asks_pass()
 /// Imports and names of DLLs worked by hand have these verdicts.
 pub fn worked_verdicts()
     ensures { WorkedVerdicts }
+{}
+
+/// Imports of libraries, of each kind, worked by hand come to this in a DLL.
+pub fn worked_imports()
+    ensures { WorkedImports }
 {}

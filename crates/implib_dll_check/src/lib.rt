@@ -4,14 +4,18 @@
 //! whether data is imported as data. [`loader_name`] is the name by which a loader tells DLLs apart,
 //! and [`missing`] what a DLL exports and no import asks for.
 //!
+//! [`judgements`] says what the members of a library come to, and [`asks_in`] what they ask for.
+//!
 //! Each equals a definition in `specs/`, over the lookups of `implib_dll`.
 #![tactic(auto)]
 
 mod dll_name;
+mod import;
 mod lacking;
 pub mod laws;
 mod verdict;
 
 pub use dll_name::loader_name;
+pub use import::{Judgement, Loss, asks_in, judgements};
 pub use lacking::missing;
 pub use verdict::{Ask, Verdict, judge};

@@ -6,6 +6,7 @@ pub mod FieldNames
 pub mod FirstPlaces
 pub mod Gathering
 pub mod IndexEntries
+pub mod LineEnds
 pub mod MemberClasses
 pub mod Records
 pub mod Room

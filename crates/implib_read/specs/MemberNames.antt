@@ -1,7 +1,7 @@
 -- What the name field of a member's header says, in archives of any maker (the common archive format; PE/COFF
 -- specification, "Archive Member Headers"). A name ends at its slash or at the spaces; one that begins with a
 -- slash is a number in the long names, or special.
-use Rattle.std.specs.Prelude.{ℕ, ◌-◌, Bool, false, ◌&&◌, not, List, [], ◌∷◌, Option, None, Some, bytes_eq, codes, drop, if◌then◌else◌, length, nat_eq, take, take_while}
+use Rattle.std.specs.Prelude.{ℕ, suc, ◌-◌, Bool, false, ◌&&◌, not, List, [], ◌∷◌, Option, None, Some, bytes_eq, codes, drop, if◌then◌else◌, length, nat_eq, take, take_while}
 use Rattle.implib_archive.specs.Reader.{number_in, trimmed}
 
 -- a name: of a linker member, of the long names, the offset of a long name, a text, or special
@@ -36,9 +36,18 @@ member_name field =
     else if begins_with_byte 47 text then slash_name text (number_in (drop 1 field))
     else Named (without_slash text)
 
+-- whether a line goes on with a byte: it ends at a NUL, and at a line end
+abbrev pub goes_on : ℕ → Bool
+goes_on c = not (nat_eq c 0) && not (nat_eq c 10)
+
+-- the places at which lines end, in a text whose first byte is at a place
+unfoldable pub ends_from : ℕ → List ℕ → List ℕ
+ends_from place [] = []
+ends_from place (c ∷ text) = if goes_on c then ends_from (suc place) text else place ∷ ends_from (suc place) text
+
 -- The name at the front of the long names from its offset on: up to a NUL, as Microsoft's LIB ends it, or up to
 -- a line end, as GNU's archivers do, then without the slash before that.
 unfoldable pub long_name_of : List ℕ → List ℕ
 long_name_of text =
-    let line = take_while (λ c. not (nat_eq c 0) && not (nat_eq c 10)) text in
+    let line = take_while goes_on text in
     if begins_with_byte 10 (drop (length line) text) then without_slash line else line

@@ -7,9 +7,11 @@ ghost use Rattle.implib_archive.specs.Reader.{data_at, stored_at};
 ghost use Rattle.implib_read.specs.Archives.{cut_from, cut_in};
 ghost use Rattle.implib_read.specs.Archives.{archive_in, long_names_in, member_of, parts_from, parts_in, said};
 ghost use Rattle.implib_read.specs.ArchiveViews.{archive_view, member_view, part_view};
+ghost use Rattle.implib_read.specs.MemberNames.{ends_from};
 ghost use Rattle.implib_read.specs.NameViews.{name_view};
 
 use crate::fields::behind;
+use crate::lines::line_ends;
 use crate::names::{MemberName, is_text, long_name_at, member_name, number_in};
 use std::alloc::{AllocError, Global};
 
@@ -165,13 +167,14 @@ fn long_names<'a>(parts: &[Part<'a>]) -> &'a [u8]
     &[]
 }
 
-/// The member that a part is.
-fn member_of<'a>(names: &'a [u8], part: &Part<'a>) -> Option<StoredMember<'a>>
+/// The member that a part is, given the long names and the ends of their lines.
+fn member_of<'a>(names: &'a [u8], ends: &[usize], part: &Part<'a>) -> Option<StoredMember<'a>>
+    requires { ends.now ≡ ends_from 0 names.now }
     ensures { option_map member_view result ≡ member_of names.now (part_view part.now) }
 {
     let name = match part.name {
         MemberName::Text(text) => text,
-        MemberName::LongAt(offset) => long_name_at(names, offset),
+        MemberName::LongAt(offset) => long_name_at(names, ends, offset),
         MemberName::Linker | MemberName::LongNames | MemberName::Special(_) => return None,
     };
     Some(StoredMember {
@@ -189,9 +192,10 @@ fn members_among<'a>(
 ) -> Result<Vec<StoredMember<'a>>, AllocError>
     ensures { IfOk result (λ v. map member_view v.items ≡ filter_map (member_of names.now) (map part_view parts.now)) }
 {
+    let ends = line_ends(alloc, names)?;
     let mut members = Vec::new(alloc);
     for part in parts {
-        let Some(member) = member_of(names, part) else {
+        let Some(member) = member_of(names, &ends, part) else {
             continue;
         };
         members.push(member)?;

@@ -31,6 +31,7 @@ mod index;
 pub mod laws;
 mod leads;
 mod library;
+mod lines;
 mod names;
 mod object;
 mod short_import;

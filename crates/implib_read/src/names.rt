@@ -1,13 +1,15 @@
 //! The names of an archive's members.
 
-ghost use Rattle.std.specs.Prelude.{◌≡◌, ℕ, ◌+◌, ◌-◌, ◌*◌, ◌<◌, ◌≤◌, ◌&&◌, not, length, drop, fold, bytes_eq, nat_eq, take_while};
+ghost use Rattle.std.specs.Prelude.{◌≡◌, ℕ, ◌+◌, ◌-◌, ◌*◌, ◌<◌, ◌≤◌, length, drop, fold, bytes_eq, nat_eq, take_while};
 ghost use Rattle.std.specs.List.{list_all};
 ghost use Rattle.std.specs.Option.{option_map};
 ghost use Rattle.implib_archive.specs.Reader.{is_digit, number_in, trimmed};
-ghost use Rattle.implib_read.specs.MemberNames.{begins_with_byte, long_name_of, member_name, without_slash};
+ghost use Rattle.implib_read.specs.MemberNames.{begins_with_byte, ends_from, goes_on, long_name_of, member_name, without_slash};
+ghost use Rattle.std.specs.List.{prefix_len};
 ghost use Rattle.implib_read.specs.NameViews.{name_view};
 
 use crate::fields::behind;
+use crate::lines::line_len_at;
 
 /// What the name field of a header says.
 #[derive(Clone, Copy)]
@@ -127,19 +129,12 @@ pub(crate) fn member_name(field: &[u8]) -> MemberName<'_>
     }
 }
 
-/// How many bytes are before the first NUL or line end.
-fn line_len(text: &[u8]) -> usize
-    ensures { result ≡ length (take_while (λ c. not (nat_eq c 0) && not (nat_eq c 10)) text.now) }
-{
-    text.iter().take_while(|c| **c != 0 && **c != 10).count()
-}
-
-/// The long name at the front of a text.
-#[tactic(auto, unfolding(crate::specs::MemberNames::long_name_of))]
-fn long_name_of(text: &[u8]) -> &[u8]
+/// The long name at the front of a text whose first line has a number of bytes.
+#[tactic(auto, unfolding(crate::specs::MemberNames::long_name_of), using(crate::proofs::LineEnds::line_fits))]
+fn long_name_of(text: &[u8], end: usize) -> &[u8]
+    requires { end ≡ prefix_len goes_on text.now }
     ensures { result.now ≡ long_name_of text.now }
 {
-    let end = line_len(text);
     let line = &text[..end];
     if begins_with_byte(b'\n', &text[end..]) {
         without_slash(line)
@@ -148,9 +143,10 @@ fn long_name_of(text: &[u8]) -> &[u8]
     }
 }
 
-/// The long name at an offset.
-pub(crate) fn long_name_at(names: &[u8], offset: usize) -> &[u8]
+/// The long name at an offset, given the ends of the lines.
+pub(crate) fn long_name_at<'a>(names: &'a [u8], ends: &[usize], offset: usize) -> &'a [u8]
+    requires { ends.now ≡ ends_from 0 names.now }
     ensures { result.now ≡ long_name_of (drop offset names.now) }
 {
-    long_name_of(behind(names, offset))
+    long_name_of(behind(names, offset), line_len_at(names, ends, offset))
 }
