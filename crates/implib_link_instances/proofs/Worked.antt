@@ -16,6 +16,7 @@ pub mod Loads
 pub mod Searched
 pub mod FlavorLoads
 pub mod Packed
+pub mod GnuPacked
 pub mod Bounds
 pub mod RefusedTexts
 pub mod Sources

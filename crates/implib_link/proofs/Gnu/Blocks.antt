@@ -15,7 +15,6 @@ use Rattle.implib.proofs.Link.LinkedBlocks.{Block, BlocksLink, blocks_objects, e
 use Rattle.implib.proofs.Link.LinkedInputs.{block_of}
 use Rattle.implib.proofs.Link.Linked.{BlockLinks, LocatedFrom, aligned_block, ends_of_block}
 use Rattle.implib.proofs.Link.Placement.{AreAligned, aligned, descriptors_end, ends_of_all, ends_of_export, ends_of_exports, ends_of_head, export, head, tail}
-use Rattle.implib_link.specs.Directory.{DirectoryAt, imported}
 use Rattle.implib_link.specs.Gnu.Program.{null_descriptor, thunks_before}
 use Rattle.implib.specs.LibraryName.{NamesOfDll, names_for}
 use Rattle.implib.specs.declared.flavor.Flavor.TheVariants.{Gnu}
@@ -103,17 +102,3 @@ nth_block machine linked image (q ∷ inputs) b links (suc i) p is =
     ap (λ n. n + thunk_width machine * thunks_before i inputs) (addresses_after machine dll (ends_of_head machine dll b) exports)
     ∙ table_sum b.addresses (thunk_width machine) (length exports + 1) (thunks_before i inputs) in
     (found.0, (found.1.0 ∙ at_descriptor, (found.1.1.0 ∙ at_table, found.1.1.1)))
-
--- blocks and the null descriptor after them are a directory
-pub directory_of : (machine : MachineType) (linked : List Placed) (image : List Range) (inputs : List LinkInput) (b : Bases) →
-    BlocksLink machine linked image b (map block_of inputs) → BytesAt image (ends_of_blocks machine b (map block_of inputs)).descriptors (zeros 20) →
-    DirectoryAt image (thunk_width machine) b.descriptors (map (imported machine) inputs)
-unfolding BlocksLink DirectoryAt ends_of_blocks
-directory_of machine linked image [] b links null = null
-directory_of machine linked image (p ∷ inputs) b links null =
-    let dll : NamesOfDll = names_for Gnu p.definition in
-    let exports : List ExportView = chosen_exports p.definition p.chosen in (
-      links.0.strictly.loads,
-      subst (λ n. DirectoryAt image (thunk_width machine) n (map (imported machine) inputs)) (sym (descriptors_after machine dll b exports))
-          (directory_of machine linked image inputs (ends_of_block machine dll b exports) links.1 null),
-    )

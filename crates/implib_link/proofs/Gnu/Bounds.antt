@@ -11,24 +11,24 @@ use Rattle.implib.specs.Definition.{ExportView}
 use Rattle.implib.specs.Formats.Constants.{class_static}
 use Rattle.implib.specs.Formats.Object.{Object}
 use Rattle.implib.specs.Link.Image.{Contribution, Range, contributions, filled, image_of, range_end, range_of, relocated}
-use Rattle.implib.specs.Link.Linked.{EntriesAt}
 use Rattle.implib.specs.Link.LinkedMembers.{IsMade, LinkInput, chosen_exports}
 use Rattle.implib.specs.Link.Placement.{Addresses, Bases, Descriptors, Group, HintNames, Placed, base_of, groups, next_multiple, placed_from}
 use Rattle.implib.specs.Members.Gnu.{export_object, head_object, tail_object}
 use Rattle.implib.specs.Members.ImportTables.{relocation, thunk_width, zeros}
 use Rattle.implib.proofs.Link.Linked.{aligned_block, ends_of_block}
 use Rattle.implib.proofs.Link.LinkedBlocks.{blocks_objects, ends, even}
-use Rattle.implib.proofs.Link.LinkedInputs.{block_of, gnu_inputs_objects}
+use Rattle.implib.proofs.Link.LinkedInputs.{block_of}
 use Rattle.implib.proofs.Link.LinkedMembers.{among_contains}
 use Rattle.implib.proofs.Link.Placement.{AreAligned, after_head, aligned, aligned_after, aligned_head, ends_of_all, ends_of_export, ends_of_exports, ends_of_head, placed-export, placed-head, placed-tail, placed_head}
 use Rattle.implib.proofs.Link.Ranges.{Among, all_among, among_first, among_flat}
 use Rattle.implib.proofs.Link.Tables.{addresses_end, addresses_filled, descriptors_filled, filled_first, thunk_bytes}
 use Rattle.implib_link.specs.Gnu.Bounds.{AreBounded, BeginsWith, HaveEvenHints, IsEven}
-use Rattle.implib_link.specs.Gnu.Program.{IsProgram, has_tables, null_descriptor, thunks_before}
-use Rattle.implib_link.proofs.Gnu.Blocks.{addresses_after, objects_behind, table_sum}
-use Rattle.implib_link.proofs.Gnu.Loaded.{entry_once}
-use Rattle.implib_link.proofs.Gnu.Others.{contributions_kept}
-use Rattle.implib_link.proofs.Gnu.Program.{kept_placed, program_links}
+use Rattle.implib_link.specs.Gnu.Program.{has_tables, null_descriptor, thunks_before}
+use Rattle.implib_link.specs.Flavors.Program.{IsProgram, OfLinker, gnu_input}
+use Rattle.implib_link.proofs.Gnu.Blocks.{addresses_after, table_sum}
+use Rattle.implib_link.proofs.Gnu.Others.{contributions_kept, placed_kept}
+use Rattle.implib_link.proofs.Flavors.GnuPrograms.{gnu_entry_of, gnu_kept, gnu_made}
+use Rattle.implib_link.proofs.Flavors.Program.{program_links}
 use Rattle.implib_link.proofs.Gnu.Sized.{length-relocated}
 use Rattle.implib.specs.LibraryName.{NamesOfDll, names_for}
 use Rattle.implib.specs.declared.flavor.Flavor.TheVariants.{Gnu}
@@ -200,10 +200,7 @@ module _ (machine : MachineType) (b : Bases) (inputs : List LinkInput) (objects 
   aligned_bases = even machine b objects program.admissible
 
   members_are : filter has_tables objects ≡ members
-  members_are =
-      program.tables
-      ∙ ap (λ os. os ++ null_descriptor ∷ []) (gnu_inputs_objects machine inputs made)
-      ∙ objects_behind machine (map block_of inputs) (null_descriptor ∷ [])
+  members_are = gnu_kept machine b inputs objects made program
 
   contributed : (group : Group) → contributions machine linked group linked ≡ contributions machine linked group (placed_from b members)
   contributed group = contributions_kept machine linked group b objects ∙ ap (λ os. contributions machine linked group (placed_from b os)) members_are
@@ -247,7 +244,7 @@ begins_with machine b (p ∷ inputs) objects made program some =
     let plain : b.addresses + 0 ≡ b.addresses = omega arith in
     record {
       first = placed_head machine dll b;
-      among = ap (λ ps. slice_get ps 0) (kept_placed machine b (p ∷ inputs) objects made program ∙ placed-head machine dll b behind_it (even machine b objects program.admissible));
+      among = ap (λ ps. slice_get ps 0) (placed_kept b objects ∙ ap (placed_from b) (gnu_kept machine b (p ∷ inputs) objects made program) ∙ placed-head machine dll b behind_it (even machine b objects program.admissible));
       symbol = record { name = codes ".idata$5"; value = 0; section = 5; kind = 0; class = class_static };
       held = (2, omega arith, refl);
       named = refl;
@@ -277,7 +274,6 @@ tables_are_bounded machine b inputs objects made program some =
       size = size;
       below = all_among (λ r. range_end r < 2 ^ 31) table image there (ends machine b objects program.admissible);
       entries = λ i j p e input chosen.
-          let one = (program_links machine b inputs objects made program).imports i p input in
           let start : ℕ = b.addresses + thunk_width machine * thunks_before i inputs in
           let j_below : j < length (chosen_exports p.definition p.chosen) = index_below (chosen_exports p.definition p.chosen) j e chosen in
           let counted = count_below inputs i p input in
@@ -285,8 +281,7 @@ tables_are_bounded machine b inputs objects made program some =
           let next = next_entry machine b.addresses (thunks_before i inputs + j) total (omega arith) in (
             start + thunk_width machine * j,
             (
-              entry_once linked (thunk_width machine) start (chosen_exports p.definition p.chosen) j e
-                  (subst (λ n. EntriesAt linked (thunk_width machine) n (chosen_exports p.definition p.chosen)) one.table_located one.strictly.entries) chosen,
+              gnu_entry_of machine b inputs objects i j p e (program_links machine OfLinker b (map gnu_input inputs) objects (gnu_made machine inputs made) program) input chosen,
               (omega arith, omega arith),
             ),
           );

@@ -13,11 +13,11 @@ use Rattle.implib.specs.Link.LinkedMembers.{LinkInput, all_linked, chosen_export
 use Rattle.implib.specs.Members.MemberSpec.{MemberView}
 use Rattle.implib.specs.Members.MsvcObjects.{descriptor_symbol, null_descriptor_symbol}
 use Rattle.implib.proofs.Link.Ranges.{Among, all_among, among_flat}
-use Rattle.implib_link.specs.Flavors.Program.{FlavorInput, IsFoundByName, IsMadeFor, all_members, dll_names_in, members_linked, symbols_listed}
+use Rattle.implib_link.specs.Flavors.Program.{FlavorInput, IsFoundByName, IsMadeFor, all_members, dll_names_in, members_linked, symbols_listed, gnu_input}
 use Rattle.implib_link.specs.Flavors.Expansion.{descriptor_symbol_by_name}
 use Rattle.std.proofs.lemmas.List.Sorted.{IsPermutation-sym}
 use Rattle.implib_link.specs.Search.Archives.{Library, input_if_any, inputs_wanted, symbols_of_library}
-use Rattle.implib_link.specs.Search.BothFlavors.{FlavorLibrary, IsFlavorArchive, flavor_input, flavor_inputs, gnu_among, gnu_input, if_gnu, if_msvc, msvc_among}
+use Rattle.implib_link.specs.Search.BothFlavors.{FlavorLibrary, IsFlavorArchive, flavor_input, flavor_inputs, gnu_among, if_gnu, if_msvc, msvc_among}
 use Rattle.implib_link.specs.Search.MsvcArchives.{imports_wanted, short_input_if_any, short_inputs, symbols_of_shorts}
 use Rattle.implib_link.specs.Search.Search.{exports_wanted}
 use Rattle.implib_link.proofs.Flavors.Block.{symbols_of}

@@ -24,10 +24,10 @@ use Rattle.implib.specs.Members.MsvcObjects.{descriptor_symbol, null_descriptor_
 use Rattle.implib.proofs.Link.LinkedMembers.{among_contains}
 use Rattle.implib.proofs.Link.Ranges.{Among, all_among, among_back, among_first, among_flat, among_front}
 use Rattle.implib_link.specs.Flavors.Expansion.{expanded_in}
-use Rattle.implib_link.specs.Flavors.Program.{AreFlavorObjects, FlavorInput, FlavorsLink, IsFlavorProgram, IsMadeFor, all_members, exports_chosen, null_member, objects_taken, symbols_listed, thunks_of}
+use Rattle.implib_link.specs.Flavors.Program.{OfMember, FlavorInput, IsMadeFor, all_members, exports_chosen, null_member, objects_taken, symbols_listed, thunks_of, ProgramLinks, IsProgramOf, AreProgramObjects, gnu_input}
 use Rattle.implib_link.specs.Gnu.Program.{ClaimsNone, claimed_names, has_tables}
 use Rattle.implib_link.specs.Search.Archives.{Library, exports_of, inputs_wanted}
-use Rattle.implib_link.specs.Search.BothFlavors.{AreClosedForBoth, FlavorLibrary, IsClosedForBoth, IsFlavorArchive, IsImportedOfBoth, IsUsedIn, LinksClosedForBoth, TakesOfBoth, archive_of_both, gnu_among, gnu_input, inputs_of_both, msvc_among}
+use Rattle.implib_link.specs.Search.BothFlavors.{AreClosedForBoth, FlavorLibrary, IsClosedForBoth, IsFlavorArchive, IsImportedOfBoth, IsUsedIn, LinksClosedForBoth, TakesOfBoth, archive_of_both, gnu_among, inputs_of_both, msvc_among}
 use Rattle.implib_link.specs.Search.Closed.{listed_in, unresolved}
 use Rattle.implib_link.specs.Search.Msvc.{NamesNoHeader, TakesFor, left_in}
 use Rattle.implib_link.specs.Search.MsvcArchives.{first_null, is_import_wanted, is_short_alias, is_weak_in, others_in, short_inputs, shorts_linked, weak_in}
@@ -36,8 +36,8 @@ use Rattle.implib_link.specs.Search.Search.{NamesNoHeadOrTail, exports_wanted, f
 use Rattle.implib_link.proofs.Flavors.Expanded.{taken_null}
 use Rattle.implib_link.proofs.Flavors.Inputs.{null_object}
 use Rattle.implib_link.proofs.Flavors.Loaded.{entry_of}
-use Rattle.implib_link.proofs.Flavors.Packed.{packed_flavors}
-use Rattle.implib_link.proofs.Flavors.Program.{flavors_link}
+use Rattle.implib_link.proofs.Flavors.Packed.{packed_objects}
+use Rattle.implib_link.proofs.Flavors.Program.{program_links}
 use Rattle.implib_link.specs.Gnu.Packed.{packed, packed_end}
 use Rattle.implib_link.proofs.Search.ArchiveGroups.{export_of, weak_of as data_weak_of}
 use Rattle.implib_link.proofs.Search.ArchiveMembers.{FoundExport, FoundHead, FoundTail, FoundWeak as FoundDataWeak}
@@ -285,24 +285,26 @@ module _ (machine : MachineType) (libraries : List FlavorLibrary) (archive : IsF
   null_read : expanded_in machine (null_member machine (linked_dll one_input.0.input.definition)).bytes ≡ Some (taken_null machine)
   null_read = null_object machine one_input.0 (all_among (IsMadeFor machine) one_input.0 inputs one_there inputs_are_made) flavor_is
 
-  pub both_held : AreFlavorObjects machine (inputs_of_both machine arranged own taken) objects
+  pub both_held : AreProgramObjects machine OfMember (inputs_of_both machine arranged own taken) objects
   both_held = record {
     distinct = both_distinct machine libraries arranged is.order archive wanted;
-    null_from = one_input.0;
-    null_held = among_contains one_input.0 inputs one_there;
-    null_flavor = flavor_is;
-    before = is.before;
-    behind = is.behind;
-    members = is.members;
-    tables = is.tables ∙ null_tables machine (msvc_among libraries) archive.msvc is.before is.behind (names_for Msvc one_input.0.input.definition) one_library.0 one_library.1 null_read;
+    ended = record {
+      null_from = one_input.0;
+      null_held = among_contains one_input.0 inputs one_there;
+      null_flavor = flavor_is;
+      before = is.before;
+      behind = is.behind;
+      members = is.members;
+      tables = is.tables ∙ null_tables machine (msvc_among libraries) archive.msvc is.before is.behind (names_for Msvc one_input.0.input.definition) one_library.0 one_library.1 null_read;
+    };
     others = others_claim_none;
     found = both_found machine libraries arranged is.order archive wanted;
   }
 
   -- placed at bases
-  module _ (bases : Bases) (program : IsFlavorProgram machine bases (inputs_of_both machine arranged own taken) objects) where
-    links : FlavorsLink machine bases (inputs_of_both machine arranged own taken) objects
-    links = flavors_link machine bases inputs objects inputs_are_made program
+  module _ (bases : Bases) (program : IsProgramOf machine OfMember bases (inputs_of_both machine arranged own taken) objects) where
+    links : ProgramLinks machine OfMember bases (inputs_of_both machine arranged own taken) objects
+    links = program_links machine OfMember bases inputs objects inputs_are_made program
 
     -- each import is used
 
@@ -389,7 +391,7 @@ module _ (machine : MachineType) (libraries : List FlavorLibrary) (archive : IsF
           export = e;
           export_is = j.1;
           by = elim (by_symbol e name listed) [
-            | inl same ↦ inl (same, subst (AtEntry i.0 j.0) (sym same) (entry_of machine bases inputs objects i.0 j.0 p e links i.1 j.1))
+            | inl same ↦ inl (same, subst (AtEntry i.0 j.0) (sym same) (entry_of machine OfMember bases inputs objects i.0 j.0 p e links i.1 j.1))
             | inr bare ↦ inr (bare.0, bare.1, defined_once name (short_of machine l e) member listed)
           ];
         }
@@ -419,7 +421,7 @@ module _ (machine : MachineType) (libraries : List FlavorLibrary) (archive : IsF
           export = e;
           export_is = j.1;
           by = elim (by_gnu_symbol e name listed) [
-            | inl same ↦ inl (same, subst (AtEntry i.0 j.0) (sym same) (entry_of machine bases inputs objects i.0 j.0 p e links i.1 j.1))
+            | inl same ↦ inl (same, subst (AtEntry i.0 j.0) (sym same) (entry_of machine OfMember bases inputs objects i.0 j.0 p e links i.1 j.1))
             | inr bare ↦ inr (bare.0, bare.1, defined_once name (export_of machine l n e) member own_listed)
           ];
         }
@@ -554,6 +556,6 @@ pub packed_both : (machine : MachineType) (libraries : List FlavorLibrary) (own 
 packed_both machine libraries own taken arranged first objects archive closed above below =
     let inputs : List FlavorInput = inputs_of_both machine arranged own taken in
     let made : AllByRecursion (IsMadeFor machine) inputs = both_made machine libraries arranged closed.order archive (wanted_for machine own taken) in
-    let program : IsFlavorProgram machine (packed first objects) inputs objects =
-    packed_flavors machine first inputs objects made (both_held machine libraries archive own taken arranged objects closed) above below in
+    let program : IsProgramOf machine OfMember (packed first objects) inputs objects =
+    packed_objects machine OfMember first inputs objects made (both_held machine libraries archive own taken arranged objects closed) above below in
     record { closed = closed; admissible = program.admissible; lookups = program.lookups; addresses = program.addresses; follows = program.follows }

@@ -13,7 +13,7 @@ use Rattle.implib.specs.Members.MemberSpec.{MemberView}
 use Rattle.implib.proofs.Link.Placement.{at_least, export, head, tail}
 use Rattle.implib.proofs.Link.Ranges.{Among}
 use Rattle.implib_link.specs.Flavors.Expansion.{expanded_in}
-use Rattle.implib_link.specs.Flavors.Program.{AreFlavorObjects, FlavorInput, IsMadeFor, all_members, objects_taken}
+use Rattle.implib_link.specs.Flavors.Program.{OfMember, FlavorInput, IsMadeFor, all_members, objects_taken, AreProgramObjects}
 use Rattle.implib_link.specs.Gnu.Packed.{packed, packed_descriptors, packed_end}
 use Rattle.implib_link.specs.Gnu.Program.{has_tables}
 use Rattle.implib_link.specs.Search.Archives.{Library, exports_of}
@@ -53,7 +53,7 @@ module _ (machine : MachineType) (libraries : List FlavorLibrary) (own : List Ob
   made : AllByRecursion (IsMadeFor machine) inputs
   made = both_made machine libraries arranged closed.order archive (wanted_for machine own taken)
 
-  are : AreFlavorObjects machine (inputs_of_both machine arranged own taken) objects
+  are : AreProgramObjects machine OfMember (inputs_of_both machine arranged own taken) objects
   are = both_held machine libraries archive own taken arranged objects closed
 
   near : packed_end first objects ≤ tables_end_of_both first libraries
@@ -68,7 +68,7 @@ module _ (machine : MachineType) (libraries : List FlavorLibrary) (own : List Ob
   placed_within room =
       within_by first (packed_descriptors first) (packed_end first objects) (tables_end_of_both first libraries) (image_of machine (packed first objects) (placed_from (packed first objects) objects))
       (at_least 8 first) near
-      (lies_within machine first objects (kept_sized machine inputs objects made are) above (let end = near in omega arith))
+      (lies_within machine first objects (kept_sized machine OfMember inputs objects made are.ended) above (let end = near in omega arith))
 
 -- What members are taken for holds import tables, but for weak externals.
 module _ (machine : MachineType) (libraries : List FlavorLibrary) (archive : IsFlavorArchive machine libraries) where

@@ -19,7 +19,7 @@ use Rattle.implib.proofs.Link.Placement.{export, head, tail}
 use Rattle.implib.proofs.Link.Ranges.{Among, all_among, among_back, among_first, among_flat, among_front, among_later}
 use Rattle.implib_link.specs.Flavors.Expansion.{descriptor_symbol_by_name, expanded_in}
 use Rattle.implib_link.specs.Flavors.Program.{all_members, ask_in, objects_taken}
-use Rattle.implib_link.specs.Gnu.Program.{ClaimsNone, claimed_names, has_tables}
+use Rattle.implib_link.specs.Gnu.Program.{ClaimsNone, claimed_names, has_tables, HaveSame}
 use Rattle.implib_link.specs.Search.Archives.{Library, exports_of}
 use Rattle.implib_link.specs.Search.BothFlavors.{AreClosedForBoth, AreGivenForBoth, FlavorLibrary, IsFlavorArchive, NamesNoMembers, archive_of_both, gnu_among, headers_of_both, inputs_of_both, kept_of_both, msvc_among, targets_of_both, wanted_of_both}
 use Rattle.implib_link.specs.Search.Closed.{listed_in, unresolved}
@@ -28,7 +28,7 @@ use Rattle.implib_link.specs.Search.Msvc.{AreTakenInTurn, NamesNoHeader, left_in
 use Rattle.implib_link.specs.Search.MsvcArchives.{first_null, is_import_wanted, is_short_alias, is_weak_in, short_inputs, weak_in}
 use Rattle.implib_link.specs.Search.MsvcClosed.{TakesIntoFor, wanted_for}
 use Rattle.implib_link.specs.Search.MsvcGiven.{headers_of, import_symbols_wanted, short_targets}
-use Rattle.implib_link.specs.Search.Search.{HaveSame, NamesNoHeadOrTail, is_wanted, undefined_in, left_as}
+use Rattle.implib_link.specs.Search.Search.{NamesNoHeadOrTail, is_wanted, undefined_in, left_as}
 use Rattle.implib_link.proofs.Flavors.Block.{asking, use_for}
 use Rattle.implib_link.proofs.Flavors.Expanded.{taken_descriptor, taken_null, taken_null_thunk}
 use Rattle.implib_link.proofs.Search.ArchiveGroups.{export_of, head_of, tail_of, weak_of as data_weak_of}

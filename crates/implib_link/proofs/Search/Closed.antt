@@ -24,21 +24,21 @@ use Rattle.implib.proofs.Link.LinkedInputs.{block_of, gnu_inputs_symbols}
 use Rattle.implib.proofs.Link.LinkedMembers.{among_contains, among_map}
 use Rattle.implib.proofs.Link.Placement.{export, head, tail}
 use Rattle.implib.proofs.Link.Ranges.{Among, all_among, among_back, among_flat, among_front, among_later}
-use Rattle.implib_link.specs.Gnu.Program.{ClaimsNone, IsProgram, LinksAmong, claimed_names, has_tables, linked_symbols, null_descriptor, thunks_before}
+use Rattle.implib_link.specs.Gnu.Program.{ClaimsNone, claimed_names, has_tables, linked_symbols, null_descriptor, thunks_before}
+use Rattle.implib_link.specs.Flavors.Program.{OfLinker, gnu_input, symbols_listed, LinksAmong, IsProgram}
 use Rattle.implib_link.specs.Search.Archives.{IsArchive, IsLibrary, Library, TakesOfLibraries, archive_of, exports_of, is_weak, others_among, weak_among}
 use Rattle.implib_link.specs.Search.Closed.{IsAliasTaken, IsClosed, IsImported, IsUsed, LinksClosed, claims_of, inputs_in, listed_in, references_of, unresolved, wanted_in, AreTakenIntoAs, PullsIntoAs, TakesIntoAs}
 use Rattle.implib_link.specs.Search.Search.{NamesNoHeadOrTail, Takes, exports_wanted, first_listed, is_listed_for, is_wanted, names_undefined, undefined_in, left_as, claimed_as, AreTakenInTurnAs, objects_as, PullsInAs, TakesAs}
 use Rattle.implib_link.proofs.Gnu.Claims.{claimed_export, claimed_head, claimed_tail}
-use Rattle.implib_link.proofs.Gnu.Loaded.{entry_once}
-use Rattle.implib_link.proofs.Gnu.Program.{program_links}
+use Rattle.implib_link.proofs.Flavors.Program.{program_links}
+use Rattle.implib_link.proofs.Flavors.GnuPrograms.{gnu_entry_of, gnu_made, gnu_members, gnu_objects}
 use Rattle.implib_link.proofs.Search.ArchiveGroups.{export_of, head_of, tail_of, weak_of}
 use Rattle.implib_link.proofs.Search.ArchiveMembers.{Found, FoundExport, FoundHead, FoundTail, FoundWeak, claimed_weak, export_found, export_object_is, found, head_found, head_object_is, tail_found, tail_object_is, weak_found, weak_is_weak, weak_object_is}
 use Rattle.implib_link.proofs.Search.Archives.{inputs_made, libraries_taken}
 use Rattle.implib_link.proofs.Search.Arranged.{all_each, among_moved, archive_moved, chosen_are, input_for, input_held, input_is, inputs_distinct, linked_moved}
 use Rattle.implib_link.proofs.Search.Lists.{among_any, among_at, among_either, among_flat_map, any_among, any_member, contains_among, listed_is, none_listed, name_as, as_name, NameAs}
 use Rattle.implib_link.proofs.Search.Search.{in_nothing, listed_export, listed_head, listed_tail, numbers_are_wanted, only_one, wanted_name, wants}
-use Rattle.implib.specs.LibraryName.{linked_name}
-use Rattle.implib.specs.LibraryName.{NamesOfDll, names_for}
+use Rattle.implib.specs.LibraryName.{linked_name, NamesOfDll, names_for}
 use Rattle.implib.specs.declared.flavor.Flavor.TheVariants.{Gnu}
 
 -- Lists.
@@ -328,14 +328,15 @@ module _ (machine : MachineType) (libraries : List Library) (archive : IsArchive
 
     program : IsProgram machine bases (inputs_in arranged own taken) objects
     program = record {
-      distinct = inputs_distinct machine arranged wanted arranged_archive;
-      tables = is.linked.tables;
-      others = others_claim_none;
+      held = gnu_objects machine inputs objects (inputs_distinct machine arranged wanted arranged_archive) is.linked.tables others_claim_none;
       admissible = is.linked.admissible;
+      lookups = tt;
+      addresses = tt;
+      follows = tt;
     }
 
     links : LinksAmong machine bases (inputs_in arranged own taken) objects
-    links = program_links machine bases inputs objects (inputs_made machine arranged wanted arranged_archive.made) program
+    links = program_links machine OfLinker bases (map gnu_input inputs) objects (gnu_made machine inputs (inputs_made machine arranged wanted arranged_archive.made)) program
 
     abbrev chosen_from : LinkInput → List ExportView
     chosen_from p = public_exports (renamed p.definition)
@@ -398,11 +399,7 @@ module _ (machine : MachineType) (libraries : List Library) (archive : IsArchive
     entry_at : (i j : ℕ) (p : LinkInput) (e : ExportView) → slice_get inputs i ≡ Some p → slice_get (chosen_exports p.definition p.chosen) j ≡ Some e →
         definitions_of (imp_symbol e.name) (placed_from bases objects)
         ≡ record { name = imp_symbol e.name; address = Some (bases.addresses + thunk_width machine * thunks_before i inputs + thunk_width machine * j) } ∷ []
-    entry_at i j p e at there =
-        let imports = links.imports i p at in
-        subst (λ n. definitions_of (imp_symbol e.name) (placed_from bases objects) ≡ record { name = imp_symbol e.name; address = Some (n + thunk_width machine * j) } ∷ [])
-        imports.table_located
-        (entry_once (placed_from bases objects) (thunk_width machine) imports.strictly.loads.plain.addresses (chosen_exports p.definition p.chosen) j e imports.strictly.entries there)
+    entry_at i j p e at there = gnu_entry_of machine bases inputs objects i j p e links at there
 
     abbrev ByName : ℕ → ℕ → List ℕ → ExportView → Type 0
     ByName i j name e =
@@ -444,7 +441,7 @@ module _ (machine : MachineType) (libraries : List Library) (archive : IsArchive
                   | inl bare ↦ inr (
                     only_one name e.name bare,
                     is_code,
-                    all_among (IsDefinedOnce (placed_from bases objects)) name (linked_symbols machine inputs) (export_linked p e name there chosen listed) links.listed,
+                    all_among (IsDefinedOnce (placed_from bases objects)) name (linked_symbols machine inputs) (export_linked p e name there chosen listed) (subst (λ ms. AllByRecursion (IsDefinedOnce (placed_from bases objects)) (symbols_listed ms)) (gnu_members machine inputs) links.listed),
                   )
                   | inr address ↦ entry (only_one name (imp_symbol e.name) address)
                 ]

@@ -1,5 +1,5 @@
 -- There is a closed program: packed placement of what a linker takes for given objects.
-use Rattle.std.proofs.Common.{◌≡◌, ℕ, ◌^◌, ◌<◌, ◌≤◌, true, false, List, [], ◌∷◌, ◌++◌, Option, Some, None, refl, ap, sym, ◌∙◌, subst, arith}
+use Rattle.std.proofs.Common.{◌≡◌, ℕ, ◌^◌, ◌<◌, ◌≤◌, true, false, List, [], ◌∷◌, ◌++◌, Option, Some, None, refl, ap, sym, ◌∙◌, subst, arith, map}
 use Rattle.std.specs.Prelude.{not}
 use Rattle.std.specs.List.{AllByRecursion, Contains, cons_option, filter}
 use Rattle.std.proofs.lemmas.Bool.{true≢false}
@@ -17,14 +17,17 @@ use Rattle.implib.specs.Members.WeakExternal.{weak_object}
 use Rattle.implib.proofs.Link.Placement.{at_least}
 use Rattle.implib.proofs.Link.Ranges.{Among, all_among, among_first, among_later}
 use Rattle.implib_link.specs.Gnu.Packed.{packed, packed_descriptors, packed_end}
-use Rattle.implib_link.specs.Gnu.Program.{has_tables, null_descriptor}
+use Rattle.implib_link.specs.Gnu.Program.{has_tables, null_descriptor, HaveSame}
 use Rattle.implib_link.specs.Search.Archives.{IsArchive, IsLibrary, Library, archive_of, inputs_wanted, is_weak, weak_among}
 use Rattle.implib_link.specs.Search.Closed.{AreLinkedFor, IsClosed, TakesInto, inputs_in, unresolved, wanted_in}
 use Rattle.implib_link.specs.Search.Exists.{AreChosenFor, HasClosed, LieWithin, objects_closed, tables_end}
 use Rattle.implib_link.specs.Search.Given.{AreGiven}
-use Rattle.implib_link.specs.Search.Search.{HaveSame, IsTakenInTurn}
+use Rattle.implib_link.specs.Search.Search.{IsTakenInTurn}
 use Rattle.implib_link.proofs.Gnu.Alone.{all_kept, members_have, none_left}
-use Rattle.implib_link.proofs.Gnu.Packed.{lies_within, packed_is_admissible, packed_sized}
+use Rattle.implib_link.specs.Flavors.Program.{OfLinker, gnu_input}
+use Rattle.implib_link.proofs.Flavors.GnuPrograms.{gnu_ended, gnu_made}
+use Rattle.implib_link.proofs.Flavors.Packed.{kept_sized, packed_admissible}
+use Rattle.implib_link.proofs.Gnu.Packed.{lies_within}
 use Rattle.implib_link.proofs.Search.ArchiveMembers.{Found, FoundExport, FoundHead, FoundTail, FoundWeak, export_not_weak, export_object_is, head_not_weak, head_object_is, tail_not_weak, tail_object_is, weak_object_is}
 use Rattle.implib_link.proofs.Search.Archives.{inputs_made}
 use Rattle.implib_link.proofs.Search.Arranged.{archive_moved}
@@ -62,14 +65,14 @@ module _ (machine : MachineType) (libraries : List Library) (own : List Object) 
     order = chosen.order;
     others = chosen.others;
     tables = chosen.tables;
-    admissible = packed_is_admissible machine first inputs objects made chosen.tables above below;
+    admissible = packed_admissible machine OfLinker first (map gnu_input inputs) objects (gnu_made machine inputs made) (gnu_ended machine inputs objects chosen.tables) above below;
   }
 
   pub packed_within : LieWithin first (tables_end first libraries) (image_of machine (packed first objects) (placed_from (packed first objects) objects))
   packed_within =
       within_by first (packed_descriptors first) (packed_end first objects) (tables_end first libraries) (image_of machine (packed first objects) (placed_from (packed first objects) objects))
       (at_least 8 first) near
-      (lies_within machine first objects (packed_sized machine inputs objects made chosen.tables) above below)
+      (lies_within machine first objects (kept_sized machine OfLinker (map gnu_input inputs) objects (gnu_made machine inputs made) (gnu_ended machine inputs objects chosen.tables)) above below)
 
 pub packed_closes : (machine : MachineType) (libraries : List Library) (own : List Object) (taken : List MemberView) (arranged : List Library) (first : ℕ) (objects : List Object) →
     IsArchive machine libraries → AreGiven machine libraries own → TakesInto (archive_of libraries) own taken → AreChosenFor machine libraries own taken arranged objects →

@@ -28,8 +28,7 @@ use Rattle.implib_link.proofs.Search.Closed.{claims_apart, claims_none, in_turn_
 use Rattle.implib_link.proofs.Search.Ends.{search_ends}
 use Rattle.implib_link.proofs.Search.Lists.{among_at, among_either, among_flat_map, contains_among, name_as}
 use Rattle.implib_link.proofs.Search.Search.{in_nothing, left_export, left_head, left_tail, listed_export, listed_head, listed_tail, only_one, wants}
-use Rattle.implib.specs.LibraryName.{linked_name}
-use Rattle.implib.specs.LibraryName.{NamesOfDll, names_for}
+use Rattle.implib.specs.LibraryName.{linked_name, NamesOfDll, names_for}
 use Rattle.implib.specs.declared.flavor.Flavor.TheVariants.{Gnu}
 
 -- a weak external leaves its target to others

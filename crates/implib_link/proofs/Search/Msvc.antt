@@ -24,8 +24,8 @@ use Rattle.implib.proofs.Link.Ranges.{Among, among_back, among_first, among_flat
 use Rattle.implib_link.specs.Flavors.Expansion.{Code, Constant, Data, Use, import_object, descriptor_symbol_by_name, expanded_in}
 use Rattle.implib_link.specs.Flavors.Program.{ask_in, specs_in}
 use Rattle.implib_link.specs.Search.Msvc.{AreTakenInTurn, PullsInFor, NamesNoHeader, TakesFor, claimed_in, is_short_wanted, left_in, msvc_if_any, numbers_passing, shorts_wanted}
-use Rattle.implib_link.specs.Gnu.Program.{claimed_names}
-use Rattle.implib_link.specs.Search.Search.{HaveSame, undefined_in, left_as, claimed_as, AreTakenInTurnAs}
+use Rattle.implib_link.specs.Gnu.Program.{claimed_names, HaveSame}
+use Rattle.implib_link.specs.Search.Search.{undefined_in, left_as, claimed_as, AreTakenInTurnAs}
 use Rattle.implib_link.specs.Flavors.SectionSymbols.{with_section_symbols}
 use Rattle.implib_link.proofs.Flavors.Block.{asking, use_for}
 use Rattle.implib_link.proofs.Flavors.Claims.{claims_asking, claims_descriptor, claims_null, claims_thunk}

@@ -19,8 +19,7 @@ use Rattle.implib_link.specs.Search.NamedApart.{AreNamedApart, begins_plain, nam
 use Rattle.implib_link.proofs.Search.Closed.{there_not}
 use Rattle.implib_link.proofs.Search.Counts.{distinct_from, few_from, times, times_both, times_moved}
 use Rattle.implib_link.proofs.Search.Lists.{among_either, among_mapped, distinct_join}
-use Rattle.implib.specs.LibraryName.{linked_name, names_for}
-use Rattle.implib.specs.LibraryName.{NamesOfDll}
+use Rattle.implib.specs.LibraryName.{linked_name, names_for, NamesOfDll}
 use Rattle.implib.specs.declared.flavor.Flavor.TheVariants.{Gnu}
 
 -- Symbols that differ by their first bytes.

@@ -19,7 +19,8 @@ use Rattle.implib.specs.Renaming.{renamed}
 use Rattle.implib.proofs.Link.LinkedMembers.{among_contains}
 use Rattle.implib.proofs.Link.Ranges.{Among, among_first, among_later}
 use Rattle.implib_link.specs.Search.Archives.{IsArchive, Library, NamesNoHeadOrTailOf, archive_of, inputs_wanted, is_weak, others_among, symbols_of_export, symbols_of_library, wanted_with, weak_among}
-use Rattle.implib_link.specs.Search.Search.{HaveSame, IsTakenInTurn, NamesNoHeadOrTail, Takes, exports_wanted, linked_if_any, left_as, AreTakenInTurnAs}
+use Rattle.implib_link.specs.Search.Search.{IsTakenInTurn, NamesNoHeadOrTail, Takes, exports_wanted, linked_if_any, left_as, AreTakenInTurnAs}
+use Rattle.implib_link.specs.Gnu.Program.{HaveSame}
 use Rattle.implib_link.proofs.Search.ArchiveMembers.{export_not_weak, export_object_is, head_not_weak, head_object_is, tail_not_weak, tail_object_is}
 use Rattle.implib_link.proofs.Search.Archives.{input_linked, libraries_taken}
 use Rattle.implib_link.proofs.Search.Search.{IsHead, IsTail, Kind, Needed, OfAnExport, kind, linked_if_needed, needed_if_linked, no_alias, numbers_are_wanted}

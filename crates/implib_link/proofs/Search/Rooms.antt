@@ -32,8 +32,7 @@ use Rattle.implib_link.proofs.Gnu.Blocks.{objects_behind}
 use Rattle.implib_link.proofs.Gnu.Packed.{end_kept}
 use Rattle.implib_link.proofs.Search.Archives.{inputs_made}
 use Rattle.implib_link.proofs.Search.Arranged.{chosen_are}
-use Rattle.implib.specs.LibraryName.{NamesOfDll}
-use Rattle.implib.specs.LibraryName.{names_for}
+use Rattle.implib.specs.LibraryName.{NamesOfDll, names_for}
 use Rattle.implib.specs.declared.flavor.Flavor.TheVariants.{Gnu}
 
 -- The room of a group in objects: for each section its bytes and its alignment.

@@ -18,7 +18,8 @@ use Rattle.implib.specs.Members.GnuMembers.{export_spec, head_spec, tail_spec}
 use Rattle.implib.specs.Renaming.{renamed}
 use Rattle.implib.proofs.Link.LinkedMembers.{among_contains, head_before_tail, head_first, tail_last}
 use Rattle.implib.proofs.Link.Ranges.{Among, among_first, among_later}
-use Rattle.implib_link.specs.Search.Search.{HaveSame, IsArranged, NamesNoHeadOrTail, Takes, exports_wanted}
+use Rattle.implib_link.specs.Search.Search.{IsArranged, NamesNoHeadOrTail, Takes, exports_wanted}
+use Rattle.implib_link.specs.Gnu.Program.{HaveSame}
 use Rattle.implib_link.proofs.Search.Lists.{all_listed, contains_among}
 use Rattle.implib_link.proofs.Search.Search.{AnExport, AnyWanted, Needed, TheHead, TheTail, numbers_are_wanted}
 use Rattle.implib_link.proofs.Search.One.{needed, taken_if_needed}

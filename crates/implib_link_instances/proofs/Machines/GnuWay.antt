@@ -33,7 +33,7 @@ use Rattle.implib_link.specs.Stub.{CanJump}
 use Rattle.implib_link_instances.specs.Worked.Calls.{calling_code, given_on}
 use Rattle.implib_link.proofs.Gnu.Choices.{found, found_in}
 use Rattle.implib_link.proofs.Gnu.LinkedCodes.{codes_can_be_linked}
-use Rattle.implib_link.proofs.Gnu.Packed.{packed_is_admissible}
+use Rattle.implib_link_instances.proofs.Worked.GnuPacked.{packed_is_admissible}
 use Rattle.implib_link.proofs.Search.Archives.{inputs_made}
 use Rattle.implib_link.proofs.Search.Closed.{claims_apart, takes_into}
 use Rattle.implib_link_instances.proofs.Worked.Calls.{wide}
