@@ -32,3 +32,4 @@ pub mod BothGiven
 pub mod BothRooms
 pub mod BothExists
 pub mod NoShorts
+pub mod Sweeps

@@ -35,7 +35,7 @@ use Rattle.implib.specs.declared.flavor.Flavor.TheVariants.{Gnu}
 
 -- Which entry an address is in.
 
-index_below : {X : Type 0} (xs : List X) (j : ℕ) (x : X) → slice_get xs j ≡ Some x → j < length xs
+pub index_below : {X : Type 0} (xs : List X) (j : ℕ) (x : X) → slice_get xs j ≡ Some x → j < length xs
 index_below [] j x is = cc
 index_below (y ∷ xs) zero x is = omega arith
 index_below (y ∷ xs) (suc j) x is = let later = index_below xs j x is in omega arith

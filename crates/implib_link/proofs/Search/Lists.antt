@@ -216,7 +216,7 @@ distinct_join (x ∷ first) later own behind apart =
     ] in
     (none_same x (first ++ later) none, distinct_join first later own.1 behind (λ name held. apart name (inr held)))
 
-pub among_flat_map : {X : Type 0} (f : X → List (List ℕ)) (name : List ℕ) (xs : List X) → Among name (flat_map f xs) → (x : X) × Among x xs × Among name (f x)
+pub among_flat_map : {X Y : Type 0} (f : X → List Y) (name : Y) (xs : List X) → Among name (flat_map f xs) → (x : X) × Among x xs × Among name (f x)
 unfolding Among
 among_flat_map f name [] held = absurd held
 among_flat_map f name (x ∷ xs) held =
