@@ -25,7 +25,7 @@ use Rattle.implib_link.proofs.Search.Ends.{search_ends}
 use Rattle.implib_link.proofs.Search.Archives.{libraries_taken}
 use Rattle.implib_link.proofs.Search.Closed.{closed_links}
 use Rattle.implib_link.proofs.Search.Given.{given_closes, given_ends}
-use Rattle.implib_link.proofs.Search.Msvc.{search_takes}
+use Rattle.implib_link.proofs.Search.MsvcOne.{search_takes}
 use Rattle.implib_link.proofs.Search.One.{takes_wanted}
 use Rattle.implib.specs.LibraryName.{linked_dll, linked_name}
 

@@ -49,7 +49,7 @@ use Rattle.implib_link.proofs.Flavors.Inputs.{descriptor_at, export_fits, null_a
 use Rattle.implib_link.proofs.Flavors.LldPrograms.{lld_calls, lld_count, lld_leads}
 use Rattle.implib_link.proofs.Search.ArchiveGroups.{first_is}
 use Rattle.implib_link.proofs.Search.Lists.{any_among, any_member, contains_among, none_listed, name_as}
-use Rattle.implib_link.proofs.Search.Msvc.{among_passing, passing_among}
+use Rattle.implib_link.proofs.Search.Closed.{passes, passing}
 use Rattle.implib_link.proofs.Search.MsvcArchives.{made_of}
 use Rattle.implib_link.proofs.Search.MsvcMembers.{Found, FoundDescriptor, FoundNull, FoundShort, FoundThunk, FoundWeak, claims_weak, descriptor_found, descriptor_is, descriptor_of, found, null_found, null_is, null_of, pair_there, short_found, short_is, short_of, taken_weak, thunk_found, thunk_is, thunk_of, weak_found, weak_is, weak_of}
 use Rattle.implib_link.proofs.Search.Search.{only_one}
@@ -176,7 +176,7 @@ module _ (machine : MachineType) (libraries : List Library) (archive : IsMsvcArc
       let held : Among l libraries = contains_among l libraries wanted.library in
       let there : Among e (exports_of l) = contains_among e (exports_of l) wanted.export in
       let is : first_listed (archive_of libraries) name ≡ Some m = short_found machine libraries archive l e name held there wanted.plain (contains_among name (short_import_symbols e) wanted.listed) in
-      let parts = passing_among (λ n. not (list_any (bytes_eq n) (claims_of own))) name (references_of own) (contains_among name (unresolved own) wanted.left) in
+      let parts = passing (λ n. not (list_any (bytes_eq n) (claims_of own))) name (references_of own) (contains_among name (unresolved own) wanted.left) in
       elim (cases_Bool (list_any (is_listed_for name) taken)) [
         | inl some ↦
             let t = any_member name taken some in
@@ -411,7 +411,7 @@ module _ (machine : MachineType) (libraries : List Library) (archive : IsMsvcArc
           Contains (filter is_live (shorts_in machine taken)) (short_of_export machine l e)
       live_taken is_live l e wanted live =
           among_contains (short_of_export machine l e) (filter is_live (shorts_in machine taken))
-          (among_passing is_live (short_of_export machine l e) (shorts_in machine taken) (contains_among (short_of_export machine l e) (shorts_in machine taken) (short_taken l e wanted)) live)
+          (passes is_live (short_of_export machine l e) (shorts_in machine taken) (contains_among (short_of_export machine l e) (shorts_in machine taken) (short_taken l e wanted)) live)
 
 pub bytes_lead_to_lld_calls : (kind : Kind) (linker : LinkerMember) (machine : MachineType) (libraries : List Library) (own : List Object) → HaveArchive kind linker (archive_of libraries) → IsMsvcArchive machine libraries → AreCalledAlike libraries →
     TakesJust kind linker (archive_of libraries) (asks_of_lld machine own) (LldArrives machine libraries own)

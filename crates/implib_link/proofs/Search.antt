@@ -26,6 +26,7 @@ pub mod MsvcExists
 pub mod NamedApart
 pub mod BothMembers
 pub mod BothArchives
+pub mod MsvcOne
 pub mod BothArranged
 pub mod BothClosed
 pub mod BothGiven
