@@ -45,11 +45,12 @@ use Rattle.implib_link.specs.Search.Search.{first_listed, is_listed_for}
 use Rattle.implib_link.proofs.Flavors.Claims.{claims_asking, claims_descriptor, claims_null, claims_thunk}
 use Rattle.implib_link.proofs.Flavors.Block.{FitsIn, asking}
 use Rattle.implib_link.proofs.Flavors.Expanded.{AskFits, taken_descriptor, taken_null, taken_null_thunk}
-use Rattle.implib_link.proofs.Flavors.Inputs.{descriptor_at, export_fits, null_at, read_of, short_at, thunk_at}
+use Rattle.implib_link.proofs.Flavors.Inputs.{descriptor_at, export_fits, null_at, read_of, short_at, thunk_at, same_machine as own_machine}
 use Rattle.implib_link.proofs.Flavors.LldPrograms.{lld_calls, lld_count, lld_leads}
 use Rattle.implib_link.proofs.Search.ArchiveGroups.{first_is}
 use Rattle.implib_link.proofs.Search.Lists.{any_among, any_member, contains_among, none_listed, name_as}
-use Rattle.implib_link.proofs.Search.Closed.{passes, passing}
+use Rattle.implib_link.proofs.Search.Lists.{passes}
+use Rattle.implib_link.proofs.Search.Lists.{passing}
 use Rattle.implib_link.proofs.Search.MsvcArchives.{made_of}
 use Rattle.implib_link.proofs.Search.MsvcMembers.{Found, FoundDescriptor, FoundNull, FoundShort, FoundThunk, FoundWeak, claims_weak, descriptor_found, descriptor_is, descriptor_of, found, null_found, null_is, null_of, pair_there, short_found, short_is, short_of, taken_weak, thunk_found, thunk_is, thunk_of, weak_found, weak_is, weak_of}
 use Rattle.implib_link.proofs.Search.Search.{only_one}
@@ -58,12 +59,6 @@ use Rattle.implib_link.proofs.TablesOfPrograms.{lld_tables}
 use Rattle.implib_link.specs.Tables.{tables_of_lld}
 
 -- The short import of an export, read in its member's bytes.
-
-own_machine : (machine : MachineType) → (machine_number machine == machine_number machine) ≡ true
-own_machine I386 = refl
-own_machine ARMNT = refl
-own_machine AMD64 = refl
-own_machine ARM64 = refl
 
 is_for : (machine : MachineType) (l : Library) (e : ExportView) → is_import_for machine (short_of_export machine l e) ≡ true
 is_for machine l e =

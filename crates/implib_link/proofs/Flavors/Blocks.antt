@@ -22,10 +22,11 @@ use Rattle.implib.proofs.Link.Ranges.{Among, among_back, among_front}
 use Rattle.implib_link.specs.Directory.{DirectoryAt, Imported}
 use Rattle.implib_link.specs.Flavors.Program.{Ending, IsFoundByName, OfLinker, OfMember, ask_in}
 use Rattle.implib_link.specs.Gnu.Program.{null_descriptor}
-use Rattle.implib_link.proofs.Gnu.Blocks.{addresses_after, descriptors_after, table_sum}
+use Rattle.implib_link.proofs.Gnu.Blocks.{addresses_after, descriptors_after, table_sum, plus_twice}
 use Rattle.implib_link.proofs.Flavors.Block.{AreEven, FitsIn, NullDefined, OneLinks, Suits, definitions-in, definitions_in, ends_in, ends_of_askings, even_in, names-in, objects_of, one_links, symbols_of}
 use Rattle.implib_link.proofs.Flavors.Expanded.{ends_of_asking, ends_of_descriptor}
 use Rattle.implib.specs.LibraryName.{NamesOfDll}
+use Rattle.implib_link.proofs.Gnu.Loaded.{times_none as plus_zero}
 
 -- what a DLL's objects are made of
 pub record FlavorBlock : Type 0 where
@@ -102,9 +103,6 @@ pub descriptors_one : (machine : MachineType) (flavor : Flavor) (dll : NamesOfDl
 descriptors_one machine Msvc dll b es = askings_descriptors machine (ends_of_descriptor dll b) es
 descriptors_one machine Gnu dll b es = descriptors_after machine dll b es
 
-plus_twice : (a w m : ℕ) → a + w + m ≡ a + (m + w)
-plus_twice a w m = omega arith
-
 askings_addresses : (machine : MachineType) (b : Bases) (es : List ExportView) → (ends_of_askings machine b es).addresses ≡ b.addresses + thunk_width machine * (length es + 1)
 unfolding ends_of_askings
 askings_addresses machine b [] = omega arith
@@ -156,11 +154,8 @@ module _ (machine : MachineType) (ending : Ending) (linked : List Placed) (image
         located = others.located;
       }
 
-plus_sum : (a n : ℕ) → a + 20 + 20 * n ≡ a + 20 * suc n
+pub plus_sum : (a n : ℕ) → a + 20 + 20 * n ≡ a + 20 * suc n
 plus_sum a n = omega arith
-
-plus_zero : (a w : ℕ) → a ≡ a + w * 0
-plus_zero a w = omega arith
 
 -- the thunks of the first few blocks, with the null thunks that end them
 abbrev pub thunks_in : ℕ → List FlavorBlock → ℕ

@@ -49,7 +49,7 @@ use Rattle.implib.specs.LibraryName.{NamesOfDll, linked_dll, names_for}
 
 -- Short imports.
 
-same_machine : (machine : MachineType) → (machine_number machine == machine_number machine) ≡ true
+pub same_machine : (machine : MachineType) → (machine_number machine == machine_number machine) ≡ true
 same_machine I386 = refl
 same_machine ARMNT = refl
 same_machine AMD64 = refl

@@ -21,8 +21,7 @@ use Rattle.implib_link.proofs.Flavors.Blocks.{rest_of}
 use Rattle.implib_link.proofs.Flavors.Stubs.{all_placed, code_in, name_once, placed_in}
 use Rattle.implib_link.proofs.Gnu.Definers.{one_definer}
 use Rattle.implib_link.proofs.Gnu.PlacedStubs.{found_entry, same_section, symbol_of_entry}
-use Rattle.implib_link.proofs.Gnu.Stubs.{among_filter}
-use Rattle.implib_link.proofs.Search.Lists.{contains_among}
+use Rattle.implib_link.proofs.Search.Lists.{among_filter, contains_among}
 
 pub stub_at : (machine : MachineType) (ending : Ending) (bases : Bases) (inputs : List FlavorInput) (objects : List Object) (i j : ℕ) (p : FlavorInput) (e : ExportView) (d : PlacedCode) (t : ObjectSymbol) →
     AllByRecursion (IsMadeFor machine) inputs → IsProgramOf machine ending bases inputs objects → slice_get inputs i ≡ Some p → slice_get (exports_chosen p) j ≡ Some e → IsCode p.flavor e →

@@ -34,7 +34,7 @@ use Rattle.implib_link.specs.Gnu.Packed.{group_end, sections_end}
 use Rattle.implib_link.specs.Gnu.Program.{claimed_names, has_tables, names_claimed_in, null_descriptor, with_tables, HaveSame}
 use Rattle.implib_link.specs.Flavors.SectionSymbols.{with_section_symbols}
 use Rattle.implib_link.proofs.Flavors.Block.{AreEven, NullDefined, OneLinks, behind_descriptor, objects_of, use_for}
-use Rattle.implib_link.proofs.Flavors.Blocks.{AllSuit, EachIn, even_all, rest_of, FlavorBlock, all_objects, definitions-all, definitions_all, descriptors_all, directory_in, each_in, ends_all, imported_of, names-all, nth_in, thunks_in}
+use Rattle.implib_link.proofs.Flavors.Blocks.{AllSuit, EachIn, even_all, rest_of, FlavorBlock, all_objects, definitions-all, definitions_all, descriptors_all, directory_in, each_in, ends_all, imported_of, names-all, nth_in, thunks_in, plus_sum}
 use Rattle.implib_link.proofs.Gnu.Claims.{claimed_placed}
 use Rattle.implib_link.proofs.Flavors.Claims.{all_claim_listed, claimed_with_null}
 use Rattle.implib_link.proofs.Flavors.Inputs.{block_in, inputs_link, inputs_objects, inputs_plainly, inputs_symbols, inputs_taken, null_object, objects_with_null}
@@ -101,9 +101,6 @@ one_end machine Msvc dll es rest n even =
 one_end machine Gnu dll es rest n even =
     ap (λ m. group_end Descriptors (m + 20) (map (export machine dll) es ++ tail machine dll ∷ rest)) (aligned n even) ∙ exports_keep machine dll es rest (n + 20)
 
-plus_sum : (a n : ℕ) → a + 20 + 20 * n ≡ a + 20 * suc n
-plus_sum a n = omega arith
-
 later_even : (n : ℕ) → n % 4 ≡ 0 → (n + 20) % 4 ≡ 0
 later_even n even = omega arith
 
@@ -123,7 +120,7 @@ thunks_are zero ps = refl
 thunks_are (suc i) [] = refl
 thunks_are (suc i) (p ∷ ps) = ap (λ n. length (exports_chosen p) + 1 + n) (thunks_are i ps)
 
-imported_are : (machine : MachineType) (ps : List FlavorInput) → map (imported_of machine) (map block_in ps) ≡ map (imported_in machine) ps
+pub imported_are : (machine : MachineType) (ps : List FlavorInput) → map (imported_of machine) (map block_in ps) ≡ map (imported_in machine) ps
 imported_are machine [] = refl
 imported_are machine (p ∷ ps) = ap (λ is. imported_in machine p ∷ is) (imported_are machine ps)
 

@@ -34,8 +34,8 @@ use Rattle.implib_link.proofs.Flavors.Blocks.{AllSuit, FlavorBlock, addresses_on
 use Rattle.implib_link.proofs.Flavors.Inputs.{block_in, inputs_symbols}
 use Rattle.implib_link.proofs.Flavors.Program.{even, placed_among, program_links, suit, thunks_are}
 use Rattle.implib_link.proofs.Gnu.Loaded.{times_next, times_none}
-use Rattle.implib_link.proofs.Search.Lists.{among_at, flat_map_among}
-use Rattle.implib_link.proofs.Gnu.Stubs.{among_filter, behind_exports, code_bytes, code_defined, code_here, code_relocations, export_placed, first_sum, jump_by, later_sum, target_is, thunk_below, wide_thunk}
+use Rattle.implib_link.proofs.Search.Lists.{among_at, flat_map_among, among_filter}
+use Rattle.implib_link.proofs.Gnu.Stubs.{behind_exports, code_bytes, code_defined, code_here, code_relocations, export_placed, first_sum, jump_by, later_sum, target_is, thunk_below, wide_thunk}
 use Rattle.implib_link.proofs.Flavors.Expanded.{AreWide, ends_of_asking, ends_of_descriptor, placed-asking, placed-descriptor, placed-null_thunk, placed_asking, wide_asking, wide_descriptor}
 use Rattle.implib.specs.LibraryName.{NamesOfDll}
 

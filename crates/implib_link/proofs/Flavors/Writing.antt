@@ -18,9 +18,9 @@ use Rattle.implib_link.specs.Gnu.Moves.{AreInMemory}
 use Rattle.implib_link.specs.Gnu.Reading.{ReadsAndWrites}
 use Rattle.implib_link.specs.Gnu.Writing.{AreAlike, WritesAsItGoes}
 use Rattle.implib_link.proofs.Flavors.Beside.{all_beside, all_long}
-use Rattle.implib_link.proofs.Flavors.Blocks.{FlavorBlock, all_objects, imported_of, rest_of, thunks_in}
+use Rattle.implib_link.proofs.Flavors.Blocks.{FlavorBlock, all_objects, rest_of, thunks_in}
 use Rattle.implib_link.proofs.Flavors.Inputs.{block_in, inputs_link}
-use Rattle.implib_link.proofs.Flavors.Program.{definitions_are, each, even, null_there, only, program_links, stand, suit, thunks_are}
+use Rattle.implib_link.proofs.Flavors.Program.{definitions_are, each, even, null_there, only, program_links, stand, suit, thunks_are, imported_are as imports_same}
 use Rattle.implib_link.proofs.Flavors.Steady.{program_tables_none}
 use Rattle.implib_link.proofs.Gnu.Apart.{beside_of, descriptors_beside, directory_ends_beside, dll_names_beside, ends_beside, hint_names_beside, lookups_beside, starts_beside}
 use Rattle.implib_link.proofs.Gnu.Beside.{LocatedBeside}
@@ -36,10 +36,6 @@ thunks_same machine (suc i) [] = refl
 thunks_same machine (suc i) (p ∷ inputs) =
     ap (λ n. n + 1 + thunks_asked i (map (imported_in machine) inputs)) (length-map (exports_chosen p) (ask_in p.flavor machine))
     ∙ ap (λ n. length (exports_chosen p) + 1 + n) (thunks_same machine i inputs)
-
-imports_same : (machine : MachineType) (inputs : List FlavorInput) → map (imported_of machine) (map block_in inputs) ≡ map (imported_in machine) inputs
-imports_same machine [] = refl
-imports_same machine (p ∷ inputs) = ap (λ is. imported_in machine p ∷ is) (imports_same machine inputs)
 
 module _ (machine : MachineType) (ending : Ending) (b : Bases) (inputs : List FlavorInput) (objects : List Object) (made : AllByRecursion (IsMadeFor machine) inputs) (program : IsProgramOf machine ending b inputs objects) where
   abbrev linked : List Placed

@@ -1,7 +1,7 @@
 -- Where the descriptors and the address tables of blocks are, and the null descriptor after them.
 use Rattle.std.proofs.Common.{◌≡◌, ℕ, zero, suc, ◌+◌, ◌*◌, ◌-◌, List, [], ◌∷◌, ◌++◌, length, map, Some, refl, ap, sym, ◌∙◌, subst, arith}
 use Rattle.std.specs.Prelude.{slice_get}
-use Rattle.std.proofs.Math.Nat.{mul-add, mul-suc, mul-zero}
+use Rattle.std.proofs.Math.Nat.{mul-add, mul-suc}
 use Rattle.std.proofs.lemmas.List.{append_assoc}
 use Rattle.implib.specs.declared.machine.MachineType.{MachineType}
 use Rattle.implib.specs.Definition.{ExportView}
@@ -18,6 +18,7 @@ use Rattle.implib.proofs.Link.Placement.{AreAligned, aligned, descriptors_end, e
 use Rattle.implib_link.specs.Gnu.Program.{null_descriptor, thunks_before}
 use Rattle.implib.specs.LibraryName.{NamesOfDll, names_for}
 use Rattle.implib.specs.declared.flavor.Flavor.TheVariants.{Gnu}
+use Rattle.implib_link.proofs.Gnu.Loaded.{times_none as plus_zero}
 
 -- objects after blocks
 pub objects_behind : (machine : MachineType) (blocks : List Block) (rest : List Object) →
@@ -33,7 +34,7 @@ pub descriptors_after : (machine : MachineType) (dll : NamesOfDll) (b : Bases) (
     b.descriptors + 20 ≡ (ends_of_block machine dll b es).descriptors
 descriptors_after machine dll b es = descriptors_end machine dll (ends_of_head machine dll b) es
 
-plus_twice : (a w m : ℕ) → a + w + m ≡ a + (m + w)
+pub plus_twice : (a w m : ℕ) → a + w + m ≡ a + (m + w)
 plus_twice a w m = omega arith
 
 -- the address tables' end after a block's thunks and its null thunk
@@ -69,9 +70,6 @@ plus_sum a n m = omega arith
 
 pub table_sum : (a w n m : ℕ) → a + w * n + w * m ≡ a + w * (n + m)
 table_sum a w n m = let split : w * (n + m) ≡ w * n + w * m = mul-add w n m in omega arith
-
-plus_zero : (a w : ℕ) → a ≡ a + w * 0
-plus_zero a w = let none : w * 0 ≡ 0 = mul-zero w in omega arith
 
 -- what is known of the i-th block
 pub nth_block : (machine : MachineType) (linked : List Placed) (image : List Range) (inputs : List LinkInput) (b : Bases) →

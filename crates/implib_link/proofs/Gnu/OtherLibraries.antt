@@ -38,6 +38,7 @@ use Rattle.implib_link.proofs.Gnu.Sized.{IsSized, exports_sized, head_sized, tai
 use Rattle.implib_link.proofs.Gnu.Whole.{whole_ends}
 use Rattle.implib.specs.LibraryName.{NamesOfDll, names_for}
 use Rattle.implib.specs.declared.flavor.Flavor.TheVariants.{Gnu}
+use Rattle.implib_link.proofs.Flavors.Blocks.{plus_sum as plus_row}
 
 -- Lists in two parts.
 
@@ -81,9 +82,6 @@ own_sized : (machine : MachineType) (blocks : List Block) → AllByRecursion IsS
 own_sized machine [] = tt
 own_sized machine (k ∷ blocks) =
     (head_sized machine k.dll, exports_sized machine k.dll k.exports _ (tail_sized machine k.dll, own_sized machine blocks))
-
-plus_row : (a n : ℕ) → a + 20 + 20 * n ≡ a + 20 * suc n
-plus_row a n = omega arith
 
 own_descriptors : (machine : MachineType) (b : Bases) (inputs : List LinkInput) → (ends_of_blocks machine b (map block_of inputs)).descriptors ≡ b.descriptors + 20 * length inputs
 unfolding ends_of_blocks

@@ -1,8 +1,7 @@
 -- Stubs jump through their own entries.
-use Rattle.std.proofs.Common.{◌≡◌, ℕ, zero, suc, ◌+◌, ◌*◌, ◌%◌, ◌^◌, ◌<◌, ◌≤◌, Bool, false, List, [], ◌∷◌, length, Some, refl, ap, sym, ◌∙◌, subst, inl, inr, arith}
+use Rattle.std.proofs.Common.{◌≡◌, ℕ, zero, suc, ◌+◌, ◌*◌, ◌%◌, ◌^◌, ◌<◌, ◌≤◌, false, List, [], ◌∷◌, length, Some, refl, ap, sym, ◌∙◌, subst, arith}
 use Rattle.std.specs.Prelude.{slice_get}
-use Rattle.std.specs.List.{AllByRecursion, filter}
-use Rattle.std.proofs.lemmas.Bool.{cases_Bool}
+use Rattle.std.specs.List.{AllByRecursion}
 use Rattle.implib.specs.declared.machine.MachineType.{MachineType}
 use Rattle.implib.specs.declared.machine.MachineType.TheVariants.{I386, ARMNT, AMD64, ARM64}
 use Rattle.implib.specs.Formats.Constants.{align_4bytes, cnt_code, mem_execute_read, class_external}
@@ -64,20 +63,6 @@ first_sum c a w m is = is ∙ ap (λ k. k + w * m) (times_none a w)
 
 pub later_sum : (c a b w m : ℕ) → c ≡ a + w * m → a ≡ b → c ≡ b + w * m
 later_sum c a b w m is same = is ∙ ap (λ n. n + w * m) same
-
-among_kept : {X : Type 0} (test : X → Bool) (x y : X) (xs : List X) → Among x (y ∷ filter test xs) → (Among x (filter test xs) → Among x xs) → Among x (y ∷ xs)
-unfolding Among
-among_kept test x y xs (inl e) later = inl e
-among_kept test x y xs (inr m) later = inr (later m)
-
-pub among_filter : {X : Type 0} (test : X → Bool) (x : X) (xs : List X) → Among x (filter test xs) → Among x xs
-unfolding Among
-among_filter test x [] m = m
-among_filter test x (y ∷ xs) m =
-    elim (cases_Bool (test y)) [
-      | inl is ↦ among_kept test x y xs (rw is at m) (among_filter test x xs)
-      | inr is ↦ inr (among_filter test x xs (rw is at m))
-    ]
 
 -- Entries are below 2^31.
 

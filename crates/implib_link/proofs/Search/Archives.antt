@@ -1,7 +1,7 @@
 -- What a linker takes of an archive of libraries.
 use Rattle.std.proofs.Common.{◌≡◌, ℕ, Bool, true, false, List, [], ◌∷◌, ◌++◌, Some, refl, ap, sym, ◌∙◌, subst, inl, inr, map}
 use Rattle.std.specs.Prelude.{bytes_eq, not, slice_get}
-use Rattle.std.specs.List.{AllByRecursion, cons_option, filter, flat_map, list_any}
+use Rattle.std.specs.List.{AllByRecursion, cons_option, flat_map, list_any}
 use Rattle.std.proofs.lemmas.Bool.{cases_Bool, false_from_ne_true, true≢false}
 use Rattle.implib.specs.declared.machine.MachineType.{MachineType}
 use Rattle.implib.specs.Definition.{ExportView}
@@ -26,42 +26,15 @@ use Rattle.implib_link.proofs.Gnu.Claims.{claimed_export, claimed_head, claimed_
 use Rattle.implib_link.proofs.Flavors.Program.{program_links}
 use Rattle.implib_link.proofs.Flavors.GnuPrograms.{gnu_made}
 use Rattle.implib_link.proofs.Search.Search.{AnExport, AnyWanted, Needed, TheHead, TheTail, any_wanted, in_nothing, left_export, left_head, left_tail, linked_if_needed, listed_export, listed_head, listed_tail, needed_if_linked, numbers_are_wanted, only_one, wanted_name, wants}
-use Rattle.implib_link.proofs.Search.Lists.{among_any, among_at, among_either, any_among, any_member, contains_among, none_listed, name_as, as_name}
+use Rattle.implib_link.proofs.Search.Lists.{among_any, among_at, among_either, any_among, any_member, contains_among, none_listed, name_as, as_name, passes as among_kept, passing as kept_among, to_not as not_true}
 use Rattle.implib.specs.LibraryName.{linked_name, names_for}
 use Rattle.implib.specs.declared.flavor.Flavor.TheVariants.{Gnu}
 
 -- Lists that a test divides.
 
-kept_among : {X : Type 0} (test : X → Bool) (x : X) (xs : List X) → Among x (filter test xs) → Among x xs × (test x ≡ true)
-unfolding Among
-kept_among test x [] held = absurd held
-kept_among test x (y ∷ xs) held =
-    elim (cases_Bool (test y)) [
-      | inl is ↦
-          let either : Among x (y ∷ filter test xs) = rw is at held in
-          elim either [
-            | inl e ↦ (inl e, subst (λ z. test z ≡ true) (sym e) is)
-            | inr behind ↦ let later = kept_among test x xs behind in (inr later.0, later.1)
-          ]
-      | inr none ↦ let later = kept_among test x xs (rw none at held) in (inr later.0, later.1)
-    ]
-
-among_kept : {X : Type 0} (test : X → Bool) (x : X) (xs : List X) → Among x xs → test x ≡ true → Among x (filter test xs)
-unfolding Among
-among_kept test x [] held is = absurd held
-among_kept test x (y ∷ xs) (inl e) is = rw (subst (λ z. test z ≡ true) e is) (inl e)
-among_kept test x (y ∷ xs) (inr held) is =
-    elim (cases_Bool (test y)) [
-      | inl own ↦ rw own (inr (among_kept test x xs held is))
-      | inr none ↦ rw none (among_kept test x xs held is)
-    ]
-
-all_from : {X : Type 0} (P : X → Type 0) (xs : List X) → ((x : X) → Among x xs → P x) → AllByRecursion P xs
+pub all_from : {X : Type 0} (P : X → Type 0) (xs : List X) → ((x : X) → Among x xs → P x) → AllByRecursion P xs
 all_from P [] each = tt
 all_from P (x ∷ xs) each = (each x (among_first x xs), all_from P xs (λ y held. each y (among_later y x xs held)))
-
-not_true : (b : Bool) → b ≡ false → not b ≡ true
-not_true b is = rw is refl
 
 -- What is linked of libraries.
 

@@ -29,11 +29,10 @@ use Rattle.implib_link.proofs.Flavors.Block.{asking, use_for}
 use Rattle.implib_link.proofs.Flavors.Expanded.{taken_descriptor, taken_null, taken_null_thunk}
 use Rattle.implib_link.proofs.Search.ArchiveGroups.{export_of, first_is, head_of, tail_of, weak_of as data_weak_of}
 use Rattle.implib_link.proofs.Search.ArchiveMembers.{FoundExport, FoundHead, FoundTail, FoundWeak as FoundDataWeak, export_entries, export_found, head_found, tail_found}
-use Rattle.implib_link.proofs.Search.Archives.{linked_of as data_linked_of, of_linked as of_data_linked}
-use Rattle.implib_link.proofs.Search.Arranged.{all_each}
+use Rattle.implib_link.proofs.Search.Archives.{linked_of as data_linked_of, of_linked as of_data_linked, all_from as all_each}
 use Rattle.implib_link.proofs.Search.BothMembers.{FoundInBoth, IsFirst, first_held, found_in_both, found_is_first, gnu_export_is, gnu_head_is, gnu_in_both, gnu_made, gnu_tail_is, gnu_weak_is, msvc_in_both, msvc_made}
-use Rattle.implib_link.proofs.Search.Closed.{from_not, passes, passing, there_not, to_not, pulled}
-use Rattle.implib_link.proofs.Search.Lists.{among_at, among_either, any_among, any_member, contains_among, none_listed, name_as, as_name}
+use Rattle.implib_link.proofs.Search.Closed.{there_not, pulled}
+use Rattle.implib_link.proofs.Search.Lists.{to_not, from_not, passes, passing, among_at, among_either, any_among, any_member, contains_among, none_listed, name_as, as_name}
 use Rattle.implib_link.proofs.Search.Msvc.{left_asking, left_descriptor, left_null, left_thunk}
 use Rattle.implib_link.proofs.Search.MsvcArchives.{AShort, AnyImport, Linked, TheDescriptor, TheThunk, any_of, both_parts, descriptor_plain, import_parts, linked_of, linked_there, member_with, null_or_member, null_plain, null_with, of_linked, short_plain, there_linked, thunk_plain, weak_by, weak_is_weak}
 use Rattle.implib_link.proofs.Search.MsvcMembers.{FoundDescriptor, FoundNull, FoundShort, FoundThunk, FoundWeak as FoundShortWeak, IsPair, descriptor_found, descriptor_is, descriptor_of, null_found, null_is, null_of, short_found, short_is, short_of, taken_weak, thunk_found, thunk_is, thunk_of, weak_is, weak_of as short_weak_of}

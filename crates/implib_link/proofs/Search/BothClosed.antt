@@ -41,13 +41,13 @@ use Rattle.implib_link.proofs.Flavors.Program.{program_links}
 use Rattle.implib_link.specs.Gnu.Packed.{packed, packed_end}
 use Rattle.implib_link.proofs.Search.ArchiveGroups.{export_of, weak_of as data_weak_of}
 use Rattle.implib_link.proofs.Search.ArchiveMembers.{FoundExport, FoundHead, FoundTail, FoundWeak as FoundDataWeak}
-use Rattle.implib_link.proofs.Search.Archives.{linked_of as data_linked_of, of_linked as of_data_linked}
-use Rattle.implib_link.proofs.Search.Arranged.{all_each, chosen_are, input_for, input_held, input_is}
+use Rattle.implib_link.proofs.Search.Archives.{linked_of as data_linked_of, of_linked as of_data_linked, all_from as all_each}
+use Rattle.implib_link.proofs.Search.Arranged.{chosen_are, input_for, input_held, input_is}
 use Rattle.implib_link.proofs.Search.BothArchives.{both_taken, data_alias_weak, plain_gnu, plain_short, short_alias_weak}
 use Rattle.implib_link.proofs.Search.BothArranged.{both_distinct, both_found, both_made, exports_join, gnu_joins, gnu_moved, members_of_each, msvc_moved, of_each, short_joins, shorts_join}
 use Rattle.implib_link.proofs.Search.BothMembers.{FoundInBoth, IsFirst, first_held, found_in_both, found_is_first}
-use Rattle.implib_link.proofs.Search.Closed.{at_index, claims_apart, claims_none, from_not, not_there, passes, passing, there_not, to_not, unresolved_from, unresolved_parts, pulled, takes_for}
-use Rattle.implib_link.proofs.Search.Lists.{among_any, among_at, among_either, among_flat_map, any_member, contains_among, listed_is, none_listed, name_as, as_name}
+use Rattle.implib_link.proofs.Search.Closed.{at_index, claims_apart, claims_none, not_there, there_not, unresolved_from, unresolved_parts, pulled, takes_for}
+use Rattle.implib_link.proofs.Search.Lists.{to_not, from_not, passes, passing, among_any, among_at, among_either, among_flat_map, any_member, contains_among, listed_is, none_listed, name_as, as_name}
 use Rattle.implib_link.proofs.Search.MsvcArchives.{AShort, AnyImport, TheDescriptor, both_parts, import_parts, imports_are, linked_of, linked_there, member_with, null_or_member, null_with, of_linked}
 use Rattle.implib_link.proofs.Search.MsvcArranged.{short_input_for, short_input_held, short_input_is}
 use Rattle.implib_link.proofs.Search.MsvcClosed.{by_symbol, first_one, null_tables}

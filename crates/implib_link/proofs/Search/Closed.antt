@@ -1,5 +1,5 @@
 -- A closed program links.
-use Rattle.std.proofs.Common.{◌≡◌, ℕ, suc, ◌+◌, ◌*◌, ◌⊎◌, Bool, true, false, List, [], ◌∷◌, ◌++◌, map, Option, Some, refl, ap, sym, ◌∙◌, subst, inl, inr}
+use Rattle.std.proofs.Common.{◌≡◌, ℕ, suc, ◌+◌, ◌*◌, ◌⊎◌, true, false, List, [], ◌∷◌, ◌++◌, map, Option, Some, refl, ap, sym, ◌∙◌, subst, inl, inr}
 use Rattle.std.specs.Prelude.{bytes_eq, not, slice_get}
 use Rattle.std.specs.List.{AllByRecursion, Contains, filter, flat_map, list_any}
 use Rattle.std.proofs.lemmas.Bool.{cases_Bool, false_from_ne_true, true≢false}
@@ -34,46 +34,14 @@ use Rattle.implib_link.proofs.Flavors.Program.{program_links}
 use Rattle.implib_link.proofs.Flavors.GnuPrograms.{gnu_entry_of, gnu_made, gnu_members, gnu_objects}
 use Rattle.implib_link.proofs.Search.ArchiveGroups.{export_of, head_of, tail_of, weak_of}
 use Rattle.implib_link.proofs.Search.ArchiveMembers.{Found, FoundExport, FoundHead, FoundTail, FoundWeak, claimed_weak, export_found, export_object_is, found, head_found, head_object_is, tail_found, tail_object_is, weak_found, weak_is_weak, weak_object_is}
-use Rattle.implib_link.proofs.Search.Archives.{inputs_made, libraries_taken}
-use Rattle.implib_link.proofs.Search.Arranged.{all_each, among_moved, archive_moved, chosen_are, input_for, input_held, input_is, inputs_distinct, linked_moved}
-use Rattle.implib_link.proofs.Search.Lists.{among_any, among_at, among_either, among_flat_map, any_among, any_member, contains_among, listed_is, none_listed, name_as, as_name, NameAs}
+use Rattle.implib_link.proofs.Search.Archives.{inputs_made, libraries_taken, all_from as all_each}
+use Rattle.implib_link.proofs.Search.Arranged.{among_moved, archive_moved, chosen_are, input_for, input_held, input_is, inputs_distinct, linked_moved}
+use Rattle.implib_link.proofs.Search.Lists.{among_any, among_at, among_either, among_flat_map, any_among, any_member, contains_among, listed_is, none_listed, name_as, as_name, NameAs, passing, passes, from_not, to_not}
 use Rattle.implib_link.proofs.Search.Search.{in_nothing, listed_export, listed_head, listed_tail, numbers_are_wanted, only_one, wanted_name, wants}
 use Rattle.implib.specs.LibraryName.{linked_name, NamesOfDll, names_for}
 use Rattle.implib.specs.declared.flavor.Flavor.TheVariants.{Gnu}
 
 -- Lists.
-
-pub from_not : (b : Bool) → not b ≡ true → b ≡ false
-from_not true is = absurd (true≢false (sym is))
-from_not false is = refl
-
-pub to_not : (b : Bool) → b ≡ false → not b ≡ true
-to_not b is = rw is refl
-
--- what passes a test
-pub passing : {X : Type 0} (test : X → Bool) (x : X) (xs : List X) → Among x (filter test xs) → Among x xs × (test x ≡ true)
-unfolding Among
-passing test x [] held = absurd held
-passing test x (y ∷ xs) held =
-    elim (cases_Bool (test y)) [
-      | inl is ↦
-          let either : Among x (y ∷ filter test xs) = rw is at held in
-          elim either [
-            | inl e ↦ (inl e, subst (λ z. test z ≡ true) (sym e) is)
-            | inr behind ↦ let later = passing test x xs behind in (inr later.0, later.1)
-          ]
-      | inr none ↦ let later = passing test x xs (rw none at held) in (inr later.0, later.1)
-    ]
-
-pub passes : {X : Type 0} (test : X → Bool) (x : X) (xs : List X) → Among x xs → test x ≡ true → Among x (filter test xs)
-unfolding Among
-passes test x [] held is = absurd held
-passes test x (y ∷ xs) (inl e) is = rw (subst (λ z. test z ≡ true) e is) (inl e)
-passes test x (y ∷ xs) (inr held) is =
-    elim (cases_Bool (test y)) [
-      | inl own ↦ rw own (inr (passes test x xs held is))
-      | inr none ↦ rw none (passes test x xs held is)
-    ]
 
 pub at_index : {X : Type 0} (x : X) (xs : List X) → Among x xs → (n : ℕ) × (slice_get xs n ≡ Some x)
 unfolding Among

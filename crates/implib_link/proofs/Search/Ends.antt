@@ -11,6 +11,7 @@ use Rattle.implib_link.specs.Search.Search.{AreTakenInTurnAs, PullsInAs, TakesAs
 use Rattle.implib_link.proofs.Search.ArchiveGroups.{first_is, found_or_not}
 use Rattle.implib.specs.Formats.Object.{Object}
 use Rattle.implib_link.proofs.Search.Lists.{contains_among}
+use Rattle.implib_link.proofs.Gnu.Choices.{same_text}
 
 -- Whether two members are the same.
 
@@ -19,9 +20,6 @@ same_names [] [] = true
 same_names [] (y ∷ ys) = false
 same_names (x ∷ xs) [] = false
 same_names (x ∷ xs) (y ∷ ys) = bytes_eq x y && same_names xs ys
-
-same_text : (text : List ℕ) → bytes_eq text text ≡ true
-same_text text = (bytes_eq-Decides text text).1 refl
 
 names_same : (xs ys : List (List ℕ)) → same_names xs ys ≡ true → xs ≡ ys
 unfolding same_names

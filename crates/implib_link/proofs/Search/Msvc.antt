@@ -1,5 +1,5 @@
 -- What the members for Microsoft's linker leave to others, and the exports that pass a test.
-use Rattle.std.proofs.Common.{◌≡◌, ℕ, ◌+◌, Bool, true, List, [], ◌∷◌, ◌++◌, length, Some, refl, ap, subst, inl, inr}
+use Rattle.std.proofs.Common.{◌≡◌, ℕ, ◌+◌, Bool, true, List, [], ◌∷◌, ◌++◌, length, refl, ap, subst, inl, inr}
 use Rattle.std.specs.Prelude.{slice_get}
 use Rattle.std.specs.List.{filter, filter_map}
 use Rattle.std.proofs.lemmas.Bool.{cases_Bool}
@@ -16,6 +16,7 @@ use Rattle.implib_link.specs.Search.Search.{undefined_in}
 use Rattle.implib_link.specs.Flavors.SectionSymbols.{with_section_symbols}
 use Rattle.implib_link.proofs.Flavors.Expanded.{taken_descriptor, taken_null, taken_null_thunk}
 use Rattle.implib.specs.LibraryName.{NamesOfDll}
+use Rattle.implib_link.proofs.Search.Arranged.{at_end}
 
 -- What the members leave.
 
@@ -41,10 +42,6 @@ left_asking machine dll symbol (Name text hint) Data = refl
 left_asking machine dll symbol (Name text hint) Constant = refl
 
 -- Exports that pass a test, by their numbers.
-
-at_end : {X : Type 0} (front : List X) (x : X) (xs : List X) → slice_get (front ++ x ∷ xs) (length front) ≡ Some x
-at_end [] x xs = refl
-at_end (y ∷ front) x xs = at_end front x xs
 
 pub passing_chosen : (test : ExportView → Bool) (front exports : List ExportView) → filter_map (slice_get (front ++ exports)) (numbers_passing test (length front) exports) ≡ filter test exports
 passing_chosen test front [] = refl

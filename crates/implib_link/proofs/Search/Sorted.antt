@@ -25,6 +25,9 @@ use Rattle.implib_link.proofs.Search.Search.{AnExport, AnyWanted, Needed, TheHea
 use Rattle.implib_link.proofs.Search.One.{needed, taken_if_needed}
 use Rattle.implib.specs.LibraryName.{NamesOfDll, linked_name, names_for}
 
+abbrev names : List MemberView → List (List ℕ)
+names members = map (λ (m : MemberView). m.name) members
+
 less_or_greater : Less ≡ Greater → ⊥
 less_or_greater same = cc
 
@@ -33,9 +36,6 @@ not_both x y before behind = less_or_greater (sym before ∙ nat_list_cmp_total.
 
 not_itself : (x : List ℕ) → ComesBefore x x → ⊥
 not_itself x before = not_both x x before before
-
-abbrev names : List MemberView → List (List ℕ)
-names members = map (λ (m : MemberView). m.name) members
 
 rest_rises : (x : MemberView) (members : List MemberView) → IsAscending (names (x ∷ members)) → IsAscending (names members)
 rest_rises x [] rise = tt
