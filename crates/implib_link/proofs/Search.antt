@@ -13,6 +13,7 @@ pub mod Msvc
 pub mod Counts
 pub mod Arranged
 pub mod Closed
+pub mod Closing
 pub mod Given
 pub mod Rooms
 pub mod Exists

@@ -15,7 +15,7 @@ use Rattle.implib.specs.Link.Placement.{Bases}
 use Rattle.implib.specs.Members.WeakExternal.{weak_object}
 use Rattle.implib.proofs.Link.LinkedMembers.{among_contains}
 use Rattle.implib.proofs.Link.Placement.{export, head, tail}
-use Rattle.implib.proofs.Link.Ranges.{Among, all_among, among_back, among_first, among_front, among_later}
+use Rattle.implib.proofs.Link.Ranges.{Among, all_among, among_back, among_first, among_front}
 use Rattle.implib_link.specs.Search.Archives.{IsArchive, IsLibrary, IsWeakData, Library, NamesNoHeadOrTailOf, TakesOfLibraries, archive_of, exports_of, input_if_any, inputs_wanted, is_weak, others_among, wanted_with, weak_among}
 use Rattle.implib_link.specs.Gnu.Program.{claimed_names}
 use Rattle.implib_link.specs.Flavors.Program.{OfLinker, gnu_input, LinksAmong, IsProgram}
@@ -26,15 +26,11 @@ use Rattle.implib_link.proofs.Gnu.Claims.{claimed_export, claimed_head, claimed_
 use Rattle.implib_link.proofs.Flavors.Program.{program_links}
 use Rattle.implib_link.proofs.Flavors.GnuPrograms.{gnu_made}
 use Rattle.implib_link.proofs.Search.Search.{AnExport, AnyWanted, Needed, TheHead, TheTail, any_wanted, in_nothing, left_export, left_head, left_tail, linked_if_needed, listed_export, listed_head, listed_tail, needed_if_linked, numbers_are_wanted, only_one, wanted_name, wants}
-use Rattle.implib_link.proofs.Search.Lists.{among_any, among_at, among_either, any_among, any_member, contains_among, none_listed, name_as, as_name, passes as among_kept, passing as kept_among, to_not as not_true}
+use Rattle.implib_link.proofs.Search.Lists.{all_from, among_any, among_at, among_either, any_among, any_member, contains_among, none_listed, name_as, as_name, passes as among_kept, passing as kept_among, to_not as not_true}
 use Rattle.implib.specs.LibraryName.{linked_name, names_for}
 use Rattle.implib.specs.declared.flavor.Flavor.TheVariants.{Gnu}
 
 -- Lists that a test divides.
-
-pub all_from : {X : Type 0} (P : X → Type 0) (xs : List X) → ((x : X) → Among x xs → P x) → AllByRecursion P xs
-all_from P [] each = tt
-all_from P (x ∷ xs) each = (each x (among_first x xs), all_from P xs (λ y held. each y (among_later y x xs held)))
 
 -- What is linked of libraries.
 

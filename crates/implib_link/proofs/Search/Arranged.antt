@@ -17,9 +17,9 @@ use Rattle.implib.proofs.Link.LinkedMembers.{among_contains}
 use Rattle.implib.proofs.Link.Ranges.{Among, all_among, among_flat, among_first, among_later}
 use Rattle.implib_link.specs.Search.Archives.{IsArchive, IsLibrary, Library, exports_of, input_if_any, inputs_wanted, symbols_of_export, symbols_of_library}
 use Rattle.implib_link.specs.Search.Search.{exports_wanted, is_wanted, linked_if_any, numbers_wanted}
-use Rattle.implib_link.proofs.Search.Archives.{input_linked, inputs_made, all_from as all_each}
+use Rattle.implib_link.proofs.Search.Archives.{input_linked, inputs_made}
+use Rattle.implib_link.proofs.Search.Lists.{all_from as all_each, contains_among, among_flat_map as flat_among}
 use Rattle.implib_link.proofs.Search.Counts.{distinct_from, few_from, times, times_both, times_moved}
-use Rattle.implib_link.proofs.Search.Lists.{contains_among, among_flat_map as flat_among}
 use Rattle.implib_link.proofs.Search.Search.{in_nothing}
 use Rattle.implib.specs.LibraryName.{NamesOfDll, names_for}
 use Rattle.implib.specs.declared.flavor.Flavor.TheVariants.{Gnu}

@@ -1,8 +1,8 @@
 -- What a linker takes of an archive of both flavours.
 use Rattle.std.proofs.Common.{◌≡◌, ℕ, ◌⊎◌, true, false, List, [], ◌∷◌, ◌++◌, Some, refl, ap, sym, ◌∙◌, subst, inl, inr}
-use Rattle.std.specs.Prelude.{bytes_eq, not, slice_get}
-use Rattle.std.specs.List.{flat_map, list_any}
-use Rattle.std.proofs.lemmas.Bool.{cases_Bool, false_from_ne_true, true≢false}
+use Rattle.std.specs.Prelude.{not, slice_get}
+use Rattle.std.specs.List.{flat_map}
+use Rattle.std.proofs.lemmas.Bool.{true≢false}
 use Rattle.implib.specs.declared.flavor.Flavor.TheVariants.{Gnu, Msvc}
 use Rattle.implib.specs.declared.machine.MachineType.{MachineType}
 use Rattle.implib.specs.Definition.{ExportView}
@@ -19,20 +19,19 @@ use Rattle.implib.proofs.Link.Placement.{export, head, tail}
 use Rattle.implib.proofs.Link.Ranges.{Among, all_among, among_back, among_first, among_front, among_later}
 use Rattle.implib_link.specs.Flavors.Expansion.{descriptor_symbol_by_name, expanded_in}
 use Rattle.implib_link.specs.Flavors.Program.{all_members, ask_in, objects_taken}
-use Rattle.implib_link.specs.Gnu.Program.{claimed_names}
 use Rattle.implib_link.specs.Search.Archives.{Library, exports_of, has_weak, inputs_wanted}
 use Rattle.implib_link.specs.Search.BothFlavors.{FlavorLibrary, IsFlavorArchive, IsWeakOfBoth, NamesNoMembers, TakesOfBoth, archive_of_both, gnu_among, msvc_among}
 use Rattle.implib_link.specs.Search.Msvc.{AreTakenInTurn, NamesNoHeader, TakesFor, left_in}
 use Rattle.implib_link.specs.Search.MsvcArchives.{first_null, is_import_wanted, is_short_alias, is_weak_in, others_in, short_inputs, shorts_linked, wanted_with_weak, weak_in}
-use Rattle.implib_link.specs.Search.Search.{NamesNoHeadOrTail, exports_wanted, first_listed, is_listed_for, is_wanted, undefined_in, left_as, claimed_as, AreTakenInTurnAs}
+use Rattle.implib_link.specs.Search.Search.{NamesNoHeadOrTail, exports_wanted, first_listed, is_wanted, undefined_in, left_as, AreTakenInTurnAs}
 use Rattle.implib_link.proofs.Flavors.Block.{asking, use_for}
 use Rattle.implib_link.proofs.Flavors.Expanded.{taken_descriptor, taken_null, taken_null_thunk}
-use Rattle.implib_link.proofs.Search.ArchiveGroups.{export_of, first_is, head_of, tail_of, weak_of as data_weak_of}
+use Rattle.implib_link.proofs.Search.ArchiveGroups.{export_of, head_of, tail_of, weak_of as data_weak_of}
 use Rattle.implib_link.proofs.Search.ArchiveMembers.{FoundExport, FoundHead, FoundTail, FoundWeak as FoundDataWeak, export_entries, export_found, head_found, tail_found}
-use Rattle.implib_link.proofs.Search.Archives.{linked_of as data_linked_of, of_linked as of_data_linked, all_from as all_each}
-use Rattle.implib_link.proofs.Search.BothMembers.{FoundInBoth, IsFirst, first_held, found_in_both, found_is_first, gnu_export_is, gnu_head_is, gnu_in_both, gnu_made, gnu_tail_is, gnu_weak_is, msvc_in_both, msvc_made}
-use Rattle.implib_link.proofs.Search.Closed.{there_not, pulled}
-use Rattle.implib_link.proofs.Search.Lists.{to_not, from_not, passes, passing, among_at, among_either, any_among, any_member, contains_among, none_listed, name_as, as_name}
+use Rattle.implib_link.proofs.Search.Archives.{linked_of as data_linked_of, of_linked as of_data_linked}
+use Rattle.implib_link.proofs.Search.Lists.{all_from as all_each, to_not, from_not, passes, passing, among_at, among_either, contains_among, name_as, as_name}
+use Rattle.implib_link.proofs.Search.BothMembers.{FoundInBoth, first_held, found_in_both, found_is_first, gnu_export_is, gnu_head_is, gnu_in_both, gnu_made, gnu_tail_is, gnu_weak_is, msvc_in_both, msvc_made}
+use Rattle.implib_link.proofs.Search.Closing.{IsFirstAs, left_by as left_as_by, reached as reached_as, still_named as still_as, pulled, there_not}
 use Rattle.implib_link.proofs.Search.Msvc.{left_asking, left_descriptor, left_null, left_thunk}
 use Rattle.implib_link.proofs.Search.MsvcArchives.{AShort, AnyImport, Linked, TheDescriptor, TheThunk, any_of, both_parts, descriptor_plain, import_parts, linked_of, linked_there, member_with, null_or_member, null_plain, null_with, of_linked, short_plain, there_linked, thunk_plain, weak_by, weak_is_weak}
 use Rattle.implib_link.proofs.Search.MsvcMembers.{FoundDescriptor, FoundNull, FoundShort, FoundThunk, FoundWeak as FoundShortWeak, IsPair, descriptor_found, descriptor_is, descriptor_of, null_found, null_is, null_of, short_found, short_is, short_of, taken_weak, thunk_found, thunk_is, thunk_of, weak_is, weak_of as short_weak_of}
@@ -245,44 +244,19 @@ module _ (machine : MachineType) (libraries : List FlavorLibrary) (archive : IsF
       needed_all : (m : MemberView) → Among m taken → IsNeededOf all_wanted m
       needed_all = needed taken (λ m held. held) takes.in_turn
 
-      each_first : (m : MemberView) → Among m taken → IsFirst machine libraries archive m
+      each_first : (m : MemberView) → Among m taken → IsFirstAs (expanded_in machine) (archive_of_both libraries) m
       each_first m held = let by = pulled (expanded_in machine) (archive_of_both libraries) wanted taken takes.in_turn m held in found_is_first machine libraries archive by.0 m by.1
 
       -- a member that an undefined name finds is taken
       reached : (name : List ℕ) (m : MemberView) → first_listed (archive_of_both libraries) name ≡ Some m → Among name (wanted ++ left_in machine taken) → Among m taken
-      unfolding claimed_as
-      reached name m is named =
-          elim (cases_Bool (list_any (is_listed_for name) taken)) [
-            | inl some ↦
-                let t = any_member name taken some in
-                subst (λ x. Among x taken) (sym (same_first name m t.0 is ((each_first t.0 t.1).first name t.2))) t.1
-            | inr none ↦ absurd (takes.ended name m (record {
-              named = among_contains name (wanted ++ left_in machine taken) named;
-              undefined = false_from_ne_true (list_any (bytes_eq name) (flat_map claimed_names (objects_taken machine taken))) (λ claimed.
-                  let by = name_as (expanded_in machine) claimed_names name taken (any_among name _ claimed) in
-                  let one = each_first by.member by.held in
-                  let same : by.object ≡ one.object = (let e : Some by.object ≡ Some one.object = sym by.taken ∙ one.read in cc) in
-                  none_listed name by.member taken none by.held (subst (Among name) one.claims (subst (λ o. Among name (claimed_names o)) same by.among)));
-              listed = is;
-              new = λ has. none_listed name m taken none (contains_among m taken has) (first_is name (archive_of_both libraries) m is).1;
-            }))
-          ]
+      reached = reached_as (expanded_in machine) (archive_of_both libraries) (is_weak_in machine) taken each_first wanted takes
 
       -- a wanted name is one of the names that are undefined
       still_named : (name : List ℕ) → Among name all_wanted → Among name (wanted ++ left_in machine taken)
-      unfolding left_as
-      still_named name want =
-          elim (among_either name wanted (flat_map undefined_in (objects_taken machine (weak_in machine taken))) want) [
-            | inl own ↦ among_front name wanted (flat_map undefined_in (objects_taken machine taken)) own
-            | inr left ↦
-                let from = name_as (expanded_in machine) undefined_in name (weak_in machine taken) left in
-                among_back name wanted (flat_map undefined_in (objects_taken machine taken))
-                (as_name (expanded_in machine) undefined_in name taken from.member from.object (passing (is_weak_in machine) from.member taken from.held).0 from.taken from.among)
-          ]
+      still_named = still_as (expanded_in machine) (archive_of_both libraries) (is_weak_in machine) taken each_first wanted
 
       left_by : (x : MemberView) (o : Object) (name : List ℕ) → Among x taken → expanded_in machine x.bytes ≡ Some o → Among name (undefined_in o) → Among name (wanted ++ left_in machine taken)
-      unfolding left_as
-      left_by x o name held is left = among_back name wanted (flat_map undefined_in (objects_taken machine taken)) (as_name (expanded_in machine) undefined_in name taken x o held is left)
+      left_by = left_as_by (expanded_in machine) (archive_of_both libraries) (is_weak_in machine) taken each_first wanted
 
       short_taken : (l : Library) → Among l (msvc_among libraries) → (e : ExportView) → Among e (exports_of l) → is_import_wanted all_wanted e ≡ true → Among (short_of machine l e) taken
       short_taken l held e there want =

@@ -24,8 +24,7 @@ use Rattle.implib_link.proofs.Flavors.Block.{symbols_of}
 use Rattle.implib_link.proofs.Flavors.Blocks.{FlavorBlock}
 use Rattle.implib_link.proofs.Flavors.Inputs.{block_in, inputs_symbols}
 use Rattle.implib_link.proofs.Search.Arranged.{input_behind, input_from, input_front, input_is, library_fewer as gnu_fewer, kept_moved}
-use Rattle.implib_link.proofs.Search.Lists.{among_flat_map as flat_among, any_among}
-use Rattle.implib_link.proofs.Search.Archives.{all_from as all_each}
+use Rattle.implib_link.proofs.Search.Lists.{among_flat_map as flat_among, any_among, all_from as all_each}
 use Rattle.implib_link.proofs.Search.BothMembers.{gnu_made, msvc_made}
 use Rattle.implib_link.proofs.Search.Counts.{distinct_from, few_from, none_times, times, times_both, times_moved}
 use Rattle.implib_link.proofs.Search.MsvcArranged.{library_fewer as short_fewer, short_input_is}

@@ -36,7 +36,7 @@ use Rattle.implib_link.proofs.Search.BothClosed.{both_held, closed_links_of_both
 use Rattle.implib_link.proofs.Search.BothGiven.{both_given_closes, both_given_ends}
 use Rattle.implib_link.proofs.Search.BothMembers.{FoundInBoth, found_in_both, gnu_export_is, gnu_head_is, gnu_made, gnu_tail_is, gnu_weak_is}
 use Rattle.implib_link.proofs.Search.BothRooms.{both_tables_near}
-use Rattle.implib_link.proofs.Search.Closed.{in_turn_for, pulled}
+use Rattle.implib_link.proofs.Search.Closing.{pulled, in_turn_for}
 use Rattle.implib_link.proofs.Search.Lists.{passing, among_either}
 use Rattle.implib_link.proofs.Search.Exists.{NoneHave, others_first, tables_last, within_by}
 use Rattle.implib_link.proofs.Search.MsvcArchives.{linked_of, there_linked, weak_by}

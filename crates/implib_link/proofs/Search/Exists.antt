@@ -31,7 +31,8 @@ use Rattle.implib_link.proofs.Gnu.Packed.{lies_within}
 use Rattle.implib_link.proofs.Search.ArchiveMembers.{Found, FoundExport, FoundHead, FoundTail, FoundWeak, export_not_weak, export_object_is, head_not_weak, head_object_is, tail_not_weak, tail_object_is, weak_object_is}
 use Rattle.implib_link.proofs.Search.Archives.{inputs_made}
 use Rattle.implib_link.proofs.Search.Arranged.{archive_moved}
-use Rattle.implib_link.proofs.Search.Closed.{closed_links, in_turn_for}
+use Rattle.implib_link.proofs.Search.Closed.{closed_links}
+use Rattle.implib_link.proofs.Search.Closing.{in_turn_for}
 use Rattle.implib_link.proofs.Search.Lists.{passing}
 use Rattle.implib_link.proofs.Search.Given.{given_closes, given_ends, pulled_by}
 use Rattle.implib_link.proofs.Search.Rooms.{tables_near}

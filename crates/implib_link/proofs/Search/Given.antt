@@ -23,9 +23,8 @@ use Rattle.implib_link.specs.Search.Given.{AreGiven, alias_targets, heads_of, is
 use Rattle.implib_link.specs.Search.Search.{IsTakenInTurn, NamesNoHeadOrTail, first_listed, is_wanted, names_undefined, undefined_in, left_as, AreTakenInTurnAs}
 use Rattle.implib_link.proofs.Search.ArchiveGroups.{export_of, head_of, tail_of, weak_of}
 use Rattle.implib_link.proofs.Search.ArchiveMembers.{Found, FoundExport, FoundHead, FoundTail, FoundWeak, export_not_weak, export_object_is, found, head_found, head_not_weak, head_object_is, tail_found, tail_not_weak, tail_object_is, weak_object_is}
-use Rattle.implib_link.proofs.Search.Archives.{all_from as all_each}
-use Rattle.implib_link.proofs.Search.Closed.{claims_apart, claims_none, in_turn_for, takes_into, there_not, not_there, unresolved_parts}
-use Rattle.implib_link.proofs.Search.Lists.{passes, passing, among_at, among_either, among_flat_map, contains_among, name_as}
+use Rattle.implib_link.proofs.Search.Lists.{all_from as all_each, passes, passing, among_at, among_either, among_flat_map, contains_among, name_as}
+use Rattle.implib_link.proofs.Search.Closing.{takes_into, in_turn_for, unresolved_parts, claims_none, claims_apart, there_not, not_there}
 use Rattle.implib_link.proofs.Search.Ends.{search_ends}
 use Rattle.implib_link.proofs.Search.Search.{in_nothing, left_export, left_head, left_tail, listed_export, listed_head, listed_tail, only_one, wants}
 use Rattle.implib.specs.LibraryName.{linked_name, NamesOfDll, names_for}

@@ -9,8 +9,12 @@ use Rattle.std.proofs.lemmas.Slice.Eq.{bytes_eq-Decides}
 use Rattle.implib.specs.Members.MemberSpec.{MemberSpec, MemberView, member_of}
 use Rattle.implib.specs.Formats.Object.{Object}
 use Rattle.implib.proofs.Link.LinkedMembers.{among_map, among_reverse}
-use Rattle.implib.proofs.Link.Ranges.{Among, all_among, among_back, among_front}
+use Rattle.implib.proofs.Link.Ranges.{Among, all_among, among_back, among_first, among_front, among_later}
 use Rattle.implib_link.specs.Search.Search.{first_listed, is_listed_for, objects_as}
+
+pub all_from : {X : Type 0} (P : X → Type 0) (xs : List X) → ((x : X) → Among x xs → P x) → AllByRecursion P xs
+all_from P [] each = tt
+all_from P (x ∷ xs) each = (each x (among_first x xs), all_from P xs (λ y held. each y (among_later y x xs held)))
 
 pub contains_among : {X : Type 0} (x : X) (xs : List X) → Contains xs x → Among x xs
 unfolding Among

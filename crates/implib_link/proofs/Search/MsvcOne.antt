@@ -35,7 +35,7 @@ use Rattle.implib_link.proofs.Flavors.Inputs.{read_of, short_at}
 use Rattle.implib_link.proofs.Search.ArchiveMembers.{FoundExport, FoundHead, FoundTail, FoundWeak as FoundDataWeak}
 use Rattle.implib_link.proofs.Search.BothArchives.{both_taken}
 use Rattle.implib_link.proofs.Search.BothMembers.{FoundInBoth, first_held, found_in_both, msvc_made}
-use Rattle.implib_link.proofs.Search.Closed.{pulled}
+use Rattle.implib_link.proofs.Search.Closing.{pulled}
 use Rattle.implib_link.proofs.Search.Lists.{all_listed, listed_mapped, one_member}
 use Rattle.implib_link.proofs.Search.MsvcArchives.{descriptor_plain, null_plain, short_plain, thunk_plain}
 use Rattle.implib_link.proofs.Search.MsvcMembers.{FoundDescriptor, FoundNull, FoundShort, FoundThunk, FoundWeak as FoundShortWeak}

@@ -37,7 +37,7 @@ use Rattle.implib_link_instances.specs.Worked.NearSearches.{again}
 use Rattle.implib_link.proofs.Search.BothArchives.{both_taken}
 use Rattle.implib_link.proofs.Search.BothClosed.{closed_links_of_both, packed_both}
 use Rattle.implib_link.proofs.Search.BothGiven.{both_given_ends}
-use Rattle.implib_link.proofs.Search.Closed.{claims_apart, unresolved_parts, takes_into}
+use Rattle.implib_link.proofs.Search.Closing.{takes_into, unresolved_parts, claims_apart}
 use Rattle.implib_link.proofs.Search.Lists.{among_any, among_at, any_among, contains_among}
 use Rattle.implib_link_instances.proofs.Worked.NearMisses.{in_one_alone, none_passes, some_passes}
 use Rattle.implib_link_instances.proofs.Worked.NearPrograms.{no_eights}

@@ -24,7 +24,8 @@ use Rattle.implib_link_instances.specs.Worked.Archives.{two_libraries}
 use Rattle.implib_link_instances.specs.Worked.Closed.{WorkedClosed, WorkedGiven, choosing, clashing, closed_bases, closed_objects, closed_taken, without_last, zed_first}
 use Rattle.implib_link_instances.proofs.Worked.GnuPacked.{packed_is_admissible}
 use Rattle.implib_link.proofs.Search.Archives.{inputs_made}
-use Rattle.implib_link.proofs.Search.Closed.{claims_apart, closed_links, takes_into, unresolved_parts}
+use Rattle.implib_link.proofs.Search.Closed.{closed_links}
+use Rattle.implib_link.proofs.Search.Closing.{takes_into, unresolved_parts, claims_apart}
 use Rattle.implib_link.proofs.Search.Given.{given_closes, given_ends}
 use Rattle.implib_link.proofs.Search.Lists.{among_any, any_among, contains_among}
 use Rattle.implib_link_instances.proofs.Worked.Archives.{both_takes, tail_named, worked_archives}
