@@ -33,7 +33,7 @@ use Rattle.implib_link.proofs.Flavors.Program.{program_links}
 use Rattle.implib_link.proofs.Flavors.GnuPrograms.{gnu_entry_of, gnu_made, gnu_members, gnu_objects}
 use Rattle.implib_link.proofs.Search.ArchiveGroups.{export_of, head_of, tail_of, weak_of}
 use Rattle.implib_link.proofs.Search.ArchiveMembers.{Found, FoundExport, FoundHead, FoundTail, FoundWeak, claimed_weak, export_found, export_object_is, found, head_found, head_object_is, tail_found, tail_object_is, weak_found, weak_is_weak, weak_object_is}
-use Rattle.implib_link.proofs.Search.Archives.{inputs_made, libraries_taken}
+use Rattle.implib_link.proofs.Search.Archives.{found_first, inputs_made, libraries_taken}
 use Rattle.implib_link.proofs.Search.Closing.{IsFirstAs, IsListed, at_index, first_of, from_sources as program_from, in_turn_for, into_objects as program_into, is_first, listed_other, none_left, others_claim_none, pulled, reached, still_named, takes_apart, there_not}
 use Rattle.implib_link.proofs.Search.Lists.{among_at, among_either, among_flat_map, contains_among, passing, passes}
 use Rattle.implib_link.proofs.Search.Arranged.{among_moved, archive_moved, chosen_are, input_for, input_held, input_is, inputs_distinct, linked_moved}
@@ -41,32 +41,9 @@ use Rattle.implib_link.proofs.Search.Search.{listed_export, listed_head, listed_
 use Rattle.implib.specs.LibraryName.{linked_name, NamesOfDll, names_for}
 use Rattle.implib.specs.declared.flavor.Flavor.TheVariants.{Gnu}
 
--- What is so of each member that a name finds.
-
 module _ (machine : MachineType) (libraries : List Library) (archive : IsArchive machine libraries) where
-  abbrev IsFirst : MemberView → Type 0
-  IsFirst = IsFirstAs object_in (archive_of libraries)
-
   made_of : (l : Library) → Among l libraries → IsLibrary machine l
   made_of l held = all_among (IsLibrary machine) l libraries held archive.made
-
-  found_first : (name : List ℕ) (m : MemberView) → Found machine libraries archive name m → IsFirst m
-  found_first name m (FoundTail l held same is) =
-      let dll : NamesOfDll = names_for Gnu l.definition in
-      is_first object_in (archive_of libraries) m (tail_of machine l) (tail machine dll) (iname_symbol machine dll.linked ∷ []) same (tail_object_is machine l (made_of l held)) (claimed_tail machine dll) (listed_tail machine dll)
-      (λ n one. ap (first_listed (archive_of libraries)) (only_one n (iname_symbol machine dll.linked) one) ∙ tail_found machine libraries archive l held)
-  found_first name m (FoundHead l held same is) =
-      let dll : NamesOfDll = names_for Gnu l.definition in
-      is_first object_in (archive_of libraries) m (head_of machine l) (head machine dll) (head_symbol machine dll.linked ∷ []) same (head_object_is machine l (made_of l held)) (claimed_head machine dll) (listed_head machine dll.linked)
-      (λ n one. ap (first_listed (archive_of libraries)) (only_one n (head_symbol machine dll.linked) one) ∙ head_found machine libraries archive l held)
-  found_first name m (FoundExport l held n e is same listed) =
-      let dll : NamesOfDll = names_for Gnu l.definition in
-      is_first object_in (archive_of libraries) m (export_of machine l n e) (export machine dll e) (archive_symbols e) same (export_object_is machine l (made_of l held) n e is) (claimed_export machine dll e) (listed_export machine dll.linked n e)
-      (λ x one. export_found machine libraries archive l n e x held is one)
-  found_first name m (FoundWeak l held n e is alias is_data same named) =
-      is_first object_in (archive_of libraries) m (weak_of machine l n e) (object_of (weak_object machine e.name e.alias_target)) (e.name ∷ []) same (weak_object_is machine l (made_of l held) n e is alias)
-      (claimed_weak machine e.name e.alias_target) refl
-      (λ x one. ap (first_listed (archive_of libraries)) (only_one x e.name one) ∙ weak_found machine libraries archive l n e held is alias is_data)
 
   module _ (own : List Object) (taken : List MemberView) (arranged : List Library) (bases : Bases) (objects : List Object)
       (is : IsClosed machine libraries own taken arranged bases objects) where
@@ -76,10 +53,10 @@ module _ (machine : MachineType) (libraries : List Library) (archive : IsArchive
     abbrev inputs : List LinkInput
     inputs = inputs_in arranged own taken
 
-    each_first : (m : MemberView) → Among m taken → IsFirst m
+    each_first : (m : MemberView) → Among m taken → IsFirstAs object_in (archive_of libraries) m
     each_first m held =
         let by = pulled object_in (archive_of libraries) (unresolved own) taken (in_turn_for object_in (archive_of libraries) own taken is.takes.in_turn) m held in
-        found_first by.0 m (found machine libraries archive by.0 m by.1)
+        found_first machine libraries archive by.0 m (found machine libraries archive by.0 m by.1)
 
     takes : Takes (archive_of libraries) (unresolved own) taken
     takes = takes_apart object_in (archive_of libraries) own taken is.claims is.takes
