@@ -87,7 +87,7 @@ module _ (machine : MachineType) (libraries : List Library) (archive : IsArchive
   made_of l held = all_among (IsLibrary machine) l libraries held archive.made
 
   -- a member that is needed for names: of a library that they want an export of, or a weak external
-  data IsNeeded (names : List (List ℕ)) (m : MemberView) : Type 0 where
+  pub data IsNeeded (names : List (List ℕ)) (m : MemberView) : Type 0 where
     ForExport : (l : Library) → Among l libraries → Needed machine (names_for Gnu l.definition) (exports_of l) names m → IsNeeded names m
     ForAlias : (l : Library) → Among l libraries → (n : ℕ) (e : ExportView) → slice_get (exports_of l) n ≡ Some e → is_alias e.alias_target e.name ≡ true → e.is_data ≡ true →
         m ≡ weak_of machine l n e → Among e.name names → IsNeeded names m
@@ -99,7 +99,7 @@ module _ (machine : MachineType) (libraries : List Library) (archive : IsArchive
   object_of_member m x o own same is read = same_object o own (sym read ∙ ap (λ (y : MemberView). object_in y.bytes) same ∙ is)
 
   -- names of what is read in a member
-  names_of : (f : Object → List (List ℕ)) (names : List (List ℕ)) (name : List ℕ) (m x : MemberView) (o own : Object) → m ≡ x → object_in x.bytes ≡ Some own →
+  pub names_of : (f : Object → List (List ℕ)) (names : List (List ℕ)) (name : List ℕ) (m x : MemberView) (o own : Object) → m ≡ x → object_in x.bytes ≡ Some own →
       object_in m.bytes ≡ Some o → f own ≡ names → Among name (f o) → Among name names
   names_of f names name m x o own same is read are held = subst (Among name) are (subst (λ t. Among name (f t)) (object_of_member m x o own same is read) held)
 
@@ -182,7 +182,7 @@ module _ (machine : MachineType) (libraries : List Library) (archive : IsArchive
         (among_back name wanted (flat_map undefined_in (objects_in (weak_among taken))) (as_name object_in undefined_in name (weak_among taken) x o kept read left))
 
     -- whatever is taken is needed
-    needed : (earlier : List MemberView) → ((m : MemberView) → Among m earlier → Among m taken) → IsTakenInTurn (archive_of libraries) wanted earlier → (m : MemberView) → Among m earlier →
+    pub needed : (earlier : List MemberView) → ((m : MemberView) → Among m earlier → Among m taken) → IsTakenInTurn (archive_of libraries) wanted earlier → (m : MemberView) → Among m earlier →
         IsNeeded all_wanted m
     unfolding Among AreTakenInTurnAs left_as
     needed [] there turn m held = absurd held

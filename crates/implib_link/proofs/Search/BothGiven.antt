@@ -36,7 +36,7 @@ use Rattle.implib_link.proofs.Search.ArchiveMembers.{FoundExport, FoundHead, Fou
 use Rattle.implib_link.proofs.Search.Lists.{all_from as all_each, passes, passing, among_at, among_either, among_flat_map, name_as}
 use Rattle.implib_link.proofs.Search.BothArchives.{ForAlias, ForDataAlias, ForExport, ForImport, ForNull, IsNeededOf, by_name, head_has_none, needed, tail_has_none}
 use Rattle.implib_link.proofs.Search.BothMembers.{FoundInBoth, first_held, found_in_both, gnu_export_is, gnu_head_is, gnu_made, gnu_tail_is, gnu_weak_is, msvc_made}
-use Rattle.implib_link.proofs.Search.Closing.{pulled, takes_into, in_turn_for, unresolved_parts, claims_none, claims_apart, there_not, not_there}
+use Rattle.implib_link.proofs.Search.Closing.{none_claimed, pulled, takes_into, in_turn_for, unresolved_parts, claims_none, claims_apart, there_not, not_there}
 use Rattle.implib_link.proofs.Search.Msvc.{left_asking, left_descriptor, left_null, left_thunk}
 use Rattle.implib_link.proofs.Search.MsvcArchives.{AShort, TheDescriptor, TheThunk, both_parts, descriptor_plain, import_parts, null_plain, short_plain, thunk_plain, weak_by}
 use Rattle.implib_link.proofs.Search.MsvcClosed.{first_one}
@@ -301,23 +301,11 @@ module _ (machine : MachineType) (libraries : List FlavorLibrary) (archive : IsF
         let from = name_as (expanded_in machine) undefined_in name taken left in
         left_kept from.member from.object name (needed_here from.member from.held) from.taken from.among
 
-    -- the objects claim nothing of it
-    none_kept : (name : List ℕ) → IsKept name → Among name (flat_map claimed_names own) → ⊥
-    none_kept name (inl held) claimed = claims_apart kept own given.claims name held claimed
-    none_kept name (inr left) claimed = (unresolved_parts own name left).1 claimed
-
     left_apart : (name : List ℕ) → Among name (flat_map undefined_in (objects_taken machine taken)) → Among name (flat_map claimed_names own) → ⊥
-    left_apart name left = none_kept name (inl (left_of name left))
+    left_apart name left = claims_apart kept own given.claims name (left_of name left)
 
     claims : AllByRecursion (ClaimsNone (listed_in taken ++ left_in machine taken)) own
-    unfolding left_as
-    claims =
-        all_each (ClaimsNone (listed_in taken ++ flat_map undefined_in (objects_taken machine taken))) own (λ o held.
-        claims_none (listed_in taken ++ flat_map undefined_in (objects_taken machine taken)) o (λ name is claimed.
-        none_kept name (elim (among_either name (listed_in taken) (flat_map undefined_in (objects_taken machine taken)) is) [
-          | inl listed ↦ let from = among_flat_map (λ (m : MemberView). m.symbols) name taken listed in listed_kept from.0 name (needed_here from.0 from.1) from.2
-          | inr left ↦ inl (left_of name left)
-        ]) (among_flat claimed_names o own name held claimed)))
+    claims = none_claimed (expanded_in machine) own taken kept given.claims (λ m name held. listed_kept m name (needed_here m held)) left_of
 
 pub both_given_ends : (machine : MachineType) (libraries : List FlavorLibrary) (own : List Object) → IsFlavorArchive machine libraries → AreGivenForBoth machine libraries own →
     (taken : List MemberView) × TakesIntoFor machine (archive_of_both libraries) own taken

@@ -146,6 +146,22 @@ pulled reads archive wanted [] turn m held = absurd held
 pulled reads archive wanted (t ∷ earlier) turn m (inl e) = (turn.0.0, turn.0.1.listed ∙ ap Some (sym e))
 pulled reads archive wanted (t ∷ earlier) turn m (inr held) = pulled reads archive wanted earlier turn.1 m held
 
+-- Given objects claim nothing of what is taken for them, where members alone may claim its names, or the objects leave them unresolved.
+pub none_claimed : (reads : List ℕ → Option Object) (own : List Object) (taken : List MemberView) (kept : List (List ℕ)) → AllByRecursion (ClaimsNone kept) own →
+    ((m : MemberView) (name : List ℕ) → Among m taken → Among name m.symbols → Among name kept ⊎ Among name (unresolved own)) →
+    ((name : List ℕ) → Among name (flat_map undefined_in (objects_as reads taken)) → Among name kept) → AllByRecursion (ClaimsNone (listed_in taken ++ left_as reads taken)) own
+unfolding left_as
+none_claimed reads own taken kept none listed left =
+    all_each (ClaimsNone (listed_in taken ++ flat_map undefined_in (objects_as reads taken))) own (λ o held.
+    claims_none (listed_in taken ++ flat_map undefined_in (objects_as reads taken)) o (λ name is claimed.
+    let here : Among name (flat_map claimed_names own) = among_flat claimed_names o own name held claimed in
+    elim (among_either name (listed_in taken) (flat_map undefined_in (objects_as reads taken)) is) [
+      | inl by_member ↦
+          let from = among_flat_map (λ (m : MemberView). m.symbols) name taken by_member in
+          elim (listed from.0 name from.1 from.2) [ inl one ↦ claims_apart kept own none name one here | inr given ↦ (unresolved_parts own name given).1 here ]
+      | inr by_left ↦ claims_apart kept own none name (left name by_left) here
+    ]))
+
 -- a name that is listed finds a member
 pub first_of : (name : List ℕ) (members : List MemberView) → Among name (listed_in members) → (m : MemberView) × (first_listed members name ≡ Some m)
 unfolding Among
