@@ -26,7 +26,7 @@ use Rattle.implib_link.proofs.Gnu.Claims.{claimed_export, claimed_head, claimed_
 use Rattle.implib_link.proofs.Flavors.Program.{program_links}
 use Rattle.implib_link.proofs.Flavors.GnuPrograms.{gnu_made}
 use Rattle.implib_link.proofs.Search.Search.{AnExport, AnyWanted, Needed, TheHead, TheTail, any_wanted, in_nothing, left_export, left_head, left_tail, linked_if_needed, listed_export, listed_head, listed_tail, needed_if_linked, numbers_are_wanted, only_one, wanted_name, wants}
-use Rattle.implib_link.proofs.Search.Closing.{IsFirstAs, is_first, left_by as left_as_by, pulled, reached as reached_as, still_named as still_as}
+use Rattle.implib_link.proofs.Search.Closing.{names_read, IsFirstAs, is_first, left_by as left_as_by, pulled, reached as reached_as, still_named as still_as}
 use Rattle.implib_link.proofs.Search.Lists.{from_not, all_from, among_any, among_at, among_either, any_among, any_member, contains_among, none_listed, name_as, as_name, passes as among_kept, passing as kept_among, to_not as not_true}
 use Rattle.implib.specs.LibraryName.{NamesOfDll, linked_name, names_for}
 use Rattle.implib.specs.declared.flavor.Flavor.TheVariants.{Gnu}
@@ -92,17 +92,6 @@ module _ (machine : MachineType) (libraries : List Library) (archive : IsArchive
     ForAlias : (l : Library) → Among l libraries → (n : ℕ) (e : ExportView) → slice_get (exports_of l) n ≡ Some e → is_alias e.alias_target e.name ≡ true → e.is_data ≡ true →
         m ≡ weak_of machine l n e → Among e.name names → IsNeeded names m
 
-  same_object : (o other : Object) → Some o ≡ Some other → o ≡ other
-  same_object o other e = cc
-
-  object_of_member : (m x : MemberView) (o own : Object) → m ≡ x → object_in x.bytes ≡ Some own → object_in m.bytes ≡ Some o → o ≡ own
-  object_of_member m x o own same is read = same_object o own (sym read ∙ ap (λ (y : MemberView). object_in y.bytes) same ∙ is)
-
-  -- names of what is read in a member
-  pub names_of : (f : Object → List (List ℕ)) (names : List (List ℕ)) (name : List ℕ) (m x : MemberView) (o own : Object) → m ≡ x → object_in x.bytes ≡ Some own →
-      object_in m.bytes ≡ Some o → f own ≡ names → Among name (f o) → Among name names
-  names_of f names name m x o own same is read are held = subst (Among name) are (subst (λ t. Among name (f t)) (object_of_member m x o own same is read) held)
-
   -- a member that a name finds is read as an object, claims what it is listed for, and is the first that is listed for this
   pub found_first : (name : List ℕ) (m : MemberView) → Found machine libraries archive name m → IsFirstAs object_in (archive_of libraries) m
   found_first name m (FoundTail l held same is) =
@@ -162,16 +151,16 @@ module _ (machine : MachineType) (libraries : List Library) (archive : IsArchive
         (m : MemberView) → first_listed (archive_of libraries) name ≡ Some m → IsNeeded all_wanted m
     unfolding left_as
     needed_by_left x (ForExport l held (TheTail same any)) there o read name left m is =
-        absurd (in_nothing name (names_of undefined_in [] name x (tail_of machine l) o (tail machine (names_for Gnu l.definition)) same (tail_object_is machine l (made_of l held)) read
+        absurd (in_nothing name (names_read object_in undefined_in [] name x (tail_of machine l) o (tail machine (names_for Gnu l.definition)) same (tail_object_is machine l (made_of l held)) read
         (left_tail machine (names_for Gnu l.definition)) left))
     needed_by_left x (ForExport l held (TheHead same any)) there o read name left m is =
         let named : name ≡ iname_symbol machine (linked_name l.definition) =
-        only_one name _ (names_of undefined_in (iname_symbol machine (linked_name l.definition) ∷ []) name x (head_of machine l) o (head machine (names_for Gnu l.definition)) same
+        only_one name _ (names_read object_in undefined_in (iname_symbol machine (linked_name l.definition) ∷ []) name x (head_of machine l) o (head machine (names_for Gnu l.definition)) same
         (head_object_is machine l (made_of l held)) read (left_head machine (names_for Gnu l.definition)) left) in
         ForExport l held (TheTail (same_first name m (tail_of machine l) is (ap (first_listed (archive_of libraries)) named ∙ tail_found machine libraries archive l held)) any)
     needed_by_left x (ForExport l held (AnExport own want)) there o read name left m is =
         let named : name ≡ head_symbol machine (linked_name l.definition) =
-        only_one name _ (names_of undefined_in (head_symbol machine (linked_name l.definition) ∷ []) name x (export_of machine l own.number own.export) o
+        only_one name _ (names_read object_in undefined_in (head_symbol machine (linked_name l.definition) ∷ []) name x (export_of machine l own.number own.export) o
         (export machine (names_for Gnu l.definition) own.export) own.same (export_object_is machine l (made_of l held) own.number own.export own.is) read
         (left_export machine (names_for Gnu l.definition) own.export) left) in
         ForExport l held (TheHead (same_first name m (head_of machine l) is (ap (first_listed (archive_of libraries)) named ∙ head_found machine libraries archive l held))

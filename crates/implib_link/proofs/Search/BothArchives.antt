@@ -31,7 +31,7 @@ use Rattle.implib_link.proofs.Search.ArchiveMembers.{FoundExport, FoundHead, Fou
 use Rattle.implib_link.proofs.Search.Archives.{linked_of as data_linked_of, of_linked as of_data_linked}
 use Rattle.implib_link.proofs.Search.Lists.{all_from as all_each, to_not, from_not, passes, passing, among_at, among_either, contains_among, name_as, as_name}
 use Rattle.implib_link.proofs.Search.BothMembers.{FoundInBoth, first_held, found_in_both, found_is_first, gnu_export_is, gnu_head_is, gnu_in_both, gnu_made, gnu_tail_is, gnu_weak_is, msvc_in_both, msvc_made}
-use Rattle.implib_link.proofs.Search.Closing.{IsFirstAs, left_by as left_as_by, reached as reached_as, still_named as still_as, pulled, there_not}
+use Rattle.implib_link.proofs.Search.Closing.{names_read, IsFirstAs, left_by as left_as_by, reached as reached_as, still_named as still_as, pulled, there_not}
 use Rattle.implib_link.proofs.Search.Msvc.{left_asking, left_descriptor, left_null, left_thunk}
 use Rattle.implib_link.proofs.Search.MsvcArchives.{AShort, AnyImport, Linked, TheDescriptor, TheThunk, any_of, both_parts, descriptor_plain, import_parts, linked_of, linked_there, member_with, null_or_member, null_plain, null_with, of_linked, short_plain, there_linked, thunk_plain, weak_by, weak_is_weak}
 use Rattle.implib_link.proofs.Search.MsvcMembers.{FoundDescriptor, FoundNull, FoundShort, FoundThunk, FoundWeak as FoundShortWeak, IsPair, descriptor_found, descriptor_is, descriptor_of, null_found, null_is, null_of, short_found, short_is, short_of, taken_weak, thunk_found, thunk_is, thunk_of, weak_is, weak_of as short_weak_of}
@@ -59,12 +59,6 @@ module _ (machine : MachineType) (libraries : List FlavorLibrary) (archive : IsF
         m ≡ data_weak_of machine l n e → Among e.name names → IsNeededOf names m
 
   -- names of what a member is taken for
-  names_of : (f : Object → List (List ℕ)) (names : List (List ℕ)) (name : List ℕ) (m x : MemberView) (o own : Object) → m ≡ x → expanded_in machine x.bytes ≡ Some own →
-      expanded_in machine m.bytes ≡ Some o → f own ≡ names → Among name (f o) → Among name names
-  names_of f names name m x o own same read is are held =
-      let object : o ≡ own = (let e : Some o ≡ Some own = sym is ∙ ap (λ (y : MemberView). expanded_in machine y.bytes) same ∙ read in cc) in
-      subst (Among name) are (subst (λ t. Among name (f t)) object held)
-
   same_first : (name : List ℕ) (m own : MemberView) → first_listed (archive_of_both libraries) name ≡ Some m → first_listed (archive_of_both libraries) name ≡ Some own → m ≡ own
   same_first name m own is other = (let e : Some m ≡ Some own = sym is ∙ other in cc)
 
@@ -190,32 +184,32 @@ module _ (machine : MachineType) (libraries : List FlavorLibrary) (archive : IsF
         (m : MemberView) → first_listed (archive_of_both libraries) name ≡ Some m → IsNeededOf all_wanted m
     needed_by_left x (ForImport l held (TheDescriptor same any)) there o read name left m is =
         left_by_descriptor all_wanted l held any name
-        (names_of undefined_in (null_descriptor_symbol ∷ null_thunk_symbol (linked_dll l.definition) ∷ []) name x (descriptor_of machine l) o (taken_descriptor machine (names_for Msvc l.definition)) same
+        (names_read (expanded_in machine) undefined_in (null_descriptor_symbol ∷ null_thunk_symbol (linked_dll l.definition) ∷ []) name x (descriptor_of machine l) o (taken_descriptor machine (names_for Msvc l.definition)) same
         (descriptor_is machine l (msvc_made machine libraries archive l held)) read (left_descriptor machine (names_for Msvc l.definition)) left) m is
     needed_by_left x (ForImport l held (TheThunk same any)) there o read name left m is =
-        absurd (in_nothing name (names_of undefined_in [] name x (thunk_of machine l) o (taken_null_thunk machine (names_for Msvc l.definition)) same
+        absurd (in_nothing name (names_read (expanded_in machine) undefined_in [] name x (thunk_of machine l) o (taken_null_thunk machine (names_for Msvc l.definition)) same
         (thunk_is machine l (msvc_made machine libraries archive l held)) read (left_thunk machine (names_for Msvc l.definition)) left))
     needed_by_left x (ForImport l held (AShort e among same want)) there o read name left m is =
         let named : name ≡ descriptor_symbol_by_name l.definition.import_name =
-        only_one name _ (names_of undefined_in (descriptor_symbol_by_name l.definition.import_name ∷ []) name x (short_of machine l e) o (asking machine (names_for Msvc l.definition) e) same
+        only_one name _ (names_read (expanded_in machine) undefined_in (descriptor_symbol_by_name l.definition.import_name ∷ []) name x (short_of machine l e) o (asking machine (names_for Msvc l.definition) e) same
         (short_is machine l (msvc_made machine libraries archive l held) e among) read (left_asking machine (names_for Msvc l.definition) (short_import_symbol e) (ask_in Msvc machine e) (use_for e)) left) in
         ForImport l held (TheDescriptor (finds name (descriptor_symbol (linked_dll l.definition)) m (descriptor_of machine l) is (named ∙ by_name l held) (descriptor_first l held)) (any_in all_wanted l e among want))
     needed_by_left x (ForNull l rest first same y held any) there o read name left m is =
-        absurd (in_nothing name (names_of undefined_in [] name x (null_of machine l) o (taken_null machine) same
+        absurd (in_nothing name (names_read (expanded_in machine) undefined_in [] name x (null_of machine l) o (taken_null machine) same
         (null_is machine l (msvc_made machine libraries archive l (first_held machine libraries archive l rest first))) read (left_null machine) left))
     needed_by_left x (ForAlias l held e among alias weak target pair same named) there o read name left m is =
         left_by_weak x o name m there (short_alias_weak x l held e among alias weak target pair same) read left is
     needed_by_left x (ForExport l held (TheTail same any)) there o read name left m is =
-        absurd (in_nothing name (names_of undefined_in [] name x (tail_of machine l) o (tail machine (names_for Gnu l.definition)) same
+        absurd (in_nothing name (names_read (expanded_in machine) undefined_in [] name x (tail_of machine l) o (tail machine (names_for Gnu l.definition)) same
         (gnu_tail_is machine l (gnu_made machine libraries archive l held)) read (left_tail machine (names_for Gnu l.definition)) left))
     needed_by_left x (ForExport l held (TheHead same any)) there o read name left m is =
         let named : name ≡ iname_symbol machine (linked_name l.definition) =
-        only_one name _ (names_of undefined_in (iname_symbol machine (linked_name l.definition) ∷ []) name x (head_of machine l) o (head machine (names_for Gnu l.definition)) same
+        only_one name _ (names_read (expanded_in machine) undefined_in (iname_symbol machine (linked_name l.definition) ∷ []) name x (head_of machine l) o (head machine (names_for Gnu l.definition)) same
         (gnu_head_is machine l (gnu_made machine libraries archive l held)) read (left_head machine (names_for Gnu l.definition)) left) in
         ForExport l held (TheTail (finds name (iname_symbol machine (linked_name l.definition)) m (tail_of machine l) is named (tail_first l held)) any)
     needed_by_left x (ForExport l held (AnExport own want)) there o read name left m is =
         let named : name ≡ head_symbol machine (linked_name l.definition) =
-        only_one name _ (names_of undefined_in (head_symbol machine (linked_name l.definition) ∷ []) name x (export_of machine l own.number own.export) o
+        only_one name _ (names_read (expanded_in machine) undefined_in (head_symbol machine (linked_name l.definition) ∷ []) name x (export_of machine l own.number own.export) o
         (export machine (names_for Gnu l.definition) own.export) own.same (gnu_export_is machine l (gnu_made machine libraries archive l held) own.number own.export own.is) read
         (left_export machine (names_for Gnu l.definition) own.export) left) in
         ForExport l held (TheHead (finds name (head_symbol machine (linked_name l.definition)) m (head_of machine l) is named (head_first l held))

@@ -1,13 +1,13 @@
 -- What a linker takes for given objects, and a program of both: for any way to read members.
-use Rattle.std.proofs.Common.{◌≡◌, ℕ, suc, ◌⊎◌, Bool, false, List, [], ◌∷◌, ◌++◌, Option, Some, refl, ap, sym, ◌∙◌, subst, inl, inr}
+use Rattle.std.proofs.Common.{◌≡◌, ℕ, suc, ◌⊎◌, Bool, false, List, [], ◌∷◌, ◌++◌, Option, Some, None, refl, ap, sym, ◌∙◌, subst, inl, inr}
 use Rattle.std.specs.Prelude.{bytes_eq, not, slice_get}
-use Rattle.std.specs.List.{AllByRecursion, Contains, filter, flat_map, list_any}
+use Rattle.std.specs.List.{AllByRecursion, Contains, cons_option, filter, flat_map, list_any}
 use Rattle.std.proofs.lemmas.Bool.{cases_Bool, false_from_ne_true, true≢false}
 use Rattle.std.proofs.lemmas.Grind.{flat_map-append}
 use Rattle.implib.specs.Formats.Object.{Object}
 use Rattle.implib.specs.Members.MemberSpec.{MemberView}
 use Rattle.implib.proofs.Link.LinkedMembers.{among_contains}
-use Rattle.implib.proofs.Link.Ranges.{Among, all_among, among_back, among_flat, among_front, among_later}
+use Rattle.implib.proofs.Link.Ranges.{Among, all_among, among_back, among_first, among_flat, among_front, among_later}
 use Rattle.implib_link.specs.Gnu.Program.{ClaimsNone, HaveSame, claimed_names, has_tables, null_descriptor}
 use Rattle.implib_link.specs.Search.Closed.{claims_of, listed_in, references_of, unresolved, AreTakenIntoAs, PullsIntoAs, TakesIntoAs}
 use Rattle.implib_link.specs.Search.Search.{first_listed, is_listed_for, undefined_in, left_as, claimed_as, AreTakenInTurnAs, objects_as, PullsInAs, TakesAs}
@@ -177,6 +177,29 @@ first_of name (m ∷ members) held =
 
 same_first : (m x : MemberView) (found : Option MemberView) → found ≡ Some m → found ≡ Some x → m ≡ x
 same_first m x found one other = (let e : Some m ≡ Some x = sym one ∙ other in cc)
+
+-- What is so of the object that a member is read as, where the member is another.
+module _ (reads : List ℕ → Option Object) where
+  read_as : (m x : MemberView) (o one : Object) → m ≡ x → reads x.bytes ≡ Some one → reads m.bytes ≡ Some o → o ≡ one
+  read_as m x o one same is read = (let e : Some o ≡ Some one = sym read ∙ ap (λ (y : MemberView). reads y.bytes) same ∙ is in cc)
+
+  -- names of it
+  pub names_read : (f : Object → List (List ℕ)) (names : List (List ℕ)) (name : List ℕ) (m x : MemberView) (o one : Object) → m ≡ x → reads x.bytes ≡ Some one →
+      reads m.bytes ≡ Some o → f one ≡ names → Among name (f o) → Among name names
+  names_read f names name m x o one same is read are held = subst (Among name) are (subst (λ t. Among name (f t)) (read_as m x o one same is read) held)
+
+  -- whether it has import tables
+  pub tables_read : (b : Bool) (m x : MemberView) (o one : Object) → m ≡ x → reads x.bytes ≡ Some one → reads m.bytes ≡ Some o → has_tables one ≡ b → has_tables o ≡ b
+  tables_read b m x o one same is read has = subst (λ y. has_tables y ≡ b) (sym (read_as m x o one same is read)) has
+
+  first_read : (P : Object → Type 0) (read : Option Object) (objects : List Object) → ((o : Object) → read ≡ Some o → P o) → AllByRecursion P objects → AllByRecursion P (cons_option read objects)
+  first_read P None objects own all = all
+  first_read P (Some o) objects own all = (own o refl, all)
+
+  pub each_read : (P : Object → Type 0) (members : List MemberView) → ((m : MemberView) (o : Object) → Among m members → reads m.bytes ≡ Some o → P o) → AllByRecursion P (objects_as reads members)
+  each_read P [] own = tt
+  each_read P (m ∷ members) own =
+      first_read P (reads m.bytes) (objects_as reads members) (λ o is. own m o (among_first m members) is) (each_read P members (λ x o held is. own x o (among_later x m members held) is))
 
 -- A member is read as an object, claims what it is listed for, and is the first member that is listed for this.
 pub record IsFirstAs (reads : List ℕ → Option Object) (archive : List MemberView) (m : MemberView) : Type 0 where

@@ -24,8 +24,8 @@ use Rattle.implib_link.specs.Search.Search.{IsTakenInTurn, NamesNoHeadOrTail, fi
 use Rattle.implib_link.proofs.Search.ArchiveGroups.{export_of, head_of, tail_of, weak_of}
 use Rattle.implib_link.proofs.Search.ArchiveMembers.{Found, FoundExport, FoundHead, FoundTail, FoundWeak, export_not_weak, export_object_is, found, head_found, head_not_weak, head_object_is, tail_found, tail_not_weak, tail_object_is, weak_object_is}
 use Rattle.implib_link.proofs.Search.Lists.{all_from as all_each, passes, passing, among_at, among_either, among_flat_map, contains_among, name_as}
-use Rattle.implib_link.proofs.Search.Archives.{ForAlias, ForExport, IsNeeded, names_of, needed}
-use Rattle.implib_link.proofs.Search.Closing.{none_claimed, pulled, takes_into, in_turn_for, unresolved_parts, claims_none, claims_apart, there_not, not_there}
+use Rattle.implib_link.proofs.Search.Archives.{ForAlias, ForExport, IsNeeded, needed}
+use Rattle.implib_link.proofs.Search.Closing.{names_read, none_claimed, pulled, takes_into, in_turn_for, unresolved_parts, claims_none, claims_apart, there_not, not_there}
 use Rattle.implib_link.proofs.Search.Ends.{search_ends}
 use Rattle.implib_link.proofs.Search.Search.{AnExport, TheHead, TheTail, wanted_name, in_nothing, left_export, left_head, left_tail, listed_export, listed_head, listed_tail, only_one, wants}
 use Rattle.implib.specs.LibraryName.{linked_name, NamesOfDll, names_for}
@@ -57,18 +57,18 @@ module _ (machine : MachineType) (libraries : List Library) (archive : IsArchive
   pub left_by : (by name : List ℕ) (m : MemberView) (o : Object) → Found machine libraries archive by m → object_in m.bytes ≡ Some o → Among name (undefined_in o) → Left name m
   left_by by name m o (FoundTail l held same is) read left =
       let dll : NamesOfDll = names_for Gnu l.definition in
-      absurd (in_nothing name (names_of machine libraries archive undefined_in [] name m (tail_of machine l) o (tail machine dll) same (tail_object_is machine l (made_of l held)) read (left_tail machine dll) left))
+      absurd (in_nothing name (names_read object_in undefined_in [] name m (tail_of machine l) o (tail machine dll) same (tail_object_is machine l (made_of l held)) read (left_tail machine dll) left))
   left_by by name m o (FoundHead l held same is) read left =
       let dll : NamesOfDll = names_for Gnu l.definition in
       LeftByHead l held (only_one name (iname_symbol machine dll.linked)
-      (names_of machine libraries archive undefined_in (iname_symbol machine dll.linked ∷ []) name m (head_of machine l) o (head machine dll) same (head_object_is machine l (made_of l held)) read (left_head machine dll) left))
+      (names_read object_in undefined_in (iname_symbol machine dll.linked ∷ []) name m (head_of machine l) o (head machine dll) same (head_object_is machine l (made_of l held)) read (left_head machine dll) left))
   left_by by name m o (FoundExport l held n e is same listed) read left =
       let dll : NamesOfDll = names_for Gnu l.definition in
       LeftByExport l held (only_one name (head_symbol machine dll.linked)
-      (names_of machine libraries archive undefined_in (head_symbol machine dll.linked ∷ []) name m (export_of machine l n e) o (export machine dll e) same (export_object_is machine l (made_of l held) n e is) read (left_export machine dll e) left))
+      (names_read object_in undefined_in (head_symbol machine dll.linked ∷ []) name m (export_of machine l n e) o (export machine dll e) same (export_object_is machine l (made_of l held) n e is) read (left_export machine dll e) left))
   left_by by name m o (FoundWeak l held n e is alias is_data same named) read left =
       let target : name ≡ e.alias_target = only_one name e.alias_target
-      (names_of machine libraries archive undefined_in (e.alias_target ∷ []) name m (weak_of machine l n e) o (object_of (weak_object machine e.name e.alias_target)) same (weak_object_is machine l (made_of l held) n e is alias) read
+      (names_read object_in undefined_in (e.alias_target ∷ []) name m (weak_of machine l n e) o (object_of (weak_object machine e.name e.alias_target)) same (weak_object_is machine l (made_of l held) n e is alias) read
       (left_weak machine e.name e.alias_target) left) in
       LeftByWeak (subst (λ x. Among x (alias_targets libraries)) (sym target) (target_is l n e held is alias is_data))
 
@@ -124,7 +124,7 @@ module _ (machine : MachineType) (libraries : List Library) (archive : IsArchive
         absurd (true≢false (sym weak ∙ export_not_weak machine m (names_for Gnu l.definition) e (ap (λ (y : MemberView). object_in y.bytes) same ∙ export_object_is machine l (made_of machine libraries archive l held) n e is)))
     weak_left by name m o weak (FoundWeak l held n e is alias is_data same named) read left =
         subst (λ x. Among x (alias_targets libraries)) (sym (only_one name e.alias_target
-        (names_of machine libraries archive undefined_in (e.alias_target ∷ []) name m (weak_of machine l n e) o (object_of (weak_object machine e.name e.alias_target)) same (weak_object_is machine l (made_of machine libraries archive l held) n e is alias) read
+        (names_read object_in undefined_in (e.alias_target ∷ []) name m (weak_of machine l n e) o (object_of (weak_object machine e.name e.alias_target)) same (weak_object_is machine l (made_of machine libraries archive l held) n e is alias) read
         (left_weak machine e.name e.alias_target) left)))
         (target_is machine libraries archive l n e held is alias is_data)
 
