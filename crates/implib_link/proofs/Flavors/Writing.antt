@@ -68,14 +68,19 @@ module _ (machine : MachineType) (ending : Ending) (b : Bases) (inputs : List Fl
       (each machine ending b inputs objects made program).imports located
       (λ last. null_there machine ending b inputs objects made program (beside_of machine b objects program.admissible) (directory_ends_beside machine b objects program.admissible) last.descriptors))
 
+  -- the address tables' length
+  pub table_filled : length (filled b.addresses (contributions machine (placed_from b objects) Addresses (placed_from b objects))) ≡ thunk_width machine * thunks_of (length inputs) inputs
+  table_filled =
+      ap (λ cs. length (filled b.addresses cs)) ((stand machine ending b inputs objects made program).contributed Addresses refl)
+      ∙ all_long machine linked ending dlls b (suit machine ending b inputs objects made program) (even machine ending b inputs objects made program)
+      ∙ ap (λ n. thunk_width machine * n) (ap (λ n. thunks_in n dlls) (length-map inputs block_in) ∙ thunks_are (length inputs) inputs)
+
   pub program_long : length (filled b.addresses (contributions machine (placed_from b objects) Addresses (placed_from b objects)))
       ≡ thunk_width machine * thunks_asked (length (map (imported_in machine) inputs)) (map (imported_in machine) inputs)
   program_long =
-      ap (λ cs. length (filled b.addresses cs)) ((stand machine ending b inputs objects made program).contributed Addresses refl)
-      ∙ all_long machine linked ending dlls b (suit machine ending b inputs objects made program) (even machine ending b inputs objects made program)
+      table_filled
       ∙ ap (λ n. thunk_width machine * n)
-      (ap (λ n. thunks_in n dlls) (length-map inputs block_in) ∙ thunks_are (length inputs) inputs
-      ∙ sym (ap (λ n. thunks_asked n (map (imported_in machine) inputs)) (length-map inputs (imported_in machine)) ∙ thunks_same machine (length inputs) inputs))
+      (sym (ap (λ n. thunks_asked n (map (imported_in machine) inputs)) (length-map inputs (imported_in machine)) ∙ thunks_same machine (length inputs) inputs))
 
 module _ (machine : MachineType) (ending : Ending) (image_base : ℕ) (b : Bases) (inputs : List FlavorInput) (objects : List Object) (codes : List LinkedCode) (targets : LinkedCode → ℕ → ℕ) (memory : List Range)
     (gives : List ℕ → Ask → List ℕ) (made : AllByRecursion (IsMadeFor machine) inputs) (program : IsProgramOf machine ending b inputs objects)

@@ -4,7 +4,7 @@ use Rattle.std.specs.Prelude.{nat_lt, slice_get}
 use Rattle.std.specs.List.{AllByRecursion, filter}
 use Rattle.std.proofs.Math.Nat.{mul-add, mul-zero}
 use Rattle.std.proofs.lemmas.Bool.{cases_Bool, ltb-false, ltb-true}
-use Rattle.std.proofs.lemmas.List.{length-append}
+use Rattle.std.proofs.lemmas.List.{length-append, length-map}
 use Rattle.implib.specs.declared.machine.MachineType.{MachineType}
 use Rattle.implib.specs.declared.machine.MachineType.TheVariants.{I386, ARMNT, AMD64, ARM64}
 use Rattle.implib.specs.Definition.{ExportView}
@@ -24,11 +24,12 @@ use Rattle.implib.proofs.Link.Ranges.{Among, all_among, among_first, among_flat}
 use Rattle.implib.proofs.Link.Tables.{addresses_end, addresses_filled, descriptors_filled, filled_first, thunk_bytes}
 use Rattle.implib_link.specs.Gnu.Bounds.{AreBounded, BeginsWith, HaveEvenHints, IsEven}
 use Rattle.implib_link.specs.Gnu.Program.{has_tables, null_descriptor, thunks_before}
-use Rattle.implib_link.specs.Flavors.Program.{IsProgram, OfLinker, gnu_input}
+use Rattle.implib_link.specs.Flavors.Program.{IsProgram, OfLinker, gnu_input, thunks_of}
 use Rattle.implib_link.proofs.Gnu.Blocks.{addresses_after, table_sum}
 use Rattle.implib_link.proofs.Gnu.Others.{contributions_kept, placed_kept}
-use Rattle.implib_link.proofs.Flavors.GnuPrograms.{gnu_entry_of, gnu_kept, gnu_made}
+use Rattle.implib_link.proofs.Flavors.GnuPrograms.{gnu_thunks, gnu_entry_of, gnu_kept, gnu_made}
 use Rattle.implib_link.proofs.Flavors.Program.{program_links}
+use Rattle.implib_link.proofs.Flavors.Writing.{table_filled}
 use Rattle.implib_link.proofs.Gnu.Sized.{length-relocated}
 use Rattle.implib.specs.LibraryName.{NamesOfDll, names_for}
 use Rattle.implib.specs.declared.flavor.Flavor.TheVariants.{Gnu}
@@ -96,42 +97,9 @@ thunk_around ARM64 first total address above below = record { n = (address - fir
 
 -- The lengths of what the members contribute.
 
-plus_split : (a b c n : ℕ) → a + n ≡ b → b ≡ a + c → n ≡ c
-plus_split a b c n first second = omega arith
-
 module _ (machine : MachineType) (linked : List Placed) where
   abbrev behind : List LinkInput → List Object
   behind inputs = blocks_objects machine (map block_of inputs) (null_descriptor ∷ [])
-
-  length-thunks : (dll : NamesOfDll) (b : Bases) (es : List ExportView) → length (thunk_bytes machine dll linked b es) ≡ thunk_width machine * (length es + 1)
-  length-thunks dll b es =
-      plus_split b.addresses (ends_of_all machine dll b es).addresses (thunk_width machine * (length es + 1)) (length (thunk_bytes machine dll linked b es))
-      (addresses_end machine dll linked b es) (addresses_after machine dll b es)
-
-  addresses_long : (inputs : List LinkInput) (b : Bases) → AreAligned b →
-      length (filled b.addresses (contributions machine linked Addresses (placed_from b (behind inputs)))) ≡ thunk_width machine * thunks_before (length inputs) inputs
-  unfolding head_object
-  addresses_long [] b even = sym (mul-zero (thunk_width machine))
-  addresses_long (p ∷ inputs) b even =
-      let dll : NamesOfDll = names_for Gnu p.definition in
-      let es : List ExportView = chosen_exports p.definition p.chosen in
-      let later : Bases = ends_of_head machine dll b in
-      let last : Bases = ends_of_block machine dll b es in
-      let others : List Contribution = contributions machine linked Addresses (placed_from later (after_head machine dll es (behind inputs))) in
-      let rest : List ℕ = filled last.addresses (contributions machine linked Addresses (placed_from last (behind inputs))) in
-      let plain : b.addresses + 0 ≡ b.addresses = omega arith in
-      let bytes : filled b.addresses (contributions machine linked Addresses (placed_from b (behind (p ∷ inputs)))) ≡ thunk_bytes machine dll linked later es ++ rest =
-      ap (λ ps. filled b.addresses (contributions machine linked Addresses ps)) (placed-head machine dll b (after_head machine dll es (behind inputs)) even)
-      ∙ filled_first b.addresses 0 [] others refl
-      ∙ ap (λ n. filled n others) plain
-      ∙ addresses_filled machine dll linked later es (behind inputs) (aligned_head machine dll b even) in
-      let split : thunk_width machine * (length es + 1 + thunks_before (length inputs) inputs) ≡ thunk_width machine * (length es + 1) + thunk_width machine * thunks_before (length inputs) inputs =
-      mul-add (thunk_width machine) (length es + 1) (thunks_before (length inputs) inputs) in
-      ap length bytes
-      ∙ length-append (thunk_bytes machine dll linked later es) rest
-      ∙ ap (λ n. n + length rest) (length-thunks dll later es)
-      ∙ ap (λ n. thunk_width machine * (length es + 1) + n) (addresses_long inputs last (aligned_block machine dll b es even))
-      ∙ sym split
 
   directory_long : (inputs : List LinkInput) (b : Bases) → AreAligned b →
       length (filled b.descriptors (contributions machine linked Descriptors (placed_from b (behind inputs)))) ≡ 20 * (length inputs + 1)
@@ -214,7 +182,9 @@ module _ (machine : MachineType) (b : Bases) (inputs : List LinkInput) (objects 
       (range_there (base_of group b) (contributions machine linked group linked) long)
 
   pub table_long : length (group_range Addresses).bytes ≡ thunk_width machine * thunks_before (length inputs) inputs
-  table_long = ap (λ cs. length (filled b.addresses cs)) (contributed Addresses) ∙ addresses_long machine linked inputs b aligned_bases
+  table_long =
+      table_filled machine OfLinker b (map gnu_input inputs) objects (gnu_made machine inputs made) program
+      ∙ ap (λ n. thunk_width machine * n) (ap (λ n. thunks_of n (map gnu_input inputs)) (length-map inputs gnu_input) ∙ gnu_thunks (length inputs) inputs)
 
   directory_size : length (group_range Descriptors).bytes ≡ 20 * (length inputs + 1)
   directory_size = ap (λ cs. length (filled b.descriptors cs)) (contributed Descriptors) ∙ directory_long machine linked inputs b aligned_bases
