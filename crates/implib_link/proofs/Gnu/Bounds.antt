@@ -2,7 +2,6 @@
 use Rattle.std.proofs.Common.{◌≡◌, ℕ, zero, suc, ◌+◌, ◌*◌, ◌-◌, ◌/◌, ◌%◌, ◌^◌, ◌<◌, ◌≤◌, List, [], ◌∷◌, ◌++◌, codes, length, map, Some, refl, ap, sym, ◌∙◌, subst, inl, inr, arith}
 use Rattle.std.specs.Prelude.{nat_lt, slice_get}
 use Rattle.std.specs.List.{AllByRecursion, filter}
-use Rattle.std.proofs.Math.Nat.{mul-add, mul-zero}
 use Rattle.std.proofs.lemmas.Bool.{cases_Bool, ltb-false, ltb-true}
 use Rattle.std.proofs.lemmas.List.{length-append, length-map}
 use Rattle.implib.specs.declared.machine.MachineType.{MachineType}
@@ -21,11 +20,11 @@ use Rattle.implib.proofs.Link.LinkedInputs.{block_of}
 use Rattle.implib.proofs.Link.LinkedMembers.{among_contains}
 use Rattle.implib.proofs.Link.Placement.{AreAligned, after_head, aligned, aligned_after, aligned_head, ends_of_all, ends_of_export, ends_of_exports, ends_of_head, placed-export, placed-head, placed-tail, placed_head}
 use Rattle.implib.proofs.Link.Ranges.{Among, all_among, among_first, among_flat}
-use Rattle.implib.proofs.Link.Tables.{addresses_end, addresses_filled, descriptors_filled, filled_first, thunk_bytes}
+use Rattle.implib.proofs.Link.Tables.{descriptors_filled, filled_first}
 use Rattle.implib_link.specs.Gnu.Bounds.{AreBounded, BeginsWith, HaveEvenHints, IsEven}
 use Rattle.implib_link.specs.Gnu.Program.{has_tables, null_descriptor, thunks_before}
 use Rattle.implib_link.specs.Flavors.Program.{IsProgram, OfLinker, gnu_input, thunks_of}
-use Rattle.implib_link.proofs.Gnu.Blocks.{addresses_after, table_sum}
+use Rattle.implib_link.proofs.Gnu.Blocks.{table_sum}
 use Rattle.implib_link.proofs.Gnu.Others.{contributions_kept, placed_kept}
 use Rattle.implib_link.proofs.Flavors.GnuPrograms.{gnu_thunks, gnu_entry_of, gnu_kept, gnu_made}
 use Rattle.implib_link.proofs.Flavors.Program.{program_links}

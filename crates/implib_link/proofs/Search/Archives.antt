@@ -1,8 +1,8 @@
 -- What a linker takes of an archive of libraries.
-use Rattle.std.proofs.Common.{◌≡◌, ℕ, Bool, true, false, List, [], ◌∷◌, ◌++◌, Some, refl, ap, sym, ◌∙◌, subst, inl, inr, map}
-use Rattle.std.specs.Prelude.{bytes_eq, not, slice_get}
-use Rattle.std.specs.List.{AllByRecursion, cons_option, flat_map, list_any}
-use Rattle.std.proofs.lemmas.Bool.{cases_Bool, false_from_ne_true, true≢false}
+use Rattle.std.proofs.Common.{◌≡◌, ℕ, true, false, List, [], ◌∷◌, ◌++◌, Some, refl, ap, sym, ◌∙◌, subst, inl, inr, map}
+use Rattle.std.specs.Prelude.{not, slice_get}
+use Rattle.std.specs.List.{AllByRecursion, cons_option, flat_map}
+use Rattle.std.proofs.lemmas.Bool.{true≢false}
 use Rattle.implib.specs.declared.machine.MachineType.{MachineType}
 use Rattle.implib.specs.Definition.{ExportView}
 use Rattle.implib.specs.Members.Gnu.{archive_symbols, head_symbol, iname_symbol}
@@ -17,17 +17,16 @@ use Rattle.implib.proofs.Link.LinkedMembers.{among_contains}
 use Rattle.implib.proofs.Link.Placement.{export, head, tail}
 use Rattle.implib.proofs.Link.Ranges.{Among, all_among, among_back, among_first, among_front}
 use Rattle.implib_link.specs.Search.Archives.{IsArchive, IsLibrary, IsWeakData, Library, NamesNoHeadOrTailOf, TakesOfLibraries, archive_of, exports_of, input_if_any, inputs_wanted, is_weak, others_among, wanted_with, weak_among}
-use Rattle.implib_link.specs.Gnu.Program.{claimed_names}
 use Rattle.implib_link.specs.Flavors.Program.{OfLinker, gnu_input, LinksAmong, IsProgram}
-use Rattle.implib_link.specs.Search.Search.{IsTakenInTurn, NamesNoHeadOrTail, Takes, exports_wanted, first_listed, is_listed_for, is_wanted, undefined_in, linked_if_any, names_undefined, left_as, claimed_as, AreTakenInTurnAs}
-use Rattle.implib_link.proofs.Search.ArchiveGroups.{export_of, first_is, head_of, tail_of, weak_of}
+use Rattle.implib_link.specs.Search.Search.{IsTakenInTurn, NamesNoHeadOrTail, Takes, exports_wanted, first_listed, is_wanted, undefined_in, linked_if_any, names_undefined, left_as, AreTakenInTurnAs}
+use Rattle.implib_link.proofs.Search.ArchiveGroups.{export_of, head_of, tail_of, weak_of}
 use Rattle.implib_link.proofs.Search.ArchiveMembers.{Found, FoundExport, FoundHead, FoundTail, FoundWeak, claimed_weak, export_found, export_not_weak, export_object_is, found, head_found, head_not_weak, head_object_is, tail_found, tail_not_weak, tail_object_is, weak_found, weak_is_weak, weak_object_is}
 use Rattle.implib_link.proofs.Gnu.Claims.{claimed_export, claimed_head, claimed_tail}
 use Rattle.implib_link.proofs.Flavors.Program.{program_links}
 use Rattle.implib_link.proofs.Flavors.GnuPrograms.{gnu_made}
 use Rattle.implib_link.proofs.Search.Search.{AnExport, AnyWanted, Needed, TheHead, TheTail, any_wanted, in_nothing, left_export, left_head, left_tail, linked_if_needed, listed_export, listed_head, listed_tail, needed_if_linked, numbers_are_wanted, only_one, wanted_name, wants}
 use Rattle.implib_link.proofs.Search.Closing.{names_read, IsFirstAs, is_first, left_by as left_as_by, pulled, reached as reached_as, still_named as still_as}
-use Rattle.implib_link.proofs.Search.Lists.{from_not, all_from, among_any, among_at, among_either, any_among, any_member, contains_among, none_listed, name_as, as_name, passes as among_kept, passing as kept_among, to_not as not_true}
+use Rattle.implib_link.proofs.Search.Lists.{from_not, all_from, among_any, among_at, among_either, contains_among, name_as, as_name, passes as among_kept, passing as kept_among, to_not as not_true}
 use Rattle.implib.specs.LibraryName.{NamesOfDll, linked_name, names_for}
 use Rattle.implib.specs.declared.flavor.Flavor.TheVariants.{Gnu}
 

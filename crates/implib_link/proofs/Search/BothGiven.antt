@@ -1,5 +1,5 @@
 -- What a linker takes of an archive of both flavours for objects that may be given closes a program.
-use Rattle.std.proofs.Common.{◌≡◌, ℕ, ◌<◌, ◌⊎◌, true, false, List, [], ◌∷◌, ◌++◌, length, Some, refl, ap, sym, ◌∙◌, subst, inl, inr}
+use Rattle.std.proofs.Common.{◌≡◌, ℕ, ◌<◌, ◌⊎◌, true, false, List, [], ◌∷◌, ◌++◌, length, Some, refl, sym, ◌∙◌, subst, inl, inr}
 use Rattle.std.specs.Prelude.{IsPermutation, bytes_eq, map, not, slice_get}
 use Rattle.std.specs.List.{AllByRecursion, filter, flat_map, list_any}
 use Rattle.std.proofs.lemmas.Bool.{true≢false}
@@ -33,10 +33,10 @@ use Rattle.implib_link.proofs.Flavors.Block.{asking, use_for}
 use Rattle.implib_link.proofs.Flavors.Expanded.{taken_descriptor, taken_null, taken_null_thunk}
 use Rattle.implib_link.proofs.Search.ArchiveGroups.{export_of, head_of, tail_of, weak_of as data_weak_of}
 use Rattle.implib_link.proofs.Search.ArchiveMembers.{FoundExport, FoundHead, FoundTail, FoundWeak as FoundDataWeak, export_entries}
-use Rattle.implib_link.proofs.Search.Lists.{all_from as all_each, passes, passing, among_at, among_either, among_flat_map, name_as}
+use Rattle.implib_link.proofs.Search.Lists.{all_from as all_each, passes, passing, among_at, among_either, name_as}
 use Rattle.implib_link.proofs.Search.BothArchives.{ForAlias, ForDataAlias, ForExport, ForImport, ForNull, IsNeededOf, by_name, head_has_none, needed, tail_has_none}
 use Rattle.implib_link.proofs.Search.BothMembers.{FoundInBoth, first_held, found_in_both, gnu_export_is, gnu_head_is, gnu_made, gnu_tail_is, gnu_weak_is, msvc_made}
-use Rattle.implib_link.proofs.Search.Closing.{names_read, none_claimed, pulled, takes_into, in_turn_for, unresolved_parts, claims_none, claims_apart, there_not, not_there}
+use Rattle.implib_link.proofs.Search.Closing.{names_read, none_claimed, pulled, takes_into, in_turn_for, claims_apart, there_not, not_there}
 use Rattle.implib_link.proofs.Search.Msvc.{left_asking, left_descriptor, left_null, left_thunk}
 use Rattle.implib_link.proofs.Search.MsvcArchives.{AShort, TheDescriptor, TheThunk, both_parts, descriptor_plain, import_parts, null_plain, short_plain, thunk_plain, weak_by}
 use Rattle.implib_link.proofs.Search.MsvcClosed.{first_one}

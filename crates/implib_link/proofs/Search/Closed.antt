@@ -1,12 +1,11 @@
 -- A closed program links.
-use Rattle.std.proofs.Common.{◌≡◌, ℕ, ◌+◌, ◌*◌, ◌⊎◌, true, false, List, [], ◌∷◌, ◌++◌, map, Some, refl, ap, sym, ◌∙◌, subst, inl, inr}
+use Rattle.std.proofs.Common.{◌≡◌, ℕ, ◌+◌, ◌*◌, ◌⊎◌, true, false, List, [], ◌∷◌, ◌++◌, map, Some, ap, sym, ◌∙◌, subst, inl, inr}
 use Rattle.std.specs.Prelude.{not, slice_get}
 use Rattle.std.specs.List.{AllByRecursion, Contains, filter, flat_map}
 use Rattle.std.proofs.lemmas.Bool.{cases_Bool}
 use Rattle.std.proofs.lemmas.List.Sorted.{IsPermutation-sym}
 use Rattle.implib.specs.declared.machine.MachineType.{MachineType}
 use Rattle.implib.specs.Definition.{ExportView}
-use Rattle.implib.specs.Formats.Layout.{object_of}
 use Rattle.implib.specs.Formats.Object.{Object, object_in}
 use Rattle.implib.specs.Import.{imp_symbol, public_exports}
 use Rattle.implib.specs.Renaming.{renamed}
@@ -17,27 +16,23 @@ use Rattle.implib.specs.Link.Resolution.{definitions_of}
 use Rattle.implib.specs.Members.Gnu.{archive_symbols, head_symbol, iname_symbol}
 use Rattle.implib.specs.Members.ImportTables.{thunk_width}
 use Rattle.implib.specs.Members.MemberSpec.{MemberView}
-use Rattle.implib.specs.Members.WeakExternal.{weak_object}
 use Rattle.implib.proofs.Link.LinkedBlocks.{Block, linked_symbols as block_symbols}
 use Rattle.implib.proofs.Link.LinkedInputs.{block_of, gnu_inputs_symbols}
 use Rattle.implib.proofs.Link.LinkedMembers.{among_contains, among_map}
-use Rattle.implib.proofs.Link.Placement.{export, head, tail}
 use Rattle.implib.proofs.Link.Ranges.{Among, all_among, among_flat, among_front, among_later}
 use Rattle.implib_link.specs.Gnu.Program.{has_tables, linked_symbols, null_descriptor, thunks_before}
 use Rattle.implib_link.specs.Flavors.Program.{OfLinker, gnu_input, symbols_listed, LinksAmong, IsProgram}
 use Rattle.implib_link.specs.Search.Archives.{IsArchive, IsLibrary, Library, TakesOfLibraries, archive_of, exports_of, is_weak, others_among, weak_among}
 use Rattle.implib_link.specs.Search.Closed.{IsAliasTaken, IsClosed, IsImported, IsUsed, LinksClosed, inputs_in, listed_in, unresolved, wanted_in}
 use Rattle.implib_link.specs.Search.Search.{NamesNoHeadOrTail, Takes, exports_wanted, first_listed, is_wanted}
-use Rattle.implib_link.proofs.Gnu.Claims.{claimed_export, claimed_head, claimed_tail}
 use Rattle.implib_link.proofs.Flavors.Program.{program_links}
 use Rattle.implib_link.proofs.Flavors.GnuPrograms.{gnu_entry_of, gnu_made, gnu_members, gnu_objects}
-use Rattle.implib_link.proofs.Search.ArchiveGroups.{export_of, head_of, tail_of, weak_of}
-use Rattle.implib_link.proofs.Search.ArchiveMembers.{Found, FoundExport, FoundHead, FoundTail, FoundWeak, claimed_weak, export_found, export_object_is, found, head_found, head_object_is, tail_found, tail_object_is, weak_found, weak_is_weak, weak_object_is}
+use Rattle.implib_link.proofs.Search.ArchiveMembers.{Found, FoundExport, FoundHead, FoundTail, FoundWeak, found, weak_is_weak, weak_object_is}
 use Rattle.implib_link.proofs.Search.Archives.{found_first, inputs_made, libraries_taken}
-use Rattle.implib_link.proofs.Search.Closing.{IsFirstAs, IsListed, at_index, first_of, from_sources as program_from, in_turn_for, into_objects as program_into, is_first, listed_other, none_left, others_claim_none, pulled, reached, still_named, takes_apart, there_not}
+use Rattle.implib_link.proofs.Search.Closing.{IsFirstAs, IsListed, at_index, first_of, from_sources as program_from, in_turn_for, into_objects as program_into, listed_other, none_left, others_claim_none, pulled, reached, still_named, takes_apart, there_not}
 use Rattle.implib_link.proofs.Search.Lists.{among_at, among_either, among_flat_map, contains_among, passing, passes}
 use Rattle.implib_link.proofs.Search.Arranged.{among_moved, archive_moved, chosen_are, input_for, input_held, input_is, inputs_distinct, linked_moved}
-use Rattle.implib_link.proofs.Search.Search.{listed_export, listed_head, listed_tail, numbers_are_wanted, only_one, wanted_name, wants}
+use Rattle.implib_link.proofs.Search.Search.{numbers_are_wanted, only_one, wanted_name, wants}
 use Rattle.implib.specs.LibraryName.{linked_name, NamesOfDll, names_for}
 use Rattle.implib.specs.declared.flavor.Flavor.TheVariants.{Gnu}
 

@@ -1,5 +1,5 @@
 -- What a linker takes for given objects closes the program, by what is asked of the objects alone.
-use Rattle.std.proofs.Common.{◌≡◌, ℕ, ◌⊎◌, true, List, [], ◌∷◌, ◌++◌, map, Option, Some, refl, ap, sym, ◌∙◌, subst, inl, inr}
+use Rattle.std.proofs.Common.{◌≡◌, ℕ, ◌⊎◌, true, List, [], ◌∷◌, ◌++◌, map, Some, refl, ap, sym, ◌∙◌, subst, inl, inr}
 use Rattle.std.specs.Prelude.{slice_get}
 use Rattle.std.specs.List.{AllByRecursion, filter, flat_map}
 use Rattle.std.proofs.lemmas.Bool.{true≢false}
@@ -20,12 +20,12 @@ use Rattle.implib_link.specs.Gnu.Program.{ClaimsNone, claimed_names}
 use Rattle.implib_link.specs.Search.Archives.{IsArchive, IsLibrary, Library, NamesNoHeadOrTailOf, archive_of, exports_of, is_weak, weak_among}
 use Rattle.implib_link.specs.Search.Closed.{AreLinkedFor, IsClosed, TakesInto, listed_in, unresolved, wanted_in}
 use Rattle.implib_link.specs.Search.Given.{AreGiven, alias_targets, heads_of, is_data_alias, symbols_kept, symbols_wanted, tails_of, wanted_at_most}
-use Rattle.implib_link.specs.Search.Search.{IsTakenInTurn, NamesNoHeadOrTail, first_listed, is_wanted, names_undefined, undefined_in, left_as, AreTakenInTurnAs}
+use Rattle.implib_link.specs.Search.Search.{IsTakenInTurn, NamesNoHeadOrTail, is_wanted, names_undefined, undefined_in, left_as}
 use Rattle.implib_link.proofs.Search.ArchiveGroups.{export_of, head_of, tail_of, weak_of}
-use Rattle.implib_link.proofs.Search.ArchiveMembers.{Found, FoundExport, FoundHead, FoundTail, FoundWeak, export_not_weak, export_object_is, found, head_found, head_not_weak, head_object_is, tail_found, tail_not_weak, tail_object_is, weak_object_is}
-use Rattle.implib_link.proofs.Search.Lists.{all_from as all_each, passes, passing, among_at, among_either, among_flat_map, contains_among, name_as}
+use Rattle.implib_link.proofs.Search.ArchiveMembers.{Found, FoundExport, FoundHead, FoundTail, FoundWeak, export_not_weak, export_object_is, found, head_not_weak, head_object_is, tail_not_weak, tail_object_is, weak_object_is}
+use Rattle.implib_link.proofs.Search.Lists.{all_from as all_each, passes, passing, among_at, among_either, name_as}
 use Rattle.implib_link.proofs.Search.Archives.{ForAlias, ForExport, IsNeeded, needed}
-use Rattle.implib_link.proofs.Search.Closing.{names_read, none_claimed, pulled, takes_into, in_turn_for, unresolved_parts, claims_none, claims_apart, there_not, not_there}
+use Rattle.implib_link.proofs.Search.Closing.{names_read, none_claimed, pulled, takes_into, in_turn_for, claims_apart, there_not, not_there}
 use Rattle.implib_link.proofs.Search.Ends.{search_ends}
 use Rattle.implib_link.proofs.Search.Search.{AnExport, TheHead, TheTail, wanted_name, in_nothing, left_export, left_head, left_tail, listed_export, listed_head, listed_tail, only_one, wants}
 use Rattle.implib.specs.LibraryName.{linked_name, NamesOfDll, names_for}

@@ -1,6 +1,5 @@
 -- There is a closed program with libraries for Microsoft's linker: packed placement of what it takes for given objects.
-use Rattle.std.proofs.Common.{◌≡◌, ℕ, Bool, true, false, List, [], ◌∷◌, Option, Some, None, refl, ap, sym, ◌∙◌, subst, inl, inr}
-use Rattle.std.specs.List.{AllByRecursion, cons_option}
+use Rattle.std.proofs.Common.{◌≡◌, ℕ, true, false, List, [], ◌∷◌, Some, refl, sym, ◌∙◌, subst, inl, inr}
 use Rattle.std.proofs.lemmas.Bool.{true≢false}
 use Rattle.implib.specs.declared.flavor.Flavor.TheVariants.{Msvc}
 use Rattle.implib.specs.declared.machine.MachineType.{MachineType}
@@ -11,9 +10,9 @@ use Rattle.implib.specs.Members.MemberSpec.{MemberView}
 use Rattle.implib.specs.Members.Msvc.{short_import_symbol}
 use Rattle.implib.specs.Members.MsvcObjects.{descriptor, null_descriptor, null_thunk}
 use Rattle.implib.specs.Members.WeakExternal.{weak_object}
-use Rattle.implib.proofs.Link.Ranges.{Among, all_among, among_first, among_later}
+use Rattle.implib.proofs.Link.Ranges.{Among, all_among, among_first}
 use Rattle.implib_link.specs.Flavors.Expansion.{Use, expanded_in, import_object}
-use Rattle.implib_link.specs.Flavors.Program.{ask_in, objects_taken}
+use Rattle.implib_link.specs.Flavors.Program.{ask_in}
 use Rattle.implib_link.specs.Flavors.SectionSymbols.{with_section_symbols}
 use Rattle.implib_link.specs.Gnu.Program.{has_tables}
 use Rattle.implib_link.specs.Search.Archives.{Library}

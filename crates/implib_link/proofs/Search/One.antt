@@ -17,7 +17,7 @@ use Rattle.implib.specs.Members.MemberSpec.{MemberSpec, MemberView}
 use Rattle.implib.specs.Formats.Object.{object_in}
 use Rattle.implib.specs.Renaming.{renamed}
 use Rattle.implib.proofs.Link.LinkedMembers.{among_contains}
-use Rattle.implib.proofs.Link.Ranges.{Among, among_first, among_later}
+use Rattle.implib.proofs.Link.Ranges.{Among}
 use Rattle.implib_link.specs.Search.Archives.{IsArchive, Library, NamesNoHeadOrTailOf, archive_of, inputs_wanted, is_weak, others_among, symbols_of_export, symbols_of_library, wanted_with, weak_among}
 use Rattle.implib_link.specs.Search.Search.{IsTakenInTurn, NamesNoHeadOrTail, Takes, exports_wanted, linked_if_any, left_as, AreTakenInTurnAs}
 use Rattle.implib_link.specs.Gnu.Program.{HaveSame}

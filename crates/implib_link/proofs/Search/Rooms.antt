@@ -20,7 +20,7 @@ use Rattle.implib.specs.Members.ImportTables.{thunk_width}
 use Rattle.implib.specs.Ascii.{without_first}
 use Rattle.implib.specs.Import.{name_asked}
 use Rattle.implib.specs.Underscore.{asked_name, has_underscore}
-use Rattle.implib.proofs.Link.LinkedBlocks.{Block, blocks_objects}
+use Rattle.implib.proofs.Link.LinkedBlocks.{blocks_objects}
 use Rattle.implib.proofs.Link.LinkedInputs.{block_of, gnu_inputs_objects}
 use Rattle.implib.proofs.Link.Placement.{after_head, export, head, length-thunk, tail}
 use Rattle.implib_link.specs.Gnu.Packed.{end_with, group_end, packed_addresses, packed_descriptors, packed_directory_ends, packed_dll_names, packed_end, packed_hint_names, packed_lookups, sections_end}
