@@ -12,18 +12,18 @@ use Rattle.implib_archive_link.specs.InBytes.{LinkerMember, asks_with_on}
 use Rattle.implib_archive_link.specs.Results.{HaveArchive, IsEnding, TakesJust}
 use Rattle.implib_archive_link.proofs.Corollaries.{are_found_in_bytes, ending, given_taken}
 use Rattle.implib_archive_link.proofs.InBytes.{takes_just}
-use Rattle.implib_link.specs.Flavors.Program.{FlavorInput, IsMadeFor, ask_in, dll_of, symbol_in, thunks_of}
+use Rattle.implib_link.specs.Flavors.Program.{OfMember, FlavorInput, IsMadeFor, ask_in, dll_of, symbol_in, thunks_of}
 use Rattle.implib_link.specs.Search.BothFlavors.{AreGivenForBoth, FlavorLibrary, IsFlavorArchive, LinksClosedForBoth, archive_of_both, inputs_of_both, msvc_among}
 use Rattle.implib_link.specs.Search.Closed.{unresolved}
 use Rattle.implib_link.specs.Search.MsvcArchives.{short_inputs}
 use Rattle.implib_link.specs.Search.MsvcClosed.{TakesIntoFor, wanted_for}
-use Rattle.implib_link.proofs.Flavors.Steady.{flavors_tables_none}
+use Rattle.implib_link.proofs.Flavors.Steady.{program_tables_none}
 use Rattle.implib_link.proofs.Search.BothArranged.{both_made}
 use Rattle.implib_link.proofs.Search.BothClosed.{closed_links_of_both}
 use Rattle.implib_link.proofs.Search.BothGiven.{both_given_closes, both_given_ends}
 use Rattle.implib_link.proofs.Tables.{tables_read}
 use Rattle.implib_link.proofs.TablesInMemory.{calls_beside}
-use Rattle.implib_link.proofs.TablesOfPrograms.{can_read, flavors_count, flavors_entry, flavors_tables}
+use Rattle.implib_link.proofs.TablesOfPrograms.{can_read, program_count, program_entry, program_tables}
 use Rattle.implib_link.specs.Tables.{AreTables, Tables, block_of_flavor, tables_at}
 use Rattle.implib_link.specs.Flavors.Expansion.{expanded_in}
 use Rattle.implib.specs.Import.{imp_symbol}
@@ -39,13 +39,13 @@ both_arrive machine libraries own taken arranged bases objects archive given som
     let inputs : List FlavorInput = inputs_of_both machine arranged own taken in
     let made : AllByRecursion (IsMadeFor machine) inputs = both_made machine libraries arranged linked.order archive (wanted_for machine own taken) in
     let own_tables : Tables = tables_at machine bases objects (map (block_of_flavor machine) inputs) in
-    let tables : AreTables machine own_tables = flavors_tables machine bases inputs objects made links.program in
+    let tables : AreTables machine own_tables = program_tables machine OfMember bases inputs objects made links.program in
     record {
       links = links;
-      ends = λ gives n written wide reads. (tables_read machine own_tables gives n written tables wide reads).0 ∙ flavors_count machine bases inputs objects;
+      ends = λ gives n written wide reads. (tables_read machine own_tables gives n written tables wide reads).0 ∙ program_count machine bases inputs objects;
       calls = λ image_base codes targets gives n written i j p e c offset can beside wide reads input chosen held has.
-          (calls_beside machine image_base own_tables codes targets gives tables (flavors_tables_none machine bases inputs objects made links.program) beside n written wide reads (imp_symbol (symbol_in p.flavor e)) (dll_of p)
-          (ask_in p.flavor machine e) (bases.addresses + thunk_width machine * thunks_of i inputs) j (flavors_entry machine bases inputs objects i j p e input chosen) (can_read machine image_base bases (thunks_of i inputs) can)).calls
+          (calls_beside machine image_base own_tables codes targets gives tables (program_tables_none machine OfMember bases inputs objects made links.program.held.ended) beside n written wide reads (imp_symbol (symbol_in p.flavor e)) (dll_of p)
+          (ask_in p.flavor machine e) (bases.addresses + thunk_width machine * thunks_of i inputs) j (program_entry machine bases inputs objects i j p e input chosen) (can_read machine image_base bases (thunks_of i inputs) can)).calls
           c offset held has;
     }
 

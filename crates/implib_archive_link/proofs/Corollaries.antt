@@ -14,18 +14,18 @@ use Rattle.implib_archive_link.specs.InBytes.{Asks, LinkerMember, asks_for, asks
 use Rattle.implib_archive_link.specs.Results.{AreFoundInBytes, AreSearched, HaveArchive, IsEnding, IsSearchOf, TakesJust}
 use Rattle.implib_archive_link.proofs.InBytes.{AreTakenBy, PullsBy, TakesBy, kept_of_map, leads_to_first, search_of, takes_just}
 use Rattle.implib_link.specs.Flavors.Expansion.{descriptor_symbol_by_name, expanded_in}
-use Rattle.implib_link.specs.Gnu.Program.{ClaimsNone}
+use Rattle.implib_link.specs.Gnu.Program.{ClaimsNone, HaveSame}
 use Rattle.implib_link.specs.Search.Archives.{IsArchive, Library, NamesNoHeadOrTailOf, TakesOfLibraries, archive_of, wanted_with}
 use Rattle.implib_link.specs.Search.Closed.{AreLinkedFor, LinksClosed, TakesInto, listed_in, unresolved, wanted_in, AreTakenIntoAs, PullsIntoAs, TakesIntoAs}
 use Rattle.implib_link.specs.Search.Given.{AreGiven}
 use Rattle.implib_link.specs.Search.MsvcClosed.{TakesIntoFor}
 use Rattle.implib_link.specs.Search.Msvc.{NamesNoHeader, TakesFor, msvc_if_any, shorts_wanted}
-use Rattle.implib_link.specs.Search.Search.{HaveSame, NamesNoHeadOrTail, Takes, exports_wanted, linked_if_any, names_undefined, left_as, claimed_as, AreTakenInTurnAs, PullsInAs, TakesAs, objects_as}
+use Rattle.implib_link.specs.Search.Search.{NamesNoHeadOrTail, Takes, exports_wanted, linked_if_any, names_undefined, left_as, claimed_as, AreTakenInTurnAs, PullsInAs, TakesAs, objects_as}
 use Rattle.implib_link.proofs.Search.Ends.{search_ends}
 use Rattle.implib_link.proofs.Search.Archives.{libraries_taken}
 use Rattle.implib_link.proofs.Search.Closed.{closed_links}
 use Rattle.implib_link.proofs.Search.Given.{given_closes, given_ends}
-use Rattle.implib_link.proofs.Search.Msvc.{search_takes}
+use Rattle.implib_link.proofs.Search.MsvcOne.{search_takes}
 use Rattle.implib_link.proofs.Search.One.{takes_wanted}
 use Rattle.implib.specs.LibraryName.{linked_dll, linked_name}
 

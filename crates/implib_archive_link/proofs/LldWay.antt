@@ -1,11 +1,10 @@
 -- The way for lld, from the bytes of an archive to the DLL.
 use Rattle.std.proofs.Common.{◌≡◌, ℕ, ◌+◌, Bool, true, false, List, [], ◌∷◌, ◌++◌, map, Option, None, Some, refl, ap, sym, ◌∙◌, subst, inl, inr}
-use Rattle.std.specs.Prelude.{bytes_eq, nat_le, not, ◌==◌, if◌then◌else◌}
+use Rattle.std.specs.Prelude.{bytes_eq, nat_le, not, if◌then◌else◌}
 use Rattle.std.specs.List.{AllByRecursion, Contains, IsDistinct, cons_option, filter, filter_map, flat_map, list_any}
 use Rattle.std.specs.Option.{option_and_then}
 use Rattle.std.proofs.lemmas.Bool.{cases_Bool, false_from_ne_true, le-leb, or_parts}
 use Rattle.implib.specs.declared.machine.MachineType.{MachineType}
-use Rattle.implib.specs.declared.machine.MachineType.TheVariants.{I386, ARMNT, AMD64, ARM64}
 use Rattle.implib.specs.declared.flavor.Flavor.TheVariants.{Msvc}
 use Rattle.implib.specs.Definition.{ExportView}
 use Rattle.std.proofs.lemmas.Slice.Eq.{bytes_eq-Decides}
@@ -16,7 +15,6 @@ use Rattle.implib.specs.Import.{Ask, Name, Ordinal, imp_symbol}
 use Rattle.implib.specs.Link.Image.{Range}
 use Rattle.implib.specs.Link.Placement.{Placed}
 use Rattle.implib.specs.LibraryName.{NamesOfDll, linked_dll, names_for}
-use Rattle.implib.specs.Machine.{machine_number}
 use Rattle.implib.specs.Members.MemberSpec.{MemberSpec, MemberView}
 use Rattle.implib.specs.Members.Msvc.{name_type_of, short_import_symbol, short_import_symbols}
 use Rattle.implib.specs.Members.MsvcMembers.{descriptor_spec, export_specs, header_specs, null_descriptor_spec, null_thunk_spec, short_import_spec, weak_specs}
@@ -45,11 +43,12 @@ use Rattle.implib_link.specs.Search.Search.{first_listed, is_listed_for}
 use Rattle.implib_link.proofs.Flavors.Claims.{claims_asking, claims_descriptor, claims_null, claims_thunk}
 use Rattle.implib_link.proofs.Flavors.Block.{FitsIn, asking}
 use Rattle.implib_link.proofs.Flavors.Expanded.{AskFits, taken_descriptor, taken_null, taken_null_thunk}
-use Rattle.implib_link.proofs.Flavors.Inputs.{descriptor_at, export_fits, null_at, read_of, short_at, thunk_at}
+use Rattle.implib_link.proofs.Flavors.Inputs.{descriptor_at, export_fits, null_at, read_of, short_at, thunk_at, same_machine as own_machine}
 use Rattle.implib_link.proofs.Flavors.LldPrograms.{lld_calls, lld_count, lld_leads}
 use Rattle.implib_link.proofs.Search.ArchiveGroups.{first_is}
 use Rattle.implib_link.proofs.Search.Lists.{any_among, any_member, contains_among, none_listed, name_as}
-use Rattle.implib_link.proofs.Search.Msvc.{among_passing, passing_among}
+use Rattle.implib_link.proofs.Search.Lists.{passes}
+use Rattle.implib_link.proofs.Search.Lists.{passing}
 use Rattle.implib_link.proofs.Search.MsvcArchives.{made_of}
 use Rattle.implib_link.proofs.Search.MsvcMembers.{Found, FoundDescriptor, FoundNull, FoundShort, FoundThunk, FoundWeak, claims_weak, descriptor_found, descriptor_is, descriptor_of, found, null_found, null_is, null_of, pair_there, short_found, short_is, short_of, taken_weak, thunk_found, thunk_is, thunk_of, weak_found, weak_is, weak_of}
 use Rattle.implib_link.proofs.Search.Search.{only_one}
@@ -58,12 +57,6 @@ use Rattle.implib_link.proofs.TablesOfPrograms.{lld_tables}
 use Rattle.implib_link.specs.Tables.{tables_of_lld}
 
 -- The short import of an export, read in its member's bytes.
-
-own_machine : (machine : MachineType) → (machine_number machine == machine_number machine) ≡ true
-own_machine I386 = refl
-own_machine ARMNT = refl
-own_machine AMD64 = refl
-own_machine ARM64 = refl
 
 is_for : (machine : MachineType) (l : Library) (e : ExportView) → is_import_for machine (short_of_export machine l e) ≡ true
 is_for machine l e =
@@ -176,7 +169,7 @@ module _ (machine : MachineType) (libraries : List Library) (archive : IsMsvcArc
       let held : Among l libraries = contains_among l libraries wanted.library in
       let there : Among e (exports_of l) = contains_among e (exports_of l) wanted.export in
       let is : first_listed (archive_of libraries) name ≡ Some m = short_found machine libraries archive l e name held there wanted.plain (contains_among name (short_import_symbols e) wanted.listed) in
-      let parts = passing_among (λ n. not (list_any (bytes_eq n) (claims_of own))) name (references_of own) (contains_among name (unresolved own) wanted.left) in
+      let parts = passing (λ n. not (list_any (bytes_eq n) (claims_of own))) name (references_of own) (contains_among name (unresolved own) wanted.left) in
       elim (cases_Bool (list_any (is_listed_for name) taken)) [
         | inl some ↦
             let t = any_member name taken some in
@@ -411,7 +404,7 @@ module _ (machine : MachineType) (libraries : List Library) (archive : IsMsvcArc
           Contains (filter is_live (shorts_in machine taken)) (short_of_export machine l e)
       live_taken is_live l e wanted live =
           among_contains (short_of_export machine l e) (filter is_live (shorts_in machine taken))
-          (among_passing is_live (short_of_export machine l e) (shorts_in machine taken) (contains_among (short_of_export machine l e) (shorts_in machine taken) (short_taken l e wanted)) live)
+          (passes is_live (short_of_export machine l e) (shorts_in machine taken) (contains_among (short_of_export machine l e) (shorts_in machine taken) (short_taken l e wanted)) live)
 
 pub bytes_lead_to_lld_calls : (kind : Kind) (linker : LinkerMember) (machine : MachineType) (libraries : List Library) (own : List Object) → HaveArchive kind linker (archive_of libraries) → IsMsvcArchive machine libraries → AreCalledAlike libraries →
     TakesJust kind linker (archive_of libraries) (asks_of_lld machine own) (LldArrives machine libraries own)

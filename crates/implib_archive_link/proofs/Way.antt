@@ -1,9 +1,9 @@
 -- The whole way, by the laws on it.
-use Rattle.std.proofs.Common.{◌+◌, ◌*◌, List, map, ◌∙◌}
+use Rattle.std.proofs.Common.{◌+◌, ◌*◌, List, ap, map, ◌∙◌}
 use Rattle.std.specs.List.{AllByRecursion}
 use Rattle.implib.specs.declared.machine.MachineType.{MachineType}
 use Rattle.implib.specs.Formats.Object.{Object, object_in}
-use Rattle.implib.specs.Link.LinkedMembers.{IsMade, LinkInput}
+use Rattle.implib.specs.Link.LinkedMembers.{LinkInput}
 use Rattle.implib.specs.Link.Placement.{Bases}
 use Rattle.implib.specs.Members.ImportTables.{thunk_width}
 use Rattle.implib.specs.Members.MemberSpec.{MemberView}
@@ -13,19 +13,23 @@ use Rattle.implib_archive_link.specs.Results.{HaveArchive, TakesJust}
 use Rattle.implib_archive_link.specs.Way.{CallsArrive}
 use Rattle.implib_archive_link.proofs.Corollaries.{given_taken}
 use Rattle.implib_archive_link.proofs.InBytes.{takes_just}
-use Rattle.implib_link.specs.Gnu.Program.{thunks_before}
 use Rattle.implib_link.specs.Search.Archives.{IsArchive, Library, archive_of}
 use Rattle.implib_link.specs.Search.Closed.{AreLinkedFor, LinksClosed, TakesInto, inputs_in, wanted_in}
 use Rattle.implib_link.specs.Search.Given.{AreGiven}
-use Rattle.implib_link.proofs.Gnu.Steady.{program_tables_none}
+use Rattle.implib_link.proofs.Flavors.Steady.{program_tables_none}
+use Rattle.implib_link.proofs.Flavors.GnuPrograms.{gnu_made}
+use Rattle.implib_link.specs.Flavors.Program.{FlavorInput, IsMadeFor, OfLinker, gnu_input, thunks_of}
+use Rattle.std.proofs.lemmas.List.{length-map}
+use Rattle.std.proofs.lemmas.Option.{slice_get-map}
+use Rattle.std.specs.Prelude.{option_map}
 use Rattle.implib_link.proofs.Search.Archives.{inputs_made}
 use Rattle.implib_link.proofs.Search.Arranged.{archive_moved}
 use Rattle.implib_link.proofs.Search.Closed.{closed_links}
 use Rattle.implib_link.proofs.Search.Given.{given_closes}
 use Rattle.implib_link.proofs.Tables.{tables_read}
 use Rattle.implib_link.proofs.TablesInMemory.{calls_beside}
-use Rattle.implib_link.proofs.TablesOfPrograms.{can_read, gnu_count, gnu_entry, gnu_tables}
-use Rattle.implib_link.specs.Tables.{AreTables, Tables, block_of_input, tables_at}
+use Rattle.implib_link.proofs.TablesOfPrograms.{can_read, program_count, program_entry, program_tables}
+use Rattle.implib_link.specs.Tables.{AreTables, Tables, block_of_flavor, tables_at}
 use Rattle.implib.specs.Import.{expected_ask, imp_symbol}
 
 pub calls_arrive : (machine : MachineType) (libraries : List Library) (own : List Object) (taken : List MemberView) (arranged : List Library) (bases : Bases) (objects : List Object) →
@@ -35,15 +39,18 @@ calls_arrive machine libraries own taken arranged bases objects archive given ta
     let links : LinksClosed machine libraries own taken arranged bases objects =
     closed_links machine libraries own taken arranged bases objects archive (given_closes machine libraries own taken arranged bases objects archive given takes linked) in
     let inputs : List LinkInput = inputs_in arranged own taken in
-    let made : AllByRecursion (IsMade machine) inputs = inputs_made machine arranged (wanted_in own taken) (archive_moved machine libraries arranged linked.order archive).made in
-    let own_tables : Tables = tables_at machine bases objects (map (block_of_input machine) inputs) in
-    let tables : AreTables machine own_tables = gnu_tables machine bases inputs objects made links.program in
+    let all : List FlavorInput = map gnu_input inputs in
+    let made : AllByRecursion (IsMadeFor machine) all =
+    gnu_made machine inputs (inputs_made machine arranged (wanted_in own taken) (archive_moved machine libraries arranged linked.order archive).made) in
+    let own_tables : Tables = tables_at machine bases objects (map (block_of_flavor machine) all) in
+    let tables : AreTables machine own_tables = program_tables machine OfLinker bases all objects made links.program in
     record {
       links = links;
-      ends = λ gives n written wide reads. (tables_read machine own_tables gives n written tables wide reads).0 ∙ gnu_count machine bases inputs objects;
+      ends = λ gives n written wide reads. (tables_read machine own_tables gives n written tables wide reads).0 ∙ program_count machine bases all objects ∙ length-map inputs gnu_input;
       calls = λ image_base codes targets gives n written i j p e c offset can beside wide reads input chosen held has.
-          (calls_beside machine image_base own_tables codes targets gives tables (program_tables_none machine bases inputs objects made links.program) beside n written wide reads (imp_symbol e.name) p.definition.import_name
-          (expected_ask machine e) (bases.addresses + thunk_width machine * thunks_before i inputs) j (gnu_entry machine bases inputs objects i j p e input chosen) (can_read machine image_base bases (thunks_before i inputs) can)).calls
+          (calls_beside machine image_base own_tables codes targets gives tables (program_tables_none machine OfLinker bases all objects made links.program.held.ended) beside n written wide reads (imp_symbol e.name)
+          p.definition.import_name (expected_ask machine e) (bases.addresses + thunk_width machine * thunks_of i all) j
+          (program_entry machine bases all objects i j (gnu_input p) e (slice_get-map gnu_input inputs i ∙ ap (option_map gnu_input) input) chosen) (can_read machine image_base bases (thunks_of i all) can)).calls
           c offset held has;
     }
 

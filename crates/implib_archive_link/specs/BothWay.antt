@@ -14,11 +14,10 @@ use Rattle.implib_link.specs.Flavors.Program.{FlavorInput, all_members, ask_in, 
 use Rattle.implib_link.specs.Gnu.Calls.{CallArrives, HasCall}
 use Rattle.implib_link.specs.Gnu.Fields.{AreBeside, LinkedCode, placed_code, ranges_of_codes}
 use Rattle.implib_link.specs.Gnu.Packed.{group_end}
-use Rattle.implib_link.specs.Gnu.Program.{has_tables}
+use Rattle.implib_link.specs.Gnu.Program.{has_tables, HaveSame}
 use Rattle.implib_link.specs.Gnu.Reading.{ReadsAndWrites}
 use Rattle.implib_link.specs.Search.BothFlavors.{FlavorLibrary, LinksClosedForBoth, inputs_of_both, msvc_among}
 use Rattle.implib_link.specs.Search.MsvcArchives.{first_null, weak_in}
-use Rattle.implib_link.specs.Search.Search.{HaveSame}
 use Rattle.implib_link.specs.Stub.{CanJump}
 
 -- What is taken of such libraries is linked with the given objects:

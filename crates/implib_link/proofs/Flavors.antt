@@ -8,6 +8,7 @@ pub mod Inputs
 pub mod Program
 pub mod Texts
 pub mod Loaded
+pub mod GnuPrograms
 pub mod Beside
 pub mod Writing
 pub mod Stubs

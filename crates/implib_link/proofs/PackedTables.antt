@@ -96,7 +96,7 @@ packed_get width (c ∷ blocks) address (suc i) b is =
     ∙ ap (λ a. Some (record { dll = b.dll; address = a; entries = b.entries })) (next_sum width address (length c.entries + 1) (entries_until i blocks))
 
 -- a machine that can read from an address on can read each packed table
-eights : (a n : ℕ) → a % 8 ≡ 0 → (a + 8 * n) % 8 ≡ 0
+pub eights : (a n : ℕ) → a % 8 ≡ 0 → (a + 8 * n) % 8 ≡ 0
 eights a n even = omega arith
 
 pub reads_further : (machine : MachineType) (image_base addresses n : ℕ) → CanReadFrom machine image_base addresses → CanReadFrom machine image_base (addresses + thunk_width machine * n)

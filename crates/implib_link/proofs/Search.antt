@@ -13,6 +13,7 @@ pub mod Msvc
 pub mod Counts
 pub mod Arranged
 pub mod Closed
+pub mod Closing
 pub mod Given
 pub mod Rooms
 pub mod Exists
@@ -26,9 +27,11 @@ pub mod MsvcExists
 pub mod NamedApart
 pub mod BothMembers
 pub mod BothArchives
+pub mod MsvcOne
 pub mod BothArranged
 pub mod BothClosed
 pub mod BothGiven
 pub mod BothRooms
 pub mod BothExists
 pub mod NoShorts
+pub mod Sweeps

@@ -1,5 +1,5 @@
 -- Fields against the symbols of import tables lead to their entries, in memory at any base, whoever made the tables.
-use Rattle.std.proofs.Common.{◌≡◌, ℕ, ◌+◌, ◌*◌, ◌%◌, ◌^◌, ◌<◌, ◌≤◌, List, [], ◌∷◌, ◌++◌, length, map, Some, refl, ap, sym, ◌∙◌, subst, inl, arith}
+use Rattle.std.proofs.Common.{◌≡◌, ℕ, ◌+◌, ◌*◌, ◌^◌, ◌<◌, ◌≤◌, List, [], ◌∷◌, ◌++◌, length, map, Some, refl, ap, sym, ◌∙◌, subst, inl, arith}
 use Rattle.std.specs.Prelude.{slice_get}
 use Rattle.std.specs.List.{AllByRecursion, Contains}
 use Rattle.std.proofs.lemmas.List.{length-map}
@@ -34,12 +34,9 @@ use Rattle.implib_link.proofs.Gnu.Stubs.{same_address, wide_thunk}
 use Rattle.implib_link.proofs.Gnu.OperandStubs.{stub_arrives}
 use Rattle.implib_link.specs.Gnu.Rebased.{StubArrives}
 use Rattle.implib.proofs.Link.Ranges.{all_among}
-use Rattle.implib_link.proofs.PackedTables.{HasEntry}
+use Rattle.implib_link.proofs.PackedTables.{HasEntry, eights}
 use Rattle.implib_link.proofs.Search.Lists.{contains_among}
 use Rattle.implib_link.proofs.Tables.{tables_load}
-
-eights : (a n : ℕ) → a % 8 ≡ 0 → (a + 8 * n) % 8 ≡ 0
-eights a n even = omega arith
 
 -- a machine that can read a table from its address on can read each entry
 pub entry_reached : (machine : MachineType) (image_base address j : ℕ) → CanReadFrom machine image_base address → CanReach machine image_base (address + thunk_width machine * j)

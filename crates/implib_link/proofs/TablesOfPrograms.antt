@@ -1,4 +1,4 @@
--- Programs for GNU's linker, of both flavours, and of lld have import tables.
+-- Programs of members, and of lld, have import tables.
 use Rattle.std.proofs.Common.{◌≡◌, ℕ, zero, suc, ◌+◌, ◌*◌, List, [], ◌∷◌, ◌++◌, length, map, Some, refl, ap, sym, ◌∙◌, subst}
 use Rattle.std.specs.Prelude.{slice_get}
 use Rattle.std.specs.List.{AllByRecursion, Contains}
@@ -8,110 +8,56 @@ use Rattle.implib.specs.declared.machine.MachineType.TheVariants.{I386, ARMNT, A
 use Rattle.implib.specs.Definition.{ExportView}
 use Rattle.implib.specs.Formats.Object.{Object}
 use Rattle.implib.specs.Formats.ShortImport.{ShortImport, ask_of_short_import}
-use Rattle.implib.specs.Import.{expected_ask, imp_symbol}
+use Rattle.implib.specs.Import.{imp_symbol}
 use Rattle.implib.specs.Link.Image.{Range, image_of}
-use Rattle.implib.specs.Link.LinkedMembers.{IsMade, LinkInput, chosen_exports}
 use Rattle.implib.specs.Link.Load.{NumberAt}
 use Rattle.implib.specs.Link.Placement.{Bases, Placed, placed_from}
 use Rattle.implib.specs.Link.Resolution.{definitions_of}
 use Rattle.implib.specs.Members.ImportTables.{thunk_width}
 use Rattle.implib.proofs.Link.LinkedBlocks.{ends, starts}
-use Rattle.implib_link.specs.Directory.{DirectoryAt, imported}
+use Rattle.implib_link.specs.Directory.{DirectoryAt}
 use Rattle.implib_link.specs.Flavors.LldImports.{IsLldProgram, dll_of_group, grouped, imported_by, imports_of_lld, placed_by_lld}
 use Rattle.implib_link.specs.Flavors.LldTables.{thunks_until}
-use Rattle.implib_link.specs.Flavors.Program.{FlavorInput, IsFlavorProgram, IsMadeFor, ask_in, dll_of, exports_chosen, imported_in, symbol_in, thunks_of}
-use Rattle.implib_link.specs.Gnu.Program.{IsProgram, thunks_before}
+use Rattle.implib_link.specs.Flavors.Program.{Ending, FlavorInput, IsMadeFor, ask_in, dll_of, exports_chosen, imported_in, symbol_in, thunks_of, IsProgramOf}
 use Rattle.implib_link.specs.Gnu.Rebased.{table_places, table_places_in}
 use Rattle.implib_link.specs.Stub.{CanJump}
-use Rattle.implib_link.specs.Tables.{AreSteady, AreTables, Block, CanReadFrom, TableEntry, block_of_flavor, block_of_group, block_of_input, entry_of_short, tables_at, tables_of_lld}
+use Rattle.implib_link.specs.Tables.{AreSteady, AreTables, Block, CanReadFrom, TableEntry, block_of_flavor, block_of_group, entry_of_short, tables_at, tables_of_lld}
 use Rattle.implib_link.proofs.Flavors.LldImports.{all_at, all_define, defined_once, get_map, lld_links, nth_stands, only, stand}
 use Rattle.implib_link.proofs.Flavors.Loaded.{entry_of}
-use Rattle.implib_link.proofs.Flavors.Program.{flavors_link}
+use Rattle.implib_link.proofs.Flavors.Program.{program_links}
 use Rattle.implib_link.proofs.Gnu.Loaded.{mapped_at}
-use Rattle.implib_link.proofs.Gnu.Program.{program_links}
-use Rattle.implib_link.proofs.Gnu.Stubs.{entry_defined}
 use Rattle.implib_link.proofs.PackedTables.{HasEntry, are_packed, asks_again, block_entry, entries_until, imported_by_block, packed_count, reads_further}
 use Rattle.implib_link.proofs.Search.Lists.{contains_among}
 
--- The blocks of programs for GNU's linker.
+-- The blocks of programs.
 
-pub inputs_blocks : (machine : MachineType) (inputs : List LinkInput) → map imported_by_block (map (block_of_input machine) inputs) ≡ map (imported machine) inputs
+pub inputs_blocks : (machine : MachineType) (inputs : List FlavorInput) → map imported_by_block (map (block_of_flavor machine) inputs) ≡ map (imported_in machine) inputs
 inputs_blocks machine [] = refl
 inputs_blocks machine (p ∷ inputs) =
-    ap (λ asks. record { dll = p.definition.import_name; asks = asks } ∷ map imported_by_block (map (block_of_input machine) inputs))
-    (asks_again (expected_ask machine) (λ (e : ExportView). Some (imp_symbol e.name)) (chosen_exports p.definition p.chosen))
-    ∙ ap (λ is. imported machine p ∷ is) (inputs_blocks machine inputs)
+    ap (λ asks. record { dll = dll_of p; asks = asks } ∷ map imported_by_block (map (block_of_flavor machine) inputs))
+    (asks_again (ask_in p.flavor machine) (λ (e : ExportView). Some (imp_symbol (symbol_in p.flavor e))) (exports_chosen p))
+    ∙ ap (λ is. imported_in machine p ∷ is) (inputs_blocks machine inputs)
 
-pub inputs_until : (machine : MachineType) (i : ℕ) (inputs : List LinkInput) → entries_until i (map (block_of_input machine) inputs) ≡ thunks_before i inputs
+pub inputs_until : (machine : MachineType) (i : ℕ) (inputs : List FlavorInput) → entries_until i (map (block_of_flavor machine) inputs) ≡ thunks_of i inputs
 inputs_until machine zero inputs = refl
 inputs_until machine (suc i) [] = refl
 inputs_until machine (suc i) (p ∷ inputs) =
-    ap (λ n. n + 1 + entries_until i (map (block_of_input machine) inputs)) (length-map (chosen_exports p.definition p.chosen) (λ (e : ExportView). record { ask = expected_ask machine e; symbol = Some (imp_symbol e.name) }))
-    ∙ ap (λ n. length (chosen_exports p.definition p.chosen) + 1 + n) (inputs_until machine i inputs)
-
-pub gnu_tables : (machine : MachineType) (bases : Bases) (inputs : List LinkInput) (objects : List Object) → AllByRecursion (IsMade machine) inputs → IsProgram machine bases inputs objects →
-    AreTables machine (tables_at machine bases objects (map (block_of_input machine) inputs))
-gnu_tables machine bases inputs objects made program =
-    let links = program_links machine bases inputs objects made program in
-    let image : List Range = image_of machine bases (placed_from bases objects) in
-    are_packed machine image (placed_from bases objects) bases.descriptors bases.addresses (map (block_of_input machine) inputs)
-    (starts machine bases objects program.admissible) (ends machine bases objects program.admissible)
-    (subst (DirectoryAt image (thunk_width machine) bases.descriptors) (sym (inputs_blocks machine inputs)) links.directory)
-    (λ i b is.
-    let at = mapped_at (block_of_input machine) inputs i b is in
-    let one = links.imports i at.0 at.1.0 in
-    subst (NumberAt image 4 (bases.descriptors + 20 * i + 16))
-    (one.table_located ∙ ap (λ n. bases.addresses + thunk_width machine * n) (sym (inputs_until machine i inputs))) one.strictly.loads.plain.addresses_field)
-    (λ i j b e name is asked symbol.
-    let at = mapped_at (block_of_input machine) inputs i b is in
-    let own = mapped_at (λ (x : ExportView). record { ask = expected_ask machine x; symbol = Some (imp_symbol x.name) }) (chosen_exports at.0.definition at.0.chosen) j e
-    (subst (λ (k : Block). slice_get k.entries j ≡ Some e) (sym at.1.1) asked) in
-    let named : Some (imp_symbol own.0.name) ≡ Some name = ap (λ (x : TableEntry). x.symbol) own.1.1 ∙ symbol in
-    let same : imp_symbol own.0.name ≡ name = cc in
-    subst (λ n. definitions_of n (placed_from bases objects) ≡ record { name = n; address = Some (bases.addresses + thunk_width machine * entries_until i (map (block_of_input machine) inputs) + thunk_width machine * j) } ∷ []) same
-    (subst (λ k. definitions_of (imp_symbol own.0.name) (placed_from bases objects) ≡ record { name = imp_symbol own.0.name; address = Some (bases.addresses + thunk_width machine * k + thunk_width machine * j) } ∷ [])
-    (sym (inputs_until machine i inputs)) (entry_defined machine bases inputs objects i j at.0 own.0 made program at.1.0 own.1.0)))
-
--- the entry of an export
-pub gnu_entry : (machine : MachineType) (bases : Bases) (inputs : List LinkInput) (objects : List Object) (i j : ℕ) (p : LinkInput) (e : ExportView) → slice_get inputs i ≡ Some p →
-    slice_get (chosen_exports p.definition p.chosen) j ≡ Some e →
-    HasEntry (tables_at machine bases objects (map (block_of_input machine) inputs)) (imp_symbol e.name) p.definition.import_name (expected_ask machine e) (bases.addresses + thunk_width machine * thunks_before i inputs) j
-gnu_entry machine bases inputs objects i j p e input chosen =
-    subst (λ n. HasEntry (tables_at machine bases objects (map (block_of_input machine) inputs)) (imp_symbol e.name) p.definition.import_name (expected_ask machine e) (bases.addresses + thunk_width machine * n) j)
-    (inputs_until machine i inputs)
-    (block_entry machine (image_of machine bases (placed_from bases objects)) (placed_from bases objects) bases.descriptors bases.addresses (map (block_of_input machine) inputs) i j
-    (block_of_input machine p) (record { ask = expected_ask machine e; symbol = Some (imp_symbol e.name) }) (imp_symbol e.name) (get_map (block_of_input machine) inputs i p input)
-    (get_map (λ (x : ExportView). record { ask = expected_ask machine x; symbol = Some (imp_symbol x.name) }) (chosen_exports p.definition p.chosen) j e chosen) refl)
-
--- The blocks of programs of both flavours.
-
-pub flavors_blocks : (machine : MachineType) (inputs : List FlavorInput) → map imported_by_block (map (block_of_flavor machine) inputs) ≡ map (imported_in machine) inputs
-flavors_blocks machine [] = refl
-flavors_blocks machine (p ∷ inputs) =
-    ap (λ asks. record { dll = dll_of p; asks = asks } ∷ map imported_by_block (map (block_of_flavor machine) inputs))
-    (asks_again (ask_in p.flavor machine) (λ (e : ExportView). Some (imp_symbol (symbol_in p.flavor e))) (exports_chosen p))
-    ∙ ap (λ is. imported_in machine p ∷ is) (flavors_blocks machine inputs)
-
-pub flavors_until : (machine : MachineType) (i : ℕ) (inputs : List FlavorInput) → entries_until i (map (block_of_flavor machine) inputs) ≡ thunks_of i inputs
-flavors_until machine zero inputs = refl
-flavors_until machine (suc i) [] = refl
-flavors_until machine (suc i) (p ∷ inputs) =
     ap (λ n. n + 1 + entries_until i (map (block_of_flavor machine) inputs)) (length-map (exports_chosen p) (λ (e : ExportView). record { ask = ask_in p.flavor machine e; symbol = Some (imp_symbol (symbol_in p.flavor e)) }))
-    ∙ ap (λ n. length (exports_chosen p) + 1 + n) (flavors_until machine i inputs)
+    ∙ ap (λ n. length (exports_chosen p) + 1 + n) (inputs_until machine i inputs)
 
-pub flavors_tables : (machine : MachineType) (bases : Bases) (inputs : List FlavorInput) (objects : List Object) → AllByRecursion (IsMadeFor machine) inputs → IsFlavorProgram machine bases inputs objects →
+pub program_tables : (machine : MachineType) (ending : Ending) (bases : Bases) (inputs : List FlavorInput) (objects : List Object) → AllByRecursion (IsMadeFor machine) inputs → IsProgramOf machine ending bases inputs objects →
     AreTables machine (tables_at machine bases objects (map (block_of_flavor machine) inputs))
-flavors_tables machine bases inputs objects made program =
-    let links = flavors_link machine bases inputs objects made program in
+program_tables machine ending bases inputs objects made program =
+    let links = program_links machine ending bases inputs objects made program in
     let image : List Range = image_of machine bases (placed_from bases objects) in
     are_packed machine image (placed_from bases objects) bases.descriptors bases.addresses (map (block_of_flavor machine) inputs)
     (starts machine bases objects program.admissible) (ends machine bases objects program.admissible)
-    (subst (DirectoryAt image (thunk_width machine) bases.descriptors) (sym (flavors_blocks machine inputs)) links.directory)
+    (subst (DirectoryAt image (thunk_width machine) bases.descriptors) (sym (inputs_blocks machine inputs)) links.directory)
     (λ i b is.
     let at = mapped_at (block_of_flavor machine) inputs i b is in
     let one = links.imports i at.0 at.1.0 in
     subst (NumberAt image 4 (bases.descriptors + 20 * i + 16))
-    (one.table_located ∙ ap (λ n. bases.addresses + thunk_width machine * n) (sym (flavors_until machine i inputs))) one.loads.plain.addresses_field)
+    (one.table_located ∙ ap (λ n. bases.addresses + thunk_width machine * n) (sym (inputs_until machine i inputs))) one.loads.plain.addresses_field)
     (λ i j b e name is asked symbol.
     let at = mapped_at (block_of_flavor machine) inputs i b is in
     let own = mapped_at (λ (x : ExportView). record { ask = ask_in at.0.flavor machine x; symbol = Some (imp_symbol (symbol_in at.0.flavor x)) }) (exports_chosen at.0) j e
@@ -121,16 +67,16 @@ flavors_tables machine bases inputs objects made program =
     subst (λ n. definitions_of n (placed_from bases objects) ≡ record { name = n; address = Some (bases.addresses + thunk_width machine * entries_until i (map (block_of_flavor machine) inputs) + thunk_width machine * j) } ∷ []) same
     (subst (λ k. definitions_of (imp_symbol (symbol_in at.0.flavor own.0)) (placed_from bases objects)
     ≡ record { name = imp_symbol (symbol_in at.0.flavor own.0); address = Some (bases.addresses + thunk_width machine * k + thunk_width machine * j) } ∷ [])
-    (sym (flavors_until machine i inputs)) (entry_of machine bases inputs objects i j at.0 own.0 links at.1.0 own.1.0)))
+    (sym (inputs_until machine i inputs)) (entry_of machine ending bases inputs objects i j at.0 own.0 links at.1.0 own.1.0)))
 
 -- the entry of an export
-pub flavors_entry : (machine : MachineType) (bases : Bases) (inputs : List FlavorInput) (objects : List Object) (i j : ℕ) (p : FlavorInput) (e : ExportView) → slice_get inputs i ≡ Some p →
+pub program_entry : (machine : MachineType) (bases : Bases) (inputs : List FlavorInput) (objects : List Object) (i j : ℕ) (p : FlavorInput) (e : ExportView) → slice_get inputs i ≡ Some p →
     slice_get (exports_chosen p) j ≡ Some e →
     HasEntry (tables_at machine bases objects (map (block_of_flavor machine) inputs)) (imp_symbol (symbol_in p.flavor e)) (dll_of p) (ask_in p.flavor machine e)
     (bases.addresses + thunk_width machine * thunks_of i inputs) j
-flavors_entry machine bases inputs objects i j p e input chosen =
+program_entry machine bases inputs objects i j p e input chosen =
     subst (λ n. HasEntry (tables_at machine bases objects (map (block_of_flavor machine) inputs)) (imp_symbol (symbol_in p.flavor e)) (dll_of p) (ask_in p.flavor machine e) (bases.addresses + thunk_width machine * n) j)
-    (flavors_until machine i inputs)
+    (inputs_until machine i inputs)
     (block_entry machine (image_of machine bases (placed_from bases objects)) (placed_from bases objects) bases.descriptors bases.addresses (map (block_of_flavor machine) inputs) i j
     (block_of_flavor machine p) (record { ask = ask_in p.flavor machine e; symbol = Some (imp_symbol (symbol_in p.flavor e)) }) (imp_symbol (symbol_in p.flavor e)) (get_map (block_of_flavor machine) inputs i p input)
     (get_map (λ (x : ExportView). record { ask = ask_in p.flavor machine x; symbol = Some (imp_symbol (symbol_in p.flavor x)) }) (exports_chosen p) j e chosen) refl)
@@ -199,11 +145,8 @@ lld_steady machine addresses taken (p ∷ before) behind none none_behind =
     both_none (x ∷ xs) ys is = cc
 
 -- How many tables there are, and that they can be read where stubs can jump.
-pub gnu_count : (machine : MachineType) (bases : Bases) (inputs : List LinkInput) (objects : List Object) → length (tables_at machine bases objects (map (block_of_input machine) inputs)).tables ≡ length inputs
-gnu_count machine bases inputs objects = packed_count (thunk_width machine) (map (block_of_input machine) inputs) bases.addresses ∙ length-map inputs (block_of_input machine)
-
-pub flavors_count : (machine : MachineType) (bases : Bases) (inputs : List FlavorInput) (objects : List Object) → length (tables_at machine bases objects (map (block_of_flavor machine) inputs)).tables ≡ length inputs
-flavors_count machine bases inputs objects = packed_count (thunk_width machine) (map (block_of_flavor machine) inputs) bases.addresses ∙ length-map inputs (block_of_flavor machine)
+pub program_count : (machine : MachineType) (bases : Bases) (inputs : List FlavorInput) (objects : List Object) → length (tables_at machine bases objects (map (block_of_flavor machine) inputs)).tables ≡ length inputs
+program_count machine bases inputs objects = packed_count (thunk_width machine) (map (block_of_flavor machine) inputs) bases.addresses ∙ length-map inputs (block_of_flavor machine)
 
 jumps_read : (machine : MachineType) (image_base : ℕ) (bases : Bases) → CanJump machine image_base bases → CanReadFrom machine image_base bases.addresses
 jumps_read I386 image_base bases can = can

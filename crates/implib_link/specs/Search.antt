@@ -13,3 +13,4 @@ pub mod NamedApart
 pub mod BothFlavors
 pub mod BothExists
 pub mod NoShorts
+pub mod Sweeps

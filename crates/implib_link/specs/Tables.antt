@@ -7,9 +7,8 @@ use Rattle.implib.specs.declared.machine.MachineType.TheVariants.{I386, ARMNT, A
 use Rattle.implib.specs.Definition.{ExportView}
 use Rattle.implib.specs.Formats.Object.{Object}
 use Rattle.implib.specs.Formats.ShortImport.{ShortImport, ask_of_short_import}
-use Rattle.implib.specs.Import.{Ask, expected_ask, imp_symbol}
+use Rattle.implib.specs.Import.{Ask, imp_symbol}
 use Rattle.implib.specs.Link.Image.{Range, image_of, range_end}
-use Rattle.implib.specs.Link.LinkedMembers.{LinkInput, chosen_exports}
 use Rattle.implib.specs.Link.Load.{NumberAt}
 use Rattle.implib.specs.Link.Placement.{Bases, Placed, placed_from}
 use Rattle.implib.specs.Link.Resolution.{definitions_of}
@@ -110,14 +109,7 @@ packed_tables width address (b ∷ blocks) =
     record { dll = b.dll; address = address; entries = b.entries }
     ∷ packed_tables width (address + width * (length b.entries + 1)) blocks
 
--- those of a program for GNU's linker, of one of both flavours, and of lld
-abbrev pub block_of_input : MachineType → LinkInput → Block
-block_of_input machine p = record {
-  dll = p.definition.import_name;
-  entries = map (λ (e : ExportView). record { ask = expected_ask machine e; symbol = Some (imp_symbol e.name) })
-      (chosen_exports p.definition p.chosen);
-}
-
+-- those of a program of members, and of lld
 abbrev pub block_of_flavor : MachineType → FlavorInput → Block
 block_of_flavor machine p = record {
   dll = dll_of p;

@@ -8,7 +8,6 @@ pub mod bounds;
 pub mod choices;
 pub mod closed;
 pub mod exists;
-pub mod flavors;
 pub mod lld;
 pub mod msvc_search;
 pub mod named_apart;

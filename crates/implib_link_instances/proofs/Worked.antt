@@ -14,8 +14,10 @@ pub mod LongNames
 pub mod MsvcSearch
 pub mod Loads
 pub mod Searched
+pub mod Sweeps
 pub mod FlavorLoads
 pub mod Packed
+pub mod GnuPacked
 pub mod Bounds
 pub mod RefusedTexts
 pub mod Sources

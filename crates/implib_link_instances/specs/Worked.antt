@@ -14,6 +14,7 @@ pub mod LongNames
 pub mod MsvcSearch
 pub mod Loads
 pub mod Searched
+pub mod Sweeps
 pub mod FlavorLoads
 pub mod Packed
 pub mod Bounds

@@ -1,13 +1,11 @@
 //! Members of a text, with all that linking them gives.
 
 ghost use Rattle.implib.specs.Library.{member_view};
-ghost use Rattle.implib.specs.declared.flavor.Flavor.TheVariants.{Msvc};
+ghost use Rattle.implib.specs.declared.flavor.Flavor.TheVariants.{Gnu, Msvc};
 ghost use Rattle.implib_link.specs.Flavors.Texts.{LinkInFlavor};
-ghost use Rattle.implib_link.specs.Gnu.Texts.{LinkAsStated};
 ghost use Rattle.std.specs.Prelude.{IfOk, map};
 
 use implib::{Error, Flavor, ImportLibrary, MachineType, Member};
-use implib_link::laws::flavors::flavored_texts_link;
 use implib_link::laws::texts::texts_link;
 use std::alloc::Global;
 
@@ -17,7 +15,7 @@ pub fn gnu_members_of_text(
     text: &str,
     machine: MachineType,
 ) -> Result<Vec<Member>, Error>
-    ensures links { IfOk result (λ members. LinkAsStated text.now machine
+    ensures links { IfOk result (λ members. LinkInFlavor text.now machine Gnu
         (map member_view members.items)) }
 {
     let library = ImportLibrary::new(alloc, text, machine, Flavor::Gnu)?;
@@ -37,6 +35,6 @@ pub fn msvc_members_of_text(
 {
     let library = ImportLibrary::new(alloc, text, machine, Flavor::Msvc)?;
     let members = library.members()?;
-    flavored_texts_link();
+    texts_link();
     Ok(members)
 }

@@ -19,16 +19,41 @@ use Rattle.implib.specs.Formats.Object.{Object}
 use Rattle.implib.specs.Link.Placement.{Bases, Placed, next_multiple, placed_from}
 use Rattle.implib.specs.Link.Resolution.{SymbolDefinition, defined_by, definitions, definitions_of}
 use Rattle.implib.proofs.Link.Descriptors.{descriptor_loads}
-use Rattle.implib.proofs.Link.Linked.{LocatedFrom, all_of_stub, block_defined, block_definitions, block_links, block_targets, definitions-block, ends_of_block, head_definition, rest_located}
-use Rattle.implib.proofs.Link.Placement.{after_head, ends_of_all, ends_of_export, ends_of_exports, ends_of_head, head, names-after}
+use Rattle.implib.proofs.Link.Linked.{BlockLinks, LocatedFrom, aligned_block, all_of_stub, block_defined, block_definitions, block_links, block_targets, definitions-block, ends_of_block, head_definition, rest_located}
+use Rattle.implib.proofs.Link.Placement.{AreAligned, after_head, ends_of_all, ends_of_export, ends_of_exports, ends_of_head, head, names-after}
 use Rattle.implib.proofs.Link.Ranges.{Among, among_back, among_first, among_later}
 use Rattle.implib.proofs.Link.Tables.{CanBeAsked}
 use Rattle.implib.proofs.Link.Thunks.{StrictTableAt, zeros_number}
 use Rattle.implib_link.specs.Flavors.Expansion.{Code, Constant, Data, Use, import_object, descriptor_symbol_by_name, stub_relocations_for}
-use Rattle.implib_link.specs.Flavors.Program.{IsFoundByName, SymbolsAt, ask_in, descriptor_in, symbol_in}
+use Rattle.implib_link.specs.Flavors.Program.{Ending, IsFoundByName, OfLinker, OfMember, SymbolsAt, WhereMember, ask_in, descriptor_in, symbol_in}
 use Rattle.implib_link.specs.Flavors.SectionSymbols.{with_section_symbols}
 use Rattle.implib_link.proofs.Flavors.Expanded.{AreWide, AskFits, asking_located, descriptor_located, ends_of_asking, ends_of_descriptor, ends_of_null_thunk, null_thunk_located, placed-asking, placed-descriptor, placed-null_thunk, placed_asking, placed_descriptor, taken_descriptor, taken_null_thunk, wide_aligned, wide_asking, wide_descriptor, wide_next, wide_null_thunk}
 use Rattle.implib.specs.LibraryName.{NamesOfDll}
+
+-- Where tables may begin, by what ends the directory: at multiples of 4, or of a thunk's width.
+abbrev pub AreEven : Ending → MachineType → Bases → Type 0
+AreEven OfLinker machine b = AreAligned b
+AreEven OfMember machine b = AreWide machine b
+
+-- which members may be, and what is known of a library's null descriptor
+abbrev pub Suits : Ending → Flavor → Type 0
+Suits OfLinker flavor = flavor ≡ Gnu
+Suits OfMember flavor = Unit {0}
+
+abbrev pub NullDefined : Ending → List Placed → Type 0
+NullDefined ending linked = WhereMember ending (IsDefinedAt linked null_descriptor_symbol)
+
+pub even_aligned : (machine : MachineType) (ending : Ending) (b : Bases) → AreEven ending machine b → AreAligned b
+even_aligned machine OfLinker b even = even
+even_aligned machine OfMember b even = wide_aligned machine b even
+
+pub even_wide : (machine : MachineType) (ending : Ending) (b : Bases) → Suits ending Msvc → AreEven ending machine b → AreWide machine b
+even_wide machine OfLinker b suits even = cc
+even_wide machine OfMember b suits even = even
+
+null_defined : (ending : Ending) (linked : List Placed) → Suits ending Msvc → NullDefined ending linked → IsDefinedAt linked null_descriptor_symbol
+null_defined OfLinker linked suits null = cc
+null_defined OfMember linked suits null = null
 
 -- what an export is used for
 abbrev pub use_for : ExportView → Use
@@ -134,13 +159,14 @@ abbrev pub symbols_of : MachineType → Flavor → NamesOfDll → List ExportVie
 symbols_of machine Msvc dll es = descriptor_symbol dll.linked ∷ (flat_map short_import_symbols es ++ null_thunk_symbol dll.linked ∷ [])
 symbols_of machine Gnu dll es = head_symbol machine dll.linked ∷ (flat_map archive_symbols es ++ iname_symbol machine dll.linked ∷ [])
 
-pub definitions-in : (machine : MachineType) (flavor : Flavor) (dll : NamesOfDll) (b : Bases) (es : List ExportView) (rest : List Object) → AreWide machine b →
+pub definitions-in : (machine : MachineType) (ending : Ending) (flavor : Flavor) (dll : NamesOfDll) (b : Bases) (es : List ExportView) (rest : List Object) → Suits ending flavor → AreEven ending machine b →
     definitions (placed_from b (objects_of machine flavor dll es rest)) ≡ definitions_in machine flavor dll b es ++ definitions (placed_from (ends_in machine flavor dll b es) rest)
 unfolding descriptor_definition with_section_symbols object_of descriptor entries_of name_text
-definitions-in machine Msvc dll b es rest even =
-    ap definitions (placed-descriptor machine dll b (behind_descriptor machine dll es rest) even)
-    ∙ ap (λ ds. descriptor_definition dll b ∷ ds) (definitions-behind machine dll (ends_of_descriptor dll b) es rest (wide_descriptor machine dll b even))
-definitions-in machine Gnu dll b es rest even = definitions-block machine dll b es rest (wide_aligned machine b even)
+definitions-in machine ending Msvc dll b es rest suits even =
+    let wide : AreWide machine b = even_wide machine ending b suits even in
+    ap definitions (placed-descriptor machine dll b (behind_descriptor machine dll es rest) wide)
+    ∙ ap (λ ds. descriptor_definition dll b ∷ ds) (definitions-behind machine dll (ends_of_descriptor dll b) es rest (wide_descriptor machine dll b wide))
+definitions-in machine ending Gnu dll b es rest suits even = definitions-block machine dll b es rest (even_aligned machine ending b even)
 
 pub names-in : (machine : MachineType) (flavor : Flavor) (dll : NamesOfDll) (b : Bases) (es : List ExportView) →
     map (λ (d : SymbolDefinition). d.name) (definitions_in machine flavor dll b es) ≡ symbols_of machine flavor dll es
@@ -162,11 +188,17 @@ gnu_exports_wide machine dll b (e ∷ es) even =
       addresses = wide_next machine b.addresses even.addresses;
     })
 
-pub wide_in : (machine : MachineType) (flavor : Flavor) (dll : NamesOfDll) (b : Bases) (es : List ExportView) → AreWide machine b → AreWide machine (ends_in machine flavor dll b es)
+wide_in : (machine : MachineType) (flavor : Flavor) (dll : NamesOfDll) (b : Bases) (es : List ExportView) → AreWide machine b → AreWide machine (ends_in machine flavor dll b es)
 wide_in machine Msvc dll b es even = wide_askings machine (ends_of_descriptor dll b) es (wide_descriptor machine dll b even)
 wide_in machine Gnu dll b es even =
     let whole : b.descriptors % 4 ≡ 0 = even.descriptors in
     gnu_exports_wide machine dll (ends_of_head machine dll b) es (record { descriptors = omega arith; lookups = even.lookups; addresses = even.addresses })
+
+pub even_in : (machine : MachineType) (ending : Ending) (flavor : Flavor) (dll : NamesOfDll) (b : Bases) (es : List ExportView) → Suits ending flavor → AreEven ending machine b →
+    AreEven ending machine (ends_in machine flavor dll b es)
+even_in machine OfLinker Msvc dll b es suits even = cc
+even_in machine OfLinker Gnu dll b es suits even = aligned_block machine dll b es even
+even_in machine OfMember flavor dll b es suits even = wide_in machine flavor dll b es even
 
 -- what an export asks can be asked
 unfoldable pub FitsIn : Flavor → MachineType → ExportView → Type 0
@@ -182,6 +214,11 @@ symbols_from : (linked : List Placed) (width address : ℕ) (es : List ExportVie
 unfolding EntriesAt SymbolsAt
 symbols_from linked width address [] entries = tt
 symbols_from linked width address (e ∷ es) entries = (entries.0, symbols_from linked width (address + width) es entries.1)
+
+pub block_entries : (machine : MachineType) (linked : List Placed) (image : List Range) (b : Bases) (dll : NamesOfDll) (es : List ExportView) → BlockLinks machine linked image b dll es →
+    SymbolsAt linked (thunk_width machine) b.addresses (map (λ e. imp_symbol (symbol_in Gnu e)) es)
+block_entries machine linked image b dll es block =
+    symbols_from linked (thunk_width machine) b.addresses es (subst (λ n. EntriesAt linked (thunk_width machine) n es) block.addresses block.strictly.entries)
 
 -- What is known of one DLL's objects among all that is linked, with other objects after them.
 pub record OneLinks (machine : MachineType) (linked : List Placed) (image : List Range) (flavor : Flavor) (dll : NamesOfDll) (es : List ExportView) (b : Bases) (rest : List Object) : Type 0 where
@@ -354,26 +391,27 @@ module _ (machine : MachineType) (dll : NamesOfDll) (linked : List Placed) (imag
       }
 
   -- one DLL's members for GNU's linker
-  gnu_links : (es : List ExportView) (b : Bases) (rest : List Object) → AllByRecursion (FitsIn Gnu machine) es → AreWide machine b →
+  gnu_links : (es : List ExportView) (b : Bases) (rest : List Object) → AllByRecursion (FitsIn Gnu machine) es → AreAligned b →
       ((d : SymbolDefinition) → Among d (definitions_in machine Gnu dll b es) → definitions_of d.name linked ≡ d ∷ []) →
       LocatedFrom machine linked image b (objects_of machine Gnu dll es rest) → OneLinks machine linked image Gnu dll es b rest
   unfolding FitsIn
   gnu_links es b rest fit even only located =
-      let block = block_links machine dll es b rest linked image starts ends dll_text fit (wide_aligned machine b even) only located in
+      let block = block_links machine dll es b rest linked image starts ends dll_text fit even only located in
       record {
         top = block.strictly.head;
         loads = block.strictly.loads;
         table_located = block.addresses;
-        entries = symbols_from linked (thunk_width machine) b.addresses es (subst (λ n. EntriesAt linked (thunk_width machine) n es) block.addresses block.strictly.entries);
-        rest_located = rest_located machine dll es b rest linked image starts ends dll_text fit (wide_aligned machine b even) only located;
-        defined = block_defined machine dll es b rest linked image starts ends dll_text fit (wide_aligned machine b even) only located;
-        targets = block_targets machine dll es b rest linked image starts ends dll_text fit (wide_aligned machine b even) only located;
+        entries = block_entries machine linked image b dll es block;
+        rest_located = rest_located machine dll es b rest linked image starts ends dll_text fit even only located;
+        defined = block_defined machine dll es b rest linked image starts ends dll_text fit even only located;
+        targets = block_targets machine dll es b rest linked image starts ends dll_text fit even only located;
       }
 
   -- one DLL's members in a flavour
-  pub one_links : (flavor : Flavor) (es : List ExportView) (b : Bases) (rest : List Object) → AllByRecursion (FitsIn flavor machine) es → AreWide machine b →
-      IsFoundByName flavor dll → IsDefinedAt linked null_descriptor_symbol →
+  pub one_links : (ending : Ending) (flavor : Flavor) (es : List ExportView) (b : Bases) (rest : List Object) → AllByRecursion (FitsIn flavor machine) es → Suits ending flavor → AreEven ending machine b →
+      IsFoundByName flavor dll → NullDefined ending linked →
       ((d : SymbolDefinition) → Among d (definitions_in machine flavor dll b es) → definitions_of d.name linked ≡ d ∷ []) →
       LocatedFrom machine linked image b (objects_of machine flavor dll es rest) → OneLinks machine linked image flavor dll es b rest
-  one_links Msvc es b rest fit even found null only located = msvc_links es b rest fit even found null only located
-  one_links Gnu es b rest fit even found null only located = gnu_links es b rest fit even only located
+  one_links ending Msvc es b rest fit suits even found null only located =
+      msvc_links es b rest fit (even_wide machine ending b suits even) found (null_defined ending linked suits null) only located
+  one_links ending Gnu es b rest fit suits even found null only located = gnu_links es b rest fit (even_aligned machine ending b even) only located

@@ -13,7 +13,6 @@ use Rattle.implib.specs.Members.ImportTables.{thunk_width, zeros}
 use Rattle.implib.specs.Formats.Layout.{HasNoNul}
 use Rattle.implib.specs.Link.Linked.{AllFind, IsDefinedAt, undefined_names}
 use Rattle.implib.specs.Link.Load.{BytesAt}
-use Rattle.implib.specs.Members.MsvcObjects.{null_descriptor_symbol}
 use Rattle.implib.specs.Formats.Object.{Object}
 use Rattle.implib.specs.Link.Placement.{Bases, Placed, placed_from}
 use Rattle.implib.specs.Link.Resolution.{SymbolDefinition, definitions, definitions_of}
@@ -21,11 +20,13 @@ use Rattle.implib.proofs.Link.Linked.{LocatedFrom}
 use Rattle.implib.proofs.Link.Placement.{ends_of_head}
 use Rattle.implib.proofs.Link.Ranges.{Among, among_back, among_front}
 use Rattle.implib_link.specs.Directory.{DirectoryAt, Imported}
-use Rattle.implib_link.specs.Flavors.Program.{IsFoundByName, ask_in}
-use Rattle.implib_link.proofs.Gnu.Blocks.{addresses_after, descriptors_after, table_sum}
-use Rattle.implib_link.proofs.Flavors.Block.{FitsIn, OneLinks, definitions-in, definitions_in, ends_in, ends_of_askings, names-in, objects_of, one_links, symbols_of, wide_in}
-use Rattle.implib_link.proofs.Flavors.Expanded.{AreWide, ends_of_asking, ends_of_descriptor}
+use Rattle.implib_link.specs.Flavors.Program.{Ending, IsFoundByName, OfLinker, OfMember, ask_in}
+use Rattle.implib_link.specs.Gnu.Program.{null_descriptor}
+use Rattle.implib_link.proofs.Gnu.Blocks.{addresses_after, descriptors_after, table_sum, plus_twice}
+use Rattle.implib_link.proofs.Flavors.Block.{AreEven, FitsIn, NullDefined, OneLinks, Suits, definitions-in, definitions_in, ends_in, ends_of_askings, even_in, names-in, objects_of, one_links, symbols_of}
+use Rattle.implib_link.proofs.Flavors.Expanded.{ends_of_asking, ends_of_descriptor}
 use Rattle.implib.specs.LibraryName.{NamesOfDll}
+use Rattle.implib_link.proofs.Gnu.Loaded.{times_none as plus_zero}
 
 -- what a DLL's objects are made of
 pub record FlavorBlock : Type 0 where
@@ -38,11 +39,25 @@ abbrev pub all_objects : MachineType → List FlavorBlock → List Object → Li
 all_objects machine [] rest = rest
 all_objects machine (k ∷ blocks) rest = objects_of machine k.flavor k.dll k.exports (all_objects machine blocks rest)
 
+-- what is behind the objects of all DLLs
+abbrev pub rest_of : Ending → List Object
+rest_of OfLinker = null_descriptor ∷ []
+rest_of OfMember = []
+
 -- a block whose texts have no NUL, whose exports can be asked, and whose descriptor linkers find
-pub record CanLink (machine : MachineType) (k : FlavorBlock) : Type 0 where
+pub record CanLink (machine : MachineType) (ending : Ending) (k : FlavorBlock) : Type 0 where
   pub dll : HasNoNul k.dll.text
   pub exports : AllByRecursion (FitsIn k.flavor machine) k.exports
   pub found : IsFoundByName k.flavor k.dll
+  pub suits : Suits ending k.flavor
+
+-- linkers of this kind take all members
+abbrev pub AllSuit : Ending → List FlavorBlock → Type 0
+AllSuit ending blocks = AllByRecursion (λ k. Suits ending k.flavor) blocks
+
+pub all_suit : (machine : MachineType) (ending : Ending) (blocks : List FlavorBlock) → AllByRecursion (CanLink machine ending) blocks → AllSuit ending blocks
+all_suit machine ending [] fit = tt
+all_suit machine ending (k ∷ blocks) fit = (fit.0.suits, all_suit machine ending blocks fit.1)
 
 abbrev pub ends_one : MachineType → Bases → FlavorBlock → Bases
 ends_one machine b k = ends_in machine k.flavor k.dll b k.exports
@@ -56,15 +71,15 @@ unfoldable pub definitions_all : MachineType → Bases → List FlavorBlock → 
 definitions_all machine b [] = []
 definitions_all machine b (k ∷ blocks) = definitions_in machine k.flavor k.dll b k.exports ++ definitions_all machine (ends_one machine b k) blocks
 
-pub definitions-all : (machine : MachineType) (b : Bases) (blocks : List FlavorBlock) (rest : List Object) → AreWide machine b →
+pub definitions-all : (machine : MachineType) (ending : Ending) (b : Bases) (blocks : List FlavorBlock) (rest : List Object) → AllSuit ending blocks → AreEven ending machine b →
     definitions (placed_from b (all_objects machine blocks rest)) ≡ definitions_all machine b blocks ++ definitions (placed_from (ends_all machine b blocks) rest)
 unfolding definitions_all ends_all
-definitions-all machine b [] rest even = refl
-definitions-all machine b (k ∷ blocks) rest even =
+definitions-all machine ending b [] rest suit even = refl
+definitions-all machine ending b (k ∷ blocks) rest suit even =
     let later : Bases = ends_one machine b k in
     let own : List SymbolDefinition = definitions_in machine k.flavor k.dll b k.exports in
-    definitions-in machine k.flavor k.dll b k.exports (all_objects machine blocks rest) even
-    ∙ ap (λ ds. own ++ ds) (definitions-all machine later blocks rest (wide_in machine k.flavor k.dll b k.exports even))
+    definitions-in machine ending k.flavor k.dll b k.exports (all_objects machine blocks rest) suit.0 even
+    ∙ ap (λ ds. own ++ ds) (definitions-all machine ending later blocks rest suit.1 (even_in machine ending k.flavor k.dll b k.exports suit.0 even))
     ∙ sym (append_assoc own (definitions_all machine later blocks) (definitions (placed_from (ends_all machine later blocks) rest)))
 
 pub names-all : (machine : MachineType) (b : Bases) (blocks : List FlavorBlock) →
@@ -87,9 +102,6 @@ askings_descriptors machine b (e ∷ es) = askings_descriptors machine (ends_of_
 pub descriptors_one : (machine : MachineType) (flavor : Flavor) (dll : NamesOfDll) (b : Bases) (es : List ExportView) → b.descriptors + 20 ≡ (ends_in machine flavor dll b es).descriptors
 descriptors_one machine Msvc dll b es = askings_descriptors machine (ends_of_descriptor dll b) es
 descriptors_one machine Gnu dll b es = descriptors_after machine dll b es
-
-plus_twice : (a w m : ℕ) → a + w + m ≡ a + (m + w)
-plus_twice a w m = omega arith
 
 askings_addresses : (machine : MachineType) (b : Bases) (es : List ExportView) → (ends_of_askings machine b es).addresses ≡ b.addresses + thunk_width machine * (length es + 1)
 unfolding ends_of_askings
@@ -120,9 +132,9 @@ pub record EachIn (machine : MachineType) (linked : List Placed) (image : List R
       AllByRecursion (AllFind linked) (placed_from b (all_objects machine blocks rest))
   pub located : LocatedFrom machine linked image (ends_all machine b blocks) rest
 
-module _ (machine : MachineType) (linked : List Placed) (image : List Range) (rest : List Object)
-    (starts : AllByRecursion (λ r. 0 < r.start) image) (ends : AllByRecursion (λ r. range_end r < 2 ^ 31) image) (null : IsDefinedAt linked null_descriptor_symbol) where
-  pub each_in : (blocks : List FlavorBlock) (b : Bases) → AllByRecursion (CanLink machine) blocks → AreWide machine b →
+module _ (machine : MachineType) (ending : Ending) (linked : List Placed) (image : List Range) (rest : List Object)
+    (starts : AllByRecursion (λ r. 0 < r.start) image) (ends : AllByRecursion (λ r. range_end r < 2 ^ 31) image) (null : NullDefined ending linked) where
+  pub each_in : (blocks : List FlavorBlock) (b : Bases) → AllByRecursion (CanLink machine ending) blocks → AreEven ending machine b →
       ((d : SymbolDefinition) → Among d (definitions_all machine b blocks) → definitions_of d.name linked ≡ d ∷ []) →
       LocatedFrom machine linked image b (all_objects machine blocks rest) → EachIn machine linked image b blocks rest
   unfolding definitions_all ends_all BlocksIn
@@ -131,9 +143,9 @@ module _ (machine : MachineType) (linked : List Placed) (image : List Range) (re
       let behind : List Object = all_objects machine blocks rest in
       let later : Bases = ends_one machine b k in
       let own : List SymbolDefinition = definitions_in machine k.flavor k.dll b k.exports in
-      let one = one_links machine k.dll linked image starts ends fit.0.dll k.flavor k.exports b behind fit.0.exports even fit.0.found null
+      let one = one_links machine k.dll linked image starts ends fit.0.dll ending k.flavor k.exports b behind fit.0.exports fit.0.suits even fit.0.found null
       (λ d m. only d (among_front d own (definitions_all machine later blocks) m)) located in
-      let others = each_in blocks later fit.1 (wide_in machine k.flavor k.dll b k.exports even)
+      let others = each_in blocks later fit.1 (even_in machine ending k.flavor k.dll b k.exports fit.0.suits even)
       (λ d m. only d (among_back d own (definitions_all machine later blocks) m)) one.rest_located in
       record {
         imports = (one, others.imports);
@@ -142,11 +154,8 @@ module _ (machine : MachineType) (linked : List Placed) (image : List Range) (re
         located = others.located;
       }
 
-plus_sum : (a n : ℕ) → a + 20 + 20 * n ≡ a + 20 * suc n
+pub plus_sum : (a n : ℕ) → a + 20 + 20 * n ≡ a + 20 * suc n
 plus_sum a n = omega arith
-
-plus_zero : (a w : ℕ) → a ≡ a + w * 0
-plus_zero a w = omega arith
 
 -- the thunks of the first few blocks, with the null thunks that end them
 abbrev pub thunks_in : ℕ → List FlavorBlock → ℕ
@@ -197,6 +206,12 @@ directory_in machine linked image rest (k ∷ blocks) b links null = (
   subst (λ n. DirectoryAt image (thunk_width machine) n (map (imported_of machine) blocks)) (sym (descriptors_one machine k.flavor k.dll b k.exports))
       (directory_in machine linked image rest blocks (ends_one machine b k) links.1 null),
 )
+
+-- the ends after blocks stay even
+pub even_all : (machine : MachineType) (ending : Ending) (b : Bases) (blocks : List FlavorBlock) → AllSuit ending blocks → AreEven ending machine b → AreEven ending machine (ends_all machine b blocks)
+unfolding ends_all
+even_all machine ending b [] suit even = even
+even_all machine ending b (k ∷ blocks) suit even = even_all machine ending (ends_one machine b k) blocks suit.1 (even_in machine ending k.flavor k.dll b k.exports suit.0 even)
 
 -- where the descriptors of blocks end
 pub descriptors_all : (machine : MachineType) (b : Bases) (blocks : List FlavorBlock) → (ends_all machine b blocks).descriptors ≡ b.descriptors + 20 * length blocks

@@ -17,13 +17,12 @@ use Rattle.implib.proofs.Link.LinkedMembers.{among_contains}
 use Rattle.implib.proofs.Link.Placement.{export, tail}
 use Rattle.implib.proofs.Link.Ranges.{Among, among_back, among_front}
 use Rattle.implib_link.specs.Flavors.Expansion.{Code, Constant, Data, import_object}
-use Rattle.implib_link.specs.Flavors.Program.{ask_in}
-use Rattle.implib_link.specs.Gnu.Program.{claimed_names}
-use Rattle.implib_link.specs.Search.Search.{HaveSame}
+use Rattle.implib_link.specs.Flavors.Program.{Ending, OfLinker, OfMember, ask_in}
+use Rattle.implib_link.specs.Gnu.Program.{claimed_names, HaveSame}
 use Rattle.implib_link.specs.Flavors.SectionSymbols.{with_section_symbols}
 use Rattle.implib_link.proofs.Gnu.Claims.{claimed_after, claimed_head}
 use Rattle.implib_link.proofs.Flavors.Block.{behind_descriptor, objects_of, symbols_of}
-use Rattle.implib_link.proofs.Flavors.Blocks.{FlavorBlock, all_objects}
+use Rattle.implib_link.proofs.Flavors.Blocks.{FlavorBlock, all_objects, rest_of}
 use Rattle.implib_link.proofs.Search.Lists.{among_either, contains_among}
 use Rattle.implib_link.proofs.Flavors.Expanded.{taken_descriptor, taken_null, taken_null_thunk}
 use Rattle.implib.specs.LibraryName.{NamesOfDll}
@@ -66,12 +65,13 @@ one_claims machine Msvc dll es rest =
 one_claims machine Gnu dll es rest =
     ap (λ names. names ++ flat_map claimed_names (map (export machine dll) es ++ tail machine dll ∷ rest)) (claimed_head machine dll) ∙ ap (λ names. head_symbol machine dll.linked ∷ names) (claimed_after machine dll es rest)
 
-pub all_claim_listed : (machine : MachineType) (blocks : List FlavorBlock) →
-    flat_map claimed_names (all_objects machine blocks []) ≡ flat_map (λ (k : FlavorBlock). symbols_of machine k.flavor k.dll k.exports) blocks
-all_claim_listed machine [] = refl
-all_claim_listed machine (k ∷ blocks) =
-    one_claims machine k.flavor k.dll k.exports (all_objects machine blocks [])
-    ∙ ap (λ names. symbols_of machine k.flavor k.dll k.exports ++ names) (all_claim_listed machine blocks)
+pub all_claim_listed : (machine : MachineType) (ending : Ending) (blocks : List FlavorBlock) →
+    flat_map claimed_names (all_objects machine blocks (rest_of ending)) ≡ flat_map (λ (k : FlavorBlock). symbols_of machine k.flavor k.dll k.exports) blocks
+all_claim_listed machine OfLinker [] = refl
+all_claim_listed machine OfMember [] = refl
+all_claim_listed machine ending (k ∷ blocks) =
+    one_claims machine k.flavor k.dll k.exports (all_objects machine blocks (rest_of ending))
+    ∙ ap (λ names. symbols_of machine k.flavor k.dll k.exports ++ names) (all_claim_listed machine ending blocks)
 
 -- with the null descriptor put in, its name comes in, too
 moved : (name one : List ℕ) (xs ys : List (List ℕ)) → Among name (xs ++ one ∷ ys) → Among name (one ∷ (xs ++ ys))

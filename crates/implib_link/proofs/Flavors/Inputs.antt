@@ -5,21 +5,20 @@ use Rattle.std.specs.List.{AllByRecursion, Contains, cons_option, filter_map, fl
 use Rattle.std.specs.Option.{option_and_then, option_map}
 use Rattle.std.proofs.lemmas.Bool.{cases_Bool, le-leb, ltb-true, or_parts}
 use Rattle.std.proofs.lemmas.Grind.{flat_map-append}
-use Rattle.std.proofs.lemmas.List.{append_assoc}
+use Rattle.std.proofs.lemmas.List.{append-nil, append_assoc}
 use Rattle.std.proofs.lemmas.List.Elements.{filter_map-append}
 use Rattle.implib.specs.declared.machine.MachineType.{MachineType}
 use Rattle.implib.specs.declared.machine.MachineType.TheVariants.{I386, ARMNT, AMD64, ARM64}
 use Rattle.implib.specs.declared.flavor.Flavor.{Flavor}
 use Rattle.implib.specs.declared.flavor.Flavor.TheVariants.{Gnu, Msvc}
-use Rattle.implib.specs.Ascii.{at_sign, holds, question_mark, underscore}
+use Rattle.implib.specs.Ascii.{at_sign, holds, question_mark, underscore, begins_with, without_first}
 use Rattle.implib.specs.Definition.{DefinitionView, ExportView}
 use Rattle.implib.specs.Formats.File.{File, ObjectFile, file_in, short_import_or_object}
 use Rattle.implib.specs.Members.Gnu.{export_object, head_object, tail_object}
 use Rattle.implib.specs.Members.GnuMembers.{export_spec, gnu_specs, head_spec, tail_spec}
 use Rattle.implib.specs.Import.{Name, Ordinal, public_exports}
-use Rattle.implib.specs.Ascii.{begins_with, without_first}
 use Rattle.implib.specs.Formats.Layout.{HasNoNul, encoded, object_of}
-use Rattle.implib.specs.Link.LinkedMembers.{chosen_exports, linked_specs, numbered_spec}
+use Rattle.implib.specs.Link.LinkedMembers.{chosen_exports, linked_specs, numbered_spec, objects_in}
 use Rattle.implib.specs.Machine.{machine_number}
 use Rattle.implib.specs.Members.MemberSpec.{AShortImport, AnObject, Contents, MemberSpec, MemberView, file_bytes, member_of}
 use Rattle.implib.specs.Members.Members.{AreMembersOf, member_specs}
@@ -33,24 +32,24 @@ use Rattle.implib.specs.Formats.ShortImport.{ShortImport, ask_of_short_import, a
 use Rattle.implib.proofs.Members.GnuReadings.{member_specs_read}
 use Rattle.implib.proofs.Members.Import.{name_type_is_ordinal, name_type_of_fits, symbol_without_nul}
 use Rattle.implib.proofs.Link.LinkedBlocks.{linked_objects}
-use Rattle.implib.proofs.Link.LinkedMembers.{among_contains, among_map, chosen_among, exports_fit, head_among, members_among, read_as, symbols_are}
+use Rattle.implib.proofs.Link.LinkedMembers.{among_contains, among_map, chosen_among, exports_fit, head_among, members_among, objects_are, read_as, symbols_are}
 use Rattle.implib.proofs.Members.MemberReadings.{ReadsBack, map_after, member_specs_read_back}
 use Rattle.implib.proofs.Members.NotRefused.{Sound, exports_sound, import_name_is_free, linked_is_free, none_long}
 use Rattle.implib.proofs.Link.Placement.{export, head, tail}
 use Rattle.implib.proofs.Link.Ranges.{Among, all_among, among_back, among_first, among_flat, among_front, among_later}
 use Rattle.implib_link.specs.Flavors.Expansion.{Code, Constant, Data, import_object, expansion, is_import_for, expanded_as, expanded_in, use_of}
-use Rattle.implib_link.specs.Flavors.Program.{FlavorInput, IsFoundByName, IsMadeFor, IsTaken, all_members, ask_in, exports_chosen, members_linked, null_member, objects_taken, specs_in, symbols_listed}
+use Rattle.implib_link.specs.Flavors.Program.{Ending, FlavorInput, IsFoundByName, IsMadeFor, IsTaken, all_members, ask_in, exports_chosen, members_linked, null_member, objects_taken, specs_in, symbols_listed, dll_names_in}
 use Rattle.implib_link.specs.Flavors.SectionSymbols.{with_section_symbols}
+use Rattle.implib_link.specs.Search.Search.{objects_as}
 use Rattle.implib_link.proofs.Flavors.Block.{FitsIn, asking, objects_of, symbols_of}
-use Rattle.implib_link.proofs.Flavors.Blocks.{CanLink, FlavorBlock, all_objects}
+use Rattle.implib_link.proofs.Flavors.Blocks.{AllSuit, CanLink, FlavorBlock, all_objects}
 use Rattle.implib_link.proofs.Flavors.Expanded.{AskFits, taken_descriptor, taken_null, taken_null_thunk}
 use Rattle.implib_link.proofs.Gnu.Texts.{all_chosen}
 use Rattle.implib.specs.LibraryName.{NamesOfDll, linked_dll, names_for}
-use Rattle.implib_link.specs.Flavors.Program.{dll_names_in}
 
 -- Short imports.
 
-same_machine : (machine : MachineType) → (machine_number machine == machine_number machine) ≡ true
+pub same_machine : (machine : MachineType) → (machine_number machine == machine_number machine) ≡ true
 same_machine I386 = refl
 same_machine ARMNT = refl
 same_machine AMD64 = refl
@@ -402,8 +401,8 @@ present-some (x ∷ xs) = ap (λ rest. x ∷ rest) (present-some xs)
 abbrev pub block_in : FlavorInput → FlavorBlock
 block_in p = record { flavor = p.flavor; dll = dll_names_in p; exports = exports_chosen p }
 
-objects_are : (machine : MachineType) (p : FlavorInput) → IsMadeFor machine p → objects_taken machine (members_linked machine p) ≡ objects_of machine p.flavor (dll_names_in p) (exports_chosen p) []
-objects_are machine p made =
+taken_are : (machine : MachineType) (p : FlavorInput) → IsMadeFor machine p → objects_taken machine (members_linked machine p) ≡ objects_of machine p.flavor (dll_names_in p) (exports_chosen p) []
+taken_are machine p made =
     filter_map-present (λ (m : MemberView). expanded_in machine m.bytes) (members_linked machine p)
     ∙ ap present (objects_read p.input.definition machine p.flavor p.input.members p.input.chosen made)
     ∙ present-some (objects_of machine p.flavor (dll_names_in p) (exports_chosen p) [])
@@ -413,13 +412,40 @@ objects_behind : (machine : MachineType) (flavor : Flavor) (dll : NamesOfDll) (e
 objects_behind machine Msvc dll es rest = ap (λ os. taken_descriptor machine dll ∷ os) (append_assoc (map (asking machine dll) es) (taken_null_thunk machine dll ∷ []) rest)
 objects_behind machine Gnu dll es rest = ap (λ os. head machine dll ∷ os) (append_assoc (map (export machine dll) es) (tail machine dll ∷ []) rest)
 
+-- what members are read as, by any reading that has those of each input as its objects, and others behind them
+inputs_as : (reading : List ℕ → Option Object) (machine : MachineType) (ps : List FlavorInput) (rest : List Object) →
+    AllByRecursion (λ p. objects_as reading (members_linked machine p) ≡ objects_of machine p.flavor (dll_names_in p) (exports_chosen p) []) ps →
+    objects_as reading (all_members machine ps) ++ rest ≡ all_objects machine (map block_in ps) rest
+inputs_as reading machine [] rest are = refl
+inputs_as reading machine (p ∷ ps) rest are =
+    ap (λ os. os ++ rest) (filter_map-append (λ (m : MemberView). reading m.bytes) (members_linked machine p) (all_members machine ps))
+    ∙ append_assoc (objects_as reading (members_linked machine p)) (objects_as reading (all_members machine ps)) rest
+    ∙ ap (λ os. os ++ (objects_as reading (all_members machine ps) ++ rest)) are.0
+    ∙ ap (λ os. objects_of machine p.flavor (dll_names_in p) (exports_chosen p) [] ++ os) (inputs_as reading machine ps rest are.1)
+    ∙ objects_behind machine p.flavor (dll_names_in p) (exports_chosen p) (all_objects machine (map block_in ps) rest)
+
+all_taken_are : (machine : MachineType) (ps : List FlavorInput) → AllByRecursion (IsMadeFor machine) ps →
+    AllByRecursion (λ p. objects_taken machine (members_linked machine p) ≡ objects_of machine p.flavor (dll_names_in p) (exports_chosen p) []) ps
+all_taken_are machine [] are = tt
+all_taken_are machine (p ∷ ps) are = (taken_are machine p are.0, all_taken_are machine ps are.1)
+
 pub inputs_objects : (machine : MachineType) (ps : List FlavorInput) → AllByRecursion (IsMadeFor machine) ps → objects_taken machine (all_members machine ps) ≡ all_objects machine (map block_in ps) []
-inputs_objects machine [] are = refl
-inputs_objects machine (p ∷ ps) are =
-    filter_map-append (λ (m : MemberView). expanded_in machine m.bytes) (members_linked machine p) (all_members machine ps)
-    ∙ ap (λ objects. objects ++ objects_taken machine (all_members machine ps)) (objects_are machine p are.0)
-    ∙ ap (λ rest. objects_of machine p.flavor (dll_names_in p) (exports_chosen p) [] ++ rest) (inputs_objects machine ps are.1)
-    ∙ objects_behind machine p.flavor (dll_names_in p) (exports_chosen p) (all_objects machine (map block_in ps) [])
+inputs_objects machine ps are = sym (append-nil (objects_taken machine (all_members machine ps))) ∙ inputs_as (expanded_in machine) machine ps [] (all_taken_are machine ps are)
+
+-- members for GNU's linker are taken for the objects that their bytes are
+plainly : (d : DefinitionView) (machine : MachineType) (flavor : Flavor) (members : List MemberView) (chosen : List ℕ) → AreMembersOf d machine flavor members → flavor ≡ Gnu →
+    objects_in (map member_of (specs_in flavor d machine chosen)) ≡ objects_of machine flavor (names_for flavor d) (chosen_exports d chosen) []
+plainly d machine Msvc members chosen made is = cc
+plainly d machine Gnu members chosen made is = objects_are d machine members chosen made
+
+all_plainly : (machine : MachineType) (ps : List FlavorInput) → AllByRecursion (IsMadeFor machine) ps → AllByRecursion (λ p. p.flavor ≡ Gnu) ps →
+    AllByRecursion (λ p. objects_in (members_linked machine p) ≡ objects_of machine p.flavor (dll_names_in p) (exports_chosen p) []) ps
+all_plainly machine [] are gnu = tt
+all_plainly machine (p ∷ ps) are gnu = (plainly p.input.definition machine p.flavor p.input.members p.input.chosen are.0 gnu.0, all_plainly machine ps are.1 gnu.1)
+
+pub inputs_plainly : (machine : MachineType) (ps : List FlavorInput) (rest : List Object) → AllByRecursion (IsMadeFor machine) ps → AllByRecursion (λ p. p.flavor ≡ Gnu) ps →
+    objects_in (all_members machine ps) ++ rest ≡ all_objects machine (map block_in ps) rest
+inputs_plainly machine ps rest are gnu = inputs_as object_in machine ps rest (all_plainly machine ps are gnu)
 
 pub inputs_symbols : (machine : MachineType) (ps : List FlavorInput) → AllByRecursion (IsMadeFor machine) ps →
     symbols_listed (all_members machine ps) ≡ flat_map (λ (k : FlavorBlock). symbols_of machine k.flavor k.dll k.exports) (map block_in ps)
@@ -429,16 +455,17 @@ inputs_symbols machine (p ∷ ps) are =
     ∙ ap (λ symbols. symbols ++ symbols_listed (all_members machine ps)) (symbols_are_in p.input.definition machine p.flavor p.input.members p.input.chosen are.0)
     ∙ ap (λ rest. symbols_of machine p.flavor (dll_names_in p) (exports_chosen p) ++ rest) (inputs_symbols machine ps are.1)
 
-pub inputs_link : (machine : MachineType) (ps : List FlavorInput) → AllByRecursion (IsMadeFor machine) ps → AllByRecursion (λ p. IsFoundByName p.flavor (dll_names_in p)) ps →
-    AllByRecursion (CanLink machine) (map block_in ps)
-inputs_link machine [] are found = tt
-inputs_link machine (p ∷ ps) are found = (
+pub inputs_link : (machine : MachineType) (ending : Ending) (ps : List FlavorInput) → AllByRecursion (IsMadeFor machine) ps → AllByRecursion (λ p. IsFoundByName p.flavor (dll_names_in p)) ps →
+    AllSuit ending (map block_in ps) → AllByRecursion (CanLink machine ending) (map block_in ps)
+inputs_link machine ending [] are found suit = tt
+inputs_link machine ending (p ∷ ps) are found suit = (
   record {
     dll = import_name_is_free p.input.definition machine p.flavor p.input.members are.0;
     exports = fit_in p.input.definition machine p.flavor p.input.members p.input.chosen are.0;
     found = found.0;
+    suits = suit.0;
   },
-  inputs_link machine ps are.1 found.1,
+  inputs_link machine ending ps are.1 found.1 suit.1,
 )
 
 pub inputs_taken : (machine : MachineType) (ps : List FlavorInput) → AllByRecursion (IsMadeFor machine) ps → AllByRecursion (IsTaken machine) ps
@@ -446,7 +473,7 @@ inputs_taken machine [] are = tt
 inputs_taken machine (p ∷ ps) are = (
   record {
     from_members = from_members p.input.definition machine p.flavor p.input.members p.input.chosen are.0;
-    read = objects_read p.input.definition machine p.flavor p.input.members p.input.chosen are.0 ∙ ap (map Some) (sym (objects_are machine p are.0));
+    read = objects_read p.input.definition machine p.flavor p.input.members p.input.chosen are.0 ∙ ap (map Some) (sym (taken_are machine p are.0));
     null = null_among p.input.definition machine p.flavor p.input.members p.input.chosen are.0;
   },
   inputs_taken machine ps are.1,

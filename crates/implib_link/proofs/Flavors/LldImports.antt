@@ -2,7 +2,6 @@
 use Rattle.std.proofs.Common.{◌≡◌, ℕ, zero, suc, ◌+◌, ◌*◌, ◌≤◌, List, [], ◌∷◌, ◌++◌, length, map, Some, refl, ap, sym, ◌∙◌, subst, inl, inr, arith}
 use Rattle.std.specs.Prelude.{bytes_eq, slice_get}
 use Rattle.std.specs.List.{AllByRecursion, Contains, IsDistinct, filter, filter_map, flat_map}
-use Rattle.std.proofs.Math.Nat.{mul-suc, mul-zero}
 use Rattle.std.proofs.lemmas.List.{append-nil, map-append}
 use Rattle.std.proofs.lemmas.List.Elements.{filter_map-append}
 use Rattle.implib.specs.declared.machine.MachineType.{MachineType}
@@ -27,6 +26,8 @@ use Rattle.implib_link.proofs.Gnu.OtherLibraries.{definitions_parts}
 use Rattle.implib_link.proofs.Gnu.Program.{gets_address}
 use Rattle.implib_link.proofs.Search.Counts.{distinct_from, few_from}
 use Rattle.implib_link.proofs.Search.Lists.{contains_among}
+use Rattle.implib_link.proofs.Flavors.Blocks.{plus_sum as next_row}
+use Rattle.implib_link.proofs.Gnu.Loaded.{times_none as nothing_before, times_next as next_entry}
 
 pub all_at : {X : Type 0} (P : X → Type 0) (xs : List X) (i : ℕ) (x : X) → AllByRecursion P xs → slice_get xs i ≡ Some x → P x
 all_at P [] i x all is = cc
@@ -78,12 +79,6 @@ module _ (taken : List ShortImport) (agree : (r s : ShortImport) → Contains ta
   all_of_one (group ∷ groups) held one = (of_one_dll group held.0 one.0, all_of_one groups held.1 one.1)
 
 -- Where a DLL's descriptor and table are.
-
-next_row : (a i : ℕ) → a + 20 + 20 * i ≡ a + 20 * suc i
-next_row a i = omega arith
-
-nothing_before : (a w : ℕ) → a ≡ a + w * 0
-nothing_before a w = (let none : w * 0 ≡ 0 = mul-zero w in omega arith)
 
 pub nth_stands : (image : List Range) (width : ℕ) (imports : List Imported) (descriptor table i : ℕ) (p : Imported) → StandAt image width descriptor table imports → slice_get imports i ≡ Some p →
     LoadsFrom image width (descriptor + 20 * i) (table + width * thunks_until i imports) p.dll p.asks
@@ -145,9 +140,6 @@ all_names_of width address (group ∷ groups) =
     map-append (λ (d : SymbolDefinition). d.name) (group_definitions width address group) (all_definitions width later groups)
     ∙ ap (λ names. names ++ map (λ (d : SymbolDefinition). d.name) (all_definitions width later groups)) (group_names width address group)
     ∙ ap (λ names. imp_symbols_of group ++ names) (all_names_of width later groups)
-
-next_entry : (a w j : ℕ) → a + w + w * j ≡ a + w * suc j
-next_entry a w j = (let split : w * suc j ≡ w * j + w = mul-suc w j in omega arith)
 
 group_defines : (width address : ℕ) (group : List ShortImport) (j : ℕ) (r : ShortImport) → slice_get group j ≡ Some r →
     Among (record { name = imp_symbol r.symbol; address = Some (address + width * j) }) (group_definitions width address group)

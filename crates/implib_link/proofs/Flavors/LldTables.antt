@@ -17,6 +17,7 @@ use Rattle.implib.proofs.Link.Thunks.{StrictTableAt, StrictThunkAt, length-addre
 use Rattle.implib_link.proofs.Search.Lists.{contains_among}
 use Rattle.implib_link.specs.Directory.{DirectoryAt, Imported}
 use Rattle.implib_link.specs.Flavors.LldTables.{ArePiecesAt, IsAskable, IsImportable, addresses_at, all_hints, all_names, built, built_bytes, descriptor_built, directory_built, directory_end, hint_and_text, hint_built, hints_at, hints_built, lookups_at, names_at, tables_built, thunk_built, thunks_built, thunks_until}
+use Rattle.implib_link.proofs.Gnu.Stubs.{wide_thunk as some_bytes}
 
 -- DLLs from a descriptor on, whose address tables follow one another, and the null descriptor
 unfoldable pub StandAt : List Range → ℕ → ℕ → ℕ → List Imported → Type 0
@@ -36,12 +37,6 @@ length_thunk : (machine : MachineType) (place : ℕ) (ask : Ask) → length (thu
 unfolding thunk_built
 length_thunk machine place (Ordinal n) = length-thunk_of machine n true
 length_thunk machine place (Name text hint) = length-address machine place
-
-some_bytes : (machine : MachineType) → 0 < thunk_width machine
-some_bytes I386 = omega arith
-some_bytes ARMNT = omega arith
-some_bytes AMD64 = omega arith
-some_bytes ARM64 = omega arith
 
 -- a thunk more, for each width
 one_more : (machine : MachineType) (n : ℕ) → thunk_width machine + thunk_width machine * (n + 1) ≡ thunk_width machine * (suc n + 1)

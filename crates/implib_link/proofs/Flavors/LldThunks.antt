@@ -20,6 +20,7 @@ use Rattle.implib_link.specs.Gnu.Operands.{AllLead, AreKept, InstructionArrives,
 use Rattle.implib_link.specs.Stub.{adrp_immediate, bits_of, jump_reads, ldr_immediate, page, plus_signed, with_adrp, with_bits}
 use Rattle.implib_link.specs.Tables.{CanReadFrom}
 use Rattle.implib_link.proofs.Gnu.MovedCode.{four_of, joined}
+use Rattle.implib_link.proofs.Gnu.OperandStubs.{arm64_jump}
 
 i386_jump : (address : ℕ) (field : List ℕ) → length field ≡ 4 → jump_reads I386 address (0xFF ∷ 0x25 ∷ (field ++ [])) ≡ Some (number_in field)
 i386_jump address field four = (let f = four_of field four in subst (λ xs. jump_reads I386 address (0xFF ∷ 0x25 ∷ (xs ++ [])) ≡ Some (number_in xs)) (sym f.is) refl)
@@ -28,14 +29,6 @@ amd64_jump : (address : ℕ) (field : List ℕ) → length field ≡ 4 → jump_
 amd64_jump address field four =
     let f = four_of field four in
     subst (λ xs. jump_reads AMD64 address (0xFF ∷ 0x25 ∷ (xs ++ [])) ≡ Some (plus_signed 32 1 (number_in xs) (address + 6))) (sym f.is) refl
-
-arm64_jump : (address : ℕ) (adrp load : List ℕ) → length adrp ≡ 4 → length load ≡ 4 → with_adrp 0 (number_in adrp) ≡ 0x9000_0010 → with_bits 10 12 0 (number_in load) ≡ 0xF940_0210 →
-    jump_reads ARM64 address (adrp ++ (load ++ 0 ∷ 2 ∷ 0x1F ∷ 0xD6 ∷ []))
-    ≡ Some (plus_signed 21 4096 (adrp_immediate (number_in adrp)) (page address * 4096) + ldr_immediate (number_in load))
-arm64_jump address adrp load four also is_adrp is_load =
-    let f = four_of adrp four in
-    let g = four_of load also in
-    rw (f.is, g.is) (rw (ap (λ xs. with_adrp 0 (number_in xs)) (sym f.is) ∙ is_adrp, ap (λ xs. with_bits 10 12 0 (number_in xs)) (sym g.is) ∙ is_load) refl)
 
 -- a thunk's section
 pub thunk_is : (machine : MachineType) (d : LinkedCode) (r : ShortImport) → IsThunk machine d r → section_numbered d.from.object.sections d.number ≡ Some d.code → d.code ≡ thunk_section machine

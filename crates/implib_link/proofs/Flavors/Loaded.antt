@@ -9,7 +9,7 @@ use Rattle.implib.specs.Members.ImportTables.{thunk_width}
 use Rattle.implib.specs.Formats.Object.{Object}
 use Rattle.implib.specs.Link.Placement.{Bases, Placed, placed_from}
 use Rattle.implib.specs.Link.Resolution.{definitions_of}
-use Rattle.implib_link.specs.Flavors.Program.{FlavorInput, FlavorsLink, SymbolsAt, imp_symbols, exports_chosen, symbol_in, thunks_of}
+use Rattle.implib_link.specs.Flavors.Program.{Ending, FlavorInput, SymbolsAt, imp_symbols, exports_chosen, symbol_in, thunks_of, ProgramLinks}
 use Rattle.implib_link.proofs.Gnu.Loaded.{times_next, times_none}
 
 -- the j-th entry is the only definition of its symbol
@@ -25,11 +25,11 @@ nth_symbol linked width a (x ∷ names) (suc j) name entries is =
     subst (λ n. definitions_of name linked ≡ record { name = name; address = Some n } ∷ []) (times_next a width j) (nth_symbol linked width (a + width) names j name entries.1 is)
 
 -- the entry of the j-th chosen export
-pub entry_of : (machine : MachineType) (bases : Bases) (inputs : List FlavorInput) (objects : List Object) (i j : ℕ) (p : FlavorInput) (e : ExportView) → FlavorsLink machine bases inputs objects →
+pub entry_of : (machine : MachineType) (ending : Ending) (bases : Bases) (inputs : List FlavorInput) (objects : List Object) (i j : ℕ) (p : FlavorInput) (e : ExportView) → ProgramLinks machine ending bases inputs objects →
     slice_get inputs i ≡ Some p → slice_get (exports_chosen p) j ≡ Some e →
     definitions_of (imp_symbol (symbol_in p.flavor e)) (placed_from bases objects)
     ≡ record { name = imp_symbol (symbol_in p.flavor e); address = Some (bases.addresses + thunk_width machine * thunks_of i inputs + thunk_width machine * j) } ∷ []
-entry_of machine bases inputs objects i j p e links input chosen =
+entry_of machine ending bases inputs objects i j p e links input chosen =
     nth_symbol (placed_from bases objects) (thunk_width machine) (bases.addresses + thunk_width machine * thunks_of i inputs) (imp_symbols p) j (imp_symbol (symbol_in p.flavor e))
     (links.imports i p input).entries
     (slice_get-map (λ e. imp_symbol (symbol_in p.flavor e)) (exports_chosen p) j ∙ ap (option_map (λ e. imp_symbol (symbol_in p.flavor e))) chosen)

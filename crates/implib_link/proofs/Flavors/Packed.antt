@@ -1,5 +1,5 @@
 -- Packed placement of both flavours makes a program.
-use Rattle.std.proofs.Common.{◌≡◌, ℕ, ◌+◌, ◌*◌, ◌%◌, ◌^◌, ◌<◌, ◌≤◌, List, [], ◌∷◌, length, map, ap, sym, ◌∙◌, subst, arith}
+use Rattle.std.proofs.Common.{◌≡◌, ℕ, ◌+◌, ◌*◌, ◌%◌, ◌^◌, ◌<◌, ◌≤◌, List, [], ◌∷◌, length, map, ap, ◌∙◌, arith}
 use Rattle.std.specs.List.{AllByRecursion, filter}
 use Rattle.std.proofs.lemmas.List.{length-replicate}
 use Rattle.implib.specs.declared.machine.MachineType.{MachineType}
@@ -13,18 +13,18 @@ use Rattle.implib.specs.Formats.Layout.{entries_of, name_text, object_of}
 use Rattle.implib.specs.Members.Msvc.{short_import_symbol}
 use Rattle.implib.specs.Members.MsvcObjects.{descriptor, null_descriptor, null_thunk}
 use Rattle.implib.specs.Formats.Object.{Object}
+use Rattle.implib.specs.Link.Image.{IsAdmissible}
 use Rattle.implib.specs.Link.Placement.{Descriptors, next_multiple}
 use Rattle.implib.proofs.Link.Placement.{aligned}
 use Rattle.implib_link.specs.Flavors.Expansion.{Code, Constant, Data, Use, import_object, stub_for, stub_relocations_for}
-use Rattle.implib_link.specs.Flavors.Program.{AreFlavorObjects, FlavorInput, IsFlavorProgram, IsMadeFor, ask_in, objects_taken}
+use Rattle.implib_link.specs.Flavors.Program.{AreEnded, AreProgramObjects, Ending, FlavorInput, IsMadeFor, IsProgramOf, OfLinker, OfMember, ask_in}
 use Rattle.implib_link.specs.Gnu.Packed.{group_end, packed, packed_descriptors, packed_end}
 use Rattle.implib_link.specs.Gnu.Program.{has_tables}
 use Rattle.implib_link.specs.Flavors.SectionSymbols.{with_section_symbols}
 use Rattle.implib_link.proofs.Flavors.Block.{behind_descriptor, objects_of, use_for}
-use Rattle.implib_link.proofs.Flavors.Blocks.{FlavorBlock, all_objects}
+use Rattle.implib_link.proofs.Flavors.Blocks.{FlavorBlock, all_objects, rest_of}
 use Rattle.implib_link.proofs.Flavors.Inputs.{block_in}
-use Rattle.implib_link.proofs.Flavors.Program.{directory_end, kept_are, parts_are}
-use Rattle.implib_link.proofs.Flavors.NullDescriptor.{all_insert}
+use Rattle.implib_link.proofs.Flavors.Program.{directory_end, kept_all}
 use Rattle.implib_link.proofs.Gnu.Packed.{admissible, packed_eights}
 use Rattle.implib_link.proofs.Gnu.Sized.{AreWithin, IsSized, exports_sized, head_sized, tail_sized, thunk_size}
 use Rattle.implib_link.proofs.Flavors.Expanded.{taken_descriptor, taken_null}
@@ -64,20 +64,18 @@ one_sized : (machine : MachineType) (flavor : Flavor) (dll : NamesOfDll) (es : L
 one_sized machine Msvc dll es rest all = (descriptor_sized machine dll, askings_sized machine dll es rest all)
 one_sized machine Gnu dll es rest all = (head_sized machine dll, exports_sized machine dll es _ (tail_sized machine dll, all))
 
-all_sized : (machine : MachineType) (blocks : List FlavorBlock) → AllByRecursion IsSized (all_objects machine blocks [])
-all_sized machine [] = tt
-all_sized machine (k ∷ blocks) = one_sized machine k.flavor k.dll k.exports (all_objects machine blocks []) (all_sized machine blocks)
+all_sized : (machine : MachineType) (ending : Ending) (blocks : List FlavorBlock) → AllByRecursion IsSized (all_objects machine blocks (rest_of ending))
+all_sized machine OfLinker [] = ((tt, tt), tt)
+all_sized machine OfMember [] = tt
+all_sized machine ending (k ∷ blocks) = one_sized machine k.flavor k.dll k.exports (all_objects machine blocks (rest_of ending)) (all_sized machine ending blocks)
 
 null_sized : (machine : MachineType) → IsSized (taken_null machine)
 unfolding with_section_symbols object_of null_descriptor entries_of name_text
 null_sized machine = (tt, tt)
 
-pub kept_sized : (machine : MachineType) (inputs : List FlavorInput) (objects : List Object) → AllByRecursion (IsMadeFor machine) inputs → AreFlavorObjects machine inputs objects →
-    AllByRecursion IsSized (filter has_tables objects)
-kept_sized machine inputs objects made held =
-    subst (AllByRecursion IsSized) (sym (kept_are machine inputs objects made held))
-    (all_insert IsSized (objects_taken machine held.before) (objects_taken machine held.behind) (taken_null machine) (null_sized machine)
-    (subst (AllByRecursion IsSized) (sym (parts_are machine inputs objects made held)) (all_sized machine (map block_in inputs))))
+pub kept_sized : (machine : MachineType) (ending : Ending) (inputs : List FlavorInput) (objects : List Object) → AllByRecursion (IsMadeFor machine) inputs →
+    AreEnded ending machine inputs objects → AllByRecursion IsSized (filter has_tables objects)
+kept_sized machine ending inputs objects made ended = kept_all machine ending inputs objects made ended IsSized (null_sized machine) (all_sized machine ending (map block_in inputs))
 
 -- multiples of 8 are multiples of a thunk's width
 of_eight : (machine : MachineType) (n : ℕ) → n % 8 ≡ 0 → n % thunk_width machine ≡ 0
@@ -97,16 +95,27 @@ first_even first = omega arith
 sum_even : (n m : ℕ) → n % 4 ≡ 0 → (n + 20 * m) % 4 ≡ 0
 sum_even n m even = omega arith
 
-pub packed_flavors : (machine : MachineType) (first : ℕ) (inputs : List FlavorInput) (objects : List Object) → AllByRecursion (IsMadeFor machine) inputs →
-    AreFlavorObjects machine inputs objects → 0 < first → packed_end first objects < 2 ^ 31 → IsFlavorProgram machine (packed first objects) inputs objects
-packed_flavors machine first inputs objects made held above below =
+pub packed_objects : (machine : MachineType) (ending : Ending) (first : ℕ) (inputs : List FlavorInput) (objects : List Object) → AllByRecursion (IsMadeFor machine) inputs →
+    AreProgramObjects machine ending inputs objects → 0 < first → packed_end first objects < 2 ^ 31 → IsProgramOf machine ending (packed first objects) inputs objects
+packed_objects machine OfLinker first inputs objects made held above below = record {
+  held = held;
+  admissible = admissible machine first objects (kept_sized machine OfLinker inputs objects made held.ended) above below;
+  lookups = tt;
+  addresses = tt;
+  follows = tt;
+}
+packed_objects machine OfMember first inputs objects made held above below =
     let base : ℕ = packed_descriptors first in
-    let ends_at : group_end Descriptors base objects ≡ base + 20 * length inputs = directory_end machine inputs objects made held base (first_even first) in
+    let ends_at : group_end Descriptors base objects ≡ base + 20 * length inputs = directory_end machine inputs objects made held.ended base (first_even first) in
     let whole : group_end Descriptors base objects % 4 ≡ 0 = ap (λ n. n % 4) ends_at ∙ sum_even base (length inputs) (first_even first) in
     record {
       held = held;
-      admissible = admissible machine first objects (kept_sized machine inputs objects made held) above below;
+      admissible = admissible machine first objects (kept_sized machine OfMember inputs objects made held.ended) above below;
       lookups = of_eight machine (packed first objects).lookups (lookups_eights first objects);
       addresses = of_eight machine (packed first objects).addresses (packed_eights first objects);
       follows = aligned (group_end Descriptors base objects) whole;
     }
+
+pub packed_admissible : (machine : MachineType) (ending : Ending) (first : ℕ) (inputs : List FlavorInput) (objects : List Object) → AllByRecursion (IsMadeFor machine) inputs →
+    AreEnded ending machine inputs objects → 0 < first → packed_end first objects < 2 ^ 31 → IsAdmissible machine (packed first objects) objects
+packed_admissible machine ending first inputs objects made ended above below = admissible machine first objects (kept_sized machine ending inputs objects made ended) above below

@@ -1,5 +1,5 @@
 -- A program of DLLs in both flavours links.
-use Rattle.std.proofs.Common.{◌≡◌, ℕ, ◌+◌, ◌*◌, ◌%◌, zero, suc, false, List, [], ◌∷◌, ◌++◌, length, map, Some, refl, ap, sym, ◌∙◌, arith, subst, inl, inr}
+use Rattle.std.proofs.Common.{◌≡◌, ℕ, ◌+◌, ◌*◌, ◌-◌, ◌%◌, zero, suc, false, List, [], ◌∷◌, ◌++◌, length, map, Some, refl, ap, sym, ◌∙◌, arith, subst, inl, inr}
 use Rattle.std.specs.Prelude.{bytes_eq, not, option_map, slice_get}
 use Rattle.std.specs.List.{AllByRecursion, Contains, IsDistinct, filter, flat_map}
 use Rattle.std.proofs.lemmas.List.{append-nil, length-map}
@@ -19,35 +19,32 @@ use Rattle.implib.specs.Link.Load.{BytesAt}
 use Rattle.implib.specs.Members.Msvc.{short_import_symbol}
 use Rattle.implib.specs.Members.MsvcObjects.{descriptor, null_descriptor_symbol, null_thunk}
 use Rattle.implib.specs.Formats.Object.{Object}
-use Rattle.implib.specs.Link.Placement.{Addresses, Bases, Descriptors, DirectoryEnds, DllNames, Group, HintNames, Lookups, Placed, base_of, placed_from}
+use Rattle.implib.specs.Link.Placement.{Addresses, Bases, Descriptors, DirectoryEnds, DllNames, Group, HintNames, Lookups, Placed, base_of, next_multiple, placed_from, same_group}
 use Rattle.implib.specs.Link.Resolution.{SymbolDefinition, definitions, definitions_of}
 use Rattle.implib.proofs.Link.Definitions.{not_same_turned, only_definition}
 use Rattle.implib.proofs.Link.Linked.{LocatedFrom}
-use Rattle.implib.proofs.Link.LinkedBlocks.{each_located, ends, group_located, starts}
+use Rattle.implib.proofs.Link.LinkedBlocks.{each_located, ends, even as even_bases, group_located, starts}
 use Rattle.implib.proofs.Link.LinkedMembers.{among_map}
-use Rattle.implib.proofs.Link.Placement.{aligned, export, tail}
+use Rattle.implib.proofs.Link.Placement.{AreAligned, aligned, export, tail}
 use Rattle.implib.proofs.Link.Ranges.{Among, all_among, among_first, among_later}
 use Rattle.implib_link.specs.Directory.{DirectoryAt}
 use Rattle.implib_link.specs.Flavors.Expansion.{import_object, expanded_in}
-use Rattle.implib_link.specs.Flavors.Program.{AreFlavorObjects, FlavorInput, FlavorsLink, InputImports, IsFlavorProgram, IsMadeFor, SymbolsAt, SymbolsGet, imp_symbols, all_members, ask_in, exports_chosen, imported_in, null_member, objects_taken, symbol_in, symbols_listed, thunks_of}
+use Rattle.implib_link.specs.Flavors.Program.{AreClaimed, AreEnded, AreEndedByLinker, AreEndedByMember, Ending, FlavorInput, InputImports, IsMadeFor, OfLinker, OfMember, WhereMember, own_names, SymbolsAt, SymbolsGet, imp_symbols, all_members, ask_in, exports_chosen, imported_in, null_member, objects_taken, symbol_in, symbols_listed, thunks_of, ProgramLinks, IsProgramOf, dll_names_in}
 use Rattle.implib_link.specs.Gnu.Packed.{group_end, sections_end}
-use Rattle.implib_link.specs.Gnu.Program.{claimed_names, has_tables, names_claimed_in, with_tables}
-use Rattle.implib_link.specs.Search.Search.{HaveSame}
+use Rattle.implib_link.specs.Gnu.Program.{claimed_names, has_tables, names_claimed_in, null_descriptor, with_tables, HaveSame}
 use Rattle.implib_link.specs.Flavors.SectionSymbols.{with_section_symbols}
-use Rattle.implib_link.proofs.Flavors.Block.{OneLinks, behind_descriptor, objects_of, use_for}
-use Rattle.implib_link.proofs.Flavors.Blocks.{EachIn, FlavorBlock, all_objects, definitions-all, definitions_all, descriptors_all, directory_in, each_in, ends_all, imported_of, names-all, nth_in, thunks_in}
+use Rattle.implib_link.proofs.Flavors.Block.{AreEven, NullDefined, OneLinks, behind_descriptor, objects_of, use_for}
+use Rattle.implib_link.proofs.Flavors.Blocks.{AllSuit, EachIn, even_all, rest_of, FlavorBlock, all_objects, definitions-all, definitions_all, descriptors_all, directory_in, each_in, ends_all, imported_of, names-all, nth_in, thunks_in, plus_sum}
 use Rattle.implib_link.proofs.Gnu.Claims.{claimed_placed}
 use Rattle.implib_link.proofs.Flavors.Claims.{all_claim_listed, claimed_with_null}
-use Rattle.implib_link.proofs.Flavors.Inputs.{block_in, inputs_link, inputs_objects, inputs_symbols, inputs_taken, null_object, objects_with_null}
-use Rattle.implib_link.proofs.Flavors.NullDescriptor.{EndsNothing, addresses_same, among_same, descriptors_end_same, descriptors_same, dll_names_same, finds_same, hint_names_same, lookups_same, null_filled, null_once, others_same, undefined_same}
+use Rattle.implib_link.proofs.Flavors.Inputs.{block_in, inputs_link, inputs_objects, inputs_plainly, inputs_symbols, inputs_taken, null_object, objects_with_null}
+use Rattle.implib_link.proofs.Flavors.NullDescriptor.{EndsNothing, all_insert, addresses_same, among_same, descriptors_end_same, descriptors_same, dll_names_same, finds_same, hint_names_same, lookups_same, null_filled, null_once, others_same, undefined_same}
 use Rattle.implib_link.proofs.Gnu.Others.{contributions_kept, definitions_kept, placed_kept}
 use Rattle.implib_link.proofs.Gnu.Packed.{end_kept}
 use Rattle.implib_link.proofs.Gnu.Program.{all_claim, gets_address, once_of}
 use Rattle.implib_link.proofs.Search.Lists.{contains_among}
-use Rattle.implib_link.proofs.Flavors.Expanded.{AreWide, taken_null}
-use Rattle.implib.specs.LibraryName.{NamesOfDll}
-use Rattle.implib_link.specs.Flavors.Program.{dll_names_in}
-use Rattle.implib.specs.LibraryName.{linked_dll}
+use Rattle.implib_link.proofs.Flavors.Expanded.{taken_null}
+use Rattle.implib.specs.LibraryName.{NamesOfDll, linked_dll}
 
 -- The objects of the members have no `.idata$3`.
 
@@ -104,9 +101,6 @@ one_end machine Msvc dll es rest n even =
 one_end machine Gnu dll es rest n even =
     ap (λ m. group_end Descriptors (m + 20) (map (export machine dll) es ++ tail machine dll ∷ rest)) (aligned n even) ∙ exports_keep machine dll es rest (n + 20)
 
-plus_sum : (a n : ℕ) → a + 20 + 20 * n ≡ a + 20 * suc n
-plus_sum a n = omega arith
-
 later_even : (n : ℕ) → n % 4 ≡ 0 → (n + 20) % 4 ≡ 0
 later_even n even = omega arith
 
@@ -126,7 +120,7 @@ thunks_are zero ps = refl
 thunks_are (suc i) [] = refl
 thunks_are (suc i) (p ∷ ps) = ap (λ n. length (exports_chosen p) + 1 + n) (thunks_are i ps)
 
-imported_are : (machine : MachineType) (ps : List FlavorInput) → map (imported_of machine) (map block_in ps) ≡ map (imported_in machine) ps
+pub imported_are : (machine : MachineType) (ps : List FlavorInput) → map (imported_of machine) (map block_in ps) ≡ map (imported_in machine) ps
 imported_are machine [] = refl
 imported_are machine (p ∷ ps) = ap (λ is. imported_in machine p ∷ is) (imported_are machine ps)
 
@@ -152,31 +146,143 @@ imports_of machine image linked p b descriptor table behind place begins one =
 contained_at : {X : Type 0} (P : X → Type 0) (xs : List X) (x : X) → AllByRecursion P xs → Contains xs x → P x
 contained_at P xs x all held = all_among P x xs (contains_among x xs held) all
 
--- What the members are taken for, among the objects.
-module _ (machine : MachineType) (inputs : List FlavorInput) (objects : List Object) (made : AllByRecursion (IsMadeFor machine) inputs) (held : AreFlavorObjects machine inputs objects) where
+-- Where a library's null descriptor ends the directory.
+module _ (machine : MachineType) (inputs : List FlavorInput) (objects : List Object) (made : AllByRecursion (IsMadeFor machine) inputs) (ended : AreEndedByMember machine inputs objects) where
+  abbrev pub front : List Object
+  front = objects_taken machine ended.before
+
+  abbrev pub back : List Object
+  back = objects_taken machine ended.behind
+
   -- the members' objects without the null descriptor
-  pub parts_are : objects_taken machine held.before ++ objects_taken machine held.behind ≡ all_objects machine (map block_in inputs) []
+  pub parts_are : objects_taken machine ended.before ++ objects_taken machine ended.behind ≡ all_objects machine (map block_in inputs) []
   parts_are =
-      sym (filter_map-append _ held.before held.behind) ∙ ap (objects_taken machine) held.members ∙ inputs_objects machine inputs made
+      sym (filter_map-append _ ended.before ended.behind) ∙ ap (objects_taken machine) ended.members ∙ inputs_objects machine inputs made
 
-  null_is : expanded_in machine (null_member machine (linked_dll held.null_from.input.definition)).bytes ≡ Some (taken_null machine)
+  null_is : expanded_in machine (null_member machine (linked_dll ended.null_from.input.definition)).bytes ≡ Some (taken_null machine)
   null_is =
-      null_object machine held.null_from (contained_at (IsMadeFor machine) inputs held.null_from made held.null_held) held.null_flavor
+      null_object machine ended.null_from (contained_at (IsMadeFor machine) inputs ended.null_from made ended.null_held) ended.null_flavor
 
-  pub kept_are : filter has_tables objects ≡ objects_taken machine held.before ++ taken_null machine ∷ objects_taken machine held.behind
-  kept_are = held.tables ∙ objects_with_null machine held.before held.behind (null_member machine (linked_dll held.null_from.input.definition)) null_is
+  pub kept_are : filter has_tables objects ≡ objects_taken machine ended.before ++ taken_null machine ∷ objects_taken machine ended.behind
+  kept_are = ended.tables ∙ objects_with_null machine ended.before ended.behind (null_member machine (linked_dll ended.null_from.input.definition)) null_is
 
   pub directory_end : (n : ℕ) → n % 4 ≡ 0 → group_end Descriptors n objects ≡ n + 20 * length inputs
   directory_end n even =
       end_kept Descriptors n objects
       ∙ ap (group_end Descriptors n) kept_are
-      ∙ descriptors_end_same machine n (objects_taken machine held.before) (objects_taken machine held.behind)
+      ∙ descriptors_end_same machine n front back
       ∙ ap (group_end Descriptors n) parts_are
       ∙ blocks_group_end machine (map block_in inputs) n even
       ∙ ap (λ m. n + 20 * m) (length-map inputs block_in)
 
-module _ (machine : MachineType) (b : Bases) (inputs : List FlavorInput) (objects : List Object) (made : AllByRecursion (IsMadeFor machine) inputs)
-    (program : IsFlavorProgram machine b inputs objects) where
+  none : AllByRecursion EndsNothing (objects_taken machine ended.before ++ objects_taken machine ended.behind)
+  none = subst (AllByRecursion EndsNothing) (sym parts_are) (blocks_end machine (map block_in inputs))
+
+-- Where the linker's null descriptor does.
+linker_kept : (machine : MachineType) (inputs : List FlavorInput) (objects : List Object) → AllByRecursion (IsMadeFor machine) inputs → AreEndedByLinker machine inputs objects →
+    filter has_tables objects ≡ all_objects machine (map block_in inputs) (null_descriptor ∷ [])
+linker_kept machine inputs objects made ended = ended.tables ∙ inputs_plainly machine inputs (null_descriptor ∷ []) made ended.gnu
+
+all_gnu : (inputs : List FlavorInput) → AllByRecursion (λ p. p.flavor ≡ Gnu) inputs → AllSuit OfLinker (map block_in inputs)
+all_gnu [] are = tt
+all_gnu (p ∷ inputs) are = (are.0, all_gnu inputs are.1)
+
+all_either : (inputs : List FlavorInput) → AllSuit OfMember (map block_in inputs)
+all_either [] = tt
+all_either (p ∷ inputs) = (tt, all_either inputs)
+
+suited : (machine : MachineType) (ending : Ending) (inputs : List FlavorInput) (objects : List Object) → AreEnded ending machine inputs objects → AllSuit ending (map block_in inputs)
+suited machine OfLinker inputs objects ended = all_gnu inputs ended.gnu
+suited machine OfMember inputs objects ended = all_either inputs
+
+-- what holds of the members' objects and of a null descriptor holds of all objects with import tables
+pub kept_all : (machine : MachineType) (ending : Ending) (inputs : List FlavorInput) (objects : List Object) → AllByRecursion (IsMadeFor machine) inputs → AreEnded ending machine inputs objects →
+    (P : Object → Type 0) → P (taken_null machine) → AllByRecursion P (all_objects machine (map block_in inputs) (rest_of ending)) → AllByRecursion P (filter has_tables objects)
+kept_all machine OfLinker inputs objects made ended P null all = subst (AllByRecursion P) (sym (linker_kept machine inputs objects made ended)) all
+kept_all machine OfMember inputs objects made ended P null all =
+    subst (AllByRecursion P) (sym (kept_are machine inputs objects made ended))
+    (all_insert P (objects_taken machine ended.before) (objects_taken machine ended.behind) (taken_null machine) null
+    (subst (AllByRecursion P) (sym (parts_are machine inputs objects made ended)) all))
+
+-- the names of members, without that of a null descriptor
+names_differ : (machine : MachineType) (ending : Ending) (inputs : List FlavorInput) → IsDistinct bytes_eq (own_names ending machine inputs) → IsDistinct bytes_eq (symbols_listed (all_members machine inputs))
+unfolding IsDistinct
+names_differ machine OfLinker inputs distinct = distinct
+names_differ machine OfMember inputs distinct = distinct.1
+
+-- What is placed of all objects with import tables is what is placed of the members' objects, and of what is behind them.
+pub record Stand (machine : MachineType) (ending : Ending) (b : Bases) (inputs : List FlavorInput) (objects : List Object) : Type 0 where
+  pub contributed : (group : Group) → same_group group DirectoryEnds ≡ false → contributions machine (placed_from b objects) group (placed_from b objects)
+      ≡ contributions machine (placed_from b objects) group (placed_from b (all_objects machine (map block_in inputs) (rest_of ending)))
+  pub defined : (name : List ℕ) → Among name (symbols_listed (all_members machine inputs)) →
+      definitions_of name (placed_from b objects) ≡ definitions_of name (placed_from b (all_objects machine (map block_in inputs) (rest_of ending)))
+  pub among : (q : Placed) → Among q (placed_from b (all_objects machine (map block_in inputs) (rest_of ending))) → Among q (with_tables (placed_from b objects))
+  pub finds : AllByRecursion (AllFind (placed_from b objects)) (placed_from b (all_objects machine (map block_in inputs) (rest_of ending))) →
+      AllByRecursion (AllFind (placed_from b objects)) (with_tables (placed_from b objects))
+  pub undefined : undefined_names (with_tables (placed_from b objects)) ≡ undefined_names (placed_from b (all_objects machine (map block_in inputs) (rest_of ending)))
+
+-- a group that no member's null descriptor is in
+group_same : (machine : MachineType) (b : Bases) (xs ys : List Object) (none : AllByRecursion EndsNothing (xs ++ ys)) (even : b.directory_ends % 4 ≡ 0) (linked : List Placed) (group : Group) →
+    same_group group DirectoryEnds ≡ false → contributions machine linked group (placed_from b (xs ++ taken_null machine ∷ ys)) ≡ contributions machine linked group (placed_from b (xs ++ ys))
+group_same machine b xs ys none even linked Descriptors is = descriptors_same machine b xs ys none even linked
+group_same machine b xs ys none even linked DirectoryEnds is = cc
+group_same machine b xs ys none even linked Lookups is = lookups_same machine b xs ys none even linked
+group_same machine b xs ys none even linked Addresses is = addresses_same machine b xs ys none even linked
+group_same machine b xs ys none even linked HintNames is = hint_names_same machine b xs ys none even linked
+group_same machine b xs ys none even linked DllNames is = dll_names_same machine b xs ys none even linked
+
+pub stand : (machine : MachineType) (ending : Ending) (b : Bases) (inputs : List FlavorInput) (objects : List Object) → AllByRecursion (IsMadeFor machine) inputs →
+    IsProgramOf machine ending b inputs objects → Stand machine ending b inputs objects
+unfolding IsDistinct
+stand machine OfLinker b inputs objects made program =
+    let kept : filter has_tables objects ≡ all_objects machine (map block_in inputs) (null_descriptor ∷ []) = linker_kept machine inputs objects made program.held.ended in
+    let placed : with_tables (placed_from b objects) ≡ placed_from b (all_objects machine (map block_in inputs) (null_descriptor ∷ [])) = placed_kept b objects ∙ ap (placed_from b) kept in
+    record {
+      contributed = λ group other. contributions_kept machine (placed_from b objects) group b objects ∙ ap (λ os. contributions machine (placed_from b objects) group (placed_from b os)) kept;
+      defined = λ name m.
+          definitions_kept name b objects (all_claim name (symbols_listed (all_members machine inputs)) m (filter (λ o. not (has_tables o)) objects) program.held.others)
+          ∙ ap (λ os. definitions_of name (placed_from b os)) kept;
+      among = λ q m. subst (Among q) (sym placed) m;
+      finds = λ all. subst (AllByRecursion (AllFind (placed_from b objects))) (sym placed) all;
+      undefined = ap undefined_names placed;
+    }
+stand machine OfMember b inputs objects made program =
+    let ended = program.held.ended in
+    let xs : List Object = objects_taken machine ended.before in
+    let ys : List Object = objects_taken machine ended.behind in
+    let free = none machine inputs objects made ended in
+    let even : b.directory_ends % 4 ≡ 0 = program.admissible.directory_ends.1 in
+    let parts = parts_are machine inputs objects made ended in
+    let kept = kept_are machine inputs objects made ended in
+    let placed : with_tables (placed_from b objects) ≡ placed_from b (xs ++ taken_null machine ∷ ys) = placed_kept b objects ∙ ap (placed_from b) kept in
+    let names : List (List ℕ) = symbols_listed (all_members machine inputs) in
+    record {
+      contributed = λ group other.
+          contributions_kept machine (placed_from b objects) group b objects
+          ∙ ap (λ os. contributions machine (placed_from b objects) group (placed_from b os)) kept
+          ∙ group_same machine b xs ys free even (placed_from b objects) group other
+          ∙ ap (λ os. contributions machine (placed_from b objects) group (placed_from b os)) parts;
+      defined = λ name m.
+          definitions_kept name b objects
+          (all_claim name (null_descriptor_symbol ∷ names) (among_later name null_descriptor_symbol names m) (filter (λ o. not (has_tables o)) objects) program.held.others)
+          ∙ ap (λ os. definitions_of name (placed_from b os)) kept
+          ∙ others_same machine b xs ys free even name
+          (not_same_turned null_descriptor_symbol name (all_among (λ other. bytes_eq null_descriptor_symbol other ≡ false) name names m program.held.distinct.0))
+          ∙ ap (λ os. definitions_of name (placed_from b os)) parts;
+      among = λ q m. subst (Among q) (sym placed) (among_same machine b xs ys free even q (subst (λ os. Among q (placed_from b os)) (sym parts) m));
+      finds = λ all.
+          subst (AllByRecursion (AllFind (placed_from b objects))) (sym placed)
+          (finds_same machine b xs ys free even (placed_from b objects) (subst (λ os. AllByRecursion (AllFind (placed_from b objects)) (placed_from b os)) (sym parts) all));
+      undefined = ap undefined_names placed ∙ undefined_same machine b xs ys free even ∙ ap (λ os. undefined_names (placed_from b os)) parts;
+    }
+
+even_for : (machine : MachineType) (ending : Ending) (b : Bases) (inputs : List FlavorInput) (objects : List Object) → IsProgramOf machine ending b inputs objects → AreEven ending machine b
+even_for machine OfLinker b inputs objects program = even_bases machine b objects program.admissible
+even_for machine OfMember b inputs objects program =
+    record { descriptors = program.admissible.descriptors.1; lookups = program.lookups; addresses = program.addresses }
+
+module _ (machine : MachineType) (ending : Ending) (b : Bases) (inputs : List FlavorInput) (objects : List Object) (made : AllByRecursion (IsMadeFor machine) inputs)
+    (program : IsProgramOf machine ending b inputs objects) where
   abbrev linked : List Placed
   linked = placed_from b objects
 
@@ -186,147 +292,187 @@ module _ (machine : MachineType) (b : Bases) (inputs : List FlavorInput) (object
   abbrev dlls : List FlavorBlock
   dlls = map block_in inputs
 
-  abbrev front : List Object
-  front = objects_taken machine program.held.before
+  pub suit : AllSuit ending (map block_in inputs)
+  suit = suited machine ending inputs objects program.held.ended
 
-  abbrev back : List Object
-  back = objects_taken machine program.held.behind
+  pub even : AreEven ending machine b
+  even = even_for machine ending b inputs objects program
 
-  names : List (List ℕ)
-  names = symbols_listed (all_members machine inputs)
+  stands : Stand machine ending b inputs objects
+  stands = stand machine ending b inputs objects made program
 
-  even : AreWide machine b
-  even = record { descriptors = program.admissible.descriptors.1; lookups = program.lookups; addresses = program.addresses }
+  group_from : (group : Group) → same_group group DirectoryEnds ≡ false → BytesAt image (base_of group b) (filled (base_of group b) (contributions machine linked group linked)) →
+      BytesAt image (base_of group b) (filled (base_of group b) (contributions machine linked group (placed_from b (all_objects machine dlls (rest_of ending)))))
+  group_from group other located = subst (λ cs. BytesAt image (base_of group b) (filled (base_of group b) cs)) (stands.contributed group other) located
 
-  none : AllByRecursion EndsNothing (objects_taken machine program.held.before ++ objects_taken machine program.held.behind)
-  none = subst (AllByRecursion EndsNothing) (sym (parts_are machine inputs objects made program.held)) (blocks_end machine dlls)
-
-  ends_even : b.directory_ends % 4 ≡ 0
-  ends_even = program.admissible.directory_ends.1
-
-  -- a group that the null descriptor is not in
-  group_from : (group : Group) → BytesAt image (base_of group b) (filled (base_of group b) (contributions machine linked group linked)) →
-      contributions machine linked group (placed_from b (front ++ taken_null machine ∷ back)) ≡ contributions machine linked group (placed_from b (front ++ back)) →
-      BytesAt image (base_of group b) (filled (base_of group b) (contributions machine linked group (placed_from b (all_objects machine dlls []))))
-  group_from group located same =
-      subst (λ os. BytesAt image (base_of group b) (filled (base_of group b) (contributions machine linked group (placed_from b os)))) (parts_are machine inputs objects made program.held)
-      (subst (λ cs. BytesAt image (base_of group b) (filled (base_of group b) cs))
-      (contributions_kept machine linked group b objects ∙ ap (λ os. contributions machine linked group (placed_from b os)) (kept_are machine inputs objects made program.held) ∙ same) located)
-
-  located : LocatedFrom machine linked image b (all_objects machine dlls [])
+  located : LocatedFrom machine linked image b (all_objects machine dlls (rest_of ending))
   located =
       let all = each_located machine b objects program.admissible in
       record {
-        descriptors = group_from Descriptors all.descriptors (descriptors_same machine b front back none ends_even linked);
-        lookups = group_from Lookups all.lookups (lookups_same machine b front back none ends_even linked);
-        addresses = group_from Addresses all.addresses (addresses_same machine b front back none ends_even linked);
-        hint_names = group_from HintNames all.hint_names (hint_names_same machine b front back none ends_even linked);
-        dll_names = group_from DllNames all.dll_names (dll_names_same machine b front back none ends_even linked);
+        descriptors = group_from Descriptors refl all.descriptors;
+        lookups = group_from Lookups refl all.lookups;
+        addresses = group_from Addresses refl all.addresses;
+        hint_names = group_from HintNames refl all.hint_names;
+        dll_names = group_from DllNames refl all.dll_names;
       }
-
-  -- the null descriptor is at its base
-  null_located : BytesAt image b.directory_ends (zeros 20)
-  unfolding Among
-  null_located =
-      subst (BytesAt image b.directory_ends)
-      (ap (filled b.directory_ends) (contributions_kept machine linked DirectoryEnds b objects ∙ ap (λ os. contributions machine linked DirectoryEnds (placed_from b os)) (kept_are machine inputs objects made program.held))
-      ∙ null_filled machine b front back none ends_even linked)
-      (group_located machine b objects program.admissible DirectoryEnds (inr (inl refl)))
-
-  follows : b.directory_ends ≡ b.descriptors + 20 * length inputs
-  follows = program.follows ∙ directory_end machine inputs objects made program.held b.descriptors program.admissible.descriptors.1
 
   abbrev defined : List SymbolDefinition
   defined = definitions_all machine b dlls
 
-  names_are : map (λ (d : SymbolDefinition). d.name) defined ≡ names
-  unfolding names
+  names_are : map (λ (d : SymbolDefinition). d.name) defined ≡ symbols_listed (all_members machine inputs)
   names_are = names-all machine b dlls ∙ sym (inputs_symbols machine inputs made)
 
-  definitions_are : definitions (placed_from b (front ++ back)) ≡ defined
+  rest_defines : (kind : Ending) (c : Bases) → definitions (placed_from c (rest_of kind)) ≡ []
+  rest_defines OfLinker c = refl
+  rest_defines OfMember c = refl
+
+  pub definitions_are : definitions (placed_from b (all_objects machine (map block_in inputs) (rest_of ending))) ≡ definitions_all machine b (map block_in inputs)
   definitions_are =
-      ap (λ os. definitions (placed_from b os)) (parts_are machine inputs objects made program.held) ∙ definitions-all machine b dlls [] even ∙ append-nil defined
+      definitions-all machine ending b dlls (rest_of ending) suit even
+      ∙ ap (λ ds. defined ++ ds) (rest_defines ending (ends_all machine b dlls)) ∙ append-nil defined
 
-  -- definitions among all objects are those among the members
-  of_members : (name : List ℕ) → Among name (null_descriptor_symbol ∷ names) → definitions_of name linked ≡ definitions_of name (placed_from b (front ++ taken_null machine ∷ back))
-  unfolding names
-  of_members name m =
-      definitions_kept name b objects (all_claim name (null_descriptor_symbol ∷ names) m (filter (λ o. not (has_tables o)) objects) program.held.others)
-      ∙ ap (λ os. definitions_of name (placed_from b os)) (kept_are machine inputs objects made program.held)
-
-  only : (d : SymbolDefinition) → Among d (definitions_all machine b (map block_in inputs)) → definitions_of d.name (placed_from b objects) ≡ d ∷ []
-  unfolding names IsDistinct
+  pub only : (d : SymbolDefinition) → Among d (definitions_all machine b (map block_in inputs)) → definitions_of d.name (placed_from b objects) ≡ d ∷ []
   only d m =
-      let listed : Among d.name names = subst (Among d.name) names_are (among_map (λ (x : SymbolDefinition). x.name) d defined m) in
-      let other : bytes_eq d.name null_descriptor_symbol ≡ false = not_same_turned null_descriptor_symbol d.name (all_among (λ name. bytes_eq null_descriptor_symbol name ≡ false) d.name names listed program.held.distinct.0) in
-      of_members d.name (among_later d.name null_descriptor_symbol names listed)
-      ∙ others_same machine b front back none ends_even d.name other
+      stands.defined d.name (subst (Among d.name) names_are (among_map (λ (x : SymbolDefinition). x.name) d defined m))
       ∙ ap (λ ds. filter (λ (x : SymbolDefinition). bytes_eq d.name x.name) ds) definitions_are
-      ∙ only_definition d defined m (subst (IsDistinct bytes_eq) (sym names_are) program.held.distinct.1)
+      ∙ only_definition d defined m (subst (IsDistinct bytes_eq) (sym names_are) (names_differ machine ending inputs program.held.distinct))
 
-  pub null_only : definitions_of null_descriptor_symbol (placed_from b objects) ≡ record { name = null_descriptor_symbol; address = Some b.directory_ends } ∷ []
-  unfolding names IsDistinct
+-- What is known of a library's null descriptor.
+module _ (machine : MachineType) (b : Bases) (inputs : List FlavorInput) (objects : List Object) (made : AllByRecursion (IsMadeFor machine) inputs) (program : IsProgramOf machine OfMember b inputs objects) where
+  abbrev xs : List Object
+  xs = objects_taken machine program.held.ended.before
+
+  abbrev ys : List Object
+  ys = objects_taken machine program.held.ended.behind
+
+  null_only : definitions_of null_descriptor_symbol (placed_from b objects) ≡ record { name = null_descriptor_symbol; address = Some b.directory_ends } ∷ []
+  unfolding IsDistinct
   null_only =
-      of_members null_descriptor_symbol (among_first null_descriptor_symbol names)
-      ∙ null_once machine b front back none ends_even
+      let listed : List (List ℕ) = symbols_listed (all_members machine inputs) in
+      definitions_kept null_descriptor_symbol b objects
+      (all_claim null_descriptor_symbol (null_descriptor_symbol ∷ listed) (among_first null_descriptor_symbol listed) (filter (λ o. not (has_tables o)) objects) program.held.others)
+      ∙ ap (λ os. definitions_of null_descriptor_symbol (placed_from b os)) (kept_are machine inputs objects made program.held.ended)
+      ∙ null_once machine b xs ys (none machine inputs objects made program.held.ended) program.admissible.directory_ends.1
       (subst (AllByRecursion (λ other. bytes_eq null_descriptor_symbol other ≡ false))
-      (sym (ap (map (λ (d : SymbolDefinition). d.name)) definitions_are ∙ names_are)) program.held.distinct.0)
+      (sym (ap (λ os. map (λ (d : SymbolDefinition). d.name) (definitions (placed_from b os))) (parts_are machine inputs objects made program.held.ended)
+      ∙ ap (map (λ (d : SymbolDefinition). d.name)) (definitions_are machine OfMember b inputs objects made program)
+      ∙ names-all machine b (map block_in inputs) ∙ sym (inputs_symbols machine inputs made))) program.held.distinct.0)
 
-  pub each : EachIn machine (placed_from b objects) (image_of machine b (placed_from b objects)) b (map block_in inputs) []
+  follows : b.directory_ends ≡ b.descriptors + 20 * length inputs
+  follows = program.follows ∙ directory_end machine inputs objects made program.held.ended b.descriptors program.admissible.descriptors.1
+
+  -- in any memory that has the group's contributions at its base, zeros are where the descriptors end
+  member_null : (ranges : List Range) → BytesAt ranges b.directory_ends (filled b.directory_ends (contributions machine (placed_from b objects) DirectoryEnds (placed_from b objects))) →
+      BytesAt ranges (ends_all machine b (map block_in inputs)).descriptors (zeros 20)
+  member_null ranges there =
+      subst (λ n. BytesAt ranges n (zeros 20))
+      (follows ∙ ap (λ n. b.descriptors + 20 * n) (sym (length-map inputs block_in)) ∙ sym (descriptors_all machine b (map block_in inputs)))
+      (subst (BytesAt ranges b.directory_ends)
+      (ap (filled b.directory_ends) (contributions_kept machine (placed_from b objects) DirectoryEnds b objects
+      ∙ ap (λ os. contributions machine (placed_from b objects) DirectoryEnds (placed_from b os)) (kept_are machine inputs objects made program.held.ended))
+      ∙ null_filled machine b xs ys (none machine inputs objects made program.held.ended) program.admissible.directory_ends.1 (placed_from b objects)) there)
+
+-- The linker's null descriptor is where the descriptors end.
+linker_null : (machine : MachineType) (linked : List Placed) (ranges : List Range) (b : Bases) → AreAligned b →
+    BytesAt ranges b.descriptors (filled b.descriptors (contributions machine linked Descriptors (placed_from b (null_descriptor ∷ [])))) → BytesAt ranges b.descriptors (zeros 20)
+linker_null machine linked ranges b even located =
+    let position : next_multiple 4 b.descriptors ≡ b.descriptors = aligned b.descriptors even.descriptors in
+    let same : b.descriptors - b.descriptors ≡ 0 = omega arith in
+    let all : List ℕ = zeros (next_multiple 4 b.descriptors - b.descriptors) ++ (zeros 20 ++ []) in
+    let is : all ≡ zeros 20 = rw (position, same) refl in
+    subst (BytesAt ranges b.descriptors) is located
+
+-- whatever ends the directory
+pub null_there : (machine : MachineType) (ending : Ending) (b : Bases) (inputs : List FlavorInput) (objects : List Object) → AllByRecursion (IsMadeFor machine) inputs →
+    IsProgramOf machine ending b inputs objects → (ranges : List Range) →
+    BytesAt ranges b.directory_ends (filled b.directory_ends (contributions machine (placed_from b objects) DirectoryEnds (placed_from b objects))) →
+    BytesAt ranges (ends_all machine b (map block_in inputs)).descriptors
+    (filled (ends_all machine b (map block_in inputs)).descriptors (contributions machine (placed_from b objects) Descriptors (placed_from (ends_all machine b (map block_in inputs)) (rest_of ending)))) →
+    BytesAt ranges (ends_all machine b (map block_in inputs)).descriptors (zeros 20)
+null_there machine OfLinker b inputs objects made program ranges at_ends last =
+    linker_null machine (placed_from b objects) ranges (ends_all machine b (map block_in inputs))
+    (even_all machine OfLinker b (map block_in inputs) (suit machine OfLinker b inputs objects made program) (even machine OfLinker b inputs objects made program)) last
+null_there machine OfMember b inputs objects made program ranges at_ends last = member_null machine b inputs objects made program ranges at_ends
+
+null_known : (machine : MachineType) (ending : Ending) (b : Bases) (inputs : List FlavorInput) (objects : List Object) → AllByRecursion (IsMadeFor machine) inputs →
+    IsProgramOf machine ending b inputs objects → NullDefined ending (placed_from b objects)
+null_known machine OfLinker b inputs objects made program = tt
+null_known machine OfMember b inputs objects made program = (b.directory_ends, null_only machine b inputs objects made program)
+
+null_address : (machine : MachineType) (ending : Ending) (b : Bases) (inputs : List FlavorInput) (objects : List Object) → AllByRecursion (IsMadeFor machine) inputs →
+    IsProgramOf machine ending b inputs objects →
+    WhereMember ending (definitions_of null_descriptor_symbol (placed_from b objects) ≡ record { name = null_descriptor_symbol; address = Some b.directory_ends } ∷ [])
+null_address machine OfLinker b inputs objects made program = tt
+null_address machine OfMember b inputs objects made program = null_only machine b inputs objects made program
+
+null_ends : (machine : MachineType) (ending : Ending) (b : Bases) (inputs : List FlavorInput) (objects : List Object) → AllByRecursion (IsMadeFor machine) inputs →
+    IsProgramOf machine ending b inputs objects → WhereMember ending (b.directory_ends ≡ b.descriptors + 20 * length inputs)
+null_ends machine OfLinker b inputs objects made program = tt
+null_ends machine OfMember b inputs objects made program = follows machine b inputs objects made program
+
+claimed_are : (machine : MachineType) (ending : Ending) (b : Bases) (inputs : List FlavorInput) (objects : List Object) → AllByRecursion (IsMadeFor machine) inputs →
+    IsProgramOf machine ending b inputs objects → AreClaimed ending (names_claimed_in (with_tables (placed_from b objects))) (own_names ending machine inputs)
+claimed_are machine OfLinker b inputs objects made program =
+    ap names_claimed_in (placed_kept b objects ∙ ap (placed_from b) (linker_kept machine inputs objects made program.held.ended))
+    ∙ claimed_placed b (all_objects machine (map block_in inputs) (null_descriptor ∷ []))
+    ∙ all_claim_listed machine OfLinker (map block_in inputs) ∙ sym (inputs_symbols machine inputs made)
+claimed_are machine OfMember b inputs objects made program =
+    let ended = program.held.ended in
+    let xs : List Object = objects_taken machine ended.before in
+    let ys : List Object = objects_taken machine ended.behind in
+    let names : List (List ℕ) = symbols_listed (all_members machine inputs) in
+    subst (λ ns. HaveSame ns (null_descriptor_symbol ∷ names))
+    (sym (ap names_claimed_in (placed_kept b objects ∙ ap (placed_from b) (kept_are machine inputs objects made ended)) ∙ claimed_placed b (xs ++ taken_null machine ∷ ys)))
+    (claimed_with_null machine xs ys names
+    (ap (flat_map claimed_names) (parts_are machine inputs objects made ended) ∙ all_claim_listed machine OfMember (map block_in inputs) ∙ sym (inputs_symbols machine inputs made)))
+
+module _ (machine : MachineType) (ending : Ending) (b : Bases) (inputs : List FlavorInput) (objects : List Object) (made : AllByRecursion (IsMadeFor machine) inputs)
+    (program : IsProgramOf machine ending b inputs objects) where
+  abbrev all : List Placed
+  all = placed_from b objects
+
+  pub each : EachIn machine (placed_from b objects) (image_of machine b (placed_from b objects)) b (map block_in inputs) (rest_of ending)
   each =
-      each_in machine linked image [] (starts machine b objects program.admissible) (ends machine b objects program.admissible) (b.directory_ends, null_only)
-      dlls b (inputs_link machine inputs made program.held.found) even only located
+      each_in machine ending all (image_of machine b all) (rest_of ending) (starts machine b objects program.admissible) (ends machine b objects program.admissible)
+      (null_known machine ending b inputs objects made program) (map block_in inputs) b
+      (inputs_link machine ending inputs made program.held.found (suit machine ending b inputs objects made program)) (even machine ending b inputs objects made program)
+      (only machine ending b inputs objects made program) (located machine ending b inputs objects made program)
 
   nth_imports : (i : ℕ) (p : FlavorInput) → slice_get inputs i ≡ Some p →
       InputImports machine (image_of machine b (placed_from b objects)) (placed_from b objects) (b.descriptors + 20 * i) (b.addresses + thunk_width machine * thunks_of i inputs) p
   nth_imports i p is =
-      let found = nth_in machine linked image [] dlls b each.imports i (block_in p) (slice_get-map block_in inputs i ∙ ap (option_map block_in) is) in
-      imports_of machine image linked p found.0 (b.descriptors + 20 * i) (b.addresses + thunk_width machine * thunks_of i inputs) found.1.1.1.0 found.1.0
+      let found = nth_in machine all (image_of machine b all) (rest_of ending) (map block_in inputs) b each.imports i (block_in p) (slice_get-map block_in inputs i ∙ ap (option_map block_in) is) in
+      imports_of machine (image_of machine b all) all p found.0 (b.descriptors + 20 * i) (b.addresses + thunk_width machine * thunks_of i inputs) found.1.1.1.0 found.1.0
       (found.1.1.0 ∙ ap (λ n. b.addresses + thunk_width machine * n) (thunks_are i inputs)) found.1.1.1.1
 
-  pub kept_placed : with_tables (placed_from b objects) ≡ placed_from b (objects_taken machine program.held.before ++ taken_null machine ∷ objects_taken machine program.held.behind)
-  kept_placed = placed_kept b objects ∙ ap (placed_from b) (kept_are machine inputs objects made program.held)
-
   -- what is placed of the members' objects is placed among all
-  pub placed_among : (q : Placed) → Among q (placed_from b (all_objects machine (map block_in inputs) [])) → Among q (with_tables (placed_from b objects))
-  placed_among q m =
-      subst (Among q) (sym kept_placed)
-      (among_same machine b front back none ends_even q (subst (λ os. Among q (placed_from b os)) (sym (parts_are machine inputs objects made program.held)) m))
+  pub placed_among : (q : Placed) → Among q (placed_from b (all_objects machine (map block_in inputs) (rest_of ending))) → Among q (with_tables (placed_from b objects))
+  placed_among = (stand machine ending b inputs objects made program).among
 
-  pub wide : AreWide machine b
-  wide = even
+  pub program_links : ProgramLinks machine ending b inputs objects
+  unfolding Among
+  program_links =
+      let places = stand machine ending b inputs objects made program in
+      let last : Bases = ends_all machine b (map block_in inputs) in
+      record {
+        linked = inputs_taken machine inputs made;
+        imports = nth_imports;
+        directory = subst (DirectoryAt (image_of machine b all) (thunk_width machine) b.descriptors) (imported_are machine inputs)
+            (directory_in machine all (image_of machine b all) (rest_of ending) (map block_in inputs) b each.imports
+            (null_there machine ending b inputs objects made program (image_of machine b all) (group_located machine b objects program.admissible DirectoryEnds (inr (inl refl))) each.located.descriptors));
+        null = null_address machine ending b inputs objects made program;
+        ended = null_ends machine ending b inputs objects made program;
+        targets = places.finds (each.targets (rest_finds ending last));
+        defined = subst (AllByRecursion (IsDefinedAt all)) (sym places.undefined) (each.defined (rest_leaves ending last));
+        listed = subst (AllByRecursion (IsDefinedOnce all)) (names_are machine ending b inputs objects made program)
+            (once_of all (definitions_all machine b (map block_in inputs)) (only machine ending b inputs objects made program));
+        claimed = claimed_are machine ending b inputs objects made program;
+      }
+    where
+      rest_finds : (kind : Ending) (c : Bases) → AllByRecursion (AllFind (placed_from b objects)) (placed_from c (rest_of kind))
+      rest_finds OfLinker c = ((tt, tt), tt)
+      rest_finds OfMember c = tt
 
-  -- the directory, and its end
-  directory : DirectoryAt image (thunk_width machine) b.descriptors (map (imported_in machine) inputs)
-  directory =
-      let same : b.directory_ends ≡ (ends_all machine b dlls).descriptors =
-      follows ∙ ap (λ n. b.descriptors + 20 * n) (sym (length-map inputs block_in)) ∙ sym (descriptors_all machine b dlls) in
-      subst (DirectoryAt image (thunk_width machine) b.descriptors) (imported_are machine inputs)
-      (directory_in machine linked image [] dlls b each.imports (subst (λ n. BytesAt image n (zeros 20)) same null_located))
-
-  targets : AllByRecursion (AllFind linked) (with_tables linked)
-  targets =
-      subst (AllByRecursion (AllFind linked)) (sym kept_placed)
-      (finds_same machine b front back none ends_even linked (subst (λ os. AllByRecursion (AllFind linked) (placed_from b os)) (sym (parts_are machine inputs objects made program.held)) (each.targets tt)))
-
-  all_defined : AllByRecursion (IsDefinedAt linked) (undefined_names (with_tables linked))
-  all_defined =
-      subst (λ ps. AllByRecursion (IsDefinedAt linked) (undefined_names ps)) (sym kept_placed)
-      (subst (AllByRecursion (IsDefinedAt linked)) (sym (undefined_same machine b front back none ends_even))
-      (subst (λ os. AllByRecursion (IsDefinedAt linked) (undefined_names (placed_from b os))) (sym (parts_are machine inputs objects made program.held)) (each.defined tt)))
-
-  pub flavors_link : FlavorsLink machine b inputs objects
-  unfolding names
-  flavors_link = record {
-    linked = inputs_taken machine inputs made;
-    imports = nth_imports;
-    directory = directory;
-    null = null_only;
-    ended = follows;
-    targets = targets;
-    defined = all_defined;
-    listed = subst (AllByRecursion (IsDefinedOnce linked)) names_are (once_of linked defined only);
-    claimed = subst (λ ns. HaveSame ns (null_descriptor_symbol ∷ names)) (sym (ap names_claimed_in kept_placed ∙ claimed_placed b (front ++ taken_null machine ∷ back)))
-        (claimed_with_null machine front back names
-        (ap (flat_map claimed_names) (parts_are machine inputs objects made program.held) ∙ all_claim_listed machine dlls ∙ sym (inputs_symbols machine inputs made)));
-  }
+      rest_leaves : (kind : Ending) (c : Bases) → AllByRecursion (IsDefinedAt (placed_from b objects)) (undefined_names (placed_from c (rest_of kind)))
+      rest_leaves OfLinker c = tt
+      rest_leaves OfMember c = tt

@@ -1,5 +1,5 @@
 -- The import tables of both flavours have no base relocations.
-use Rattle.std.proofs.Common.{◌≡◌, ℕ, List, [], ◌∷◌, map, refl, sym, subst, inl, inr}
+use Rattle.std.proofs.Common.{◌≡◌, ℕ, List, [], ◌∷◌, map, refl, inl, inr}
 use Rattle.std.specs.List.{AllByRecursion}
 use Rattle.implib.specs.declared.machine.MachineType.{MachineType}
 use Rattle.implib.specs.declared.flavor.Flavor.{Flavor}
@@ -12,15 +12,14 @@ use Rattle.implib.specs.Members.MsvcObjects.{descriptor, null_descriptor, null_t
 use Rattle.implib.specs.Formats.Object.{Object}
 use Rattle.implib.specs.Link.Placement.{Bases, placed_from}
 use Rattle.implib_link.specs.Flavors.Expansion.{Use, import_object}
-use Rattle.implib_link.specs.Flavors.Program.{FlavorInput, IsFlavorProgram, IsMadeFor, ask_in, objects_taken}
+use Rattle.implib_link.specs.Flavors.Program.{AreEnded, Ending, FlavorInput, IsMadeFor, OfLinker, OfMember, ask_in}
 use Rattle.implib_link.specs.Flavors.SectionSymbols.{with_section_symbols}
 use Rattle.implib_link.specs.Gnu.Rebased.{table_places}
 use Rattle.implib_link.proofs.Flavors.Block.{behind_descriptor, objects_of, use_for}
-use Rattle.implib_link.proofs.Flavors.Blocks.{FlavorBlock, all_objects}
+use Rattle.implib_link.proofs.Flavors.Blocks.{FlavorBlock, all_objects, rest_of}
 use Rattle.implib_link.proofs.Flavors.Expanded.{taken_descriptor, taken_null}
 use Rattle.implib_link.proofs.Flavors.Inputs.{block_in}
-use Rattle.implib_link.proofs.Flavors.NullDescriptor.{all_insert}
-use Rattle.implib_link.proofs.Flavors.Program.{kept_are, parts_are}
+use Rattle.implib_link.proofs.Flavors.Program.{kept_all}
 use Rattle.implib_link.proofs.Gnu.Steady.{AllSteady, all_steady, exports_steady, head_steady, relative_steady, tables_none, tail_steady}
 use Rattle.implib.specs.LibraryName.{NamesOfDll}
 
@@ -45,18 +44,17 @@ one_steady : (machine : MachineType) (flavor : Flavor) (dll : NamesOfDll) (es : 
 one_steady machine Msvc dll es rest all = (descriptor_steady machine dll, askings_steady machine dll es rest all)
 one_steady machine Gnu dll es rest all = (head_steady machine dll, exports_steady machine dll es _ (tail_steady machine dll, all))
 
-blocks_steady : (machine : MachineType) (blocks : List FlavorBlock) → AllByRecursion (AllSteady machine) (all_objects machine blocks [])
-blocks_steady machine [] = tt
-blocks_steady machine (k ∷ blocks) = one_steady machine k.flavor k.dll k.exports (all_objects machine blocks []) (blocks_steady machine blocks)
+blocks_steady : (machine : MachineType) (ending : Ending) (blocks : List FlavorBlock) → AllByRecursion (AllSteady machine) (all_objects machine blocks (rest_of ending))
+blocks_steady machine OfLinker [] = ((inr tt, tt), tt)
+blocks_steady machine OfMember [] = tt
+blocks_steady machine ending (k ∷ blocks) = one_steady machine k.flavor k.dll k.exports (all_objects machine blocks (rest_of ending)) (blocks_steady machine ending blocks)
 
 null_steady : (machine : MachineType) → AllSteady machine (taken_null machine)
 unfolding with_section_symbols object_of null_descriptor entries_of name_text
 null_steady machine = (inr tt, tt)
 
-pub flavors_tables_none : (machine : MachineType) (bases : Bases) (inputs : List FlavorInput) (objects : List Object) → AllByRecursion (IsMadeFor machine) inputs → IsFlavorProgram machine bases inputs objects →
-    table_places machine (placed_from bases objects) ≡ []
-flavors_tables_none machine bases inputs objects made program =
+pub program_tables_none : (machine : MachineType) (ending : Ending) (bases : Bases) (inputs : List FlavorInput) (objects : List Object) → AllByRecursion (IsMadeFor machine) inputs →
+    AreEnded ending machine inputs objects → table_places machine (placed_from bases objects) ≡ []
+program_tables_none machine ending bases inputs objects made ended =
     tables_none machine bases objects (all_steady machine objects
-    (subst (AllByRecursion (AllSteady machine)) (sym (kept_are machine inputs objects made program.held))
-    (all_insert (AllSteady machine) (objects_taken machine program.held.before) (objects_taken machine program.held.behind) (taken_null machine) (null_steady machine)
-    (subst (AllByRecursion (AllSteady machine)) (sym (parts_are machine inputs objects made program.held)) (blocks_steady machine (map block_in inputs))))))
+    (kept_all machine ending inputs objects made ended (AllSteady machine) (null_steady machine) (blocks_steady machine ending (map block_in inputs))))

@@ -22,23 +22,22 @@ use Rattle.implib.specs.Link.Resolution.{symbol_address, target_address}
 use Rattle.implib.proofs.Link.Linked.{address_found}
 use Rattle.implib.proofs.Link.LinkedBlocks.{ends, starts}
 use Rattle.implib.proofs.Link.LinkedMembers.{among_contains, among_map}
-use Rattle.implib.proofs.Link.Placement.{after_head, aligned_head, ends_of_head, placed-head, placed_export}
+use Rattle.implib.proofs.Link.Placement.{AreAligned, after_head, aligned_head, ends_of_head, placed-head, placed_export}
 use Rattle.implib.proofs.Link.Ranges.{Among, all_among, among_first, among_front, among_later}
 use Rattle.implib_link.specs.Flavors.Expansion.{Code, Constant, Data, Use, import_object}
-use Rattle.implib_link.specs.Flavors.Program.{FlavorInput, IsCode, IsFlavorProgram, IsMadeFor, all_members, ask_in, exports_chosen, symbol_in, symbols_listed, thunks_of}
+use Rattle.implib_link.specs.Flavors.Program.{Ending, FlavorInput, IsCode, IsMadeFor, all_members, ask_in, exports_chosen, symbol_in, symbols_listed, thunks_of, IsProgramOf, dll_names_in}
 use Rattle.implib_link.specs.Gnu.Program.{has_tables}
 use Rattle.implib_link.specs.Stub.{CanJump, JumpsThrough}
 use Rattle.implib_link.proofs.Gnu.Blocks.{table_sum}
-use Rattle.implib_link.proofs.Flavors.Block.{behind_descriptor, ends_in, ends_of_askings, objects_of, symbols_of, use_for, wide_in}
-use Rattle.implib_link.proofs.Flavors.Blocks.{FlavorBlock, addresses_one, all_objects, ends_one, thunks_in}
+use Rattle.implib_link.proofs.Flavors.Block.{AreEven, Suits, behind_descriptor, ends_in, ends_of_askings, even_aligned, even_in, even_wide, objects_of, symbols_of, use_for}
+use Rattle.implib_link.proofs.Flavors.Blocks.{AllSuit, FlavorBlock, addresses_one, all_objects, ends_one, rest_of, thunks_in}
 use Rattle.implib_link.proofs.Flavors.Inputs.{block_in, inputs_symbols}
-use Rattle.implib_link.proofs.Flavors.Program.{flavors_link, placed_among, thunks_are, wide}
+use Rattle.implib_link.proofs.Flavors.Program.{even, placed_among, program_links, suit, thunks_are}
 use Rattle.implib_link.proofs.Gnu.Loaded.{times_next, times_none}
-use Rattle.implib_link.proofs.Search.Lists.{among_at, flat_map_among}
-use Rattle.implib_link.proofs.Gnu.Stubs.{among_filter, behind_exports, code_bytes, code_defined, code_here, code_relocations, export_placed, first_sum, jump_by, later_sum, target_is, thunk_below, wide_thunk}
-use Rattle.implib_link.proofs.Flavors.Expanded.{AreWide, ends_of_asking, ends_of_descriptor, placed-asking, placed-descriptor, placed-null_thunk, placed_asking, wide_aligned, wide_asking, wide_descriptor}
+use Rattle.implib_link.proofs.Search.Lists.{among_at, flat_map_among, among_filter}
+use Rattle.implib_link.proofs.Gnu.Stubs.{behind_exports, code_bytes, code_defined, code_here, code_relocations, export_placed, first_sum, jump_by, later_sum, target_is, thunk_below, wide_thunk}
+use Rattle.implib_link.proofs.Flavors.Expanded.{AreWide, ends_of_asking, ends_of_descriptor, placed-asking, placed-descriptor, placed-null_thunk, placed_asking, wide_asking, wide_descriptor}
 use Rattle.implib.specs.LibraryName.{NamesOfDll}
-use Rattle.implib_link.specs.Flavors.Program.{dll_names_in}
 
 -- Each export's object is placed, with its entry where the addresses have come to.
 
@@ -72,15 +71,17 @@ asking_placed machine dll (x ∷ es) b rest even (suc j) e is =
       ),
     )
 
-one_placed : (machine : MachineType) (flavor : Flavor) (dll : NamesOfDll) (es : List ExportView) (b : Bases) (rest : List Object) → AreWide machine b → (j : ℕ) (e : ExportView) →
+one_placed : (machine : MachineType) (ending : Ending) (flavor : Flavor) (dll : NamesOfDll) (es : List ExportView) (b : Bases) (rest : List Object) → Suits ending flavor → AreEven ending machine b → (j : ℕ) (e : ExportView) →
     slice_get es j ≡ Some e →
     (c : Bases) × (Among (placed_in machine flavor dll c e) (placed_from b (objects_of machine flavor dll es rest)) × (c.addresses ≡ b.addresses + thunk_width machine * j))
-one_placed machine Msvc dll es b rest even j e is =
-    let found = asking_placed machine dll es (ends_of_descriptor dll b) rest (wide_descriptor machine dll b even) j e is in
-    (found.0, (subst (Among (placed_in machine Msvc dll found.0 e)) (sym (placed-descriptor machine dll b (behind_descriptor machine dll es rest) even)) (among_later _ _ _ found.1.0), found.1.1))
-one_placed machine Gnu dll es b rest even j e is =
-    let found = export_placed machine dll es (ends_of_head machine dll b) rest (aligned_head machine dll b (wide_aligned machine b even)) j e is in
-    (found.0, (subst (Among (placed_in machine Gnu dll found.0 e)) (sym (placed-head machine dll b (after_head machine dll es rest) (wide_aligned machine b even))) (among_later _ _ _ found.1.0), found.1.1))
+one_placed machine ending Msvc dll es b rest suits even j e is =
+    let wide : AreWide machine b = even_wide machine ending b suits even in
+    let found = asking_placed machine dll es (ends_of_descriptor dll b) rest (wide_descriptor machine dll b wide) j e is in
+    (found.0, (subst (Among (placed_in machine Msvc dll found.0 e)) (sym (placed-descriptor machine dll b (behind_descriptor machine dll es rest) wide)) (among_later _ _ _ found.1.0), found.1.1))
+one_placed machine ending Gnu dll es b rest suits even j e is =
+    let all : AreAligned b = even_aligned machine ending b even in
+    let found = export_placed machine dll es (ends_of_head machine dll b) rest (aligned_head machine dll b all) j e is in
+    (found.0, (subst (Among (placed_in machine Gnu dll found.0 e)) (sym (placed-head machine dll b (after_head machine dll es rest) all)) (among_later _ _ _ found.1.0), found.1.1))
 
 behind_askings : (machine : MachineType) (dll : NamesOfDll) (es : List ExportView) (b : Bases) (rest : List Object) (q : Placed) → AreWide machine b → Among q (placed_from (ends_of_askings machine b es) rest) →
     Among q (placed_from b (behind_descriptor machine dll es rest))
@@ -91,37 +92,39 @@ behind_askings machine dll (e ∷ es) b rest q even m =
     subst (Among q) (sym (placed-asking machine dll b (short_import_symbol e) ask (use_for e) (behind_descriptor machine dll es rest) even))
     (among_later q _ _ (behind_askings machine dll es (ends_of_asking machine b ask) rest q (wide_asking machine b ask even) m))
 
-behind_one : (machine : MachineType) (flavor : Flavor) (dll : NamesOfDll) (es : List ExportView) (b : Bases) (rest : List Object) (q : Placed) → AreWide machine b →
+behind_one : (machine : MachineType) (ending : Ending) (flavor : Flavor) (dll : NamesOfDll) (es : List ExportView) (b : Bases) (rest : List Object) (q : Placed) → Suits ending flavor → AreEven ending machine b →
     Among q (placed_from (ends_in machine flavor dll b es) rest) → Among q (placed_from b (objects_of machine flavor dll es rest))
-behind_one machine Msvc dll es b rest q even m =
-    subst (Among q) (sym (placed-descriptor machine dll b (behind_descriptor machine dll es rest) even))
-    (among_later q _ _ (behind_askings machine dll es (ends_of_descriptor dll b) rest q (wide_descriptor machine dll b even) m))
-behind_one machine Gnu dll es b rest q even m =
-    subst (Among q) (sym (placed-head machine dll b (after_head machine dll es rest) (wide_aligned machine b even)))
-    (among_later q _ _ (behind_exports machine dll es (ends_of_head machine dll b) rest q (aligned_head machine dll b (wide_aligned machine b even)) m))
+behind_one machine ending Msvc dll es b rest q suits even m =
+    let wide : AreWide machine b = even_wide machine ending b suits even in
+    subst (Among q) (sym (placed-descriptor machine dll b (behind_descriptor machine dll es rest) wide))
+    (among_later q _ _ (behind_askings machine dll es (ends_of_descriptor dll b) rest q (wide_descriptor machine dll b wide) m))
+behind_one machine ending Gnu dll es b rest q suits even m =
+    let all : AreAligned b = even_aligned machine ending b even in
+    subst (Among q) (sym (placed-head machine dll b (after_head machine dll es rest) all))
+    (among_later q _ _ (behind_exports machine dll es (ends_of_head machine dll b) rest q (aligned_head machine dll b all) m))
 
-pub all_placed : (machine : MachineType) (blocks : List FlavorBlock) (b : Bases) → AreWide machine b → (i j : ℕ) (k : FlavorBlock) (e : ExportView) → slice_get blocks i ≡ Some k → slice_get k.exports j ≡ Some e →
-    (c : Bases) × (Among (placed_in machine k.flavor k.dll c e) (placed_from b (all_objects machine blocks []))
+pub all_placed : (machine : MachineType) (ending : Ending) (rest : List Object) (blocks : List FlavorBlock) (b : Bases) → AllSuit ending blocks → AreEven ending machine b → (i j : ℕ) (k : FlavorBlock) (e : ExportView) → slice_get blocks i ≡ Some k → slice_get k.exports j ≡ Some e →
+    (c : Bases) × (Among (placed_in machine k.flavor k.dll c e) (placed_from b (all_objects machine blocks rest))
     × (c.addresses ≡ b.addresses + thunk_width machine * thunks_in i blocks + thunk_width machine * j))
-all_placed machine [] b even i j k e is chosen = cc
-all_placed machine (q ∷ blocks) b even zero j k e is chosen =
+all_placed machine ending rest [] b suit even i j k e is chosen = cc
+all_placed machine ending rest (q ∷ blocks) b suit even zero j k e is chosen =
     let same : q ≡ k = cc in
-    let found = one_placed machine q.flavor q.dll q.exports b (all_objects machine blocks []) even j e (subst (λ (x : FlavorBlock). slice_get x.exports j ≡ Some e) (sym same) chosen) in (
+    let found = one_placed machine ending q.flavor q.dll q.exports b (all_objects machine blocks rest) suit.0 even j e (subst (λ (x : FlavorBlock). slice_get x.exports j ≡ Some e) (sym same) chosen) in (
       found.0,
       (
-        subst (λ (x : FlavorBlock). Among (placed_in machine x.flavor x.dll found.0 e) (placed_from b (all_objects machine (q ∷ blocks) []))) same found.1.0,
+        subst (λ (x : FlavorBlock). Among (placed_in machine x.flavor x.dll found.0 e) (placed_from b (all_objects machine (q ∷ blocks) rest))) same found.1.0,
         first_sum found.0.addresses b.addresses (thunk_width machine) j found.1.1,
       ),
     )
-all_placed machine (q ∷ blocks) b even (suc i) j k e is chosen =
+all_placed machine ending rest (q ∷ blocks) b suit even (suc i) j k e is chosen =
     let later : Bases = ends_one machine b q in
-    let found = all_placed machine blocks later (wide_in machine q.flavor q.dll b q.exports even) i j k e is chosen in
+    let found = all_placed machine ending rest blocks later suit.1 (even_in machine ending q.flavor q.dll b q.exports suit.0 even) i j k e is chosen in
     let table : later.addresses + thunk_width machine * thunks_in i blocks ≡ b.addresses + thunk_width machine * (length q.exports + 1 + thunks_in i blocks) =
     ap (λ n. n + thunk_width machine * thunks_in i blocks) (addresses_one machine q.flavor q.dll b q.exports)
     ∙ table_sum b.addresses (thunk_width machine) (length q.exports + 1) (thunks_in i blocks) in (
       found.0,
       (
-        behind_one machine q.flavor q.dll q.exports b (all_objects machine blocks []) (placed_in machine k.flavor k.dll found.0 e) even found.1.0,
+        behind_one machine ending q.flavor q.dll q.exports b (all_objects machine blocks rest) (placed_in machine k.flavor k.dll found.0 e) suit.0 even found.1.0,
         later_sum found.0.addresses (later.addresses + thunk_width machine * thunks_in i blocks) (b.addresses + thunk_width machine * (length q.exports + 1 + thunks_in i blocks)) (thunk_width machine) j found.1.1 table,
       ),
     )
@@ -212,25 +215,25 @@ name_listed machine inputs i j p e made input chosen is =
     (flat_map_among (λ (k : FlavorBlock). symbols_of machine k.flavor k.dll k.exports) (symbol_in p.flavor e) (map block_in inputs) (block_in p)
     (among_map block_in p inputs (among_at p inputs i input)) (listed_in machine p.flavor (dll_names_in p) (exports_chosen p) j e chosen is))
 
-pub name_once : (machine : MachineType) (bases : Bases) (inputs : List FlavorInput) (objects : List Object) (i j : ℕ) (p : FlavorInput) (e : ExportView) → AllByRecursion (IsMadeFor machine) inputs →
-    IsFlavorProgram machine bases inputs objects → slice_get inputs i ≡ Some p → slice_get (exports_chosen p) j ≡ Some e → IsCode p.flavor e → IsDefinedOnce (placed_from bases objects) (symbol_in p.flavor e)
-name_once machine bases inputs objects i j p e made program input chosen is =
+pub name_once : (machine : MachineType) (ending : Ending) (bases : Bases) (inputs : List FlavorInput) (objects : List Object) (i j : ℕ) (p : FlavorInput) (e : ExportView) → AllByRecursion (IsMadeFor machine) inputs →
+    IsProgramOf machine ending bases inputs objects → slice_get inputs i ≡ Some p → slice_get (exports_chosen p) j ≡ Some e → IsCode p.flavor e → IsDefinedOnce (placed_from bases objects) (symbol_in p.flavor e)
+name_once machine ending bases inputs objects i j p e made program input chosen is =
     all_among (IsDefinedOnce (placed_from bases objects)) (symbol_in p.flavor e) (symbols_listed (all_members machine inputs)) (name_listed machine inputs i j p e made input chosen is)
-    (flavors_link machine bases inputs objects made program).listed
+    (program_links machine ending bases inputs objects made program).listed
 
-pub stubs_of_flavors_jump : (machine : MachineType) (image_base : ℕ) (bases : Bases) (inputs : List FlavorInput) (objects : List Object) (i j : ℕ) (p : FlavorInput) (e : ExportView) →
-    AllByRecursion (IsMadeFor machine) inputs → IsFlavorProgram machine bases inputs objects → CanJump machine image_base bases → slice_get inputs i ≡ Some p →
+pub stubs_jump : (machine : MachineType) (ending : Ending) (image_base : ℕ) (bases : Bases) (inputs : List FlavorInput) (objects : List Object) (i j : ℕ) (p : FlavorInput) (e : ExportView) →
+    AllByRecursion (IsMadeFor machine) inputs → IsProgramOf machine ending bases inputs objects → CanJump machine image_base bases → slice_get inputs i ≡ Some p →
     slice_get (exports_chosen p) j ≡ Some e → IsCode p.flavor e →
     JumpsThrough machine image_base (placed_from bases objects) (symbol_in p.flavor e) (bases.addresses + thunk_width machine * thunks_of i inputs + thunk_width machine * j)
-stubs_of_flavors_jump machine image_base bases inputs objects i j p e made program can input chosen is =
+stubs_jump machine ending image_base bases inputs objects i j p e made program can input chosen is =
     let linked : List Placed = placed_from bases objects in
     let image : List Range = image_of machine bases linked in
-    let all = flavors_link machine bases inputs objects made program in
+    let all = program_links machine ending bases inputs objects made program in
     let one = all.imports i p input in
     let table : ℕ = bases.addresses + thunk_width machine * thunks_of i inputs in
-    let found = all_placed machine (map block_in inputs) bases (wide machine bases inputs objects made program) i j (block_in p) e (slice_get-map block_in inputs i ∙ ap (option_map block_in) input) chosen in
+    let found = all_placed machine ending (rest_of ending) (map block_in inputs) bases (suit machine ending bases inputs objects made program) (even machine ending bases inputs objects made program) i j (block_in p) e (slice_get-map block_in inputs i ∙ ap (option_map block_in) input) chosen in
     let own : Placed = placed_in machine p.flavor (dll_names_in p) found.0 e in
-    let kept = placed_among machine bases inputs objects made program own found.1.0 in
+    let kept = placed_among machine ending bases inputs objects made program own found.1.0 in
     let entry_is : found.0.addresses ≡ table + thunk_width machine * j =
     found.1.1 ∙ ap (λ n. bases.addresses + thunk_width machine * n + thunk_width machine * j) (thunks_are i inputs) in
     let code = code_in machine p.flavor (dll_names_in p) linked found.0 e (table + thunk_width machine * j) is entry_is in
@@ -240,7 +243,7 @@ stubs_of_flavors_jump machine image_base bases inputs objects i j p e made progr
     (subst (λ n. TableAt image (thunk_width machine) n (map (ask_in p.flavor machine) (exports_chosen p))) one.table_located one.loads.plain.address_table)
     (slice_get-map (ask_in p.flavor machine) (exports_chosen p) j ∙ ap (option_map (ask_in p.flavor machine)) chosen) in
     record {
-      once = name_once machine bases inputs objects i j p e made program input chosen is;
+      once = name_once machine ending bases inputs objects i j p e made program input chosen is;
       from = own;
       held = among_contains own linked (among_filter (λ (q : Placed). has_tables q.object) own linked kept);
       symbol = record { name = symbol_in p.flavor e; value = 0; section = 1; kind = 0; class = class_external };

@@ -25,10 +25,10 @@ use Rattle.implib.specs.Link.Resolution.{definitions_of}
 use Rattle.implib.proofs.Members.Asked.{asks_for_words}
 use Rattle.implib.proofs.Link.LinkedMembers.{all_at}
 use Rattle.implib.proofs.Text.SymbolNames.{parsed_lacks}
-use Rattle.implib_link.specs.Flavors.Program.{FlavorInput, InputImports, IsFlavorProgram, IsMadeFor, SymbolsAt, SymbolsGet, ask_in, descriptor_in, dll_names_in, exports_chosen, symbol_in, thunks_of}
+use Rattle.implib_link.specs.Flavors.Program.{Ending, FlavorInput, InputImports, IsMadeFor, SymbolsAt, SymbolsGet, ask_in, descriptor_in, dll_names_in, exports_chosen, symbol_in, thunks_of, IsProgramOf}
 use Rattle.implib_link.specs.Flavors.Texts.{FlavorSource, FlavorTextLinks, FlavorTextsLink, IsFlavorSource, input_parsed, input_of}
 use Rattle.implib_link.specs.Gnu.Texts.{Stated, ask_stated, chosen_stated, stated}
-use Rattle.implib_link.proofs.Flavors.Program.{flavors_link}
+use Rattle.implib_link.proofs.Flavors.Program.{program_links}
 use Rattle.implib_link.proofs.Gnu.Texts.{all_chosen, all_filter, chosen_renamed, stated_ask, statements_are}
 use Rattle.implib.specs.LibraryName.{NamesOfDll, names_for}
 
@@ -144,10 +144,10 @@ text_links machine image linked descriptor table s is imports =
       asks = asks_are s.flavor machine parsed (exports_of_text is.of_text.parses.statements) words s.source.chosen;
     }
 
-pub flavor_texts_link : (machine : MachineType) (bases : Bases) (sources : List FlavorSource) (objects : List Object) → AllByRecursion (IsFlavorSource machine) sources →
-    IsFlavorProgram machine bases (map input_of sources) objects → FlavorTextsLink machine bases sources objects
-flavor_texts_link machine bases sources objects are program =
-    let among = flavors_link machine bases (map input_of sources) objects (sources_made machine sources are) program in
+pub texts_link : (machine : MachineType) (ending : Ending) (bases : Bases) (sources : List FlavorSource) (objects : List Object) → AllByRecursion (IsFlavorSource machine) sources →
+    IsProgramOf machine ending bases (map input_of sources) objects → FlavorTextsLink machine ending bases sources objects
+texts_link machine ending bases sources objects are program =
+    let among = program_links machine ending bases (map input_of sources) objects (sources_made machine sources are) program in
     record {
       among = among;
       imports = λ i s is. text_links machine (image_of machine bases (placed_from bases objects)) (placed_from bases objects) (bases.descriptors + 20 * i)

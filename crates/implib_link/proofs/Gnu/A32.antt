@@ -11,7 +11,6 @@ use Rattle.implib.specs.Formats.Constants.{arm_rel32}
 use Rattle.implib.specs.Formats.Object.{Object, ObjectSymbol}
 use Rattle.implib.specs.Import.{Ask}
 use Rattle.implib.specs.Link.Image.{Range, byte_at, image_of}
-use Rattle.implib.specs.Link.LinkedMembers.{IsMade, LinkInput, chosen_exports}
 use Rattle.implib.specs.Link.Load.{BytesAt, NumberAt}
 use Rattle.implib.specs.Link.Placement.{Bases, Placed, placed_from}
 use Rattle.implib.specs.Members.ImportTables.{thunk_width}
@@ -21,19 +20,19 @@ use Rattle.implib_link.specs.Gnu.Calls.{StubAt}
 use Rattle.implib_link.specs.Gnu.A32.{A32JumpReads, HoldDistances, distance_from}
 use Rattle.implib_link.specs.Gnu.Fields.{DefinesIn, LinkedCode, MeetsAlone, field_at, meets, placed_code}
 use Rattle.implib_link.specs.Gnu.Moves.{AreInMemory}
-use Rattle.implib_link.specs.Gnu.Program.{IsProgram, thunks_before}
+use Rattle.implib_link.specs.Flavors.Program.{Ending, FlavorInput, IsCode, IsMadeFor, IsProgramOf, exports_chosen, symbol_in, thunks_of}
 use Rattle.implib_link.specs.Gnu.Reading.{ReadsAndWrites}
 use Rattle.implib_link.specs.Gnu.Rebased.{covers, places_at}
 use Rattle.implib_link.specs.Stub.{bits_of}
-use Rattle.implib_link.specs.Tables.{AreSteady, AreTables, Tables, block_of_input, tables_at}
+use Rattle.implib_link.specs.Tables.{AreSteady, AreTables, Tables, block_of_flavor, tables_at}
 use Rattle.implib_link.proofs.Gnu.Fields.{covering_one, get_drop, get_take, located_from}
 use Rattle.implib_link.proofs.Gnu.FieldsInMemory.{Rests, number_unwritten, own, own_end, part_there}
 use Rattle.implib_link.proofs.Gnu.Memory.{Covers}
-use Rattle.implib_link.proofs.Gnu.PlacedStubs.{gnu_stub_at}
-use Rattle.implib_link.proofs.Gnu.Steady.{program_tables_none}
+use Rattle.implib_link.proofs.Flavors.PlacedStubs.{stub_at}
+use Rattle.implib_link.proofs.Flavors.Steady.{program_tables_none}
 use Rattle.implib_link.proofs.Search.Lists.{contains_among}
 use Rattle.implib_link.proofs.TablesInMemory.{code_from, code_section, covering, entry_known, resting}
-use Rattle.implib_link.proofs.TablesOfPrograms.{gnu_entry, gnu_tables}
+use Rattle.implib_link.proofs.TablesOfPrograms.{program_entry, program_tables}
 
 -- No field of ARMNT's is said to store an address whole.
 
@@ -111,20 +110,20 @@ module _ (image_base : ℕ) (image : List Range) (linked : List Placed) (codes :
         };
       }
 
-module _ (image_base : ℕ) (bases : Bases) (inputs : List LinkInput) (objects : List Object) (codes : List LinkedCode) (targets : LinkedCode → ℕ → ℕ) (memory : List Range) (gives : List ℕ → Ask → List ℕ)
-    (made : AllByRecursion (IsMade ARMNT) inputs) (program : IsProgram ARMNT bases inputs objects)
+module _ (image_base : ℕ) (ending : Ending) (bases : Bases) (inputs : List FlavorInput) (objects : List Object) (codes : List LinkedCode) (targets : LinkedCode → ℕ → ℕ) (memory : List Range) (gives : List ℕ → Ask → List ℕ)
+    (made : AllByRecursion (IsMadeFor ARMNT) inputs) (program : IsProgramOf ARMNT ending bases inputs objects)
     (at : AreInMemory ARMNT image_base (image_of ARMNT bases (placed_from bases objects)) (placed_from bases objects) codes targets memory) (distances : HoldDistances codes targets)
-    (n : ℕ) (written : List Range) (i j : ℕ) (p : LinkInput) (e : ExportView) (d : LinkedCode) (t : ObjectSymbol) (wide : (dll : List ℕ) (ask : Ask) → length (gives dll ask) ≡ thunk_width ARMNT)
-    (reads : ReadsAndWrites memory (thunk_width ARMNT) gives n bases.descriptors written) (input : slice_get inputs i ≡ Some p) (chosen : slice_get (chosen_exports p.definition p.chosen) j ≡ Some e)
-    (is : e.is_data ≡ false) (held : Contains codes d) (defines : DefinesIn d t) (named : t.name ≡ e.name) where
+    (n : ℕ) (written : List Range) (i j : ℕ) (p : FlavorInput) (e : ExportView) (d : LinkedCode) (t : ObjectSymbol) (wide : (dll : List ℕ) (ask : Ask) → length (gives dll ask) ≡ thunk_width ARMNT)
+    (reads : ReadsAndWrites memory (thunk_width ARMNT) gives n bases.descriptors written) (input : slice_get inputs i ≡ Some p) (chosen : slice_get (exports_chosen p) j ≡ Some e)
+    (is : IsCode p.flavor e) (held : Contains codes d) (defines : DefinesIn d t) (named : t.name ≡ symbol_in p.flavor e) where
   abbrev own_tables : Tables
-  own_tables = tables_at ARMNT bases objects (map (block_of_input ARMNT) inputs)
+  own_tables = tables_at ARMNT bases objects (map (block_of_flavor ARMNT) inputs)
 
   abbrev tables : AreTables ARMNT own_tables
-  tables = gnu_tables ARMNT bases inputs objects made program
+  tables = program_tables ARMNT ending bases inputs objects made program
 
   abbrev steady : AreSteady ARMNT (placed_from bases objects)
-  steady = program_tables_none ARMNT bases inputs objects made program
+  steady = program_tables_none ARMNT ending bases inputs objects made program.held.ended
 
   abbrev rest : Rests ARMNT image_base (image_of ARMNT bases (placed_from bases objects)) (placed_from bases objects) codes targets memory
   rest = resting ARMNT image_base own_tables codes targets memory gives tables steady at
@@ -132,21 +131,21 @@ module _ (image_base : ℕ) (bases : Bases) (inputs : List LinkInput) (objects :
   abbrev covers_all : AllByRecursion (Covers (image_of ARMNT bases (placed_from bases objects))) written
   covers_all = covering ARMNT image_base own_tables codes targets memory gives tables steady at n written wide reads
 
-  stub : StubAt ARMNT (placed_from bases objects) (placed_code d) t (bases.addresses + thunk_width ARMNT * thunks_before i inputs + thunk_width ARMNT * j)
+  stub : StubAt ARMNT (placed_from bases objects) (placed_code d) t (bases.addresses + thunk_width ARMNT * thunks_of i inputs + thunk_width ARMNT * j)
   stub =
-      gnu_stub_at ARMNT bases inputs objects i j p e (placed_code d) t made program input chosen is (code_from ARMNT image_base own_tables codes targets memory gives tables steady at d held)
+      stub_at ARMNT ending bases inputs objects i j p e (placed_code d) t made program input chosen is (code_from ARMNT image_base own_tables codes targets memory gives tables steady at d held)
       (code_section ARMNT image_base own_tables codes targets memory gives tables steady at d held) (record { held = defines.held; external = defines.external; here = defines.here }) named
 
-  pub armnt_reads : (t.value ≡ 0) × A32JumpReads (written ++ memory) d.position (distance_from (d.position + 8) (bases.addresses + thunk_width ARMNT * thunks_before i inputs + thunk_width ARMNT * j))
+  pub armnt_reads : (t.value ≡ 0) × A32JumpReads (written ++ memory) d.position (distance_from (d.position + 8) (bases.addresses + thunk_width ARMNT * thunks_of i inputs + thunk_width ARMNT * j))
   armnt_reads = (
     stub.begins,
     stub_reads image_base (image_of ARMNT bases (placed_from bases objects)) (placed_from bases objects) codes targets memory rest written covers_all d held distances t
-        (bases.addresses + thunk_width ARMNT * thunks_before i inputs + thunk_width ARMNT * j) stub,
+        (bases.addresses + thunk_width ARMNT * thunks_of i inputs + thunk_width ARMNT * j) stub,
   )
 
-  pub armnt_misses : image_base + 2 ^ 31 ≤ 2 ^ 32 → A32JumpReads (written ++ memory) d.position (image_base + (bases.addresses + thunk_width ARMNT * thunks_before i inputs + thunk_width ARMNT * j)) → ⊥
+  pub armnt_misses : image_base + 2 ^ 31 ≤ 2 ^ 32 → A32JumpReads (written ++ memory) d.position (image_base + (bases.addresses + thunk_width ARMNT * thunks_of i inputs + thunk_width ARMNT * j)) → ⊥
   armnt_misses low reached =
-      let entry : ℕ = bases.addresses + thunk_width ARMNT * thunks_before i inputs + thunk_width ARMNT * j in
-      let known = entry_known ARMNT image_base own_tables codes targets memory gives tables steady at n written wide reads _ _ _ (bases.addresses + thunk_width ARMNT * thunks_before i inputs) j (gnu_entry ARMNT bases inputs objects i j p e input chosen) in
+      let entry : ℕ = bases.addresses + thunk_width ARMNT * thunks_of i inputs + thunk_width ARMNT * j in
+      let known = entry_known ARMNT image_base own_tables codes targets memory gives tables steady at n written wide reads _ _ _ (bases.addresses + thunk_width ARMNT * thunks_of i inputs) j (program_entry ARMNT bases inputs objects i j p e input chosen) in
       let end : d.position + length d.code.bytes + 16 ≤ 2 ^ 31 = own_end ARMNT image_base (image_of ARMNT bases (placed_from bases objects)) (placed_from bases objects) codes targets memory rest written covers_all d (contains_among d codes held) in
       never image_base d.position entry low (omega arith) known.small (jumps_once (written ++ memory) d.position _ _ armnt_reads.1 reached)

@@ -1,7 +1,5 @@
 -- The members that are weak externals are so in a link.
 use Rattle.std.proofs.Common.{◌≡◌, ℕ, List, ◌∷◌, Some, refl}
-use Rattle.std.specs.Prelude.{bytes_eq, true}
-use Rattle.std.proofs.lemmas.Slice.Eq.{bytes_eq-Decides}
 use Rattle.implib.specs.declared.machine.MachineType.{MachineType}
 use Rattle.implib.specs.Formats.Bytes.{u32_bytes}
 use Rattle.implib.specs.Formats.Layout.{entries_of, name_text, object_of}
@@ -9,9 +7,7 @@ use Rattle.implib.specs.Formats.Object.{u32_at}
 use Rattle.implib.specs.Link.Placement.{Placed, SectionAddress}
 use Rattle.implib.specs.Members.WeakExternal.{weak_object}
 use Rattle.implib_link.specs.Gnu.Aliases.{weak_target}
-
-same_text : (name : List ℕ) → bytes_eq name name ≡ true
-same_text name = (bytes_eq-Decides name name).1 refl
+use Rattle.implib_link.proofs.Gnu.Choices.{same_text}
 
 -- the members that are weak externals are so
 pub weak_is_weak : (machine : MachineType) (weak target : List ℕ) (section_addresses : List SectionAddress) (linked : List Placed) →

@@ -1,18 +1,16 @@
 -- The members and the null descriptor are a program by themselves.
 use Rattle.std.proofs.Common.{◌≡◌, true, List, [], ◌∷◌, ◌++◌, map, refl, ap, sym, ◌∙◌, subst}
-use Rattle.std.specs.Prelude.{bytes_eq, not}
-use Rattle.std.specs.List.{AllByRecursion, IsDistinct, filter}
+use Rattle.std.specs.Prelude.{not}
+use Rattle.std.specs.List.{AllByRecursion, filter}
 use Rattle.implib.specs.declared.machine.MachineType.{MachineType}
 use Rattle.implib.specs.Definition.{ExportView}
 use Rattle.implib.specs.Members.Gnu.{export_object, head_object, tail_object}
-use Rattle.implib.specs.Link.Image.{IsAdmissible}
 use Rattle.implib.specs.Link.LinkedMembers.{IsMade, LinkInput, all_linked, objects_in}
 use Rattle.implib.specs.Formats.Object.{Object}
-use Rattle.implib.specs.Link.Placement.{Bases}
 use Rattle.implib.proofs.Link.LinkedBlocks.{Block, blocks_objects}
 use Rattle.implib.proofs.Link.LinkedInputs.{block_of, gnu_inputs_objects}
 use Rattle.implib.proofs.Link.Placement.{export, head, tail}
-use Rattle.implib_link.specs.Gnu.Program.{ClaimsNone, IsProgram, has_tables, linked_symbols, null_descriptor}
+use Rattle.implib_link.specs.Gnu.Program.{has_tables, null_descriptor}
 use Rattle.implib_link.proofs.Gnu.Blocks.{objects_behind}
 use Rattle.implib.specs.LibraryName.{NamesOfDll}
 
@@ -58,15 +56,3 @@ pub members_have : (machine : MachineType) (inputs : List LinkInput) → AllByRe
 members_have machine inputs made =
     subst AllHave (sym (ap (λ members. members ++ null_descriptor ∷ []) (gnu_inputs_objects machine inputs made) ∙ objects_behind machine (map block_of inputs) (null_descriptor ∷ [])))
     (blocks_have machine (map block_of inputs) (null_descriptor ∷ []) (null_has, tt))
-
-pub members_are_program : (machine : MachineType) (bases : Bases) (inputs : List LinkInput) → AllByRecursion (IsMade machine) inputs →
-    IsDistinct bytes_eq (linked_symbols machine inputs) → IsAdmissible machine bases (objects_in (all_linked machine inputs) ++ null_descriptor ∷ []) →
-    IsProgram machine bases inputs (objects_in (all_linked machine inputs) ++ null_descriptor ∷ [])
-members_are_program machine bases inputs made distinct admissible =
-    let objects : List Object = objects_in (all_linked machine inputs) ++ null_descriptor ∷ [] in
-    record {
-      distinct = distinct;
-      tables = all_kept objects (members_have machine inputs made);
-      others = subst (AllByRecursion (ClaimsNone (linked_symbols machine inputs))) (sym (none_left objects (members_have machine inputs made))) tt;
-      admissible = admissible;
-    }

@@ -14,12 +14,9 @@ use Rattle.implib_link.proofs.Gnu.Filling.{Avoids, same_behind}
 use Rattle.implib_link.proofs.Gnu.Keeps.{Keeps}
 use Rattle.implib_link.proofs.Gnu.Loaded.{kept_outside}
 use Rattle.implib_link.proofs.Gnu.Memory.{holder, not_in_both}
+use Rattle.implib_link.proofs.Gnu.Moved.{apart_back as back_apart}
 
 -- Ranges between others.
-
-back_apart : (xs ys : List Range) → AllApart (xs ++ ys) → AllApart ys
-back_apart [] ys apart = apart
-back_apart (x ∷ xs) ys apart = back_apart xs ys apart.1
 
 -- of ranges apart, none before or after these ones has an address of theirs
 not_between : (xs ys zs : List Range) (r s : Range) (a : ℕ) → AllApart (xs ++ (ys ++ zs)) → Among r xs ⊎ Among r zs → Among s ys → is_in a r ≡ true → is_in a s ≡ true → ⊥
@@ -59,7 +56,7 @@ all_back : (P : Range → Type 0) (xs ys : List Range) → AllByRecursion P (xs 
 all_back P [] ys all = all
 all_back P (x ∷ xs) ys all = all_back P xs ys all.1
 
-all_both : (P : Range → Type 0) (xs ys : List Range) → AllByRecursion P xs → AllByRecursion P ys → AllByRecursion P (xs ++ ys)
+pub all_both : (P : Range → Type 0) (xs ys : List Range) → AllByRecursion P xs → AllByRecursion P ys → AllByRecursion P (xs ++ ys)
 all_both P [] ys first second = second
 all_both P (x ∷ xs) ys first second = (first.0, all_both P xs ys first.1 second)
 

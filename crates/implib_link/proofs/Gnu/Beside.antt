@@ -1,7 +1,7 @@
 -- The import tables of members for GNU's linker without the address tables: what a loader reads that writes there.
-use Rattle.std.proofs.Common.{◌≡◌, ℕ, ◌+◌, ◌-◌, ◌*◌, ◌%◌, ◌<◌, ◌^◌, List, [], ◌∷◌, ◌++◌, length, map, Some, refl, ap, sym, ◌∙◌, subst, arith}
+use Rattle.std.proofs.Common.{◌≡◌, ℕ, ◌+◌, ◌%◌, ◌<◌, ◌^◌, List, [], ◌∷◌, ◌++◌, length, map, Some, refl, ap, sym, ◌∙◌, subst, arith}
 use Rattle.std.specs.List.{AllByRecursion}
-use Rattle.std.proofs.lemmas.List.{length-append, length-map}
+use Rattle.std.proofs.lemmas.List.{length-append}
 use Rattle.implib.specs.declared.machine.MachineType.{MachineType}
 use Rattle.implib.specs.Definition.{ExportView}
 use Rattle.implib.specs.Formats.Bytes.{u32_bytes}
@@ -9,28 +9,21 @@ use Rattle.implib.specs.Formats.Layout.{HasNoNul}
 use Rattle.implib.specs.Formats.Object.{Object, u32_at}
 use Rattle.implib.specs.Import.{Ask, expected_ask}
 use Rattle.implib.specs.Link.Image.{Contribution, Range, contributions, filled, range_end, relocated, with_address}
-use Rattle.implib.specs.Link.LinkedMembers.{LinkInput, chosen_exports}
 use Rattle.implib.specs.Link.Load.{BytesAt, NumberAt, TableAt, number_in}
 use Rattle.implib.specs.Link.Placement.{Bases, Descriptors, DllNames, HintNames, Lookups, Placed, next_multiple, placed_from}
-use Rattle.implib.specs.Link.Resolution.{SymbolDefinition, definitions, definitions_of, first_address}
+use Rattle.implib.specs.Link.Resolution.{SymbolDefinition, definitions_of, first_address}
 use Rattle.implib.specs.Members.Gnu.{export_object, head_object, iname_symbol, tail_object}
 use Rattle.implib.specs.Members.ImportTables.{relocation, thunk_width, zeros}
 use Rattle.implib.proofs.Link.Descriptors.{length-u32}
-use Rattle.implib.proofs.Link.Linked.{aligned_block, block_definitions, contribution_located, definitions-block, ends_of_block, same_order}
-use Rattle.implib.proofs.Link.LinkedBlocks.{BlocksLink, CanBeLinked, blocks_objects}
-use Rattle.implib.proofs.Link.LinkedInputs.{block_of}
-use Rattle.implib.proofs.Link.Placement.{AreAligned, after_head, aligned, aligned_after, aligned_head, at_least, code_definition, defined_after, descriptors_end, ends_of_all, ends_of_export, ends_of_exports, ends_of_head, ends_of_tail, head, placed-export, placed-head, placed-tail, placed_export, placed_head}
-use Rattle.implib.proofs.Link.Ranges.{Among, address_bounds, among_back, among_first, among_front, among_later, located_parts}
+use Rattle.implib.proofs.Link.Linked.{block_definitions, contribution_located, ends_of_block, same_order}
+use Rattle.implib.proofs.Link.Placement.{AreAligned, after_head, aligned_after, aligned_head, at_least, code_definition, defined_after, descriptors_end, ends_of_all, ends_of_export, ends_of_exports, ends_of_head, ends_of_tail, head, placed-export, placed-head, placed-tail, placed_export, placed_head}
+use Rattle.implib.proofs.Link.Ranges.{Among, address_bounds, among_back, among_first, among_later, located_parts}
 use Rattle.implib.proofs.Link.Tables.{CanBeAsked, descriptors_filled, filled_first, hint_bytes, hint_names_end, hint_names_filled, lookups_end, lookups_filled, table_at, thunk_bytes}
 use Rattle.implib.proofs.Link.Thunks.{same_number}
-use Rattle.implib_link.specs.Directory.{imported}
-use Rattle.implib_link.specs.Gnu.Program.{null_descriptor}
-use Rattle.implib_link.proofs.Gnu.Blocks.{addresses_after, descriptors_after}
-use Rattle.implib_link.proofs.Gnu.Filling.{DescriptorBeside, DirectoryBeside}
+use Rattle.implib_link.proofs.Gnu.Filling.{DescriptorBeside}
 use Rattle.implib_link.proofs.Gnu.Memory.{byte_first}
 use Rattle.implib_link.proofs.Gnu.Stubs.{wide_thunk}
-use Rattle.implib.specs.LibraryName.{NamesOfDll, names_for}
-use Rattle.implib.specs.declared.flavor.Flavor.TheVariants.{Gnu}
+use Rattle.implib.specs.LibraryName.{NamesOfDll}
 
 -- What is known of ranges, whatever the flavour.
 
@@ -246,43 +239,3 @@ module _ (machine : MachineType) (dll : NamesOfDll) (es : List ExportView) (b : 
         addresses_field = fields.addresses_field;
         has_addresses = above;
       }
-
--- The objects of several DLLs, and the null descriptor after them.
-module _ (machine : MachineType) (linked : List Placed) (image beside : List Range)
-    (image_starts : AllByRecursion (λ r. 0 < r.start) image) (image_ends : AllByRecursion (λ r. range_end r < 2 ^ 31) image)
-    (starts : AllByRecursion (λ r. 0 < r.start) beside) (ends : AllByRecursion (λ r. range_end r < 2 ^ 31) beside) where
-  pub blocks_beside : (inputs : List LinkInput) (b : Bases) → AllByRecursion (CanBeLinked machine) (map block_of inputs) → AreAligned b →
-      ((d : SymbolDefinition) → Among d (definitions (placed_from b (blocks_objects machine (map block_of inputs) (null_descriptor ∷ [])))) → definitions_of d.name linked ≡ d ∷ []) →
-      BlocksLink machine linked image b (map block_of inputs) → LocatedBeside machine linked beside b (blocks_objects machine (map block_of inputs) (null_descriptor ∷ [])) →
-      DirectoryBeside beside (thunk_width machine) b.descriptors b.addresses (map (imported machine) inputs)
-  unfolding DirectoryBeside BlocksLink
-  blocks_beside [] b fit even only links located =
-      let position : next_multiple 4 b.descriptors ≡ b.descriptors = aligned b.descriptors even.descriptors in
-      let none : b.descriptors - b.descriptors ≡ 0 = omega arith in
-      let all : List ℕ = zeros (next_multiple 4 b.descriptors - b.descriptors) ++ (zeros 20 ++ []) in
-      let same : all ≡ zeros 20 = rw (position, none) refl in
-      subst (BytesAt beside b.descriptors) same located.descriptors
-  blocks_beside (p ∷ inputs) b fit even only links located =
-      let dll : NamesOfDll = names_for Gnu p.definition in
-      let es : List ExportView = chosen_exports p.definition p.chosen in
-      let behind : List Object = blocks_objects machine (map block_of inputs) (null_descriptor ∷ []) in
-      let last : Bases = ends_of_block machine dll b es in
-      let are : definitions (placed_from b (head machine dll ∷ after_head machine dll es behind)) ≡ block_definitions machine dll b es ++ definitions (placed_from last behind) =
-      definitions-block machine dll b es behind even in
-      let every : (d : SymbolDefinition) → Among d (block_definitions machine dll b es ++ definitions (placed_from last behind)) → definitions_of d.name linked ≡ d ∷ [] =
-      λ d m. only d (subst (Among d) (sym are) m) in
-      let own_only : (d : SymbolDefinition) → Among d (block_definitions machine dll b es) → definitions_of d.name linked ≡ d ∷ [] =
-      λ d m. every d (among_front d (block_definitions machine dll b es) (definitions (placed_from last behind)) m) in
-      let bounds = table_bounds machine image image_starts image_ends (map (expected_ask machine) es) links.0.strictly.loads.plain.addresses links.0.strictly.loads.plain.address_table in
-      let begins : links.0.strictly.loads.plain.addresses ≡ b.addresses = links.0.addresses in
-      let own = block_beside machine dll es b behind linked beside starts ends fit.0.dll fit.0.exports even own_only located
-      (subst (λ n. 0 < n) begins bounds.0) (subst (λ n. n < 2 ^ 31) begins bounds.1) in
-      let others = blocks_beside inputs last fit.1 (aligned_block machine dll b es even)
-      (λ d m. every d (among_back d (block_definitions machine dll b es) (definitions (placed_from last behind)) m)) links.1
-      (rest_beside machine dll es b behind linked beside starts ends fit.0.dll fit.0.exports even own_only located) in
-      let table : last.addresses ≡ b.addresses + thunk_width machine * (length (map (expected_ask machine) es) + 1) =
-      addresses_after machine dll (ends_of_head machine dll b) es ∙ ap (λ n. b.addresses + thunk_width machine * (n + 1)) (sym (length-map es (expected_ask machine))) in (
-        own,
-        subst (λ n. DirectoryBeside beside (thunk_width machine) (b.descriptors + 20) n (map (imported machine) inputs)) table
-            (subst (λ n. DirectoryBeside beside (thunk_width machine) n last.addresses (map (imported machine) inputs)) (sym (descriptors_after machine dll b es)) others),
-      )

@@ -1,7 +1,7 @@
 -- Where the descriptors and the address tables of blocks are, and the null descriptor after them.
 use Rattle.std.proofs.Common.{◌≡◌, ℕ, zero, suc, ◌+◌, ◌*◌, ◌-◌, List, [], ◌∷◌, ◌++◌, length, map, Some, refl, ap, sym, ◌∙◌, subst, arith}
 use Rattle.std.specs.Prelude.{slice_get}
-use Rattle.std.proofs.Math.Nat.{mul-add, mul-suc, mul-zero}
+use Rattle.std.proofs.Math.Nat.{mul-add, mul-suc}
 use Rattle.std.proofs.lemmas.List.{append_assoc}
 use Rattle.implib.specs.declared.machine.MachineType.{MachineType}
 use Rattle.implib.specs.Definition.{ExportView}
@@ -15,10 +15,10 @@ use Rattle.implib.proofs.Link.LinkedBlocks.{Block, BlocksLink, blocks_objects, e
 use Rattle.implib.proofs.Link.LinkedInputs.{block_of}
 use Rattle.implib.proofs.Link.Linked.{BlockLinks, LocatedFrom, aligned_block, ends_of_block}
 use Rattle.implib.proofs.Link.Placement.{AreAligned, aligned, descriptors_end, ends_of_all, ends_of_export, ends_of_exports, ends_of_head, export, head, tail}
-use Rattle.implib_link.specs.Directory.{DirectoryAt, imported}
 use Rattle.implib_link.specs.Gnu.Program.{null_descriptor, thunks_before}
 use Rattle.implib.specs.LibraryName.{NamesOfDll, names_for}
 use Rattle.implib.specs.declared.flavor.Flavor.TheVariants.{Gnu}
+use Rattle.implib_link.proofs.Gnu.Loaded.{times_none as plus_zero}
 
 -- objects after blocks
 pub objects_behind : (machine : MachineType) (blocks : List Block) (rest : List Object) →
@@ -34,7 +34,7 @@ pub descriptors_after : (machine : MachineType) (dll : NamesOfDll) (b : Bases) (
     b.descriptors + 20 ≡ (ends_of_block machine dll b es).descriptors
 descriptors_after machine dll b es = descriptors_end machine dll (ends_of_head machine dll b) es
 
-plus_twice : (a w m : ℕ) → a + w + m ≡ a + (m + w)
+pub plus_twice : (a w m : ℕ) → a + w + m ≡ a + (m + w)
 plus_twice a w m = omega arith
 
 -- the address tables' end after a block's thunks and its null thunk
@@ -71,9 +71,6 @@ plus_sum a n m = omega arith
 pub table_sum : (a w n m : ℕ) → a + w * n + w * m ≡ a + w * (n + m)
 table_sum a w n m = let split : w * (n + m) ≡ w * n + w * m = mul-add w n m in omega arith
 
-plus_zero : (a w : ℕ) → a ≡ a + w * 0
-plus_zero a w = let none : w * 0 ≡ 0 = mul-zero w in omega arith
-
 -- what is known of the i-th block
 pub nth_block : (machine : MachineType) (linked : List Placed) (image : List Range) (inputs : List LinkInput) (b : Bases) →
     BlocksLink machine linked image b (map block_of inputs) → (i : ℕ) (p : LinkInput) → slice_get inputs i ≡ Some p →
@@ -103,17 +100,3 @@ nth_block machine linked image (q ∷ inputs) b links (suc i) p is =
     ap (λ n. n + thunk_width machine * thunks_before i inputs) (addresses_after machine dll (ends_of_head machine dll b) exports)
     ∙ table_sum b.addresses (thunk_width machine) (length exports + 1) (thunks_before i inputs) in
     (found.0, (found.1.0 ∙ at_descriptor, (found.1.1.0 ∙ at_table, found.1.1.1)))
-
--- blocks and the null descriptor after them are a directory
-pub directory_of : (machine : MachineType) (linked : List Placed) (image : List Range) (inputs : List LinkInput) (b : Bases) →
-    BlocksLink machine linked image b (map block_of inputs) → BytesAt image (ends_of_blocks machine b (map block_of inputs)).descriptors (zeros 20) →
-    DirectoryAt image (thunk_width machine) b.descriptors (map (imported machine) inputs)
-unfolding BlocksLink DirectoryAt ends_of_blocks
-directory_of machine linked image [] b links null = null
-directory_of machine linked image (p ∷ inputs) b links null =
-    let dll : NamesOfDll = names_for Gnu p.definition in
-    let exports : List ExportView = chosen_exports p.definition p.chosen in (
-      links.0.strictly.loads,
-      subst (λ n. DirectoryAt image (thunk_width machine) n (map (imported machine) inputs)) (sym (descriptors_after machine dll b exports))
-          (directory_of machine linked image inputs (ends_of_block machine dll b exports) links.1 null),
-    )

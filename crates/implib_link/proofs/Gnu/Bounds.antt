@@ -2,40 +2,40 @@
 use Rattle.std.proofs.Common.{◌≡◌, ℕ, zero, suc, ◌+◌, ◌*◌, ◌-◌, ◌/◌, ◌%◌, ◌^◌, ◌<◌, ◌≤◌, List, [], ◌∷◌, ◌++◌, codes, length, map, Some, refl, ap, sym, ◌∙◌, subst, inl, inr, arith}
 use Rattle.std.specs.Prelude.{nat_lt, slice_get}
 use Rattle.std.specs.List.{AllByRecursion, filter}
-use Rattle.std.proofs.Math.Nat.{mul-add, mul-zero}
 use Rattle.std.proofs.lemmas.Bool.{cases_Bool, ltb-false, ltb-true}
-use Rattle.std.proofs.lemmas.List.{length-append}
+use Rattle.std.proofs.lemmas.List.{length-append, length-map}
 use Rattle.implib.specs.declared.machine.MachineType.{MachineType}
 use Rattle.implib.specs.declared.machine.MachineType.TheVariants.{I386, ARMNT, AMD64, ARM64}
 use Rattle.implib.specs.Definition.{ExportView}
 use Rattle.implib.specs.Formats.Constants.{class_static}
 use Rattle.implib.specs.Formats.Object.{Object}
 use Rattle.implib.specs.Link.Image.{Contribution, Range, contributions, filled, image_of, range_end, range_of, relocated}
-use Rattle.implib.specs.Link.Linked.{EntriesAt}
 use Rattle.implib.specs.Link.LinkedMembers.{IsMade, LinkInput, chosen_exports}
 use Rattle.implib.specs.Link.Placement.{Addresses, Bases, Descriptors, Group, HintNames, Placed, base_of, groups, next_multiple, placed_from}
 use Rattle.implib.specs.Members.Gnu.{export_object, head_object, tail_object}
 use Rattle.implib.specs.Members.ImportTables.{relocation, thunk_width, zeros}
 use Rattle.implib.proofs.Link.Linked.{aligned_block, ends_of_block}
 use Rattle.implib.proofs.Link.LinkedBlocks.{blocks_objects, ends, even}
-use Rattle.implib.proofs.Link.LinkedInputs.{block_of, gnu_inputs_objects}
+use Rattle.implib.proofs.Link.LinkedInputs.{block_of}
 use Rattle.implib.proofs.Link.LinkedMembers.{among_contains}
 use Rattle.implib.proofs.Link.Placement.{AreAligned, after_head, aligned, aligned_after, aligned_head, ends_of_all, ends_of_export, ends_of_exports, ends_of_head, placed-export, placed-head, placed-tail, placed_head}
 use Rattle.implib.proofs.Link.Ranges.{Among, all_among, among_first, among_flat}
-use Rattle.implib.proofs.Link.Tables.{addresses_end, addresses_filled, descriptors_filled, filled_first, thunk_bytes}
+use Rattle.implib.proofs.Link.Tables.{descriptors_filled, filled_first}
 use Rattle.implib_link.specs.Gnu.Bounds.{AreBounded, BeginsWith, HaveEvenHints, IsEven}
-use Rattle.implib_link.specs.Gnu.Program.{IsProgram, has_tables, null_descriptor, thunks_before}
-use Rattle.implib_link.proofs.Gnu.Blocks.{addresses_after, objects_behind, table_sum}
-use Rattle.implib_link.proofs.Gnu.Loaded.{entry_once}
-use Rattle.implib_link.proofs.Gnu.Others.{contributions_kept}
-use Rattle.implib_link.proofs.Gnu.Program.{kept_placed, program_links}
+use Rattle.implib_link.specs.Gnu.Program.{has_tables, null_descriptor, thunks_before}
+use Rattle.implib_link.specs.Flavors.Program.{IsProgram, OfLinker, gnu_input, thunks_of}
+use Rattle.implib_link.proofs.Gnu.Blocks.{table_sum}
+use Rattle.implib_link.proofs.Gnu.Others.{contributions_kept, placed_kept}
+use Rattle.implib_link.proofs.Flavors.GnuPrograms.{gnu_thunks, gnu_entry_of, gnu_kept, gnu_made}
+use Rattle.implib_link.proofs.Flavors.Program.{program_links}
+use Rattle.implib_link.proofs.Flavors.Writing.{table_filled}
 use Rattle.implib_link.proofs.Gnu.Sized.{length-relocated}
 use Rattle.implib.specs.LibraryName.{NamesOfDll, names_for}
 use Rattle.implib.specs.declared.flavor.Flavor.TheVariants.{Gnu}
 
 -- Which entry an address is in.
 
-index_below : {X : Type 0} (xs : List X) (j : ℕ) (x : X) → slice_get xs j ≡ Some x → j < length xs
+pub index_below : {X : Type 0} (xs : List X) (j : ℕ) (x : X) → slice_get xs j ≡ Some x → j < length xs
 index_below [] j x is = cc
 index_below (y ∷ xs) zero x is = omega arith
 index_below (y ∷ xs) (suc j) x is = let later = index_below xs j x is in omega arith
@@ -96,42 +96,9 @@ thunk_around ARM64 first total address above below = record { n = (address - fir
 
 -- The lengths of what the members contribute.
 
-plus_split : (a b c n : ℕ) → a + n ≡ b → b ≡ a + c → n ≡ c
-plus_split a b c n first second = omega arith
-
 module _ (machine : MachineType) (linked : List Placed) where
   abbrev behind : List LinkInput → List Object
   behind inputs = blocks_objects machine (map block_of inputs) (null_descriptor ∷ [])
-
-  length-thunks : (dll : NamesOfDll) (b : Bases) (es : List ExportView) → length (thunk_bytes machine dll linked b es) ≡ thunk_width machine * (length es + 1)
-  length-thunks dll b es =
-      plus_split b.addresses (ends_of_all machine dll b es).addresses (thunk_width machine * (length es + 1)) (length (thunk_bytes machine dll linked b es))
-      (addresses_end machine dll linked b es) (addresses_after machine dll b es)
-
-  addresses_long : (inputs : List LinkInput) (b : Bases) → AreAligned b →
-      length (filled b.addresses (contributions machine linked Addresses (placed_from b (behind inputs)))) ≡ thunk_width machine * thunks_before (length inputs) inputs
-  unfolding head_object
-  addresses_long [] b even = sym (mul-zero (thunk_width machine))
-  addresses_long (p ∷ inputs) b even =
-      let dll : NamesOfDll = names_for Gnu p.definition in
-      let es : List ExportView = chosen_exports p.definition p.chosen in
-      let later : Bases = ends_of_head machine dll b in
-      let last : Bases = ends_of_block machine dll b es in
-      let others : List Contribution = contributions machine linked Addresses (placed_from later (after_head machine dll es (behind inputs))) in
-      let rest : List ℕ = filled last.addresses (contributions machine linked Addresses (placed_from last (behind inputs))) in
-      let plain : b.addresses + 0 ≡ b.addresses = omega arith in
-      let bytes : filled b.addresses (contributions machine linked Addresses (placed_from b (behind (p ∷ inputs)))) ≡ thunk_bytes machine dll linked later es ++ rest =
-      ap (λ ps. filled b.addresses (contributions machine linked Addresses ps)) (placed-head machine dll b (after_head machine dll es (behind inputs)) even)
-      ∙ filled_first b.addresses 0 [] others refl
-      ∙ ap (λ n. filled n others) plain
-      ∙ addresses_filled machine dll linked later es (behind inputs) (aligned_head machine dll b even) in
-      let split : thunk_width machine * (length es + 1 + thunks_before (length inputs) inputs) ≡ thunk_width machine * (length es + 1) + thunk_width machine * thunks_before (length inputs) inputs =
-      mul-add (thunk_width machine) (length es + 1) (thunks_before (length inputs) inputs) in
-      ap length bytes
-      ∙ length-append (thunk_bytes machine dll linked later es) rest
-      ∙ ap (λ n. n + length rest) (length-thunks dll later es)
-      ∙ ap (λ n. thunk_width machine * (length es + 1) + n) (addresses_long inputs last (aligned_block machine dll b es even))
-      ∙ sym split
 
   directory_long : (inputs : List LinkInput) (b : Bases) → AreAligned b →
       length (filled b.descriptors (contributions machine linked Descriptors (placed_from b (behind inputs)))) ≡ 20 * (length inputs + 1)
@@ -200,10 +167,7 @@ module _ (machine : MachineType) (b : Bases) (inputs : List LinkInput) (objects 
   aligned_bases = even machine b objects program.admissible
 
   members_are : filter has_tables objects ≡ members
-  members_are =
-      program.tables
-      ∙ ap (λ os. os ++ null_descriptor ∷ []) (gnu_inputs_objects machine inputs made)
-      ∙ objects_behind machine (map block_of inputs) (null_descriptor ∷ [])
+  members_are = gnu_kept machine b inputs objects made program
 
   contributed : (group : Group) → contributions machine linked group linked ≡ contributions machine linked group (placed_from b members)
   contributed group = contributions_kept machine linked group b objects ∙ ap (λ os. contributions machine linked group (placed_from b os)) members_are
@@ -217,7 +181,9 @@ module _ (machine : MachineType) (b : Bases) (inputs : List LinkInput) (objects 
       (range_there (base_of group b) (contributions machine linked group linked) long)
 
   pub table_long : length (group_range Addresses).bytes ≡ thunk_width machine * thunks_before (length inputs) inputs
-  table_long = ap (λ cs. length (filled b.addresses cs)) (contributed Addresses) ∙ addresses_long machine linked inputs b aligned_bases
+  table_long =
+      table_filled machine OfLinker b (map gnu_input inputs) objects (gnu_made machine inputs made) program
+      ∙ ap (λ n. thunk_width machine * n) (ap (λ n. thunks_of n (map gnu_input inputs)) (length-map inputs gnu_input) ∙ gnu_thunks (length inputs) inputs)
 
   directory_size : length (group_range Descriptors).bytes ≡ 20 * (length inputs + 1)
   directory_size = ap (λ cs. length (filled b.descriptors cs)) (contributed Descriptors) ∙ directory_long machine linked inputs b aligned_bases
@@ -247,7 +213,7 @@ begins_with machine b (p ∷ inputs) objects made program some =
     let plain : b.addresses + 0 ≡ b.addresses = omega arith in
     record {
       first = placed_head machine dll b;
-      among = ap (λ ps. slice_get ps 0) (kept_placed machine b (p ∷ inputs) objects made program ∙ placed-head machine dll b behind_it (even machine b objects program.admissible));
+      among = ap (λ ps. slice_get ps 0) (placed_kept b objects ∙ ap (placed_from b) (gnu_kept machine b (p ∷ inputs) objects made program) ∙ placed-head machine dll b behind_it (even machine b objects program.admissible));
       symbol = record { name = codes ".idata$5"; value = 0; section = 5; kind = 0; class = class_static };
       held = (2, omega arith, refl);
       named = refl;
@@ -277,7 +243,6 @@ tables_are_bounded machine b inputs objects made program some =
       size = size;
       below = all_among (λ r. range_end r < 2 ^ 31) table image there (ends machine b objects program.admissible);
       entries = λ i j p e input chosen.
-          let one = (program_links machine b inputs objects made program).imports i p input in
           let start : ℕ = b.addresses + thunk_width machine * thunks_before i inputs in
           let j_below : j < length (chosen_exports p.definition p.chosen) = index_below (chosen_exports p.definition p.chosen) j e chosen in
           let counted = count_below inputs i p input in
@@ -285,8 +250,7 @@ tables_are_bounded machine b inputs objects made program some =
           let next = next_entry machine b.addresses (thunks_before i inputs + j) total (omega arith) in (
             start + thunk_width machine * j,
             (
-              entry_once linked (thunk_width machine) start (chosen_exports p.definition p.chosen) j e
-                  (subst (λ n. EntriesAt linked (thunk_width machine) n (chosen_exports p.definition p.chosen)) one.table_located one.strictly.entries) chosen,
+              gnu_entry_of machine b inputs objects i j p e (program_links machine OfLinker b (map gnu_input inputs) objects (gnu_made machine inputs made) program) input chosen,
               (omega arith, omega arith),
             ),
           );

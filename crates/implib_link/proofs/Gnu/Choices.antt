@@ -24,6 +24,7 @@ use Rattle.implib_link.proofs.Gnu.Loaded.{kept_outside}
 use Rattle.implib_link.proofs.Gnu.Memory.{byte_front}
 use Rattle.implib_link.proofs.Gnu.Moved.{covered_bounds}
 use Rattle.implib_link.proofs.Search.Lists.{among_at, among_either, contains_among}
+use Rattle.implib_link.proofs.Gnu.Apart.{all_both as all_joined}
 
 -- Where code defines a name.
 
@@ -60,7 +61,7 @@ record DefinedAt (name : List ℕ) (codes : List PlacedCode) (address : ℕ) : T
 same_names : (name other : List ℕ) → bytes_eq name other ≡ true → name ≡ other
 same_names name other is = (bytes_eq-Decides name other).0 is
 
-same_text : (name : List ℕ) → bytes_eq name name ≡ true
+pub same_text : (name : List ℕ) → bytes_eq name name ≡ true
 same_text name = (bytes_eq-Decides name name).1 refl
 
 defines_from : (name : List ℕ) (c : PlacedCode) (t : ObjectSymbol) → Among (ASymbol t) c.from.object.entries → is_here name c t ≡ true → Defines c t × (t.name ≡ name)
@@ -188,10 +189,6 @@ codes_apart f g (c ∷ codes) alike apart = (apart_from_all f g (f c) (g c) alik
 all_split : (P : Range → Type 0) (xs ys : List Range) → AllByRecursion P (xs ++ ys) → AllByRecursion P xs × AllByRecursion P ys
 all_split P [] ys all = (tt, all)
 all_split P (x ∷ xs) ys all = let later = all_split P xs ys all.1 in ((all.0, later.0), later.1)
-
-all_joined : (P : Range → Type 0) (xs ys : List Range) → AllByRecursion P xs → AllByRecursion P ys → AllByRecursion P (xs ++ ys)
-all_joined P [] ys first second = second
-all_joined P (x ∷ xs) ys first second = (first.0, all_joined P xs ys first.1 second)
 
 pub memory_apart : {X : Type 0} (f g : X → Range) (codes : List X) → AllByRecursion (AlikeFor f g) codes → (image : List Range) → AllApart (image ++ map f codes) → AllApart (image ++ map g codes)
 memory_apart f g codes alike [] apart = codes_apart f g codes alike apart

@@ -1,5 +1,5 @@
 -- The names that the members claim: those that they are listed for.
-use Rattle.std.proofs.Common.{◌≡◌, ℕ, List, [], ◌∷◌, ◌++◌, refl, ap, sym, ◌∙◌, inl, inr}
+use Rattle.std.proofs.Common.{◌≡◌, List, [], ◌∷◌, ◌++◌, refl, ap, sym, ◌∙◌, inl, inr}
 use Rattle.std.specs.List.{flat_map}
 use Rattle.std.proofs.lemmas.Bool.{cases_Bool}
 use Rattle.std.proofs.lemmas.List.{append_assoc}
@@ -8,9 +8,8 @@ use Rattle.implib.specs.Definition.{ExportView}
 use Rattle.implib.specs.Members.Gnu.{archive_symbols, export_object, head_object, head_symbol, iname_symbol, tail_object}
 use Rattle.implib.specs.Formats.Object.{Object}
 use Rattle.implib.specs.Link.Placement.{Bases, ends_after, placed_from}
-use Rattle.implib.proofs.Link.LinkedBlocks.{Block, blocks_objects}
 use Rattle.implib.proofs.Link.Placement.{after_head, export, head, tail}
-use Rattle.implib_link.specs.Gnu.Program.{claimed_names, names_claimed_in, null_descriptor}
+use Rattle.implib_link.specs.Gnu.Program.{claimed_names, names_claimed_in}
 use Rattle.implib.specs.LibraryName.{NamesOfDll}
 
 pub claimed_tail : (machine : MachineType) (dll : NamesOfDll) → claimed_names (tail machine dll) ≡ iname_symbol machine dll.linked ∷ []
@@ -33,18 +32,6 @@ claimed_after machine dll (e ∷ es) rest =
     ∙ ap (λ names. archive_symbols e ++ names) (claimed_after machine dll es rest)
     ∙ sym (append_assoc (archive_symbols e) (flat_map archive_symbols es ++ iname_symbol machine dll.linked ∷ []) (flat_map claimed_names rest))
     ∙ ap (λ names. names ++ flat_map claimed_names rest) (sym (append_assoc (archive_symbols e) (flat_map archive_symbols es) (iname_symbol machine dll.linked ∷ [])))
-
-abbrev listed_of : MachineType → Block → List (List ℕ)
-listed_of machine k = head_symbol machine k.dll.linked ∷ (flat_map archive_symbols k.exports ++ iname_symbol machine k.dll.linked ∷ [])
-
--- the names that blocks claim, with the null descriptor after them, which claims none
-pub claimed_blocks : (machine : MachineType) (blocks : List Block) →
-    flat_map claimed_names (blocks_objects machine blocks (null_descriptor ∷ [])) ≡ flat_map (listed_of machine) blocks
-claimed_blocks machine [] = refl
-claimed_blocks machine (k ∷ blocks) =
-    ap (λ names. names ++ flat_map claimed_names (after_head machine k.dll k.exports (blocks_objects machine blocks (null_descriptor ∷ [])))) (claimed_head machine k.dll)
-    ∙ ap (λ names. head_symbol machine k.dll.linked ∷ names) (claimed_after machine k.dll k.exports (blocks_objects machine blocks (null_descriptor ∷ []))
-    ∙ ap (λ names. (flat_map archive_symbols k.exports ++ iname_symbol machine k.dll.linked ∷ []) ++ names) (claimed_blocks machine blocks))
 
 -- the names that placed objects claim are those of the objects
 pub claimed_placed : (b : Bases) (objects : List Object) → names_claimed_in (placed_from b objects) ≡ flat_map claimed_names objects

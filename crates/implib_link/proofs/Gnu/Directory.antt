@@ -36,7 +36,7 @@ directory_walk image width address (i ∷ imports) directory = (
 nonzero : (n m : ℕ) → n ≡ m → 0 < n → m ≡ 0 → ⊥
 nonzero n m same above none = omega arith
 
-same_imports : (first second : Imported) (firsts seconds : List Imported) → first.dll ≡ second.dll → first.asks ≡ second.asks → firsts ≡ seconds →
+pub same_imports : (first second : Imported) (firsts seconds : List Imported) → first.dll ≡ second.dll → first.asks ≡ second.asks → firsts ≡ seconds →
     first ∷ firsts ≡ second ∷ seconds
 same_imports first second firsts seconds dll asks others =
     ap (λ d. record { dll = d; asks = first.asks } ∷ firsts) dll

@@ -17,6 +17,7 @@ use Rattle.implib_link.specs.Gnu.Rebased.{Place, absolute_width, amd64_addr32, a
 use Rattle.implib_link.specs.Stub.{adrp_immediate, ldr_immediate, page}
 use Rattle.implib_link.proofs.Gnu.Moved.{covered_bounds, narrow}
 use Rattle.implib_link.proofs.Gnu.MovedCode.{apart_same}
+use Rattle.implib_link.proofs.Search.Lists.{passes as among_filter, among_filter as filter_among}
 
 -- Lists by their places.
 
@@ -58,25 +59,6 @@ located_each memory (x ∷ bytes) a (suc i) b located is =
     subst (λ n. byte_at memory n ≡ Some b) next (located_each memory bytes (a + 1) i b located.1 is)
 
 -- Which relocations meet bytes.
-
-among_filter : {X : Type 0} (p : X → Bool) (x : X) (xs : List X) → Among x xs → p x ≡ true → Among x (filter p xs)
-unfolding Among
-among_filter p x [] m is = absurd m
-among_filter p x (y ∷ xs) (inl same) is = let passes : p y ≡ true = subst (λ z. p z ≡ true) same is in rw passes (inl same)
-among_filter p x (y ∷ xs) (inr m) is =
-    elim (cases_Bool (p y)) [
-      | inl passes ↦ rw passes (inr (among_filter p x xs m is))
-      | inr fails ↦ rw fails (among_filter p x xs m is)
-    ]
-
-pub filter_among : {X : Type 0} (p : X → Bool) (x : X) (xs : List X) → Among x (filter p xs) → Among x xs
-unfolding Among
-filter_among p x [] m = m
-filter_among p x (y ∷ xs) m =
-    elim (cases_Bool (p y)) as (λ d. Among x (y ∷ xs)) [
-      | inl passes ↦ elim (rw passes at m) [ inl same ↦ inl same | inr later ↦ inr (filter_among p x xs later) ]
-      | inr fails ↦ inr (filter_among p x xs (rw fails at m))
-    ]
 
 filter_twice : {X : Type 0} (p q : X → Bool) (xs : List X) → ((x : X) → q x ≡ true → p x ≡ true) → filter q xs ≡ filter q (filter p xs)
 filter_twice p q [] each = refl

@@ -14,7 +14,7 @@ use Rattle.implib.proofs.Link.Loading.{number_once, text_led_to, text_once}
 use Rattle.implib_link.specs.Directory.{DirectoryAt, Imported, StopsAt, WalkFinds}
 use Rattle.implib_link.specs.Gnu.Loaded.{Writes, entries_written}
 use Rattle.implib_link.specs.Gnu.Writing.{AreAlike, FillsTable, WritesAsItGoes}
-use Rattle.implib_link.proofs.Gnu.Directory.{directory_walk}
+use Rattle.implib_link.proofs.Gnu.Directory.{directory_walk, same_imports}
 use Rattle.implib_link.proofs.Gnu.Keeps.{Keeps, number_kept, text_kept, thunk_kept}
 use Rattle.implib_link.proofs.Gnu.Loaded.{entries_within, thunks_asked, times_next}
 use Rattle.implib_link.proofs.Gnu.Memory.{within_bounds}
@@ -70,13 +70,6 @@ thunk_once image width a first second x y =
 
 same_asks : (x y : Ask) (xs ys : List Ask) → x ≡ y → xs ≡ ys → x ∷ xs ≡ y ∷ ys
 same_asks x y xs ys first rest = cc
-
-same_imports : (first second : Imported) (firsts seconds : List Imported) → first.dll ≡ second.dll → first.asks ≡ second.asks → firsts ≡ seconds →
-    first ∷ firsts ≡ second ∷ seconds
-same_imports first second firsts seconds dll asks others =
-    ap (λ d. record { dll = d; asks = first.asks } ∷ firsts) dll
-    ∙ ap (λ a. record { dll = second.dll; asks = a } ∷ firsts) asks
-    ∙ ap (λ rest. second ∷ rest) others
 
 not_zero : (n m : ℕ) → n ≡ m → 0 < n → m ≡ 0 → ⊥
 not_zero n m same above none = omega arith

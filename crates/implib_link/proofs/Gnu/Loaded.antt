@@ -5,13 +5,9 @@ use Rattle.std.specs.List.{AllByRecursion, list_any}
 use Rattle.std.proofs.Math.Nat.{mul-suc, mul-zero}
 use Rattle.std.proofs.lemmas.Bool.{and_parts, false_from_ne_true, ltb-true, or_parts}
 use Rattle.std.proofs.lemmas.List.{append_assoc, get_or_at, length-append}
-use Rattle.implib.specs.Definition.{ExportView}
 use Rattle.implib.specs.Link.Image.{Range, byte_at, is_in, range_end}
-use Rattle.implib.specs.Import.{Ask, imp_symbol}
-use Rattle.implib.specs.Link.Linked.{EntriesAt}
+use Rattle.implib.specs.Import.{Ask}
 use Rattle.implib.specs.Link.Load.{BytesAt}
-use Rattle.implib.specs.Link.Placement.{Placed}
-use Rattle.implib.specs.Link.Resolution.{definitions_of}
 use Rattle.implib.proofs.Link.Ranges.{is_in_from}
 use Rattle.implib_link.specs.Directory.{Imported}
 use Rattle.implib_link.specs.Gnu.Loaded.{entries_written}
@@ -106,19 +102,6 @@ abbrev pub thunks_asked : ℕ → List Imported → ℕ
 thunks_asked zero imports = 0
 thunks_asked (suc i) [] = 0
 thunks_asked (suc i) (p ∷ imports) = length p.asks + 1 + thunks_asked i imports
-
--- the j-th entry is the only definition of its symbol
-pub entry_once : (linked : List Placed) (width a : ℕ) (exports : List ExportView) (j : ℕ) (e : ExportView) → EntriesAt linked width a exports → slice_get exports j ≡ Some e →
-    definitions_of (imp_symbol e.name) linked ≡ record { name = imp_symbol e.name; address = Some (a + width * j) } ∷ []
-unfolding EntriesAt
-entry_once linked width a [] j e entries is = cc
-entry_once linked width a (x ∷ exports) zero e entries is =
-    let same : x ≡ e = cc in
-    subst (λ (y : ExportView). definitions_of (imp_symbol y.name) linked ≡ record { name = imp_symbol y.name; address = Some (a + width * 0) } ∷ []) same
-    (subst (λ n. definitions_of (imp_symbol x.name) linked ≡ record { name = imp_symbol x.name; address = Some n } ∷ []) (times_none a width) entries.0)
-entry_once linked width a (x ∷ exports) (suc j) e entries is =
-    subst (λ n. definitions_of (imp_symbol e.name) linked ≡ record { name = imp_symbol e.name; address = Some n } ∷ []) (times_next a width j)
-    (entry_once linked width (a + width) exports j e entries.1 is)
 
 -- an element of a list that was mapped
 pub mapped_at : {X Y : Type 0} (f : X → Y) (xs : List X) (i : ℕ) (y : Y) → slice_get (map f xs) i ≡ Some y → (x : X) × ((slice_get xs i ≡ Some x) × (f x ≡ y))

@@ -29,7 +29,7 @@ amd64_jump address field four =
     let f = four_of field four in
     subst (λ xs. jump_reads AMD64 address (0xFF ∷ 0x25 ∷ (xs ++ 0x90 ∷ 0x90 ∷ [])) ≡ Some (plus_signed 32 1 (number_in xs) (address + 6))) (sym f.is) refl
 
-arm64_jump : (address : ℕ) (adrp load : List ℕ) → length adrp ≡ 4 → length load ≡ 4 → with_adrp 0 (number_in adrp) ≡ 0x9000_0010 → with_bits 10 12 0 (number_in load) ≡ 0xF940_0210 →
+pub arm64_jump : (address : ℕ) (adrp load : List ℕ) → length adrp ≡ 4 → length load ≡ 4 → with_adrp 0 (number_in adrp) ≡ 0x9000_0010 → with_bits 10 12 0 (number_in load) ≡ 0xF940_0210 →
     jump_reads ARM64 address (adrp ++ (load ++ 0 ∷ 2 ∷ 0x1F ∷ 0xD6 ∷ []))
     ≡ Some (plus_signed 21 4096 (adrp_immediate (number_in adrp)) (page address * 4096) + ldr_immediate (number_in load))
 arm64_jump address adrp load four also is_adrp is_load =

@@ -10,14 +10,14 @@ use Rattle.implib.specs.Definition.{ExportView}
 use Rattle.implib.specs.Formats.Object.{Object}
 use Rattle.implib.specs.Link.Image.{Range, contributions, filled, image_of, range_end}
 use Rattle.implib.specs.Link.Linked.{AllFind, IsDefinedAt, IsDefinedOnce, IsLinked, undefined_names}
-use Rattle.implib.specs.Link.LinkedMembers.{IsMade, LinkInput, all_linked, chosen_exports, linked_members}
+use Rattle.implib.specs.Link.LinkedMembers.{IsMade, LinkInput, all_linked, chosen_exports, linked_members, objects_in}
 use Rattle.implib.specs.Link.Load.{BytesAt}
 use Rattle.implib.specs.Link.Placement.{Addresses, Bases, Descriptors, DllNames, Group, HintNames, Lookups, Placed, base_of, placed_from}
 use Rattle.implib.specs.Link.Resolution.{SymbolDefinition, defined_by, definitions, definitions_of}
 use Rattle.implib.specs.Members.ImportTables.{thunk_width, zeros}
 use Rattle.implib.specs.Members.MemberSpec.{MemberView}
 use Rattle.implib.proofs.Link.Definitions.{only_definition}
-use Rattle.implib.proofs.Link.Linked.{LocatedFrom, ends_of_block}
+use Rattle.implib.proofs.Link.Linked.{BlockLinks, LocatedFrom, ends_of_block}
 use Rattle.implib.proofs.Link.LinkedBlocks.{Block, BlocksLink, EachLinks, blocks_definitions, blocks_objects, definitions-blocks, each_links, each_located, ends, ends_of_blocks, even, names-blocks, starts}
 use Rattle.implib.proofs.Link.LinkedInputs.{block_of, gnu_inputs_fit, gnu_inputs_linked, gnu_inputs_objects, gnu_inputs_symbols}
 use Rattle.implib.proofs.Link.LinkedMembers.{among_map}
@@ -25,15 +25,20 @@ use Rattle.implib.proofs.Link.Placement.{AreAligned}
 use Rattle.implib.proofs.Link.Ranges.{Among, among_back, among_front}
 use Rattle.implib_link.specs.Directory.{DirectoryAt, Imported, imported}
 use Rattle.implib_link.specs.Gnu.OtherLibraries.{AllTaken, AreWhole, DescriptorsAt, IsProgramBeside, LinksBeside, Run, RunLinks, behind_run, ends_behind, imports_of_runs, inputs_of_runs, members_from, members_of_run, objects_of_runs, others_of_runs, rows_before}
-use Rattle.implib_link.specs.Gnu.Program.{ClaimsNone, IsProgram, claimed_names, has_tables, linked_symbols, null_descriptor, thunks_before}
+use Rattle.implib_link.specs.Gnu.Program.{ClaimsNone, claimed_names, has_tables, linked_symbols, null_descriptor, thunks_before}
+use Rattle.implib_link.specs.Flavors.Program.{InputImports, IsProgram, all_members, gnu_input, imp_symbols, symbols_listed}
 use Rattle.implib_link.proofs.Gnu.Blocks.{aligned_blocks, descriptors_after, nth_block, null_located}
 use Rattle.implib_link.proofs.Gnu.Others.{contributions_kept, definitions_kept}
-use Rattle.implib_link.proofs.Gnu.Program.{all_claim, imports_by, once_of}
+use Rattle.implib_link.proofs.Gnu.Program.{all_claim, once_of}
+use Rattle.implib_link.proofs.Flavors.Block.{block_entries}
+use Rattle.implib_link.proofs.Flavors.GnuPrograms.{gnu_members}
+use Rattle.implib_link.proofs.Flavors.Program.{symbols_get}
 use Rattle.implib_link.proofs.Gnu.Runs.{blocks_ends, located_behind, located_front, none_defined, placed_parts}
 use Rattle.implib_link.proofs.Gnu.Sized.{IsSized, exports_sized, head_sized, tail_sized}
 use Rattle.implib_link.proofs.Gnu.Whole.{whole_ends}
 use Rattle.implib.specs.LibraryName.{NamesOfDll, names_for}
 use Rattle.implib.specs.declared.flavor.Flavor.TheVariants.{Gnu}
+use Rattle.implib_link.proofs.Flavors.Blocks.{plus_sum as plus_row}
 
 -- Lists in two parts.
 
@@ -77,9 +82,6 @@ own_sized : (machine : MachineType) (blocks : List Block) → AllByRecursion IsS
 own_sized machine [] = tt
 own_sized machine (k ∷ blocks) =
     (head_sized machine k.dll, exports_sized machine k.dll k.exports _ (tail_sized machine k.dll, own_sized machine blocks))
-
-plus_row : (a n : ℕ) → a + 20 + 20 * n ≡ a + 20 * suc n
-plus_row a n = omega arith
 
 own_descriptors : (machine : MachineType) (b : Bases) (inputs : List LinkInput) → (ends_of_blocks machine b (map block_of inputs)).descriptors ≡ b.descriptors + 20 * length inputs
 unfolding ends_of_blocks
@@ -131,6 +133,20 @@ rows_sum a n m k = omega arith
 
 module _ (machine : MachineType) (linked : List Placed) (image : List Range) (last : List Object)
     (low : AllByRecursion (λ r. 0 < r.start) image) (high : AllByRecursion (λ r. range_end r < 2 ^ 31) image) where
+  -- a block imports as an input does
+  gnu_imports : (c : Bases) (descriptor table : ℕ) (p : LinkInput) → c.descriptors ≡ descriptor → c.addresses ≡ table →
+      BlockLinks machine linked image c (names_for Gnu p.definition) (chosen_exports p.definition p.chosen) → InputImports machine image linked descriptor table (gnu_input p)
+  gnu_imports c descriptor table p place begins block =
+      let entries = block_entries machine linked image c (names_for Gnu p.definition) (chosen_exports p.definition p.chosen) block in
+      subst (λ n. InputImports machine image linked n table (gnu_input p)) place
+      (subst (λ n. InputImports machine image linked c.descriptors n (gnu_input p)) begins (record {
+        top = block.strictly.head;
+        loads = block.strictly.loads;
+        table_located = block.addresses;
+        entries = entries;
+        gets = symbols_get linked (thunk_width machine) c.addresses (imp_symbols (gnu_input p)) entries;
+      }))
+
   own_links : (r : Run) (b : Bases) → AllByRecursion (IsMade machine) r.inputs → AreAligned b →
       ((d : SymbolDefinition) → Among d (blocks_definitions machine b (map block_of r.inputs)) → definitions_of d.name linked ≡ d ∷ []) →
       LocatedFrom machine linked image b (members_of_run machine r) → EachLinks machine linked image b (map block_of r.inputs) []
@@ -142,8 +158,7 @@ module _ (machine : MachineType) (linked : List Placed) (image : List Range) (la
   run_links r b made each = record {
     imports = λ i p is.
         let found = nth_block machine linked image r.inputs b each.imports i p is in
-        imports_by machine image linked found.0.descriptors (b.descriptors + 20 * i) found.0.addresses (b.addresses + thunk_width machine * thunks_before i r.inputs)
-        (names_for Gnu p.definition) (chosen_exports p.definition p.chosen) found.1.0 found.1.1.0 found.1.1.1.strictly found.1.1.1.addresses;
+        gnu_imports found.0 (b.descriptors + 20 * i) (b.addresses + thunk_width machine * thunks_before i r.inputs) p found.1.0 found.1.1.0 found.1.1.1;
     targets = subst (λ os. AllByRecursion (AllFind linked) (placed_from b os)) (sym (gnu_inputs_objects machine r.inputs made)) (each.targets tt);
     defined = subst (λ os. AllByRecursion (IsDefinedAt linked) (undefined_names (placed_from b os))) (sym (gnu_inputs_objects machine r.inputs made)) (each.defined tt);
   }
@@ -339,13 +354,14 @@ pub programs_beside_none : (machine : MachineType) (bases : Bases) (inputs : Lis
     IsProgramBeside machine bases (record { objects = []; imports = []; inputs = inputs } ∷ []) objects
 unfolding AllTaken DescriptorsAt
 programs_beside_none machine bases inputs objects program =
-    let all : inputs ++ [] ≡ inputs = append-nil inputs in
+    let names : symbols_listed (all_members machine (map gnu_input inputs)) ≡ linked_symbols machine (inputs ++ []) =
+    ap symbols_listed (gnu_members machine inputs) ∙ ap (linked_symbols machine) (sym (append-nil inputs)) in
     record {
-      distinct = subst (λ ps. IsDistinct bytes_eq (linked_symbols machine ps)) (sym all) program.distinct;
+      distinct = subst (IsDistinct bytes_eq) names program.held.distinct;
       last = null_descriptor ∷ [];
-      tables = program.tables;
+      tables = program.held.ended.tables ∙ ap (λ ms. objects_in ms ++ null_descriptor ∷ []) (gnu_members machine inputs);
       claimed = (claims_nothing (linked_symbols machine (inputs ++ [])), tt);
-      others = subst (λ ps. AllByRecursion (ClaimsNone (linked_symbols machine ps)) (filter (λ o. not (has_tables o)) objects)) (sym all) program.others;
+      others = subst (λ ns. AllByRecursion (ClaimsNone ns) (filter (λ o. not (has_tables o)) objects)) names program.held.others;
       ended = inl refl;
       admissible = program.admissible;
       whole = (record { sized = tt; fours = refl; rows = refl }, tt);

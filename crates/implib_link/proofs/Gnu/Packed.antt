@@ -1,23 +1,19 @@
 -- Packed placement is admissible.
-use Rattle.std.proofs.Common.{◌≡◌, ℕ, ◌+◌, ◌-◌, ◌%◌, ◌^◌, ◌<◌, ◌≤◌, true, false, List, [], ◌∷◌, ◌++◌, length, map, Option, Some, None, refl, ap, sym, ◌∙◌, subst, inl, inr, arith}
-use Rattle.std.specs.Prelude.{bytes_eq, if◌then◌else◌, nat_le, nat_lt}
-use Rattle.std.specs.List.{AllByRecursion, IsDistinct, filter, list_any}
+use Rattle.std.proofs.Common.{◌≡◌, ℕ, ◌+◌, ◌-◌, ◌%◌, ◌^◌, ◌<◌, ◌≤◌, true, false, List, [], ◌∷◌, ◌++◌, length, Option, Some, None, refl, ap, sym, ◌∙◌, subst, inl, inr, arith}
+use Rattle.std.specs.Prelude.{if◌then◌else◌, nat_le, nat_lt}
+use Rattle.std.specs.List.{AllByRecursion, filter, list_any}
 use Rattle.std.proofs.lemmas.Bool.{and_parts, cases_Bool, leb-true, ltb-true, or_parts}
 use Rattle.std.proofs.lemmas.List.{append_assoc, length-append, length-replicate}
 use Rattle.implib.specs.declared.machine.MachineType.{MachineType}
 use Rattle.implib.specs.Link.Image.{AllApart, AreApart, Contribution, IsAdmissible, IsBase, Range, contribution_at, contributions, contributions_in, filled, image_of, range_end, range_of, relocated}
-use Rattle.implib.specs.Link.LinkedMembers.{IsMade, LinkInput, all_linked, objects_in}
 use Rattle.implib.specs.Members.ImportTables.{zeros}
 use Rattle.implib.specs.Formats.Object.{Object, ObjectSection}
 use Rattle.implib.specs.Link.Placement.{Addresses, Bases, Descriptors, DirectoryEnds, DllNames, Group, HintNames, Lookups, Placed, alignment, base_of, end_after, ends_after, group_named, next_multiple, address_after, section_address_of, placed_from, section_addresses_of, same_group, with_base}
-use Rattle.implib.proofs.Link.LinkedInputs.{block_of, gnu_inputs_objects}
 use Rattle.implib.proofs.Link.Placement.{at_least}
 use Rattle.implib_link.specs.Gnu.Packed.{end_with, group_end, packed, packed_addresses, packed_descriptors, packed_directory_ends, packed_dll_names, packed_end, packed_hint_names, packed_lookups, sections_end}
-use Rattle.implib_link.specs.Gnu.Program.{IsProgram, has_tables, is_table, linked_symbols, null_descriptor}
-use Rattle.implib_link.proofs.Gnu.Alone.{all_kept, members_are_program, members_have}
-use Rattle.implib_link.proofs.Gnu.Blocks.{objects_behind}
+use Rattle.implib_link.specs.Gnu.Program.{has_tables, is_table}
 use Rattle.implib_link.proofs.Gnu.Others.{contributions_kept, no_group}
-use Rattle.implib_link.proofs.Gnu.Sized.{AreWithin, IsSized, blocks_sized, length-relocated}
+use Rattle.implib_link.proofs.Gnu.Sized.{AreWithin, IsSized, length-relocated}
 
 -- Groups do not touch one another.
 
@@ -294,28 +290,6 @@ module _ (machine : MachineType) (first : ℕ) (objects : List Object) (sized : 
     ends = rising_ends (packed_descriptors first) (packed_end first objects) (image_of machine (packed first objects) (placed_from (packed first objects) objects)) all_rise below;
     apart = rising_apart (packed_descriptors first) (packed_end first objects) (image_of machine (packed first objects) (placed_from (packed first objects) objects)) all_rise;
   }
-
--- members and the null descriptor, other objects beside or not, have their relocations within their sections
-pub packed_sized : (machine : MachineType) (inputs : List LinkInput) (objects : List Object) → AllByRecursion (IsMade machine) inputs →
-    filter has_tables objects ≡ objects_in (all_linked machine inputs) ++ null_descriptor ∷ [] → AllByRecursion IsSized (filter has_tables objects)
-packed_sized machine inputs objects made tables =
-    subst (AllByRecursion IsSized)
-    (sym (tables ∙ ap (λ members. members ++ null_descriptor ∷ []) (gnu_inputs_objects machine inputs made) ∙ objects_behind machine (map block_of inputs) (null_descriptor ∷ [])))
-    (blocks_sized machine (map block_of inputs))
-
-pub packed_is_admissible : (machine : MachineType) (first : ℕ) (inputs : List LinkInput) (objects : List Object) → AllByRecursion (IsMade machine) inputs →
-    filter has_tables objects ≡ objects_in (all_linked machine inputs) ++ null_descriptor ∷ [] → 0 < first → packed_end first objects < 2 ^ 31 →
-    IsAdmissible machine (packed first objects) objects
-packed_is_admissible machine first inputs objects made tables above below =
-    admissible machine first objects (packed_sized machine inputs objects made tables) above below
-
-pub packed_is_program : (machine : MachineType) (first : ℕ) (inputs : List LinkInput) → AllByRecursion (IsMade machine) inputs →
-    IsDistinct bytes_eq (linked_symbols machine inputs) → 0 < first → packed_end first (objects_in (all_linked machine inputs) ++ null_descriptor ∷ []) < 2 ^ 31 →
-    IsProgram machine (packed first (objects_in (all_linked machine inputs) ++ null_descriptor ∷ [])) inputs (objects_in (all_linked machine inputs) ++ null_descriptor ∷ [])
-packed_is_program machine first inputs made distinct above below =
-    let objects : List Object = objects_in (all_linked machine inputs) ++ null_descriptor ∷ [] in
-    members_are_program machine (packed first objects) inputs made distinct
-    (packed_is_admissible machine first inputs objects made (all_kept objects (members_have machine inputs made)) above below)
 
 pub packed_eights : (first : ℕ) (objects : List Object) → (packed first objects).addresses % 8 ≡ 0
 unfolding next_multiple

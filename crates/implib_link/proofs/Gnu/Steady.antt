@@ -1,5 +1,5 @@
 -- The import tables have no base relocations: members for GNU's linker.
-use Rattle.std.proofs.Common.{◌≡◌, ℕ, ◌⊎◌, false, List, [], ◌∷◌, ◌++◌, length, map, None, refl, ap, sym, ◌∙◌, subst, inl, inr}
+use Rattle.std.proofs.Common.{◌≡◌, ℕ, ◌⊎◌, false, List, [], ◌∷◌, ◌++◌, length, map, None, refl, inl, inr}
 use Rattle.std.specs.List.{AllByRecursion, filter, list_any}
 use Rattle.std.proofs.lemmas.Bool.{cases_Bool, or_parts}
 use Rattle.implib.specs.declared.coff.object.Relocation.{Relocation}
@@ -8,15 +8,11 @@ use Rattle.implib.specs.declared.machine.MachineType.TheVariants.{I386, ARMNT, A
 use Rattle.implib.specs.Definition.{ExportView}
 use Rattle.implib.specs.Formats.Constants.{image_relative}
 use Rattle.implib.specs.Formats.Object.{Object, ObjectSection}
-use Rattle.implib.specs.Link.LinkedMembers.{IsMade, LinkInput}
 use Rattle.implib.specs.Link.Placement.{At, Bases, SectionAddress, Unplaced, end_after, ends_after, group_named, placed_from, section_address_of, section_addresses_of}
 use Rattle.implib.specs.Members.Gnu.{export_object, head_object, relocations_of_thunk, tail_object}
-use Rattle.implib.proofs.Link.LinkedBlocks.{Block, blocks_objects}
-use Rattle.implib.proofs.Link.LinkedInputs.{block_of, gnu_inputs_objects}
 use Rattle.implib.proofs.Link.Placement.{export, head, tail}
-use Rattle.implib_link.specs.Gnu.Program.{IsProgram, has_tables, is_table, null_descriptor}
+use Rattle.implib_link.specs.Gnu.Program.{has_tables, is_table}
 use Rattle.implib_link.specs.Gnu.Rebased.{absolute_width, places_at, table_places, table_places_in}
-use Rattle.implib_link.proofs.Gnu.Blocks.{objects_behind}
 use Rattle.implib_link.proofs.Gnu.Others.{no_group}
 use Rattle.implib.specs.LibraryName.{NamesOfDll}
 
@@ -104,18 +100,3 @@ pub exports_steady : (machine : MachineType) (dll : NamesOfDll) (es : List Expor
     AllByRecursion (AllSteady machine) (map (export machine dll) es ++ rest)
 exports_steady machine dll [] rest all = all
 exports_steady machine dll (e ∷ es) rest all = (export_steady machine dll e, exports_steady machine dll es rest all)
-
-blocks_steady : (machine : MachineType) (blocks : List Block) → AllByRecursion (AllSteady machine) (blocks_objects machine blocks (null_descriptor ∷ []))
-blocks_steady machine [] = ((inr tt, tt), tt)
-blocks_steady machine (k ∷ blocks) =
-    (head_steady machine k.dll, exports_steady machine k.dll k.exports _ (tail_steady machine k.dll, blocks_steady machine blocks))
-
-pub program_tables_none : (machine : MachineType) (bases : Bases) (inputs : List LinkInput) (objects : List Object) → AllByRecursion (IsMade machine) inputs → IsProgram machine bases inputs objects →
-    table_places machine (placed_from bases objects) ≡ []
-program_tables_none machine bases inputs objects made program =
-    let members_are : filter has_tables objects ≡ blocks_objects machine (map block_of inputs) (null_descriptor ∷ []) =
-    program.tables
-    ∙ ap (λ os. os ++ null_descriptor ∷ []) (gnu_inputs_objects machine inputs made)
-    ∙ objects_behind machine (map block_of inputs) (null_descriptor ∷ []) in
-    tables_none machine bases objects (all_steady machine objects
-    (subst (AllByRecursion (AllSteady machine)) (sym members_are) (blocks_steady machine (map block_of inputs))))

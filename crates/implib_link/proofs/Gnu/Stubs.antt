@@ -1,38 +1,27 @@
 -- Stubs jump through their own entries.
-use Rattle.std.proofs.Common.{◌≡◌, ℕ, zero, suc, ◌+◌, ◌*◌, ◌%◌, ◌^◌, ◌<◌, ◌≤◌, Bool, false, List, [], ◌∷◌, length, map, Some, refl, ap, sym, ◌∙◌, subst, inl, inr, arith}
-use Rattle.std.specs.Prelude.{option_map, slice_get}
-use Rattle.std.specs.List.{AllByRecursion, filter, flat_map}
-use Rattle.std.proofs.lemmas.Bool.{cases_Bool}
-use Rattle.std.proofs.lemmas.Option.{slice_get-map}
+use Rattle.std.proofs.Common.{◌≡◌, ℕ, zero, suc, ◌+◌, ◌*◌, ◌%◌, ◌^◌, ◌<◌, ◌≤◌, false, List, [], ◌∷◌, length, Some, refl, ap, sym, ◌∙◌, subst, arith}
+use Rattle.std.specs.Prelude.{slice_get}
+use Rattle.std.specs.List.{AllByRecursion}
 use Rattle.implib.specs.declared.machine.MachineType.{MachineType}
 use Rattle.implib.specs.declared.machine.MachineType.TheVariants.{I386, ARMNT, AMD64, ARM64}
 use Rattle.implib.specs.Formats.Constants.{align_4bytes, cnt_code, mem_execute_read, class_external}
 use Rattle.implib.specs.Definition.{ExportView}
-use Rattle.implib.specs.Members.Gnu.{archive_symbols, export_object, relocations_of_stub, section, stub, stub_bytes, stub_relocations, text_name}
-use Rattle.implib.specs.Link.Image.{Range, image_of, range_end}
-use Rattle.implib.specs.Import.{Ask, imp_symbol, expected_ask}
-use Rattle.implib.specs.Link.Linked.{EntriesAt, IsDefinedOnce}
-use Rattle.implib.specs.Link.LinkedMembers.{IsMade, LinkInput, chosen_exports}
+use Rattle.implib.specs.Members.Gnu.{export_object, relocations_of_stub, section, stub, stub_bytes, stub_relocations, text_name}
+use Rattle.implib.specs.Link.Image.{Range, range_end}
+use Rattle.implib.specs.Import.{Ask}
 use Rattle.implib.specs.Link.Load.{BytesAt, TableAt}
 use Rattle.implib.specs.Members.ImportTables.{thunk_width}
 use Rattle.implib.specs.Formats.Object.{ASymbol, Object}
 use Rattle.implib.specs.Link.Placement.{Bases, Placed, placed_from}
-use Rattle.implib.specs.Link.Resolution.{SymbolDefinition, address_or_zero, definitions_of, first_address, target_address}
-use Rattle.implib.proofs.Link.Linked.{address_found, aligned_block, ends_of_block}
-use Rattle.implib.proofs.Link.LinkedBlocks.{Block, blocks_objects, ends, even, linked_symbols as block_symbols, starts}
-use Rattle.implib.proofs.Link.LinkedMembers.{among_contains, among_map}
-use Rattle.implib.proofs.Link.LinkedInputs.{block_of, gnu_inputs_symbols}
-use Rattle.implib.proofs.Link.Placement.{AreAligned, after_head, aligned_after, aligned_head, ends_of_all, ends_of_export, ends_of_exports, ends_of_head, placed-export, placed-head, placed-tail, placed_export}
-use Rattle.implib.proofs.Link.Ranges.{Among, address_bounds, all_among, among_first, among_front, among_later}
-use Rattle.implib_link.specs.Gnu.Program.{IsProgram, has_tables, linked_symbols, null_descriptor, thunks_before}
-use Rattle.implib_link.specs.Stub.{CanJump, JumpsThrough, code_relocated, jump_reads}
-use Rattle.implib_link.proofs.Gnu.Blocks.{addresses_after, table_sum}
+use Rattle.implib.specs.Link.Resolution.{SymbolDefinition, address_or_zero, first_address, target_address}
+use Rattle.implib.proofs.Link.Linked.{address_found}
+use Rattle.implib.proofs.Link.LinkedBlocks.{even}
+use Rattle.implib.proofs.Link.Placement.{AreAligned, after_head, aligned_after, ends_of_all, ends_of_export, ends_of_exports, placed-export, placed-tail, placed_export}
+use Rattle.implib.proofs.Link.Ranges.{Among, address_bounds, among_first, among_later}
+use Rattle.implib_link.specs.Stub.{CanJump, code_relocated, jump_reads}
 use Rattle.implib_link.proofs.Gnu.Jumps.{amd64_jumps, arm64_jumps, i386_jumps}
-use Rattle.implib_link.proofs.Gnu.Loaded.{entry_once, times_next, times_none}
-use Rattle.implib_link.proofs.Gnu.Program.{kept_placed, program_links}
-use Rattle.implib_link.proofs.Search.Lists.{among_at, flat_map_among}
-use Rattle.implib.specs.LibraryName.{NamesOfDll, names_for}
-use Rattle.implib.specs.declared.flavor.Flavor.TheVariants.{Gnu}
+use Rattle.implib_link.proofs.Gnu.Loaded.{times_next, times_none}
+use Rattle.implib.specs.LibraryName.{NamesOfDll}
 
 -- Each export's object is placed, with its entry where the addresses have come to.
 
@@ -74,57 +63,6 @@ first_sum c a w m is = is ∙ ap (λ k. k + w * m) (times_none a w)
 
 pub later_sum : (c a b w m : ℕ) → c ≡ a + w * m → a ≡ b → c ≡ b + w * m
 later_sum c a b w m is same = is ∙ ap (λ n. n + w * m) same
-
-pub block_placed : (machine : MachineType) (inputs : List LinkInput) (b : Bases) (rest : List Object) → AreAligned b → (i j : ℕ) (p : LinkInput) (e : ExportView) → slice_get inputs i ≡ Some p →
-    slice_get (chosen_exports p.definition p.chosen) j ≡ Some e →
-    (c : Bases) × (Among (placed_export machine (names_for Gnu p.definition) c e) (placed_from b (blocks_objects machine (map block_of inputs) rest))
-    × (c.addresses ≡ b.addresses + thunk_width machine * thunks_before i inputs + thunk_width machine * j))
-block_placed machine [] b rest even i j p e is chosen = cc
-block_placed machine (q ∷ inputs) b rest even zero j p e is chosen =
-    let same : q ≡ p = cc in
-    let dll : NamesOfDll = names_for Gnu q.definition in
-    let exports : List ExportView = chosen_exports q.definition q.chosen in
-    let behind : List Object = blocks_objects machine (map block_of inputs) rest in
-    let found = export_placed machine dll exports (ends_of_head machine dll b) behind (aligned_head machine dll b even) j e
-    (subst (λ (r : LinkInput). slice_get (chosen_exports r.definition r.chosen) j ≡ Some e) (sym same) chosen) in (
-      found.0,
-      (
-        subst (λ (r : LinkInput). Among (placed_export machine (names_for Gnu r.definition) found.0 e) (placed_from b (blocks_objects machine (map block_of (q ∷ inputs)) rest))) same
-            (subst (Among (placed_export machine dll found.0 e)) (sym (placed-head machine dll b (after_head machine dll exports behind) even)) (among_later (placed_export machine dll found.0 e) _ _ found.1.0)),
-        first_sum found.0.addresses b.addresses (thunk_width machine) j found.1.1,
-      ),
-    )
-block_placed machine (q ∷ inputs) b rest even (suc i) j p e is chosen =
-    let dll : NamesOfDll = names_for Gnu q.definition in
-    let exports : List ExportView = chosen_exports q.definition q.chosen in
-    let behind : List Object = blocks_objects machine (map block_of inputs) rest in
-    let later : Bases = ends_of_block machine dll b exports in
-    let found = block_placed machine inputs later rest (aligned_block machine dll b exports even) i j p e is chosen in
-    let table : later.addresses + thunk_width machine * thunks_before i inputs ≡ b.addresses + thunk_width machine * (length exports + 1 + thunks_before i inputs) =
-    ap (λ n. n + thunk_width machine * thunks_before i inputs) (addresses_after machine dll (ends_of_head machine dll b) exports)
-    ∙ table_sum b.addresses (thunk_width machine) (length exports + 1) (thunks_before i inputs) in (
-      found.0,
-      (
-        subst (Among (placed_export machine (names_for Gnu p.definition) found.0 e)) (sym (placed-head machine dll b (after_head machine dll exports behind) even))
-            (among_later (placed_export machine (names_for Gnu p.definition) found.0 e) _ _
-            (behind_exports machine dll exports (ends_of_head machine dll b) behind (placed_export machine (names_for Gnu p.definition) found.0 e) (aligned_head machine dll b even) found.1.0)),
-        later_sum found.0.addresses (later.addresses + thunk_width machine * thunks_before i inputs) (b.addresses + thunk_width machine * (length exports + 1 + thunks_before i inputs)) (thunk_width machine) j found.1.1 table,
-      ),
-    )
-
-among_kept : {X : Type 0} (test : X → Bool) (x y : X) (xs : List X) → Among x (y ∷ filter test xs) → (Among x (filter test xs) → Among x xs) → Among x (y ∷ xs)
-unfolding Among
-among_kept test x y xs (inl e) later = inl e
-among_kept test x y xs (inr m) later = inr (later m)
-
-pub among_filter : {X : Type 0} (test : X → Bool) (x : X) (xs : List X) → Among x (filter test xs) → Among x xs
-unfolding Among
-among_filter test x [] m = m
-among_filter test x (y ∷ xs) m =
-    elim (cases_Bool (test y)) [
-      | inl is ↦ among_kept test x y xs (rw is at m) (among_filter test x xs)
-      | inr is ↦ inr (among_filter test x xs (rw is at m))
-    ]
 
 -- Entries are below 2^31.
 
@@ -193,70 +131,7 @@ jump_by AMD64 image_base bases n m position linked p can near small target = amd
 jump_by ARM64 image_base bases n m position linked p can near small target =
     arm64_jumps image_base position _ linked p near small can.0 (eights bases.addresses n m can.1) target
 
--- the name of code is one that its member is listed for
-pub name_listed : (machine : MachineType) (inputs : List LinkInput) (i j : ℕ) (p : LinkInput) (e : ExportView) → AllByRecursion (IsMade machine) inputs →
-    slice_get inputs i ≡ Some p → slice_get (chosen_exports p.definition p.chosen) j ≡ Some e → e.is_data ≡ false → Among e.name (linked_symbols machine inputs)
-unfolding Among
-name_listed machine inputs i j p e made input chosen is =
-    let exports : List ExportView = chosen_exports p.definition p.chosen in
-    let own : Among e.name (archive_symbols e) = rw is (inl refl) in
-    subst (Among e.name) (sym (gnu_inputs_symbols machine inputs made))
-    (flat_map_among (λ (k : Block). block_symbols machine k.dll k.exports) e.name (map block_of inputs) (block_of p) (among_map block_of p inputs (among_at p inputs i input))
-    (among_later _ _ _ (among_front e.name (flat_map archive_symbols exports) _ (flat_map_among archive_symbols e.name exports e (among_at e exports j chosen) own))))
-
-pub name_once : (machine : MachineType) (bases : Bases) (inputs : List LinkInput) (objects : List Object) (i j : ℕ) (p : LinkInput) (e : ExportView) → AllByRecursion (IsMade machine) inputs →
-    IsProgram machine bases inputs objects → slice_get inputs i ≡ Some p → slice_get (chosen_exports p.definition p.chosen) j ≡ Some e → e.is_data ≡ false → IsDefinedOnce (placed_from bases objects) e.name
-name_once machine bases inputs objects i j p e made program input chosen is =
-    all_among (IsDefinedOnce (placed_from bases objects)) e.name (linked_symbols machine inputs) (name_listed machine inputs i j p e made input chosen is)
-    (program_links machine bases inputs objects made program).listed
-
-pub stubs_jump : (machine : MachineType) (image_base : ℕ) (bases : Bases) (inputs : List LinkInput) (objects : List Object) (i j : ℕ) (p : LinkInput) (e : ExportView) →
-    AllByRecursion (IsMade machine) inputs → IsProgram machine bases inputs objects → CanJump machine image_base bases → slice_get inputs i ≡ Some p →
-    slice_get (chosen_exports p.definition p.chosen) j ≡ Some e → e.is_data ≡ false →
-    JumpsThrough machine image_base (placed_from bases objects) e.name (bases.addresses + thunk_width machine * thunks_before i inputs + thunk_width machine * j)
-stubs_jump machine image_base bases inputs objects i j p e made program can input chosen is =
-    let linked : List Placed = placed_from bases objects in
-    let dll : NamesOfDll = names_for Gnu p.definition in
-    let links = (program_links machine bases inputs objects made program).imports i p input in
-    let found = block_placed machine inputs bases (null_descriptor ∷ []) (even machine bases objects program.admissible) i j p e input chosen in
-    let own : Placed = placed_export machine dll found.0 e in
-    let kept : Among own (filter (λ (q : Placed). has_tables q.object) linked) = subst (Among own) (sym (kept_placed machine bases inputs objects made program)) found.1.0 in
-    let small : bases.addresses + thunk_width machine * thunks_before i inputs + thunk_width machine * j < 2 ^ 31 =
-    thunk_below (image_of machine bases linked) (starts machine bases objects program.admissible) (ends machine bases objects program.admissible) (thunk_width machine) (wide_thunk machine)
-    (map (expected_ask machine) (chosen_exports p.definition p.chosen)) (bases.addresses + thunk_width machine * thunks_before i inputs) j (expected_ask machine e)
-    (subst (λ n. TableAt (image_of machine bases linked) (thunk_width machine) n (map (expected_ask machine) (chosen_exports p.definition p.chosen))) links.table_located links.strictly.loads.plain.address_table)
-    (slice_get-map (expected_ask machine) (chosen_exports p.definition p.chosen) j ∙ ap (option_map (expected_ask machine)) chosen) in
-    record {
-      once = name_once machine bases inputs objects i j p e made program input chosen is;
-      from = own;
-      held = among_contains own linked (among_filter (λ (q : Placed). has_tables q.object) own linked kept);
-      symbol = record { name = e.name; value = 0; section = 1; kind = 0; class = class_external };
-      defined = among_contains _ _ (code_defined machine dll found.0 e is);
-      named = refl;
-      shared = refl;
-      first = refl;
-      begins = refl;
-      code = section text_name (cnt_code + align_4bytes + mem_execute_read) (stub machine e) (relocations_of_stub machine e);
-      here = code_here machine dll found.0 e;
-      jumps = λ position near.
-          ap (λ rs. jump_reads machine (image_base + position) (code_relocated machine image_base linked own position rs (stub machine e))) (code_relocations machine e is)
-          ∙ ap (λ bytes. jump_reads machine (image_base + position) (code_relocated machine image_base linked own position (stub_relocations machine 2) bytes)) (code_bytes machine e is)
-          ∙ jump_by machine image_base bases (thunks_before i inputs) j position linked own can near small (target_is machine dll linked found.0 e _ is found.1.1);
-    }
-
 pub same_address : (name : List ℕ) (a b : ℕ) (ds : List SymbolDefinition) → ds ≡ record { name = name; address = Some a } ∷ [] → ds ≡ record { name = name; address = Some b } ∷ [] → a ≡ b
 same_address name a b ds first second =
     let same : Some a ≡ Some b = ap first_address (sym first ∙ second) in
     cc
-
--- the entry of an export is the only definition of its symbol
-pub entry_defined : (machine : MachineType) (bases : Bases) (inputs : List LinkInput) (objects : List Object) (i j : ℕ) (p : LinkInput) (e : ExportView) → AllByRecursion (IsMade machine) inputs →
-    IsProgram machine bases inputs objects → slice_get inputs i ≡ Some p → slice_get (chosen_exports p.definition p.chosen) j ≡ Some e →
-    definitions_of (imp_symbol e.name) (placed_from bases objects)
-    ≡ record { name = imp_symbol e.name; address = Some (bases.addresses + thunk_width machine * thunks_before i inputs + thunk_width machine * j) } ∷ []
-entry_defined machine bases inputs objects i j p e made program input chosen =
-    let one = (program_links machine bases inputs objects made program).imports i p input in
-    entry_once (placed_from bases objects) (thunk_width machine) (bases.addresses + thunk_width machine * thunks_before i inputs) (chosen_exports p.definition p.chosen) j e
-    (subst (λ n. EntriesAt (placed_from bases objects) (thunk_width machine) n (chosen_exports p.definition p.chosen)) one.table_located one.strictly.entries) chosen
-
--- the entry of an export has what its DLL gives

@@ -17,9 +17,8 @@ use Rattle.implib.proofs.Link.Ranges.{Among, among_back, among_first, among_fron
 use Rattle.implib_link.specs.Search.Archives.{IsLibrary, Library, archive_of, exports_of, symbols_of_export, symbols_of_library}
 use Rattle.implib_link.specs.Search.Search.{first_listed, is_listed_for}
 use Rattle.implib_link.proofs.Search.Lists.{among_either, any_among, distinct_apart, distinct_later}
-use Rattle.implib.specs.LibraryName.{linked_name, names_for}
+use Rattle.implib.specs.LibraryName.{linked_name, names_for, NamesOfDll}
 use Rattle.implib.specs.declared.flavor.Flavor.TheVariants.{Gnu}
-use Rattle.implib.specs.LibraryName.{NamesOfDll}
 
 -- Groups in general: members, and the symbols that they are listed for.
 pub record Group : Type 0 where

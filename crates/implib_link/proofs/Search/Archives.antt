@@ -1,8 +1,8 @@
 -- What a linker takes of an archive of libraries.
-use Rattle.std.proofs.Common.{◌≡◌, ℕ, Bool, true, false, List, [], ◌∷◌, ◌++◌, Some, refl, ap, sym, ◌∙◌, subst, inl, inr}
-use Rattle.std.specs.Prelude.{bytes_eq, not, slice_get}
-use Rattle.std.specs.List.{AllByRecursion, cons_option, filter, flat_map, list_any}
-use Rattle.std.proofs.lemmas.Bool.{cases_Bool, false_from_ne_true, true≢false}
+use Rattle.std.proofs.Common.{◌≡◌, ℕ, true, false, List, [], ◌∷◌, ◌++◌, Some, refl, ap, sym, ◌∙◌, subst, inl, inr, map}
+use Rattle.std.specs.Prelude.{not, slice_get}
+use Rattle.std.specs.List.{AllByRecursion, cons_option, flat_map}
+use Rattle.std.proofs.lemmas.Bool.{true≢false}
 use Rattle.implib.specs.declared.machine.MachineType.{MachineType}
 use Rattle.implib.specs.Definition.{ExportView}
 use Rattle.implib.specs.Members.Gnu.{archive_symbols, head_symbol, iname_symbol}
@@ -15,51 +15,22 @@ use Rattle.implib.specs.Link.Placement.{Bases}
 use Rattle.implib.specs.Members.WeakExternal.{weak_object}
 use Rattle.implib.proofs.Link.LinkedMembers.{among_contains}
 use Rattle.implib.proofs.Link.Placement.{export, head, tail}
-use Rattle.implib.proofs.Link.Ranges.{Among, all_among, among_back, among_first, among_front, among_later}
+use Rattle.implib.proofs.Link.Ranges.{Among, all_among, among_back, among_first, among_front}
 use Rattle.implib_link.specs.Search.Archives.{IsArchive, IsLibrary, IsWeakData, Library, NamesNoHeadOrTailOf, TakesOfLibraries, archive_of, exports_of, input_if_any, inputs_wanted, is_weak, others_among, wanted_with, weak_among}
-use Rattle.implib_link.specs.Gnu.Program.{IsProgram, LinksAmong, claimed_names}
-use Rattle.implib_link.specs.Search.Search.{IsTakenInTurn, NamesNoHeadOrTail, Takes, exports_wanted, first_listed, is_listed_for, is_wanted, undefined_in, linked_if_any, names_undefined, left_as, claimed_as, AreTakenInTurnAs}
-use Rattle.implib_link.proofs.Search.ArchiveGroups.{export_of, first_is, head_of, tail_of, weak_of}
+use Rattle.implib_link.specs.Flavors.Program.{OfLinker, gnu_input, LinksAmong, IsProgram}
+use Rattle.implib_link.specs.Search.Search.{IsTakenInTurn, NamesNoHeadOrTail, Takes, exports_wanted, first_listed, is_wanted, undefined_in, linked_if_any, names_undefined, left_as, AreTakenInTurnAs}
+use Rattle.implib_link.proofs.Search.ArchiveGroups.{export_of, head_of, tail_of, weak_of}
 use Rattle.implib_link.proofs.Search.ArchiveMembers.{Found, FoundExport, FoundHead, FoundTail, FoundWeak, claimed_weak, export_found, export_not_weak, export_object_is, found, head_found, head_not_weak, head_object_is, tail_found, tail_not_weak, tail_object_is, weak_found, weak_is_weak, weak_object_is}
 use Rattle.implib_link.proofs.Gnu.Claims.{claimed_export, claimed_head, claimed_tail}
-use Rattle.implib_link.proofs.Gnu.Program.{program_links}
+use Rattle.implib_link.proofs.Flavors.Program.{program_links}
+use Rattle.implib_link.proofs.Flavors.GnuPrograms.{gnu_made}
 use Rattle.implib_link.proofs.Search.Search.{AnExport, AnyWanted, Needed, TheHead, TheTail, any_wanted, in_nothing, left_export, left_head, left_tail, linked_if_needed, listed_export, listed_head, listed_tail, needed_if_linked, numbers_are_wanted, only_one, wanted_name, wants}
-use Rattle.implib_link.proofs.Search.Lists.{among_any, among_at, among_either, any_among, any_member, contains_among, none_listed, name_as, as_name}
-use Rattle.implib.specs.LibraryName.{linked_name, names_for}
+use Rattle.implib_link.proofs.Search.Closing.{names_read, IsFirstAs, is_first, left_by as left_as_by, pulled, reached as reached_as, still_named as still_as}
+use Rattle.implib_link.proofs.Search.Lists.{from_not, all_from, among_any, among_at, among_either, contains_among, name_as, as_name, passes as among_kept, passing as kept_among, to_not as not_true}
+use Rattle.implib.specs.LibraryName.{NamesOfDll, linked_name, names_for}
 use Rattle.implib.specs.declared.flavor.Flavor.TheVariants.{Gnu}
 
 -- Lists that a test divides.
-
-kept_among : {X : Type 0} (test : X → Bool) (x : X) (xs : List X) → Among x (filter test xs) → Among x xs × (test x ≡ true)
-unfolding Among
-kept_among test x [] held = absurd held
-kept_among test x (y ∷ xs) held =
-    elim (cases_Bool (test y)) [
-      | inl is ↦
-          let either : Among x (y ∷ filter test xs) = rw is at held in
-          elim either [
-            | inl e ↦ (inl e, subst (λ z. test z ≡ true) (sym e) is)
-            | inr behind ↦ let later = kept_among test x xs behind in (inr later.0, later.1)
-          ]
-      | inr none ↦ let later = kept_among test x xs (rw none at held) in (inr later.0, later.1)
-    ]
-
-among_kept : {X : Type 0} (test : X → Bool) (x : X) (xs : List X) → Among x xs → test x ≡ true → Among x (filter test xs)
-unfolding Among
-among_kept test x [] held is = absurd held
-among_kept test x (y ∷ xs) (inl e) is = rw (subst (λ z. test z ≡ true) e is) (inl e)
-among_kept test x (y ∷ xs) (inr held) is =
-    elim (cases_Bool (test y)) [
-      | inl own ↦ rw own (inr (among_kept test x xs held is))
-      | inr none ↦ rw none (among_kept test x xs held is)
-    ]
-
-all_from : {X : Type 0} (P : X → Type 0) (xs : List X) → ((x : X) → Among x xs → P x) → AllByRecursion P xs
-all_from P [] each = tt
-all_from P (x ∷ xs) each = (each x (among_first x xs), all_from P xs (λ y held. each y (among_later y x xs held)))
-
-not_true : (b : Bool) → b ≡ false → not b ≡ true
-not_true b is = rw is refl
 
 -- What is linked of libraries.
 
@@ -108,66 +79,36 @@ inputs_made machine (l ∷ libraries) names made =
 pub libraries_link : (machine : MachineType) (libraries : List Library) (wanted : List (List ℕ)) (bases : Bases) (objects : List Object) → IsArchive machine libraries →
     IsProgram machine bases (inputs_wanted libraries wanted) objects → LinksAmong machine bases (inputs_wanted libraries wanted) objects
 libraries_link machine libraries wanted bases objects archive program =
-    program_links machine bases (inputs_wanted libraries wanted) objects (inputs_made machine libraries wanted archive.made) program
+    program_links machine OfLinker bases (map gnu_input (inputs_wanted libraries wanted)) objects (gnu_made machine (inputs_wanted libraries wanted) (inputs_made machine libraries wanted archive.made)) program
 
 module _ (machine : MachineType) (libraries : List Library) (archive : IsArchive machine libraries) where
   made_of : (l : Library) → Among l libraries → IsLibrary machine l
   made_of l held = all_among (IsLibrary machine) l libraries held archive.made
 
   -- a member that is needed for names: of a library that they want an export of, or a weak external
-  data IsNeeded (names : List (List ℕ)) (m : MemberView) : Type 0 where
+  pub data IsNeeded (names : List (List ℕ)) (m : MemberView) : Type 0 where
     ForExport : (l : Library) → Among l libraries → Needed machine (names_for Gnu l.definition) (exports_of l) names m → IsNeeded names m
     ForAlias : (l : Library) → Among l libraries → (n : ℕ) (e : ExportView) → slice_get (exports_of l) n ≡ Some e → is_alias e.alias_target e.name ≡ true → e.is_data ≡ true →
         m ≡ weak_of machine l n e → Among e.name names → IsNeeded names m
 
-  same_object : (o other : Object) → Some o ≡ Some other → o ≡ other
-  same_object o other e = cc
-
-  object_of_member : (m x : MemberView) (o own : Object) → m ≡ x → object_in x.bytes ≡ Some own → object_in m.bytes ≡ Some o → o ≡ own
-  object_of_member m x o own same is read = same_object o own (sym read ∙ ap (λ (y : MemberView). object_in y.bytes) same ∙ is)
-
-  -- names of what is read in a member
-  names_of : (f : Object → List (List ℕ)) (names : List (List ℕ)) (name : List ℕ) (m x : MemberView) (o own : Object) → m ≡ x → object_in x.bytes ≡ Some own →
-      object_in m.bytes ≡ Some o → f own ≡ names → Among name (f o) → Among name names
-  names_of f names name m x o own same is read are held = subst (Among name) are (subst (λ t. Among name (f t)) (object_of_member m x o own same is read) held)
-
-  -- A needed member claims only what it is listed for.
-  claims_listed : (names : List (List ℕ)) (m : MemberView) (o : Object) (name : List ℕ) → IsNeeded names m → object_in m.bytes ≡ Some o → Among name (claimed_names o) → Among name m.symbols
-  claims_listed names m o name (ForExport l held (TheTail same any)) read claimed =
-      subst (λ (y : MemberView). Among name y.symbols) (sym same)
-      (names_of claimed_names (tail_of machine l).symbols name m (tail_of machine l) o (tail machine (names_for Gnu l.definition)) same (tail_object_is machine l (made_of l held)) read
-      (claimed_tail machine (names_for Gnu l.definition) ∙ sym (listed_tail machine (names_for Gnu l.definition))) claimed)
-  claims_listed names m o name (ForExport l held (TheHead same any)) read claimed =
-      subst (λ (y : MemberView). Among name y.symbols) (sym same)
-      (names_of claimed_names (head_of machine l).symbols name m (head_of machine l) o (head machine (names_for Gnu l.definition)) same (head_object_is machine l (made_of l held)) read
-      (claimed_head machine (names_for Gnu l.definition) ∙ sym (listed_head machine (linked_name l.definition))) claimed)
-  claims_listed names m o name (ForExport l held (AnExport x want)) read claimed =
-      subst (λ (y : MemberView). Among name y.symbols) (sym x.same)
-      (names_of claimed_names (export_of machine l x.number x.export).symbols name m (export_of machine l x.number x.export) o (export machine (names_for Gnu l.definition) x.export) x.same
-      (export_object_is machine l (made_of l held) x.number x.export x.is) read
-      (claimed_export machine (names_for Gnu l.definition) x.export ∙ sym (listed_export machine (linked_name l.definition) x.number x.export)) claimed)
-  claims_listed names m o name (ForAlias l held n e is alias is_data same named) read claimed =
-      subst (λ (y : MemberView). Among name y.symbols) (sym same)
-      (names_of claimed_names (e.name ∷ []) name m (weak_of machine l n e) o (object_of (weak_object machine e.name e.alias_target)) same
-      (weak_object_is machine l (made_of l held) n e is alias) read (claimed_weak machine e.name e.alias_target) claimed)
-
-  -- A name that a needed member is listed for finds it.
-  finds_itself : (names : List (List ℕ)) (m : MemberView) (name : List ℕ) → IsNeeded names m → Among name m.symbols → first_listed (archive_of libraries) name ≡ Some m
-  finds_itself names m name (ForExport l held (TheTail same any)) listed =
-      let is : name ≡ iname_symbol machine (linked_name l.definition) =
-      only_one name _ (subst (Among name) (listed_tail machine (names_for Gnu l.definition)) (subst (λ (y : MemberView). Among name y.symbols) same listed)) in
-      ap (first_listed (archive_of libraries)) is ∙ tail_found machine libraries archive l held ∙ ap Some (sym same)
-  finds_itself names m name (ForExport l held (TheHead same any)) listed =
-      let is : name ≡ head_symbol machine (linked_name l.definition) =
-      only_one name _ (subst (Among name) (listed_head machine (linked_name l.definition)) (subst (λ (y : MemberView). Among name y.symbols) same listed)) in
-      ap (first_listed (archive_of libraries)) is ∙ head_found machine libraries archive l held ∙ ap Some (sym same)
-  finds_itself names m name (ForExport l held (AnExport x want)) listed =
-      export_found machine libraries archive l x.number x.export name held x.is
-      (subst (Among name) (listed_export machine (linked_name l.definition) x.number x.export) (subst (λ (y : MemberView). Among name y.symbols) x.same listed))
-      ∙ ap Some (sym x.same)
-  finds_itself names m name (ForAlias l held n e is alias is_data same named) listed =
-      let own : name ≡ e.name = only_one name e.name (subst (λ (y : MemberView). Among name y.symbols) same listed) in
-      ap (first_listed (archive_of libraries)) own ∙ weak_found machine libraries archive l n e held is alias is_data ∙ ap Some (sym same)
+  -- a member that a name finds is read as an object, claims what it is listed for, and is the first that is listed for this
+  pub found_first : (name : List ℕ) (m : MemberView) → Found machine libraries archive name m → IsFirstAs object_in (archive_of libraries) m
+  found_first name m (FoundTail l held same is) =
+      let dll : NamesOfDll = names_for Gnu l.definition in
+      is_first object_in (archive_of libraries) m (tail_of machine l) (tail machine dll) (iname_symbol machine dll.linked ∷ []) same (tail_object_is machine l (made_of l held)) (claimed_tail machine dll) (listed_tail machine dll)
+      (λ n one. ap (first_listed (archive_of libraries)) (only_one n (iname_symbol machine dll.linked) one) ∙ tail_found machine libraries archive l held)
+  found_first name m (FoundHead l held same is) =
+      let dll : NamesOfDll = names_for Gnu l.definition in
+      is_first object_in (archive_of libraries) m (head_of machine l) (head machine dll) (head_symbol machine dll.linked ∷ []) same (head_object_is machine l (made_of l held)) (claimed_head machine dll) (listed_head machine dll.linked)
+      (λ n one. ap (first_listed (archive_of libraries)) (only_one n (head_symbol machine dll.linked) one) ∙ head_found machine libraries archive l held)
+  found_first name m (FoundExport l held n e is same listed) =
+      let dll : NamesOfDll = names_for Gnu l.definition in
+      is_first object_in (archive_of libraries) m (export_of machine l n e) (export machine dll e) (archive_symbols e) same (export_object_is machine l (made_of l held) n e is) (claimed_export machine dll e) (listed_export machine dll.linked n e)
+      (λ x one. export_found machine libraries archive l n e x held is one)
+  found_first name m (FoundWeak l held n e is alias is_data same named) =
+      is_first object_in (archive_of libraries) m (weak_of machine l n e) (object_of (weak_object machine e.name e.alias_target)) (e.name ∷ []) same (weak_object_is machine l (made_of l held) n e is alias)
+      (claimed_weak machine e.name e.alias_target) refl
+      (λ x one. ap (first_listed (archive_of libraries)) (only_one x e.name one) ∙ weak_found machine libraries archive l n e held is alias is_data)
 
   -- Whether a needed member is a weak external.
   needed_not_weak : (names : List (List ℕ)) (m : MemberView) (l : Library) → Among l libraries → Needed machine (names_for Gnu l.definition) (exports_of l) names m → is_weak m ≡ false
@@ -209,16 +150,16 @@ module _ (machine : MachineType) (libraries : List Library) (archive : IsArchive
         (m : MemberView) → first_listed (archive_of libraries) name ≡ Some m → IsNeeded all_wanted m
     unfolding left_as
     needed_by_left x (ForExport l held (TheTail same any)) there o read name left m is =
-        absurd (in_nothing name (names_of undefined_in [] name x (tail_of machine l) o (tail machine (names_for Gnu l.definition)) same (tail_object_is machine l (made_of l held)) read
+        absurd (in_nothing name (names_read object_in undefined_in [] name x (tail_of machine l) o (tail machine (names_for Gnu l.definition)) same (tail_object_is machine l (made_of l held)) read
         (left_tail machine (names_for Gnu l.definition)) left))
     needed_by_left x (ForExport l held (TheHead same any)) there o read name left m is =
         let named : name ≡ iname_symbol machine (linked_name l.definition) =
-        only_one name _ (names_of undefined_in (iname_symbol machine (linked_name l.definition) ∷ []) name x (head_of machine l) o (head machine (names_for Gnu l.definition)) same
+        only_one name _ (names_read object_in undefined_in (iname_symbol machine (linked_name l.definition) ∷ []) name x (head_of machine l) o (head machine (names_for Gnu l.definition)) same
         (head_object_is machine l (made_of l held)) read (left_head machine (names_for Gnu l.definition)) left) in
         ForExport l held (TheTail (same_first name m (tail_of machine l) is (ap (first_listed (archive_of libraries)) named ∙ tail_found machine libraries archive l held)) any)
     needed_by_left x (ForExport l held (AnExport own want)) there o read name left m is =
         let named : name ≡ head_symbol machine (linked_name l.definition) =
-        only_one name _ (names_of undefined_in (head_symbol machine (linked_name l.definition) ∷ []) name x (export_of machine l own.number own.export) o
+        only_one name _ (names_read object_in undefined_in (head_symbol machine (linked_name l.definition) ∷ []) name x (export_of machine l own.number own.export) o
         (export machine (names_for Gnu l.definition) own.export) own.same (export_object_is machine l (made_of l held) own.number own.export own.is) read
         (left_export machine (names_for Gnu l.definition) own.export) left) in
         ForExport l held (TheHead (same_first name m (head_of machine l) is (ap (first_listed (archive_of libraries)) named ∙ head_found machine libraries archive l held))
@@ -229,7 +170,7 @@ module _ (machine : MachineType) (libraries : List Library) (archive : IsArchive
         (among_back name wanted (flat_map undefined_in (objects_in (weak_among taken))) (as_name object_in undefined_in name (weak_among taken) x o kept read left))
 
     -- whatever is taken is needed
-    needed : (earlier : List MemberView) → ((m : MemberView) → Among m earlier → Among m taken) → IsTakenInTurn (archive_of libraries) wanted earlier → (m : MemberView) → Among m earlier →
+    pub needed : (earlier : List MemberView) → ((m : MemberView) → Among m earlier → Among m taken) → IsTakenInTurn (archive_of libraries) wanted earlier → (m : MemberView) → Among m earlier →
         IsNeeded all_wanted m
     unfolding Among AreTakenInTurnAs left_as
     needed [] there turn m held = absurd held
@@ -249,34 +190,21 @@ module _ (machine : MachineType) (libraries : List Library) (archive : IsArchive
       needed_all : (m : MemberView) → Among m taken → IsNeeded all_wanted m
       needed_all = needed taken (λ m held. held) takes.in_turn
 
+      each_first : (m : MemberView) → Among m taken → IsFirstAs object_in (archive_of libraries) m
+      each_first m held =
+          let by = pulled object_in (archive_of libraries) wanted taken takes.in_turn m held in
+          found_first by.0 m (found machine libraries archive by.0 m by.1)
+
       -- a member that an undefined name finds is taken
       reached : (name : List ℕ) (m : MemberView) → first_listed (archive_of libraries) name ≡ Some m → Among name (wanted ++ names_undefined taken) → Among m taken
-      unfolding claimed_as
-      reached name m is named =
-          elim (cases_Bool (list_any (is_listed_for name) taken)) [
-            | inl some ↦
-                let t = any_member name taken some in
-                subst (λ x. Among x taken) (sym (same_first name m t.0 is (finds_itself all_wanted t.0 name (needed_all t.0 t.1) t.2))) t.1
-            | inr none ↦ absurd (takes.ended name m (record {
-              named = among_contains name (wanted ++ names_undefined taken) named;
-              undefined = false_from_ne_true (list_any (bytes_eq name) (flat_map claimed_names (objects_in taken))) (λ claimed.
-                  let by = name_as object_in claimed_names name taken (any_among name _ claimed) in
-                  none_listed name by.member taken none by.held (claims_listed all_wanted by.member by.object name (needed_all by.member by.held) by.taken by.among));
-              listed = is;
-              new = λ has. none_listed name m taken none (contains_among m taken has) (first_is name (archive_of libraries) m is).1;
-            }))
-          ]
+      reached = reached_as object_in (archive_of libraries) is_weak taken each_first wanted takes
 
       -- a wanted name is one of the names that are undefined
       still_named : (name : List ℕ) → Among name all_wanted → Among name (wanted ++ names_undefined taken)
-      unfolding left_as
-      still_named name want =
-          elim (among_either name wanted (flat_map undefined_in (objects_in (weak_among taken))) want) [
-            | inl own ↦ among_front name wanted (flat_map undefined_in (objects_in taken)) own
-            | inr left ↦
-                let from = name_as object_in undefined_in name (weak_among taken) left in
-                among_back name wanted (flat_map undefined_in (objects_in taken)) (as_name object_in undefined_in name taken from.member from.object (kept_among is_weak from.member taken from.held).0 from.taken from.among)
-          ]
+      still_named = still_as object_in (archive_of libraries) is_weak taken each_first wanted
+
+      left_by : (x : MemberView) (o : Object) (name : List ℕ) → Among x taken → object_in x.bytes ≡ Some o → Among name (undefined_in o) → Among name (wanted ++ names_undefined taken)
+      left_by = left_as_by object_in (archive_of libraries) is_weak taken each_first wanted
 
       export_taken : (l : Library) → Among l libraries → (n : ℕ) (e : ExportView) → slice_get (exports_of l) n ≡ Some e → is_wanted all_wanted e ≡ true → Among (export_of machine l n e) taken
       export_taken l held n e is want =
@@ -284,20 +212,18 @@ module _ (machine : MachineType) (libraries : List Library) (archive : IsArchive
           reached name.0 (export_of machine l n e) (export_found machine libraries archive l n e name.0 held is name.1) (still_named name.0 name.2)
 
       head_taken : (l : Library) → Among l libraries → AnyWanted (exports_of l) all_wanted → Among (head_of machine l) taken
-      unfolding left_as
       head_taken l held any =
           reached (head_symbol machine (linked_name l.definition)) (head_of machine l) (head_found machine libraries archive l held)
-          (among_back _ wanted (flat_map undefined_in (objects_in taken)) (as_name object_in undefined_in _ taken (export_of machine l any.number any.export) (export machine (names_for Gnu l.definition) any.export)
+          (left_by (export_of machine l any.number any.export) (export machine (names_for Gnu l.definition) any.export) (head_symbol machine (linked_name l.definition))
           (export_taken l held any.number any.export any.is any.want) (export_object_is machine l (made_of l held) any.number any.export any.is)
-          (subst (Among (head_symbol machine (linked_name l.definition))) (sym (left_export machine (names_for Gnu l.definition) any.export)) (among_first _ _))))
+          (subst (Among (head_symbol machine (linked_name l.definition))) (sym (left_export machine (names_for Gnu l.definition) any.export)) (among_first _ _)))
 
       tail_taken : (l : Library) → Among l libraries → AnyWanted (exports_of l) all_wanted → Among (tail_of machine l) taken
-      unfolding left_as
       tail_taken l held any =
           reached (iname_symbol machine (linked_name l.definition)) (tail_of machine l) (tail_found machine libraries archive l held)
-          (among_back _ wanted (flat_map undefined_in (objects_in taken)) (as_name object_in undefined_in _ taken (head_of machine l) (head machine (names_for Gnu l.definition))
+          (left_by (head_of machine l) (head machine (names_for Gnu l.definition)) (iname_symbol machine (linked_name l.definition))
           (head_taken l held any) (head_object_is machine l (made_of l held))
-          (subst (Among (iname_symbol machine (linked_name l.definition))) (sym (left_head machine (names_for Gnu l.definition))) (among_first _ _))))
+          (subst (Among (iname_symbol machine (linked_name l.definition))) (sym (left_head machine (names_for Gnu l.definition))) (among_first _ _)))
 
       taken_if_needed : (l : Library) → Among l libraries → (m : MemberView) → Needed machine (names_for Gnu l.definition) (exports_of l) all_wanted m → Among m taken
       taken_if_needed l held m (TheTail same any) = subst (λ x. Among x taken) (sym same) (tail_taken l held any)
@@ -318,10 +244,6 @@ module _ (machine : MachineType) (libraries : List Library) (archive : IsArchive
           let from = linked_of machine libraries all_wanted m linked in
           let need = needed_if_linked from.0.definition machine all_wanted (exports_wanted from.0.definition all_wanted) (numbers_are_wanted (exports_of from.0) all_wanted) m from.2 in
           among_kept (λ x. not (is_weak x)) m taken (taken_if_needed from.0 from.1 m need) (not_true (is_weak m) (needed_not_weak all_wanted m from.0 from.1 need))
-
-      from_not : (b : Bool) → not b ≡ true → b ≡ false
-      from_not true is = absurd (true≢false (sym is))
-      from_not false is = refl
 
       weak_data : (m : MemberView) → Among m taken → is_weak m ≡ true → IsWeakData libraries all_wanted m
       weak_data m there weak = by (needed_all m there)

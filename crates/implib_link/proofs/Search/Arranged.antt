@@ -1,7 +1,7 @@
 -- What is linked of an archive of libraries, where the libraries may be in another order.
 use Rattle.std.proofs.Common.{◌≡◌, ℕ, ◌+◌, ◌≤◌, Bool, List, [], ◌∷◌, ◌++◌, length, map, Option, Some, None, ◌⊎◌, refl, ap, sym, ◌∙◌, subst, inl, inr, arith}
 use Rattle.std.specs.Prelude.{IsPermutation, bytes_eq, reverse, slice_get}
-use Rattle.std.specs.List.{AllByRecursion, IsDistinct, cons_option, filter, filter_map, flat_map}
+use Rattle.std.specs.List.{IsDistinct, cons_option, filter, filter_map, flat_map}
 use Rattle.std.proofs.lemmas.Bool.{cases_Bool}
 use Rattle.std.proofs.lemmas.List.{append_assoc}
 use Rattle.std.proofs.lemmas.List.Sorted.{Contains-permutation, IsPermutation-reverse, IsPermutation-sym}
@@ -18,8 +18,8 @@ use Rattle.implib.proofs.Link.Ranges.{Among, all_among, among_flat, among_first,
 use Rattle.implib_link.specs.Search.Archives.{IsArchive, IsLibrary, Library, exports_of, input_if_any, inputs_wanted, symbols_of_export, symbols_of_library}
 use Rattle.implib_link.specs.Search.Search.{exports_wanted, is_wanted, linked_if_any, numbers_wanted}
 use Rattle.implib_link.proofs.Search.Archives.{input_linked, inputs_made}
+use Rattle.implib_link.proofs.Search.Lists.{all_from as all_each, contains_among, among_flat_map as flat_among}
 use Rattle.implib_link.proofs.Search.Counts.{distinct_from, few_from, times, times_both, times_moved}
-use Rattle.implib_link.proofs.Search.Lists.{among_either, contains_among}
 use Rattle.implib_link.proofs.Search.Search.{in_nothing}
 use Rattle.implib.specs.LibraryName.{NamesOfDll, names_for}
 use Rattle.implib.specs.declared.flavor.Flavor.TheVariants.{Gnu}
@@ -28,19 +28,6 @@ use Rattle.implib.specs.declared.flavor.Flavor.TheVariants.{Gnu}
 
 pub among_moved : {X : Type 0} (x : X) (xs ys : List X) → IsPermutation xs ys → Among x xs → Among x ys
 among_moved x xs ys moved held = contains_among x ys (Contains-permutation xs ys x moved (among_contains x xs held))
-
-pub all_each : {X : Type 0} (P : X → Type 0) (xs : List X) → ((x : X) → Among x xs → P x) → AllByRecursion P xs
-all_each P [] each = tt
-all_each P (x ∷ xs) each = (each x (among_first x xs), all_each P xs (λ y held. each y (among_later y x xs held)))
-
-pub flat_among : {X Y : Type 0} (f : X → List Y) (y : Y) (xs : List X) → Among y (flat_map f xs) → (x : X) × Among x xs × Among y (f x)
-unfolding Among
-flat_among f y [] held = absurd held
-flat_among f y (x ∷ xs) held =
-    elim (among_either y (f x) (flat_map f xs) held) [
-      | inl here ↦ (x, inl refl, here)
-      | inr behind ↦ let later = flat_among f y xs behind in (later.0, inr later.1, later.2)
-    ]
 
 flat_moved : {X Y : Type 0} (f : X → List Y) (y : Y) (xs ys : List X) → IsPermutation xs ys → Among y (flat_map f xs) → Among y (flat_map f ys)
 flat_moved f y xs ys moved held =
@@ -72,7 +59,7 @@ linked_moved machine libraries arranged names moved m held =
 
 -- The exports that are chosen are those that are wanted, in their order.
 
-at_end : {X : Type 0} (front : List X) (x : X) (behind : List X) → slice_get (front ++ x ∷ behind) (length front) ≡ Some x
+pub at_end : {X : Type 0} (front : List X) (x : X) (behind : List X) → slice_get (front ++ x ∷ behind) (length front) ≡ Some x
 at_end [] x behind = refl
 at_end (y ∷ front) x behind = at_end front x behind
 

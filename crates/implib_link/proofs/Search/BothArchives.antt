@@ -1,8 +1,8 @@
 -- What a linker takes of an archive of both flavours.
 use Rattle.std.proofs.Common.{◌≡◌, ℕ, ◌⊎◌, true, false, List, [], ◌∷◌, ◌++◌, Some, refl, ap, sym, ◌∙◌, subst, inl, inr}
-use Rattle.std.specs.Prelude.{bytes_eq, not, slice_get}
-use Rattle.std.specs.List.{flat_map, list_any}
-use Rattle.std.proofs.lemmas.Bool.{cases_Bool, false_from_ne_true, true≢false}
+use Rattle.std.specs.Prelude.{not, slice_get}
+use Rattle.std.specs.List.{flat_map}
+use Rattle.std.proofs.lemmas.Bool.{true≢false}
 use Rattle.implib.specs.declared.flavor.Flavor.TheVariants.{Gnu, Msvc}
 use Rattle.implib.specs.declared.machine.MachineType.{MachineType}
 use Rattle.implib.specs.Definition.{ExportView}
@@ -19,21 +19,19 @@ use Rattle.implib.proofs.Link.Placement.{export, head, tail}
 use Rattle.implib.proofs.Link.Ranges.{Among, all_among, among_back, among_first, among_front, among_later}
 use Rattle.implib_link.specs.Flavors.Expansion.{descriptor_symbol_by_name, expanded_in}
 use Rattle.implib_link.specs.Flavors.Program.{all_members, ask_in, objects_taken}
-use Rattle.implib_link.specs.Gnu.Program.{claimed_names}
 use Rattle.implib_link.specs.Search.Archives.{Library, exports_of, has_weak, inputs_wanted}
 use Rattle.implib_link.specs.Search.BothFlavors.{FlavorLibrary, IsFlavorArchive, IsWeakOfBoth, NamesNoMembers, TakesOfBoth, archive_of_both, gnu_among, msvc_among}
 use Rattle.implib_link.specs.Search.Msvc.{AreTakenInTurn, NamesNoHeader, TakesFor, left_in}
 use Rattle.implib_link.specs.Search.MsvcArchives.{first_null, is_import_wanted, is_short_alias, is_weak_in, others_in, short_inputs, shorts_linked, wanted_with_weak, weak_in}
-use Rattle.implib_link.specs.Search.Search.{NamesNoHeadOrTail, exports_wanted, first_listed, is_listed_for, is_wanted, undefined_in, left_as, claimed_as, AreTakenInTurnAs}
+use Rattle.implib_link.specs.Search.Search.{NamesNoHeadOrTail, exports_wanted, first_listed, is_wanted, undefined_in, left_as, AreTakenInTurnAs}
 use Rattle.implib_link.proofs.Flavors.Block.{asking, use_for}
 use Rattle.implib_link.proofs.Flavors.Expanded.{taken_descriptor, taken_null, taken_null_thunk}
-use Rattle.implib_link.proofs.Search.ArchiveGroups.{export_of, first_is, head_of, tail_of, weak_of as data_weak_of}
+use Rattle.implib_link.proofs.Search.ArchiveGroups.{export_of, head_of, tail_of, weak_of as data_weak_of}
 use Rattle.implib_link.proofs.Search.ArchiveMembers.{FoundExport, FoundHead, FoundTail, FoundWeak as FoundDataWeak, export_entries, export_found, head_found, tail_found}
 use Rattle.implib_link.proofs.Search.Archives.{linked_of as data_linked_of, of_linked as of_data_linked}
-use Rattle.implib_link.proofs.Search.Arranged.{all_each}
-use Rattle.implib_link.proofs.Search.BothMembers.{FoundInBoth, IsFirst, first_held, found_in_both, found_is_first, gnu_export_is, gnu_head_is, gnu_in_both, gnu_made, gnu_tail_is, gnu_weak_is, msvc_in_both, msvc_made}
-use Rattle.implib_link.proofs.Search.Closed.{from_not, passes, passing, there_not, to_not, pulled}
-use Rattle.implib_link.proofs.Search.Lists.{among_at, among_either, any_among, any_member, contains_among, none_listed, name_as, as_name}
+use Rattle.implib_link.proofs.Search.Lists.{all_from as all_each, to_not, from_not, passes, passing, among_at, among_either, contains_among, name_as, as_name}
+use Rattle.implib_link.proofs.Search.BothMembers.{FoundInBoth, first_held, found_in_both, found_is_first, gnu_export_is, gnu_head_is, gnu_in_both, gnu_made, gnu_tail_is, gnu_weak_is, msvc_in_both, msvc_made}
+use Rattle.implib_link.proofs.Search.Closing.{names_read, IsFirstAs, left_by as left_as_by, reached as reached_as, still_named as still_as, pulled, there_not}
 use Rattle.implib_link.proofs.Search.Msvc.{left_asking, left_descriptor, left_null, left_thunk}
 use Rattle.implib_link.proofs.Search.MsvcArchives.{AShort, AnyImport, Linked, TheDescriptor, TheThunk, any_of, both_parts, descriptor_plain, import_parts, linked_of, linked_there, member_with, null_or_member, null_plain, null_with, of_linked, short_plain, there_linked, thunk_plain, weak_by, weak_is_weak}
 use Rattle.implib_link.proofs.Search.MsvcMembers.{FoundDescriptor, FoundNull, FoundShort, FoundThunk, FoundWeak as FoundShortWeak, IsPair, descriptor_found, descriptor_is, descriptor_of, null_found, null_is, null_of, short_found, short_is, short_of, taken_weak, thunk_found, thunk_is, thunk_of, weak_is, weak_of as short_weak_of}
@@ -61,12 +59,6 @@ module _ (machine : MachineType) (libraries : List FlavorLibrary) (archive : IsF
         m ≡ data_weak_of machine l n e → Among e.name names → IsNeededOf names m
 
   -- names of what a member is taken for
-  names_of : (f : Object → List (List ℕ)) (names : List (List ℕ)) (name : List ℕ) (m x : MemberView) (o own : Object) → m ≡ x → expanded_in machine x.bytes ≡ Some own →
-      expanded_in machine m.bytes ≡ Some o → f own ≡ names → Among name (f o) → Among name names
-  names_of f names name m x o own same read is are held =
-      let object : o ≡ own = (let e : Some o ≡ Some own = sym is ∙ ap (λ (y : MemberView). expanded_in machine y.bytes) same ∙ read in cc) in
-      subst (Among name) are (subst (λ t. Among name (f t)) object held)
-
   same_first : (name : List ℕ) (m own : MemberView) → first_listed (archive_of_both libraries) name ≡ Some m → first_listed (archive_of_both libraries) name ≡ Some own → m ≡ own
   same_first name m own is other = (let e : Some m ≡ Some own = sym is ∙ other in cc)
 
@@ -192,32 +184,32 @@ module _ (machine : MachineType) (libraries : List FlavorLibrary) (archive : IsF
         (m : MemberView) → first_listed (archive_of_both libraries) name ≡ Some m → IsNeededOf all_wanted m
     needed_by_left x (ForImport l held (TheDescriptor same any)) there o read name left m is =
         left_by_descriptor all_wanted l held any name
-        (names_of undefined_in (null_descriptor_symbol ∷ null_thunk_symbol (linked_dll l.definition) ∷ []) name x (descriptor_of machine l) o (taken_descriptor machine (names_for Msvc l.definition)) same
+        (names_read (expanded_in machine) undefined_in (null_descriptor_symbol ∷ null_thunk_symbol (linked_dll l.definition) ∷ []) name x (descriptor_of machine l) o (taken_descriptor machine (names_for Msvc l.definition)) same
         (descriptor_is machine l (msvc_made machine libraries archive l held)) read (left_descriptor machine (names_for Msvc l.definition)) left) m is
     needed_by_left x (ForImport l held (TheThunk same any)) there o read name left m is =
-        absurd (in_nothing name (names_of undefined_in [] name x (thunk_of machine l) o (taken_null_thunk machine (names_for Msvc l.definition)) same
+        absurd (in_nothing name (names_read (expanded_in machine) undefined_in [] name x (thunk_of machine l) o (taken_null_thunk machine (names_for Msvc l.definition)) same
         (thunk_is machine l (msvc_made machine libraries archive l held)) read (left_thunk machine (names_for Msvc l.definition)) left))
     needed_by_left x (ForImport l held (AShort e among same want)) there o read name left m is =
         let named : name ≡ descriptor_symbol_by_name l.definition.import_name =
-        only_one name _ (names_of undefined_in (descriptor_symbol_by_name l.definition.import_name ∷ []) name x (short_of machine l e) o (asking machine (names_for Msvc l.definition) e) same
+        only_one name _ (names_read (expanded_in machine) undefined_in (descriptor_symbol_by_name l.definition.import_name ∷ []) name x (short_of machine l e) o (asking machine (names_for Msvc l.definition) e) same
         (short_is machine l (msvc_made machine libraries archive l held) e among) read (left_asking machine (names_for Msvc l.definition) (short_import_symbol e) (ask_in Msvc machine e) (use_for e)) left) in
         ForImport l held (TheDescriptor (finds name (descriptor_symbol (linked_dll l.definition)) m (descriptor_of machine l) is (named ∙ by_name l held) (descriptor_first l held)) (any_in all_wanted l e among want))
     needed_by_left x (ForNull l rest first same y held any) there o read name left m is =
-        absurd (in_nothing name (names_of undefined_in [] name x (null_of machine l) o (taken_null machine) same
+        absurd (in_nothing name (names_read (expanded_in machine) undefined_in [] name x (null_of machine l) o (taken_null machine) same
         (null_is machine l (msvc_made machine libraries archive l (first_held machine libraries archive l rest first))) read (left_null machine) left))
     needed_by_left x (ForAlias l held e among alias weak target pair same named) there o read name left m is =
         left_by_weak x o name m there (short_alias_weak x l held e among alias weak target pair same) read left is
     needed_by_left x (ForExport l held (TheTail same any)) there o read name left m is =
-        absurd (in_nothing name (names_of undefined_in [] name x (tail_of machine l) o (tail machine (names_for Gnu l.definition)) same
+        absurd (in_nothing name (names_read (expanded_in machine) undefined_in [] name x (tail_of machine l) o (tail machine (names_for Gnu l.definition)) same
         (gnu_tail_is machine l (gnu_made machine libraries archive l held)) read (left_tail machine (names_for Gnu l.definition)) left))
     needed_by_left x (ForExport l held (TheHead same any)) there o read name left m is =
         let named : name ≡ iname_symbol machine (linked_name l.definition) =
-        only_one name _ (names_of undefined_in (iname_symbol machine (linked_name l.definition) ∷ []) name x (head_of machine l) o (head machine (names_for Gnu l.definition)) same
+        only_one name _ (names_read (expanded_in machine) undefined_in (iname_symbol machine (linked_name l.definition) ∷ []) name x (head_of machine l) o (head machine (names_for Gnu l.definition)) same
         (gnu_head_is machine l (gnu_made machine libraries archive l held)) read (left_head machine (names_for Gnu l.definition)) left) in
         ForExport l held (TheTail (finds name (iname_symbol machine (linked_name l.definition)) m (tail_of machine l) is named (tail_first l held)) any)
     needed_by_left x (ForExport l held (AnExport own want)) there o read name left m is =
         let named : name ≡ head_symbol machine (linked_name l.definition) =
-        only_one name _ (names_of undefined_in (head_symbol machine (linked_name l.definition) ∷ []) name x (export_of machine l own.number own.export) o
+        only_one name _ (names_read (expanded_in machine) undefined_in (head_symbol machine (linked_name l.definition) ∷ []) name x (export_of machine l own.number own.export) o
         (export machine (names_for Gnu l.definition) own.export) own.same (gnu_export_is machine l (gnu_made machine libraries archive l held) own.number own.export own.is) read
         (left_export machine (names_for Gnu l.definition) own.export) left) in
         ForExport l held (TheHead (finds name (head_symbol machine (linked_name l.definition)) m (head_of machine l) is named (head_first l held))
@@ -246,44 +238,19 @@ module _ (machine : MachineType) (libraries : List FlavorLibrary) (archive : IsF
       needed_all : (m : MemberView) → Among m taken → IsNeededOf all_wanted m
       needed_all = needed taken (λ m held. held) takes.in_turn
 
-      each_first : (m : MemberView) → Among m taken → IsFirst machine libraries archive m
+      each_first : (m : MemberView) → Among m taken → IsFirstAs (expanded_in machine) (archive_of_both libraries) m
       each_first m held = let by = pulled (expanded_in machine) (archive_of_both libraries) wanted taken takes.in_turn m held in found_is_first machine libraries archive by.0 m by.1
 
       -- a member that an undefined name finds is taken
       reached : (name : List ℕ) (m : MemberView) → first_listed (archive_of_both libraries) name ≡ Some m → Among name (wanted ++ left_in machine taken) → Among m taken
-      unfolding claimed_as
-      reached name m is named =
-          elim (cases_Bool (list_any (is_listed_for name) taken)) [
-            | inl some ↦
-                let t = any_member name taken some in
-                subst (λ x. Among x taken) (sym (same_first name m t.0 is ((each_first t.0 t.1).first name t.2))) t.1
-            | inr none ↦ absurd (takes.ended name m (record {
-              named = among_contains name (wanted ++ left_in machine taken) named;
-              undefined = false_from_ne_true (list_any (bytes_eq name) (flat_map claimed_names (objects_taken machine taken))) (λ claimed.
-                  let by = name_as (expanded_in machine) claimed_names name taken (any_among name _ claimed) in
-                  let one = each_first by.member by.held in
-                  let same : by.object ≡ one.object = (let e : Some by.object ≡ Some one.object = sym by.taken ∙ one.read in cc) in
-                  none_listed name by.member taken none by.held (subst (Among name) one.claims (subst (λ o. Among name (claimed_names o)) same by.among)));
-              listed = is;
-              new = λ has. none_listed name m taken none (contains_among m taken has) (first_is name (archive_of_both libraries) m is).1;
-            }))
-          ]
+      reached = reached_as (expanded_in machine) (archive_of_both libraries) (is_weak_in machine) taken each_first wanted takes
 
       -- a wanted name is one of the names that are undefined
       still_named : (name : List ℕ) → Among name all_wanted → Among name (wanted ++ left_in machine taken)
-      unfolding left_as
-      still_named name want =
-          elim (among_either name wanted (flat_map undefined_in (objects_taken machine (weak_in machine taken))) want) [
-            | inl own ↦ among_front name wanted (flat_map undefined_in (objects_taken machine taken)) own
-            | inr left ↦
-                let from = name_as (expanded_in machine) undefined_in name (weak_in machine taken) left in
-                among_back name wanted (flat_map undefined_in (objects_taken machine taken))
-                (as_name (expanded_in machine) undefined_in name taken from.member from.object (passing (is_weak_in machine) from.member taken from.held).0 from.taken from.among)
-          ]
+      still_named = still_as (expanded_in machine) (archive_of_both libraries) (is_weak_in machine) taken each_first wanted
 
       left_by : (x : MemberView) (o : Object) (name : List ℕ) → Among x taken → expanded_in machine x.bytes ≡ Some o → Among name (undefined_in o) → Among name (wanted ++ left_in machine taken)
-      unfolding left_as
-      left_by x o name held is left = among_back name wanted (flat_map undefined_in (objects_taken machine taken)) (as_name (expanded_in machine) undefined_in name taken x o held is left)
+      left_by = left_as_by (expanded_in machine) (archive_of_both libraries) (is_weak_in machine) taken each_first wanted
 
       short_taken : (l : Library) → Among l (msvc_among libraries) → (e : ExportView) → Among e (exports_of l) → is_import_wanted all_wanted e ≡ true → Among (short_of machine l e) taken
       short_taken l held e there want =

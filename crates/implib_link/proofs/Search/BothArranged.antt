@@ -13,20 +13,20 @@ use Rattle.implib.specs.Link.LinkedMembers.{LinkInput, all_linked, chosen_export
 use Rattle.implib.specs.Members.MemberSpec.{MemberView}
 use Rattle.implib.specs.Members.MsvcObjects.{descriptor_symbol, null_descriptor_symbol}
 use Rattle.implib.proofs.Link.Ranges.{Among, all_among, among_flat}
-use Rattle.implib_link.specs.Flavors.Program.{FlavorInput, IsFoundByName, IsMadeFor, all_members, dll_names_in, members_linked, symbols_listed}
+use Rattle.implib_link.specs.Flavors.Program.{FlavorInput, IsFoundByName, IsMadeFor, all_members, dll_names_in, members_linked, symbols_listed, gnu_input}
 use Rattle.implib_link.specs.Flavors.Expansion.{descriptor_symbol_by_name}
 use Rattle.std.proofs.lemmas.List.Sorted.{IsPermutation-sym}
 use Rattle.implib_link.specs.Search.Archives.{Library, input_if_any, inputs_wanted, symbols_of_library}
-use Rattle.implib_link.specs.Search.BothFlavors.{FlavorLibrary, IsFlavorArchive, flavor_input, flavor_inputs, gnu_among, gnu_input, if_gnu, if_msvc, msvc_among}
+use Rattle.implib_link.specs.Search.BothFlavors.{FlavorLibrary, IsFlavorArchive, flavor_input, flavor_inputs, gnu_among, if_gnu, if_msvc, msvc_among}
 use Rattle.implib_link.specs.Search.MsvcArchives.{imports_wanted, short_input_if_any, short_inputs, symbols_of_shorts}
 use Rattle.implib_link.specs.Search.Search.{exports_wanted}
 use Rattle.implib_link.proofs.Flavors.Block.{symbols_of}
 use Rattle.implib_link.proofs.Flavors.Blocks.{FlavorBlock}
 use Rattle.implib_link.proofs.Flavors.Inputs.{block_in, inputs_symbols}
-use Rattle.implib_link.proofs.Search.Arranged.{all_each, flat_among, input_behind, input_from, input_front, input_is, library_fewer as gnu_fewer, kept_moved}
+use Rattle.implib_link.proofs.Search.Arranged.{input_behind, input_from, input_front, input_is, library_fewer as gnu_fewer, kept_moved}
+use Rattle.implib_link.proofs.Search.Lists.{among_flat_map as flat_among, any_among, all_from as all_each}
 use Rattle.implib_link.proofs.Search.BothMembers.{gnu_made, msvc_made}
 use Rattle.implib_link.proofs.Search.Counts.{distinct_from, few_from, none_times, times, times_both, times_moved}
-use Rattle.implib_link.proofs.Search.Lists.{any_among}
 use Rattle.implib_link.proofs.Search.MsvcArranged.{library_fewer as short_fewer, short_input_is}
 
 -- Libraries of one flavour, in another order.

@@ -1,9 +1,8 @@
 -- A closed program of an archive of both flavours links.
-use Rattle.std.proofs.Common.{◌≡◌, ℕ, ◌+◌, ◌*◌, ◌⊎◌, true, false, List, [], ◌∷◌, ◌++◌, Option, Some, refl, ap, sym, ◌∙◌, subst, inl, inr}
+use Rattle.std.proofs.Common.{◌≡◌, ℕ, ◌+◌, ◌*◌, ◌⊎◌, true, false, List, [], ◌∷◌, ◌++◌, Some, refl, ap, sym, ◌∙◌, subst, inl, inr}
 use Rattle.std.specs.Prelude.{◌<◌, ◌^◌, IsPermutation, bytes_eq, not, slice_get}
-use Rattle.std.specs.List.{AllByRecursion, Contains, filter, flat_map, list_any}
-use Rattle.std.proofs.lemmas.Bool.{cases_Bool, true≢false}
-use Rattle.std.proofs.lemmas.Grind.{flat_map-append}
+use Rattle.std.specs.List.{AllByRecursion, Contains, filter, list_any}
+use Rattle.std.proofs.lemmas.Bool.{cases_Bool}
 use Rattle.std.proofs.lemmas.List.Sorted.{IsPermutation-sym}
 use Rattle.implib.specs.declared.flavor.Flavor.TheVariants.{Msvc}
 use Rattle.implib.specs.declared.machine.MachineType.{MachineType}
@@ -24,30 +23,30 @@ use Rattle.implib.specs.Members.MsvcObjects.{descriptor_symbol, null_descriptor_
 use Rattle.implib.proofs.Link.LinkedMembers.{among_contains}
 use Rattle.implib.proofs.Link.Ranges.{Among, all_among, among_back, among_first, among_flat, among_front}
 use Rattle.implib_link.specs.Flavors.Expansion.{expanded_in}
-use Rattle.implib_link.specs.Flavors.Program.{AreFlavorObjects, FlavorInput, FlavorsLink, IsFlavorProgram, IsMadeFor, all_members, exports_chosen, null_member, objects_taken, symbols_listed, thunks_of}
-use Rattle.implib_link.specs.Gnu.Program.{ClaimsNone, claimed_names, has_tables}
+use Rattle.implib_link.specs.Flavors.Program.{OfMember, FlavorInput, IsMadeFor, all_members, exports_chosen, null_member, objects_taken, symbols_listed, thunks_of, ProgramLinks, IsProgramOf, AreProgramObjects, gnu_input}
+use Rattle.implib_link.specs.Gnu.Program.{has_tables}
 use Rattle.implib_link.specs.Search.Archives.{Library, exports_of, inputs_wanted}
-use Rattle.implib_link.specs.Search.BothFlavors.{AreClosedForBoth, FlavorLibrary, IsClosedForBoth, IsFlavorArchive, IsImportedOfBoth, IsUsedIn, LinksClosedForBoth, TakesOfBoth, archive_of_both, gnu_among, gnu_input, inputs_of_both, msvc_among}
+use Rattle.implib_link.specs.Search.BothFlavors.{AreClosedForBoth, FlavorLibrary, IsClosedForBoth, IsFlavorArchive, IsImportedOfBoth, IsUsedIn, LinksClosedForBoth, TakesOfBoth, archive_of_both, gnu_among, inputs_of_both, msvc_among}
 use Rattle.implib_link.specs.Search.Closed.{listed_in, unresolved}
-use Rattle.implib_link.specs.Search.Msvc.{NamesNoHeader, TakesFor, left_in}
+use Rattle.implib_link.specs.Search.Msvc.{NamesNoHeader, TakesFor}
 use Rattle.implib_link.specs.Search.MsvcArchives.{first_null, is_import_wanted, is_short_alias, is_weak_in, others_in, short_inputs, shorts_linked, weak_in}
 use Rattle.implib_link.specs.Search.MsvcClosed.{IsWeakTaken, wanted_for}
-use Rattle.implib_link.specs.Search.Search.{NamesNoHeadOrTail, exports_wanted, first_listed, is_listed_for, is_wanted, undefined_in, left_as, claimed_as}
+use Rattle.implib_link.specs.Search.Search.{NamesNoHeadOrTail, exports_wanted, first_listed, is_wanted}
 use Rattle.implib_link.proofs.Flavors.Expanded.{taken_null}
 use Rattle.implib_link.proofs.Flavors.Inputs.{null_object}
 use Rattle.implib_link.proofs.Flavors.Loaded.{entry_of}
-use Rattle.implib_link.proofs.Flavors.Packed.{packed_flavors}
-use Rattle.implib_link.proofs.Flavors.Program.{flavors_link}
+use Rattle.implib_link.proofs.Flavors.Packed.{packed_objects}
+use Rattle.implib_link.proofs.Flavors.Program.{program_links}
 use Rattle.implib_link.specs.Gnu.Packed.{packed, packed_end}
 use Rattle.implib_link.proofs.Search.ArchiveGroups.{export_of, weak_of as data_weak_of}
 use Rattle.implib_link.proofs.Search.ArchiveMembers.{FoundExport, FoundHead, FoundTail, FoundWeak as FoundDataWeak}
 use Rattle.implib_link.proofs.Search.Archives.{linked_of as data_linked_of, of_linked as of_data_linked}
-use Rattle.implib_link.proofs.Search.Arranged.{all_each, chosen_are, input_for, input_held, input_is}
+use Rattle.implib_link.proofs.Search.Closing.{IsFirstAs, IsListed, first_of, listed_other, none_left, others_claim_none, reached, still_named, takes_apart, pulled, there_not, at_index}
+use Rattle.implib_link.proofs.Search.Lists.{passes, passing, among_at, among_either, among_flat_map, contains_among}
+use Rattle.implib_link.proofs.Search.Arranged.{chosen_are, input_for, input_held, input_is}
 use Rattle.implib_link.proofs.Search.BothArchives.{both_taken, data_alias_weak, plain_gnu, plain_short, short_alias_weak}
 use Rattle.implib_link.proofs.Search.BothArranged.{both_distinct, both_found, both_made, exports_join, gnu_joins, gnu_moved, members_of_each, msvc_moved, of_each, short_joins, shorts_join}
-use Rattle.implib_link.proofs.Search.BothMembers.{FoundInBoth, IsFirst, first_held, found_in_both, found_is_first}
-use Rattle.implib_link.proofs.Search.Closed.{at_index, claims_apart, claims_none, from_not, not_there, passes, passing, there_not, to_not, unresolved_from, unresolved_parts, pulled, takes_for}
-use Rattle.implib_link.proofs.Search.Lists.{among_any, among_at, among_either, among_flat_map, any_member, contains_among, listed_is, none_listed, name_as, as_name}
+use Rattle.implib_link.proofs.Search.BothMembers.{FoundInBoth, first_held, found_in_both, found_is_first}
 use Rattle.implib_link.proofs.Search.MsvcArchives.{AShort, AnyImport, TheDescriptor, both_parts, import_parts, imports_are, linked_of, linked_there, member_with, null_or_member, null_with, of_linked}
 use Rattle.implib_link.proofs.Search.MsvcArranged.{short_input_for, short_input_held, short_input_is}
 use Rattle.implib_link.proofs.Search.MsvcClosed.{by_symbol, first_one, null_tables}
@@ -57,19 +56,6 @@ use Rattle.implib_link.proofs.Search.Search.{AnExport, linked_if_needed, listed_
 no_library : (l : Library) → Among l [] → ⊥
 unfolding Among
 no_library l held = held
-
--- a name that is listed finds a member
-pub first_of : (name : List ℕ) (members : List MemberView) → Among name (listed_in members) → (m : MemberView) × (first_listed members name ≡ Some m)
-unfolding Among
-first_of name [] held = absurd held
-first_of name (m ∷ members) held =
-    elim (cases_Bool (is_listed_for name m)) [
-      | inl own_name ↦ (m, rw own_name refl)
-      | inr other ↦ elim (among_either name m.symbols (listed_in members) held) [
-        | inl here ↦ absurd (true≢false (sym (among_any name m.symbols here) ∙ other))
-        | inr behind ↦ let later = first_of name members behind in (later.0, rw other later.1)
-      ]
-    ]
 
 -- a symbol of an export's own member is that of its address, or its name, where it is no data
 by_gnu_symbol : (e : ExportView) (name : List ℕ) → Among name (archive_symbols e) → (name ≡ imp_symbol e.name) ⊎ ((name ≡ e.name) × (e.is_data ≡ false))
@@ -100,18 +86,10 @@ module _ (machine : MachineType) (libraries : List FlavorLibrary) (archive : IsF
   back : IsPermutation arranged libraries
   back = IsPermutation-sym libraries arranged is.order
 
-  -- given objects claim nothing that members which are taken are listed for or leave to others
-  left_apart : (name : List ℕ) → Among name (flat_map undefined_in (objects_taken machine taken)) → Among name (flat_map claimed_names own) → ⊥
-  unfolding left_as
-  left_apart name left = claims_apart (listed_in taken ++ left_in machine taken) own is.claims name (among_back name (listed_in taken) (left_in machine taken) left)
-
-  listed_apart : (name : List ℕ) → Among name (listed_in taken) → Among name (flat_map claimed_names own) → ⊥
-  listed_apart name held = claims_apart (listed_in taken ++ left_in machine taken) own is.claims name (among_front name (listed_in taken) (left_in machine taken) held)
-
   takes : TakesFor machine (archive_of_both libraries) (unresolved own) taken
-  takes = takes_for (expanded_in machine) (archive_of_both libraries) own taken left_apart is.takes
+  takes = takes_apart (expanded_in machine) (archive_of_both libraries) own taken is.claims is.takes
 
-  each_first : (m : MemberView) → Among m taken → IsFirst machine libraries archive m
+  each_first : (m : MemberView) → Among m taken → IsFirstAs (expanded_in machine) (archive_of_both libraries) m
   each_first m held =
       let by = pulled (expanded_in machine) (archive_of_both libraries) (unresolved own) taken takes.in_turn m held in
       found_is_first machine libraries archive by.0 m by.1
@@ -211,12 +189,10 @@ module _ (machine : MachineType) (libraries : List FlavorLibrary) (archive : IsF
 
   -- a listed name of a program is listed for a member that is taken and is no weak external
   abbrev Listed : List ℕ → Type 0
-  Listed name = (m : MemberView) × Among m taken × (is_weak_in machine m ≡ false) × Among name m.symbols
+  Listed = IsListed (expanded_in machine) (archive_of_both libraries) (is_weak_in machine) taken each_first
 
   of_other : (name : List ℕ) (m : MemberView) → Among m (others_in machine taken) → Among name m.symbols → Listed name
-  of_other name m held listed =
-      let kept = passing (λ y. not (is_weak_in machine y)) m taken held in
-      (m, kept.0, from_not (is_weak_in machine m) kept.1, listed)
+  of_other = listed_other (expanded_in machine) (archive_of_both libraries) (is_weak_in machine) taken each_first
 
   null_among : (name : List ℕ) → name ≡ null_descriptor_symbol → Listed name
   unfolding null_descriptor_spec
@@ -235,46 +211,11 @@ module _ (machine : MachineType) (libraries : List FlavorLibrary) (archive : IsF
       let from = among_flat_map (λ (m : MemberView). m.symbols) name (all_members machine inputs) held in
       of_other name from.0 (member_other from.0 from.1) from.2
 
-  same_first : (m x : MemberView) (found : Option MemberView) → found ≡ Some m → found ≡ Some x → m ≡ x
-  same_first m x found one other = (let e : Some m ≡ Some x = sym one ∙ other in cc)
-
-  -- what a member that is taken claims, it is listed for
-  claimed_listed : (name : List ℕ) (members : List MemberView) → ((m : MemberView) → Among m members → Among m taken) → Among name (flat_map claimed_names (objects_taken machine members)) →
-      (m : MemberView) × Among m members × Among name m.symbols
-  claimed_listed name members there claimed =
-      let by = name_as (expanded_in machine) claimed_names name members claimed in
-      let one = each_first by.member (there by.member by.held) in
-      let same : by.object ≡ one.object = (let e : Some by.object ≡ Some one.object = sym by.taken ∙ one.read in cc) in
-      (by.member, by.held, subst (Among name) one.claims (subst (λ o. Among name (claimed_names o)) same by.among))
-
-  -- and the other way round
-  listed_claimed : (name : List ℕ) (m : MemberView) → Among m taken → Among name m.symbols → Among name (flat_map claimed_names (objects_taken machine taken))
-  listed_claimed name m held listed =
-      let one = each_first m held in
-      as_name (expanded_in machine) claimed_names name taken m one.object held one.read (subst (Among name) (sym one.claims) listed)
-
-  weak_apart : (name : List ℕ) → Listed name → Among name (flat_map claimed_names (objects_taken machine (weak_in machine taken))) → ⊥
-  weak_apart name m claimed =
-      let x = claimed_listed name (weak_in machine taken) (λ y held. (passing (is_weak_in machine) y taken held).0) claimed in
-      let weak = passing (is_weak_in machine) x.0 taken x.1 in
-      let same : m.0 ≡ x.0 = same_first m.0 x.0 (first_listed (archive_of_both libraries) name) ((each_first m.0 m.1).first name m.3) ((each_first x.0 weak.0).first name x.2) in
-      true≢false (sym weak.1 ∙ sym (ap (is_weak_in machine) same) ∙ m.2)
-
   abbrev others : List Object
   others = filter (λ o. not (has_tables o)) objects
 
   abbrev weak_objects : List Object
   weak_objects = objects_taken machine (weak_in machine taken)
-
-  others_claim_none : AllByRecursion (ClaimsNone (null_descriptor_symbol ∷ symbols_listed (all_members machine inputs))) others
-  others_claim_none =
-      all_each (ClaimsNone (null_descriptor_symbol ∷ symbols_listed (all_members machine inputs))) others (λ o held.
-      claims_none (null_descriptor_symbol ∷ symbols_listed (all_members machine inputs)) o (λ name listed claimed.
-      let m = listed_name name listed in
-      elim (among_either o own weak_objects (contains_among o (own ++ weak_objects) ((is.others o).0 (among_contains o others held)))) [
-        | inl given ↦ listed_apart name (among_flat (λ (y : MemberView). y.symbols) m.0 taken name m.1 m.3) (among_flat claimed_names o own name given claimed)
-        | inr weak ↦ weak_apart name m (among_flat claimed_names o weak_objects name weak claimed)
-      ]))
 
   inputs_are_made : AllByRecursion (IsMadeFor machine) inputs
   inputs_are_made = both_made machine libraries arranged is.order archive wanted
@@ -285,24 +226,26 @@ module _ (machine : MachineType) (libraries : List FlavorLibrary) (archive : IsF
   null_read : expanded_in machine (null_member machine (linked_dll one_input.0.input.definition)).bytes ≡ Some (taken_null machine)
   null_read = null_object machine one_input.0 (all_among (IsMadeFor machine) one_input.0 inputs one_there inputs_are_made) flavor_is
 
-  pub both_held : AreFlavorObjects machine (inputs_of_both machine arranged own taken) objects
+  pub both_held : AreProgramObjects machine OfMember (inputs_of_both machine arranged own taken) objects
   both_held = record {
     distinct = both_distinct machine libraries arranged is.order archive wanted;
-    null_from = one_input.0;
-    null_held = among_contains one_input.0 inputs one_there;
-    null_flavor = flavor_is;
-    before = is.before;
-    behind = is.behind;
-    members = is.members;
-    tables = is.tables ∙ null_tables machine (msvc_among libraries) archive.msvc is.before is.behind (names_for Msvc one_input.0.input.definition) one_library.0 one_library.1 null_read;
-    others = others_claim_none;
+    ended = record {
+      null_from = one_input.0;
+      null_held = among_contains one_input.0 inputs one_there;
+      null_flavor = flavor_is;
+      before = is.before;
+      behind = is.behind;
+      members = is.members;
+      tables = is.tables ∙ null_tables machine (msvc_among libraries) archive.msvc is.before is.behind (names_for Msvc one_input.0.input.definition) one_library.0 one_library.1 null_read;
+    };
+    others = others_claim_none (expanded_in machine) (archive_of_both libraries) (is_weak_in machine) taken each_first own others (null_descriptor_symbol ∷ symbols_listed (all_members machine inputs)) is.claims is.others listed_name;
     found = both_found machine libraries arranged is.order archive wanted;
   }
 
   -- placed at bases
-  module _ (bases : Bases) (program : IsFlavorProgram machine bases (inputs_of_both machine arranged own taken) objects) where
-    links : FlavorsLink machine bases (inputs_of_both machine arranged own taken) objects
-    links = flavors_link machine bases inputs objects inputs_are_made program
+  module _ (bases : Bases) (program : IsProgramOf machine OfMember bases (inputs_of_both machine arranged own taken) objects) where
+    links : ProgramLinks machine OfMember bases (inputs_of_both machine arranged own taken) objects
+    links = program_links machine OfMember bases inputs objects inputs_are_made program
 
     -- each import is used
 
@@ -329,34 +272,10 @@ module _ (machine : MachineType) (libraries : List FlavorLibrary) (archive : IsF
 
     -- A name that is wanted and listed.
 
-    still_named : (name : List ℕ) → Among name wanted → Among name (unresolved own ++ left_in machine taken)
-    unfolding left_as
-    still_named name want =
-        elim (among_either name (unresolved own) (flat_map undefined_in weak_objects) want) [
-          | inl given ↦ among_front name (unresolved own) (flat_map undefined_in (objects_taken machine taken)) given
-          | inr left ↦
-              let by = name_as (expanded_in machine) undefined_in name (weak_in machine taken) left in
-              among_back name (unresolved own) (flat_map undefined_in (objects_taken machine taken))
-              (as_name (expanded_in machine) undefined_in name taken by.member by.object (passing (is_weak_in machine) by.member taken by.held).0 by.taken by.among)
-        ]
-
     -- the first member that is listed for it is taken
-    reached : (name : List ℕ) (m : MemberView) → Among name wanted → first_listed (archive_of_both libraries) name ≡ Some m → Among m taken
-    unfolding claimed_as
-    reached name m want at =
-        elim (cases_Bool (list_any (is_listed_for name) taken)) [
-          | inl some ↦
-              let t = any_member name taken some in
-              subst (λ x. Among x taken) (same_first t.0 m (first_listed (archive_of_both libraries) name) ((each_first t.0 t.1).first name t.2) at) t.1
-          | inr none ↦ absurd (takes.ended name m (record {
-            named = among_contains name (unresolved own ++ left_in machine taken) (still_named name want);
-            undefined = not_there name (flat_map claimed_names (objects_taken machine taken)) (λ claimed.
-                let by = claimed_listed name taken (λ y held. held) claimed in
-                none_listed name by.0 taken none by.1 by.2);
-            listed = at;
-            new = λ has. none_listed name m taken none (contains_among m taken has) (listed_is (archive_of_both libraries) name m at).1;
-          }))
-        ]
+    taken_for : (name : List ℕ) (m : MemberView) → Among name wanted → first_listed (archive_of_both libraries) name ≡ Some m → Among m taken
+    taken_for name m want at =
+        reached (expanded_in machine) (archive_of_both libraries) (is_weak_in machine) taken each_first (unresolved own) takes name m at (still_named (expanded_in machine) (archive_of_both libraries) (is_weak_in machine) taken each_first (unresolved own) name want)
 
     abbrev AtEntry : ℕ → ℕ → List ℕ → Type 0
     AtEntry i j name =
@@ -389,7 +308,7 @@ module _ (machine : MachineType) (libraries : List FlavorLibrary) (archive : IsF
           export = e;
           export_is = j.1;
           by = elim (by_symbol e name listed) [
-            | inl same ↦ inl (same, subst (AtEntry i.0 j.0) (sym same) (entry_of machine bases inputs objects i.0 j.0 p e links i.1 j.1))
+            | inl same ↦ inl (same, subst (AtEntry i.0 j.0) (sym same) (entry_of machine OfMember bases inputs objects i.0 j.0 p e links i.1 j.1))
             | inr bare ↦ inr (bare.0, bare.1, defined_once name (short_of machine l e) member listed)
           ];
         }
@@ -419,7 +338,7 @@ module _ (machine : MachineType) (libraries : List FlavorLibrary) (archive : IsF
           export = e;
           export_is = j.1;
           by = elim (by_gnu_symbol e name listed) [
-            | inl same ↦ inl (same, subst (AtEntry i.0 j.0) (sym same) (entry_of machine bases inputs objects i.0 j.0 p e links i.1 j.1))
+            | inl same ↦ inl (same, subst (AtEntry i.0 j.0) (sym same) (entry_of machine OfMember bases inputs objects i.0 j.0 p e links i.1 j.1))
             | inr bare ↦ inr (bare.0, bare.1, defined_once name (export_of machine l n e) member own_listed)
           ];
         }
@@ -432,7 +351,7 @@ module _ (machine : MachineType) (libraries : List FlavorLibrary) (archive : IsF
         Resolved name
     of_weak name weak m x want at is_weak_one same listed named = inr (
       m,
-      among_contains m (weak_in machine taken) (passes (is_weak_in machine) m taken (reached name m want at) is_weak_one),
+      among_contains m (weak_in machine taken) (passes (is_weak_in machine) m taken (taken_for name m want at) is_weak_one),
       ap (λ (y : MemberView). y.symbols) same ∙ listed ∙ ap (λ n. n ∷ []) (sym named),
     )
 
@@ -464,74 +383,10 @@ module _ (machine : MachineType) (libraries : List FlavorLibrary) (archive : IsF
         let at = first_of name (archive_of_both libraries) (contains_among name (listed_in (archive_of_both libraries)) listed) in
         resolved_by name at.0 (contains_among name wanted want) at.1 (found_in_both machine libraries archive name at.0 at.1)
 
-    -- Each object of the program is given, or what a member that is taken is taken for; and the other way round.
-
-    abbrev sources : List Object
-    sources = own ++ objects_taken machine taken
-
-    same_names : (f : Object → List (List ℕ)) (name : List ℕ) (members : List MemberView) → ((m : MemberView) → Among m members → Among m taken) → Among name (flat_map f (objects_taken machine members)) →
-        Among name (flat_map f (objects_taken machine taken))
-    same_names f name members there named =
-        let by = name_as (expanded_in machine) f name members named in
-        as_name (expanded_in machine) f name taken by.member by.object (there by.member by.held) by.taken by.among
-
-    from_sources : (f : Object → List (List ℕ)) (name : List ℕ) → Among name (flat_map f objects) → Among name (flat_map f sources)
-    from_sources f name named =
-        let by = among_flat_map f name objects named in
-        subst (Among name) (sym (flat_map-append f own (objects_taken machine taken)))
-        (elim (cases_Bool (has_tables by.0)) [
-          | inl tables ↦ among_back name (flat_map f own) (flat_map f (objects_taken machine taken)) (
-              let kept : Among by.0 (objects_taken machine linked) = subst (Among by.0) is.tables (passes has_tables by.0 objects by.1 tables) in
-              same_names f name linked (λ m there. (passing (λ x. not (is_weak_in machine x)) m taken (linked_other m there)).0) (among_flat f by.0 (objects_taken machine linked) name kept by.2))
-          | inr plain ↦ (
-              let kept : Among by.0 others = passes (λ o. not (has_tables o)) by.0 objects by.1 (to_not (has_tables by.0) plain) in
-              elim (among_either by.0 own weak_objects (contains_among by.0 (own ++ weak_objects) ((is.others by.0).0 (among_contains by.0 others kept)))) [
-                | inl given ↦ among_front name (flat_map f own) (flat_map f (objects_taken machine taken)) (among_flat f by.0 own name given by.2)
-                | inr weak ↦ among_back name (flat_map f own) (flat_map f (objects_taken machine taken))
-                    (same_names f name (weak_in machine taken) (λ m there. (passing (is_weak_in machine) m taken there).0) (among_flat f by.0 weak_objects name weak by.2))
-              ])
-        ])
-
-    other_held : (o : Object) → Among o others → Among o objects
-    other_held o there = (passing (λ x. not (has_tables x)) o objects there).0
-
-    member_object : (f : Object → List (List ℕ)) (name : List ℕ) (m : MemberView) (o : Object) → Among m taken → expanded_in machine m.bytes ≡ Some o → Among name (f o) → Among name (flat_map f objects)
-    member_object f name m o there read named =
-        elim (cases_Bool (is_weak_in machine m)) [
-          | inl weak ↦
-              let x = among_flat_map f name weak_objects (as_name (expanded_in machine) f name (weak_in machine taken) m o (passes (is_weak_in machine) m taken there weak) read named) in
-              among_flat f x.0 objects name
-              (other_held x.0 (contains_among x.0 others ((is.others x.0).1 (among_contains x.0 (own ++ weak_objects) (among_back x.0 own weak_objects x.1))))) x.2
-          | inr plain ↦
-              let all : Among m linked = other_linked m (passes (λ x. not (is_weak_in machine x)) m taken there (to_not (is_weak_in machine m) plain)) in
-              let x = among_flat_map f name (objects_taken machine linked) (as_name (expanded_in machine) f name linked m o all read named) in
-              among_flat f x.0 objects name (passing has_tables x.0 objects (subst (Among x.0) (sym is.tables) x.1)).0 x.2
-        ]
-
-    into_objects : (f : Object → List (List ℕ)) (name : List ℕ) → Among name (flat_map f sources) → Among name (flat_map f objects)
-    into_objects f name named =
-        elim (among_either name (flat_map f own) (flat_map f (objects_taken machine taken)) (subst (Among name) (flat_map-append f own (objects_taken machine taken)) named)) [
-          | inl given ↦
-              let by = among_flat_map f name own given in
-              among_flat f by.0 objects name
-              (other_held by.0 (contains_among by.0 others ((is.others by.0).1 (among_contains by.0 (own ++ weak_objects) (among_front by.0 own weak_objects by.1))))) by.2
-          | inr member ↦
-              let by = name_as (expanded_in machine) f name taken member in
-              member_object f name by.member by.object by.held by.taken by.among
-        ]
-
     closed : (name : List ℕ) → Contains (unresolved objects) name → Contains (listed_in (archive_of_both libraries)) name → ⊥
-    closed name left listed =
-        let parts = unresolved_parts objects name (contains_among name (unresolved objects) left) in
-        let at = first_of name (archive_of_both libraries) (contains_among name (listed_in (archive_of_both libraries)) listed) in
-        let none : Among name (flat_map claimed_names sources) → ⊥ = λ claimed. parts.1 (into_objects claimed_names name claimed) in
-        is.takes.ended name at.0 (record {
-          named = among_contains name (unresolved sources) (unresolved_from sources name (from_sources undefined_in name parts.0) none);
-          listed = at.1;
-          new = λ has. none (subst (Among name) (sym (flat_map-append claimed_names own (objects_taken machine taken)))
-              (among_back name (flat_map claimed_names own) (flat_map claimed_names (objects_taken machine taken))
-              (listed_claimed name at.0 (contains_among at.0 taken has) (listed_is (archive_of_both libraries) name at.0 at.1).1)));
-        })
+    closed =
+        none_left (expanded_in machine) (archive_of_both libraries) (is_weak_in machine) taken each_first own objects linked is.others (λ o held. inl (subst (Among o) is.tables held)) (λ o held. subst (Among o) (sym is.tables) held)
+        linked_other other_linked is.takes
 
     pub both_links : LinksClosedForBoth machine libraries own taken arranged bases objects
     both_links = record { taken_is = taken_is; program = program; links = links; used = used; resolved = resolved; closed = closed }
@@ -554,6 +409,6 @@ pub packed_both : (machine : MachineType) (libraries : List FlavorLibrary) (own 
 packed_both machine libraries own taken arranged first objects archive closed above below =
     let inputs : List FlavorInput = inputs_of_both machine arranged own taken in
     let made : AllByRecursion (IsMadeFor machine) inputs = both_made machine libraries arranged closed.order archive (wanted_for machine own taken) in
-    let program : IsFlavorProgram machine (packed first objects) inputs objects =
-    packed_flavors machine first inputs objects made (both_held machine libraries archive own taken arranged objects closed) above below in
+    let program : IsProgramOf machine OfMember (packed first objects) inputs objects =
+    packed_objects machine OfMember first inputs objects made (both_held machine libraries archive own taken arranged objects closed) above below in
     record { closed = closed; admissible = program.admissible; lookups = program.lookups; addresses = program.addresses; follows = program.follows }

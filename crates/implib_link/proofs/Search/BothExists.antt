@@ -13,7 +13,7 @@ use Rattle.implib.specs.Members.MemberSpec.{MemberView}
 use Rattle.implib.proofs.Link.Placement.{at_least, export, head, tail}
 use Rattle.implib.proofs.Link.Ranges.{Among}
 use Rattle.implib_link.specs.Flavors.Expansion.{expanded_in}
-use Rattle.implib_link.specs.Flavors.Program.{AreFlavorObjects, FlavorInput, IsMadeFor, all_members, objects_taken}
+use Rattle.implib_link.specs.Flavors.Program.{OfMember, FlavorInput, IsMadeFor, all_members, objects_taken, AreProgramObjects}
 use Rattle.implib_link.specs.Gnu.Packed.{packed, packed_descriptors, packed_end}
 use Rattle.implib_link.specs.Gnu.Program.{has_tables}
 use Rattle.implib_link.specs.Search.Archives.{Library, exports_of}
@@ -36,11 +36,11 @@ use Rattle.implib_link.proofs.Search.BothClosed.{both_held, closed_links_of_both
 use Rattle.implib_link.proofs.Search.BothGiven.{both_given_closes, both_given_ends}
 use Rattle.implib_link.proofs.Search.BothMembers.{FoundInBoth, found_in_both, gnu_export_is, gnu_head_is, gnu_made, gnu_tail_is, gnu_weak_is}
 use Rattle.implib_link.proofs.Search.BothRooms.{both_tables_near}
-use Rattle.implib_link.proofs.Search.Closed.{passing, in_turn_for, pulled}
+use Rattle.implib_link.proofs.Search.Closing.{each_read, tables_read, pulled, in_turn_for}
+use Rattle.implib_link.proofs.Search.Lists.{passing, among_either}
 use Rattle.implib_link.proofs.Search.Exists.{NoneHave, others_first, tables_last, within_by}
-use Rattle.implib_link.proofs.Search.Lists.{among_either}
 use Rattle.implib_link.proofs.Search.MsvcArchives.{linked_of, there_linked, weak_by}
-use Rattle.implib_link.proofs.Search.MsvcExists.{each_taken, first_has, linked_has, none_of, same_object, weak_has_none}
+use Rattle.implib_link.proofs.Search.MsvcExists.{first_has, linked_has, none_of, weak_has_none}
 use Rattle.implib_link.proofs.Search.MsvcMembers.{taken_weak}
 use Rattle.implib_link.proofs.Search.Search.{AnExport, Needed, TheHead, TheTail, needed_if_linked, numbers_are_wanted}
 
@@ -53,7 +53,7 @@ module _ (machine : MachineType) (libraries : List FlavorLibrary) (own : List Ob
   made : AllByRecursion (IsMadeFor machine) inputs
   made = both_made machine libraries arranged closed.order archive (wanted_for machine own taken)
 
-  are : AreFlavorObjects machine (inputs_of_both machine arranged own taken) objects
+  are : AreProgramObjects machine OfMember (inputs_of_both machine arranged own taken) objects
   are = both_held machine libraries archive own taken arranged objects closed
 
   near : packed_end first objects ≤ tables_end_of_both first libraries
@@ -68,7 +68,7 @@ module _ (machine : MachineType) (libraries : List FlavorLibrary) (own : List Ob
   placed_within room =
       within_by first (packed_descriptors first) (packed_end first objects) (tables_end_of_both first libraries) (image_of machine (packed first objects) (placed_from (packed first objects) objects))
       (at_least 8 first) near
-      (lies_within machine first objects (kept_sized machine inputs objects made are) above (let end = near in omega arith))
+      (lies_within machine first objects (kept_sized machine OfMember inputs objects made are.ended) above (let end = near in omega arith))
 
 -- What members are taken for holds import tables, but for weak externals.
 module _ (machine : MachineType) (libraries : List FlavorLibrary) (archive : IsFlavorArchive machine libraries) where
@@ -82,17 +82,17 @@ module _ (machine : MachineType) (libraries : List FlavorLibrary) (archive : IsF
       absurd (true≢false (sym weak ∙ weak_by machine m (export_of machine l n e) (export machine (names_for Gnu l.definition) e) false same (gnu_export_is machine l (gnu_made machine libraries archive l held) n e is)
       (export_entries machine (names_for Gnu l.definition) e)))
   none_of_both by m o weak (inl (FoundDataWeak l held n e is alias is_data same named)) read =
-      same_object machine false m (data_weak_of machine l n e) o (taken_weak machine e.name e.alias_target) same (gnu_weak_is machine l (gnu_made machine libraries archive l held) n e is alias) read
+      tables_read (expanded_in machine) false m (data_weak_of machine l n e) o (taken_weak machine e.name e.alias_target) same (gnu_weak_is machine l (gnu_made machine libraries archive l held) n e is alias) read
       (weak_has_none machine e.name e.alias_target)
 
   gnu_has : (l : Library) → Among l (gnu_among libraries) → (names : List (List ℕ)) (m : MemberView) (o : Object) → Needed machine (names_for Gnu l.definition) (exports_of l) names m →
       expanded_in machine m.bytes ≡ Some o → has_tables o ≡ true
   gnu_has l held names m o (TheTail same any) read =
-      same_object machine true m (tail_of machine l) o (tail machine (names_for Gnu l.definition)) same (gnu_tail_is machine l (gnu_made machine libraries archive l held)) read (tail_has machine (names_for Gnu l.definition))
+      tables_read (expanded_in machine) true m (tail_of machine l) o (tail machine (names_for Gnu l.definition)) same (gnu_tail_is machine l (gnu_made machine libraries archive l held)) read (tail_has machine (names_for Gnu l.definition))
   gnu_has l held names m o (TheHead same any) read =
-      same_object machine true m (head_of machine l) o (head machine (names_for Gnu l.definition)) same (gnu_head_is machine l (gnu_made machine libraries archive l held)) read (head_has machine (names_for Gnu l.definition))
+      tables_read (expanded_in machine) true m (head_of machine l) o (head machine (names_for Gnu l.definition)) same (gnu_head_is machine l (gnu_made machine libraries archive l held)) read (head_has machine (names_for Gnu l.definition))
   gnu_has l held names m o (AnExport x want) read =
-      same_object machine true m (export_of machine l x.number x.export) o (export machine (names_for Gnu l.definition) x.export) x.same
+      tables_read (expanded_in machine) true m (export_of machine l x.number x.export) o (export machine (names_for Gnu l.definition) x.export) x.same
       (gnu_export_is machine l (gnu_made machine libraries archive l held) x.number x.export x.is) read (export_has machine (names_for Gnu l.definition) x.export)
 
   module _ (own : List Object) (plain : NoneHave own) (taken : List MemberView) (takes : TakesIntoFor machine (archive_of_both libraries) own taken) where
@@ -109,13 +109,13 @@ module _ (machine : MachineType) (libraries : List FlavorLibrary) (archive : IsF
     tables = objects_taken machine (first_null machine (msvc_among libraries) ++ members)
 
     weak_none : NoneHave weak
-    weak_none = each_taken machine (λ o. has_tables o ≡ false) (weak_in machine taken) (λ m o there read.
+    weak_none = each_read (expanded_in machine) (λ o. has_tables o ≡ false) (weak_in machine taken) (λ m o there read.
         let kept = passing (is_weak_in machine) m taken there in
         let by = pulled (expanded_in machine) (archive_of_both libraries) (unresolved own) taken turn m kept.0 in
         none_of_both by.0 m o kept.1 (found_in_both machine libraries archive by.0 m by.1) read)
 
     all_have : AllByRecursion (λ o. has_tables o ≡ true) tables
-    all_have = each_taken machine (λ o. has_tables o ≡ true) (first_null machine (msvc_among libraries) ++ members) (λ m o there read.
+    all_have = each_read (expanded_in machine) (λ o. has_tables o ≡ true) (first_null machine (msvc_among libraries) ++ members) (λ m o there read.
         elim (among_either m (first_null machine (msvc_among libraries)) members there) [
           | inl null ↦ first_has machine (msvc_among libraries) archive.msvc (msvc_among libraries) refl m o null read
           | inr member ↦ elim (members_of_each machine libraries (wanted_for machine own taken) m member) [

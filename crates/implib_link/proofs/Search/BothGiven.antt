@@ -1,5 +1,5 @@
 -- What a linker takes of an archive of both flavours for objects that may be given closes a program.
-use Rattle.std.proofs.Common.{◌≡◌, ℕ, ◌<◌, ◌⊎◌, true, false, List, [], ◌∷◌, ◌++◌, length, Some, refl, ap, sym, ◌∙◌, subst, inl, inr}
+use Rattle.std.proofs.Common.{◌≡◌, ℕ, ◌<◌, ◌⊎◌, true, false, List, [], ◌∷◌, ◌++◌, length, Some, refl, sym, ◌∙◌, subst, inl, inr}
 use Rattle.std.specs.Prelude.{IsPermutation, bytes_eq, map, not, slice_get}
 use Rattle.std.specs.List.{AllByRecursion, filter, flat_map, list_any}
 use Rattle.std.proofs.lemmas.Bool.{true≢false}
@@ -19,7 +19,7 @@ use Rattle.implib.proofs.Link.Placement.{export, head, tail}
 use Rattle.implib.proofs.Link.Ranges.{Among, all_among, among_back, among_first, among_flat, among_front, among_later}
 use Rattle.implib_link.specs.Flavors.Expansion.{descriptor_symbol_by_name, expanded_in}
 use Rattle.implib_link.specs.Flavors.Program.{all_members, ask_in, objects_taken}
-use Rattle.implib_link.specs.Gnu.Program.{ClaimsNone, claimed_names, has_tables}
+use Rattle.implib_link.specs.Gnu.Program.{ClaimsNone, claimed_names, has_tables, HaveSame}
 use Rattle.implib_link.specs.Search.Archives.{Library, exports_of}
 use Rattle.implib_link.specs.Search.BothFlavors.{AreClosedForBoth, AreGivenForBoth, FlavorLibrary, IsFlavorArchive, NamesNoMembers, archive_of_both, gnu_among, headers_of_both, inputs_of_both, kept_of_both, msvc_among, targets_of_both, wanted_of_both}
 use Rattle.implib_link.specs.Search.Closed.{listed_in, unresolved}
@@ -28,16 +28,15 @@ use Rattle.implib_link.specs.Search.Msvc.{AreTakenInTurn, NamesNoHeader, left_in
 use Rattle.implib_link.specs.Search.MsvcArchives.{first_null, is_import_wanted, is_short_alias, is_weak_in, short_inputs, weak_in}
 use Rattle.implib_link.specs.Search.MsvcClosed.{TakesIntoFor, wanted_for}
 use Rattle.implib_link.specs.Search.MsvcGiven.{headers_of, import_symbols_wanted, short_targets}
-use Rattle.implib_link.specs.Search.Search.{HaveSame, NamesNoHeadOrTail, is_wanted, undefined_in, left_as}
+use Rattle.implib_link.specs.Search.Search.{NamesNoHeadOrTail, is_wanted, undefined_in, left_as}
 use Rattle.implib_link.proofs.Flavors.Block.{asking, use_for}
 use Rattle.implib_link.proofs.Flavors.Expanded.{taken_descriptor, taken_null, taken_null_thunk}
 use Rattle.implib_link.proofs.Search.ArchiveGroups.{export_of, head_of, tail_of, weak_of as data_weak_of}
 use Rattle.implib_link.proofs.Search.ArchiveMembers.{FoundExport, FoundHead, FoundTail, FoundWeak as FoundDataWeak, export_entries}
-use Rattle.implib_link.proofs.Search.Arranged.{all_each}
+use Rattle.implib_link.proofs.Search.Lists.{all_from as all_each, passes, passing, among_at, among_either, name_as}
 use Rattle.implib_link.proofs.Search.BothArchives.{ForAlias, ForDataAlias, ForExport, ForImport, ForNull, IsNeededOf, by_name, head_has_none, needed, tail_has_none}
 use Rattle.implib_link.proofs.Search.BothMembers.{FoundInBoth, first_held, found_in_both, gnu_export_is, gnu_head_is, gnu_made, gnu_tail_is, gnu_weak_is, msvc_made}
-use Rattle.implib_link.proofs.Search.Closed.{claims_apart, claims_none, not_there, passes, passing, there_not, unresolved_parts, in_turn_for, pulled, takes_into}
-use Rattle.implib_link.proofs.Search.Lists.{among_at, among_either, among_flat_map, name_as}
+use Rattle.implib_link.proofs.Search.Closing.{names_read, none_claimed, pulled, takes_into, in_turn_for, claims_apart, there_not, not_there}
 use Rattle.implib_link.proofs.Search.Msvc.{left_asking, left_descriptor, left_null, left_thunk}
 use Rattle.implib_link.proofs.Search.MsvcArchives.{AShort, TheDescriptor, TheThunk, both_parts, descriptor_plain, import_parts, null_plain, short_plain, thunk_plain, weak_by}
 use Rattle.implib_link.proofs.Search.MsvcClosed.{first_one}
@@ -146,13 +145,6 @@ module _ (machine : MachineType) (libraries : List FlavorLibrary) (archive : IsF
       (among_flat (λ (x : Library). map (λ (y : ExportView). y.alias_target) (filter is_data_alias (exports_of x))) l (gnu_among libraries) e.alias_target held
       (among_map (λ (x : ExportView). x.alias_target) e (filter is_data_alias (exports_of l)) (passes is_data_alias e (exports_of l) (among_at e (exports_of l) n at) one)))
 
-  -- names of what a member is taken for
-  names_of : (names : List (List ℕ)) (name : List ℕ) (m x : MemberView) (o one : Object) → m ≡ x → expanded_in machine x.bytes ≡ Some one → expanded_in machine m.bytes ≡ Some o →
-      undefined_in one ≡ names → Among name (undefined_in o) → Among name names
-  names_of names name m x o one same read is are held =
-      let objects : o ≡ one = (let e : Some o ≡ Some one = sym is ∙ ap (λ (y : MemberView). expanded_in machine y.bytes) same ∙ read in cc) in
-      subst (Among name) are (subst (λ t. Among name (undefined_in t)) objects held)
-
   not_weak : (m : MemberView) (name : List ℕ) → is_weak_in machine m ≡ true → is_weak_in machine m ≡ false → Among name (targets_of_both libraries)
   not_weak m name weak plain = absurd (true≢false (sym weak ∙ plain))
 
@@ -168,7 +160,7 @@ module _ (machine : MachineType) (libraries : List FlavorLibrary) (archive : IsF
       (export_entries machine (names_for Gnu l.definition) e))
   weak_left by name m o weak (inl (FoundDataWeak l held n e at alias is_data same named)) read left =
       subst (λ x. Among x (targets_of_both libraries))
-      (sym (only_one name e.alias_target (names_of (e.alias_target ∷ []) name m (data_weak_of machine l n e) o (taken_weak machine e.name e.alias_target) same
+      (sym (only_one name e.alias_target (names_read (expanded_in machine) undefined_in (e.alias_target ∷ []) name m (data_weak_of machine l n e) o (taken_weak machine e.name e.alias_target) same
       (gnu_weak_is machine l (gnu_made machine libraries archive l held) n e at alias) read (left_weak machine e.name e.alias_target) left)))
       (data_target l n e held at alias is_data)
   weak_left by name m o weak (inr (FoundDescriptor l held same is)) read left = not_weak m name weak (descriptor_plain machine m l (msvc_made machine libraries archive l held) same)
@@ -178,7 +170,7 @@ module _ (machine : MachineType) (libraries : List FlavorLibrary) (archive : IsF
   weak_left by name m o weak (inr (FoundShort l held e there none same listed)) read left = not_weak m name weak (short_plain machine m l (msvc_made machine libraries archive l held) e there same)
   weak_left by name m o weak_one (inr (FoundShortWeak l held e there alias weak target pair same named)) read left =
       subst (λ x. Among x (targets_of_both libraries))
-      (sym (only_one name target (names_of (target ∷ []) name m (short_weak_of machine l weak target) o (taken_weak machine weak target) same
+      (sym (only_one name target (names_read (expanded_in machine) undefined_in (target ∷ []) name m (short_weak_of machine l weak target) o (taken_weak machine weak target) same
       (weak_is machine l (msvc_made machine libraries archive l held) e weak target there alias pair) read (left_weak machine weak target) left)))
       (short_target l e weak target held there alias pair)
 
@@ -265,35 +257,35 @@ module _ (machine : MachineType) (libraries : List FlavorLibrary) (archive : IsF
 
     left_kept : (m : MemberView) (o : Object) (name : List ℕ) → IsNeededOf machine libraries archive wanted m → expanded_in machine m.bytes ≡ Some o → Among name (undefined_in o) → Among name kept
     left_kept m o name (ForImport l held (TheDescriptor same any)) read left =
-        left_two l held name (names_of (null_descriptor_symbol ∷ null_thunk_symbol (linked_dll l.definition) ∷ []) name m (descriptor_of machine l) o (taken_descriptor machine (names_for Msvc l.definition)) same
+        left_two l held name (names_read (expanded_in machine) undefined_in (null_descriptor_symbol ∷ null_thunk_symbol (linked_dll l.definition) ∷ []) name m (descriptor_of machine l) o (taken_descriptor machine (names_for Msvc l.definition)) same
         (descriptor_is machine l (msvc_made machine libraries archive l held)) read (left_descriptor machine (names_for Msvc l.definition)) left)
     left_kept m o name (ForImport l held (TheThunk same any)) read left =
-        absurd (in_nothing name (names_of [] name m (thunk_of machine l) o (taken_null_thunk machine (names_for Msvc l.definition)) same (thunk_is machine l (msvc_made machine libraries archive l held)) read
+        absurd (in_nothing name (names_read (expanded_in machine) undefined_in [] name m (thunk_of machine l) o (taken_null_thunk machine (names_for Msvc l.definition)) same (thunk_is machine l (msvc_made machine libraries archive l held)) read
         (left_thunk machine (names_for Msvc l.definition)) left))
     left_kept m o name (ForImport l held (AShort e there same want)) read left =
         left_one name (descriptor_symbol_by_name l.definition.import_name)
-        (names_of (descriptor_symbol_by_name l.definition.import_name ∷ []) name m (short_of machine l e) o (asking machine (names_for Msvc l.definition) e) same
+        (names_read (expanded_in machine) undefined_in (descriptor_symbol_by_name l.definition.import_name ∷ []) name m (short_of machine l e) o (asking machine (names_for Msvc l.definition) e) same
         (short_is machine l (msvc_made machine libraries archive l held) e there) read (left_asking machine (names_for Msvc l.definition) (short_import_symbol e) (ask_in Msvc machine e) (use_for e)) left)
         (subst (λ n. Among n kept) (sym (by_name machine libraries archive l held)) (descriptor_kept l held))
     left_kept m o name (ForNull l rest first same x held any) read left =
-        absurd (in_nothing name (names_of [] name m (null_of machine l) o (taken_null machine) same (null_is machine l (msvc_made machine libraries archive l (first_held machine libraries archive l rest first))) read
+        absurd (in_nothing name (names_read (expanded_in machine) undefined_in [] name m (null_of machine l) o (taken_null machine) same (null_is machine l (msvc_made machine libraries archive l (first_held machine libraries archive l rest first))) read
         (left_null machine) left))
     left_kept m o name (ForAlias l held e there alias weak target pair same named) read left =
-        left_one name target (names_of (target ∷ []) name m (short_weak_of machine l weak target) o (taken_weak machine weak target) same
+        left_one name target (names_read (expanded_in machine) undefined_in (target ∷ []) name m (short_weak_of machine l weak target) o (taken_weak machine weak target) same
         (weak_is machine l (msvc_made machine libraries archive l held) e weak target there alias pair) read (left_weak machine weak target) left)
         (target_kept target (short_target l e weak target held there alias pair))
     left_kept m o name (ForExport l held (TheTail same any)) read left =
-        absurd (in_nothing name (names_of [] name m (tail_of machine l) o (tail machine (names_for Gnu l.definition)) same (gnu_tail_is machine l (gnu_made machine libraries archive l held)) read
+        absurd (in_nothing name (names_read (expanded_in machine) undefined_in [] name m (tail_of machine l) o (tail machine (names_for Gnu l.definition)) same (gnu_tail_is machine l (gnu_made machine libraries archive l held)) read
         (left_tail machine (names_for Gnu l.definition)) left))
     left_kept m o name (ForExport l held (TheHead same any)) read left =
-        left_one name (iname_symbol machine (linked_name l.definition)) (names_of (iname_symbol machine (linked_name l.definition) ∷ []) name m (head_of machine l) o (head machine (names_for Gnu l.definition)) same
+        left_one name (iname_symbol machine (linked_name l.definition)) (names_read (expanded_in machine) undefined_in (iname_symbol machine (linked_name l.definition) ∷ []) name m (head_of machine l) o (head machine (names_for Gnu l.definition)) same
         (gnu_head_is machine l (gnu_made machine libraries archive l held)) read (left_head machine (names_for Gnu l.definition)) left) (tail_kept l held)
     left_kept m o name (ForExport l held (AnExport x want)) read left =
-        left_one name (head_symbol machine (linked_name l.definition)) (names_of (head_symbol machine (linked_name l.definition) ∷ []) name m (export_of machine l x.number x.export) o
+        left_one name (head_symbol machine (linked_name l.definition)) (names_read (expanded_in machine) undefined_in (head_symbol machine (linked_name l.definition) ∷ []) name m (export_of machine l x.number x.export) o
         (export machine (names_for Gnu l.definition) x.export) x.same (gnu_export_is machine l (gnu_made machine libraries archive l held) x.number x.export x.is) read
         (left_export machine (names_for Gnu l.definition) x.export) left) (head_kept l held)
     left_kept m o name (ForDataAlias l held n e at alias is_data same named) read left =
-        left_one name e.alias_target (names_of (e.alias_target ∷ []) name m (data_weak_of machine l n e) o (taken_weak machine e.name e.alias_target) same
+        left_one name e.alias_target (names_read (expanded_in machine) undefined_in (e.alias_target ∷ []) name m (data_weak_of machine l n e) o (taken_weak machine e.name e.alias_target) same
         (gnu_weak_is machine l (gnu_made machine libraries archive l held) n e at alias) read (left_weak machine e.name e.alias_target) left)
         (target_kept e.alias_target (data_target l n e held at alias is_data))
 
@@ -302,23 +294,11 @@ module _ (machine : MachineType) (libraries : List FlavorLibrary) (archive : IsF
         let from = name_as (expanded_in machine) undefined_in name taken left in
         left_kept from.member from.object name (needed_here from.member from.held) from.taken from.among
 
-    -- the objects claim nothing of it
-    none_kept : (name : List ℕ) → IsKept name → Among name (flat_map claimed_names own) → ⊥
-    none_kept name (inl held) claimed = claims_apart kept own given.claims name held claimed
-    none_kept name (inr left) claimed = (unresolved_parts own name left).1 claimed
-
     left_apart : (name : List ℕ) → Among name (flat_map undefined_in (objects_taken machine taken)) → Among name (flat_map claimed_names own) → ⊥
-    left_apart name left = none_kept name (inl (left_of name left))
+    left_apart name left = claims_apart kept own given.claims name (left_of name left)
 
     claims : AllByRecursion (ClaimsNone (listed_in taken ++ left_in machine taken)) own
-    unfolding left_as
-    claims =
-        all_each (ClaimsNone (listed_in taken ++ flat_map undefined_in (objects_taken machine taken))) own (λ o held.
-        claims_none (listed_in taken ++ flat_map undefined_in (objects_taken machine taken)) o (λ name is claimed.
-        none_kept name (elim (among_either name (listed_in taken) (flat_map undefined_in (objects_taken machine taken)) is) [
-          | inl listed ↦ let from = among_flat_map (λ (m : MemberView). m.symbols) name taken listed in listed_kept from.0 name (needed_here from.0 from.1) from.2
-          | inr left ↦ inl (left_of name left)
-        ]) (among_flat claimed_names o own name held claimed)))
+    claims = none_claimed (expanded_in machine) own taken kept given.claims (λ m name held. listed_kept m name (needed_here m held)) left_of
 
 pub both_given_ends : (machine : MachineType) (libraries : List FlavorLibrary) (own : List Object) → IsFlavorArchive machine libraries → AreGivenForBoth machine libraries own →
     (taken : List MemberView) × TakesIntoFor machine (archive_of_both libraries) own taken

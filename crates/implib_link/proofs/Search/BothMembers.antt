@@ -7,7 +7,6 @@ use Rattle.implib.specs.declared.flavor.Flavor.TheVariants.{Gnu, Msvc}
 use Rattle.implib.specs.declared.machine.MachineType.{MachineType}
 use Rattle.implib.specs.Definition.{ExportView}
 use Rattle.implib.specs.Formats.File.{file_in}
-use Rattle.implib.specs.Formats.Object.{Object}
 use Rattle.implib.specs.Import.{is_alias}
 use Rattle.implib.specs.LibraryName.{NamesOfDll, linked_name, names_for}
 use Rattle.implib.specs.Members.Gnu.{archive_symbols, head_symbol, iname_symbol, weak_name}
@@ -25,7 +24,6 @@ use Rattle.implib.proofs.Members.GnuReadings.{member_specs_read}
 use Rattle.implib.proofs.Members.MemberReadings.{ReadsBack}
 use Rattle.implib_link.specs.Flavors.Expansion.{expanded_in}
 use Rattle.implib_link.specs.Flavors.Program.{ask_in}
-use Rattle.implib_link.specs.Gnu.Program.{claimed_names}
 use Rattle.implib_link.specs.Search.Archives.{IsLibrary, Library, archive_of, exports_of, symbols_of_export, symbols_of_library}
 use Rattle.implib_link.specs.Search.BothFlavors.{FlavorLibrary, IsFlavorArchive, archive_of_both, gnu_among, if_gnu, if_msvc, msvc_among}
 use Rattle.implib_link.specs.Search.MsvcArchives.{IsMsvcLibrary, symbols_of_short, symbols_of_shorts}
@@ -37,7 +35,7 @@ use Rattle.implib_link.proofs.Flavors.Inputs.{export_plain, head_plain, object_t
 use Rattle.implib_link.proofs.Gnu.Claims.{claimed_export, claimed_head, claimed_tail}
 use Rattle.implib_link.proofs.Search.ArchiveGroups.{export_of, first_behind, first_here, found_or_not, head_of, tail_of, weak_of as data_weak_of}
 use Rattle.implib_link.proofs.Search.ArchiveMembers.{Found as GnuFound, FoundExport, FoundHead, FoundTail, FoundWeak as FoundDataWeak, alias_symbols, export_found, export_object_is, found as gnu_found, head_found, head_object_is, own_symbols, tail_found, tail_object_is, weak_found as data_weak_found, weak_object_is}
-use Rattle.implib_link.proofs.Search.Closed.{there_not}
+use Rattle.implib_link.proofs.Search.Closing.{IsFirstAs, is_first, there_not}
 use Rattle.implib_link.proofs.Search.Lists.{among_at}
 use Rattle.implib_link.proofs.Search.MsvcMembers.{Found as MsvcFound, FoundDescriptor, FoundNull, FoundShort, FoundThunk, FoundWeak as FoundShortWeak, claims_weak, descriptor_found, descriptor_is, descriptor_of, found as msvc_found, null_found, null_is, null_of, pair_symbol, short_found, short_is, short_of, short_symbol, taken_weak, thunk_found, thunk_is, thunk_of, weak_found as short_weak_found, weak_is, weak_of as short_weak_of}
 use Rattle.implib_link.proofs.Search.Search.{listed_export, listed_head, listed_tail, numbered_in, only_one}
@@ -247,21 +245,8 @@ module _ (machine : MachineType) (libraries : List FlavorLibrary) (archive : IsF
   pub first_held : (l : Library) (rest : List Library) → msvc_among libraries ≡ l ∷ rest → Among l (msvc_among libraries)
   first_held l rest is = subst (Among l) (sym is) (among_first l rest)
 
-  -- A member is taken for an object, claims what it is listed for, and is the first member that is listed for this.
-  pub record IsFirst (m : MemberView) : Type 0 where
-    pub object : Object
-    pub read : expanded_in machine m.bytes ≡ Some object
-    pub claims : claimed_names object ≡ m.symbols
-    pub first : (name : List ℕ) → Among name m.symbols → first_listed (archive_of_both libraries) name ≡ Some m
-
-  is_first : (m x : MemberView) (o : Object) (names : List (List ℕ)) → m ≡ x → expanded_in machine x.bytes ≡ Some o → claimed_names o ≡ names → x.symbols ≡ names →
-      ((name : List ℕ) → Among name names → first_listed (archive_of_both libraries) name ≡ Some x) → IsFirst m
-  is_first m x o names same read claims listed first = record {
-    object = o;
-    read = ap (λ (y : MemberView). expanded_in machine y.bytes) same ∙ read;
-    claims = claims ∙ sym listed ∙ ap (λ (y : MemberView). y.symbols) (sym same);
-    first = λ name held. first name (subst (Among name) listed (subst (λ (y : MemberView). Among name y.symbols) same held)) ∙ ap Some (sym same);
-  }
+  abbrev IsFirst : MemberView → Type 0
+  IsFirst = IsFirstAs (expanded_in machine) (archive_of_both libraries)
 
   -- the only name that a member is listed for finds it
   one_first : (n own : List ℕ) (x : MemberView) → Among n (own ∷ []) → first_listed (archive_of_both libraries) own ≡ Some x → first_listed (archive_of_both libraries) n ≡ Some x
@@ -270,18 +255,18 @@ module _ (machine : MachineType) (libraries : List FlavorLibrary) (archive : IsF
   gnu_is_first : (name : List ℕ) (m : MemberView) → GnuFound machine (gnu_among libraries) archive.gnu name m → IsFirst m
   gnu_is_first name m (FoundTail l held same is) =
       let dll : NamesOfDll = names_for Gnu l.definition in
-      is_first m (tail_of machine l) (tail machine dll) (iname_symbol machine dll.linked ∷ []) same (gnu_tail_is machine l (gnu_made l held)) (claimed_tail machine dll) (listed_tail machine dll)
+      is_first (expanded_in machine) (archive_of_both libraries) m (tail_of machine l) (tail machine dll) (iname_symbol machine dll.linked ∷ []) same (gnu_tail_is machine l (gnu_made l held)) (claimed_tail machine dll) (listed_tail machine dll)
       (λ n one. one_first n (iname_symbol machine dll.linked) (tail_of machine l) one (gnu_in_both (iname_symbol machine dll.linked) (tail_of machine l) (tail_found machine (gnu_among libraries) archive.gnu l held)))
   gnu_is_first name m (FoundHead l held same is) =
       let dll : NamesOfDll = names_for Gnu l.definition in
-      is_first m (head_of machine l) (head machine dll) (head_symbol machine dll.linked ∷ []) same (gnu_head_is machine l (gnu_made l held)) (claimed_head machine dll) (listed_head machine dll.linked)
+      is_first (expanded_in machine) (archive_of_both libraries) m (head_of machine l) (head machine dll) (head_symbol machine dll.linked ∷ []) same (gnu_head_is machine l (gnu_made l held)) (claimed_head machine dll) (listed_head machine dll.linked)
       (λ n one. one_first n (head_symbol machine dll.linked) (head_of machine l) one (gnu_in_both (head_symbol machine dll.linked) (head_of machine l) (head_found machine (gnu_among libraries) archive.gnu l held)))
   gnu_is_first name m (FoundExport l held n e is same listed) =
       let dll : NamesOfDll = names_for Gnu l.definition in
-      is_first m (export_of machine l n e) (export machine dll e) (archive_symbols e) same (gnu_export_is machine l (gnu_made l held) n e is) (claimed_export machine dll e) (listed_export machine dll.linked n e)
+      is_first (expanded_in machine) (archive_of_both libraries) m (export_of machine l n e) (export machine dll e) (archive_symbols e) same (gnu_export_is machine l (gnu_made l held) n e is) (claimed_export machine dll e) (listed_export machine dll.linked n e)
       (λ x one. gnu_in_both x (export_of machine l n e) (export_found machine (gnu_among libraries) archive.gnu l n e x held is one))
   gnu_is_first name m (FoundDataWeak l held n e is alias is_data same named) =
-      is_first m (data_weak_of machine l n e) (taken_weak machine e.name e.alias_target) (e.name ∷ []) same (gnu_weak_is machine l (gnu_made l held) n e is alias)
+      is_first (expanded_in machine) (archive_of_both libraries) m (data_weak_of machine l n e) (taken_weak machine e.name e.alias_target) (e.name ∷ []) same (gnu_weak_is machine l (gnu_made l held) n e is alias)
       (claims_weak machine e.name e.alias_target) refl
       (λ x one. one_first x e.name (data_weak_of machine l n e) one (gnu_in_both e.name (data_weak_of machine l n e) (data_weak_found machine (gnu_among libraries) archive.gnu l n e held is alias is_data)))
 
@@ -289,21 +274,21 @@ module _ (machine : MachineType) (libraries : List FlavorLibrary) (archive : IsF
   unfolding descriptor_spec null_descriptor_spec null_thunk_spec
   msvc_is_first name m (FoundDescriptor l held same is) =
       let dll : NamesOfDll = names_for Msvc l.definition in
-      is_first m (descriptor_of machine l) (taken_descriptor machine dll) (descriptor_symbol dll.linked ∷ []) same (descriptor_is machine l (msvc_made l held)) (claims_descriptor machine dll) refl
+      is_first (expanded_in machine) (archive_of_both libraries) m (descriptor_of machine l) (taken_descriptor machine dll) (descriptor_symbol dll.linked ∷ []) same (descriptor_is machine l (msvc_made l held)) (claims_descriptor machine dll) refl
       (λ n one. one_first n (descriptor_symbol dll.linked) (descriptor_of machine l) one (msvc_in_both (descriptor_symbol dll.linked) (descriptor_of machine l) (descriptor_found machine (msvc_among libraries) archive.msvc l held)))
   msvc_is_first name m (FoundNull l rest first same is) =
-      is_first m (null_of machine l) (taken_null machine) (null_descriptor_symbol ∷ []) same (null_is machine l (msvc_made l (first_held l rest first))) (claims_null machine) refl
+      is_first (expanded_in machine) (archive_of_both libraries) m (null_of machine l) (taken_null machine) (null_descriptor_symbol ∷ []) same (null_is machine l (msvc_made l (first_held l rest first))) (claims_null machine) refl
       (λ n one. one_first n null_descriptor_symbol (null_of machine l) one (msvc_in_both null_descriptor_symbol (null_of machine l) (null_found machine (msvc_among libraries) archive.msvc l rest first)))
   msvc_is_first name m (FoundThunk l held same is) =
       let dll : NamesOfDll = names_for Msvc l.definition in
-      is_first m (thunk_of machine l) (taken_null_thunk machine dll) (null_thunk_symbol dll.linked ∷ []) same (thunk_is machine l (msvc_made l held)) (claims_thunk machine dll) refl
+      is_first (expanded_in machine) (archive_of_both libraries) m (thunk_of machine l) (taken_null_thunk machine dll) (null_thunk_symbol dll.linked ∷ []) same (thunk_is machine l (msvc_made l held)) (claims_thunk machine dll) refl
       (λ n one. one_first n (null_thunk_symbol dll.linked) (thunk_of machine l) one (msvc_in_both (null_thunk_symbol dll.linked) (thunk_of machine l) (thunk_found machine (msvc_among libraries) archive.msvc l held)))
   msvc_is_first name m (FoundShort l held e there none same listed) =
-      is_first m (short_of machine l e) (asking machine (names_for Msvc l.definition) e) (short_import_symbols e) same (short_is machine l (msvc_made l held) e there)
+      is_first (expanded_in machine) (archive_of_both libraries) m (short_of machine l e) (asking machine (names_for Msvc l.definition) e) (short_import_symbols e) same (short_is machine l (msvc_made l held) e there)
       (claims_asking machine (names_for Msvc l.definition) (short_import_symbol e) (ask_in Msvc machine e) e.is_data e.constant) refl
       (λ x one. msvc_in_both x (short_of machine l e) (short_found machine (msvc_among libraries) archive.msvc l e x held there none one))
   msvc_is_first name m (FoundShortWeak l held e there alias weak target pair same named) =
-      is_first m (short_weak_of machine l weak target) (taken_weak machine weak target) (weak ∷ []) same (weak_is machine l (msvc_made l held) e weak target there alias pair)
+      is_first (expanded_in machine) (archive_of_both libraries) m (short_weak_of machine l weak target) (taken_weak machine weak target) (weak ∷ []) same (weak_is machine l (msvc_made l held) e weak target there alias pair)
       (claims_weak machine weak target) refl
       (λ x one. one_first x weak (short_weak_of machine l weak target) one (msvc_in_both weak (short_weak_of machine l weak target) (short_weak_found machine (msvc_among libraries) archive.msvc l e weak target held there alias pair)))
 

@@ -10,11 +10,11 @@ use Rattle.implib.specs.declared.machine.MachineType.{MachineType}
 use Rattle.implib.specs.Formats.Object.{Object}
 use Rattle.implib.specs.LibraryName.{names_for}
 use Rattle.implib.specs.Link.LinkedMembers.{chosen_exports}
-use Rattle.implib_link.specs.Flavors.Program.{AreFlavorObjects, FlavorInput, IsMadeFor}
+use Rattle.implib_link.specs.Flavors.Program.{OfMember, FlavorInput, IsMadeFor, AreProgramObjects, gnu_input}
 use Rattle.implib_link.specs.Gnu.Packed.{packed_end}
 use Rattle.implib_link.specs.Search.Archives.{Library, input_if_any}
 use Rattle.implib_link.specs.Search.BothExists.{room_in, room_of, tables_end_of_both}
-use Rattle.implib_link.specs.Search.BothFlavors.{FlavorLibrary, flavor_input, flavor_inputs, gnu_input}
+use Rattle.implib_link.specs.Search.BothFlavors.{FlavorLibrary, flavor_input, flavor_inputs}
 use Rattle.implib_link.specs.Search.Exists.{export_room, library_room}
 use Rattle.implib_link.specs.Search.Search.{exports_wanted}
 use Rattle.implib_link.proofs.Flavors.Blocks.{all_objects}
@@ -44,8 +44,8 @@ libraries_near machine (l ∷ libraries) names =
     (one_near machine names l.flavor l.library (flavor_inputs libraries names) (sum_by room_of libraries) (libraries_near machine libraries names))
 
 pub both_tables_near : (machine : MachineType) (first : ℕ) (libraries arranged : List FlavorLibrary) (names : List (List ℕ)) (objects : List Object) →
-    AllByRecursion (IsMadeFor machine) (flavor_inputs arranged names) → AreFlavorObjects machine (flavor_inputs arranged names) objects → IsPermutation libraries arranged →
+    AllByRecursion (IsMadeFor machine) (flavor_inputs arranged names) → AreProgramObjects machine OfMember (flavor_inputs arranged names) objects → IsPermutation libraries arranged →
     packed_end first objects ≤ tables_end_of_both first libraries
 both_tables_near machine first libraries arranged names objects made held order =
     subst (λ n. packed_end first objects ≤ first + 72 + n) (sum_by-IsPermutation room_of libraries arranged order)
-    (flavor_tables_near machine first (flavor_inputs arranged names) objects (sum_by room_of arranged) made held (libraries_near machine arranged names))
+    (flavor_tables_near machine first (flavor_inputs arranged names) objects (sum_by room_of arranged) made held.ended (libraries_near machine arranged names))

@@ -7,10 +7,11 @@ use Rattle.std.proofs.lemmas.Slice.Eq.{bytes_eq-Decides}
 use Rattle.implib.specs.Members.MemberSpec.{MemberView}
 use Rattle.implib.proofs.Link.LinkedMembers.{among_contains}
 use Rattle.implib.proofs.Link.Ranges.{Among}
-use Rattle.implib_link.specs.Search.Search.{AreTakenInTurnAs, PullsInAs, TakesAs, left_as, claimed_as}
+use Rattle.implib_link.specs.Search.Search.{AreTakenInTurnAs, first_listed, PullsInAs, TakesAs, left_as, claimed_as}
 use Rattle.implib_link.proofs.Search.ArchiveGroups.{first_is, found_or_not}
 use Rattle.implib.specs.Formats.Object.{Object}
 use Rattle.implib_link.proofs.Search.Lists.{contains_among}
+use Rattle.implib_link.proofs.Gnu.Choices.{same_text}
 
 -- Whether two members are the same.
 
@@ -19,9 +20,6 @@ same_names [] [] = true
 same_names [] (y ∷ ys) = false
 same_names (x ∷ xs) [] = false
 same_names (x ∷ xs) (y ∷ ys) = bytes_eq x y && same_names xs ys
-
-same_text : (text : List ℕ) → bytes_eq text text ≡ true
-same_text text = (bytes_eq-Decides text text).1 refl
 
 names_same : (xs ys : List (List ℕ)) → same_names xs ys ≡ true → xs ≡ ys
 unfolding same_names
@@ -124,83 +122,103 @@ fewer (m ∷ archive) taken t (inr held) new =
       ]
     ]
 
-module _ (reads : List ℕ → Option Object) (archive : List MemberView) (wanted : List (List ℕ)) where
-  -- an undefined name that pulls in a member, of these
+same_first : (m other : MemberView) → Some m ≡ Some other → m ≡ other
+same_first m other e = cc
+
+-- whether a name finds a member that is not taken
+pub first_new : (archive taken : List MemberView) (name : List ℕ) → ((m : MemberView) × (first_listed archive name ≡ Some m) × (Contains taken m → ⊥)) ⊎
+    ((m : MemberView) → first_listed archive name ≡ Some m → (Contains taken m → ⊥) → ⊥)
+first_new archive taken name =
+    elim (found_or_not name archive) [
+      | inl none ↦ inr (λ m listed new. (let found : None ≡ Some m = sym none ∙ listed in cc))
+      | inr found ↦ elim (cases_Bool (is_taken taken found.0)) [
+        | inl is ↦ inr (λ m listed new.
+            let same : m ≡ found.0 = same_first m found.0 (sym listed ∙ found.1) in
+            new (among_contains m taken (subst (λ x. Among x taken) (sym same) (taken_among taken found.0 is))))
+        | inr none ↦ inl (found.0, found.1, λ has. true≢false (sym (among_taken taken found.0 (contains_among found.0 taken has)) ∙ none))
+      ]
+    ]
+
+none_left : (n m : ℕ) → n < m → m ≤ 0 → ⊥
+none_left n m less most = omega arith
+
+less_left : (n m k : ℕ) → n < m → m ≤ suc k → n ≤ k
+less_left n m k less most = omega arith
+
+-- A search ends, whatever lets a name pull in a member: one of finitely many names does, and the member is not taken.
+module _ (archive : List MemberView) (Pulls : List MemberView → List ℕ → MemberView → Type 0) (Turn : List MemberView → Type 0) (names : List MemberView → List (List ℕ))
+    (more : (taken : List MemberView) (name : List ℕ) (m : MemberView) → Pulls taken name m → Turn taken → Turn (m ∷ taken))
+    (asks : (taken : List MemberView) (name : List ℕ) → Among name (names taken) → ((m : MemberView) × Pulls taken name m) ⊎ ((m : MemberView) → Pulls taken name m → ⊥))
+    (fresh : (taken : List MemberView) (name : List ℕ) (m : MemberView) → Pulls taken name m → (first_listed archive name ≡ Some m) × (Contains taken m → ⊥)) where
+  -- a name that pulls in a member, of these
   PulledIn : List MemberView → List (List ℕ) → Type 0
-  PulledIn taken names = (name : List ℕ) × (m : MemberView) × Among name names × PullsInAs reads archive wanted taken name m
+  PulledIn taken some = (name : List ℕ) × (m : MemberView) × Among name some × Pulls taken name m
 
   NonePullsIn : List MemberView → List (List ℕ) → Type 0
-  NonePullsIn taken names = (name : List ℕ) (m : MemberView) → Among name names → PullsInAs reads archive wanted taken name m → ⊥
+  NonePullsIn taken some = (name : List ℕ) (m : MemberView) → Among name some → Pulls taken name m → ⊥
 
-  same_first : (m other : MemberView) → Some m ≡ Some other → m ≡ other
-  same_first m other e = cc
-
-  one_asks : (taken : List MemberView) (name : List ℕ) → Contains (wanted ++ left_as reads taken) name →
-      ((m : MemberView) × PullsInAs reads archive wanted taken name m) ⊎ ((m : MemberView) → PullsInAs reads archive wanted taken name m → ⊥)
-  one_asks taken name named =
-      elim (cases_Bool (list_any (bytes_eq name) (claimed_as reads taken))) [
-        | inl claimed ↦ inr (λ m pulls. true≢false (sym claimed ∙ pulls.undefined))
-        | inr undefined ↦ elim (found_or_not name archive) [
-          | inl none ↦ inr (λ m pulls. (let found : None ≡ Some m = sym none ∙ pulls.listed in cc))
-          | inr found ↦ elim (cases_Bool (is_taken taken found.0)) [
-            | inl is ↦ inr (λ m pulls.
-                let same : m ≡ found.0 = same_first m found.0 (sym pulls.listed ∙ found.1) in
-                pulls.new (among_contains m taken (subst (λ x. Among x taken) (sym same) (taken_among taken found.0 is))))
-            | inr none ↦ inl (
-              found.0,
-              record {
-                named = named;
-                undefined = undefined;
-                listed = found.1;
-                new = λ has. true≢false (sym (among_taken taken found.0 (contains_among found.0 taken has)) ∙ none);
-              },
-            )
-          ]
-        ]
-      ]
-
-  pulls_or_not : (taken : List MemberView) (names : List (List ℕ)) → ((name : List ℕ) → Among name names → Contains (wanted ++ left_as reads taken) name) →
-      PulledIn taken names ⊎ NonePullsIn taken names
+  pulls_or_not : (taken : List MemberView) (some : List (List ℕ)) → ((name : List ℕ) → Among name some → Among name (names taken)) → PulledIn taken some ⊎ NonePullsIn taken some
   unfolding PulledIn NonePullsIn Among
   pulls_or_not taken [] within = inr (λ name m held pulls. held)
-  pulls_or_not taken (x ∷ names) within =
-      elim (one_asks taken x (within x (inl refl))) [
+  pulls_or_not taken (x ∷ some) within =
+      elim (asks taken x (within x (inl refl))) [
         | inl found ↦ inl (x, found.0, inl refl, found.1)
-        | inr none ↦ elim (pulls_or_not taken names (λ name held. within name (inr held))) [
+        | inr none ↦ elim (pulls_or_not taken some (λ name held. within name (inr held))) [
           | inl later ↦ inl (later.0, later.1, inr later.2, later.3)
           | inr others ↦ inr (λ name m held pulls. elim held [
-            | inl e ↦ none m (subst (λ n. PullsInAs reads archive wanted taken n m) e pulls)
+            | inl e ↦ none m (subst (λ n. Pulls taken n m) e pulls)
             | inr behind ↦ others name m behind pulls
           ])
         ]
       ]
 
-  none_left : (n m : ℕ) → n < m → m ≤ 0 → ⊥
-  none_left n m less most = omega arith
-
-  less_left : (n m k : ℕ) → n < m → m ≤ suc k → n ≤ k
-  less_left n m k less most = omega arith
-
-  is_new : (taken : List MemberView) (name : List ℕ) (m : MemberView) → PullsInAs reads archive wanted taken name m → is_taken taken m ≡ false
-  is_new taken name m pulls = false_from_ne_true (is_taken taken m) (λ is. pulls.new (among_contains m taken (taken_among taken m is)))
+  fewer_left : (taken : List MemberView) (name : List ℕ) (m : MemberView) → Pulls taken name m → not_taken archive (m ∷ taken) < not_taken archive taken
+  fewer_left taken name m pulls =
+      let own = fresh taken name m pulls in
+      fewer archive taken m (first_is name archive m own.0).0 (false_from_ne_true (is_taken taken m) (λ is. own.1 (among_contains m taken (taken_among taken m is))))
 
   -- from members that are taken, with at most so many left
-  ends_from : (most : ℕ) (taken : List MemberView) → not_taken archive taken ≤ most → AreTakenInTurnAs reads archive wanted taken → (t : List MemberView) × TakesAs reads archive wanted t
-  unfolding PulledIn NonePullsIn AreTakenInTurnAs
+  ends_from : (most : ℕ) (taken : List MemberView) → not_taken archive taken ≤ most → Turn taken →
+      (t : List MemberView) × Turn t × ((name : List ℕ) (m : MemberView) → Among name (names t) → Pulls t name m → ⊥)
+  unfolding PulledIn NonePullsIn
   ends_from zero taken few turn =
-      elim (pulls_or_not taken (wanted ++ left_as reads taken) (λ name held. among_contains name (wanted ++ left_as reads taken) held)) [
-        | inr none ↦ (taken, record { in_turn = turn; ended = λ name m pulls. none name m (contains_among name (wanted ++ left_as reads taken) pulls.named) pulls })
-        | inl found ↦
-            let less = fewer archive taken found.1 (first_is found.0 archive found.1 found.3.listed).0 (is_new taken found.0 found.1 found.3) in
-            absurd (none_left (not_taken archive (found.1 ∷ taken)) (not_taken archive taken) less few)
+      elim (pulls_or_not taken (names taken) (λ name held. held)) [
+        | inr none ↦ (taken, turn, none)
+        | inl found ↦ absurd (none_left (not_taken archive (found.1 ∷ taken)) (not_taken archive taken) (fewer_left taken found.0 found.1 found.3) few)
       ]
   ends_from (suc most) taken few turn =
-      elim (pulls_or_not taken (wanted ++ left_as reads taken) (λ name held. among_contains name (wanted ++ left_as reads taken) held)) [
-        | inr none ↦ (taken, record { in_turn = turn; ended = λ name m pulls. none name m (contains_among name (wanted ++ left_as reads taken) pulls.named) pulls })
+      elim (pulls_or_not taken (names taken) (λ name held. held)) [
+        | inr none ↦ (taken, turn, none)
         | inl found ↦
-            let less = fewer archive taken found.1 (first_is found.0 archive found.1 found.3.listed).0 (is_new taken found.0 found.1 found.3) in
-            ends_from most (found.1 ∷ taken) (less_left (not_taken archive (found.1 ∷ taken)) (not_taken archive taken) most less few) ((found.0, found.3), turn)
+            ends_from most (found.1 ∷ taken) (less_left (not_taken archive (found.1 ∷ taken)) (not_taken archive taken) most (fewer_left taken found.0 found.1 found.3) few)
+            (more taken found.0 found.1 found.3 turn)
       ]
+
+  pub any_ends : Turn [] → (t : List MemberView) × Turn t × ((name : List ℕ) (m : MemberView) → Among name (names t) → Pulls t name m → ⊥)
+  any_ends start = ends_from (not_taken archive []) [] (omega arith) start
+
+module _ (reads : List ℕ → Option Object) (archive : List MemberView) (wanted : List (List ℕ)) where
+  one_asks : (taken : List MemberView) (name : List ℕ) → Among name (wanted ++ left_as reads taken) →
+      ((m : MemberView) × PullsInAs reads archive wanted taken name m) ⊎ ((m : MemberView) → PullsInAs reads archive wanted taken name m → ⊥)
+  one_asks taken name named =
+      elim (cases_Bool (list_any (bytes_eq name) (claimed_as reads taken))) [
+        | inl claimed ↦ inr (λ m pulls. true≢false (sym claimed ∙ pulls.undefined))
+        | inr undefined ↦ elim (first_new archive taken name) [
+          | inr none ↦ inr (λ m pulls. none m pulls.listed pulls.new)
+          | inl found ↦ inl (found.0, record { named = among_contains name (wanted ++ left_as reads taken) named; undefined = undefined; listed = found.1; new = found.2 })
+        ]
+      ]
+
+  one_more : (taken : List MemberView) (name : List ℕ) (m : MemberView) → PullsInAs reads archive wanted taken name m → AreTakenInTurnAs reads archive wanted taken → AreTakenInTurnAs reads archive wanted (m ∷ taken)
+  unfolding AreTakenInTurnAs
+  one_more taken name m pulls turn = ((name, pulls), turn)
+
+  found_ends : (taken : List MemberView) × TakesAs reads archive wanted taken
+  unfolding AreTakenInTurnAs
+  found_ends =
+      let found =
+      any_ends archive (PullsInAs reads archive wanted) (AreTakenInTurnAs reads archive wanted) (λ taken. wanted ++ left_as reads taken) one_more one_asks (λ taken name m pulls. (pulls.listed, pulls.new)) tt in
+      (found.0, record { in_turn = found.1; ended = λ name m pulls. found.2 name m (contains_among name (wanted ++ left_as reads found.0) pulls.named) pulls })
 
   -- each member that is taken leaves fewer
   taken_and_left : (taken : List MemberView) → AreTakenInTurnAs reads archive wanted taken → length taken + not_taken archive taken ≤ not_taken archive []
@@ -208,7 +226,7 @@ module _ (reads : List ℕ → Option Object) (archive : List MemberView) (wante
   taken_and_left [] turn = omega arith
   taken_and_left (m ∷ earlier) turn =
       let less : not_taken archive (m ∷ earlier) < not_taken archive earlier =
-      fewer archive earlier m (first_is turn.0.0 archive m turn.0.1.listed).0 (is_new earlier turn.0.0 m turn.0.1) in
+      fewer archive earlier m (first_is turn.0.0 archive m turn.0.1.listed).0 (false_from_ne_true (is_taken earlier m) (λ is. turn.0.1.new (among_contains m earlier (taken_among earlier m is)))) in
       let before : length earlier + not_taken archive earlier ≤ not_taken archive [] = taken_and_left earlier turn.1 in
       let counted : length (m ∷ earlier) ≡ suc (length earlier) = refl in
       omega arith
@@ -228,5 +246,4 @@ search_bounded reads archive taken wanted turn =
     omega arith
 
 pub search_ends : (reads : List ℕ → Option Object) (archive : List MemberView) (wanted : List (List ℕ)) → (taken : List MemberView) × TakesAs reads archive wanted taken
-unfolding AreTakenInTurnAs
-search_ends reads archive wanted = ends_from reads archive wanted (not_taken archive []) [] (omega arith) tt
+search_ends reads archive wanted = found_ends reads archive wanted

@@ -1,7 +1,7 @@
 -- There is a closed program: packed placement of what a linker takes for given objects.
-use Rattle.std.proofs.Common.{◌≡◌, ℕ, ◌^◌, ◌<◌, ◌≤◌, true, false, List, [], ◌∷◌, ◌++◌, Option, Some, None, refl, ap, sym, ◌∙◌, subst, arith}
+use Rattle.std.proofs.Common.{◌≡◌, ℕ, ◌^◌, ◌<◌, ◌≤◌, true, false, List, [], ◌∷◌, ◌++◌, Some, refl, ap, sym, ◌∙◌, subst, arith, map}
 use Rattle.std.specs.Prelude.{not}
-use Rattle.std.specs.List.{AllByRecursion, Contains, cons_option, filter}
+use Rattle.std.specs.List.{AllByRecursion, Contains, filter}
 use Rattle.std.proofs.lemmas.Bool.{true≢false}
 use Rattle.std.proofs.lemmas.List.{append-nil, append_assoc}
 use Rattle.std.proofs.lemmas.List.Elements.{filter-append}
@@ -15,20 +15,25 @@ use Rattle.implib.specs.Link.Placement.{placed_from}
 use Rattle.implib.specs.Members.MemberSpec.{MemberView}
 use Rattle.implib.specs.Members.WeakExternal.{weak_object}
 use Rattle.implib.proofs.Link.Placement.{at_least}
-use Rattle.implib.proofs.Link.Ranges.{Among, all_among, among_first, among_later}
+use Rattle.implib.proofs.Link.Ranges.{Among, all_among}
 use Rattle.implib_link.specs.Gnu.Packed.{packed, packed_descriptors, packed_end}
-use Rattle.implib_link.specs.Gnu.Program.{has_tables, null_descriptor}
+use Rattle.implib_link.specs.Gnu.Program.{has_tables, null_descriptor, HaveSame}
 use Rattle.implib_link.specs.Search.Archives.{IsArchive, IsLibrary, Library, archive_of, inputs_wanted, is_weak, weak_among}
 use Rattle.implib_link.specs.Search.Closed.{AreLinkedFor, IsClosed, TakesInto, inputs_in, unresolved, wanted_in}
 use Rattle.implib_link.specs.Search.Exists.{AreChosenFor, HasClosed, LieWithin, objects_closed, tables_end}
 use Rattle.implib_link.specs.Search.Given.{AreGiven}
-use Rattle.implib_link.specs.Search.Search.{HaveSame, IsTakenInTurn}
+use Rattle.implib_link.specs.Search.Search.{IsTakenInTurn}
 use Rattle.implib_link.proofs.Gnu.Alone.{all_kept, members_have, none_left}
-use Rattle.implib_link.proofs.Gnu.Packed.{lies_within, packed_is_admissible, packed_sized}
+use Rattle.implib_link.specs.Flavors.Program.{OfLinker, gnu_input}
+use Rattle.implib_link.proofs.Flavors.GnuPrograms.{gnu_ended, gnu_made}
+use Rattle.implib_link.proofs.Flavors.Packed.{kept_sized, packed_admissible}
+use Rattle.implib_link.proofs.Gnu.Packed.{lies_within}
 use Rattle.implib_link.proofs.Search.ArchiveMembers.{Found, FoundExport, FoundHead, FoundTail, FoundWeak, export_not_weak, export_object_is, head_not_weak, head_object_is, tail_not_weak, tail_object_is, weak_object_is}
 use Rattle.implib_link.proofs.Search.Archives.{inputs_made}
 use Rattle.implib_link.proofs.Search.Arranged.{archive_moved}
-use Rattle.implib_link.proofs.Search.Closed.{closed_links, in_turn_for, passing}
+use Rattle.implib_link.proofs.Search.Closed.{closed_links}
+use Rattle.implib_link.proofs.Search.Closing.{each_read, tables_read, in_turn_for}
+use Rattle.implib_link.proofs.Search.Lists.{passing}
 use Rattle.implib_link.proofs.Search.Given.{given_closes, given_ends, pulled_by}
 use Rattle.implib_link.proofs.Search.Rooms.{tables_near}
 use Rattle.implib.specs.LibraryName.{names_for}
@@ -62,14 +67,14 @@ module _ (machine : MachineType) (libraries : List Library) (own : List Object) 
     order = chosen.order;
     others = chosen.others;
     tables = chosen.tables;
-    admissible = packed_is_admissible machine first inputs objects made chosen.tables above below;
+    admissible = packed_admissible machine OfLinker first (map gnu_input inputs) objects (gnu_made machine inputs made) (gnu_ended machine inputs objects chosen.tables) above below;
   }
 
   pub packed_within : LieWithin first (tables_end first libraries) (image_of machine (packed first objects) (placed_from (packed first objects) objects))
   packed_within =
       within_by first (packed_descriptors first) (packed_end first objects) (tables_end first libraries) (image_of machine (packed first objects) (placed_from (packed first objects) objects))
       (at_least 8 first) near
-      (lies_within machine first objects (packed_sized machine inputs objects made chosen.tables) above below)
+      (lies_within machine first objects (kept_sized machine OfLinker (map gnu_input inputs) objects (gnu_made machine inputs made) (gnu_ended machine inputs objects chosen.tables)) above below)
 
 pub packed_closes : (machine : MachineType) (libraries : List Library) (own : List Object) (taken : List MemberView) (arranged : List Library) (first : ℕ) (objects : List Object) →
     IsArchive machine libraries → AreGiven machine libraries own → TakesInto (archive_of libraries) own taken → AreChosenFor machine libraries own taken arranged objects →
@@ -82,15 +87,6 @@ packed_closes machine libraries own taken arranged first objects archive given t
 
 abbrev pub NoneHave : List Object → Type 0
 NoneHave objects = AllByRecursion (λ o. has_tables o ≡ false) objects
-
-pub first_object : (read : Option Object) (objects : List Object) → ((o : Object) → read ≡ Some o → has_tables o ≡ false) → NoneHave objects → NoneHave (cons_option read objects)
-first_object None objects own none = none
-first_object (Some o) objects own none = (own o refl, none)
-
-pub no_objects : (members : List MemberView) → ((m : MemberView) (o : Object) → Among m members → object_in m.bytes ≡ Some o → has_tables o ≡ false) → NoneHave (objects_in members)
-no_objects [] own = tt
-no_objects (m ∷ members) own =
-    first_object (object_in m.bytes) (objects_in members) (λ o is. own m o (among_first m members) is) (no_objects members (λ x o held is. own x o (among_later x m members held) is))
 
 pub both_none : (xs ys : List Object) → NoneHave xs → NoneHave ys → NoneHave (xs ++ ys)
 both_none [] ys own behind = behind
@@ -132,11 +128,6 @@ module _ (machine : MachineType) (libraries : List Library) (archive : IsArchive
   made_of : (l : Library) → Among l libraries → IsLibrary machine l
   made_of l held = all_among (IsLibrary machine) l libraries held archive.made
 
-  same_plain : (m x : MemberView) (o one : Object) → m ≡ x → object_in x.bytes ≡ Some one → object_in m.bytes ≡ Some o → has_tables one ≡ false → has_tables o ≡ false
-  same_plain m x o one same is read none =
-      let objects : o ≡ one = (let e : Some o ≡ Some one = sym read ∙ ap (λ (y : MemberView). object_in y.bytes) same ∙ is in cc) in
-      subst (λ y. has_tables y ≡ false) (sym objects) none
-
   weak_has_none : (by : List ℕ) (m : MemberView) (o : Object) → is_weak m ≡ true → Found machine libraries archive by m → object_in m.bytes ≡ Some o → has_tables o ≡ false
   weak_has_none by m o weak (FoundTail l held same is) read =
       absurd (true≢false (sym weak ∙ tail_not_weak machine m (names_for Gnu l.definition) (ap (λ (y : MemberView). object_in y.bytes) same ∙ tail_object_is machine l (made_of l held))))
@@ -145,7 +136,7 @@ module _ (machine : MachineType) (libraries : List Library) (archive : IsArchive
   weak_has_none by m o weak (FoundExport l held n e is same listed) read =
       absurd (true≢false (sym weak ∙ export_not_weak machine m (names_for Gnu l.definition) e (ap (λ (y : MemberView). object_in y.bytes) same ∙ export_object_is machine l (made_of l held) n e is)))
   weak_has_none by m o weak (FoundWeak l held n e is alias is_data same named) read =
-      same_plain m _ o (object_of (weak_object machine e.name e.alias_target)) same (weak_object_is machine l (made_of l held) n e is alias) read
+      tables_read object_in false m _ o (object_of (weak_object machine e.name e.alias_target)) same (weak_object_is machine l (made_of l held) n e is alias) read
       (weak_plain machine e.name e.alias_target)
 
   module _ (taken : List MemberView) (takes : TakesInto (archive_of libraries) own taken) where
@@ -153,7 +144,7 @@ module _ (machine : MachineType) (libraries : List Library) (archive : IsArchive
     turn = in_turn_for object_in (archive_of libraries) own taken takes.in_turn
 
     weak_none : NoneHave (objects_in (weak_among taken))
-    weak_none = no_objects (weak_among taken) (λ m o held read.
+    weak_none = each_read object_in (λ o. has_tables o ≡ false) (weak_among taken) (λ m o held read.
         let there = passing is_weak m taken held in
         let x = pulled_by machine libraries archive own given taken turn m there.0 in
         weak_has_none x.0 m o there.1 x.1 read)

@@ -1,5 +1,5 @@
 -- What a linker takes for given objects closes the program, by what is asked of the objects alone.
-use Rattle.std.proofs.Common.{◌≡◌, ℕ, ◌⊎◌, true, List, [], ◌∷◌, ◌++◌, map, Option, Some, refl, ap, sym, ◌∙◌, subst, inl, inr}
+use Rattle.std.proofs.Common.{◌≡◌, ℕ, ◌⊎◌, true, List, [], ◌∷◌, ◌++◌, map, Some, refl, ap, sym, ◌∙◌, subst, inl, inr}
 use Rattle.std.specs.Prelude.{slice_get}
 use Rattle.std.specs.List.{AllByRecursion, filter, flat_map}
 use Rattle.std.proofs.lemmas.Bool.{true≢false}
@@ -20,16 +20,15 @@ use Rattle.implib_link.specs.Gnu.Program.{ClaimsNone, claimed_names}
 use Rattle.implib_link.specs.Search.Archives.{IsArchive, IsLibrary, Library, NamesNoHeadOrTailOf, archive_of, exports_of, is_weak, weak_among}
 use Rattle.implib_link.specs.Search.Closed.{AreLinkedFor, IsClosed, TakesInto, listed_in, unresolved, wanted_in}
 use Rattle.implib_link.specs.Search.Given.{AreGiven, alias_targets, heads_of, is_data_alias, symbols_kept, symbols_wanted, tails_of, wanted_at_most}
-use Rattle.implib_link.specs.Search.Search.{IsTakenInTurn, NamesNoHeadOrTail, first_listed, is_wanted, names_undefined, undefined_in, left_as, AreTakenInTurnAs}
+use Rattle.implib_link.specs.Search.Search.{IsTakenInTurn, NamesNoHeadOrTail, is_wanted, names_undefined, undefined_in, left_as}
 use Rattle.implib_link.proofs.Search.ArchiveGroups.{export_of, head_of, tail_of, weak_of}
-use Rattle.implib_link.proofs.Search.ArchiveMembers.{Found, FoundExport, FoundHead, FoundTail, FoundWeak, export_not_weak, export_object_is, found, head_found, head_not_weak, head_object_is, tail_found, tail_not_weak, tail_object_is, weak_object_is}
-use Rattle.implib_link.proofs.Search.Arranged.{all_each}
-use Rattle.implib_link.proofs.Search.Closed.{claims_apart, claims_none, in_turn_for, passes, passing, takes_into, there_not, not_there, unresolved_parts}
+use Rattle.implib_link.proofs.Search.ArchiveMembers.{Found, FoundExport, FoundHead, FoundTail, FoundWeak, export_not_weak, export_object_is, found, head_not_weak, head_object_is, tail_not_weak, tail_object_is, weak_object_is}
+use Rattle.implib_link.proofs.Search.Lists.{all_from as all_each, passes, passing, among_at, among_either, name_as}
+use Rattle.implib_link.proofs.Search.Archives.{ForAlias, ForExport, IsNeeded, needed}
+use Rattle.implib_link.proofs.Search.Closing.{names_read, none_claimed, pulled, takes_into, in_turn_for, claims_apart, there_not, not_there}
 use Rattle.implib_link.proofs.Search.Ends.{search_ends}
-use Rattle.implib_link.proofs.Search.Lists.{among_at, among_either, among_flat_map, contains_among, name_as}
-use Rattle.implib_link.proofs.Search.Search.{in_nothing, left_export, left_head, left_tail, listed_export, listed_head, listed_tail, only_one, wants}
-use Rattle.implib.specs.LibraryName.{linked_name}
-use Rattle.implib.specs.LibraryName.{NamesOfDll, names_for}
+use Rattle.implib_link.proofs.Search.Search.{AnExport, TheHead, TheTail, wanted_name, in_nothing, left_export, left_head, left_tail, listed_export, listed_head, listed_tail, only_one, wants}
+use Rattle.implib.specs.LibraryName.{linked_name, NamesOfDll, names_for}
 use Rattle.implib.specs.declared.flavor.Flavor.TheVariants.{Gnu}
 
 -- a weak external leaves its target to others
@@ -55,27 +54,21 @@ module _ (machine : MachineType) (libraries : List Library) (archive : IsArchive
     LeftByExport : (l : Library) → Among l libraries → name ≡ head_symbol machine (linked_name l.definition) → Left name m
     LeftByWeak : Among name (alias_targets libraries) → Left name m
 
-  names_of : (names : List (List ℕ)) (name : List ℕ) (m x : MemberView) (o one : Object) → m ≡ x → object_in x.bytes ≡ Some one → object_in m.bytes ≡ Some o →
-      undefined_in one ≡ names → Among name (undefined_in o) → Among name names
-  names_of names name m x o one same is read are held =
-      let objects : o ≡ one = (let e : Some o ≡ Some one = sym read ∙ ap (λ (y : MemberView). object_in y.bytes) same ∙ is in cc) in
-      subst (Among name) are (subst (λ t. Among name (undefined_in t)) objects held)
-
   pub left_by : (by name : List ℕ) (m : MemberView) (o : Object) → Found machine libraries archive by m → object_in m.bytes ≡ Some o → Among name (undefined_in o) → Left name m
   left_by by name m o (FoundTail l held same is) read left =
       let dll : NamesOfDll = names_for Gnu l.definition in
-      absurd (in_nothing name (names_of [] name m (tail_of machine l) o (tail machine dll) same (tail_object_is machine l (made_of l held)) read (left_tail machine dll) left))
+      absurd (in_nothing name (names_read object_in undefined_in [] name m (tail_of machine l) o (tail machine dll) same (tail_object_is machine l (made_of l held)) read (left_tail machine dll) left))
   left_by by name m o (FoundHead l held same is) read left =
       let dll : NamesOfDll = names_for Gnu l.definition in
       LeftByHead l held (only_one name (iname_symbol machine dll.linked)
-      (names_of (iname_symbol machine dll.linked ∷ []) name m (head_of machine l) o (head machine dll) same (head_object_is machine l (made_of l held)) read (left_head machine dll) left))
+      (names_read object_in undefined_in (iname_symbol machine dll.linked ∷ []) name m (head_of machine l) o (head machine dll) same (head_object_is machine l (made_of l held)) read (left_head machine dll) left))
   left_by by name m o (FoundExport l held n e is same listed) read left =
       let dll : NamesOfDll = names_for Gnu l.definition in
       LeftByExport l held (only_one name (head_symbol machine dll.linked)
-      (names_of (head_symbol machine dll.linked ∷ []) name m (export_of machine l n e) o (export machine dll e) same (export_object_is machine l (made_of l held) n e is) read (left_export machine dll e) left))
+      (names_read object_in undefined_in (head_symbol machine dll.linked ∷ []) name m (export_of machine l n e) o (export machine dll e) same (export_object_is machine l (made_of l held) n e is) read (left_export machine dll e) left))
   left_by by name m o (FoundWeak l held n e is alias is_data same named) read left =
       let target : name ≡ e.alias_target = only_one name e.alias_target
-      (names_of (e.alias_target ∷ []) name m (weak_of machine l n e) o (object_of (weak_object machine e.name e.alias_target)) same (weak_object_is machine l (made_of l held) n e is alias) read
+      (names_read object_in undefined_in (e.alias_target ∷ []) name m (weak_of machine l n e) o (object_of (weak_object machine e.name e.alias_target)) same (weak_object_is machine l (made_of l held) n e is alias) read
       (left_weak machine e.name e.alias_target) left) in
       LeftByWeak (subst (λ x. Among x (alias_targets libraries)) (sym target) (target_is l n e held is alias is_data))
 
@@ -116,97 +109,9 @@ module _ (machine : MachineType) (libraries : List Library) (archive : IsArchive
   left_kept name m (LeftByExport l held is) = subst (λ n. Among n kept) (sym is) (head_kept l held)
   left_kept name m (LeftByWeak held) = target_kept name held
 
-  -- What a member is listed for that is taken: members alone may claim it, or the objects leave it unresolved.
-
-  abbrev IsKept : List ℕ → Type 0
-  IsKept name = Among name kept ⊎ Among name (unresolved own)
-
-  tail_listed : (l : Library) (m : MemberView) (name : List ℕ) → Among l libraries → m ≡ tail_of machine l → Among name m.symbols → IsKept name
-  tail_listed l m name held same listed =
-      let dll : NamesOfDll = names_for Gnu l.definition in
-      inl (subst (λ n. Among n kept) (sym (only_one name (iname_symbol machine dll.linked) (subst (Among name) (listed_tail machine dll) (subst (λ (y : MemberView). Among name y.symbols) same listed)))) (tail_kept l held))
-
-  head_listed : (l : Library) (m : MemberView) (name : List ℕ) → Among l libraries → m ≡ head_of machine l → Among name m.symbols → IsKept name
-  head_listed l m name held same listed =
-      let dll : NamesOfDll = names_for Gnu l.definition in
-      inl (subst (λ n. Among n kept) (sym (only_one name (head_symbol machine dll.linked) (subst (Among name) (listed_head machine dll.linked) (subst (λ (y : MemberView). Among name y.symbols) same listed)))) (head_kept l held))
-
-  -- of a member that a wanted name finds
-  wanted_listed : (by name : List ℕ) (m : MemberView) → Among by most → Found machine libraries archive by m → Among name m.symbols → IsKept name
-  wanted_listed by name m want (FoundTail l held same is) listed = tail_listed l m name held same listed
-  wanted_listed by name m want (FoundHead l held same is) listed = head_listed l m name held same listed
-  wanted_listed by name m want (FoundExport l held n e is same own_name) listed =
-      let symbols : Among name (archive_symbols e) = subst (Among name) (listed_export machine (linked_name l.definition) n e) (subst (λ (y : MemberView). Among name y.symbols) same listed) in
-      let there : Among e (filter (is_wanted most) (exports_of l)) = passes (is_wanted most) e (exports_of l) (among_at e (exports_of l) n is) (wants most (archive_symbols e) by own_name want) in
-      inl (wanted_kept name (among_flat (λ (x : Library). flat_map archive_symbols (filter (is_wanted most) (exports_of x))) l libraries name held
-      (among_flat archive_symbols e (filter (is_wanted most) (exports_of l)) name there symbols)))
-  wanted_listed by name m want (FoundWeak l held n e is alias is_data same named) listed =
-      let bare : name ≡ e.name = only_one name e.name (subst (λ (y : MemberView). Among name y.symbols) same listed) in
-      elim (among_either name (unresolved own) (alias_targets libraries) (subst (λ x. Among x most) (named ∙ sym bare) want)) [
-        | inl left ↦ inr left
-        | inr target ↦ inl (target_kept name target)
-      ]
-
-  same_first : (m x : MemberView) (found : Option MemberView) → found ≡ Some m → found ≡ Some x → m ≡ x
-  same_first m x found one other = (let e : Some m ≡ Some x = sym one ∙ other in cc)
-
-  -- of a member that a name finds which another one left
-  left_listed : (by name : List ℕ) (m x : MemberView) → Left machine libraries archive by x → first_listed (archive_of libraries) by ≡ Some m → Among name m.symbols → IsKept name
-  left_listed by name m x (LeftByHead l held is) at listed =
-      tail_listed l m name held (same_first m (tail_of machine l) (first_listed (archive_of libraries) by) at (ap (first_listed (archive_of libraries)) is ∙ tail_found machine libraries archive l held)) listed
-  left_listed by name m x (LeftByExport l held is) at listed =
-      head_listed l m name held (same_first m (head_of machine l) (first_listed (archive_of libraries) by) at (ap (first_listed (archive_of libraries)) is ∙ head_found machine libraries archive l held)) listed
-  left_listed by name m x (LeftByWeak target) at listed =
-      wanted_listed by name m (among_back by (unresolved own) (alias_targets libraries) target) (found machine libraries archive by m at) listed
-
-  -- Members that are taken in turn for what the objects leave unresolved.
-
-  pub pulled_by : (taken : List MemberView) → IsTakenInTurn (archive_of libraries) (unresolved own) taken → (m : MemberView) → Among m taken →
-      (by : List ℕ) × Found machine libraries archive by m
-  unfolding Among AreTakenInTurnAs
-  pulled_by [] turn m held = absurd held
-  pulled_by (t ∷ earlier) turn m (inl e) = (turn.0.0, subst (Found machine libraries archive turn.0.0) (sym e) (found machine libraries archive turn.0.0 t turn.0.1.listed))
-  pulled_by (t ∷ earlier) turn m (inr held) = pulled_by earlier turn.1 m held
-
-  listed_by : (taken : List MemberView) → IsTakenInTurn (archive_of libraries) (unresolved own) taken → (m : MemberView) (name : List ℕ) → Among m taken → Among name m.symbols → IsKept name
-  unfolding Among AreTakenInTurnAs left_as
-  listed_by [] turn m name held listed = absurd held
-  listed_by (t ∷ earlier) turn m name (inr held) listed = listed_by earlier turn.1 m name held listed
-  listed_by (t ∷ earlier) turn m name (inl e) listed =
-      let by : List ℕ = turn.0.0 in
-      let own_name : Among name t.symbols = subst (λ (y : MemberView). Among name y.symbols) e listed in
-      elim (among_either by (unresolved own) (flat_map undefined_in (objects_in earlier)) (contains_among by (unresolved own ++ flat_map undefined_in (objects_in earlier)) turn.0.1.named)) [
-        | inl given_name ↦ wanted_listed by name t (among_front by (unresolved own) (alias_targets libraries) given_name) (found machine libraries archive by t turn.0.1.listed) own_name
-        | inr left ↦
-            let from = name_as object_in undefined_in by earlier left in
-            let x = pulled_by earlier turn.1 from.member from.held in
-            left_listed by name t from.member (left_by machine libraries archive x.0 by from.member from.object x.1 from.taken from.among) turn.0.1.listed own_name
-      ]
-
   module _ (taken : List MemberView) (turn : IsTakenInTurn (archive_of libraries) (unresolved own) taken) where
-    left_of : (name : List ℕ) → Among name (flat_map undefined_in (objects_in taken)) → Among name kept
-    left_of name left =
-        let from = name_as object_in undefined_in name taken left in
-        let x = pulled_by taken turn from.member from.held in
-        left_kept name from.member (left_by machine libraries archive x.0 name from.member from.object x.1 from.taken from.among)
-
-    -- the objects claim nothing of it
-    none_kept : (name : List ℕ) → IsKept name → Among name (flat_map claimed_names own) → ⊥
-    none_kept name (inl held) claimed = claims_apart kept own given.claims name held claimed
-    none_kept name (inr left) claimed = (unresolved_parts own name left).1 claimed
-
-    left_apart : (name : List ℕ) → Among name (flat_map undefined_in (objects_in taken)) → Among name (flat_map claimed_names own) → ⊥
-    left_apart name left = none_kept name (inl (left_of name left))
-
-    claims : AllByRecursion (ClaimsNone (listed_in taken ++ names_undefined taken)) own
-    unfolding left_as
-    claims =
-        all_each (ClaimsNone (listed_in taken ++ flat_map undefined_in (objects_in taken))) own (λ o held.
-        claims_none (listed_in taken ++ flat_map undefined_in (objects_in taken)) o (λ name is claimed.
-        none_kept name (elim (among_either name (listed_in taken) (flat_map undefined_in (objects_in taken)) is) [
-          | inl listed ↦ let from = among_flat_map (λ (m : MemberView). m.symbols) name taken listed in listed_by taken turn from.0 name from.1 from.2
-          | inr left ↦ inl (left_of name left)
-        ]) (among_flat claimed_names o own name held claimed)))
+    pub pulled_by : (m : MemberView) → Among m taken → (by : List ℕ) × Found machine libraries archive by m
+    pulled_by m held = let by = pulled object_in (archive_of libraries) (unresolved own) taken turn m held in (by.0, found machine libraries archive by.0 m by.1)
 
     -- a weak external that is taken leaves the target of an alias
     weak_left : (by name : List ℕ) (m : MemberView) (o : Object) → is_weak m ≡ true → Found machine libraries archive by m → object_in m.bytes ≡ Some o → Among name (undefined_in o) →
@@ -219,7 +124,7 @@ module _ (machine : MachineType) (libraries : List Library) (archive : IsArchive
         absurd (true≢false (sym weak ∙ export_not_weak machine m (names_for Gnu l.definition) e (ap (λ (y : MemberView). object_in y.bytes) same ∙ export_object_is machine l (made_of machine libraries archive l held) n e is)))
     weak_left by name m o weak (FoundWeak l held n e is alias is_data same named) read left =
         subst (λ x. Among x (alias_targets libraries)) (sym (only_one name e.alias_target
-        (names_of machine libraries archive (e.alias_target ∷ []) name m (weak_of machine l n e) o (object_of (weak_object machine e.name e.alias_target)) same (weak_object_is machine l (made_of machine libraries archive l held) n e is alias) read
+        (names_read object_in undefined_in (e.alias_target ∷ []) name m (weak_of machine l n e) o (object_of (weak_object machine e.name e.alias_target)) same (weak_object_is machine l (made_of machine libraries archive l held) n e is alias) read
         (left_weak machine e.name e.alias_target) left)))
         (target_is machine libraries archive l n e held is alias is_data)
 
@@ -231,7 +136,7 @@ module _ (machine : MachineType) (libraries : List Library) (archive : IsArchive
           | inr target ↦
               let from = name_as object_in undefined_in name (weak_among taken) target in
               let there = passing is_weak from.member taken from.held in
-              let x = pulled_by taken turn from.member there.0 in
+              let x = pulled_by from.member there.0 in
               among_back name (unresolved own) (alias_targets libraries) (weak_left x.0 name from.member from.object there.1 x.1 from.taken from.among)
         ]
 
@@ -245,6 +150,47 @@ module _ (machine : MachineType) (libraries : List Library) (archive : IsArchive
           name = not_there (iname_symbol machine (linked_name l.definition)) (wanted_in own taken)
               (λ want. there_not (iname_symbol machine (linked_name l.definition)) most none.name (wanted_most (iname_symbol machine (linked_name l.definition)) want));
         })
+
+    -- What a member is listed for that is taken: members alone may claim it, or the objects leave it unresolved.
+
+    abbrev IsKept : List ℕ → Type 0
+    IsKept name = Among name kept ⊎ Among name (unresolved own)
+
+    one_kept : (name one : List ℕ) (m x : MemberView) → m ≡ x → x.symbols ≡ one ∷ [] → Among one kept → Among name m.symbols → IsKept name
+    one_kept name one m x same is held listed =
+        inl (subst (λ n. Among n kept) (sym (only_one name one (subst (Among name) is (subst (λ (y : MemberView). Among name y.symbols) same listed)))) held)
+
+    listed_kept : (m : MemberView) (name : List ℕ) → IsNeeded machine libraries archive (wanted_in own taken) m → Among name m.symbols → IsKept name
+    listed_kept m name (ForExport l held (TheTail same any)) listed = one_kept name (iname_symbol machine (linked_name l.definition)) m (tail_of machine l) same (listed_tail machine (names_for Gnu l.definition)) (tail_kept l held) listed
+    listed_kept m name (ForExport l held (TheHead same any)) listed = one_kept name (head_symbol machine (linked_name l.definition)) m (head_of machine l) same (listed_head machine (linked_name l.definition)) (head_kept l held) listed
+    listed_kept m name (ForExport l held (AnExport x want)) listed =
+        let symbols : Among name (archive_symbols x.export) =
+        subst (Among name) (listed_export machine (linked_name l.definition) x.number x.export) (subst (λ (y : MemberView). Among name y.symbols) x.same listed) in
+        let by = wanted_name (wanted_in own taken) (archive_symbols x.export) want in
+        let there : Among x.export (filter (is_wanted most) (exports_of l)) =
+        passes (is_wanted most) x.export (exports_of l) (among_at x.export (exports_of l) x.number x.is) (wants most (archive_symbols x.export) by.0 by.1 (wanted_most by.0 by.2)) in
+        inl (wanted_kept name (among_flat (λ (y : Library). flat_map archive_symbols (filter (is_wanted most) (exports_of y))) l libraries name held
+        (among_flat archive_symbols x.export (filter (is_wanted most) (exports_of l)) name there symbols)))
+    listed_kept m name (ForAlias l held n e is alias is_data same named) listed =
+        let bare : name ≡ e.name = only_one name e.name (subst (λ (y : MemberView). Among name y.symbols) same listed) in
+        elim (among_either name (unresolved own) (alias_targets libraries) (wanted_most name (subst (λ x. Among x (wanted_in own taken)) (sym bare) named))) [
+          | inl left ↦ inr left
+          | inr target ↦ inl (target_kept name target)
+        ]
+
+    left_of : (name : List ℕ) → Among name (flat_map undefined_in (objects_in taken)) → Among name kept
+    left_of name left =
+        let from = name_as object_in undefined_in name taken left in
+        let x = pulled_by from.member from.held in
+        left_kept name from.member (left_by machine libraries archive x.0 name from.member from.object x.1 from.taken from.among)
+
+    left_apart : (name : List ℕ) → Among name (flat_map undefined_in (objects_in taken)) → Among name (flat_map claimed_names own) → ⊥
+    left_apart name left = claims_apart kept own given.claims name (left_of name left)
+
+    claims : AllByRecursion (ClaimsNone (listed_in taken ++ names_undefined taken)) own
+    claims =
+        none_claimed object_in own taken kept given.claims
+        (λ m name held. listed_kept m name (needed machine libraries archive (unresolved own) taken names taken (λ x there. there) turn m held)) left_of
 
 pub given_ends : (machine : MachineType) (libraries : List Library) (own : List Object) → IsArchive machine libraries → AreGiven machine libraries own →
     (taken : List MemberView) × TakesInto (archive_of libraries) own taken

@@ -1,7 +1,7 @@
 -- An archive whose listed symbols differ: each name has one member, and what members leave and claim.
 use Rattle.std.proofs.Common.{◌≡◌, ℕ, zero, suc, true, false, List, [], ◌∷◌, ◌++◌, map, Option, Some, None, refl, ap, sym, ◌∙◌, subst, inl, inr, ◌⊎◌, arith, Bool}
-use Rattle.std.specs.Prelude.{bytes_eq, reverse, slice_get}
-use Rattle.std.specs.List.{AllByRecursion, Contains, IsDistinct, cons_option, flat_map, list_any, list_all}
+use Rattle.std.specs.Prelude.{bytes_eq, reverse, slice_get, not}
+use Rattle.std.specs.List.{AllByRecursion, Contains, IsDistinct, cons_option, flat_map, list_any, list_all, filter}
 use Rattle.std.proofs.lemmas.Bool.{cases_Bool, false_from_ne_true, or_parts, true≢false, and_parts}
 use Rattle.std.proofs.lemmas.List.{reverse-append}
 use Rattle.std.proofs.lemmas.Grind.{flat_map-append}
@@ -9,8 +9,12 @@ use Rattle.std.proofs.lemmas.Slice.Eq.{bytes_eq-Decides}
 use Rattle.implib.specs.Members.MemberSpec.{MemberSpec, MemberView, member_of}
 use Rattle.implib.specs.Formats.Object.{Object}
 use Rattle.implib.proofs.Link.LinkedMembers.{among_map, among_reverse}
-use Rattle.implib.proofs.Link.Ranges.{Among, all_among, among_back, among_front}
+use Rattle.implib.proofs.Link.Ranges.{Among, all_among, among_back, among_first, among_front, among_later}
 use Rattle.implib_link.specs.Search.Search.{first_listed, is_listed_for, objects_as}
+
+pub all_from : {X : Type 0} (P : X → Type 0) (xs : List X) → ((x : X) → Among x xs → P x) → AllByRecursion P xs
+all_from P [] each = tt
+all_from P (x ∷ xs) each = (each x (among_first x xs), all_from P xs (λ y held. each y (among_later y x xs held)))
 
 pub contains_among : {X : Type 0} (x : X) (xs : List X) → Contains xs x → Among x xs
 unfolding Among
@@ -104,7 +108,7 @@ listed_once (x ∷ archive) name m distinct (inr held) is =
       | inr other ↦ rw other (listed_once archive name m (distinct_later x.symbols (all_listed archive) distinct) held is)
     ]
 
-same_member : (x m : MemberView) → Some x ≡ Some m → x ≡ m
+pub same_member : (x m : MemberView) → Some x ≡ Some m → x ≡ m
 same_member x m e = cc
 
 -- the first member that a name is listed for is a member that it is listed for
@@ -216,7 +220,7 @@ distinct_join (x ∷ first) later own behind apart =
     ] in
     (none_same x (first ++ later) none, distinct_join first later own.1 behind (λ name held. apart name (inr held)))
 
-pub among_flat_map : {X : Type 0} (f : X → List (List ℕ)) (name : List ℕ) (xs : List X) → Among name (flat_map f xs) → (x : X) × Among x xs × Among name (f x)
+pub among_flat_map : {X Y : Type 0} (f : X → List Y) (name : Y) (xs : List X) → Among name (flat_map f xs) → (x : X) × Among x xs × Among name (f x)
 unfolding Among
 among_flat_map f name [] held = absurd held
 among_flat_map f name (x ∷ xs) held =
@@ -276,3 +280,38 @@ unfolding Among
 each_of test x [] all m = absurd m
 each_of test x (y ∷ xs) all (inl same) = ap test same ∙ (and_parts (test y) (list_all test xs) all).0
 each_of test x (y ∷ xs) all (inr m) = each_of test x xs (and_parts (test y) (list_all test xs) all).1 m
+
+-- what passes a test
+pub passing : {X : Type 0} (test : X → Bool) (x : X) (xs : List X) → Among x (filter test xs) → Among x xs × (test x ≡ true)
+unfolding Among
+passing test x [] held = absurd held
+passing test x (y ∷ xs) held =
+    elim (cases_Bool (test y)) [
+      | inl is ↦
+          let either : Among x (y ∷ filter test xs) = rw is at held in
+          elim either [
+            | inl e ↦ (inl e, subst (λ z. test z ≡ true) (sym e) is)
+            | inr behind ↦ let later = passing test x xs behind in (inr later.0, later.1)
+          ]
+      | inr none ↦ let later = passing test x xs (rw none at held) in (inr later.0, later.1)
+    ]
+
+pub passes : {X : Type 0} (test : X → Bool) (x : X) (xs : List X) → Among x xs → test x ≡ true → Among x (filter test xs)
+unfolding Among
+passes test x [] held is = absurd held
+passes test x (y ∷ xs) (inl e) is = rw (subst (λ z. test z ≡ true) e is) (inl e)
+passes test x (y ∷ xs) (inr held) is =
+    elim (cases_Bool (test y)) [
+      | inl own ↦ rw own (inr (passes test x xs held is))
+      | inr none ↦ rw none (passes test x xs held is)
+    ]
+
+pub from_not : (b : Bool) → not b ≡ true → b ≡ false
+from_not true is = absurd (true≢false (sym is))
+from_not false is = refl
+
+pub to_not : (b : Bool) → b ≡ false → not b ≡ true
+to_not b is = rw is refl
+
+pub among_filter : {X : Type 0} (test : X → Bool) (x : X) (xs : List X) → Among x (filter test xs) → Among x xs
+among_filter test x xs held = (passing test x xs held).0

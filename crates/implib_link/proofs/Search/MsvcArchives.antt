@@ -25,8 +25,7 @@ use Rattle.implib_link.specs.Search.Msvc.{is_short_wanted}
 use Rattle.implib_link.specs.Search.MsvcArchives.{IsMsvcArchive, IsMsvcLibrary, first_null, imports_wanted, is_import_wanted, is_short_alias, is_weak_in, short_input_if_any, short_inputs, with_first_null}
 use Rattle.implib_link.proofs.Flavors.Block.{asking, use_for}
 use Rattle.implib_link.proofs.Flavors.Expanded.{taken_descriptor, taken_null, taken_null_thunk}
-use Rattle.implib_link.proofs.Search.Closed.{passes, passing}
-use Rattle.implib_link.proofs.Search.Lists.{among_either, among_mapped}
+use Rattle.implib_link.proofs.Search.Lists.{passes, passing, among_either, among_mapped}
 use Rattle.implib_link.proofs.Search.Msvc.{passing_chosen, some_export}
 use Rattle.implib_link.proofs.Search.MsvcMembers.{descriptor_is, descriptor_of, null_is, null_of, short_is, short_of, taken_weak, thunk_is, thunk_of}
 use Rattle.implib_link.proofs.Search.Search.{only_one}

@@ -15,7 +15,7 @@ use Rattle.implib_link.specs.Search.Archives.{Library, exports_of}
 use Rattle.implib_link.specs.Search.MsvcArchives.{imports_wanted, is_import_wanted, short_input_if_any, short_inputs, symbols_of_short, symbols_of_shorts}
 use Rattle.implib_link.proofs.Flavors.Block.{symbols_of}
 use Rattle.implib_link.proofs.Search.Arranged.{kept_from, kept_into}
-use Rattle.implib_link.proofs.Search.Closed.{passes}
+use Rattle.implib_link.proofs.Search.Lists.{passes}
 use Rattle.implib_link.proofs.Search.Counts.{times, times_both}
 use Rattle.implib_link.proofs.Search.Msvc.{some_export}
 use Rattle.implib_link.proofs.Search.MsvcArchives.{AnyImport, import_parts, imports_are}

@@ -29,8 +29,7 @@ use Rattle.implib_link.proofs.Flavors.Block.{asking}
 use Rattle.implib_link.proofs.Flavors.Expanded.{taken_descriptor, taken_null, taken_null_thunk}
 use Rattle.implib_link.proofs.Flavors.Inputs.{descriptor_taken, null_taken, short_taken, taken_of, thunk_taken}
 use Rattle.implib_link.proofs.Search.ArchiveGroups.{Group, IsWithin, first_in_group, first_is, group_of_first, members_of_groups, symbols_of_groups}
-use Rattle.implib_link.proofs.Search.Arranged.{all_each, flat_among}
-use Rattle.implib_link.proofs.Search.Lists.{among_any, among_mapped, any_among, apart_none}
+use Rattle.implib_link.proofs.Search.Lists.{among_flat_map as flat_among, among_any, among_mapped, any_among, apart_none, all_from as all_each}
 use Rattle.implib_link.proofs.Search.Search.{in_nothing, only_one}
 use Rattle.implib.specs.LibraryName.{NamesOfDll, linked_dll, names_for}
 use Rattle.implib.specs.declared.flavor.Flavor.TheVariants.{Msvc}

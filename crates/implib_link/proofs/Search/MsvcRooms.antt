@@ -18,7 +18,7 @@ use Rattle.implib.specs.Link.LinkedMembers.{chosen_exports}
 use Rattle.implib.specs.Members.Msvc.{name_type_of, short_import_symbol}
 use Rattle.implib.specs.Members.MsvcObjects.{descriptor, null_descriptor, null_thunk}
 use Rattle.implib_link.specs.Flavors.Expansion.{Use, import_object}
-use Rattle.implib_link.specs.Flavors.Program.{AreFlavorObjects, FlavorInput, IsMadeFor, ask_in, objects_taken}
+use Rattle.implib_link.specs.Flavors.Program.{FlavorInput, IsMadeFor, ask_in, objects_taken, AreEndedByMember}
 use Rattle.implib_link.specs.Flavors.SectionSymbols.{with_section_symbols}
 use Rattle.implib_link.specs.Gnu.Packed.{packed_end}
 use Rattle.implib_link.specs.Search.Archives.{Library, exports_of}
@@ -151,7 +151,7 @@ rooms_put (x ∷ front) back o = (let behind = rooms_put front back o in omega a
 
 -- What is linked of any inputs, and a null descriptor among it, packed: as far as its room reaches.
 pub flavor_tables_near : (machine : MachineType) (first : ℕ) (inputs : List FlavorInput) (objects : List Object) (room : ℕ) → AllByRecursion (IsMadeFor machine) inputs →
-    AreFlavorObjects machine inputs objects → all_rooms (all_objects machine (map block_in inputs) []) ≤ room → packed_end first objects ≤ first + 72 + room
+    AreEndedByMember machine inputs objects → all_rooms (all_objects machine (map block_in inputs) []) ≤ room → packed_end first objects ≤ first + 72 + room
 flavor_tables_near machine first inputs objects room made held rooms =
     let front : List Object = objects_taken machine held.before in
     let back : List Object = objects_taken machine held.behind in

@@ -16,11 +16,10 @@ use Rattle.implib.proofs.Link.Ranges.{Among, all_among, among_back, among_front}
 use Rattle.implib_link.specs.Search.Archives.{IsArchive, IsLibrary, Library, exports_of, symbols_of_export, symbols_of_library}
 use Rattle.implib_link.specs.Search.Given.{heads_of, tails_of}
 use Rattle.implib_link.specs.Search.NamedApart.{AreNamedApart, begins_plain, names_in, stem}
-use Rattle.implib_link.proofs.Search.Closed.{there_not}
+use Rattle.implib_link.proofs.Search.Closing.{there_not}
 use Rattle.implib_link.proofs.Search.Counts.{distinct_from, few_from, times, times_both, times_moved}
 use Rattle.implib_link.proofs.Search.Lists.{among_either, among_mapped, distinct_join}
-use Rattle.implib.specs.LibraryName.{linked_name, names_for}
-use Rattle.implib.specs.LibraryName.{NamesOfDll}
+use Rattle.implib.specs.LibraryName.{linked_name, names_for, NamesOfDll}
 use Rattle.implib.specs.declared.flavor.Flavor.TheVariants.{Gnu}
 
 -- Symbols that differ by their first bytes.

@@ -30,13 +30,12 @@ use Rattle.implib_link.specs.Search.MsvcGiven.{headers_of, short_targets}
 use Rattle.implib_link.specs.Search.NoShorts.{WantsNoShort}
 use Rattle.implib_link.specs.Search.Search.{NamesNoHeadOrTail, first_listed, is_wanted, undefined_in}
 use Rattle.implib_link.proofs.Search.ArchiveMembers.{Found, FoundExport, FoundHead, FoundTail, FoundWeak, export_object_is, found, head_object_is, tail_object_is, weak_object_is}
-use Rattle.implib_link.proofs.Search.Arranged.{all_each}
-use Rattle.implib_link.proofs.Search.BothClosed.{first_of}
+use Rattle.implib_link.proofs.Search.Lists.{all_from as all_each, passing, among_either, among_flat_map, contains_among, listed_is, name_as}
+use Rattle.implib_link.proofs.Search.Closing.{first_of, unresolved_from, unresolved_parts, claims_none, claims_apart, there_not, not_there}
 use Rattle.implib_link.proofs.Search.BothGiven.{export_kept, export_wanted_too, header_kept, target_kept}
 use Rattle.implib_link.proofs.Search.BothMembers.{found_either, gnu_export_is, gnu_head_is, gnu_in_both, gnu_made, gnu_tail_is, gnu_weak_is, msvc_symbol, symbols_apart}
-use Rattle.implib_link.proofs.Search.Closed.{claims_apart, claims_none, closed_links, from_sources, into_objects, not_there, passing, there_not, unresolved_from, unresolved_parts}
+use Rattle.implib_link.proofs.Search.Closed.{closed_links, from_sources, into_objects}
 use Rattle.implib_link.proofs.Search.Given.{Left, LeftByExport, LeftByHead, LeftByWeak, given_closes, left_by}
-use Rattle.implib_link.proofs.Search.Lists.{among_either, among_flat_map, contains_among, listed_is, name_as}
 use Rattle.implib_link.proofs.Search.MsvcMembers.{found as msvc_found, taken_weak}
 
 -- a weak external is taken as it is

@@ -17,13 +17,14 @@ use Rattle.implib.specs.Members.MemberSpec.{MemberSpec, MemberView}
 use Rattle.implib.specs.Formats.Object.{object_in}
 use Rattle.implib.specs.Renaming.{renamed}
 use Rattle.implib.proofs.Link.LinkedMembers.{among_contains}
-use Rattle.implib.proofs.Link.Ranges.{Among, among_first, among_later}
+use Rattle.implib.proofs.Link.Ranges.{Among}
 use Rattle.implib_link.specs.Search.Archives.{IsArchive, Library, NamesNoHeadOrTailOf, archive_of, inputs_wanted, is_weak, others_among, symbols_of_export, symbols_of_library, wanted_with, weak_among}
-use Rattle.implib_link.specs.Search.Search.{HaveSame, IsTakenInTurn, NamesNoHeadOrTail, Takes, exports_wanted, linked_if_any, left_as, AreTakenInTurnAs}
+use Rattle.implib_link.specs.Search.Search.{IsTakenInTurn, NamesNoHeadOrTail, Takes, exports_wanted, linked_if_any, left_as, AreTakenInTurnAs}
+use Rattle.implib_link.specs.Gnu.Program.{HaveSame}
 use Rattle.implib_link.proofs.Search.ArchiveMembers.{export_not_weak, export_object_is, head_not_weak, head_object_is, tail_not_weak, tail_object_is}
 use Rattle.implib_link.proofs.Search.Archives.{input_linked, libraries_taken}
 use Rattle.implib_link.proofs.Search.Search.{IsHead, IsTail, Kind, Needed, OfAnExport, kind, linked_if_needed, needed_if_linked, no_alias, numbers_are_wanted}
-use Rattle.implib_link.proofs.Search.Lists.{all_listed, contains_among, listed_is, listed_mapped}
+use Rattle.implib_link.proofs.Search.Lists.{all_from, all_listed, contains_among, listed_is, listed_mapped}
 use Rattle.implib.specs.LibraryName.{linked_name, names_for}
 
 -- members that are taken are members of the archive
@@ -77,10 +78,6 @@ all_others : (members : List MemberView) → AllByRecursion (λ m. is_weak m ≡
 all_others [] none = refl
 all_others (m ∷ members) none = rw none.0 (ap (λ ms. m ∷ ms) (all_others members none.1))
 
-each_member : (P : MemberView → Type 0) (members : List MemberView) → ((m : MemberView) → Among m members → P m) → AllByRecursion P members
-each_member P [] each = tt
-each_member P (m ∷ members) each = (each m (among_first m members), each_member P members (λ x held. each x (among_later x m members held)))
-
 module _ (d : DefinitionView) (machine : MachineType) (members : List MemberView) (made : AreMembersOf d machine Gnu members)
     (distinct : IsDistinct bytes_eq (all_listed members)) where
   abbrev one : Library
@@ -110,7 +107,7 @@ module _ (d : DefinitionView) (machine : MachineType) (members : List MemberView
 
   module _ (wanted : List (List ℕ)) (plain : NamesNoHeadOrTail machine (linked_name d) wanted) (taken : List MemberView) (takes : Takes members wanted taken) where
     none : AllByRecursion (λ m. is_weak m ≡ false) taken
-    none = each_member (λ m. is_weak m ≡ false) taken
+    none = all_from (λ m. is_weak m ≡ false) taken
         (λ m held. not_weak m (kind d machine members made distinct m (taken_held members wanted taken takes.in_turn m held)))
 
     wanted_alone : wanted_with wanted taken ≡ wanted

@@ -20,7 +20,7 @@ use Rattle.implib.specs.Members.ImportTables.{thunk_width}
 use Rattle.implib.specs.Ascii.{without_first}
 use Rattle.implib.specs.Import.{name_asked}
 use Rattle.implib.specs.Underscore.{asked_name, has_underscore}
-use Rattle.implib.proofs.Link.LinkedBlocks.{Block, blocks_objects}
+use Rattle.implib.proofs.Link.LinkedBlocks.{blocks_objects}
 use Rattle.implib.proofs.Link.LinkedInputs.{block_of, gnu_inputs_objects}
 use Rattle.implib.proofs.Link.Placement.{after_head, export, head, length-thunk, tail}
 use Rattle.implib_link.specs.Gnu.Packed.{end_with, group_end, packed_addresses, packed_descriptors, packed_directory_ends, packed_dll_names, packed_end, packed_hint_names, packed_lookups, sections_end}
@@ -32,8 +32,7 @@ use Rattle.implib_link.proofs.Gnu.Blocks.{objects_behind}
 use Rattle.implib_link.proofs.Gnu.Packed.{end_kept}
 use Rattle.implib_link.proofs.Search.Archives.{inputs_made}
 use Rattle.implib_link.proofs.Search.Arranged.{chosen_are}
-use Rattle.implib.specs.LibraryName.{NamesOfDll}
-use Rattle.implib.specs.LibraryName.{names_for}
+use Rattle.implib.specs.LibraryName.{NamesOfDll, names_for}
 use Rattle.implib.specs.declared.flavor.Flavor.TheVariants.{Gnu}
 
 -- The room of a group in objects: for each section its bytes and its alignment.
@@ -201,18 +200,6 @@ block_near machine dll es rest =
     let between = exports_near machine dll es (tail machine dll ∷ rest) in
     omega arith
 
-abbrev block_room : Block → ℕ
-block_room k = 61 + length k.dll.text + sum_by export_room k.exports
-
-blocks_near : (machine : MachineType) (blocks : List Block) → all_rooms (blocks_objects machine blocks (null_descriptor ∷ [])) ≤ sum_by block_room blocks + 24
-unfolding all_rooms
-blocks_near machine [] = (let null = null_near in omega arith)
-blocks_near machine (k ∷ blocks) =
-    let first = block_near machine k.dll k.exports (blocks_objects machine blocks (null_descriptor ∷ [])) in
-    let next : sum_by block_room (k ∷ blocks) ≡ block_room k + sum_by block_room blocks = sum_next block_room k blocks in
-    let behind = blocks_near machine blocks in
-    omega arith
-
 -- Some exports need no more room than all.
 
 some_near : (test : ExportView → Bool) (es : List ExportView) → sum_by export_room (filter test es) ≤ sum_by export_room es
@@ -229,21 +216,23 @@ wanted_near l wanted =
     let some : sum_by export_room (filter (is_wanted wanted) (exports_of l)) ≤ sum_by export_room (exports_of l) = some_near (is_wanted wanted) (exports_of l) in
     subst (λ (es : List ExportView). 61 + length l.definition.import_name + sum_by export_room es ≤ library_room l) (sym (chosen_are l wanted)) (omega arith)
 
-input_near : (l : Library) (chosen : List ℕ) (others : List LinkInput) (n m : ℕ) → sum_by block_room (map block_of others) ≤ n →
-    block_room (record { dll = names_for Gnu l.definition; exports = chosen_exports l.definition chosen }) ≤ m →
-    sum_by block_room (map block_of (cons_option (input_if_any l chosen) others)) ≤ m + n
-input_near l [] others n m behind own = omega arith
-input_near l (c ∷ chosen) others n m behind own =
-    let own_block : Block = record { dll = names_for Gnu l.definition; exports = chosen_exports l.definition (c ∷ chosen) } in
-    let next : sum_by block_room (own_block ∷ map block_of others) ≡ block_room own_block + sum_by block_room (map block_of others) = sum_next block_room own_block (map block_of others) in
-    omega arith
+abbrev linked_rooms : MachineType → List LinkInput → ℕ
+linked_rooms machine inputs = all_rooms (blocks_objects machine (map block_of inputs) (null_descriptor ∷ []))
 
-libraries_near : (libraries : List Library) (wanted : List (List ℕ)) → sum_by block_room (map block_of (inputs_wanted libraries wanted)) ≤ sum_by library_room libraries
-libraries_near [] wanted = omega arith
-libraries_near (l ∷ libraries) wanted =
+input_near : (machine : MachineType) (l : Library) (chosen : List ℕ) (others : List LinkInput) (n m : ℕ) → linked_rooms machine others ≤ n →
+    61 + length l.definition.import_name + sum_by export_room (chosen_exports l.definition chosen) ≤ m → linked_rooms machine (cons_option (input_if_any l chosen) others) ≤ m + n
+input_near machine l [] others n m behind own = omega arith
+input_near machine l (c ∷ chosen) others n m behind own =
+    (let first = block_near machine (names_for Gnu l.definition) (chosen_exports l.definition (c ∷ chosen)) (blocks_objects machine (map block_of others) (null_descriptor ∷ [])) in omega arith)
+
+libraries_near : (machine : MachineType) (libraries : List Library) (wanted : List (List ℕ)) → linked_rooms machine (inputs_wanted libraries wanted) ≤ sum_by library_room libraries + 24
+unfolding all_rooms
+libraries_near machine [] wanted = (let null = null_near in omega arith)
+libraries_near machine (l ∷ libraries) wanted =
     let all : sum_by library_room (l ∷ libraries) ≡ library_room l + sum_by library_room libraries = sum_next library_room l libraries in
-    subst (λ n. sum_by block_room (map block_of (inputs_wanted (l ∷ libraries) wanted)) ≤ n) (sym all)
-    (input_near l (exports_wanted l.definition wanted) (inputs_wanted libraries wanted) (sum_by library_room libraries) (library_room l) (libraries_near libraries wanted) (wanted_near l wanted))
+    let near : linked_rooms machine (inputs_wanted (l ∷ libraries) wanted) ≤ library_room l + (sum_by library_room libraries + 24) =
+    input_near machine l (exports_wanted l.definition wanted) (inputs_wanted libraries wanted) (sum_by library_room libraries + 24) (library_room l) (libraries_near machine libraries wanted) (wanted_near l wanted) in
+    omega arith
 
 pub tables_near : (machine : MachineType) (first : ℕ) (libraries arranged : List Library) (wanted : List (List ℕ)) (objects : List Object) → AllByRecursion (IsLibrary machine) arranged →
     IsPermutation libraries arranged → filter has_tables objects ≡ objects_in (all_linked machine (inputs_wanted arranged wanted)) ++ null_descriptor ∷ [] →
@@ -255,7 +244,6 @@ tables_near machine first libraries arranged wanted objects made order tables =
     tables ∙ ap (λ members. members ++ null_descriptor ∷ []) (gnu_inputs_objects machine inputs (inputs_made machine arranged wanted made))
     ∙ objects_behind machine (map block_of inputs) (null_descriptor ∷ []) in
     let near : packed_end first blocks ≤ first + 38 + all_rooms blocks = packed_near first blocks in
-    let rooms : all_rooms blocks ≤ sum_by block_room (map block_of inputs) + 24 = blocks_near machine (map block_of inputs) in
-    let sums : sum_by block_room (map block_of inputs) ≤ sum_by library_room arranged = libraries_near arranged wanted in
+    let rooms : all_rooms blocks ≤ sum_by library_room arranged + 24 = libraries_near machine arranged wanted in
     let moved : sum_by library_room arranged ≡ sum_by library_room libraries = sum_by-IsPermutation library_room libraries arranged order in
     subst (λ n. n ≤ tables_end first libraries) (sym (packed_end_kept first objects ∙ ap (packed_end first) are)) (omega arith)

@@ -17,9 +17,11 @@ use Rattle.implib.specs.Link.Placement.{Bases}
 use Rattle.implib.specs.Renaming.{renamed}
 use Rattle.implib.proofs.Link.LinkedMembers.{among_contains, among_map}
 use Rattle.implib.proofs.Link.Ranges.{Among, among_first, among_front, among_later}
-use Rattle.implib_link.specs.Gnu.Program.{ClaimsNone, IsProgram, has_tables, null_descriptor}
-use Rattle.implib_link.specs.Search.Search.{HaveSame, ImportsWanted, IsArranged, IsLinkedOfWanted, IsLinkedWith, NamesNoHeadOrTail, Takes, exports_wanted, is_wanted}
-use Rattle.implib_link.proofs.Gnu.Program.{program_links}
+use Rattle.implib_link.specs.Gnu.Program.{ClaimsNone, has_tables, null_descriptor, HaveSame}
+use Rattle.implib_link.specs.Flavors.Program.{OfLinker, gnu_input, IsProgram}
+use Rattle.implib_link.specs.Search.Search.{ImportsWanted, IsArranged, IsLinkedOfWanted, IsLinkedWith, NamesNoHeadOrTail, Takes, exports_wanted, is_wanted}
+use Rattle.implib_link.proofs.Flavors.Program.{program_links}
+use Rattle.implib_link.proofs.Flavors.GnuPrograms.{gnu_objects}
 use Rattle.implib_link.proofs.Search.One.{needed, taken_held, taken_if_needed}
 use Rattle.implib_link.proofs.Search.Lists.{all_listed, among_either, among_mapped, apart_none, contains_among, distinct_apart, some_distinct}
 use Rattle.implib_link.proofs.Search.Search.{AnExport, IsExport, Needed, TheHead, TheTail, chosen_member_spec, in_nothing, numbers_are_wanted, only_one}
@@ -142,12 +144,15 @@ module _ (machine : MachineType) (d : DefinitionView) (members taken arranged : 
       AllByRecursion (ClaimsNone (all_listed arranged)) (filter (λ o. not (has_tables o)) objects) → IsAdmissible machine bases objects →
       IsProgram machine bases (input ∷ []) objects
   is_program bases objects tables others admissible = record {
-    distinct = subst (λ ms. IsDistinct bytes_eq (all_listed ms)) all_are (some_distinct members arranged distinct
+    held = gnu_objects machine (input ∷ []) objects
+        (subst (λ ms. IsDistinct bytes_eq (all_listed ms)) all_are (some_distinct members arranged distinct
         (λ m held. taken_held members wanted taken takes.in_turn m (is_taken m (subst (Among m) is_arranged.order held)))
-        is_arranged.once);
-    tables = tables ∙ ap (λ ms. objects_in ms ++ null_descriptor ∷ []) all_are;
-    others = subst (λ ms. AllByRecursion (ClaimsNone (all_listed ms)) (filter (λ o. not (has_tables o)) objects)) all_are others;
+        is_arranged.once))
+        (tables ∙ ap (λ ms. objects_in ms ++ null_descriptor ∷ []) all_are) (subst (λ ms. AllByRecursion (ClaimsNone (all_listed ms)) (filter (λ o. not (has_tables o)) objects)) all_are others);
     admissible = admissible;
+    lookups = tt;
+    addresses = tt;
+    follows = tt;
   }
 
   pub imports_wanted : (bases : Bases) (objects : List Object) → filter has_tables objects ≡ objects_in arranged ++ null_descriptor ∷ [] →
@@ -156,7 +161,7 @@ module _ (machine : MachineType) (d : DefinitionView) (members taken arranged : 
   imports_wanted bases objects tables others admissible = record {
     chosen = numbers.0;
     same = same_numbers;
-    links = program_links machine bases (input ∷ []) objects (made, tt) (is_program bases objects tables others admissible);
+    links = program_links machine OfLinker bases (gnu_input input ∷ []) objects (made, tt) (is_program bases objects tables others admissible);
   }
 
 pub linked_in_order : (machine : MachineType) (d : DefinitionView) (members taken arranged : List MemberView) (wanted : List (List ℕ)) → AreMembersOf d machine Gnu members →

@@ -18,11 +18,15 @@ use Rattle.implib.specs.Members.GnuMembers.{export_spec, head_spec, tail_spec}
 use Rattle.implib.specs.Renaming.{renamed}
 use Rattle.implib.proofs.Link.LinkedMembers.{among_contains, head_before_tail, head_first, tail_last}
 use Rattle.implib.proofs.Link.Ranges.{Among, among_first, among_later}
-use Rattle.implib_link.specs.Search.Search.{HaveSame, IsArranged, NamesNoHeadOrTail, Takes, exports_wanted}
+use Rattle.implib_link.specs.Search.Search.{IsArranged, NamesNoHeadOrTail, Takes, exports_wanted}
+use Rattle.implib_link.specs.Gnu.Program.{HaveSame}
 use Rattle.implib_link.proofs.Search.Lists.{all_listed, contains_among}
 use Rattle.implib_link.proofs.Search.Search.{AnExport, AnyWanted, Needed, TheHead, TheTail, numbers_are_wanted}
 use Rattle.implib_link.proofs.Search.One.{needed, taken_if_needed}
 use Rattle.implib.specs.LibraryName.{NamesOfDll, linked_name, names_for}
+
+abbrev names : List MemberView → List (List ℕ)
+names members = map (λ (m : MemberView). m.name) members
 
 less_or_greater : Less ≡ Greater → ⊥
 less_or_greater same = cc
@@ -32,9 +36,6 @@ not_both x y before behind = less_or_greater (sym before ∙ nat_list_cmp_total.
 
 not_itself : (x : List ℕ) → ComesBefore x x → ⊥
 not_itself x before = not_both x x before before
-
-abbrev names : List MemberView → List (List ℕ)
-names members = map (λ (m : MemberView). m.name) members
 
 rest_rises : (x : MemberView) (members : List MemberView) → IsAscending (names (x ∷ members)) → IsAscending (names members)
 rest_rises x [] rise = tt

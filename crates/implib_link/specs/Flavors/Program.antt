@@ -1,5 +1,5 @@
--- Programs of DLLs in both flavours: objects that are linked, among them what a linker takes the chosen
--- members of several DLLs for, each made for Microsoft's linker or for GNU's, and one null descriptor. The
+-- Programs of DLLs in either flavour: objects that are linked, among them what a linker takes the chosen
+-- members of several DLLs for, each made for Microsoft's linker or for GNU's, and what ends their directory. The
 -- others hold no part of the import tables and claim no symbol of the members.
 use Rattle.std.specs.Prelude.{◌≡◌, ℕ, ◌+◌, ◌*◌, ◌%◌, false, not, List, [], ◌∷◌, ◌++◌, bytes_eq, length, map, slice_get, Some, if◌then◌else◌}
 use Rattle.std.specs.List.{AllByRecursion, Contains, IsDistinct, filter, filter_map, flat_map}
@@ -13,7 +13,7 @@ use Rattle.implib.specs.Import.{Ask, Name, Ordinal, imp_symbol}
 use Rattle.implib.specs.LibraryName.{NamesOfDll, linked_dll, names_for}
 use Rattle.implib.specs.Members.ImportTables.{thunk_width}
 use Rattle.implib.specs.Link.Linked.{AllFind, IsDefinedAt, IsDefinedOnce, undefined_names}
-use Rattle.implib.specs.Link.LinkedMembers.{LinkInput, chosen_exports, linked_specs}
+use Rattle.implib.specs.Link.LinkedMembers.{LinkInput, chosen_exports, linked_specs, objects_in}
 use Rattle.implib.specs.Link.Load.{LoadsStrictly}
 use Rattle.implib.specs.Members.MemberSpec.{MemberSpec, MemberView, member_of}
 use Rattle.implib.specs.Members.Members.{AreMembersOf}
@@ -27,8 +27,7 @@ use Rattle.implib.specs.Link.Resolution.{definitions_of}
 use Rattle.implib_link.specs.Directory.{DirectoryAt, Imported}
 use Rattle.implib_link.specs.Flavors.Expansion.{descriptor_symbol_by_name, expanded_in}
 use Rattle.implib_link.specs.Gnu.Packed.{group_end}
-use Rattle.implib_link.specs.Gnu.Program.{ClaimsNone, GetsAddress, has_tables, names_claimed_in, thunks_before, with_tables}
-use Rattle.implib_link.specs.Search.Search.{HaveSame}
+use Rattle.implib_link.specs.Gnu.Program.{ClaimsNone, GetsAddress, HaveSame, has_tables, names_claimed_in, null_descriptor, thunks_before, with_tables}
 
 -- an input of a link in a flavour: a definition, its members for this flavour's linker, and the numbers of
 -- the chosen exports
@@ -109,17 +108,23 @@ abbrev pub IsFoundByName : Flavor → NamesOfDll → Type 0
 IsFoundByName Msvc dll = descriptor_symbol_by_name dll.text ≡ descriptor_symbol dll.linked
 IsFoundByName Gnu dll = Unit {0}
 
--- What may be linked with the members of these inputs:
--- `distinct`: no two members are listed for one symbol;
+-- What ends the import directory: the linker's own null descriptor, behind all members, or the null descriptor of a
+-- library for Microsoft's linker, which is among them.
+pub data Ending : Type 0 where
+  OfLinker : Ending
+  OfMember : Ending
+
+-- what is asked or said where a library's null descriptor ends the directory, and else not
+abbrev pub WhereMember : Ending → Type 0 → Type 0
+WhereMember OfLinker fact = Unit {0}
+WhereMember OfMember fact = fact
+
+-- A library's null descriptor ends the directory:
 -- `null_from`: an input for Microsoft's linker, whose null descriptor is linked, put in anywhere (`before`,
 -- `behind`) among the members (`members`);
--- `tables`: the objects with import tables are what these are taken for;
--- `others`: the other objects are anywhere before, between and after, and claim none of the members'
--- symbols;
--- `found`: linkers find each descriptor by its DLL's name.
-pub record AreFlavorObjects (machine : MachineType) (inputs : List FlavorInput) (objects : List Object)
+-- `tables`: the objects with import tables are what these are taken for.
+pub record AreEndedByMember (machine : MachineType) (inputs : List FlavorInput) (objects : List Object)
     : Type 0 where
-  pub distinct : IsDistinct bytes_eq (null_descriptor_symbol ∷ symbols_listed (all_members machine inputs))
   pub null_from : FlavorInput
   pub null_held : Contains inputs null_from
   pub null_flavor : null_from.flavor ≡ Msvc
@@ -128,20 +133,49 @@ pub record AreFlavorObjects (machine : MachineType) (inputs : List FlavorInput) 
   pub members : before ++ behind ≡ all_members machine inputs
   pub tables : filter has_tables objects
       ≡ objects_taken machine (before ++ null_member machine (linked_dll null_from.input.definition) ∷ behind)
-  pub others : AllByRecursion
-      (ClaimsNone (null_descriptor_symbol ∷ symbols_listed (all_members machine inputs)))
+
+-- The linker's null descriptor ends the directory:
+-- `gnu`: all members are for GNU's linker, since the others name a library's null descriptor;
+-- `tables`: the objects with import tables are the members and, after them, the null descriptor.
+pub record AreEndedByLinker (machine : MachineType) (inputs : List FlavorInput) (objects : List Object)
+    : Type 0 where
+  pub gnu : AllByRecursion (λ p. p.flavor ≡ Gnu) inputs
+  pub tables : filter has_tables objects ≡ objects_in (all_members machine inputs) ++ null_descriptor ∷ []
+
+-- the objects with import tables, by what ends the directory
+abbrev pub AreEnded : Ending → MachineType → List FlavorInput → List Object → Type 0
+AreEnded OfLinker machine inputs objects = AreEndedByLinker machine inputs objects
+AreEnded OfMember machine inputs objects = AreEndedByMember machine inputs objects
+
+-- the symbols that the members are listed for, and a library's null descriptor
+abbrev pub own_names : Ending → MachineType → List FlavorInput → List (List ℕ)
+own_names OfLinker machine inputs = symbols_listed (all_members machine inputs)
+own_names OfMember machine inputs = null_descriptor_symbol ∷ symbols_listed (all_members machine inputs)
+
+-- What may be linked with the members of these inputs, objects with the full names of their sections, as
+-- `object_by_full_names` reads them:
+-- `distinct`: no two members are listed for one symbol;
+-- `ended`: the objects with import tables are what the members are taken for, and what ends the directory;
+-- `others`: the other objects are anywhere before, between and after, and claim none of the members'
+-- symbols;
+-- `found`: linkers find each descriptor by its DLL's name.
+pub record AreProgramObjects (machine : MachineType) (ending : Ending) (inputs : List FlavorInput)
+    (objects : List Object) : Type 0 where
+  pub distinct : IsDistinct bytes_eq (own_names ending machine inputs)
+  pub ended : AreEnded ending machine inputs objects
+  pub others : AllByRecursion (ClaimsNone (own_names ending machine inputs))
       (filter (λ o. not (has_tables o)) objects)
   pub found : AllByRecursion (λ p. IsFoundByName p.flavor (dll_names_in p)) inputs
 
--- A program of such objects: the bases are admissible; the tables begin at multiples of a thunk's width;
--- `.idata$3` begins where `.idata$2` ends.
-pub record IsFlavorProgram (machine : MachineType) (bases : Bases) (inputs : List FlavorInput)
+-- A program of such objects: the bases are admissible; where a library's null descriptor ends the directory, the
+-- tables begin at multiples of a thunk's width, and `.idata$3` begins where `.idata$2` ends.
+pub record IsProgramOf (machine : MachineType) (ending : Ending) (bases : Bases) (inputs : List FlavorInput)
     (objects : List Object) : Type 0 where
-  pub held : AreFlavorObjects machine inputs objects
+  pub held : AreProgramObjects machine ending inputs objects
   pub admissible : IsAdmissible machine bases objects
-  pub lookups : bases.lookups % thunk_width machine ≡ 0
-  pub addresses : bases.addresses % thunk_width machine ≡ 0
-  pub follows : bases.directory_ends ≡ group_end Descriptors bases.descriptors objects
+  pub lookups : WhereMember ending (bases.lookups % thunk_width machine ≡ 0)
+  pub addresses : WhereMember ending (bases.addresses % thunk_width machine ≡ 0)
+  pub follows : WhereMember ending (bases.directory_ends ≡ group_end Descriptors bases.descriptors objects)
 
 -- these symbols are at entries of `width` bytes, one after another from an address on, and nowhere else
 unfoldable pub SymbolsAt : List Placed → ℕ → ℕ → List (List ℕ) → Type 0
@@ -189,18 +223,23 @@ pub record IsTaken (machine : MachineType) (p : FlavorInput) : Type 0 where
 abbrev pub thunks_of : ℕ → List FlavorInput → ℕ
 thunks_of i inputs = thunks_before i (map (λ p. p.input) inputs)
 
+-- the names that members claim, where a library's null descriptor may be anywhere among them
+abbrev pub AreClaimed : Ending → List (List ℕ) → List (List ℕ) → Type 0
+AreClaimed OfLinker claimed own = claimed ≡ own
+AreClaimed OfMember claimed own = HaveSame claimed own
+
 -- What a link of a program gives, of objects placed at bases:
 -- `linked`: what is linked of each definition are its members;
 -- `imports`: the i-th DLL's descriptor is the i-th from the descriptors' base, its address table is
 -- after those of the DLLs before it, and its imports are as above;
 -- `directory`: at the base is a directory of exactly these imports;
--- `null`: it is the null descriptor that ends it, whose symbol has this address (`ended`);
+-- `null`: where it is a library's null descriptor that ends it, its symbol has this address (`ended`);
 -- `targets`: every relocation of a member finds its target;
 -- `defined`: every symbol that a member leaves to others is defined once, at an address;
 -- `listed`: every symbol that a member is listed for is defined once;
--- `claimed`: the names that the members claim are those that they are listed for, the null descriptor's with
--- them, and no others.
-pub record FlavorsLink (machine : MachineType) (bases : Bases) (inputs : List FlavorInput)
+-- `claimed`: the names that the members claim are those that they are listed for, a library's null descriptor's
+-- with them, and no others.
+pub record ProgramLinks (machine : MachineType) (ending : Ending) (bases : Bases) (inputs : List FlavorInput)
     (objects : List Object) : Type 0 where
   pub linked : AllByRecursion (IsTaken machine) inputs
   pub imports : (i : ℕ) (p : FlavorInput) → slice_get inputs i ≡ Some p →
@@ -208,13 +247,24 @@ pub record FlavorsLink (machine : MachineType) (bases : Bases) (inputs : List Fl
       (bases.descriptors + 20 * i) (bases.addresses + thunk_width machine * thunks_of i inputs) p
   pub directory : DirectoryAt (image_of machine bases (placed_from bases objects))
       (thunk_width machine) bases.descriptors (map (imported_in machine) inputs)
-  pub null : definitions_of null_descriptor_symbol (placed_from bases objects)
-      ≡ record { name = null_descriptor_symbol; address = Some bases.directory_ends } ∷ []
-  pub ended : bases.directory_ends ≡ bases.descriptors + 20 * length inputs
+  pub null : WhereMember ending (definitions_of null_descriptor_symbol (placed_from bases objects)
+      ≡ record { name = null_descriptor_symbol; address = Some bases.directory_ends } ∷ [])
+  pub ended : WhereMember ending (bases.directory_ends ≡ bases.descriptors + 20 * length inputs)
   pub targets : AllByRecursion (AllFind (placed_from bases objects)) (with_tables (placed_from bases objects))
   pub defined : AllByRecursion (IsDefinedAt (placed_from bases objects))
       (undefined_names (with_tables (placed_from bases objects)))
   pub listed : AllByRecursion (IsDefinedOnce (placed_from bases objects))
       (symbols_listed (all_members machine inputs))
-  pub claimed : HaveSame (names_claimed_in (with_tables (placed_from bases objects)))
-      (null_descriptor_symbol ∷ symbols_listed (all_members machine inputs))
+  pub claimed : AreClaimed ending (names_claimed_in (with_tables (placed_from bases objects)))
+      (own_names ending machine inputs)
+
+-- an input of a link for GNU's linker, as one in a flavour
+abbrev pub gnu_input : LinkInput → FlavorInput
+gnu_input p = record { flavor = Gnu; input = p }
+
+-- a program of members for GNU's linker, which the linker's null descriptor ends, and what its link gives
+abbrev pub IsProgram : MachineType → Bases → List LinkInput → List Object → Type 0
+IsProgram machine bases inputs objects = IsProgramOf machine OfLinker bases (map gnu_input inputs) objects
+
+abbrev pub LinksAmong : MachineType → Bases → List LinkInput → List Object → Type 0
+LinksAmong machine bases inputs objects = ProgramLinks machine OfLinker bases (map gnu_input inputs) objects

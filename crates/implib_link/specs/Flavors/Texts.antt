@@ -1,4 +1,4 @@
--- Programs of both flavours from texts: what linking the members of module definition files gives, in the
+-- Programs from texts: what linking the members of module definition files gives, in the
 -- words of their statements.
 use Rattle.std.specs.Prelude.{◌≡◌, ℕ, ◌+◌, ◌*◌, List, [], ◌∷◌, map, slice_get, Some}
 use Rattle.implib.specs.declared.flavor.Flavor.{Flavor}
@@ -14,7 +14,7 @@ use Rattle.implib.specs.Members.Members.{AreMembersOf}
 use Rattle.implib.specs.Formats.Object.{Object}
 use Rattle.implib.specs.Text.Parses.{Parses}
 use Rattle.implib.specs.Link.Placement.{Bases, Placed, placed_from}
-use Rattle.implib_link.specs.Flavors.Program.{FlavorInput, FlavorsLink, InputImports, IsFlavorProgram, ask_in, symbol_in, thunks_of}
+use Rattle.implib_link.specs.Flavors.Program.{Ending, FlavorInput, InputImports, ask_in, symbol_in, thunks_of, ProgramLinks, IsProgramOf}
 use Rattle.implib_link.specs.Gnu.Texts.{Source, ask_stated, chosen_stated, link_input_of, source_of}
 
 -- a source in a flavour
@@ -55,9 +55,9 @@ pub record FlavorTextLinks (machine : MachineType) (image : List Range) (linked 
       ≡ map ask_stated (chosen_stated parsed (exports_of_text parses.statements) s.source.chosen)
 
 -- What linking texts' members among objects gives: the program's link, and that of each text.
-pub record FlavorTextsLink (machine : MachineType) (bases : Bases) (sources : List FlavorSource)
-    (objects : List Object) : Type 0 where
-  pub among : FlavorsLink machine bases (map input_of sources) objects
+pub record FlavorTextsLink (machine : MachineType) (ending : Ending) (bases : Bases)
+    (sources : List FlavorSource) (objects : List Object) : Type 0 where
+  pub among : ProgramLinks machine ending bases (map input_of sources) objects
   pub imports : (i : ℕ) (s : FlavorSource) → slice_get sources i ≡ Some s →
       FlavorTextLinks machine (image_of machine bases (placed_from bases objects)) (placed_from bases objects)
       (bases.descriptors + 20 * i)
@@ -73,6 +73,6 @@ flavor_source flavor text library members chosen =
 abbrev pub LinkInFlavor : List ℕ → MachineType → Flavor → List MemberView → Type 0
 LinkInFlavor text machine flavor members =
     (library : LibraryView) × (LibraryOf text machine flavor library ×
-    ((chosen : List ℕ) (bases : Bases) (objects : List Object) →
-    IsFlavorProgram machine bases (input_of (flavor_source flavor text library members chosen) ∷ []) objects →
-    FlavorTextsLink machine bases (flavor_source flavor text library members chosen ∷ []) objects))
+    ((ending : Ending) (chosen : List ℕ) (bases : Bases) (objects : List Object) →
+    IsProgramOf machine ending bases (input_of (flavor_source flavor text library members chosen) ∷ []) objects →
+    FlavorTextsLink machine ending bases (flavor_source flavor text library members chosen ∷ []) objects))

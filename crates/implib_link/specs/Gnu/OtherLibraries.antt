@@ -7,13 +7,12 @@ use Rattle.implib.specs.Members.ImportTables.{thunk_width, zeros}
 use Rattle.implib.specs.Formats.Object.{Object, ObjectSection}
 use Rattle.implib.specs.Link.Image.{IsAdmissible, Range, image_of}
 use Rattle.implib.specs.Link.Linked.{AllFind, IsDefinedAt, IsDefinedOnce, IsLinked, undefined_names}
-use Rattle.implib.specs.Link.LinkedMembers.{LinkInput, all_linked, chosen_exports, objects_in}
+use Rattle.implib.specs.Link.LinkedMembers.{LinkInput, all_linked, objects_in}
 use Rattle.implib.specs.Link.Load.{BytesAt, LoadsStrictly}
 use Rattle.implib.specs.Link.Placement.{Addresses, Bases, Descriptors, DirectoryEnds, DllNames, Group, HintNames, Lookups, Placed, alignment, ends_after, group_named, placed_from, same_group}
 use Rattle.implib_link.specs.Directory.{DirectoryAt, Imported, imported}
-use Rattle.implib_link.specs.Gnu.Program.{ClaimsNone, ImportsBy, has_tables, linked_symbols, null_descriptor, thunks_before}
-use Rattle.implib.specs.LibraryName.{names_for}
-use Rattle.implib.specs.declared.flavor.Flavor.TheVariants.{Gnu}
+use Rattle.implib_link.specs.Gnu.Program.{ClaimsNone, has_tables, linked_symbols, null_descriptor, thunks_before}
+use Rattle.implib_link.specs.Flavors.Program.{InputImports, gnu_input}
 
 -- The objects of other import libraries, what their descriptors import, and after them the members of these
 -- inputs. Either part may be empty.
@@ -152,9 +151,8 @@ pub record IsProgramBeside (machine : MachineType) (bases : Bases) (runs : List 
 pub record RunLinks (machine : MachineType) (image : List Range) (linked : List Placed) (b : Bases) (r : Run)
     : Type 0 where
   pub imports : (i : ℕ) (p : LinkInput) → slice_get r.inputs i ≡ Some p →
-      ImportsBy machine image linked (b.descriptors + 20 * i)
-      (b.addresses + thunk_width machine * thunks_before i r.inputs)
-      (names_for Gnu p.definition) (chosen_exports p.definition p.chosen)
+      InputImports machine image linked (b.descriptors + 20 * i)
+      (b.addresses + thunk_width machine * thunks_before i r.inputs) (gnu_input p)
   pub targets : AllByRecursion (AllFind linked) (placed_from b (members_of_run machine r))
   pub defined : AllByRecursion (IsDefinedAt linked) (undefined_names (placed_from b (members_of_run machine r)))
 

@@ -14,7 +14,8 @@ use Rattle.implib.specs.Members.Members.{AreMembersOf}
 use Rattle.implib.specs.Members.MemberSpec.{MemberView}
 use Rattle.implib.specs.Formats.Object.{ASymbol, Auxiliary, Entry, Object, object_in}
 use Rattle.implib.specs.Renaming.{renamed}
-use Rattle.implib_link.specs.Search.Search.{HaveSame, NamesNoHeadOrTail, exports_wanted, names_undefined}
+use Rattle.implib_link.specs.Search.Search.{NamesNoHeadOrTail, exports_wanted, names_undefined}
+use Rattle.implib_link.specs.Gnu.Program.{HaveSame}
 use Rattle.implib.specs.LibraryName.{linked_name}
 
 -- a definition and its members

@@ -11,7 +11,7 @@ use Rattle.implib.specs.Formats.Object.{Object}
 use Rattle.implib.specs.Import.{imp_symbol}
 use Rattle.implib.specs.Link.Image.{IsAdmissible}
 use Rattle.implib.specs.Link.Linked.{IsDefinedOnce}
-use Rattle.implib.specs.Link.LinkedMembers.{LinkInput, all_linked}
+use Rattle.implib.specs.Link.LinkedMembers.{all_linked}
 use Rattle.implib.specs.Link.Placement.{Bases, Descriptors, Placed, placed_from}
 use Rattle.implib.specs.Link.Resolution.{definitions_of}
 use Rattle.implib.specs.Members.Gnu.{archive_symbols}
@@ -19,9 +19,9 @@ use Rattle.implib.specs.Members.ImportTables.{thunk_width}
 use Rattle.implib.specs.Members.MemberSpec.{MemberView}
 use Rattle.implib.specs.Members.Msvc.{short_import_symbols}
 use Rattle.implib.specs.Members.MsvcObjects.{null_descriptor_symbol}
-use Rattle.implib_link.specs.Flavors.Program.{FlavorInput, FlavorsLink, IsFlavorProgram, all_members, exports_chosen, objects_taken, symbol_in, thunks_of}
+use Rattle.implib_link.specs.Flavors.Program.{OfMember, FlavorInput, all_members, exports_chosen, gnu_input, objects_taken, symbol_in, thunks_of, ProgramLinks, IsProgramOf, gnu_input}
 use Rattle.implib_link.specs.Gnu.Packed.{group_end}
-use Rattle.implib_link.specs.Gnu.Program.{ClaimsNone, has_tables}
+use Rattle.implib_link.specs.Gnu.Program.{ClaimsNone, has_tables, HaveSame}
 use Rattle.implib_link.specs.Search.Archives.{IsArchive, IsWeakData, Library, NamesNoHeadOrTailOf, archive_of, input_if_any, inputs_wanted, symbols_of_library}
 use Rattle.implib_link.specs.Search.Closed.{listed_in, unresolved}
 use Rattle.implib_link.specs.Search.Given.{alias_targets, heads_of, symbols_wanted, tails_of}
@@ -29,7 +29,7 @@ use Rattle.implib_link.specs.Search.Msvc.{left_in}
 use Rattle.implib_link.specs.Search.MsvcArchives.{IsMsvcArchive, IsWeakShort, NamesNoHeaderOf, first_null, imports_wanted, others_in, short_input_if_any, short_inputs, shorts_linked, symbols_of_shorts, wanted_with_weak, weak_in}
 use Rattle.implib_link.specs.Search.MsvcGiven.{headers_of, import_symbols_wanted, short_targets}
 use Rattle.implib_link.specs.Search.MsvcClosed.{IsWeakTaken, TakesIntoFor, wanted_for}
-use Rattle.implib_link.specs.Search.Search.{HaveSame, exports_wanted}
+use Rattle.implib_link.specs.Search.Search.{exports_wanted}
 
 -- a library, and the flavour of its members
 pub record FlavorLibrary : Type 0 where
@@ -71,9 +71,6 @@ pub record NamesNoMembers (machine : MachineType) (libraries : List FlavorLibrar
   pub msvc : NamesNoHeaderOf (msvc_among libraries) names
 
 -- what is linked of a library: nothing, where no export is wanted
-abbrev pub gnu_input : LinkInput → FlavorInput
-gnu_input p = record { flavor = Gnu; input = p }
-
 abbrev pub flavor_input : List (List ℕ) → Flavor → Library → Option FlavorInput
 flavor_input names Msvc l = short_input_if_any l (imports_wanted l names)
 flavor_input names Gnu l = option_map gnu_input (input_if_any l (exports_wanted l.definition names))
@@ -170,8 +167,8 @@ IsUsedIn flavor wanted e = (name : List ℕ) × Contains (symbols_in flavor e) n
 pub record LinksClosedForBoth (machine : MachineType) (libraries : List FlavorLibrary) (own : List Object)
     (taken : List MemberView) (arranged : List FlavorLibrary) (bases : Bases) (objects : List Object) : Type 0 where
   pub taken_is : TakesOfBoth machine libraries (unresolved own) taken
-  pub program : IsFlavorProgram machine bases (inputs_of_both machine arranged own taken) objects
-  pub links : FlavorsLink machine bases (inputs_of_both machine arranged own taken) objects
+  pub program : IsProgramOf machine OfMember bases (inputs_of_both machine arranged own taken) objects
+  pub links : ProgramLinks machine OfMember bases (inputs_of_both machine arranged own taken) objects
   pub used : (i j : ℕ) (p : FlavorInput) (e : ExportView) →
       slice_get (inputs_of_both machine arranged own taken) i ≡ Some p →
       slice_get (exports_chosen p) j ≡ Some e → IsUsedIn p.flavor (wanted_for machine own taken) e

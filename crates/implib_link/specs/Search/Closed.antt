@@ -14,9 +14,10 @@ use Rattle.implib.specs.Link.Resolution.{definitions_of}
 use Rattle.implib.specs.Members.Gnu.{archive_symbols}
 use Rattle.implib.specs.Members.ImportTables.{thunk_width}
 use Rattle.implib.specs.Members.MemberSpec.{MemberView}
-use Rattle.implib_link.specs.Gnu.Program.{ClaimsNone, IsProgram, LinksAmong, claimed_names, has_tables, null_descriptor, thunks_before}
+use Rattle.implib_link.specs.Gnu.Program.{ClaimsNone, claimed_names, has_tables, null_descriptor, thunks_before, HaveSame}
+use Rattle.implib_link.specs.Flavors.Program.{LinksAmong, IsProgram}
 use Rattle.implib_link.specs.Search.Archives.{Library, NamesNoHeadOrTailOf, TakesOfLibraries, archive_of, inputs_wanted, wanted_with, weak_among}
-use Rattle.implib_link.specs.Search.Search.{HaveSame, first_listed, names_undefined, objects_as, undefined_in}
+use Rattle.implib_link.specs.Search.Search.{first_listed, names_undefined, objects_as, undefined_in}
 
 -- the names that objects leave to others, and those that they claim
 unfoldable pub references_of : List Object → List (List ℕ)

@@ -10,10 +10,9 @@ use Rattle.implib.specs.Link.LinkedMembers.{all_linked, objects_in}
 use Rattle.implib.specs.Link.Placement.{placed_from}
 use Rattle.implib.specs.Members.MemberSpec.{MemberView}
 use Rattle.implib_link.specs.Gnu.Packed.{packed}
-use Rattle.implib_link.specs.Gnu.Program.{has_tables, null_descriptor}
+use Rattle.implib_link.specs.Gnu.Program.{has_tables, null_descriptor, HaveSame}
 use Rattle.implib_link.specs.Search.Archives.{Library, exports_of, weak_among}
 use Rattle.implib_link.specs.Search.Closed.{IsClosed, LinksClosed, inputs_in}
-use Rattle.implib_link.specs.Search.Search.{HaveSame}
 
 -- No more bytes of the import tables than these come from an export, with those that align its parts: the name
 -- that its DLL is asked for, if one is given, or else its own, and 40 beside it.

@@ -15,7 +15,8 @@ use Rattle.implib.specs.Members.GnuMembers.{head_spec, tail_spec}
 use Rattle.implib.specs.Formats.Object.{Object, object_in}
 use Rattle.implib.specs.Link.Placement.{Bases}
 use Rattle.implib.specs.Renaming.{renamed}
-use Rattle.implib_link.specs.Gnu.Program.{ClaimsNone, LinksAmong, claimed_names, has_tables, null_descriptor}
+use Rattle.implib_link.specs.Gnu.Program.{ClaimsNone, HaveSame, claimed_names, has_tables, null_descriptor}
+use Rattle.implib_link.specs.Flavors.Program.{LinksAmong}
 use Rattle.implib.specs.LibraryName.{NamesOfDll}
 
 -- whether the archive lists a name for a member
@@ -110,11 +111,6 @@ linked_if_any d machine (n ∷ chosen) = linked_members d machine (n ∷ chosen)
 pub record NamesNoHeadOrTail (machine : MachineType) (dll : List ℕ) (wanted : List (List ℕ)) : Type 0 where
   pub head : list_any (bytes_eq (head_symbol machine dll)) wanted ≡ false
   pub name : list_any (bytes_eq (iname_symbol machine dll)) wanted ≡ false
-
--- two lists have the same elements
-abbrev pub HaveSame : {X : Type 0} → List X → List X → Type 0
-HaveSame {X} first second =
-    (x : X) → (Contains first x → Contains second x) × (Contains second x → Contains first x)
 
 -- what is taken, each member once, in an order in which the head is first and the tail last, as linkers
 -- have it that sort by member name

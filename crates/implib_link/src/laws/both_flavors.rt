@@ -19,7 +19,7 @@ ghost use Rattle.implib_link.specs.Search.Msvc.{TakesFor};
 ghost use Rattle.implib_link.specs.Search.MsvcArchives.{first_null, short_inputs, wanted_with_weak};
 ghost use Rattle.implib_link.specs.Search.MsvcArchives.{weak_in};
 ghost use Rattle.implib_link.specs.Search.MsvcClosed.{TakesIntoFor};
-ghost use Rattle.implib_link.specs.Search.Search.{HaveSame};
+ghost use Rattle.implib_link.specs.Gnu.Program.{HaveSame};
 ghost use Rattle.std.specs.List.{filter};
 ghost use Rattle.std.specs.Prelude.{◌≡◌, ◌<◌, ◌^◌, ◌++◌, ℕ, IsPermutation, List, length, not};
 

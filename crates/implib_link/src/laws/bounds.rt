@@ -5,7 +5,7 @@ ghost use Rattle.implib.specs.Link.LinkedMembers.{IsMade, LinkInput};
 ghost use Rattle.implib.specs.Link.Placement.{Bases};
 ghost use Rattle.implib.specs.declared.machine.MachineType.{MachineType};
 ghost use Rattle.implib_link.specs.Gnu.Bounds.{AreBounded, HaveEvenHints};
-ghost use Rattle.implib_link.specs.Gnu.Program.{IsProgram};
+ghost use Rattle.implib_link.specs.Flavors.Program.{IsProgram};
 ghost use Rattle.std.specs.List.{AllByRecursion};
 ghost use Rattle.std.specs.Prelude.{◌<◌, List, length};
 

@@ -11,7 +11,7 @@ ghost use Rattle.implib_link.specs.Flavors.Expansion.{before_last_stop, descript
 ghost use Rattle.implib_link.specs.Flavors.Program.{IsFoundByName};
 ghost use Rattle.implib_link.specs.Search.Msvc.{NamesNoHeader, TakesFor};
 ghost use Rattle.implib_link.specs.Search.Msvc.{msvc_if_any, shorts_wanted};
-ghost use Rattle.implib_link.specs.Search.Search.{HaveSame};
+ghost use Rattle.implib_link.specs.Gnu.Program.{HaveSame};
 ghost use Rattle.std.specs.List.{IsDistinct, flat_map};
 ghost use Rattle.std.specs.Prelude.{◌≡◌, ℕ, List, Some, bytes_eq};
 

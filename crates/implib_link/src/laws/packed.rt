@@ -1,33 +1,31 @@
 //! The law of packed placement.
 
-ghost use Rattle.implib.specs.Link.Image.{IsAdmissible};
-ghost use Rattle.implib.specs.Link.LinkedMembers.{IsMade, LinkInput, all_linked, objects_in};
 ghost use Rattle.implib.specs.Formats.Object.{Object};
+ghost use Rattle.implib.specs.Link.Image.{IsAdmissible};
 ghost use Rattle.implib.specs.declared.machine.MachineType.{MachineType};
+ghost use Rattle.implib_link.specs.Flavors.Program.{AreEnded, AreProgramObjects, Ending};
+ghost use Rattle.implib_link.specs.Flavors.Program.{FlavorInput, IsMadeFor, IsProgramOf};
 ghost use Rattle.implib_link.specs.Gnu.Packed.{packed, packed_end};
-ghost use Rattle.implib_link.specs.Gnu.Program.{IsProgram, has_tables, linked_symbols};
-ghost use Rattle.implib_link.specs.Gnu.Program.{null_descriptor};
-ghost use Rattle.std.specs.List.{AllByRecursion, IsDistinct, filter};
-ghost use Rattle.std.specs.Prelude.{◌≡◌, ◌<◌, ◌%◌, ◌^◌, ◌++◌, ◌∷◌, ℕ, List, [], bytes_eq};
+ghost use Rattle.std.specs.List.{AllByRecursion};
+ghost use Rattle.std.specs.Prelude.{◌≡◌, ◌<◌, ◌%◌, ◌^◌, ℕ, List};
 
-/// Packed placement from any address on is admissible for members and the null descriptor, other
-/// objects beside or not, where it ends below 2^31: so there is a program of all members whose
-/// symbols are distinct. The address tables begin at a multiple of 8.
+/// Packed placement from any address on is admissible for members and what ends their directory,
+/// other objects beside or not, where it ends below 2^31: it makes a program of the objects of one.
+/// The address tables begin at a multiple of 8.
 pub fn packed_is_program()
-    ensures admissible { (machine : MachineType) (first : ℕ) (inputs : List LinkInput)
-        (objects : List Object) →
-        AllByRecursion (IsMade machine) inputs →
-        filter has_tables objects ≡ objects_in (all_linked machine inputs) ++ null_descriptor ∷ [] →
+    ensures admissible { (machine : MachineType) (ending : Ending) (first : ℕ)
+        (inputs : List FlavorInput) (objects : List Object) →
+        AllByRecursion (IsMadeFor machine) inputs →
+        AreEnded ending machine inputs objects →
         0 < first →
         packed_end first objects < 2 ^ 31 →
         IsAdmissible machine (packed first objects) objects }
-    ensures program { (machine : MachineType) (first : ℕ) (inputs : List LinkInput) →
-        AllByRecursion (IsMade machine) inputs →
-        IsDistinct bytes_eq (linked_symbols machine inputs) →
-        0 < first →
-        packed_end first (objects_in (all_linked machine inputs) ++ null_descriptor ∷ []) < 2 ^ 31 →
-        IsProgram machine (packed first (objects_in (all_linked machine inputs) ++ null_descriptor ∷ [])) inputs
-        (objects_in (all_linked machine inputs) ++ null_descriptor ∷ []) }
+    ensures program { (machine : MachineType) (ending : Ending) (first : ℕ)
+        (inputs : List FlavorInput) (objects : List Object) →
+        AllByRecursion (IsMadeFor machine) inputs →
+        AreProgramObjects machine ending inputs objects →
+        0 < first → packed_end first objects < 2 ^ 31 →
+        IsProgramOf machine ending (packed first objects) inputs objects }
     ensures eights { (first : ℕ) (objects : List Object) →
         (packed first objects).addresses % 8 ≡ 0 }
 {}

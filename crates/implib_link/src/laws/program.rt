@@ -1,4 +1,4 @@
-//! Laws of programs that the members for GNU's linker are linked into.
+//! Laws of programs that members are linked into.
 
 ghost use Rattle.implib.specs.Link.Image.{IsAdmissible, Range};
 ghost use Rattle.implib.specs.Link.Linked.{AllLink};
@@ -7,11 +7,14 @@ ghost use Rattle.implib.specs.Formats.Object.{Object};
 ghost use Rattle.implib.specs.Link.Placement.{Bases};
 ghost use Rattle.implib.specs.declared.machine.MachineType.{MachineType};
 ghost use Rattle.implib_link.specs.Directory.{DirectoryAt, Imported, WalkFinds};
+ghost use Rattle.implib_link.specs.Flavors.Program.{AreProgramObjects, Ending, FlavorInput};
+ghost use Rattle.implib_link.specs.Flavors.Program.{IsMadeFor, IsProgramOf, OfLinker, ProgramLinks};
+ghost use Rattle.implib_link.specs.Flavors.Program.{gnu_input};
 ghost use Rattle.implib_link.specs.FullNames.{object_by_full_names};
-ghost use Rattle.implib_link.specs.Gnu.Program.{IsProgram, LinksAmong, linked_symbols};
+ghost use Rattle.implib_link.specs.Gnu.Program.{ClaimsNone, has_tables, linked_symbols};
 ghost use Rattle.implib_link.specs.Gnu.Program.{null_descriptor};
-ghost use Rattle.std.specs.List.{AllByRecursion, IsDistinct};
-ghost use Rattle.std.specs.Prelude.{◌≡◌, ◌++◌, ◌∷◌, ℕ, List, Some, [], bytes_eq, map};
+ghost use Rattle.std.specs.List.{AllByRecursion, IsDistinct, filter};
+ghost use Rattle.std.specs.Prelude.{◌≡◌, ◌++◌, ◌∷◌, ℕ, List, Some, [], bytes_eq, map, not};
 
 /// The head, the chosen exports' members and the tail of each DLL, DLLs and exports in any order,
 /// link at any admissible bases, for each DLL to an import of exactly the chosen exports from it.
@@ -23,25 +26,34 @@ pub fn links_in_any_order()
         AllLink machine bases inputs (objects_in (all_linked machine inputs)) }
 {}
 
-/// Members and the null descriptor link among any other objects that hold no import tables and
-/// claim no symbol of theirs: the import directory lists exactly these DLLs with exactly the chosen
-/// exports, and each `__imp_` symbol is its export's own entry, from whichever object it is named.
+/// The chosen members of several DLLs, each for GNU's linker or for Microsoft's, and what ends their
+/// directory link among any other objects that hold no import tables and claim no symbol of theirs:
+/// the import directory lists exactly these DLLs with exactly the chosen exports, and each `__imp_`
+/// symbol is its export's own entry, from whichever object it is named.
+///
+/// Where members are for Microsoft's linker, a null descriptor of theirs ends the directory.
 pub fn links_among_others()
-    ensures links { (machine : MachineType) (bases : Bases) (inputs : List LinkInput)
-        (objects : List Object) →
-        AllByRecursion (IsMade machine) inputs →
-        IsProgram machine bases inputs objects →
-        LinksAmong machine bases inputs objects }
+    ensures links { (machine : MachineType) (ending : Ending) (bases : Bases)
+        (inputs : List FlavorInput) (objects : List Object) →
+        AllByRecursion (IsMadeFor machine) inputs →
+        IsProgramOf machine ending bases inputs objects →
+        ProgramLinks machine ending bases inputs objects }
 {}
 
-/// The members and the null descriptor alone are such a program.
+/// Members for GNU's linker and the linker's null descriptor are the objects of a program by
+/// themselves, and with any other objects that claim no symbol of theirs.
 pub fn members_are_program()
-    ensures program { (machine : MachineType) (bases : Bases) (inputs : List LinkInput) →
+    ensures alone { (machine : MachineType) (inputs : List LinkInput) →
         AllByRecursion (IsMade machine) inputs →
         IsDistinct bytes_eq (linked_symbols machine inputs) →
-        IsAdmissible machine bases
-        (objects_in (all_linked machine inputs) ++ null_descriptor ∷ []) →
-        IsProgram machine bases inputs (objects_in (all_linked machine inputs) ++ null_descriptor ∷ []) }
+        AreProgramObjects machine OfLinker (map gnu_input inputs)
+        (objects_in (all_linked machine inputs) ++ null_descriptor ∷ []) }
+    ensures beside { (machine : MachineType) (inputs : List LinkInput) (objects : List Object) →
+        IsDistinct bytes_eq (linked_symbols machine inputs) →
+        filter has_tables objects ≡ objects_in (all_linked machine inputs) ++ null_descriptor ∷ [] →
+        AllByRecursion (ClaimsNone (linked_symbols machine inputs))
+        (filter (λ o. not (has_tables o)) objects) →
+        AreProgramObjects machine OfLinker (map gnu_input inputs) objects }
 {}
 
 /// A loader that walks a directory and reads either table of each descriptor, however lenient it is

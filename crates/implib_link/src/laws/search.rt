@@ -12,11 +12,15 @@ ghost use Rattle.implib.specs.declared.machine.MachineType.{MachineType};
 ghost use Rattle.implib_link.specs.Search.Archives.{IsArchive, Library, NamesNoHeadOrTailOf};
 ghost use Rattle.implib_link.specs.Search.Archives.{TakesOfLibraries, archive_of, inputs_wanted};
 ghost use Rattle.implib_link.specs.Search.Archives.{wanted_with};
-ghost use Rattle.implib_link.specs.Gnu.Program.{IsProgram, LinksAmong};
-ghost use Rattle.implib_link.specs.Search.Search.{HaveSame, ImportsWanted, IsArranged};
+ghost use Rattle.implib_link.specs.Flavors.Program.{LinksAmong};
+ghost use Rattle.implib_link.specs.Flavors.Program.{IsProgram};
+ghost use Rattle.implib_link.specs.Search.Search.{ImportsWanted, IsArranged};
+ghost use Rattle.implib_link.specs.Gnu.Program.{HaveSame};
 ghost use Rattle.implib_link.specs.Search.Search.{AreTakenInTurnAs, IsLinkedOfWanted, IsLinkedWith};
 ghost use Rattle.implib_link.specs.Search.Search.{NamesNoHeadOrTail, Takes, TakesAs, exports_wanted};
 ghost use Rattle.implib_link.specs.Search.Search.{linked_if_any};
+ghost use Rattle.implib_link.specs.Search.Closed.{TakesIntoAs};
+ghost use Rattle.implib_link.specs.Search.Sweeps.{SweepsTake, members_at};
 ghost use Rattle.std.specs.List.{Contains, IsDistinct, flat_map};
 ghost use Rattle.std.specs.Prelude.{◌≤◌, ℕ, List, Option, bytes_eq, length, map};
 
@@ -100,4 +104,17 @@ pub fn search_ends()
     ensures bounded { (reads : List ℕ → Option Object) (archive taken : List MemberView)
         (wanted : List (List ℕ)) →
         AreTakenInTurnAs reads archive wanted taken → length taken ≤ length archive }
+{}
+
+/// GNU `ld` sweeps an archive's index and takes the member of an entry whose name is unresolved
+/// then. Where no two members list one name, it takes what a search takes that goes by the first
+/// member that lists a name, so that all that is proved of such a search holds of it.
+///
+/// The sweeps are over once one of them takes nothing. However the linker reads members.
+pub fn sweeps_take()
+    ensures takes { (reads : List ℕ → Option Object) (archive : List MemberView)
+        (own : List Object) (count : ℕ) (numbers : List ℕ) →
+        IsDistinct bytes_eq (flat_map (λ m. m.symbols) archive) →
+        SweepsTake reads archive own count numbers →
+        TakesIntoAs reads archive own (members_at archive numbers) }
 {}

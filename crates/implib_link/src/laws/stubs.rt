@@ -1,7 +1,8 @@
 //! Laws of stubs and of calls.
 
 ghost use Rattle.implib.specs.Formats.Object.{section_numbered};
-ghost use Rattle.implib_link.specs.Flavors.Program.{FlavorInput, IsCode, IsFlavorProgram, IsMadeFor, exports_chosen, symbol_in, thunks_of};
+ghost use Rattle.implib_link.specs.Flavors.Program.{Ending, FlavorInput, IsCode, IsMadeFor};
+ghost use Rattle.implib_link.specs.Flavors.Program.{IsProgramOf, exports_chosen, symbol_in, thunks_of};
 ghost use Rattle.implib_link.specs.Gnu.Calls.{CanBranch, Defines, DirectCallArrives, HasDirectCall, PlacedCode, StubAt};
 ghost use Rattle.implib_link.specs.Gnu.Fields.{placed_code};
 ghost use Rattle.implib_link.specs.Gnu.Rebased.{StubArrives};
@@ -9,7 +10,6 @@ ghost use Rattle.implib_link.specs.Tables.{AreSteady, AreTables, CanReadFrom, Ta
 ghost use Rattle.implib.specs.Definition.{ExportView};
 ghost use Rattle.implib.specs.Link.Image.{Range, image_of};
 ghost use Rattle.implib.specs.Import.{Ask};
-ghost use Rattle.implib.specs.Link.LinkedMembers.{IsMade, LinkInput, chosen_exports};
 ghost use Rattle.implib.specs.Members.ImportTables.{thunk_width};
 ghost use Rattle.implib.specs.Formats.Object.{Object, ObjectSymbol};
 ghost use Rattle.implib.specs.Link.Placement.{Bases, placed_from};
@@ -18,33 +18,20 @@ ghost use Rattle.implib.specs.declared.machine.MachineType.TheVariants.{ARMNT};
 ghost use Rattle.implib_link.specs.Gnu.A32.{A32JumpReads, HoldDistances, distance_from};
 ghost use Rattle.implib_link.specs.Gnu.Fields.{DefinesIn, LinkedCode};
 ghost use Rattle.implib_link.specs.Gnu.Moves.{AreInMemory};
-ghost use Rattle.implib_link.specs.Gnu.Program.{IsProgram, thunks_before};
 ghost use Rattle.implib_link.specs.Gnu.Reading.{ReadsAndWrites};
 ghost use Rattle.implib_link.specs.Stub.{CanJump, JumpsThrough};
 ghost use Rattle.std.specs.List.{AllByRecursion, Contains};
-ghost use Rattle.std.specs.Prelude.{◌≡◌, ◌+◌, ◌*◌, ◌^◌, ◌≤◌, ◌++◌, ℕ, List, Some, false, length};
+ghost use Rattle.std.specs.Prelude.{◌≡◌, ◌+◌, ◌*◌, ◌^◌, ◌≤◌, ◌++◌, ℕ, List, Some, length};
 ghost use Rattle.std.specs.Prelude.{slice_get};
 
 /// The stub of each chosen export of code jumps through the export's own entry, wherever its code
-/// is placed; in a program of both flavours, too, where for Microsoft's linker the stub is that of
-/// the short import's expansion.
+/// is placed; for Microsoft's linker it is that of the short import's expansion.
 pub fn stubs_jump()
-    ensures jumps { (machine : MachineType) (image_base : ℕ) (bases : Bases)
-        (inputs : List LinkInput) (objects : List Object)
-        (i j : ℕ) (p : LinkInput) (e : ExportView) →
-        AllByRecursion (IsMade machine) inputs →
-        IsProgram machine bases inputs objects →
-        CanJump machine image_base bases →
-        slice_get inputs i ≡ Some p →
-        slice_get (chosen_exports p.definition p.chosen) j ≡ Some e →
-        e.is_data ≡ false →
-        JumpsThrough machine image_base (placed_from bases objects) e.name
-        (bases.addresses + thunk_width machine * thunks_before i inputs + thunk_width machine * j) }
-    ensures of_flavors { (machine : MachineType) (image_base : ℕ) (bases : Bases)
+    ensures jumps { (machine : MachineType) (ending : Ending) (image_base : ℕ) (bases : Bases)
         (inputs : List FlavorInput) (objects : List Object)
         (i j : ℕ) (p : FlavorInput) (e : ExportView) →
         AllByRecursion (IsMadeFor machine) inputs →
-        IsFlavorProgram machine bases inputs objects →
+        IsProgramOf machine ending bases inputs objects →
         CanJump machine image_base bases →
         slice_get inputs i ≡ Some p →
         slice_get (exports_chosen p) j ≡ Some e →
@@ -54,27 +41,13 @@ pub fn stubs_jump()
 {}
 
 /// Whatever placed code defines the name of an export of code in a program is the stub of the
-/// export's own entry; in a program of both flavours, too.
+/// export's own entry.
 pub fn names_of_code_are_stubs()
-    ensures gnu { (machine : MachineType) (bases : Bases) (inputs : List LinkInput)
-        (objects : List Object) (i j : ℕ) (p : LinkInput) (e : ExportView) (d : PlacedCode)
-        (t : ObjectSymbol) →
-        AllByRecursion (IsMade machine) inputs →
-        IsProgram machine bases inputs objects →
-        slice_get inputs i ≡ Some p →
-        slice_get (chosen_exports p.definition p.chosen) j ≡ Some e →
-        e.is_data ≡ false →
-        Contains (placed_from bases objects) d.from →
-        section_numbered d.from.object.sections d.number ≡ Some d.code →
-        Defines d t →
-        t.name ≡ e.name →
-        StubAt machine (placed_from bases objects) d t
-        (bases.addresses + thunk_width machine * thunks_before i inputs + thunk_width machine * j) }
-    ensures flavors { (machine : MachineType) (bases : Bases) (inputs : List FlavorInput)
-        (objects : List Object) (i j : ℕ) (p : FlavorInput) (e : ExportView) (d : PlacedCode)
+    ensures stubs { (machine : MachineType) (ending : Ending) (bases : Bases)
+        (inputs : List FlavorInput) (objects : List Object) (i j : ℕ) (p : FlavorInput) (e : ExportView) (d : PlacedCode)
         (t : ObjectSymbol) →
         AllByRecursion (IsMadeFor machine) inputs →
-        IsFlavorProgram machine bases inputs objects →
+        IsProgramOf machine ending bases inputs objects →
         slice_get inputs i ≡ Some p →
         slice_get (exports_chosen p) j ≡ Some e →
         IsCode p.flavor e →
@@ -139,47 +112,47 @@ pub fn stubs_of_any_tables_jump()
 /// where the distance of its entry from its own end is, and so never at its entry. The linker puts
 /// into its field what its type asks, and the image is below 2^32.
 pub fn armnt_stubs_miss_their_entries()
-    ensures reads { (image_base : ℕ) (bases : Bases) (inputs : List LinkInput)
-        (objects : List Object) (codes : List LinkedCode) (targets : LinkedCode → ℕ → ℕ)
+    ensures reads { (image_base : ℕ) (ending : Ending) (bases : Bases)
+        (inputs : List FlavorInput) (objects : List Object) (codes : List LinkedCode) (targets : LinkedCode → ℕ → ℕ)
         (memory : List Range) (gives : List ℕ → Ask → List ℕ) →
-        AllByRecursion (IsMade ARMNT) inputs →
-        IsProgram ARMNT bases inputs objects →
+        AllByRecursion (IsMadeFor ARMNT) inputs →
+        IsProgramOf ARMNT ending bases inputs objects →
         AreInMemory ARMNT image_base (image_of ARMNT bases (placed_from bases objects))
         (placed_from bases objects) codes targets memory →
         HoldDistances codes targets →
-        (n : ℕ) (written : List Range) (i j : ℕ) (p : LinkInput) (e : ExportView)
+        (n : ℕ) (written : List Range) (i j : ℕ) (p : FlavorInput) (e : ExportView)
         (d : LinkedCode) (t : ObjectSymbol) →
         ((dll : List ℕ) (ask : Ask) → length (gives dll ask) ≡ thunk_width ARMNT) →
         ReadsAndWrites memory (thunk_width ARMNT) gives n bases.descriptors written →
         slice_get inputs i ≡ Some p →
-        slice_get (chosen_exports p.definition p.chosen) j ≡ Some e →
-        e.is_data ≡ false →
+        slice_get (exports_chosen p) j ≡ Some e →
+        IsCode p.flavor e →
         Contains codes d →
         DefinesIn d t →
-        t.name ≡ e.name →
+        t.name ≡ symbol_in p.flavor e →
         (t.value ≡ 0) × A32JumpReads (written ++ memory) d.position
         (distance_from (d.position + 8)
-        (bases.addresses + thunk_width ARMNT * thunks_before i inputs + thunk_width ARMNT * j)) }
-    ensures misses { (image_base : ℕ) (bases : Bases) (inputs : List LinkInput)
-        (objects : List Object) (codes : List LinkedCode) (targets : LinkedCode → ℕ → ℕ)
+        (bases.addresses + thunk_width ARMNT * thunks_of i inputs + thunk_width ARMNT * j)) }
+    ensures misses { (image_base : ℕ) (ending : Ending) (bases : Bases)
+        (inputs : List FlavorInput) (objects : List Object) (codes : List LinkedCode) (targets : LinkedCode → ℕ → ℕ)
         (memory : List Range) (gives : List ℕ → Ask → List ℕ) →
-        AllByRecursion (IsMade ARMNT) inputs →
-        IsProgram ARMNT bases inputs objects →
+        AllByRecursion (IsMadeFor ARMNT) inputs →
+        IsProgramOf ARMNT ending bases inputs objects →
         AreInMemory ARMNT image_base (image_of ARMNT bases (placed_from bases objects))
         (placed_from bases objects) codes targets memory →
         HoldDistances codes targets →
-        (n : ℕ) (written : List Range) (i j : ℕ) (p : LinkInput) (e : ExportView)
+        (n : ℕ) (written : List Range) (i j : ℕ) (p : FlavorInput) (e : ExportView)
         (d : LinkedCode) (t : ObjectSymbol) →
         ((dll : List ℕ) (ask : Ask) → length (gives dll ask) ≡ thunk_width ARMNT) →
         ReadsAndWrites memory (thunk_width ARMNT) gives n bases.descriptors written →
         slice_get inputs i ≡ Some p →
-        slice_get (chosen_exports p.definition p.chosen) j ≡ Some e →
-        e.is_data ≡ false →
+        slice_get (exports_chosen p) j ≡ Some e →
+        IsCode p.flavor e →
         Contains codes d →
         DefinesIn d t →
-        t.name ≡ e.name →
+        t.name ≡ symbol_in p.flavor e →
         image_base + 2 ^ 31 ≤ 2 ^ 32 →
         A32JumpReads (written ++ memory) d.position
-        (image_base + (bases.addresses + thunk_width ARMNT * thunks_before i inputs + thunk_width ARMNT * j)) →
+        (image_base + (bases.addresses + thunk_width ARMNT * thunks_of i inputs + thunk_width ARMNT * j)) →
         ⊥ }
 {}

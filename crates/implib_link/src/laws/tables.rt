@@ -4,41 +4,35 @@ ghost use Rattle.implib.specs.Formats.Object.{Object, ObjectSymbol};
 ghost use Rattle.implib.specs.Formats.ShortImport.{ShortImport};
 ghost use Rattle.implib.specs.Import.{Ask};
 ghost use Rattle.implib.specs.Link.Image.{Range};
-ghost use Rattle.implib.specs.Link.LinkedMembers.{IsMade, LinkInput};
 ghost use Rattle.implib.specs.Link.Placement.{Bases, Placed, placed_from};
 ghost use Rattle.implib.specs.Members.ImportTables.{thunk_width};
 ghost use Rattle.implib.specs.declared.machine.MachineType.{MachineType};
 ghost use Rattle.implib_link.specs.Flavors.LldImports.{IsLldProgram, placed_by_lld};
-ghost use Rattle.implib_link.specs.Flavors.Program.{FlavorInput, IsFlavorProgram, IsMadeFor};
+ghost use Rattle.implib_link.specs.Flavors.Program.{Ending, FlavorInput, IsMadeFor};
+ghost use Rattle.implib_link.specs.Flavors.Program.{IsProgramOf};
 ghost use Rattle.implib_link.specs.Gnu.Calls.{CanBranch};
 ghost use Rattle.implib_link.specs.Gnu.Fields.{AreLinkedBeside, DefinesIn, LinkedCode, field_at};
 ghost use Rattle.implib_link.specs.Gnu.Loaded.{Writes};
 ghost use Rattle.implib_link.specs.Gnu.Moves.{AreInMemory, ArePaged, CanBeMoved};
 ghost use Rattle.implib_link.specs.Gnu.Operands.{AllLead, AreKept, BranchArrives, BranchStays};
 ghost use Rattle.implib_link.specs.Gnu.Operands.{HasBranch};
-ghost use Rattle.implib_link.specs.Gnu.Program.{IsProgram};
 ghost use Rattle.implib_link.specs.Gnu.Reading.{ReadsAndWrites};
 ghost use Rattle.implib_link.specs.Tables.{AreSteady, AreTables, AreTablesLoaded, CanReadFrom, Table};
-ghost use Rattle.implib_link.specs.Tables.{TableEntry, Tables, block_of_flavor, block_of_input};
+ghost use Rattle.implib_link.specs.Tables.{TableEntry, Tables, block_of_flavor};
 ghost use Rattle.implib_link.specs.Tables.{imported_by_table, tables_at, tables_of_lld};
 ghost use Rattle.std.specs.List.{AllByRecursion, Contains};
 ghost use Rattle.std.specs.Prelude.{◌≡◌, ◌+◌, ◌++◌, ◌∷◌, ◌<◌, ◌^◌, ℕ, List, Some, length, map};
 ghost use Rattle.std.specs.Prelude.{slice_get};
 
-/// Programs for GNU's linker, of both flavours, and of short imports that lld took have import
-/// tables, each DLL's of exactly what is imported from it. Those of the first two store no address
-/// whole; nor do lld's, but objects beside them may have tables of their own.
+/// Programs of members for GNU's linker and for Microsoft's, whatever ends their directory, and of
+/// short imports that lld took have import tables, each DLL's of exactly what is imported from it.
+/// Those of members store no address whole; nor do lld's, but objects beside them may have tables
+/// of their own.
 pub fn programs_have_tables()
-    ensures gnu { (machine : MachineType) (bases : Bases) (inputs : List LinkInput)
-        (objects : List Object) →
-        AllByRecursion (IsMade machine) inputs →
-        IsProgram machine bases inputs objects →
-        AreTables machine (tables_at machine bases objects (map (block_of_input machine) inputs)) ×
-        AreSteady machine (placed_from bases objects) }
-    ensures flavors { (machine : MachineType) (bases : Bases) (inputs : List FlavorInput)
-        (objects : List Object) →
+    ensures members { (machine : MachineType) (ending : Ending) (bases : Bases)
+        (inputs : List FlavorInput) (objects : List Object) →
         AllByRecursion (IsMadeFor machine) inputs →
-        IsFlavorProgram machine bases inputs objects →
+        IsProgramOf machine ending bases inputs objects →
         AreTables machine (tables_at machine bases objects (map (block_of_flavor machine) inputs)) ×
         AreSteady machine (placed_from bases objects) }
     ensures lld { (machine : MachineType) (descriptors addresses : ℕ) (taken : List ShortImport)

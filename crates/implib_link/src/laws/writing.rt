@@ -3,16 +3,15 @@
 ghost use Rattle.implib_link.specs.Gnu.Moves.{AreInMemory};
 ghost use Rattle.implib.specs.Link.Image.{Range, image_of};
 ghost use Rattle.implib.specs.Import.{Ask};
-ghost use Rattle.implib.specs.Link.LinkedMembers.{IsMade, LinkInput};
 ghost use Rattle.implib.specs.Members.ImportTables.{thunk_width};
 ghost use Rattle.implib.specs.Formats.Object.{Object};
 ghost use Rattle.implib.specs.Link.Placement.{Bases, placed_from};
 ghost use Rattle.implib.specs.declared.machine.MachineType.{MachineType};
-ghost use Rattle.implib_link.specs.Directory.{Imported, imported};
-ghost use Rattle.implib_link.specs.Flavors.Program.{FlavorInput, IsFlavorProgram, IsMadeFor};
+ghost use Rattle.implib_link.specs.Directory.{Imported};
+ghost use Rattle.implib_link.specs.Flavors.Program.{Ending, FlavorInput, IsMadeFor};
+ghost use Rattle.implib_link.specs.Flavors.Program.{IsProgramOf};
 ghost use Rattle.implib_link.specs.Flavors.Program.{imported_in};
 ghost use Rattle.implib_link.specs.Gnu.Fields.{LinkedCode};
-ghost use Rattle.implib_link.specs.Gnu.Program.{IsProgram};
 ghost use Rattle.implib_link.specs.Gnu.Reading.{ReadsAndWrites};
 ghost use Rattle.implib_link.specs.Gnu.Writing.{AreAlike, WritesAsItGoes};
 ghost use Rattle.std.specs.List.{AllByRecursion};
@@ -21,42 +20,16 @@ ghost use Rattle.std.specs.Prelude.{◌≡◌, ◌++◌, ℕ, List, length, map}
 /// A loader that reads a program by the lookup tables, in memory at any base, and writes each entry
 /// of the address tables before it reads on, stops at the null descriptor. It has asked for exactly
 /// the imports of the program, each once and in their order, and it leaves, byte for byte, what a
-/// loader leaves that first reads and then writes. There is such a loader; of a program of both
-/// flavours, too.
+/// loader leaves that first reads and then writes. There is such a loader.
 ///
 /// What a DLL gives has as many bytes as an entry.
 pub fn loader_writes()
-    ensures loads { (machine : MachineType) (image_base : ℕ) (bases : Bases)
-        (inputs : List LinkInput) (objects : List Object)
-        (codes : List LinkedCode) (targets : LinkedCode → ℕ → ℕ) (memory : List Range)
-        (gives : List ℕ → Ask → List ℕ) →
-        AllByRecursion (IsMade machine) inputs →
-        IsProgram machine bases inputs objects →
-        AreInMemory machine image_base (image_of machine bases (placed_from bases objects))
-        (placed_from bases objects) codes targets memory →
-        ((dll : List ℕ) (ask : Ask) → length (gives dll ask) ≡ thunk_width machine) →
-        (found : List Imported) (after : List Range) →
-        WritesAsItGoes (thunk_width machine) gives bases.descriptors memory found after →
-        (found ≡ map (imported machine) inputs) × ((written : List Range)
-        × (ReadsAndWrites memory (thunk_width machine) gives (length inputs) bases.descriptors
-        written × AreAlike after (written ++ memory))) }
-    ensures ends { (machine : MachineType) (image_base : ℕ) (bases : Bases)
-        (inputs : List LinkInput) (objects : List Object)
-        (codes : List LinkedCode) (targets : LinkedCode → ℕ → ℕ) (memory : List Range)
-        (gives : List ℕ → Ask → List ℕ) →
-        AllByRecursion (IsMade machine) inputs →
-        IsProgram machine bases inputs objects →
-        AreInMemory machine image_base (image_of machine bases (placed_from bases objects))
-        (placed_from bases objects) codes targets memory →
-        ((dll : List ℕ) (ask : Ask) → length (gives dll ask) ≡ thunk_width machine) →
-        (after : List Range) × WritesAsItGoes (thunk_width machine) gives bases.descriptors
-        memory (map (imported machine) inputs) after }
-    ensures flavors_load { (machine : MachineType) (image_base : ℕ) (bases : Bases)
+    ensures loads { (machine : MachineType) (ending : Ending) (image_base : ℕ) (bases : Bases)
         (inputs : List FlavorInput) (objects : List Object)
         (codes : List LinkedCode) (targets : LinkedCode → ℕ → ℕ) (memory : List Range)
         (gives : List ℕ → Ask → List ℕ) →
         AllByRecursion (IsMadeFor machine) inputs →
-        IsFlavorProgram machine bases inputs objects →
+        IsProgramOf machine ending bases inputs objects →
         AreInMemory machine image_base (image_of machine bases (placed_from bases objects))
         (placed_from bases objects) codes targets memory →
         ((dll : List ℕ) (ask : Ask) → length (gives dll ask) ≡ thunk_width machine) →
@@ -65,12 +38,12 @@ pub fn loader_writes()
         (found ≡ map (imported_in machine) inputs) × ((written : List Range)
         × (ReadsAndWrites memory (thunk_width machine) gives (length inputs) bases.descriptors
         written × AreAlike after (written ++ memory))) }
-    ensures flavors_end { (machine : MachineType) (image_base : ℕ) (bases : Bases)
+    ensures ends { (machine : MachineType) (ending : Ending) (image_base : ℕ) (bases : Bases)
         (inputs : List FlavorInput) (objects : List Object)
         (codes : List LinkedCode) (targets : LinkedCode → ℕ → ℕ) (memory : List Range)
         (gives : List ℕ → Ask → List ℕ) →
         AllByRecursion (IsMadeFor machine) inputs →
-        IsFlavorProgram machine bases inputs objects →
+        IsProgramOf machine ending bases inputs objects →
         AreInMemory machine image_base (image_of machine bases (placed_from bases objects))
         (placed_from bases objects) codes targets memory →
         ((dll : List ℕ) (ask : Ask) → length (gives dll ask) ≡ thunk_width machine) →

@@ -35,7 +35,7 @@ use Rattle.implib_link.proofs.Gnu.LinkedCodes.{codes_can_be_linked}
 use Rattle.implib_link.proofs.Gnu.Loaded.{mapped_at}
 use Rattle.implib_link.proofs.Search.BothClosed.{packed_both}
 use Rattle.implib_link.proofs.Search.BothGiven.{both_given_closes}
-use Rattle.implib_link.proofs.Search.Closed.{claims_apart, takes_into}
+use Rattle.implib_link.proofs.Search.Closing.{takes_into, claims_apart}
 use Rattle.implib_link.proofs.Search.Lists.{among_at}
 use Rattle.implib_link_instances.proofs.Worked.BothFlavors.{archive_by}
 use Rattle.implib_link_instances.proofs.Worked.Calls.{wide}

@@ -34,7 +34,7 @@ use Rattle.implib_link.specs.Search.Given.{AreGiven, symbols_kept}
 use Rattle.implib_link.specs.Search.Search.{Takes, names_undefined, undefined_in, left_as, claimed_as, AreTakenInTurnAs}
 use Rattle.implib_link_instances.specs.Worked.Calls.{first_bytes, given_on, last_bytes}
 use Rattle.implib_link_instances.specs.Worked.Programs.{symbol_of_class}
-use Rattle.implib_link.proofs.Search.Closed.{claims_apart, takes_into}
+use Rattle.implib_link.proofs.Search.Closing.{takes_into, claims_apart}
 use Rattle.implib_link.proofs.Search.Lists.{any_among}
 use Rattle.implib_link_instances.proofs.Worked.Calls.{one_code_resolves, wide}
 use Rattle.implib_link_instances.proofs.Worked.Programs.{claims_none_by, distinct_by, opened, admissible_by, instructions_at}

@@ -17,9 +17,10 @@ use Rattle.implib_link.specs.Search.Given.{AreGiven, symbols_kept, wanted_at_mos
 use Rattle.implib_link.specs.Search.MsvcArchives.{symbols_of_shorts}
 use Rattle.implib_link.specs.Search.NoShorts.{WantsNoShort}
 use Rattle.implib_link.specs.Search.Search.{Takes, names_undefined, left_as, AreTakenInTurnAs}
-use Rattle.implib_link.proofs.Gnu.Packed.{packed_is_admissible}
+use Rattle.implib_link_instances.proofs.Worked.GnuPacked.{packed_is_admissible}
 use Rattle.implib_link.proofs.Search.Archives.{inputs_made}
-use Rattle.implib_link.proofs.Search.Closed.{claims_apart, closed_links, takes_into}
+use Rattle.implib_link.proofs.Search.Closed.{closed_links}
+use Rattle.implib_link.proofs.Search.Closing.{takes_into, claims_apart}
 use Rattle.implib_link.proofs.Search.Exists.{closed_exists}
 use Rattle.implib_link.proofs.Search.Given.{given_closes}
 use Rattle.implib_link.proofs.Search.NoShorts.{takes_of_both}

@@ -21,7 +21,7 @@ use Rattle.implib_link.specs.Search.MsvcClosed.{wanted_for}
 use Rattle.implib_link.proofs.Search.BothArchives.{both_taken}
 use Rattle.implib_link.proofs.Search.BothClosed.{closed_links_of_both, packed_both}
 use Rattle.implib_link.proofs.Search.BothExists.{placed_within}
-use Rattle.implib_link.proofs.Search.Closed.{claims_apart, takes_into}
+use Rattle.implib_link.proofs.Search.Closing.{takes_into, claims_apart}
 use Rattle.implib_link_instances.proofs.Worked.BothFlavors.{archive_by, closed_by}
 use Rattle.implib_link_instances.proofs.Worked.NearSearches.{searched}
 use Rattle.implib_link_instances.proofs.Worked.Programs.{claims_none_by}

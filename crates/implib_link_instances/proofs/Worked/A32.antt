@@ -1,5 +1,5 @@
 -- ARMNT's stubs by hand, by computing and by the law.
-use Rattle.std.proofs.Common.{◌≡◌, ℕ, ◌+◌, ◌^◌, List, [], ◌∷◌, ◌++◌, codes, length, Option, None, Some, refl, ap, sym, ◌∙◌, subst, inl, inr, arith}
+use Rattle.std.proofs.Common.{◌≡◌, ℕ, ◌+◌, ◌^◌, List, [], ◌∷◌, ◌++◌, codes, length, Option, None, Some, refl, ap, sym, ◌∙◌, subst, inl, inr, arith, map}
 use Rattle.implib.specs.declared.coff.object.Relocation.{Relocation}
 use Rattle.implib.specs.declared.machine.MachineType.TheVariants.{ARMNT}
 use Rattle.implib.specs.Formats.Constants.{arm_rel32, class_external}
@@ -15,7 +15,8 @@ use Rattle.implib.proofs.Link.Loading.{number_once}
 use Rattle.implib.proofs.Link.Ranges.{Among, apart_as_they_rise}
 use Rattle.implib_link.specs.Gnu.A32.{A32JumpReads, HoldDistances, distance_from}
 use Rattle.implib_link.specs.Gnu.Fields.{AreBeside, DefinesIn, LinkedCode, field_at, placed_code}
-use Rattle.implib_link.specs.Gnu.Program.{IsProgram, has_tables}
+use Rattle.implib_link.specs.Gnu.Program.{has_tables}
+use Rattle.implib_link.specs.Flavors.Program.{IsProgram}
 use Rattle.implib_link.specs.Stub.{with_bits}
 use Rattle.implib_link_instances.specs.Worked.A32.{NearA32JumpReads, WorkedArmntStub, WorkedArmntStubs, a32_code, armnt_memory, armnt_stub, armnt_targets, entry_address, two_loads}
 use Rattle.implib_link_instances.specs.Worked.Jumps.{far_4}
@@ -33,12 +34,13 @@ use Rattle.implib_link.proofs.Gnu.Memory.{byte_first}
 use Rattle.implib_link_instances.proofs.Worked.Instances.{put_last}
 use Rattle.implib_link_instances.proofs.Worked.Rebased.{resolves_by_tables}
 use Rattle.implib_link_instances.proofs.Worked.RefusedLinks.{are_located, differ, number}
+use Rattle.implib_link.specs.Flavors.Program.{OfLinker, gnu_input}
 
 -- The premises.
 
 far_program : IsProgram ARMNT far_4 (both_inputs ARMNT) (program_objects ARMNT)
 unfolding opened refusal renamed_refusal alias_specs encoded_size weak_object has_tables
-far_program = program_by refl refl refl (admissible_by refl refl)
+far_program = program_by (both_inputs ARMNT) refl refl refl (admissible_by refl refl)
 
 only_code : (c x : LinkedCode) → Among c (x ∷ []) → c ≡ x
 unfolding Among
@@ -124,11 +126,11 @@ behind =
       distances = behind_distances;
       there = are_located memory (two_loads ++ 0x54 ∷ 0xF0 ∷ 0xFF ∷ 0xFF ∷ []) 0x1000 refl;
       loaded = λ n written reads. (
-        (armnt_reads 0x40_0000 touching_4 (both_inputs ARMNT) (program_objects ARMNT) (armnt_stub touching_4 0x1000 literal ∷ []) (as_placed (armnt_targets touching_4)) memory (gives_by_hand ARMNT) worked_programs.armnt.made
-            worked_programs.armnt.program (inl (behind_beside, refl)) behind_distances n written 0 1 (foo_input ARMNT) (record (plain_export (symbol_on ARMNT (codes "open"))) { ordinal = 258 }) (armnt_stub touching_4 0x1000 literal)
+        (armnt_reads 0x40_0000 OfLinker touching_4 (map gnu_input (both_inputs ARMNT)) (program_objects ARMNT) (armnt_stub touching_4 0x1000 literal ∷ []) (as_placed (armnt_targets touching_4)) memory (gives_by_hand ARMNT) worked_programs.armnt.made
+            worked_programs.armnt.program (inl (behind_beside, refl)) behind_distances n written 0 1 (gnu_input (foo_input ARMNT)) (record (plain_export (symbol_on ARMNT (codes "open"))) { ordinal = 258 }) (armnt_stub touching_4 0x1000 literal)
             (symbol_of_class (symbol_on ARMNT (codes "open")) 1 class_external) armnt_given reads refl refl refl (0, omega arith, refl) behind_defines refl).1,
-        armnt_misses 0x40_0000 touching_4 (both_inputs ARMNT) (program_objects ARMNT) (armnt_stub touching_4 0x1000 literal ∷ []) (as_placed (armnt_targets touching_4)) memory (gives_by_hand ARMNT) worked_programs.armnt.made
-            worked_programs.armnt.program (inl (behind_beside, refl)) behind_distances n written 0 1 (foo_input ARMNT) (record (plain_export (symbol_on ARMNT (codes "open"))) { ordinal = 258 }) (armnt_stub touching_4 0x1000 literal)
+        armnt_misses 0x40_0000 OfLinker touching_4 (map gnu_input (both_inputs ARMNT)) (program_objects ARMNT) (armnt_stub touching_4 0x1000 literal ∷ []) (as_placed (armnt_targets touching_4)) memory (gives_by_hand ARMNT) worked_programs.armnt.made
+            worked_programs.armnt.program (inl (behind_beside, refl)) behind_distances n written 0 1 (gnu_input (foo_input ARMNT)) (record (plain_export (symbol_on ARMNT (codes "open"))) { ordinal = 258 }) (armnt_stub touching_4 0x1000 literal)
             (symbol_of_class (symbol_on ARMNT (codes "open")) 1 class_external) armnt_given reads refl refl refl (0, omega arith, refl) behind_defines refl (omega arith),
       );
     }
@@ -144,11 +146,11 @@ in_front =
       distances = front_distances;
       there = are_located memory (two_loads ++ 0x54 ∷ 0x50 ∷ 0 ∷ 0 ∷ []) 0x200 refl;
       loaded = λ n written reads. (
-        (armnt_reads 0x1000_0000 far_4 (both_inputs ARMNT) (program_objects ARMNT) (armnt_stub far_4 0x200 literal ∷ []) (as_placed (armnt_targets far_4)) memory (gives_by_hand ARMNT) worked_programs.armnt.made
-            far_program (inl (front_beside, refl)) front_distances n written 0 1 (foo_input ARMNT) (record (plain_export (symbol_on ARMNT (codes "open"))) { ordinal = 258 }) (armnt_stub far_4 0x200 literal)
+        (armnt_reads 0x1000_0000 OfLinker far_4 (map gnu_input (both_inputs ARMNT)) (program_objects ARMNT) (armnt_stub far_4 0x200 literal ∷ []) (as_placed (armnt_targets far_4)) memory (gives_by_hand ARMNT) worked_programs.armnt.made
+            far_program (inl (front_beside, refl)) front_distances n written 0 1 (gnu_input (foo_input ARMNT)) (record (plain_export (symbol_on ARMNT (codes "open"))) { ordinal = 258 }) (armnt_stub far_4 0x200 literal)
             (symbol_of_class (symbol_on ARMNT (codes "open")) 1 class_external) armnt_given reads refl refl refl (0, omega arith, refl) front_defines refl).1,
-        armnt_misses 0x1000_0000 far_4 (both_inputs ARMNT) (program_objects ARMNT) (armnt_stub far_4 0x200 literal ∷ []) (as_placed (armnt_targets far_4)) memory (gives_by_hand ARMNT) worked_programs.armnt.made
-            far_program (inl (front_beside, refl)) front_distances n written 0 1 (foo_input ARMNT) (record (plain_export (symbol_on ARMNT (codes "open"))) { ordinal = 258 }) (armnt_stub far_4 0x200 literal)
+        armnt_misses 0x1000_0000 OfLinker far_4 (map gnu_input (both_inputs ARMNT)) (program_objects ARMNT) (armnt_stub far_4 0x200 literal ∷ []) (as_placed (armnt_targets far_4)) memory (gives_by_hand ARMNT) worked_programs.armnt.made
+            far_program (inl (front_beside, refl)) front_distances n written 0 1 (gnu_input (foo_input ARMNT)) (record (plain_export (symbol_on ARMNT (codes "open"))) { ordinal = 258 }) (armnt_stub far_4 0x200 literal)
             (symbol_of_class (symbol_on ARMNT (codes "open")) 1 class_external) armnt_given reads refl refl refl (0, omega arith, refl) front_defines refl (omega arith),
       );
     }

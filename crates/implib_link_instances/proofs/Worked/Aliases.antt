@@ -22,34 +22,32 @@ use Rattle.implib.specs.Members.MsvcObjects.{base_name, descriptor, descriptor_s
 use Rattle.implib.specs.Members.WeakExternal.{weak_object}
 use Rattle.implib.proofs.Link.Ranges.{apart_as_they_rise}
 use Rattle.implib_link.specs.Flavors.Expansion.{descriptor_symbol_by_name, expanded_in, import_object}
-use Rattle.implib_link.specs.Flavors.Program.{IsFlavorProgram, all_members, symbols_listed}
+use Rattle.implib_link.specs.Flavors.Program.{OfMember, all_members, symbols_listed, IsProgramOf, IsProgram}
 use Rattle.implib_link.specs.Flavors.SectionSymbols.{with_section_symbols}
 use Rattle.implib_link.specs.Gnu.Aliases.{ResolvesAliases, weak_target}
 use Rattle.implib_link.specs.Gnu.Calls.{HasCall, PlacedCode, Resolves}
 use Rattle.implib_link.specs.Gnu.Packed.{group_end, sections_end}
 use Rattle.implib_link.specs.Gnu.Pointers.{HasLoad}
-use Rattle.implib_link.specs.Gnu.Program.{IsProgram, has_tables, linked_symbols}
+use Rattle.implib_link.specs.Gnu.Program.{has_tables, linked_symbols}
 use Rattle.implib_link_instances.specs.Worked.Aliases.{WorkedAlias, WorkedFlavorAlias, alias_at, alias_calling, alias_codes, alias_flavors, alias_load_at, alias_loading, alias_objects, alias_placed, all_at, opened_flavors, opened_name, opened_placed, OverriddenAlias, overridden_code, overridden_placed}
 use Rattle.implib_link_instances.specs.Worked.Calls.{first_bytes, last_bytes}
 use Rattle.implib_link_instances.specs.Worked.Flavors.{both_inputs as flavor_inputs, flavor_bases_8, foo_input as msvc_input}
 use Rattle.implib_link_instances.specs.Worked.Programs.{both_inputs, symbol_of_class, touching_8}
 use Rattle.implib_link.proofs.Gnu.Aliases.{weak_is_weak}
-use Rattle.implib_link.proofs.Search.Lists.{among_at, contains_among}
+use Rattle.implib_link.proofs.Search.Lists.{among_at, contains_among, each_of}
 use Rattle.implib_link_instances.proofs.Worked.Calls.{is_none, one_of, second_at}
-use Rattle.implib_link.proofs.Search.Lists.{each_of}
 use Rattle.implib_link_instances.proofs.Worked.Programs.{claims_none_by, distinct_by, opened, admissible_by, instructions_at}
 use Rattle.implib_link_instances.proofs.Worked.Rebased.{all_unwanted, none_wanted}
 use Rattle.implib_link_instances.specs.Worked.Relocated.{CodesBeside, code_ranges, linked_codes, as_placed, linked_by}
 use Rattle.implib_link_instances.proofs.Worked.Relocated.{beside_by, codes_tested}
 use Rattle.implib_link_instances.proofs.Worked.Flavors.{flavor_objects_by}
 use Rattle.implib_link_instances.proofs.Worked.LinkedCode.{relocated_test}
+use Rattle.implib_link.proofs.Flavors.GnuPrograms.{gnu_objects}
 
 program : IsProgram AMD64 touching_8 (both_inputs AMD64) alias_objects
 unfolding opened alias_specs encoded_size weak_object has_tables object_of entries_of name_text u32_bytes
 program = record {
-  distinct = distinct_by (linked_symbols AMD64 (both_inputs AMD64)) refl;
-  tables = refl;
-  others = (
+  held = gnu_objects AMD64 (both_inputs AMD64) alias_objects (distinct_by (linked_symbols AMD64 (both_inputs AMD64)) refl) refl (
     claims_none_by (linked_symbols AMD64 (both_inputs AMD64)) alias_calling refl,
     (
       claims_none_by (linked_symbols AMD64 (both_inputs AMD64)) alias_loading refl,
@@ -57,6 +55,9 @@ program = record {
     ),
   );
   admissible = admissible_by refl refl;
+  lookups = tt;
+  addresses = tt;
+  follows = tt;
 }
 
 -- Code of which no entry is in the tables, and whose symbols no placed code defines: its symbols may be taken to be anywhere.
@@ -149,7 +150,7 @@ worked_alias = record {
 
 -- The program of both flavours.
 
-flavors_program : IsFlavorProgram AMD64 flavor_bases_8 (flavor_inputs AMD64) opened_flavors
+flavors_program : IsProgramOf AMD64 OfMember flavor_bases_8 (flavor_inputs AMD64) opened_flavors
 unfolding opened refusal renamed_refusal alias_specs encoded_size weak_object has_tables expanded_in short_import_in import_object descriptor_symbol_by_name with_section_symbols descriptor null_descriptor null_thunk descriptor_symbol null_descriptor_symbol null_thunk_symbol base_name descriptor_spec null_descriptor_spec null_thunk_spec header_specs weak_specs group_end sections_end object_of entries_of name_text u32_bytes u32_at
 flavors_program =
     let symbols : List (List ℕ) = null_descriptor_symbol ∷ symbols_listed (all_members AMD64 (flavor_inputs AMD64)) in

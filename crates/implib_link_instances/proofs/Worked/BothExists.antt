@@ -19,7 +19,7 @@ use Rattle.implib_link_instances.specs.Worked.BothFlavors.{foo_and_zed, mixed_ob
 use Rattle.implib_link_instances.specs.Worked.BothReversed.{reversed_objects}
 use Rattle.implib_link_instances.specs.Worked.Closed.{choosing}
 use Rattle.implib_link.proofs.Search.BothExists.{both_exists, placed_closed, placed_within}
-use Rattle.implib_link.proofs.Search.Closed.{passing}
+use Rattle.implib_link.proofs.Search.Lists.{passing}
 use Rattle.implib_link.proofs.Search.Lists.{contains_among}
 use Rattle.implib_link_instances.proofs.Worked.BothFlavors.{worked_both, worked_given_for_both}
 use Rattle.implib_link_instances.proofs.Worked.BothReversed.{worked_reversed}

@@ -21,7 +21,7 @@ use Rattle.implib_link_instances.proofs.Worked.NearSearches.{searched}
 use Rattle.implib_link_instances.proofs.Worked.Searched.{below_limit}
 use Rattle.implib_link_instances.specs.Worked.BothReversed.{WorkedReversed, reversed_bases, reversed_objects}
 use Rattle.implib_link.specs.Search.Search.{AreTakenInTurnAs}
-use Rattle.implib_link.proofs.Search.Closed.{takes_into}
+use Rattle.implib_link.proofs.Search.Closing.{takes_into}
 use Rattle.implib_link.specs.Flavors.Expansion.{expanded_in}
 use Rattle.implib_link_instances.proofs.Worked.Search.{takes_by}
 use Rattle.implib_link_instances.proofs.Worked.BothFlavors.{apart_by, claims, gnu_archive, left_apart, msvc_archive, closed_by}

@@ -1,14 +1,13 @@
 -- The calls that were relocated by hand, and the loader that reads, by computing and by the laws.
 use Rattle.implib_link.specs.Gnu.Loaded.{HoldsAt}
-use Rattle.implib.specs.Link.LinkedMembers.{IsMade, LinkInput, chosen_exports}
 use Rattle.std.proofs.Common.{◌≡◌, ℕ, zero, suc, ◌+◌, ◌^◌, ◌⊎◌, true, false, List, [], ◌∷◌, ◌++◌, codes, length, Some, None, Option, refl, ap, sym, ◌∙◌, subst, inl, inr, arith, true≢false, map}
 use Rattle.std.specs.Prelude.{Bool, bytes_eq, not, slice_get, ◌&&◌, ◌==◌, if◌then◌else◌}
 use Rattle.std.specs.List.{list_all, AllByRecursion}
 use Rattle.std.proofs.lemmas.Bool.{and_from, cases_Bool, eq-eqb, eqb-true, not-true}
 use Rattle.implib.proofs.Link.Definitions.{same_text}
 use Rattle.implib_link.proofs.Tables.{tables_end, tables_read}
-use Rattle.implib_link.proofs.TablesOfPrograms.{flavors_count, flavors_entry, flavors_tables, gnu_count, gnu_entry, gnu_tables}
-use Rattle.implib_link.specs.Tables.{block_of_flavor, block_of_input, tables_at}
+use Rattle.implib_link.proofs.TablesOfPrograms.{program_count, program_entry, program_tables}
+use Rattle.implib_link.specs.Tables.{block_of_flavor, tables_at}
 use Rattle.std.specs.Fmt.{digits}
 use Rattle.implib.specs.declared.machine.MachineType.{MachineType}
 use Rattle.implib.specs.declared.machine.MachineType.TheVariants.{I386, ARMNT, AMD64, ARM64}
@@ -16,7 +15,7 @@ use Rattle.implib.specs.Definition.{ExportView}
 use Rattle.implib.specs.Formats.Bytes.{u16_bytes, u32_bytes}
 use Rattle.implib.specs.Formats.Constants.{class_external}
 use Rattle.implib.specs.Formats.File.{is_defined_external}
-use Rattle.implib.specs.Import.{Ask, Name, Ordinal, imp_symbol, expected_ask}
+use Rattle.implib.specs.Import.{Ask, Name, Ordinal, imp_symbol}
 use Rattle.implib.specs.Members.Gnu.{export_object, five_digits, head_name, head_object, head_symbol, hint_name, iname_symbol, numbered_name, relocations_of_stub, relocations_of_thunk, mangled_name, stub, tail_name, tail_object, thunk}
 use Rattle.implib.specs.Link.Image.{Range, image_of, with_address}
 use Rattle.implib.specs.Link.Load.{BytesAt}
@@ -37,13 +36,13 @@ use Rattle.implib.specs.Members.MsvcObjects.{base_name, descriptor, descriptor_s
 use Rattle.implib.specs.Formats.ShortImport.{short_import_in}
 use Rattle.std.specs.Prelude.{drop, take}
 use Rattle.implib_link.specs.Flavors.Expansion.{import_object, descriptor_symbol_by_name, expanded_in}
-use Rattle.implib_link.specs.Flavors.Program.{IsFlavorProgram, all_members, FlavorInput, IsMadeFor, exports_chosen, symbol_in, ask_in, dll_of}
+use Rattle.implib_link.specs.Flavors.Program.{OfMember, all_members, FlavorInput, IsMadeFor, exports_chosen, symbol_in, ask_in, dll_of, IsProgramOf, IsProgram}
 use Rattle.implib_link.specs.Flavors.SectionSymbols.{with_section_symbols}
 use Rattle.implib_link.specs.Gnu.Packed.{group_end, sections_end}
 use Rattle.implib_link_instances.specs.Worked.Flavors.{both_inputs as flavor_inputs, flavor_bases_8, flavor_image, flavor_objects, flavor_placed, foo_input as msvc_input}
 use Rattle.implib_link_instances.proofs.Worked.Flavors.{worked_flavors, flavor_objects_by}
 use Rattle.implib_link.specs.Gnu.Calls.{Defines, HasCall, HasDirectCall, PlacedCode, Resolves}
-use Rattle.implib_link.specs.Gnu.Program.{IsProgram, has_tables}
+use Rattle.implib_link.specs.Gnu.Program.{has_tables}
 use Rattle.implib_link.specs.Gnu.Reading.{ReadsAndWrites}
 use Rattle.implib_link_instances.specs.Worked.Calls.{WorkedDirectCall, direct_at, direct_objects, direct_placed, direct_targets, is_open, open_or, open_targets, stub_at, WorkedFlavorCall, calling_flavors, flavor_targets, flavors_placed, WorkedCall, WorkedCalls, WorkedReading, calling_at, calling_memory, calling_objects, calling_placed, first_bytes, given_on, last_bytes, nameless_image, table_targets}
 use Rattle.implib_link_instances.specs.Worked.Programs.{both_inputs, foo_input, program_image, program_objects, program_placed, symbol_of_class, symbol_on, touching_4, touching_8}
@@ -55,6 +54,7 @@ use Rattle.implib_link_instances.proofs.Worked.RefusedLinks.{differ, number}
 use Rattle.implib_link_instances.specs.Worked.Relocated.{CodesBeside, code_range, code_ranges}
 use Rattle.implib_link_instances.proofs.Worked.Relocated.{beside_by, codes_tested}
 use Rattle.implib_link_instances.proofs.Worked.LinkedCode.{relocated_test}
+use Rattle.implib_link.specs.Flavors.Program.{Ending, OfLinker, OfMember, gnu_input}
 
 -- what the computing has to open
 abbrev opened : Unit {0}
@@ -105,7 +105,7 @@ one_code_resolves linked k m u entries own other differs = record {
 
 pub amd64_program : IsProgram AMD64 touching_8 (both_inputs AMD64) (calling_objects AMD64)
 unfolding opened refusal renamed_refusal alias_specs encoded_size weak_object has_tables
-amd64_program = program_by refl refl refl (admissible_by refl refl)
+amd64_program = program_by (both_inputs AMD64) refl refl refl (admissible_by refl refl)
 
 amd64_beside : CodesBeside AMD64 0x1_4000_0000 touching_8 (calling_objects AMD64) (calling_at AMD64 0x1000 ∷ []) (table_targets AMD64 touching_8)
 unfolding opened refusal renamed_refusal alias_specs encoded_size weak_object has_tables relocated_test codes_tested
@@ -141,7 +141,7 @@ amd64_has = instructions_at (first_bytes AMD64) (last_bytes AMD64) 1 [] [] tt tt
 
 pub i386_program : IsProgram I386 touching_4 (both_inputs I386) (calling_objects I386)
 unfolding opened refusal renamed_refusal alias_specs encoded_size weak_object has_tables
-i386_program = program_by refl refl refl (admissible_by refl refl)
+i386_program = program_by (both_inputs I386) refl refl refl (admissible_by refl refl)
 
 i386_beside : CodesBeside I386 0x40_0000 touching_4 (calling_objects I386) (calling_at I386 0x1000 ∷ []) (table_targets I386 touching_4)
 unfolding opened refusal renamed_refusal alias_specs encoded_size weak_object has_tables relocated_test codes_tested
@@ -162,7 +162,7 @@ i386_has = instructions_at (first_bytes I386) (last_bytes I386) 1 [] [] tt tt re
 
 pub arm64_program : IsProgram ARM64 touching_8 (both_inputs ARM64) (calling_objects ARM64)
 unfolding opened refusal renamed_refusal alias_specs encoded_size weak_object has_tables
-arm64_program = program_by refl refl refl (admissible_by refl refl)
+arm64_program = program_by (both_inputs ARM64) refl refl refl (admissible_by refl refl)
 
 arm64_beside : CodesBeside ARM64 0x1_4000_0000 touching_8 (calling_objects ARM64) (calling_at ARM64 0x1000 ∷ []) (table_targets ARM64 touching_8)
 unfolding opened refusal renamed_refusal alias_specs encoded_size weak_object has_tables relocated_test codes_tested
@@ -245,29 +245,16 @@ pub worked_calls : WorkedCalls
 worked_calls = record { amd64 = amd64; i386 = i386; arm64 = arm64; refused = over_tables }
 
 -- a loader that reads the image leaves at an entry what the DLL gives
-gnu_reading : (machine : MachineType) (bases : Bases) (inputs : List LinkInput) (objects : List Object) (gives : List ℕ → Ask → List ℕ) (n : ℕ) (written : List Range) (i j : ℕ) (p : LinkInput) (e : ExportView) →
-    AllByRecursion (IsMade machine) inputs → IsProgram machine bases inputs objects → ((dll : List ℕ) (ask : Ask) → length (gives dll ask) ≡ thunk_width machine) →
-    ReadsAndWrites (image_of machine bases (placed_from bases objects)) (thunk_width machine) gives n bases.descriptors written → slice_get inputs i ≡ Some p → slice_get (chosen_exports p.definition p.chosen) j ≡ Some e →
-    (n ≡ length inputs) × HoldsAt (written ++ image_of machine bases (placed_from bases objects)) (placed_from bases objects) (imp_symbol e.name) (gives p.definition.import_name (expected_ask machine e))
-gnu_reading machine bases inputs objects gives n written i j p e made program wide_given reads input chosen =
-    let memory : List Range = written ++ image_of machine bases (placed_from bases objects) in
-    let read = tables_read machine (tables_at machine bases objects (map (block_of_input machine) inputs)) gives n written (gnu_tables machine bases inputs objects made program) wide_given reads in
-    let own = gnu_entry machine bases inputs objects i j p e input chosen in (
-      read.0 ∙ gnu_count machine bases inputs objects,
-      subst (λ dll. HoldsAt memory (placed_from bases objects) (imp_symbol e.name) (gives dll (expected_ask machine e))) own.of_dll
-          (subst (λ ask. HoldsAt memory (placed_from bases objects) (imp_symbol e.name) (gives own.table.dll ask)) own.of_ask (read.1.entries own.i j own.table own.entry (imp_symbol e.name) own.is own.asked own.symbol)),
-    )
-
-flavors_read : (machine : MachineType) (bases : Bases) (inputs : List FlavorInput) (objects : List Object) (gives : List ℕ → Ask → List ℕ) (n : ℕ) (written : List Range) (i j : ℕ) (p : FlavorInput) (e : ExportView) →
-    AllByRecursion (IsMadeFor machine) inputs → IsFlavorProgram machine bases inputs objects → ((dll : List ℕ) (ask : Ask) → length (gives dll ask) ≡ thunk_width machine) →
+program_read : (machine : MachineType) (ending : Ending) (bases : Bases) (inputs : List FlavorInput) (objects : List Object) (gives : List ℕ → Ask → List ℕ) (n : ℕ) (written : List Range) (i j : ℕ) (p : FlavorInput) (e : ExportView) →
+    AllByRecursion (IsMadeFor machine) inputs → IsProgramOf machine ending bases inputs objects → ((dll : List ℕ) (ask : Ask) → length (gives dll ask) ≡ thunk_width machine) →
     ReadsAndWrites (image_of machine bases (placed_from bases objects)) (thunk_width machine) gives n bases.descriptors written → slice_get inputs i ≡ Some p → slice_get (exports_chosen p) j ≡ Some e →
     (n ≡ length inputs) × HoldsAt (written ++ image_of machine bases (placed_from bases objects)) (placed_from bases objects) (imp_symbol (symbol_in p.flavor e)) (gives (dll_of p) (ask_in p.flavor machine e))
-flavors_read machine bases inputs objects gives n written i j p e made program wide_given reads input chosen =
+program_read machine ending bases inputs objects gives n written i j p e made program wide_given reads input chosen =
     let memory : List Range = written ++ image_of machine bases (placed_from bases objects) in
     let name : List ℕ = imp_symbol (symbol_in p.flavor e) in
-    let read = tables_read machine (tables_at machine bases objects (map (block_of_flavor machine) inputs)) gives n written (flavors_tables machine bases inputs objects made program) wide_given reads in
-    let own = flavors_entry machine bases inputs objects i j p e input chosen in (
-      read.0 ∙ flavors_count machine bases inputs objects,
+    let read = tables_read machine (tables_at machine bases objects (map (block_of_flavor machine) inputs)) gives n written (program_tables machine ending bases inputs objects made program) wide_given reads in
+    let own = program_entry machine bases inputs objects i j p e input chosen in (
+      read.0 ∙ program_count machine bases inputs objects,
       subst (λ dll. HoldsAt memory (placed_from bases objects) name (gives dll (ask_in p.flavor machine e))) own.of_dll
           (subst (λ ask. HoldsAt memory (placed_from bases objects) name (gives own.table.dll ask)) own.of_ask (read.1.entries own.i j own.table own.entry name own.is own.asked own.symbol)),
     )
@@ -275,7 +262,7 @@ flavors_read machine bases inputs objects gives n written i j p e made program w
 amd64_reading : (n : ℕ) (written : List Range) → ReadsAndWrites (program_image AMD64 touching_8) 8 (given_on AMD64) n 4 written → (n ≡ 2) × BytesAt (written ++ program_image AMD64 touching_8) 0x80 (0x40 ∷ 0 ∷ 0 ∷ 0x10 ∷ 0 ∷ 0 ∷ 0 ∷ 0 ∷ [])
 unfolding opened refusal renamed_refusal alias_specs encoded_size weak_object has_tables
 amd64_reading n written reads =
-    let all = gnu_reading AMD64 touching_8 (both_inputs AMD64) (program_objects AMD64) (given_on AMD64) n written 0 1 (foo_input AMD64) (open_export AMD64) worked_programs.amd64.made worked_programs.amd64.program (wide AMD64) reads refl refl in
+    let all = program_read AMD64 OfLinker touching_8 (map gnu_input (both_inputs AMD64)) (program_objects AMD64) (given_on AMD64) n written 0 1 (gnu_input (foo_input AMD64)) (open_export AMD64) worked_programs.amd64.made worked_programs.amd64.program (wide AMD64) reads refl refl in
     let holds = all.1 in
     let name : List ℕ = imp_symbol (symbol_on AMD64 (codes "open")) in
     let same : holds.address ≡ 0x80 = same_address name holds.address 0x80 (definitions_of name (program_placed AMD64 touching_8)) holds.once refl in
@@ -284,7 +271,7 @@ amd64_reading n written reads =
 i386_reading : (n : ℕ) (written : List Range) → ReadsAndWrites (program_image I386 touching_4) 4 (given_on I386) n 4 written → (n ≡ 2) × BytesAt (written ++ program_image I386 touching_4) 0x60 (0x40 ∷ 0 ∷ 0 ∷ 0x10 ∷ [])
 unfolding opened refusal renamed_refusal alias_specs encoded_size weak_object has_tables
 i386_reading n written reads =
-    let all = gnu_reading I386 touching_4 (both_inputs I386) (program_objects I386) (given_on I386) n written 0 1 (foo_input I386) (open_export I386) worked_programs.i386.made worked_programs.i386.program (wide I386) reads refl refl in
+    let all = program_read I386 OfLinker touching_4 (map gnu_input (both_inputs I386)) (program_objects I386) (given_on I386) n written 0 1 (gnu_input (foo_input I386)) (open_export I386) worked_programs.i386.made worked_programs.i386.program (wide I386) reads refl refl in
     let holds = all.1 in
     let name : List ℕ = imp_symbol (symbol_on I386 (codes "open")) in
     let same : holds.address ≡ 0x60 = same_address name holds.address 0x60 (definitions_of name (program_placed I386 touching_4)) holds.once refl in
@@ -294,7 +281,7 @@ flavors_reading : (n : ℕ) (written : List Range) → ReadsAndWrites (flavor_im
     (n ≡ 2) × BytesAt (written ++ flavor_image AMD64 0 flavor_bases_8) 0x88 (0x40 ∷ 0 ∷ 0 ∷ 0x10 ∷ 0 ∷ 0 ∷ 0 ∷ 0 ∷ [])
 unfolding opened refusal renamed_refusal alias_specs encoded_size weak_object has_tables expanded_in short_import_in import_object descriptor_symbol_by_name with_section_symbols descriptor null_descriptor null_thunk descriptor_symbol null_descriptor_symbol null_thunk_symbol base_name descriptor_spec null_descriptor_spec null_thunk_spec header_specs weak_specs group_end sections_end
 flavors_reading n written reads =
-    let all = flavors_read AMD64 flavor_bases_8 (flavor_inputs AMD64) (flavor_objects AMD64 0) (given_on AMD64) n written 0 1 (msvc_input AMD64) (open_export AMD64) worked_flavors.amd64.made worked_flavors.amd64.program (wide AMD64) reads refl refl in
+    let all = program_read AMD64 OfMember flavor_bases_8 (flavor_inputs AMD64) (flavor_objects AMD64 0) (given_on AMD64) n written 0 1 (msvc_input AMD64) (open_export AMD64) worked_flavors.amd64.made worked_flavors.amd64.program (wide AMD64) reads refl refl in
     let holds = all.1 in
     let name : List ℕ = imp_symbol (symbol_on AMD64 (codes "open")) in
     let same : holds.address ≡ 0x88 = same_address name holds.address 0x88 (definitions_of name (flavor_placed AMD64 0 flavor_bases_8)) holds.once refl in
@@ -312,15 +299,15 @@ worked_reading = record {
   i386 = i386_reading;
   flavors = flavors_reading;
   refused = nothing_read;
-  amd64_ends = tables_end AMD64 (tables_at AMD64 touching_8 (program_objects AMD64) (map (block_of_input AMD64) (both_inputs AMD64))) (given_on AMD64)
-      (gnu_tables AMD64 touching_8 (both_inputs AMD64) (program_objects AMD64) worked_programs.amd64.made worked_programs.amd64.program);
+  amd64_ends = tables_end AMD64 (tables_at AMD64 touching_8 (program_objects AMD64) (map (block_of_flavor AMD64) (map gnu_input (both_inputs AMD64)))) (given_on AMD64)
+      (program_tables AMD64 OfLinker touching_8 (map gnu_input (both_inputs AMD64)) (program_objects AMD64) worked_programs.amd64.made worked_programs.amd64.program);
   flavors_ends = tables_end AMD64 (tables_at AMD64 flavor_bases_8 (flavor_objects AMD64 0) (map (block_of_flavor AMD64) (flavor_inputs AMD64))) (given_on AMD64)
-      (flavors_tables AMD64 flavor_bases_8 (flavor_inputs AMD64) (flavor_objects AMD64 0) worked_flavors.amd64.made worked_flavors.amd64.program);
+      (program_tables AMD64 OfMember flavor_bases_8 (flavor_inputs AMD64) (flavor_objects AMD64 0) worked_flavors.amd64.made worked_flavors.amd64.program);
 }
 
 -- The program of both flavours.
 
-pub flavors_program : IsFlavorProgram AMD64 flavor_bases_8 (flavor_inputs AMD64) calling_flavors
+pub flavors_program : IsProgramOf AMD64 OfMember flavor_bases_8 (flavor_inputs AMD64) calling_flavors
 unfolding opened refusal renamed_refusal alias_specs encoded_size weak_object has_tables expanded_in short_import_in import_object descriptor_symbol_by_name with_section_symbols descriptor null_descriptor null_thunk descriptor_symbol null_descriptor_symbol null_thunk_symbol base_name descriptor_spec null_descriptor_spec null_thunk_spec header_specs weak_specs group_end sections_end
 flavors_program = record {
   held = flavor_objects_by (msvc_input AMD64) (take 0 (all_members AMD64 (flavor_inputs AMD64))) (drop 0 (all_members AMD64 (flavor_inputs AMD64))) (0, omega arith, refl) (refl, (tt, tt)) refl refl refl refl refl;
@@ -439,7 +426,7 @@ direct_resolved = open_resolved direct_placed (direct_at ∷ stub_at ∷ []) ref
 
 direct_program : IsProgram AMD64 touching_8 (both_inputs AMD64) direct_objects
 unfolding opened refusal renamed_refusal alias_specs encoded_size weak_object has_tables
-direct_program = program_by refl refl refl (admissible_by refl refl)
+direct_program = program_by (both_inputs AMD64) refl refl refl (admissible_by refl refl)
 
 direct_beside : CodesBeside AMD64 0x1_4000_0000 touching_8 direct_objects (direct_at ∷ stub_at ∷ []) direct_targets
 unfolding opened refusal renamed_refusal alias_specs encoded_size weak_object has_tables relocated_test codes_tested

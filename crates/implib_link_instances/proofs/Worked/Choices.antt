@@ -24,8 +24,7 @@ use Rattle.implib_link_instances.specs.Worked.Choices.{WorkedChoices, second_stu
 use Rattle.implib_link_instances.specs.Worked.DirectCalls.{branch_at, branch_codes, branching_objects, branching_placed, stub_of}
 use Rattle.implib_link_instances.specs.Worked.Programs.{symbol_of_class, touching_8}
 use Rattle.implib_link.proofs.Gnu.Choices.{defined_found, found, found_in, here_from, is_here, choice, choice_resolves}
-use Rattle.implib_link.proofs.Search.Lists.{contains_among}
-use Rattle.implib_link.proofs.Search.Lists.{each_of}
+use Rattle.implib_link.proofs.Search.Lists.{contains_among, each_of}
 use Rattle.implib_link_instances.proofs.Worked.DirectCalls.{worked_branch}
 use Rattle.implib_link_instances.proofs.Worked.Programs.{opened}
 use Rattle.implib_link_instances.proofs.Worked.RefusedLinks.{number}

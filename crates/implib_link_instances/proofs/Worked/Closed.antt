@@ -15,16 +15,17 @@ use Rattle.implib.specs.Link.Placement.{Bases}
 use Rattle.implib.proofs.Link.LinkedMembers.{among_contains, among_map}
 use Rattle.implib.proofs.Link.Ranges.{Among, all_among, among_back, among_front}
 use Rattle.implib_link.specs.Gnu.Packed.{group_end, packed_end, sections_end}
-use Rattle.implib_link.specs.Gnu.Program.{ClaimsNone, claimed_names, has_tables}
+use Rattle.implib_link.specs.Gnu.Program.{ClaimsNone, claimed_names, has_tables, HaveSame}
 use Rattle.implib_link.specs.Search.Archives.{Library, NamesNoHeadOrTailOf, archive_of, is_weak}
 use Rattle.implib_link.specs.Search.Closed.{IsClosed, PullsInto, TakesInto, claims_of, inputs_in, listed_in, references_of, unresolved, wanted_in}
 use Rattle.implib_link.specs.Search.Given.{AreGiven, symbols_kept}
-use Rattle.implib_link.specs.Search.Search.{HaveSame, names_undefined, undefined_in, left_as}
+use Rattle.implib_link.specs.Search.Search.{names_undefined, undefined_in, left_as}
 use Rattle.implib_link_instances.specs.Worked.Archives.{two_libraries}
 use Rattle.implib_link_instances.specs.Worked.Closed.{WorkedClosed, WorkedGiven, choosing, clashing, closed_bases, closed_objects, closed_taken, without_last, zed_first}
-use Rattle.implib_link.proofs.Gnu.Packed.{packed_is_admissible}
+use Rattle.implib_link_instances.proofs.Worked.GnuPacked.{packed_is_admissible}
 use Rattle.implib_link.proofs.Search.Archives.{inputs_made}
-use Rattle.implib_link.proofs.Search.Closed.{claims_apart, closed_links, takes_into, unresolved_parts}
+use Rattle.implib_link.proofs.Search.Closed.{closed_links}
+use Rattle.implib_link.proofs.Search.Closing.{takes_into, unresolved_parts, claims_apart}
 use Rattle.implib_link.proofs.Search.Given.{given_closes, given_ends}
 use Rattle.implib_link.proofs.Search.Lists.{among_any, any_among, contains_among}
 use Rattle.implib_link_instances.proofs.Worked.Archives.{both_takes, tail_named, worked_archives}

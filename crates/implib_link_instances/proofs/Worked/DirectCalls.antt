@@ -8,7 +8,8 @@ use Rattle.implib.specs.Members.GnuMembers.{alias_specs}
 use Rattle.implib.specs.Members.WeakExternal.{weak_object}
 use Rattle.implib.proofs.Link.Ranges.{apart_as_they_rise}
 use Rattle.implib_link.specs.Gnu.Calls.{Defines, HasDirectCall}
-use Rattle.implib_link.specs.Gnu.Program.{IsProgram, has_tables}
+use Rattle.implib_link.specs.Gnu.Program.{has_tables}
+use Rattle.implib_link.specs.Flavors.Program.{IsProgram}
 use Rattle.implib_link_instances.specs.Worked.Calls.{first_bytes, last_bytes, open_targets}
 use Rattle.implib_link_instances.specs.Worked.DirectCalls.{WorkedBranch, branch_at, branch_codes, branching_objects, branching_placed, stub_of}
 use Rattle.implib_link_instances.specs.Worked.Programs.{both_inputs, symbol_of_class, touching_8}
@@ -20,7 +21,7 @@ use Rattle.implib_link_instances.proofs.Worked.LinkedCode.{relocated_test}
 
 branch_program : IsProgram ARM64 touching_8 (both_inputs ARM64) branching_objects
 unfolding opened alias_specs encoded_size weak_object has_tables
-branch_program = program_by refl refl refl (admissible_by refl refl)
+branch_program = program_by (both_inputs ARM64) refl refl refl (admissible_by refl refl)
 
 branch_beside : CodesBeside ARM64 0x1_4000_0000 touching_8 branching_objects branch_codes (open_targets branching_placed)
 unfolding opened alias_specs encoded_size weak_object has_tables relocated_test codes_tested

@@ -20,7 +20,7 @@ use Rattle.implib_link.specs.Search.Exists.{AreChosenFor, HasClosed, objects_clo
 use Rattle.implib_link_instances.specs.Worked.Archives.{two_libraries}
 use Rattle.implib_link_instances.specs.Worked.Closed.{choosing, closed_objects, closed_taken, zed_first}
 use Rattle.implib_link_instances.specs.Worked.Exists.{WorkedExists}
-use Rattle.implib_link.proofs.Search.Closed.{passing}
+use Rattle.implib_link.proofs.Search.Lists.{passing}
 use Rattle.implib_link.proofs.Search.Exists.{closed_exists, packed_closes, packed_within}
 use Rattle.implib_link.proofs.Search.Lists.{contains_among}
 use Rattle.implib_link_instances.proofs.Worked.Archives.{worked_archives}

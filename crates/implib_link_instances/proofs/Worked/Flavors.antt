@@ -19,7 +19,7 @@ use Rattle.implib.specs.Formats.ShortImport.{short_import_in}
 use Rattle.implib.specs.Members.WeakExternal.{weak_object}
 use Rattle.implib.proofs.Link.Loading.{number_once}
 use Rattle.implib_link.specs.Flavors.Expansion.{import_object, descriptor_symbol_by_name, expanded_in}
-use Rattle.implib_link.specs.Flavors.Program.{all_members, symbols_listed, AreFlavorObjects, FlavorInput, IsFoundByName, dll_names_in, null_member, objects_taken}
+use Rattle.implib_link.specs.Flavors.Program.{OfMember, all_members, symbols_listed, FlavorInput, IsFoundByName, dll_names_in, null_member, objects_taken, AreProgramObjects}
 use Rattle.implib_link.specs.Gnu.Packed.{group_end, sections_end}
 use Rattle.implib_link.specs.Gnu.Program.{has_tables}
 use Rattle.implib_link.specs.Flavors.SectionSymbols.{with_section_symbols}
@@ -41,16 +41,10 @@ opened = tt
 pub flavor_objects_by : {machine : MachineType} {inputs : List FlavorInput} {objects : List Object} (null_from : FlavorInput) (before behind : List MemberView) → Contains inputs null_from →
     AllByRecursion (λ p. IsFoundByName p.flavor (dll_names_in p)) inputs → null_from.flavor ≡ Msvc → all_differ (null_descriptor_symbol ∷ symbols_listed (all_members machine inputs)) ≡ true →
     before ++ behind ≡ all_members machine inputs → filter has_tables objects ≡ objects_taken machine (before ++ null_member machine (linked_dll null_from.input.definition) ∷ behind) →
-    claim_none (null_descriptor_symbol ∷ symbols_listed (all_members machine inputs)) (filter (λ o. not (has_tables o)) objects) ≡ true → AreFlavorObjects machine inputs objects
+    claim_none (null_descriptor_symbol ∷ symbols_listed (all_members machine inputs)) (filter (λ o. not (has_tables o)) objects) ≡ true → AreProgramObjects machine OfMember inputs objects
 flavor_objects_by {machine} {inputs} {objects} null_from before behind held found flavor differ members tables none = record {
   distinct = distinct_by (null_descriptor_symbol ∷ symbols_listed (all_members machine inputs)) differ;
-  null_from = null_from;
-  null_held = held;
-  null_flavor = flavor;
-  before = before;
-  behind = behind;
-  members = members;
-  tables = tables;
+  ended = record { null_from = null_from; null_held = held; null_flavor = flavor; before = before; behind = behind; members = members; tables = tables };
   others = all_claim_none (null_descriptor_symbol ∷ symbols_listed (all_members machine inputs)) (filter (λ o. not (has_tables o)) objects) none;
   found = found;
 }

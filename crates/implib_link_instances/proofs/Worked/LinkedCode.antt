@@ -28,8 +28,7 @@ use Rattle.implib_link.proofs.Gnu.Fields.{alone_among}
 use Rattle.implib_link.proofs.Gnu.Loaded.{kept_outside}
 use Rattle.implib_link.proofs.Gnu.Memory.{byte_front}
 use Rattle.implib_link.proofs.Gnu.Moved.{among_place}
-use Rattle.implib_link.proofs.Search.Lists.{among_at, among_mapped, contains_among}
-use Rattle.implib_link.proofs.Search.Lists.{each_of}
+use Rattle.implib_link.proofs.Search.Lists.{among_at, among_mapped, contains_among, each_of}
 
 -- Fields, by their types.
 

@@ -31,9 +31,8 @@ use Rattle.implib_link_instances.specs.Worked.LldPrograms.{RefusedCalls, Refused
 use Rattle.implib_link_instances.specs.Worked.Programs.{symbol_of_class, symbol_on}
 use Rattle.implib_link.proofs.Flavors.LldTables.{built_pieces}
 use Rattle.implib_link.proofs.Gnu.Memory.{byte_first, within_bounds}
-use Rattle.implib_link.proofs.Search.Lists.{among_at, contains_among}
+use Rattle.implib_link.proofs.Search.Lists.{among_at, contains_among, each_of}
 use Rattle.implib_link.proofs.TablesOfPrograms.{lld_tables}
-use Rattle.implib_link.proofs.Search.Lists.{each_of}
 use Rattle.implib_link_instances.proofs.Worked.LinkedCode.{all_needed, only_absolute, rebased_by, relocated_by, relocated_test}
 use Rattle.implib_link_instances.proofs.Worked.Lld.{alike, lld_opened}
 use Rattle.implib_link_instances.proofs.Worked.Programs.{distinct_by, instruction_by}

@@ -2,7 +2,7 @@
 use Rattle.implib.specs.Link.Image.{Range, image_of}
 use Rattle.implib.specs.declared.machine.MachineType.{MachineType}
 use Rattle.implib.specs.Formats.Object.{Object}
-use Rattle.implib.specs.Link.LinkedMembers.{IsMade, LinkInput}
+use Rattle.implib.specs.Link.LinkedMembers.{IsMade}
 use Rattle.implib.specs.Link.Placement.{Bases, placed_from}
 use Rattle.std.specs.List.{AllByRecursion}
 use Rattle.std.proofs.Common.{◌≡◌, ℕ, ◌+◌, ◌^◌, ◌≤◌, List, [], ◌∷◌, codes, length, map, refl, arith, subst, sym, ◌∙◌}
@@ -15,42 +15,44 @@ use Rattle.implib.specs.Formats.Layout.{encoded_size}
 use Rattle.implib.specs.Worked.Statements.{plain_export}
 use Rattle.implib_link.specs.Directory.{imported}
 use Rattle.implib_link.specs.Gnu.Loaded.{Writes, entries_written}
-use Rattle.implib_link.specs.Gnu.Program.{has_tables, IsProgram}
+use Rattle.implib_link.specs.Gnu.Program.{has_tables}
+use Rattle.implib_link.specs.Flavors.Program.{IsProgram}
 use Rattle.implib_link.specs.Stub.{CanJump}
 use Rattle.implib_link.proofs.PackedTables.{packed_imports}
 use Rattle.implib_link.proofs.Tables.{tables_load}
-use Rattle.implib_link.proofs.TablesOfPrograms.{gnu_tables, inputs_blocks}
-use Rattle.implib_link.specs.Tables.{AreTablesLoaded, block_of_input, tables_at}
+use Rattle.implib_link.proofs.TablesOfPrograms.{inputs_blocks, program_tables}
+use Rattle.implib_link.specs.Tables.{AreTablesLoaded, block_of_flavor, tables_at}
 use Rattle.implib_link_instances.specs.Worked.Loads.{WorkedCall, WorkedCalls, WorkedLoad, WorkedLoads, gives_by_hand, written_4, written_8}
 use Rattle.implib_link_instances.specs.Worked.Programs.{both_inputs, foo_input, program_image, program_objects, symbol_on, touching_4, touching_8, zed_input}
 use Rattle.implib_link.proofs.Gnu.Directory.{directory_walk}
-use Rattle.implib_link.proofs.Gnu.Program.{program_links}
-use Rattle.implib_link.proofs.Gnu.Stubs.{stubs_jump}
+use Rattle.implib_link.proofs.Flavors.Program.{program_links}
+use Rattle.implib_link.proofs.Flavors.Stubs.{stubs_jump}
 use Rattle.implib_link_instances.proofs.Worked.Programs.{opened, worked_programs}
 use Rattle.implib_link_instances.proofs.Worked.RefusedLinks.{number}
+use Rattle.implib_link.specs.Flavors.Program.{Ending, FlavorInput, IsMadeFor, IsProgramOf, OfLinker, gnu_input, imported_in}
 
 -- a loader that is handed the imports loads the tables
-gnu_loaded : (machine : MachineType) (bases : Bases) (inputs : List LinkInput) (objects : List Object) (gives : List ℕ → Ask → List ℕ) (written : List Range) → AllByRecursion (IsMade machine) inputs →
-    IsProgram machine bases inputs objects → ((dll : List ℕ) (ask : Ask) → length (gives dll ask) ≡ thunk_width machine) →
-    Writes (image_of machine bases (placed_from bases objects)) (thunk_width machine) gives bases.descriptors (map (imported machine) inputs) written →
-    AreTablesLoaded machine (tables_at machine bases objects (map (block_of_input machine) inputs)) gives written
-gnu_loaded machine bases inputs objects gives written made program wide writes =
-    tables_load machine gives wide (tables_at machine bases objects (map (block_of_input machine) inputs)) written (gnu_tables machine bases inputs objects made program)
+pub program_loaded : (machine : MachineType) (ending : Ending) (bases : Bases) (inputs : List FlavorInput) (objects : List Object) (gives : List ℕ → Ask → List ℕ) (written : List Range) →
+    AllByRecursion (IsMadeFor machine) inputs → IsProgramOf machine ending bases inputs objects → ((dll : List ℕ) (ask : Ask) → length (gives dll ask) ≡ thunk_width machine) →
+    Writes (image_of machine bases (placed_from bases objects)) (thunk_width machine) gives bases.descriptors (map (imported_in machine) inputs) written →
+    AreTablesLoaded machine (tables_at machine bases objects (map (block_of_flavor machine) inputs)) gives written
+program_loaded machine ending bases inputs objects gives written made program wide writes =
+    tables_load machine gives wide (tables_at machine bases objects (map (block_of_flavor machine) inputs)) written (program_tables machine ending bases inputs objects made program)
     (subst (λ is. Writes (image_of machine bases (placed_from bases objects)) (thunk_width machine) gives bases.descriptors is written)
-    (sym (packed_imports (thunk_width machine) (map (block_of_input machine) inputs) bases.addresses ∙ inputs_blocks machine inputs)) writes)
+    (sym (packed_imports (thunk_width machine) (map (block_of_flavor machine) inputs) bases.addresses ∙ inputs_blocks machine inputs)) writes)
 
 -- what is worked of a program, where its own writes are computed
 worked : (machine : MachineType) (bases : Bases) (written : List Range) → AllByRecursion (IsMade machine) (both_inputs machine) → IsProgram machine bases (both_inputs machine) (program_objects machine) →
     ((dll : List ℕ) (ask : Ask) → length (gives_by_hand machine dll ask) ≡ thunk_width machine) →
     Writes (program_image machine bases) (thunk_width machine) (gives_by_hand machine) bases.descriptors (map (imported machine) (both_inputs machine)) written → WorkedLoad machine bases written
 worked machine bases written made program given writes =
-    let links = program_links machine bases (both_inputs machine) (program_objects machine) made program in
+    let links = program_links machine OfLinker bases (map gnu_input (both_inputs machine)) (program_objects machine) made program in
     record {
       links = links;
       walk = directory_walk (program_image machine bases) (thunk_width machine) bases.descriptors (map (imported machine) (both_inputs machine)) links.directory;
       given = given;
       writes = writes;
-      loaded = gnu_loaded machine bases (both_inputs machine) (program_objects machine) (gives_by_hand machine) written made program given writes;
+      loaded = program_loaded machine OfLinker bases (map gnu_input (both_inputs machine)) (program_objects machine) (gives_by_hand machine) written made program given writes;
     }
 
 pub amd64_given : (dll : List ℕ) (ask : Ask) → length (gives_by_hand AMD64 dll ask) ≡ thunk_width AMD64
@@ -73,8 +75,8 @@ amd64_can = tt
 amd64_call : WorkedCall AMD64 0x1_4000_0000 touching_8 128 160
 amd64_call = record {
   can = amd64_can;
-  open_jumps = stubs_jump AMD64 0x1_4000_0000 touching_8 (both_inputs AMD64) (program_objects AMD64) 0 1 (foo_input AMD64) (record (plain_export (symbol_on AMD64 (codes "open"))) { ordinal = 258 }) worked_programs.amd64.made worked_programs.amd64.program amd64_can refl refl refl;
-  queue_jumps = stubs_jump AMD64 0x1_4000_0000 touching_8 (both_inputs AMD64) (program_objects AMD64) 1 0 (zed_input AMD64) (plain_export (symbol_on AMD64 (codes "queue"))) worked_programs.amd64.made worked_programs.amd64.program amd64_can refl refl refl;
+  open_jumps = stubs_jump AMD64 OfLinker 0x1_4000_0000 touching_8 (map gnu_input (both_inputs AMD64)) (program_objects AMD64) 0 1 (gnu_input (foo_input AMD64)) (record (plain_export (symbol_on AMD64 (codes "open"))) { ordinal = 258 }) worked_programs.amd64.made worked_programs.amd64.program amd64_can refl refl refl;
+  queue_jumps = stubs_jump AMD64 OfLinker 0x1_4000_0000 touching_8 (map gnu_input (both_inputs AMD64)) (program_objects AMD64) 1 0 (gnu_input (zed_input AMD64)) (plain_export (symbol_on AMD64 (codes "queue"))) worked_programs.amd64.made worked_programs.amd64.program amd64_can refl refl refl;
 }
 
 pub arm64_given : (dll : List ℕ) (ask : Ask) → length (gives_by_hand ARM64 dll ask) ≡ thunk_width ARM64
@@ -97,8 +99,8 @@ arm64_can = (refl, refl)
 arm64_call : WorkedCall ARM64 0x1_4000_0000 touching_8 128 160
 arm64_call = record {
   can = arm64_can;
-  open_jumps = stubs_jump ARM64 0x1_4000_0000 touching_8 (both_inputs ARM64) (program_objects ARM64) 0 1 (foo_input ARM64) (record (plain_export (symbol_on ARM64 (codes "open"))) { ordinal = 258 }) worked_programs.arm64.made worked_programs.arm64.program arm64_can refl refl refl;
-  queue_jumps = stubs_jump ARM64 0x1_4000_0000 touching_8 (both_inputs ARM64) (program_objects ARM64) 1 0 (zed_input ARM64) (plain_export (symbol_on ARM64 (codes "queue"))) worked_programs.arm64.made worked_programs.arm64.program arm64_can refl refl refl;
+  open_jumps = stubs_jump ARM64 OfLinker 0x1_4000_0000 touching_8 (map gnu_input (both_inputs ARM64)) (program_objects ARM64) 0 1 (gnu_input (foo_input ARM64)) (record (plain_export (symbol_on ARM64 (codes "open"))) { ordinal = 258 }) worked_programs.arm64.made worked_programs.arm64.program arm64_can refl refl refl;
+  queue_jumps = stubs_jump ARM64 OfLinker 0x1_4000_0000 touching_8 (map gnu_input (both_inputs ARM64)) (program_objects ARM64) 1 0 (gnu_input (zed_input ARM64)) (plain_export (symbol_on ARM64 (codes "queue"))) worked_programs.arm64.made worked_programs.arm64.program arm64_can refl refl refl;
 }
 
 pub i386_given : (dll : List ℕ) (ask : Ask) → length (gives_by_hand I386 dll ask) ≡ thunk_width I386
@@ -121,8 +123,8 @@ i386_can = omega arith
 i386_call : WorkedCall I386 0x40_0000 touching_4 96 112
 i386_call = record {
   can = i386_can;
-  open_jumps = stubs_jump I386 0x40_0000 touching_4 (both_inputs I386) (program_objects I386) 0 1 (foo_input I386) (record (plain_export (symbol_on I386 (codes "open"))) { ordinal = 258 }) worked_programs.i386.made worked_programs.i386.program i386_can refl refl refl;
-  queue_jumps = stubs_jump I386 0x40_0000 touching_4 (both_inputs I386) (program_objects I386) 1 0 (zed_input I386) (plain_export (symbol_on I386 (codes "queue"))) worked_programs.i386.made worked_programs.i386.program i386_can refl refl refl;
+  open_jumps = stubs_jump I386 OfLinker 0x40_0000 touching_4 (map gnu_input (both_inputs I386)) (program_objects I386) 0 1 (gnu_input (foo_input I386)) (record (plain_export (symbol_on I386 (codes "open"))) { ordinal = 258 }) worked_programs.i386.made worked_programs.i386.program i386_can refl refl refl;
+  queue_jumps = stubs_jump I386 OfLinker 0x40_0000 touching_4 (map gnu_input (both_inputs I386)) (program_objects I386) 1 0 (gnu_input (zed_input I386)) (plain_export (symbol_on I386 (codes "queue"))) worked_programs.i386.made worked_programs.i386.program i386_can refl refl refl;
 }
 
 pub armnt_given : (dll : List ℕ) (ask : Ask) → length (gives_by_hand ARMNT dll ask) ≡ thunk_width ARMNT

@@ -29,7 +29,7 @@ use Rattle.implib_link.specs.Search.Search.{undefined_in, left_as, claimed_as}
 use Rattle.implib_link_instances.specs.Worked.Closed.{choosing}
 use Rattle.implib_link_instances.specs.Worked.MsvcArchives.{shorts_of_both, thunk_named, two_msvc}
 use Rattle.implib_link_instances.specs.Worked.MsvcClosed.{WorkedMsvcClosed, msvc_without_last}
-use Rattle.implib_link.proofs.Search.Closed.{claims_apart, unresolved_parts, takes_into}
+use Rattle.implib_link.proofs.Search.Closing.{takes_into, unresolved_parts, claims_apart}
 use Rattle.implib_link.proofs.Search.Lists.{among_any, any_among, contains_among}
 use Rattle.implib_link_instances.proofs.Worked.MsvcArchives.{both_take}
 use Rattle.implib_link_instances.proofs.Worked.Programs.{claims_none_by, opened}

@@ -18,7 +18,7 @@ use Rattle.implib_link.specs.Search.Search.{first_listed, undefined_in, left_as,
 use Rattle.implib_link_instances.specs.Worked.MsvcSearch.{WorkedMsvcSearch, WorkedMsvcSearches, baz_member, four_taken, one_wanted, short_members, three_on}
 use Rattle.implib_link_instances.specs.Worked.Programs.{symbol_on}
 use Rattle.implib_link.proofs.Search.Lists.{contains_among}
-use Rattle.implib_link.proofs.Search.Msvc.{search_takes}
+use Rattle.implib_link.proofs.Search.MsvcOne.{search_takes}
 use Rattle.implib_link.proofs.Search.Ends.{search_ends, search_bounded}
 use Rattle.implib_link_instances.proofs.Worked.Programs.{distinct_by, opened}
 use Rattle.implib_link_instances.proofs.Worked.Search.{pulls_in_now, settled_ends, takes_by}

@@ -28,7 +28,7 @@ use Rattle.implib_link.specs.Gnu.OtherLibraries.{AllTaken, DescriptorsAt}
 use Rattle.implib_link.specs.Gnu.Packed.{group_end, sections_end}
 use Rattle.implib_link.specs.Gnu.Program.{ClaimsNone, claimed_names, linked_symbols, null_descriptor, has_tables}
 use Rattle.implib_link_instances.specs.Worked.Flavors.{both_inputs as flavor_inputs, flavor_objects, zed_input as zed_flavor}
-use Rattle.implib_link_instances.specs.Worked.NearPrograms.{NearAreFlavorObjects, NearAreWhole, NearIsFlavorProgram, NearIsImportable, NearIsLldProgram, NearIsProgram, NearIsProgramBeside, NearLldLinks, defines_mid, lld_defines, lld_range, members_of_both, mid_alone, own_queue, short_of, table_object, null_alone}
+use Rattle.implib_link_instances.specs.Worked.NearPrograms.{NearAreEndedByLinker, NearAreEndedByMember, NearAreProgramObjects, NearAreWhole, NearIsImportable, NearIsLldProgram, NearIsProgramBeside, NearIsProgramOf, NearLldLinks, defines_mid, lld_defines, lld_range, members_of_both, mid_alone, own_queue, short_of, table_object, null_alone}
 use Rattle.implib_link_instances.specs.Worked.Programs.{both_inputs, touching_8, zed_input}
 use Rattle.implib_link.proofs.Gnu.Memory.{byte_first}
 use Rattle.implib_link.proofs.Search.Lists.{any_among}
@@ -56,13 +56,11 @@ no_name name some none = omega arith
 not_fours : (n : ℕ) → n ≡ 2 → n % 4 ≡ 0 → ⊥
 not_fours n is fours = omega arith
 
-pub near_is_program : NearIsProgram
+pub near_are_ended_by_linker : NearAreEndedByLinker
 unfolding searched
-near_is_program = record {
-  distinct = λ x. same_twice (linked_symbols AMD64 (zed_input AMD64 ∷ zed_input AMD64 ∷ [])) refl x.distinct;
+near_are_ended_by_linker = record {
   tables = λ x. differ 0 6 (ap first_entries x.tables) (omega arith);
-  others = λ x. claims (codes "queue") (linked_symbols AMD64 (both_inputs AMD64)) own_queue refl refl x.others.0;
-  admissible = λ x. not_fours 2 refl x.admissible.descriptors.1;
+  gnu = λ x. let is : Msvc ≡ Gnu = x.gnu.0 in cc;
 }
 
 -- Of both flavours.
@@ -101,14 +99,22 @@ too_few before behind members null objects all few are =
 few_of : (objects : List Object) → length objects < 2 → length objects < length (objects_taken AMD64 (all_members AMD64 (flavor_inputs AMD64)))
 few_of objects few = let many = all_taken in omega arith
 
-pub near_are_flavor_objects : NearAreFlavorObjects
+pub near_are_ended_by_member : NearAreEndedByMember
 unfolding searched
-near_are_flavor_objects = record {
-  distinct = λ x. same_twice (null_descriptor_symbol ∷ symbols_listed (all_members AMD64 (flavor_inputs AMD64 ++ zed_flavor AMD64 ∷ []))) refl x.distinct;
+near_are_ended_by_member = record {
   null_held_and_null_flavor = λ x. none_passes (λ (p : FlavorInput). is_msvc p.flavor) x.null_from (zed_flavor AMD64 ∷ []) refl x.null_held (ap is_msvc x.null_flavor);
   members = λ x. too_few x.before x.behind (all_members AMD64 (flavor_inputs AMD64)) (null_member AMD64 (linked_dll x.null_from.input.definition)) (filter has_tables null_alone) x.members (few_of (filter has_tables null_alone) (omega (arith, one_alone))) x.tables;
   tables = λ x. too_few x.before x.behind (all_members AMD64 (flavor_inputs AMD64)) (null_member AMD64 (linked_dll x.null_from.input.definition)) [] x.members (few_of [] (omega arith)) x.tables;
+}
+
+pub near_are_program_objects : NearAreProgramObjects
+unfolding searched
+near_are_program_objects = record {
+  distinct = λ x. same_twice (null_descriptor_symbol ∷ symbols_listed (all_members AMD64 (flavor_inputs AMD64 ++ zed_flavor AMD64 ∷ []))) refl x.distinct;
+  distinct_gnu = λ x. same_twice (linked_symbols AMD64 (zed_input AMD64 ∷ zed_input AMD64 ∷ [])) refl x.distinct;
+  ended = λ x. near_are_ended_by_linker.gnu x.ended;
   others = λ x. claims (codes "queue") flavor_symbols own_queue refl refl x.others.0;
+  others_gnu = λ x. claims (codes "queue") (linked_symbols AMD64 (both_inputs AMD64)) own_queue refl refl x.others.0;
   found = λ x. let is : codes "__IMPORT_DESCRIPTOR_foo" ≡ codes "__IMPORT_DESCRIPTOR_foo.drv" = x.found.0 in differ 23 27 (ap length is) (omega arith);
 }
 
@@ -119,14 +125,15 @@ descriptors_end : group_end Descriptors 8 (flavor_objects AMD64 0) ≡ 48
 unfolding searched group_end sections_end
 descriptors_end = refl
 
-pub near_is_flavor_program : NearIsFlavorProgram
+pub near_is_program_of : NearIsProgramOf
 unfolding searched
-near_is_flavor_program = record {
-  held = λ x. near_are_flavor_objects.others x.held;
+near_is_program_of = record {
+  held = λ x. near_are_program_objects.others x.held;
   admissible = λ x. not_twos 186 x.admissible.hint_names.1 refl;
   lookups = λ x. no_eights 68 x.lookups refl;
   addresses = λ x. no_eights 132 x.addresses refl;
   follows = λ x. differ 48 52 (sym (x.follows ∙ descriptors_end)) (omega arith);
+  admissible_gnu = λ x. not_fours 2 refl x.admissible.descriptors.1;
 }
 
 -- Beside other libraries.

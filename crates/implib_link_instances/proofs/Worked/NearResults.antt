@@ -6,10 +6,9 @@ use Rattle.implib.specs.Members.MemberSpec.{MemberView}
 use Rattle.std.specs.Prelude.{IsPermutation, Option}
 use Rattle.std.proofs.lemmas.List.Sorted.{sum_by-IsPermutation}
 use Rattle.std.proofs.lemmas.List.Elements.{filter_map-append}
-use Rattle.implib_link.specs.Flavors.Program.{objects_taken}
+use Rattle.implib_link.specs.Flavors.Program.{objects_taken, SymbolsAt}
 use Rattle.implib_link_instances.proofs.Worked.RefusedFields.{absent}
 use Rattle.implib_link_instances.proofs.Worked.NearLinks.{five_there, kind_of, lookups_there}
-use Rattle.implib_link.specs.Flavors.Program.{SymbolsAt}
 use Rattle.implib_link.specs.Gnu.OtherLibraries.{ends_behind, members_from, rows_before}
 use Rattle.implib_link.specs.Gnu.Writing.{FillsTable}
 use Rattle.implib_link_instances.specs.Worked.NearLinks.{table_elsewhere}
@@ -36,10 +35,10 @@ use Rattle.implib_link.specs.Stub.{adrp_immediate, ldr_immediate, page, plus_sig
 use Rattle.implib_link_instances.specs.Worked.Calls.{calling_at}
 use Rattle.implib_link_instances.specs.Worked.Flavors.{flavor_bases_8, flavor_image, flavor_placed}
 use Rattle.implib_link_instances.specs.Worked.NearCode.{code_of}
-use Rattle.implib_link_instances.specs.Worked.NearResults.{NearAreChosenFor, NearAreLinkedFor, NearDefineOnce, NearFillsBy, NearFlavorsLink, NearHasOffsetField, NearHasPageField, NearHasPointer, NearImportsBy, NearInputImports, NearInstructionArrives, NearIsClosed, NearLinksAmong, NearLinksBeside, NearLinksClosed, NearPageArrives, NearPairArrives, NearIsLinkedWith, NearBranchStays, four_before}
+use Rattle.implib_link_instances.specs.Worked.NearResults.{NearAreChosenFor, NearAreLinkedFor, NearDefineOnce, NearFillsBy, NearHasOffsetField, NearHasPageField, NearHasPointer, NearInputImports, NearInstructionArrives, NearIsClosed, NearProgramLinks, NearLinksBeside, NearLinksClosed, NearPageArrives, NearPairArrives, NearIsLinkedWith, NearBranchStays, four_before}
 use Rattle.implib_link_instances.specs.Worked.NearSearches.{asking}
 use Rattle.implib_link_instances.specs.Worked.Operands.{imp_open, field}
-use Rattle.implib_link_instances.specs.Worked.Programs.{program_image, symbol_of_class, symbol_on, touching_8}
+use Rattle.implib_link_instances.specs.Worked.Programs.{symbol_of_class, symbol_on}
 use Rattle.implib_link_instances.specs.Worked.RefusedFields.{linked_on_amd64, open_address, two_ranges}
 use Rattle.implib_link_instances.specs.Worked.Walks.{without_addresses, without_name}
 use Rattle.implib_link.proofs.Gnu.Stubs.{same_address}
@@ -60,24 +59,16 @@ no_length n none some = omega arith
 nowhere : (address : ℕ) → None ≡ Some address → ⊥
 nowhere address is = cc
 
-pub near_links_among : NearLinksAmong
+pub near_program_links : NearProgramLinks
 unfolding searched
-near_links_among = record {
+near_program_links = record {
   linked = λ x. none_in _ x.linked.0.from_members.0;
-  targets = λ x. nowhere x.targets.0.0.0.0 x.targets.0.0.0.1;
-  listed = λ x. no_definition x.listed.0.0 x.listed.0.1;
-  claimed = λ x. no_length _ (ap length x.claimed) (omega arith);
-  defined = λ x. no_definition _ x.defined.0.1;
-}
-
-pub near_flavors_link : NearFlavorsLink
-unfolding searched
-near_flavors_link = record {
   targets = λ x. nowhere x.targets.0.0.0.0 x.targets.0.0.0.1;
   null = λ x. no_definition _ x.null;
   ended = λ x. differ 48 52 (sym x.ended) (omega arith);
   listed = λ x. no_definition x.listed.0.0 x.listed.0.1;
   claimed = λ x. none_in (codes "__NULL_IMPORT_DESCRIPTOR") ((x.claimed (codes "__NULL_IMPORT_DESCRIPTOR")).1 (0, omega arith, refl));
+  claimed_gnu = λ x. no_length _ (ap length x.claimed) (omega arith);
   defined = λ x. no_definition _ x.defined.0.1;
 }
 
@@ -87,15 +78,6 @@ near_links_beside = record {
   rows = λ x. differ 4 8 (sym (x.rows 0 four_before refl)) (omega arith);
   linked = λ x. none_in _ x.linked.0.0.from_members.0;
   listed = λ x. no_definition x.listed.0.0 x.listed.0.1;
-}
-
-foo_table : NumberAt (program_image AMD64 touching_8) 4 20 120
-unfolding searched
-foo_table = number (program_image AMD64 touching_8) 4 20 120 (120 ∷ 0 ∷ 0 ∷ 0 ∷ []) refl refl refl
-
-pub near_imports_by : NearImportsBy
-near_imports_by = record {
-  table_located = λ x. differ 120 128 (sym (number_once (program_image AMD64 touching_8) 4 20 x.strictly.loads.plain.addresses 120 x.strictly.loads.plain.addresses_field foo_table) ∙ x.table_located) (omega arith);
 }
 
 flavor_table : NumberAt (flavor_image AMD64 0 flavor_bases_8) 4 24 128

@@ -15,9 +15,9 @@ use Rattle.implib.proofs.Link.Loading.{number_once}
 use Rattle.implib_link.specs.Flavors.LldImports.{grouped, imports_of_lld}
 use Rattle.implib_link.specs.Flavors.LldTables.{thunks_until}
 use Rattle.implib_link.specs.Gnu.Packed.{packed}
-use Rattle.implib_link.specs.Gnu.Program.{LinksAmong, linked_symbols}
+use Rattle.implib_link.specs.Gnu.Program.{linked_symbols}
+use Rattle.implib_link.specs.Flavors.Program.{LinksAmong, members_linked, null_member, objects_taken}
 use Rattle.implib_link.specs.Flavors.Expansion.{expanded_in}
-use Rattle.implib_link.specs.Flavors.Program.{members_linked, null_member, objects_taken}
 use Rattle.implib_link_instances.specs.Worked.Flavors.{foo_input as foo_flavor}
 use Rattle.implib_link_instances.specs.Worked.NearPrograms.{lld_range, mid_alone}
 use Rattle.implib_link_instances.specs.Worked.Programs.{touching_8, zed_input}

@@ -1,5 +1,5 @@
 -- Code as compilers write it, by computing and by the laws.
-use Rattle.std.proofs.Common.{◌≡◌, ℕ, ◌+◌, ◌^◌, ◌<◌, ◌≤◌, ◌⊎◌, true, List, [], ◌∷◌, codes, refl, ap, inl, inr, arith}
+use Rattle.std.proofs.Common.{◌≡◌, ℕ, ◌+◌, ◌^◌, ◌<◌, ◌≤◌, ◌⊎◌, true, List, [], ◌∷◌, codes, refl, ap, inl, inr, arith, map}
 use Rattle.std.specs.Prelude.{Bool, drop, nat_le, take, ◌&&◌}
 use Rattle.std.specs.List.{AllByRecursion}
 use Rattle.std.proofs.lemmas.Bool.{and_parts, leb-true}
@@ -13,12 +13,13 @@ use Rattle.implib.specs.Members.Members.{refusal, renamed_refusal}
 use Rattle.implib.specs.Members.WeakExternal.{weak_object}
 use Rattle.implib.specs.Formats.Layout.{encoded_size}
 use Rattle.implib.proofs.Link.Ranges.{apart_as_they_rise}
-use Rattle.implib_link.specs.Gnu.Calls.{HasCall, HasDirectCall, amd64_addr64, arm64_addr64, arm64_branch26, field_width, i386_rel32}
+use Rattle.implib_link.specs.Gnu.Calls.{HasCall, HasDirectCall, amd64_addr64, arm64_addr64, arm64_branch26, field_width, i386_rel32, StubAt}
 use Rattle.implib_link.specs.Gnu.Fields.{AreLinkedBeside, placed_code}
 use Rattle.implib_link.specs.Gnu.Moves.{AreInMemory, AreMoved, CanBeMoved, places_of_code}
 use Rattle.implib_link.specs.Gnu.Operands.{HasBranch, HasInstruction, HasOffsetField, HasOperand, HasPageField, HasPointer, IsOperand, Names}
 use Rattle.implib_link.specs.Gnu.Pages.{HasPage, HasPageOffset}
-use Rattle.implib_link.specs.Gnu.Program.{IsProgram, has_tables}
+use Rattle.implib_link.specs.Gnu.Program.{has_tables}
+use Rattle.implib_link.specs.Flavors.Program.{IsProgram}
 use Rattle.implib_link.specs.Gnu.Choices.{ArePlacesApart}
 use Rattle.implib_link.specs.Gnu.Rebased.{IsRebased, Place, covers, table_places}
 use Rattle.implib_link_instances.specs.Worked.Operands.{AdjacentCalls, MovableCode, PassingFields, WorkedFields, WorkedOperands, amd64_rel32_1, field, imp_open, arm64_pageoffset_12a, arm64_secrel, moved_memory, open_on, passing_at, passing_bytes, passing_codes, passing_image, passing_memory, passing_objects, passing_placed, passing_places, passing_targets, stub_of_open, x86_secrel}
@@ -26,15 +27,15 @@ use Rattle.implib_link_instances.specs.Worked.Programs.{both_inputs, symbol_of_c
 use Rattle.implib_link.proofs.Gnu.Moved.{covered_bounds}
 use Rattle.implib_link.proofs.Gnu.MovedPrograms.{moved_memory_exists}
 use Rattle.implib_link.proofs.Gnu.Operands.{operand_width}
-use Rattle.implib_link.proofs.Gnu.Steady.{program_tables_none}
-use Rattle.implib_link.specs.Gnu.Calls.{StubAt}
+use Rattle.implib_link.proofs.Flavors.Steady.{program_tables_none}
 use Rattle.implib_link_instances.proofs.Worked.LinkedCode.{all_needed, only_absolute, rebased_by, relocated_by, relocated_test, takes_by}
 use Rattle.implib_link_instances.proofs.Worked.Programs.{opened, worked_programs, admissible_by, instructions_at, program_by, instruction_by}
 use Rattle.implib_link_instances.proofs.Worked.RefusedLinks.{differ, number}
+use Rattle.implib_link.specs.Flavors.Program.{OfLinker, gnu_input}
 
 amd64_program : IsProgram AMD64 touching_8 (both_inputs AMD64) (passing_objects AMD64)
 unfolding opened refusal renamed_refusal alias_specs encoded_size weak_object has_tables relocated_test
-amd64_program = program_by refl refl refl (admissible_by refl refl)
+amd64_program = program_by (both_inputs AMD64) refl refl refl (admissible_by refl refl)
 
 amd64_beside : AreLinkedBeside AMD64 0x1_4000_0000 (passing_image AMD64 touching_8) (passing_placed AMD64 touching_8) (passing_codes AMD64 touching_8) (passing_targets AMD64 touching_8)
 unfolding opened refusal renamed_refusal alias_specs encoded_size weak_object has_tables relocated_test
@@ -52,7 +53,7 @@ amd64_beside = record {
 
 i386_program : IsProgram I386 touching_4 (both_inputs I386) (passing_objects I386)
 unfolding opened refusal renamed_refusal alias_specs encoded_size weak_object has_tables relocated_test
-i386_program = program_by refl refl refl (admissible_by refl refl)
+i386_program = program_by (both_inputs I386) refl refl refl (admissible_by refl refl)
 
 i386_beside : AreLinkedBeside I386 0x40_0000 (passing_image I386 touching_4) (passing_placed I386 touching_4) (passing_codes I386 touching_4) (passing_targets I386 touching_4)
 unfolding opened refusal renamed_refusal alias_specs encoded_size weak_object has_tables relocated_test
@@ -70,7 +71,7 @@ i386_beside = record {
 
 arm64_program : IsProgram ARM64 touching_8 (both_inputs ARM64) (passing_objects ARM64)
 unfolding opened refusal renamed_refusal alias_specs encoded_size weak_object has_tables relocated_test
-arm64_program = program_by refl refl refl (admissible_by refl refl)
+arm64_program = program_by (both_inputs ARM64) refl refl refl (admissible_by refl refl)
 
 arm64_beside : AreLinkedBeside ARM64 0x1_4000_0000 (passing_image ARM64 touching_8) (passing_placed ARM64 touching_8) (passing_codes ARM64 touching_8) (passing_targets ARM64 touching_8)
 unfolding opened refusal renamed_refusal alias_specs encoded_size weak_object has_tables relocated_test
@@ -509,5 +510,5 @@ movable_code = record {
   beyond = λ can. let end : 0x102A ≤ 0x1029 = can.within.0.0 in omega arith;
   somewhere =
       moved_memory_exists AMD64 0x1_4000_0000 0x2_0000_0000 (passing_image AMD64 touching_8) (passing_placed AMD64 touching_8) (passing_codes AMD64 touching_8) (passing_targets AMD64 touching_8)
-      (program_tables_none AMD64 touching_8 (both_inputs AMD64) (passing_objects AMD64) worked_programs.amd64.made amd64_program) amd64_beside amd64_movable tt;
+      (program_tables_none AMD64 OfLinker touching_8 (map gnu_input (both_inputs AMD64)) (passing_objects AMD64) worked_programs.amd64.made amd64_program.held.ended) amd64_beside amd64_movable tt;
 }

@@ -11,8 +11,8 @@ use Rattle.implib_link.specs.Gnu.Packed.{group_end, packed, packed_end, sections
 use Rattle.implib_link.specs.Gnu.Program.{has_tables}
 use Rattle.implib_link_instances.specs.Worked.Packed.{WorkedPacking, WorkedPackings, alone, packed_4, packed_8}
 use Rattle.implib_link_instances.specs.Worked.Programs.{both_inputs, program_objects, touching_8}
-use Rattle.implib_link.proofs.Gnu.Alone.{members_are_program}
-use Rattle.implib_link.proofs.Gnu.Packed.{packed_is_admissible, packed_is_program}
+use Rattle.implib_link_instances.proofs.Worked.GnuPacked.{members_are_program}
+use Rattle.implib_link_instances.proofs.Worked.GnuPacked.{packed_is_admissible, packed_is_program}
 use Rattle.implib_link_instances.proofs.Worked.Programs.{opened, worked_programs, admissible_by}
 use Rattle.implib_link_instances.proofs.Worked.Searched.{below_limit}
 
@@ -21,9 +21,9 @@ unfolding opened alias_specs encoded_size weak_object has_tables group_end secti
 amd64 = record {
   bases_are = refl;
   end_is = refl;
-  admissible = packed_is_admissible AMD64 0x1001 (both_inputs AMD64) (program_objects AMD64) worked_programs.amd64.made worked_programs.amd64.program.tables (omega arith)
+  admissible = packed_is_admissible AMD64 0x1001 (both_inputs AMD64) (program_objects AMD64) worked_programs.amd64.made worked_programs.amd64.program.held.ended.tables (omega arith)
       (below_limit (packed_end 0x1001 (program_objects AMD64)) refl);
-  program = packed_is_program AMD64 0x1001 (both_inputs AMD64) worked_programs.amd64.made worked_programs.amd64.program.distinct (omega arith) (below_limit (packed_end 0x1001 (alone AMD64)) refl);
+  program = packed_is_program AMD64 0x1001 (both_inputs AMD64) worked_programs.amd64.made worked_programs.amd64.program.held.distinct (omega arith) (below_limit (packed_end 0x1001 (alone AMD64)) refl);
 }
 
 arm64 : WorkedPacking ARM64 packed_8 0x10FC
@@ -31,9 +31,9 @@ unfolding opened alias_specs encoded_size weak_object has_tables group_end secti
 arm64 = record {
   bases_are = refl;
   end_is = refl;
-  admissible = packed_is_admissible ARM64 0x1001 (both_inputs ARM64) (program_objects ARM64) worked_programs.arm64.made worked_programs.arm64.program.tables (omega arith)
+  admissible = packed_is_admissible ARM64 0x1001 (both_inputs ARM64) (program_objects ARM64) worked_programs.arm64.made worked_programs.arm64.program.held.ended.tables (omega arith)
       (below_limit (packed_end 0x1001 (program_objects ARM64)) refl);
-  program = packed_is_program ARM64 0x1001 (both_inputs ARM64) worked_programs.arm64.made worked_programs.arm64.program.distinct (omega arith) (below_limit (packed_end 0x1001 (alone ARM64)) refl);
+  program = packed_is_program ARM64 0x1001 (both_inputs ARM64) worked_programs.arm64.made worked_programs.arm64.program.held.distinct (omega arith) (below_limit (packed_end 0x1001 (alone ARM64)) refl);
 }
 
 i386 : WorkedPacking I386 packed_4 0x10CC
@@ -41,9 +41,9 @@ unfolding opened alias_specs encoded_size weak_object has_tables group_end secti
 i386 = record {
   bases_are = refl;
   end_is = refl;
-  admissible = packed_is_admissible I386 0x1001 (both_inputs I386) (program_objects I386) worked_programs.i386.made worked_programs.i386.program.tables (omega arith)
+  admissible = packed_is_admissible I386 0x1001 (both_inputs I386) (program_objects I386) worked_programs.i386.made worked_programs.i386.program.held.ended.tables (omega arith)
       (below_limit (packed_end 0x1001 (program_objects I386)) refl);
-  program = packed_is_program I386 0x1001 (both_inputs I386) worked_programs.i386.made worked_programs.i386.program.distinct (omega arith) (below_limit (packed_end 0x1001 (alone I386)) refl);
+  program = packed_is_program I386 0x1001 (both_inputs I386) worked_programs.i386.made worked_programs.i386.program.held.distinct (omega arith) (below_limit (packed_end 0x1001 (alone I386)) refl);
 }
 
 armnt : WorkedPacking ARMNT packed_4 0x10CC
@@ -51,9 +51,9 @@ unfolding opened alias_specs encoded_size weak_object has_tables group_end secti
 armnt = record {
   bases_are = refl;
   end_is = refl;
-  admissible = packed_is_admissible ARMNT 0x1001 (both_inputs ARMNT) (program_objects ARMNT) worked_programs.armnt.made worked_programs.armnt.program.tables (omega arith)
+  admissible = packed_is_admissible ARMNT 0x1001 (both_inputs ARMNT) (program_objects ARMNT) worked_programs.armnt.made worked_programs.armnt.program.held.ended.tables (omega arith)
       (below_limit (packed_end 0x1001 (program_objects ARMNT)) refl);
-  program = packed_is_program ARMNT 0x1001 (both_inputs ARMNT) worked_programs.armnt.made worked_programs.armnt.program.distinct (omega arith) (below_limit (packed_end 0x1001 (alone ARMNT)) refl);
+  program = packed_is_program ARMNT 0x1001 (both_inputs ARMNT) worked_programs.armnt.made worked_programs.armnt.program.held.distinct (omega arith) (below_limit (packed_end 0x1001 (alone ARMNT)) refl);
 }
 
 members_admissible : IsAdmissible AMD64 touching_8 (objects_in (all_linked AMD64 (both_inputs AMD64)))
@@ -83,6 +83,6 @@ worked_packings = record {
   armnt = armnt;
   too_far = above (packed_end 0x7FFF_FFF8 (program_objects AMD64)) 0x8000_00EC far_end (omega arith);
   no_room = no_room;
-  any_order = gnu_inputs_link AMD64 touching_8 (both_inputs AMD64) worked_programs.amd64.made worked_programs.amd64.program.distinct members_admissible;
-  touching = members_are_program AMD64 touching_8 (both_inputs AMD64) worked_programs.amd64.made worked_programs.amd64.program.distinct alone_admissible;
+  any_order = gnu_inputs_link AMD64 touching_8 (both_inputs AMD64) worked_programs.amd64.made worked_programs.amd64.program.held.distinct members_admissible;
+  touching = members_are_program AMD64 touching_8 (both_inputs AMD64) worked_programs.amd64.made worked_programs.amd64.program.held.distinct alone_admissible;
 }

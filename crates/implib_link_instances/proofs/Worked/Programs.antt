@@ -22,10 +22,12 @@ use Rattle.implib.specs.Formats.Layout.{auxiliary_bytes, auxiliary_count, conten
 use Rattle.implib.specs.Link.Placement.{next_multiple, Bases, placed_from}
 use Rattle.implib.specs.Formats.Writer.{long_names, name_location, layout_of, symbol_written, with_long_name, with_name}
 use Rattle.implib.proofs.Link.Ranges.{apart_as_they_rise, ends_below, rise_below}
-use Rattle.implib_link.specs.Gnu.Program.{ClaimsNone, claimed_names, has_tables, linked_symbols, null_descriptor, IsProgram}
+use Rattle.implib_link.specs.Gnu.Program.{ClaimsNone, claimed_names, has_tables, linked_symbols, null_descriptor}
+use Rattle.implib_link.specs.Flavors.Program.{IsProgram}
 use Rattle.implib_link.specs.Gnu.Operands.{HasInstruction, IsOperand, Names}
 use Rattle.implib_link.specs.Gnu.Fields.{LinkedCode, MeetsAlone}
-use Rattle.implib_link_instances.specs.Worked.Programs.{WorkedProgram, WorkedPrograms, WorkedStubs, expected_4, expected_8, touching_4, touching_8, symbol_of_class}
+use Rattle.implib_link_instances.specs.Worked.Programs.{WorkedProgram, WorkedPrograms, WorkedStubs, expected_4, expected_8, touching_4, touching_8, symbol_of_class, both_inputs}
+use Rattle.implib_link.proofs.Flavors.GnuPrograms.{gnu_objects}
 
 -- what the computing has to open
 unfoldable pub opened : Unit {0}
@@ -97,14 +99,15 @@ all_claim_none names (o ∷ objects) all =
     (claims_none_by names o parts.0, all_claim_none names objects parts.1)
 
 -- Objects are a program, by computing.
-pub program_by : {machine : MachineType} {bases : Bases} {inputs : List LinkInput} {objects : List Object} → all_differ (linked_symbols machine inputs) ≡ true →
+pub program_by : {machine : MachineType} {bases : Bases} {objects : List Object} (inputs : List LinkInput) → all_differ (linked_symbols machine inputs) ≡ true →
     filter has_tables objects ≡ objects_in (all_linked machine inputs) ++ null_descriptor ∷ [] → claim_none (linked_symbols machine inputs) (filter (λ o. not (has_tables o)) objects) ≡ true →
     IsAdmissible machine bases objects → IsProgram machine bases inputs objects
-program_by {machine} {bases} {inputs} {objects} differ tables none admissible = record {
-  distinct = distinct_by (linked_symbols machine inputs) differ;
-  tables = tables;
-  others = all_claim_none (linked_symbols machine inputs) (filter (λ o. not (has_tables o)) objects) none;
+program_by {machine} {bases} {objects} inputs differ tables none admissible = record {
+  held = gnu_objects machine inputs objects (distinct_by (linked_symbols machine inputs) differ) tables (all_claim_none (linked_symbols machine inputs) (filter (λ o. not (has_tables o)) objects) none);
   admissible = admissible;
+  lookups = tt;
+  addresses = tt;
+  follows = tt;
 }
 
 -- Code has instructions at an offset whose name is an undefined symbol of its object, by computing.
@@ -139,7 +142,7 @@ amd64 : WorkedProgram AMD64 touching_8 expected_8
 unfolding opened refusal renamed_refusal alias_specs encoded_size weak_object has_tables
 amd64 = record {
   made = (record { accepted = refl; made = refl; ordinals = refl }, (record { accepted = refl; made = refl; ordinals = refl }, tt));
-  program = program_by refl refl refl (admissible_by refl refl);
+  program = program_by (both_inputs AMD64) refl refl refl (admissible_by refl refl);
   descriptors = refl;
   lookups = refl;
   addresses = refl;
@@ -154,7 +157,7 @@ arm64 : WorkedProgram ARM64 touching_8 expected_8
 unfolding opened refusal renamed_refusal alias_specs encoded_size weak_object has_tables
 arm64 = record {
   made = (record { accepted = refl; made = refl; ordinals = refl }, (record { accepted = refl; made = refl; ordinals = refl }, tt));
-  program = program_by refl refl refl (admissible_by refl refl);
+  program = program_by (both_inputs ARM64) refl refl refl (admissible_by refl refl);
   descriptors = refl;
   lookups = refl;
   addresses = refl;
@@ -169,7 +172,7 @@ i386 : WorkedProgram I386 touching_4 expected_4
 unfolding opened refusal renamed_refusal alias_specs encoded_size weak_object has_tables
 i386 = record {
   made = (record { accepted = refl; made = refl; ordinals = refl }, (record { accepted = refl; made = refl; ordinals = refl }, tt));
-  program = program_by refl refl refl (admissible_by refl refl);
+  program = program_by (both_inputs I386) refl refl refl (admissible_by refl refl);
   descriptors = refl;
   lookups = refl;
   addresses = refl;
@@ -184,7 +187,7 @@ armnt : WorkedProgram ARMNT touching_4 expected_4
 unfolding opened refusal renamed_refusal alias_specs encoded_size weak_object has_tables
 armnt = record {
   made = (record { accepted = refl; made = refl; ordinals = refl }, (record { accepted = refl; made = refl; ordinals = refl }, tt));
-  program = program_by refl refl refl (admissible_by refl refl);
+  program = program_by (both_inputs ARMNT) refl refl refl (admissible_by refl refl);
   descriptors = refl;
   lookups = refl;
   addresses = refl;

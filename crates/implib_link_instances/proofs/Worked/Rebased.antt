@@ -13,9 +13,8 @@ use Rattle.implib.proofs.Link.Ranges.{Among}
 use Rattle.implib_link.specs.Gnu.Calls.{Defines, PlacedCode, Resolves}
 use Rattle.implib_link.specs.Gnu.Rebased.{IsRebased, Place}
 use Rattle.implib_link_instances.specs.Worked.Rebased.{WorkedPlaces}
-use Rattle.implib_link.proofs.Search.Lists.{among_at, contains_among}
+use Rattle.implib_link.proofs.Search.Lists.{among_at, contains_among, each_of}
 use Rattle.implib_link_instances.proofs.Worked.Calls.{is_wanted}
-use Rattle.implib_link.proofs.Search.Lists.{each_of}
 
 -- Code whose symbols no code of another object defines is resolved by the tables.
 

@@ -13,14 +13,15 @@ use Rattle.implib.specs.Link.LinkedMembers.{IsAscending, LinkInput}
 use Rattle.implib.proofs.Link.LinkedMembers.{among_contains}
 use Rattle.implib.proofs.Link.Ranges.{Among}
 use Rattle.implib_link.specs.Gnu.Packed.{group_end, packed, packed_end, sections_end}
-use Rattle.implib_link.specs.Gnu.Program.{IsProgram, has_tables, linked_symbols}
+use Rattle.implib_link.specs.Gnu.Program.{has_tables, linked_symbols, HaveSame}
+use Rattle.implib_link.specs.Flavors.Program.{IsProgram}
 use Rattle.implib_link.specs.Search.Archives.{NamesNoHeadOrTailOf, inputs_wanted, is_weak, wanted_with}
-use Rattle.implib_link.specs.Search.Search.{HaveSame, IsArranged, IsLinkedWith, Takes, undefined_in, left_as}
+use Rattle.implib_link.specs.Search.Search.{IsArranged, IsLinkedWith, Takes, undefined_in, left_as}
 use Rattle.implib_link_instances.specs.Worked.Archives.{both_wanted, two_libraries}
 use Rattle.implib_link_instances.specs.Worked.Programs.{chosen_input, code_object, symbol_of_class}
 use Rattle.implib_link_instances.specs.Worked.Search.{members_of, three, wanted}
 use Rattle.implib_link_instances.specs.Worked.Searched.{WorkedLibraries, WorkedSearched, as_taken, bar_member, by_name, head_member, libraries_objects, qux_member, searched_objects, tail_member}
-use Rattle.implib_link.proofs.Gnu.Packed.{packed_is_admissible, packed_is_program}
+use Rattle.implib_link_instances.proofs.Worked.GnuPacked.{packed_is_admissible, packed_is_program}
 use Rattle.implib_link.proofs.Search.Archives.{inputs_made, libraries_link, libraries_taken}
 use Rattle.implib_link.proofs.Search.Ends.{search_bounded, search_ends}
 use Rattle.implib_link.proofs.Search.Lists.{contains_among}

@@ -19,7 +19,8 @@ use Rattle.implib.specs.Members.WeakExternal.{weak_object}
 use Rattle.implib.proofs.Link.Loading.{number_once}
 use Rattle.implib_link.specs.Directory.{Imported, StopsAt, imported}
 use Rattle.implib_link.specs.Gnu.Loaded.{entries_written}
-use Rattle.implib_link.specs.Gnu.Program.{IsProgram, has_tables}
+use Rattle.implib_link.specs.Gnu.Program.{has_tables}
+use Rattle.implib_link.specs.Flavors.Program.{IsProgram}
 use Rattle.implib_link.specs.Gnu.Reading.{ReadsAndWrites}
 use Rattle.implib_link.specs.Gnu.Writing.{FillsBy, FillsTable, WritesAsItGoes}
 use Rattle.implib_link_instances.specs.Worked.Calls.{calling_flavors, given_on}
@@ -30,13 +31,14 @@ use Rattle.implib_link_instances.specs.Worked.RefusedLinks.{five_and_six, foo, o
 use Rattle.implib_link_instances.specs.Worked.Writing.{WorkedWriting, WorkedWritings, gives_nine, gives_zeros, left_4, left_8, overlapping, without_null}
 use Rattle.implib_link.proofs.Gnu.Filling.{all_filled, table_filled}
 use Rattle.implib_link.proofs.Gnu.Keeps.{Keeps}
-use Rattle.implib_link.proofs.Gnu.Writing.{gnu_beside, gnu_long, run_can, run_once, writer_ends, writer_loads}
-use Rattle.implib_link.proofs.Flavors.Writing.{flavors_writer_ends, flavors_writer_loads}
+use Rattle.implib_link.proofs.Gnu.Writing.{run_can, run_once}
+use Rattle.implib_link.proofs.Flavors.Writing.{program_beside, program_long, writer_ends, writer_loads}
 use Rattle.implib_link_instances.proofs.Worked.Calls.{flavors_program, wide}
 use Rattle.implib_link_instances.proofs.Worked.Flavors.{worked_flavors}
 use Rattle.implib_link_instances.proofs.Worked.Loads.{amd64_given, arm64_given, armnt_given, i386_given}
 use Rattle.implib_link_instances.proofs.Worked.Programs.{opened, worked_programs}
 use Rattle.implib_link_instances.proofs.Worked.RefusedLinks.{are_located, number}
+use Rattle.implib_link.specs.Flavors.Program.{OfLinker, OfMember, gnu_input}
 
 keeps_itself : (image : List Range) → Keeps image image
 unfolding Keeps
@@ -50,8 +52,8 @@ worked : (machine : MachineType) (bases : Bases) (left : List Range) → AllByRe
     ((dll : List ℕ) (ask : Ask) → length (gives_by_hand machine dll ask) ≡ thunk_width machine) →
     all_filled (thunk_width machine) (gives_by_hand machine) bases.addresses (imports machine) (program_image machine bases) ≡ left ++ program_image machine bases → WorkedWriting machine bases left
 worked machine bases left made program given is =
-    let long = gnu_long machine bases (both_inputs machine) (program_objects machine) made program in
-    let beside = gnu_beside machine bases (both_inputs machine) (program_objects machine) made program in
+    let long = program_long machine OfLinker bases (map gnu_input (both_inputs machine)) (program_objects machine) made program in
+    let beside = program_beside machine OfLinker bases (map gnu_input (both_inputs machine)) (program_objects machine) made program in
     let image : List Range = program_image machine bases in
     record {
       runs = subst (WritesAsItGoes (thunk_width machine) (gives_by_hand machine) bases.descriptors image (imports machine)) is
@@ -225,13 +227,13 @@ worked_writings = record {
   not_both = not_both;
   not_given = not_given;
   never_stops = never_stops;
-  moved = writer_loads I386 0x1000_0000 touching_4 (both_inputs I386) (passing_objects I386) (passing_codes I386 touching_4) (passing_targets I386 touching_4) (moved_memory I386 touching_4) (given_on I386)
+  moved = writer_loads I386 OfLinker 0x1000_0000 touching_4 (map gnu_input (both_inputs I386)) (passing_objects I386) (passing_codes I386 touching_4) (passing_targets I386 touching_4) (moved_memory I386 touching_4) (given_on I386)
       worked_programs.i386.made worked_operands.i386_moved.program worked_operands.i386_moved.at (wide I386);
-  moved_end = writer_ends I386 0x1000_0000 touching_4 (both_inputs I386) (passing_objects I386) (passing_codes I386 touching_4) (passing_targets I386 touching_4) (moved_memory I386 touching_4) (given_on I386)
+  moved_end = writer_ends I386 OfLinker 0x1000_0000 touching_4 (map gnu_input (both_inputs I386)) (passing_objects I386) (passing_codes I386 touching_4) (passing_targets I386 touching_4) (moved_memory I386 touching_4) (given_on I386)
       worked_programs.i386.made worked_operands.i386_moved.program worked_operands.i386_moved.at (wide I386);
   flavors = λ found after runs.
-      (flavors_writer_loads AMD64 0x2_0000_0000 flavor_bases_8 (flavor_inputs AMD64) calling_flavors (calling_linked ∷ []) linked_targets flavors_linked (given_on AMD64)
+      (writer_loads AMD64 OfMember 0x2_0000_0000 flavor_bases_8 (flavor_inputs AMD64) calling_flavors (calling_linked ∷ []) linked_targets flavors_linked (given_on AMD64)
       worked_flavors.amd64.made flavors_program worked_flavor_fields.moved (wide AMD64) found after runs).0;
-  flavors_end = flavors_writer_ends AMD64 0x1_4000_0000 flavor_bases_8 (flavor_inputs AMD64) calling_flavors (calling_linked ∷ []) linked_targets flavors_linked (given_on AMD64)
+  flavors_end = writer_ends AMD64 OfMember 0x1_4000_0000 flavor_bases_8 (flavor_inputs AMD64) calling_flavors (calling_linked ∷ []) linked_targets flavors_linked (given_on AMD64)
       worked_flavors.amd64.made flavors_program worked_flavor_fields.linked (wide AMD64);
 }

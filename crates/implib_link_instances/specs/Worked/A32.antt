@@ -12,7 +12,7 @@ use Rattle.implib.specs.Members.ImportTables.{zeros}
 use Rattle.implib_link.specs.Gnu.A32.{A32JumpReads, HoldDistances}
 use Rattle.implib_link.specs.Gnu.Calls.{PlacedCode}
 use Rattle.implib_link.specs.Gnu.Fields.{AreBeside, LinkedCode}
-use Rattle.implib_link.specs.Gnu.Program.{IsProgram}
+use Rattle.implib_link.specs.Flavors.Program.{IsProgram}
 use Rattle.implib_link.specs.Gnu.Reading.{ReadsAndWrites}
 use Rattle.implib_link_instances.specs.Worked.Jumps.{far_4}
 use Rattle.implib_link_instances.specs.Worked.Loads.{gives_by_hand}

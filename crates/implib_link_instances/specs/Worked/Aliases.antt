@@ -11,11 +11,11 @@ use Rattle.implib.specs.Import.{imp_symbol}
 use Rattle.implib.specs.Link.Placement.{Placed, Unplaced, placed_from}
 use Rattle.implib.specs.Link.Resolution.{definitions_of}
 use Rattle.implib.specs.Members.WeakExternal.{weak_object}
-use Rattle.implib_link.specs.Flavors.Program.{IsFlavorProgram, objects_taken}
+use Rattle.implib_link.specs.Flavors.Program.{OfMember, objects_taken, IsProgramOf, IsProgram}
 use Rattle.implib_link.specs.Gnu.Aliases.{ResolvesAliases, weak_target}
 use Rattle.implib_link.specs.Gnu.Calls.{HasCall, PlacedCode, call_reads}
 use Rattle.implib_link.specs.Gnu.Pointers.{HasLoad, load_reads}
-use Rattle.implib_link.specs.Gnu.Program.{IsProgram, null_descriptor}
+use Rattle.implib_link.specs.Gnu.Program.{null_descriptor}
 use Rattle.implib_link_instances.specs.Worked.Calls.{calling, calling_code, first_bytes, last_bytes}
 use Rattle.implib_link_instances.specs.Worked.Flavors.{both_inputs as flavor_inputs, flavor_bases_8, members_with_null}
 use Rattle.implib_link_instances.specs.Worked.Pointers.{loading, loading_code, loading_at, tables_of}
@@ -123,7 +123,7 @@ opened_placed = placed_from flavor_bases_8 opened_flavors
 -- The program of both flavours meets all that the law of aliases asks for; the entry of `open` is at 0x88, which the
 -- call at 0x1004 and the load at 0x1014 read.
 pub record WorkedFlavorAlias : Type 0 where
-  pub program : IsFlavorProgram AMD64 flavor_bases_8 (flavor_inputs AMD64) opened_flavors
+  pub program : IsProgramOf AMD64 OfMember flavor_bases_8 (flavor_inputs AMD64) opened_flavors
   pub beside : CodesBeside AMD64 0x1_4000_0000 flavor_bases_8 opened_flavors alias_codes (all_at 0x88)
   pub resolves : ResolvesAliases opened_placed (linked_codes AMD64 0x1_4000_0000 (all_at 0x88) alias_codes)
       (as_placed (all_at 0x88))

@@ -15,9 +15,9 @@ use Rattle.implib.specs.Link.Placement.{Bases, Placed, Unplaced, placed_from}
 use Rattle.implib.specs.Link.Resolution.{target_address}
 use Rattle.implib.specs.Members.Gnu.{section, stub_bytes, stub_relocations, text_name}
 use Rattle.implib.specs.Members.ImportTables.{zeros}
-use Rattle.implib_link.specs.Flavors.Program.{IsFlavorProgram, IsMadeFor, objects_taken}
+use Rattle.implib_link.specs.Flavors.Program.{OfMember, IsMadeFor, objects_taken, IsProgramOf, IsProgram}
 use Rattle.implib_link.specs.Gnu.Calls.{Defines, HasCall, HasDirectCall, PlacedCode, call_bytes, call_reads, call_relocations, direct_bytes, direct_leads, direct_relocations, moved_by}
-use Rattle.implib_link.specs.Gnu.Program.{IsProgram, null_descriptor}
+use Rattle.implib_link.specs.Gnu.Program.{null_descriptor}
 use Rattle.implib_link.specs.Gnu.Reading.{ReadsAndWrites}
 use Rattle.implib_link.specs.Stub.{CanJump, jump_reads}
 use Rattle.implib_link_instances.specs.Worked.Flavors.{both_inputs as flavor_inputs, flavor_bases_8, flavor_image, members_with_null}
@@ -144,7 +144,7 @@ flavor_targets c index = target_address flavors_placed c.from index
 -- `open` is at 0x88, and the call at 0x1004 reads it.
 pub record WorkedFlavorCall : Type 0 where
   pub made : AllByRecursion (IsMadeFor AMD64) (flavor_inputs AMD64)
-  pub program : IsFlavorProgram AMD64 flavor_bases_8 (flavor_inputs AMD64) calling_flavors
+  pub program : IsProgramOf AMD64 OfMember flavor_bases_8 (flavor_inputs AMD64) calling_flavors
   pub beside : CodesBeside AMD64 0x1_4000_0000 flavor_bases_8 calling_flavors (calling_at AMD64 0x1000 ∷ []) flavor_targets
   -- call [rip - 0xF82]
   pub bytes : (code_range AMD64 0x1_4000_0000 flavor_targets (calling_at AMD64 0x1000)).bytes

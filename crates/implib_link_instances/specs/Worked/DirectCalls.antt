@@ -8,7 +8,8 @@ use Rattle.implib.specs.Formats.Object.{ASymbol, Object, ObjectSection}
 use Rattle.implib.specs.Link.Placement.{Placed, Unplaced, placed_from}
 use Rattle.implib.specs.Members.Gnu.{section, stub_bytes, stub_relocations, text_name}
 use Rattle.implib_link.specs.Gnu.Calls.{CanBranch, Defines, HasDirectCall, PlacedCode, direct_bytes, direct_leads, direct_relocations, moved_by}
-use Rattle.implib_link.specs.Gnu.Program.{IsProgram, null_descriptor}
+use Rattle.implib_link.specs.Gnu.Program.{null_descriptor}
+use Rattle.implib_link.specs.Flavors.Program.{IsProgram}
 use Rattle.implib_link_instances.specs.Worked.Calls.{calling, first_bytes, last_bytes, open_targets, placed_or_empty}
 use Rattle.implib_link_instances.specs.Worked.Programs.{both_inputs, foo_input, input_objects, symbol_of_class, touching_8, zed_input}
 use Rattle.implib_link_instances.specs.Worked.Relocated.{CodesBeside, code_range}

@@ -6,7 +6,7 @@ use Rattle.implib.specs.declared.machine.MachineType.TheVariants.{I386, ARMNT, A
 use Rattle.implib.specs.Link.Image.{Range}
 use Rattle.implib.specs.Link.Placement.{Bases}
 use Rattle.implib.specs.Members.ImportTables.{thunk_width}
-use Rattle.implib_link.specs.Flavors.Program.{FlavorsLink, IsFlavorProgram, imported_in}
+use Rattle.implib_link.specs.Flavors.Program.{OfMember, imported_in, ProgramLinks, IsProgramOf}
 use Rattle.implib_link.specs.Gnu.Loaded.{Writes}
 use Rattle.implib_link.specs.Gnu.Packed.{packed}
 use Rattle.implib_link.specs.Stub.{CanJump, JumpsThrough}
@@ -36,13 +36,13 @@ flavors_written_4 machine =
 -- The program of a machine links, a loader writes this, and packed it is a program, too.
 pub record WorkedFlavorLoad (machine : MachineType) (count : ℕ) (bases : Bases) (written : List Range)
     : Type 0 where
-  pub links : FlavorsLink machine bases (both_inputs machine) (flavor_objects machine count)
+  pub links : ProgramLinks machine OfMember bases (both_inputs machine) (flavor_objects machine count)
   pub writes : Writes (flavor_image machine count bases) (thunk_width machine) (gives_by_hand machine)
       bases.descriptors (map (imported_in machine) (both_inputs machine)) written
   pub loaded : AreTablesLoaded machine
       (tables_at machine bases (flavor_objects machine count) (map (block_of_flavor machine) (both_inputs machine)))
       (gives_by_hand machine) written
-  pub packed_program : IsFlavorProgram machine (packed 1 (flavor_objects machine count)) (both_inputs machine)
+  pub packed_program : IsProgramOf machine OfMember (packed 1 (flavor_objects machine count)) (both_inputs machine)
       (flavor_objects machine count)
 
 -- The stubs of `open` and `_f@8`, for Microsoft's linker, and of `queue`, for GNU's, jump through their

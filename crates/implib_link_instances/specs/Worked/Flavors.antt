@@ -21,7 +21,7 @@ use Rattle.implib.specs.Link.Resolution.{symbol_address}
 use Rattle.implib.specs.Worked.Links.{addresses_of, bytes_from, nameless, numbers_from}
 use Rattle.implib.specs.Worked.Members.{of_dll}
 use Rattle.implib.specs.Worked.Statements.{plain_export}
-use Rattle.implib_link.specs.Flavors.Program.{FlavorInput, IsFlavorProgram, IsMadeFor, all_members, null_member, objects_taken}
+use Rattle.implib_link.specs.Flavors.Program.{OfMember, FlavorInput, IsMadeFor, all_members, null_member, objects_taken, IsProgramOf}
 use Rattle.implib_link_instances.specs.Worked.Programs.{another, caller, symbol_of_class, symbol_on, zed_dll}
 
 -- four exports: a function with the hint 258, data, one by its ordinal, and one with a symbol name
@@ -137,7 +137,7 @@ flavor_image machine count bases = image_of machine bases (flavor_placed machine
 pub record WorkedFlavorProgram (machine : MachineType) (count : ℕ) (bases : Bases) (expected : FlavorExpected)
     : Type 0 where
   pub made : AllByRecursion (IsMadeFor machine) (both_inputs machine)
-  pub program : IsFlavorProgram machine bases (both_inputs machine) (flavor_objects machine count)
+  pub program : IsProgramOf machine OfMember bases (both_inputs machine) (flavor_objects machine count)
   pub descriptors : numbers_from (flavor_image machine count bases) 4 15 bases.descriptors
       ≡ Some expected.descriptors
   pub lookups : numbers_from (flavor_image machine count bases) (thunk_width machine) 7 bases.lookups

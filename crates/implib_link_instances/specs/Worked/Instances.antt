@@ -18,7 +18,7 @@ use Rattle.implib.specs.Worked.Statements.{plain_export}
 use Rattle.implib_link.specs.Gnu.Moves.{CanBeMoved}
 use Rattle.implib_link.specs.Flavors.LldImports.{IsLldProgram, imports_of_lld, placed_by_lld}
 use Rattle.implib_link.specs.Flavors.LldTables.{addresses_at, built}
-use Rattle.implib_link.specs.Flavors.Program.{AreFlavorObjects, objects_taken}
+use Rattle.implib_link.specs.Flavors.Program.{OfMember, objects_taken, AreProgramObjects, members_linked}
 use Rattle.implib_link.specs.Gnu.Bounds.{HaveEvenHints}
 use Rattle.implib_link.specs.Gnu.Calls.{PlacedCode}
 use Rattle.implib_link.specs.Gnu.Choices.{AreSections, DefineOnce}
@@ -36,7 +36,6 @@ use Rattle.implib_link_instances.specs.Worked.NearPrograms.{members_of_both, run
 use Rattle.implib_link_instances.specs.Worked.Operands.{passing_codes}
 use Rattle.implib_link_instances.specs.Worked.Programs.{code_object, symbol_of_class, touching_4, touching_8, zed_input}
 use Rattle.implib_link_instances.specs.Worked.Rebased.{moving_codes}
-use Rattle.implib_link.specs.Flavors.Program.{members_linked}
 use Rattle.implib_link_instances.specs.Worked.Relocated.{CodesBeside}
 
 -- A table's section may be aligned at 8 bytes, and no more, and a descriptor's at 4, 2 or 1; both have a multiple of 4
@@ -83,7 +82,7 @@ abbrev pub odd_hint : Object
 odd_hint = record (table_object [] [] []) { sections = section (codes ".idata$6") 0x10_0000 (0 ∷ []) [] ∷ [] }
 
 pub record ProgramInstances : Type 0 where
-  pub gnu_first : AreFlavorObjects AMD64 (zed_flavor AMD64 ∷ foo_flavor AMD64 ∷ []) gnu_first
+  pub gnu_first : AreProgramObjects AMD64 OfMember (zed_flavor AMD64 ∷ foo_flavor AMD64 ∷ []) gnu_first
   pub ended : IsProgramBeside AMD64 spread_8 (run_with [] []) (members_of_both ++ ending)
   -- the second of two such objects is at an odd address
   pub odd_hints : HaveEvenHints AMD64 touching_8 (odd_hint ∷ odd_hint ∷ []) → ⊥

@@ -1,6 +1,6 @@
 -- The programs by hand, loaded by hand and called: that they meet what the laws ask for, and what the laws say
 -- of them.
-use Rattle.implib_link.specs.Tables.{AreTablesLoaded, tables_at, block_of_input}
+use Rattle.implib_link.specs.Tables.{AreTablesLoaded, block_of_flavor, tables_at}
 use Rattle.std.specs.Prelude.{◌≡◌, ℕ, ◌-◌, List, [], ◌∷◌, codes, length, map, slice_index}
 use Rattle.implib.specs.declared.machine.MachineType.{MachineType}
 use Rattle.implib.specs.declared.machine.MachineType.TheVariants.{I386, ARMNT, AMD64, ARM64}
@@ -10,9 +10,10 @@ use Rattle.implib.specs.Link.Placement.{Bases}
 use Rattle.implib.specs.Members.ImportTables.{thunk_width, zeros}
 use Rattle.implib_link.specs.Directory.{WalkFinds, imported}
 use Rattle.implib_link.specs.Gnu.Loaded.{Writes}
-use Rattle.implib_link.specs.Gnu.Program.{LinksAmong}
+use Rattle.implib_link.specs.Flavors.Program.{LinksAmong}
 use Rattle.implib_link.specs.Stub.{CanJump, JumpsThrough}
 use Rattle.implib_link_instances.specs.Worked.Programs.{both_inputs, program_image, program_objects, program_placed, symbol_on, touching_4, touching_8}
+use Rattle.implib_link.specs.Flavors.Program.{gnu_input}
 
 -- what DLLs give by hand: the ordinal or the name's first letter, the DLL's first letter, and zeros
 abbrev pub gives_by_hand : MachineType → List ℕ → Ask → List ℕ
@@ -53,7 +54,7 @@ pub record WorkedLoad (machine : MachineType) (bases : Bases) (written : List Ra
   pub writes : Writes (program_image machine bases) (thunk_width machine) (gives_by_hand machine)
       bases.descriptors (map (imported machine) (both_inputs machine)) written
   pub loaded : AreTablesLoaded machine
-      (tables_at machine bases (program_objects machine) (map (block_of_input machine) (both_inputs machine)))
+      (tables_at machine bases (program_objects machine) (map (block_of_flavor machine) (map gnu_input (both_inputs machine))))
       (gives_by_hand machine) written
 
 -- The stubs of `open` and of `queue` jump through their entries.

@@ -14,7 +14,7 @@ use Rattle.implib.specs.Worked.Members.{of_dll}
 use Rattle.implib.specs.Worked.Statements.{plain_export}
 use Rattle.implib_link.specs.Flavors.Expansion.{descriptor_symbol_by_name}
 use Rattle.implib_link.specs.Search.Msvc.{NamesNoHeader, TakesFor, msvc_if_any, shorts_wanted}
-use Rattle.implib_link.specs.Search.Search.{HaveSame}
+use Rattle.implib_link.specs.Gnu.Program.{HaveSame}
 use Rattle.implib_link_instances.specs.Worked.Programs.{symbol_on}
 use Rattle.implib.specs.LibraryName.{own_names}
 

@@ -21,25 +21,24 @@ use Rattle.implib.specs.Worked.Statements.{plain_export}
 use Rattle.implib_link.specs.Directory.{Imported}
 use Rattle.implib_link.specs.Flavors.LldImports.{IsLldProgram, LldLinks, imports_of_lld, placed_by_lld}
 use Rattle.implib_link.specs.Flavors.LldTables.{IsImportable, addresses_at, built}
-use Rattle.implib_link.specs.Flavors.Program.{AreFlavorObjects, FlavorInput, IsFlavorProgram, null_member, objects_taken}
+use Rattle.implib_link.specs.Flavors.Program.{OfMember, FlavorInput, null_member, objects_taken, IsProgramOf, AreProgramObjects, IsProgram}
 use Rattle.implib_link.specs.Gnu.OtherLibraries.{AreWhole, IsProgramBeside, Run}
-use Rattle.implib_link.specs.Gnu.Program.{IsProgram, null_descriptor}
+use Rattle.implib_link.specs.Gnu.Program.{null_descriptor}
 use Rattle.implib_link_instances.specs.Worked.Flavors.{both_inputs as flavor_inputs, flavor_bases_8, flavor_objects, zed_input as zed_flavor, foo_input as foo_flavor}
 use Rattle.implib_link_instances.specs.Worked.Programs.{both_inputs, code_object, foo_input, input_objects, program_objects, symbol_of_class, touching_8, zed_input}
+use Rattle.implib_link.specs.Flavors.Program.{AreEndedByLinker, AreEndedByMember, OfLinker, gnu_input, all_members}
+use Rattle.implib.specs.Link.LinkedMembers.{objects_in}
 
 -- an object of the program that defines `queue`, which zed.dll exports
 abbrev pub own_queue : Object
 own_queue = code_object (symbol_of_class (codes "queue") 1 class_external ∷ [])
 
--- the program of Worked/Programs with zed.dll twice; with the null descriptor in front; with a `queue` of its own; and with
--- its descriptors at no multiple of 4
-pub record NearIsProgram : Type 0 where
-  pub distinct : IsProgram AMD64 touching_8 (zed_input AMD64 ∷ zed_input AMD64 ∷ [])
-      (input_objects AMD64 (zed_input AMD64) ++ (input_objects AMD64 (zed_input AMD64) ++ null_descriptor ∷ [])) → ⊥
-  pub tables : IsProgram AMD64 touching_8 (both_inputs AMD64)
+-- the program of Worked/Programs with the null descriptor in front; and of a library for Microsoft's linker
+pub record NearAreEndedByLinker : Type 0 where
+  pub tables : AreEndedByLinker AMD64 (map gnu_input (both_inputs AMD64))
       (null_descriptor ∷ (input_objects AMD64 (foo_input AMD64) ++ input_objects AMD64 (zed_input AMD64))) → ⊥
-  pub others : IsProgram AMD64 touching_8 (both_inputs AMD64) (own_queue ∷ program_objects AMD64) → ⊥
-  pub admissible : IsProgram AMD64 (record touching_8 { descriptors = 2 }) (both_inputs AMD64) (program_objects AMD64) → ⊥
+  pub gnu : AreEndedByLinker AMD64 (flavor_inputs AMD64)
+      (objects_in (all_members AMD64 (flavor_inputs AMD64)) ++ null_descriptor ∷ []) → ⊥
 
 -- foo.drv, for Microsoft's linker, whose descriptor linkers do not find
 abbrev pub drv : DefinitionView
@@ -55,29 +54,38 @@ drv_input = record {
 abbrev pub null_alone : List Object
 null_alone = objects_taken AMD64 (null_member AMD64 (linked_dll (foo_flavor AMD64).input.definition) ∷ [])
 
--- zed.dll twice; without a library for Microsoft's linker; with nothing but the null descriptor; with a `queue` of the
--- program's own; and with foo.drv
-pub record NearAreFlavorObjects : Type 0 where
-  pub distinct : AreFlavorObjects AMD64 (flavor_inputs AMD64 ++ zed_flavor AMD64 ∷ [])
+-- without a library for Microsoft's linker; with nothing but the null descriptor; and without objects
+pub record NearAreEndedByMember : Type 0 where
+  pub null_held_and_null_flavor : AreEndedByMember AMD64 (zed_flavor AMD64 ∷ []) (flavor_objects AMD64 0) → ⊥
+  pub members : AreEndedByMember AMD64 (flavor_inputs AMD64) null_alone → ⊥
+  pub tables : AreEndedByMember AMD64 (flavor_inputs AMD64) [] → ⊥
+
+-- zed.dll twice; a library for Microsoft's linker, and the linker's null descriptor; a `queue` of the program's own; and
+-- foo.drv
+pub record NearAreProgramObjects : Type 0 where
+  pub distinct : AreProgramObjects AMD64 OfMember (flavor_inputs AMD64 ++ zed_flavor AMD64 ∷ [])
       (flavor_objects AMD64 0 ++ input_objects AMD64 (zed_input AMD64)) → ⊥
-  pub null_held_and_null_flavor : AreFlavorObjects AMD64 (zed_flavor AMD64 ∷ []) (flavor_objects AMD64 0) → ⊥
-  pub members : AreFlavorObjects AMD64 (flavor_inputs AMD64) null_alone → ⊥
-  pub tables : AreFlavorObjects AMD64 (flavor_inputs AMD64) [] → ⊥
-  pub others : AreFlavorObjects AMD64 (flavor_inputs AMD64) (own_queue ∷ flavor_objects AMD64 0) → ⊥
-  pub found : AreFlavorObjects AMD64 (drv_input ∷ []) (flavor_objects AMD64 0) → ⊥
+  pub distinct_gnu : AreProgramObjects AMD64 OfLinker (map gnu_input (zed_input AMD64 ∷ zed_input AMD64 ∷ []))
+      (input_objects AMD64 (zed_input AMD64) ++ (input_objects AMD64 (zed_input AMD64) ++ null_descriptor ∷ [])) → ⊥
+  pub ended : AreProgramObjects AMD64 OfLinker (flavor_inputs AMD64)
+      (objects_in (all_members AMD64 (flavor_inputs AMD64)) ++ null_descriptor ∷ []) → ⊥
+  pub others : AreProgramObjects AMD64 OfMember (flavor_inputs AMD64) (own_queue ∷ flavor_objects AMD64 0) → ⊥
+  pub others_gnu : AreProgramObjects AMD64 OfLinker (map gnu_input (both_inputs AMD64)) (own_queue ∷ program_objects AMD64) → ⊥
+  pub found : AreProgramObjects AMD64 OfMember (drv_input ∷ []) (flavor_objects AMD64 0) → ⊥
 
 -- a `queue` of the program's own; hints at no multiple of 4; lookup tables or address tables at no multiple of 8; and the
 -- null descriptor after a gap
-pub record NearIsFlavorProgram : Type 0 where
-  pub held : IsFlavorProgram AMD64 flavor_bases_8 (flavor_inputs AMD64) (own_queue ∷ flavor_objects AMD64 0) → ⊥
-  pub admissible : IsFlavorProgram AMD64 (record flavor_bases_8 { hint_names = 186; dll_names = 224 }) (flavor_inputs AMD64)
+pub record NearIsProgramOf : Type 0 where
+  pub held : IsProgramOf AMD64 OfMember flavor_bases_8 (flavor_inputs AMD64) (own_queue ∷ flavor_objects AMD64 0) → ⊥
+  pub admissible : IsProgramOf AMD64 OfMember (record flavor_bases_8 { hint_names = 186; dll_names = 224 }) (flavor_inputs AMD64)
       (flavor_objects AMD64 0) → ⊥
-  pub lookups : IsFlavorProgram AMD64 (record flavor_bases_8 { lookups = 68 }) (flavor_inputs AMD64)
+  pub lookups : IsProgramOf AMD64 OfMember (record flavor_bases_8 { lookups = 68 }) (flavor_inputs AMD64)
       (flavor_objects AMD64 0) → ⊥
-  pub addresses : IsFlavorProgram AMD64 (record flavor_bases_8 { addresses = 132; hint_names = 188; dll_names = 224 }) (flavor_inputs AMD64)
+  pub addresses : IsProgramOf AMD64 OfMember (record flavor_bases_8 { addresses = 132; hint_names = 188; dll_names = 224 }) (flavor_inputs AMD64)
       (flavor_objects AMD64 0) → ⊥
-  pub follows : IsFlavorProgram AMD64 (record flavor_bases_8 { directory_ends = 52 }) (flavor_inputs AMD64)
+  pub follows : IsProgramOf AMD64 OfMember (record flavor_bases_8 { directory_ends = 52 }) (flavor_inputs AMD64)
       (flavor_objects AMD64 0) → ⊥
+  pub admissible_gnu : IsProgram AMD64 (record touching_8 { descriptors = 2 }) (both_inputs AMD64) (program_objects AMD64) → ⊥
 
 -- an object of another library, with these bytes in a section of tables and these symbols
 abbrev pub table_object : List ℕ → List ℕ → List (List ℕ) → Object

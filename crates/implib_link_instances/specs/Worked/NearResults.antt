@@ -4,24 +4,22 @@ use Rattle.implib_link.specs.Gnu.Packed.{packed}
 use Rattle.implib_link_instances.specs.Worked.Searched.{as_taken, searched_objects}
 use Rattle.implib_link.specs.Search.Search.{IsLinkedWith}
 use Rattle.std.specs.Prelude.{ℕ, List, [], ◌∷◌, codes}
-use Rattle.implib.specs.declared.flavor.Flavor.TheVariants.{Gnu}
 use Rattle.implib.specs.declared.machine.MachineType.TheVariants.{AMD64, ARM64, I386}
 use Rattle.implib.specs.Formats.Constants.{amd64_rel32, class_external}
 use Rattle.implib.specs.Formats.Object.{ASymbol, Object}
 use Rattle.implib.specs.Import.{Ask}
-use Rattle.implib.specs.LibraryName.{names_for, own_names}
+use Rattle.implib.specs.LibraryName.{own_names}
 use Rattle.implib.specs.Link.Image.{Range}
-use Rattle.implib.specs.Link.LinkedMembers.{chosen_exports}
 use Rattle.implib.specs.Link.Placement.{At, Descriptors, Placed}
 use Rattle.implib.specs.Members.Gnu.{section}
 use Rattle.implib.specs.Members.ImportTables.{table_flags, zeros}
-use Rattle.implib_link.specs.Flavors.Program.{FlavorsLink, InputImports}
+use Rattle.implib_link.specs.Flavors.Program.{OfMember, InputImports, ProgramLinks, LinksAmong}
 use Rattle.implib_link.specs.Gnu.Choices.{DefineOnce}
 use Rattle.implib_link.specs.Gnu.Fields.{LinkedCode}
 use Rattle.implib_link.specs.Gnu.Operands.{BranchStays, HasOffsetField, HasPageField, HasPointer, InstructionArrives, PairArrives}
 use Rattle.implib_link.specs.Gnu.OtherLibraries.{LinksBeside, Run}
 use Rattle.implib_link.specs.Gnu.Pages.{PageArrives}
-use Rattle.implib_link.specs.Gnu.Program.{ImportsBy, LinksAmong, null_descriptor}
+use Rattle.implib_link.specs.Gnu.Program.{null_descriptor}
 use Rattle.implib_link.specs.Gnu.Writing.{FillsBy}
 use Rattle.implib_link.specs.Search.Closed.{AreLinkedFor, IsClosed, LinksClosed}
 use Rattle.implib_link.specs.Search.Exists.{AreChosenFor}
@@ -34,7 +32,7 @@ use Rattle.implib_link_instances.specs.Worked.NearLinks.{found_elsewhere, found_
 use Rattle.implib_link_instances.specs.Worked.NearPrograms.{run_with, table_object}
 use Rattle.implib_link_instances.specs.Worked.NearSearches.{asking, zed_library}
 use Rattle.implib_link_instances.specs.Worked.Operands.{field, imp_open, passing_at, passing_code, open_on, passing_placed}
-use Rattle.implib_link_instances.specs.Worked.Programs.{both_inputs, code_object, foo_input, program_image, program_placed, symbol_of_class, touching_8}
+use Rattle.implib_link_instances.specs.Worked.Programs.{both_inputs, code_object, foo_input, symbol_of_class, touching_8}
 use Rattle.implib_link_instances.specs.Worked.RefusedFields.{linked_on_amd64, open_address, two_ranges, with_byte}
 use Rattle.implib_link_instances.specs.Worked.Walks.{without_addresses, without_name}
 
@@ -52,20 +50,15 @@ leading_nowhere = record (table_object (codes ".idata$9") [] []) {
 
 -- nothing is linked: no symbol is defined, and none claimed; no members; or a table's object is linked, whose symbol
 -- nothing defines, or whose relocation leads nowhere
-pub record NearLinksAmong : Type 0 where
+pub record NearProgramLinks : Type 0 where
   pub linked : LinksAmong AMD64 touching_8 (record (foo_input AMD64) { members = [] } ∷ []) [] → ⊥
-  pub targets : LinksAmong AMD64 touching_8 [] (leading_nowhere ∷ []) → ⊥
+  pub targets : ProgramLinks AMD64 OfMember flavor_bases_8 [] (leading_nowhere ∷ []) → ⊥
+  pub null : ProgramLinks AMD64 OfMember flavor_bases_8 (flavor_inputs AMD64) [] → ⊥
+  pub ended : ProgramLinks AMD64 OfMember (record flavor_bases_8 { directory_ends = 52 }) (flavor_inputs AMD64) [] → ⊥
   pub listed : LinksAmong AMD64 touching_8 (both_inputs AMD64) [] → ⊥
-  pub claimed : LinksAmong AMD64 touching_8 (both_inputs AMD64) [] → ⊥
+  pub claimed : ProgramLinks AMD64 OfMember flavor_bases_8 (flavor_inputs AMD64) [] → ⊥
+  pub claimed_gnu : LinksAmong AMD64 touching_8 (both_inputs AMD64) [] → ⊥
   pub defined : LinksAmong AMD64 touching_8 [] (losing ∷ []) → ⊥
-
-pub record NearFlavorsLink : Type 0 where
-  pub targets : FlavorsLink AMD64 flavor_bases_8 [] (leading_nowhere ∷ []) → ⊥
-  pub null : FlavorsLink AMD64 flavor_bases_8 (flavor_inputs AMD64) [] → ⊥
-  pub ended : FlavorsLink AMD64 (record flavor_bases_8 { directory_ends = 52 }) (flavor_inputs AMD64) [] → ⊥
-  pub listed : FlavorsLink AMD64 flavor_bases_8 (flavor_inputs AMD64) [] → ⊥
-  pub claimed : FlavorsLink AMD64 flavor_bases_8 (flavor_inputs AMD64) [] → ⊥
-  pub defined : FlavorsLink AMD64 flavor_bases_8 [] (losing ∷ []) → ⊥
 
 -- an object of another library with four bytes among the descriptors
 abbrev pub four_before : Run
@@ -76,12 +69,6 @@ pub record NearLinksBeside : Type 0 where
   pub linked : LinksBeside AMD64 touching_8
       (record { objects = []; imports = []; inputs = record (foo_input AMD64) { members = [] } ∷ [] } ∷ []) [] → ⊥
   pub listed : LinksBeside AMD64 touching_8 (run_with [] []) [] → ⊥
-
--- foo.dll's address table 8 bytes on
-pub record NearImportsBy : Type 0 where
-  pub table_located : ImportsBy AMD64 (program_image AMD64 touching_8) (program_placed AMD64 touching_8) 4 128
-      (names_for Gnu (foo_input AMD64).definition)
-      (chosen_exports (foo_input AMD64).definition (foo_input AMD64).chosen) → ⊥
 
 -- an object that defines the descriptor of foo.dll, and leaves the address of its second export to others
 abbrev pub only_naming : Placed

@@ -11,13 +11,13 @@ use Rattle.implib.specs.Link.Image.{Range, image_of}
 use Rattle.implib.specs.Link.Placement.{Bases, Placed, SectionAddress, Unplaced, placed_from}
 use Rattle.implib.specs.Link.Resolution.{target_address}
 use Rattle.implib.specs.Members.Gnu.{section, stub_bytes, stub_relocations, text_name}
-use Rattle.implib_link.specs.Flavors.Program.{IsFlavorProgram}
+use Rattle.implib_link.specs.Flavors.Program.{OfMember, IsProgramOf, IsProgram}
 use Rattle.implib_link.specs.Gnu.Calls.{HasCall, HasDirectCall, IsAside, amd64_addr64, arm64_addr64, arm64_branch26, i386_rel32, StubAt}
 use Rattle.implib_link.specs.Gnu.Fields.{LinkedCode, placed_code, ranges_of_codes}
 use Rattle.implib_link.specs.Gnu.Moves.{AreInMemory, CanBeMoved}
 use Rattle.implib_link.specs.Gnu.Operands.{HasBranch, HasInstruction, HasOffsetField, HasOperand, HasPageField, HasPointer, IsOperand, branch_leads, operand_leads}
 use Rattle.implib_link.specs.Gnu.Pages.{HasPage, HasPageOffset}
-use Rattle.implib_link.specs.Gnu.Program.{IsProgram, null_descriptor}
+use Rattle.implib_link.specs.Gnu.Program.{null_descriptor}
 use Rattle.implib_link.specs.Gnu.Rebased.{Place}
 use Rattle.implib_link_instances.specs.Worked.Calls.{calling, calling_code, calling_flavors, first_bytes, flavors_placed, last_bytes}
 use Rattle.implib_link_instances.specs.Worked.Flavors.{both_inputs as flavor_inputs, flavor_bases_8}
@@ -341,7 +341,7 @@ flavors_linked = image_of AMD64 flavor_bases_8 flavors_placed ++ ranges_of_codes
 
 -- It is in memory as it was linked for 0x140000000, and at 0x200000000, where nothing changes.
 pub record WorkedFlavorFields : Type 0 where
-  pub program : IsFlavorProgram AMD64 flavor_bases_8 (flavor_inputs AMD64) calling_flavors
+  pub program : IsProgramOf AMD64 OfMember flavor_bases_8 (flavor_inputs AMD64) calling_flavors
   pub linked : AreInMemory AMD64 0x1_4000_0000 (image_of AMD64 flavor_bases_8 flavors_placed) flavors_placed
       (calling_linked ∷ []) linked_targets flavors_linked
   pub moved : AreInMemory AMD64 0x2_0000_0000 (image_of AMD64 flavor_bases_8 flavors_placed) flavors_placed

@@ -8,7 +8,8 @@ use Rattle.implib.specs.Link.Linked.{AllLink}
 use Rattle.implib.specs.Link.LinkedMembers.{all_linked, objects_in}
 use Rattle.implib.specs.Link.Placement.{Bases}
 use Rattle.implib_link.specs.Gnu.Packed.{packed, packed_end}
-use Rattle.implib_link.specs.Gnu.Program.{IsProgram, null_descriptor}
+use Rattle.implib_link.specs.Gnu.Program.{null_descriptor}
+use Rattle.implib_link.specs.Flavors.Program.{IsProgram}
 use Rattle.implib_link_instances.specs.Worked.Programs.{both_inputs, program_objects, touching_8}
 
 -- the bases of the programs packed from 0x1001 on, for thunks of 8 and of 4 bytes: the descriptors from the

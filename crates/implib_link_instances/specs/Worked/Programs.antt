@@ -23,7 +23,8 @@ use Rattle.implib.specs.Link.Resolution.{symbol_address}
 use Rattle.implib.specs.Worked.Links.{addresses_of, bytes_from, nameless, numbers_from}
 use Rattle.implib.specs.Worked.Members.{of_dll}
 use Rattle.implib.specs.Worked.Statements.{plain_export}
-use Rattle.implib_link.specs.Gnu.Program.{IsProgram, null_descriptor}
+use Rattle.implib_link.specs.Gnu.Program.{null_descriptor}
+use Rattle.implib_link.specs.Flavors.Program.{IsProgram}
 use Rattle.implib_link.specs.Stub.{code_relocated, jump_reads}
 
 -- a name as its symbol has it: on I386 with an underscore in front

@@ -10,9 +10,10 @@ use Rattle.implib.specs.Members.GnuMembers.{export_spec, head_spec, tail_spec}
 use Rattle.implib.specs.Members.MemberSpec.{MemberView, member_of}
 use Rattle.implib.specs.Worked.Statements.{plain_export}
 use Rattle.implib_link.specs.Gnu.Packed.{packed}
-use Rattle.implib_link.specs.Gnu.Program.{IsProgram, LinksAmong, null_descriptor}
+use Rattle.implib_link.specs.Gnu.Program.{null_descriptor, HaveSame}
+use Rattle.implib_link.specs.Flavors.Program.{LinksAmong, IsProgram}
 use Rattle.implib_link.specs.Search.Archives.{TakesOfLibraries, archive_of, inputs_wanted, wanted_with}
-use Rattle.implib_link.specs.Search.Search.{HaveSame, ImportsWanted, IsArranged, IsLinkedOfWanted, IsLinkedWith, Takes, exports_wanted, linked_if_any}
+use Rattle.implib_link.specs.Search.Search.{ImportsWanted, IsArranged, IsLinkedOfWanted, IsLinkedWith, Takes, exports_wanted, linked_if_any}
 use Rattle.implib_link_instances.specs.Worked.Archives.{both_wanted, two_libraries}
 use Rattle.implib_link_instances.specs.Worked.Programs.{code_object, symbol_of_class}
 use Rattle.implib_link_instances.specs.Worked.Search.{members_of, three, wanted}

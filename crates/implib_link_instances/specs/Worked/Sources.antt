@@ -13,12 +13,13 @@ use Rattle.implib.specs.Members.Members.{member_specs}
 use Rattle.implib.specs.Renaming.{renamed}
 use Rattle.implib.specs.Worked.Members.{of_dll}
 use Rattle.implib.specs.Worked.Statements.{plain_export}
-use Rattle.implib_link.specs.Flavors.Program.{IsFlavorProgram, all_members, null_member, objects_taken}
+use Rattle.implib_link.specs.Flavors.Program.{OfMember, all_members, null_member, objects_taken, IsProgramOf, IsProgram}
 use Rattle.implib_link.specs.Flavors.Texts.{FlavorSource, FlavorTextsLink, IsFlavorSource, flavor_source, input_of}
 use Rattle.implib_link.specs.Gnu.Packed.{packed}
-use Rattle.implib_link.specs.Gnu.Program.{IsProgram, null_descriptor}
-use Rattle.implib_link.specs.Gnu.Texts.{IsSource, Source, TextsLink, link_input_of}
+use Rattle.implib_link.specs.Gnu.Program.{null_descriptor}
+use Rattle.implib_link.specs.Gnu.Texts.{link_input_of}
 use Rattle.implib_link_instances.specs.Worked.Programs.{symbol_on}
+use Rattle.implib_link.specs.Flavors.Program.{OfLinker}
 
 -- two texts: a function and data of foo.dll, and a function of zed.dll by its ordinal
 abbrev pub foo_text : List ℕ
@@ -45,10 +46,10 @@ source_in flavor machine text d chosen =
     (map member_of (member_specs (renamed (renamed d)) machine flavor)) chosen
 
 -- both for GNU's linker
-abbrev pub gnu_sources : MachineType → List Source
+abbrev pub gnu_sources : MachineType → List FlavorSource
 gnu_sources machine =
-    (source_in Gnu machine foo_text (foo_meant machine) (1 ∷ 0 ∷ [])).source
-    ∷ (source_in Gnu machine zed_text (zed_meant machine) (0 ∷ [])).source
+    source_in Gnu machine foo_text (foo_meant machine) (1 ∷ 0 ∷ [])
+    ∷ source_in Gnu machine zed_text (zed_meant machine) (0 ∷ [])
     ∷ []
 
 -- foo.dll for Microsoft's linker, zed.dll for GNU's
@@ -61,7 +62,7 @@ both_sources machine =
 -- the objects that are linked of them
 abbrev pub gnu_text_objects : MachineType → List Object
 gnu_text_objects machine =
-    objects_in (all_linked machine (map link_input_of (gnu_sources machine))) ++ null_descriptor ∷ []
+    objects_in (all_linked machine (map (λ s. link_input_of s.source) (gnu_sources machine))) ++ null_descriptor ∷ []
 
 abbrev pub both_text_objects : MachineType → List Object
 both_text_objects machine = objects_taken machine
@@ -70,15 +71,15 @@ both_text_objects machine = objects_taken machine
 -- The texts' libraries and members are what the laws ask for, packed they are programs, and these link as the
 -- laws say.
 pub record WorkedSource (machine : MachineType) : Type 0 where
-  pub gnu : AllByRecursion (IsSource machine) (gnu_sources machine)
+  pub gnu : AllByRecursion (IsFlavorSource machine) (gnu_sources machine)
   pub gnu_program : IsProgram machine (packed 1 (gnu_text_objects machine))
-      (map link_input_of (gnu_sources machine)) (gnu_text_objects machine)
-  pub gnu_links : TextsLink machine (packed 1 (gnu_text_objects machine)) (gnu_sources machine)
+      (map (λ s. link_input_of s.source) (gnu_sources machine)) (gnu_text_objects machine)
+  pub gnu_links : FlavorTextsLink machine OfLinker (packed 1 (gnu_text_objects machine)) (gnu_sources machine)
       (gnu_text_objects machine)
   pub both : AllByRecursion (IsFlavorSource machine) (both_sources machine)
-  pub both_program : IsFlavorProgram machine (packed 1 (both_text_objects machine))
+  pub both_program : IsProgramOf machine OfMember (packed 1 (both_text_objects machine))
       (map input_of (both_sources machine)) (both_text_objects machine)
-  pub both_link : FlavorTextsLink machine (packed 1 (both_text_objects machine)) (both_sources machine)
+  pub both_link : FlavorTextsLink machine OfMember (packed 1 (both_text_objects machine)) (both_sources machine)
       (both_text_objects machine)
 
 -- with and without the underscore in front of names

@@ -19,18 +19,19 @@ ghost use Rattle.implib_link_instances.specs.Worked.NearLinks.{NearJumpsThrough,
 ghost use Rattle.implib_link_instances.specs.Worked.NearLinks.{NearResolves, NearTakesAs};
 ghost use Rattle.implib_link_instances.specs.Worked.NearLinks.{NearTakesIntoAs};
 ghost use Rattle.implib_link_instances.specs.Worked.NearLinks.{NearTakesSymbols};
-ghost use Rattle.implib_link_instances.specs.Worked.NearPrograms.{NearAreFlavorObjects, NearAreWhole};
-ghost use Rattle.implib_link_instances.specs.Worked.NearPrograms.{NearIsFlavorProgram, NearIsProgram};
+ghost use Rattle.implib_link_instances.specs.Worked.NearPrograms.{NearAreEndedByLinker, NearAreEndedByMember};
+ghost use Rattle.implib_link_instances.specs.Worked.NearPrograms.{NearAreProgramObjects, NearAreWhole};
+ghost use Rattle.implib_link_instances.specs.Worked.NearPrograms.{NearIsProgramOf};
 ghost use Rattle.implib_link_instances.specs.Worked.NearPrograms.{NearIsImportable, NearIsLldProgram};
 ghost use Rattle.implib_link_instances.specs.Worked.NearPrograms.{NearIsProgramBeside, NearLldLinks};
 ghost use Rattle.implib_link_instances.specs.Worked.NearResults.{NearAreChosenFor};
 ghost use Rattle.implib_link_instances.specs.Worked.NearResults.{NearAreLinkedFor};
 ghost use Rattle.implib_link_instances.specs.Worked.NearResults.{NearBranchStays, NearDefineOnce, NearFillsBy};
-ghost use Rattle.implib_link_instances.specs.Worked.NearResults.{NearFlavorsLink, NearHasOffsetField};
+ghost use Rattle.implib_link_instances.specs.Worked.NearResults.{NearHasOffsetField};
 ghost use Rattle.implib_link_instances.specs.Worked.NearResults.{NearHasPageField, NearHasPointer};
-ghost use Rattle.implib_link_instances.specs.Worked.NearResults.{NearImportsBy, NearInputImports};
+ghost use Rattle.implib_link_instances.specs.Worked.NearResults.{NearInputImports};
 ghost use Rattle.implib_link_instances.specs.Worked.NearResults.{NearInstructionArrives, NearIsClosed, NearIsLinkedWith};
-ghost use Rattle.implib_link_instances.specs.Worked.NearResults.{NearLinksAmong, NearLinksBeside};
+ghost use Rattle.implib_link_instances.specs.Worked.NearResults.{NearLinksBeside, NearProgramLinks};
 ghost use Rattle.implib_link_instances.specs.Worked.NearResults.{NearLinksClosed};
 ghost use Rattle.implib_link_instances.specs.Worked.NearResults.{NearPageArrives, NearPairArrives};
 ghost use Rattle.implib_link_instances.specs.Worked.NearSearches.{NearAreNamedApart, NearIsAliasTaken};
@@ -81,9 +82,10 @@ pub fn near_misses_of_archives()
 
 /// What is no program: for GNU's linker, of both flavours, beside other libraries, and of lld.
 pub fn near_misses_of_programs()
-    ensures program { NearIsProgram }
-    ensures objects { NearAreFlavorObjects }
-    ensures flavors { NearIsFlavorProgram }
+    ensures by_linker { NearAreEndedByLinker }
+    ensures by_member { NearAreEndedByMember }
+    ensures objects { NearAreProgramObjects }
+    ensures program { NearIsProgramOf }
     ensures beside { NearIsProgramBeside }
     ensures whole { NearAreWhole }
     ensures importable { NearIsImportable }
@@ -155,16 +157,14 @@ pub fn near_misses_of_results()
     ensures branch_stays { NearBranchStays }
     ensures define_once { NearDefineOnce }
     ensures fills_by { NearFillsBy }
-    ensures flavors_link { NearFlavorsLink }
     ensures has_offset_field { NearHasOffsetField }
     ensures has_page_field { NearHasPageField }
     ensures has_pointer { NearHasPointer }
-    ensures imports_by { NearImportsBy }
     ensures input_imports { NearInputImports }
     ensures instruction_arrives { NearInstructionArrives }
     ensures is_closed { NearIsClosed }
     ensures is_linked_with { NearIsLinkedWith }
-    ensures links_among { NearLinksAmong }
+    ensures program_links { NearProgramLinks }
     ensures links_beside { NearLinksBeside }
     ensures links_closed { NearLinksClosed }
     ensures page_arrives { NearPageArrives }

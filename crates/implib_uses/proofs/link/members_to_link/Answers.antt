@@ -5,13 +5,14 @@ use Rattle.implib.specs.declared.error.Error.{Error}
 use Rattle.implib.specs.declared.machine.MachineType.{MachineType}
 use Rattle.implib.specs.declared.member.Member.{Member}
 use Rattle.implib.specs.Library.{member_view}
-use Rattle.implib_link.specs.Gnu.Texts.{LinkAsStated}
+use Rattle.implib_link.specs.Flavors.Texts.{LinkInFlavor}
+use Rattle.implib.specs.declared.flavor.Flavor.TheVariants.{Gnu}
 use Rattle.implib_uses.specs.Uses.{ImportsJustThese}
 use Rattle.implib_uses.proofs.Links.{imports_just_these}
 use Rattle.implib_uses.proofs.link.members_to_link.Goals as goal
 
 if_made : {A : Type 0} (text : List ℕ) (machine : MachineType) (result : Result (Vec Member A) Error) →
-    IfOk result (λ members. LinkAsStated text machine (map member_view members.items)) →
+    IfOk result (λ members. LinkInFlavor text machine Gnu (map member_view members.items)) →
     IfOk result (λ members. ImportsJustThese text machine (map member_view members.items))
 if_made text machine (Ok members) given = imports_just_these text machine (map member_view members.items) given
 if_made text machine (Err error) given = tt

@@ -11,10 +11,10 @@ returns c = record {
     c.in_ok-library.library,
     (
       c.in_ok-library.ensures.ok,
-      λ chosen bases objects program.
+      λ ending chosen bases objects program.
           let source : FlavorSource = flavor_source Msvc c.args.text.now c.in_ok-library.library (map member_view c.in_ok-members.members.items) chosen in
           let is : IsFlavorSource c.args.machine source = record { of_text = c.in_ok-library.ensures.ok; made = c.in_ok-members.ensures.ok } in
-          c.flavored_texts_link.ensures.links c.args.machine bases (source ∷ []) objects (is, tt) program,
+          c.texts_link.ensures.links c.args.machine ending bases (source ∷ []) objects (is, tt) program,
     ),
   );
 }

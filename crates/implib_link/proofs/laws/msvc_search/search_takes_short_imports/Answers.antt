@@ -1,4 +1,4 @@
-use Rattle.implib_link.proofs.Search.Msvc.{search_takes}
+use Rattle.implib_link.proofs.Search.MsvcOne.{search_takes}
 use Rattle.implib_link.proofs.laws.msvc_search.search_takes_short_imports.Goals as goal
 
 pub returns : goal.returns

@@ -1,5 +1,5 @@
-use Rattle.implib_link.proofs.Gnu.Alone.{members_are_program}
+use Rattle.implib_link.proofs.Flavors.GnuPrograms.{gnu_objects, members_are_objects}
 use Rattle.implib_link.proofs.laws.program.members_are_program.Goals as goal
 
 pub returns : goal.returns
-returns c = record { program = members_are_program }
+returns c = record { alone = members_are_objects; beside = gnu_objects }

@@ -1,4 +1,4 @@
-use Rattle.implib_link.proofs.Gnu.Texts.{texts_link}
+use Rattle.implib_link.proofs.Flavors.Texts.{texts_link}
 use Rattle.implib_link.proofs.laws.texts.texts_link.Goals as goal
 
 pub returns : goal.returns

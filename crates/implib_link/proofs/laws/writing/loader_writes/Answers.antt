@@ -1,6 +1,5 @@
-use Rattle.implib_link.proofs.Flavors.Writing.{flavors_writer_ends, flavors_writer_loads}
-use Rattle.implib_link.proofs.Gnu.Writing.{writer_ends, writer_loads}
+use Rattle.implib_link.proofs.Flavors.Writing.{writer_ends, writer_loads}
 use Rattle.implib_link.proofs.laws.writing.loader_writes.Goals as goal
 
 pub returns : goal.returns
-returns c = record { loads = writer_loads; ends = writer_ends; flavors_load = flavors_writer_loads; flavors_end = flavors_writer_ends }
+returns c = record { loads = writer_loads; ends = writer_ends }

@@ -1,4 +1,4 @@
-use Rattle.implib_link_instances.proofs.Worked.NearResults.{near_are_chosen_for, near_are_linked_for, near_branch_stays, near_define_once, near_fills_by, near_flavors_link, near_has_offset_field, near_has_page_field, near_has_pointer, near_imports_by, near_input_imports, near_instruction_arrives, near_is_closed, near_is_linked_with, near_links_among, near_links_beside, near_links_closed, near_page_arrives, near_pair_arrives}
+use Rattle.implib_link_instances.proofs.Worked.NearResults.{near_are_chosen_for, near_are_linked_for, near_branch_stays, near_define_once, near_fills_by, near_has_offset_field, near_has_page_field, near_has_pointer, near_input_imports, near_instruction_arrives, near_is_closed, near_is_linked_with, near_program_links, near_links_beside, near_links_closed, near_page_arrives, near_pair_arrives}
 use Rattle.implib_link_instances.proofs.laws.near_misses.near_misses_of_results.Goals as goal
 
 pub returns : goal.returns
@@ -8,16 +8,14 @@ returns c = record {
   branch_stays = near_branch_stays;
   define_once = near_define_once;
   fills_by = near_fills_by;
-  flavors_link = near_flavors_link;
   has_offset_field = near_has_offset_field;
   has_page_field = near_has_page_field;
   has_pointer = near_has_pointer;
-  imports_by = near_imports_by;
   input_imports = near_input_imports;
   instruction_arrives = near_instruction_arrives;
   is_closed = near_is_closed;
   is_linked_with = near_is_linked_with;
-  links_among = near_links_among;
+  program_links = near_program_links;
   links_beside = near_links_beside;
   links_closed = near_links_closed;
   page_arrives = near_page_arrives;

@@ -1,0 +1,218 @@
+-- GNU `ld`'s sweeps of an archive take what a search takes that goes by the first member, where no two members list one
+-- name.
+use Rattle.std.proofs.Common.{◌≡◌, ℕ, ◌⊎◌, zero, suc, ◌+◌, ◌<◌, ◌≤◌, Bool, true, false, List, [], ◌∷◌, ◌++◌, length, map, Option, Some, None, refl, ap, sym, ◌∙◌, subst, inl, inr, arith}
+use Rattle.std.specs.Prelude.{◌&&◌, ◌==◌, bytes_eq, not, slice_get}
+use Rattle.std.specs.List.{IsDistinct, cons_option, list_any}
+use Rattle.std.proofs.lemmas.Bool.{and_parts, cases_Bool, eq-eqb, eqb-true, true≢false}
+use Rattle.implib.specs.Formats.Object.{Object}
+use Rattle.implib.specs.Members.MemberSpec.{MemberView}
+use Rattle.implib.proofs.Link.LinkedMembers.{among_contains}
+use Rattle.implib.proofs.Link.Ranges.{Among, among_first, among_flat, among_later}
+use Rattle.implib_link.specs.Search.Closed.{AreTakenIntoAs, PullsIntoAs, TakesIntoAs, unresolved}
+use Rattle.implib_link.specs.Search.Search.{objects_as}
+use Rattle.implib_link.specs.Search.Sweeps.{IndexEntry, SweepsTake, entries_at, index_of, is_due, is_left, members_at, numbers_from, sweeps, swept}
+use Rattle.implib_link.proofs.Gnu.Bounds.{index_below}
+use Rattle.implib_link.proofs.Search.ArchiveGroups.{first_is}
+use Rattle.implib_link.proofs.Search.Lists.{all_listed, among_any, among_flat_map, among_listed, among_mapped, any_among, contains_among, distinct_apart, distinct_later, listed_once}
+
+-- Numbers and members.
+
+member_at : (archive : List MemberView) (n : ℕ) (m : MemberView) → slice_get archive n ≡ Some m → Among m archive
+unfolding Among
+member_at [] n m is = cc
+member_at (x ∷ archive) zero m is = (let same : x ≡ m = cc in inl (sym same))
+member_at (x ∷ archive) (suc n) m is = inr (member_at archive n m is)
+
+number_of : (archive : List MemberView) (m : MemberView) → Among m archive → (n : ℕ) × (slice_get archive n ≡ Some m)
+unfolding Among
+number_of [] m held = absurd held
+number_of (x ∷ archive) m (inl same) = (0, ap Some (sym same))
+number_of (x ∷ archive) m (inr held) = (let later = number_of archive m held in (suc later.0, later.1))
+
+-- a symbol has one number, where all symbols differ
+one_number : (archive : List MemberView) (name : List ℕ) (n k : ℕ) (m x : MemberView) → IsDistinct bytes_eq (all_listed archive) → slice_get archive n ≡ Some m → slice_get archive k ≡ Some x →
+    Among name m.symbols → Among name x.symbols → n ≡ k
+one_number [] name n k m x distinct at other listed again = cc
+one_number (y ∷ archive) name zero zero m x distinct at other listed again = refl
+one_number (y ∷ archive) name zero (suc k) m x distinct at other listed again =
+    let same : y ≡ m = cc in
+    absurd (distinct_apart y.symbols (all_listed archive) name distinct (subst (λ (z : MemberView). Among name z.symbols) (sym same) listed) (among_listed name x archive (member_at archive k x other) again))
+one_number (y ∷ archive) name (suc n) zero m x distinct at other listed again =
+    let same : y ≡ x = cc in
+    absurd (distinct_apart y.symbols (all_listed archive) name distinct (subst (λ (z : MemberView). Among name z.symbols) (sym same) again) (among_listed name m archive (member_at archive n m at) listed))
+one_number (y ∷ archive) name (suc n) (suc k) m x distinct at other listed again =
+    ap suc (one_number archive name n k m x (distinct_later y.symbols (all_listed archive) distinct) at other listed again)
+
+-- A number is taken exactly where its member is.
+
+number_among : (n : ℕ) (numbers : List ℕ) → list_any (λ number. number == n) numbers ≡ true → Among n numbers
+unfolding Among
+number_among n [] is = absurd (true≢false (sym is))
+number_among n (k ∷ numbers) is =
+    elim (cases_Bool (k == n)) [ inl same ↦ inl (sym (eqb-true k n same)) | inr other ↦ inr (number_among n numbers (rw other at is)) ]
+
+among_number : (n : ℕ) (numbers : List ℕ) → Among n numbers → list_any (λ number. number == n) numbers ≡ true
+unfolding Among
+among_number n [] held = absurd held
+among_number n (k ∷ numbers) (inl same) = (let own : (k == n) ≡ true = eq-eqb k n (sym same) in rw own refl)
+among_number n (k ∷ numbers) (inr held) = elim (cases_Bool (k == n)) [ inl same ↦ rw same refl | inr other ↦ rw other (among_number n numbers held) ]
+
+members_next : (archive : List MemberView) (n : ℕ) (m : MemberView) (numbers : List ℕ) → slice_get archive n ≡ Some m → members_at archive (n ∷ numbers) ≡ m ∷ members_at archive numbers
+members_next archive n m numbers at = ap (λ o. cons_option o (members_at archive numbers)) at
+
+taken_option : (o : Option MemberView) (m : MemberView) (rest : List MemberView) → Among m (cons_option o rest) → (o ≡ Some m) ⊎ Among m rest
+unfolding Among
+taken_option None m rest held = inr held
+taken_option (Some x) m rest (inl same) = inl (ap Some (sym same))
+taken_option (Some x) m rest (inr held) = inr held
+
+taken_number : (archive : List MemberView) (numbers : List ℕ) (m : MemberView) → Among m (members_at archive numbers) → (n : ℕ) × Among n numbers × (slice_get archive n ≡ Some m)
+unfolding Among
+taken_number archive [] m held = absurd held
+taken_number archive (n ∷ numbers) m held =
+    elim (taken_option (slice_get archive n) m (members_at archive numbers) held) [
+      | inl here ↦ (n, among_first n numbers, here)
+      | inr behind ↦ let later = taken_number archive numbers m behind in (later.0, among_later later.0 n numbers later.1, later.2)
+    ]
+
+taken_behind : (o : Option MemberView) (m : MemberView) (rest : List MemberView) → Among m rest → Among m (cons_option o rest)
+taken_behind None m rest held = held
+taken_behind (Some x) m rest held = among_later m x rest held
+
+number_taken : (archive : List MemberView) (numbers : List ℕ) (n : ℕ) (m : MemberView) → Among n numbers → slice_get archive n ≡ Some m → Among m (members_at archive numbers)
+unfolding Among
+number_taken archive [] n m held at = absurd held
+number_taken archive (k ∷ numbers) n m (inl same) at =
+    subst (Among m) (sym (members_next archive k m numbers (subst (λ j. slice_get archive j ≡ Some m) same at))) (among_first m (members_at archive numbers))
+number_taken archive (k ∷ numbers) n m (inr held) at = taken_behind (slice_get archive k) m (members_at archive numbers) (number_taken archive numbers n m held at)
+
+-- The index.
+
+-- an entry is of a member that lists its name
+abbrev IsEntry : List MemberView → IndexEntry → Type 0
+IsEntry archive e = (m : MemberView) × (slice_get archive e.number ≡ Some m) × Among e.name m.symbols
+
+entry_at : (archive : List MemberView) (number : ℕ) (o : Option MemberView) (e : IndexEntry) → slice_get archive number ≡ o → Among e (entries_at number o) → IsEntry archive e
+unfolding Among
+entry_at archive number None e is held = absurd held
+entry_at archive number (Some m) e is held =
+    let from = among_mapped (λ (name : List ℕ). record { name = name; number = number }) e m.symbols held in (
+      m,
+      subst (λ k. slice_get archive k ≡ Some m) (sym (ap (λ (x : IndexEntry). x.number) from.2)) is,
+      subst (λ name. Among name m.symbols) (sym (ap (λ (x : IndexEntry). x.name) from.2)) from.1,
+    )
+
+all_entries : (archive : List MemberView) (e : IndexEntry) → Among e (index_of archive) → IsEntry archive e
+all_entries archive e held =
+    let from = among_flat_map (λ (number : ℕ). entries_at number (slice_get archive number)) e (numbers_from (length archive) 0) held in
+    entry_at archive from.0 (slice_get archive from.0) e refl from.2
+
+number_there : (count first n : ℕ) → first ≤ n → n < first + count → Among n (numbers_from count first)
+unfolding Among
+number_there zero first n from below = absurd (omega arith)
+number_there (suc count) first n from below =
+    elim (cases_Bool (n == first)) [
+      | inl same ↦ inl (eqb-true n first same)
+      | inr other ↦ (let differ : n ≡ first → ⊥ = λ same. true≢false (sym (eq-eqb n first same) ∙ other) in inr (number_there count (suc first) n (omega arith) (omega arith)))
+    ]
+
+among_map_of : {X Y : Type 0} (f : X → Y) (x : X) (xs : List X) → Among x xs → Among (f x) (map f xs)
+unfolding Among
+among_map_of f x [] held = absurd held
+among_map_of f x (y ∷ xs) (inl same) = inl (ap f same)
+among_map_of f x (y ∷ xs) (inr held) = inr (among_map_of f x xs held)
+
+listed_entry : (archive : List MemberView) (n : ℕ) (m : MemberView) (name : List ℕ) → slice_get archive n ≡ Some m → Among name m.symbols → Among (record { name = name; number = n }) (index_of archive)
+listed_entry archive n m name at listed =
+    let below : n < length archive = index_below archive n m at in
+    among_flat (λ (number : ℕ). entries_at number (slice_get archive number)) n (numbers_from (length archive) 0) (record { name = name; number = n })
+    (number_there (length archive) 0 n (omega arith) (omega arith))
+    (subst (λ o. Among (record { name = name; number = n }) (entries_at n o)) (sym at) (among_map_of (λ (x : List ℕ). record { name = x; number = n }) name m.symbols listed))
+
+-- Sweeps.
+
+module _ (reads : List ℕ → Option Object) (archive : List MemberView) (own : List Object) where
+  -- a sweep drops nothing
+  grows : (index : List IndexEntry) (numbers : List ℕ) → length numbers ≤ length (swept reads archive own index numbers)
+  unfolding swept
+  grows [] numbers = omega arith
+  grows (e ∷ index) numbers =
+      elim (cases_Bool (is_due reads archive own numbers e)) [
+        | inl due ↦ let later = grows index (e.number ∷ numbers) in rw due (omega arith)
+        | inr not_due ↦ rw not_due (grows index numbers)
+      ]
+
+  -- a sweep that takes nothing finds no entry whose member is to be taken
+  none_due : (index : List IndexEntry) (numbers : List ℕ) → swept reads archive own index numbers ≡ numbers → (e : IndexEntry) → Among e index → is_due reads archive own numbers e ≡ false
+  unfolding swept Among
+  none_due [] numbers ended e held = absurd held
+  none_due (x ∷ index) numbers ended e held =
+      elim (cases_Bool (is_due reads archive own numbers x)) [
+        | inl due ↦
+            let more = grows index (x.number ∷ numbers) in
+            let same : swept reads archive own index (x.number ∷ numbers) ≡ numbers = rw due at ended in
+            let long : length (swept reads archive own index (x.number ∷ numbers)) ≡ length numbers = ap length same in
+            absurd (omega arith)
+        | inr not_due ↦ elim held [
+          | inl here ↦ subst (λ (y : IndexEntry). is_due reads archive own numbers y ≡ false) (sym here) not_due
+          | inr behind ↦ none_due index numbers (rw not_due at ended) e behind
+        ]
+      ]
+
+  module _ (distinct : IsDistinct bytes_eq (all_listed archive)) where
+    -- an entry whose member is to be taken pulls it in
+    due_pulls : (numbers : List ℕ) (e : IndexEntry) → (from : IsEntry archive e) → is_due reads archive own numbers e ≡ true → PullsIntoAs reads archive own (members_at archive numbers) e.name from.0
+    due_pulls numbers e from due =
+        let parts = and_parts (is_left reads archive own numbers e.name) (not (list_any (λ number. number == e.number) numbers)) due in
+        record {
+          named = among_contains e.name (unresolved (own ++ objects_as reads (members_at archive numbers)))
+              (any_among e.name (unresolved (own ++ objects_as reads (members_at archive numbers))) parts.0);
+          listed = listed_once archive e.name from.0 distinct (member_at archive e.number from.0 from.1) from.2;
+          new = λ held.
+              let other = taken_number archive numbers from.0 (contains_among from.0 (members_at archive numbers) held) in
+              let one : other.0 ≡ e.number = one_number archive e.name other.0 e.number from.0 from.0 distinct other.2 from.1 from.2 from.2 in
+              let there : list_any (λ number. number == e.number) numbers ≡ true = among_number e.number numbers (subst (λ k. Among k numbers) one other.1) in
+              true≢false (sym parts.1 ∙ ap not there);
+        }
+
+    one_more : (numbers : List ℕ) (e : IndexEntry) (from : IsEntry archive e) → is_due reads archive own numbers e ≡ true → AreTakenIntoAs reads archive own (members_at archive numbers) →
+        AreTakenIntoAs reads archive own (members_at archive (e.number ∷ numbers))
+    unfolding AreTakenIntoAs
+    one_more numbers e from due before =
+        subst (AreTakenIntoAs reads archive own) (sym (members_next archive e.number from.0 numbers from.1)) ((e.name, due_pulls numbers e from due), before)
+
+    swept_in_turn : (index : List IndexEntry) → ((e : IndexEntry) → Among e index → IsEntry archive e) → (numbers : List ℕ) → AreTakenIntoAs reads archive own (members_at archive numbers) →
+        AreTakenIntoAs reads archive own (members_at archive (swept reads archive own index numbers))
+    unfolding swept
+    swept_in_turn [] are numbers before = before
+    swept_in_turn (e ∷ index) are numbers before =
+        elim (cases_Bool (is_due reads archive own numbers e)) [
+          | inl due ↦ rw due (swept_in_turn index (λ x held. are x (among_later x e index held)) (e.number ∷ numbers) (one_more numbers e (are e (among_first e index)) due before))
+          | inr not_due ↦ rw not_due (swept_in_turn index (λ x held. are x (among_later x e index held)) numbers before)
+        ]
+
+    sweeps_in_turn : (count : ℕ) (numbers : List ℕ) → AreTakenIntoAs reads archive own (members_at archive numbers) →
+        AreTakenIntoAs reads archive own (members_at archive (sweeps reads archive own count numbers))
+    unfolding sweeps
+    sweeps_in_turn zero numbers before = before
+    sweeps_in_turn (suc count) numbers before =
+        sweeps_in_turn count (swept reads archive own (index_of archive) numbers) (swept_in_turn (index_of archive) (all_entries archive) numbers before)
+
+    pub sweeps_take : (count : ℕ) (numbers : List ℕ) → SweepsTake reads archive own count numbers → TakesIntoAs reads archive own (members_at archive numbers)
+    unfolding AreTakenIntoAs
+    sweeps_take count numbers takes = record {
+      in_turn = subst (λ ns. AreTakenIntoAs reads archive own (members_at archive ns)) takes.taken (sweeps_in_turn count [] tt);
+      ended = λ name m pulls.
+          let from = first_is name archive m pulls.listed in
+          let at = number_of archive m from.0 in
+          let due = none_due (index_of archive) numbers takes.ended (record { name = name; number = at.0 }) (listed_entry archive at.0 m name at.1 from.1) in
+          let left : is_left reads archive own numbers name ≡ true =
+          among_any name (unresolved (own ++ objects_as reads (members_at archive numbers))) (contains_among name (unresolved (own ++ objects_as reads (members_at archive numbers))) pulls.named) in
+          elim (cases_Bool (list_any (λ number. number == at.0) numbers)) [
+            | inl there ↦ pulls.new (among_contains m (members_at archive numbers) (number_taken archive numbers at.0 m (number_among at.0 numbers there) at.1))
+            | inr free ↦ true≢false (sym (both left free) ∙ due)
+          ];
+    }
+      where
+        both : {left there : Bool} → left ≡ true → there ≡ false → (left && not there) ≡ true
+        both one other = rw (one, other) refl
