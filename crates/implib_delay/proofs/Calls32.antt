@@ -3,7 +3,7 @@ use Rattle.std.proofs.Common.{◌≡◌, ◌≢◌, ℕ, ◌+◌, ◌-◌, ◌%�
 use Rattle.std.specs.Prelude.{nat_le}
 use Rattle.implib_delay.specs.Processor.{Bits32, State, set_register, checked, push_word, pop_word, is_aligned, with_value}
 use Rattle.implib_delay.specs.Decoding.{run, run_bytes}
-use Rattle.implib_delay.specs.Code.{linked_stub, linked_tail}
+use Rattle.implib_delay.specs.Code.{tail_code, linked_stub, linked_tail}
 use Rattle.implib_delay.specs.Calls.{Placement, FieldsLead, ByStub, ByTail, Then, Begins, FirstCall, LaterCalls, SameAt}
 use Rattle.std.proofs.lemmas.Bool.{eq-eqb, le-leb}
 use Rattle.std.proofs.Math.Bool.{and-true}
@@ -47,12 +47,12 @@ leg_stub p s lead = rw (lead.entry, lead.descriptor, lead.tail) refl
 
 leg_tail : (p : Placement) (s : State) → FieldsLead Bits32 p →
     run Bits32 p.tail (linked_tail Bits32 p.helper_field) 0 s ≡ Some (record { to = p.helper; state = at_helper p s })
-unfolding run_bytes at_helper pushed
+unfolding run_bytes tail_code at_helper pushed
 leg_tail p s lead = rw (lead.helper) refl
 
 leg_back : (p : Placement) (s : State) (address : ℕ) → s.registers 0 ≡ address →
     run Bits32 p.tail (linked_tail Bits32 p.helper_field) 12 s ≡ Some (record { to = address; state = at_function s })
-unfolding run_bytes at_function
+unfolding run_bytes tail_code at_function
 leg_back p s address answer = rw answer refl
 
 -- five words below an address

@@ -2,21 +2,22 @@
 use Rattle.std.proofs.Common.{◌≡◌, ◌≢◌, ap, true, false, ℕ, ◌+◌, refl, arith, ◌∙◌}
 use Rattle.implib.specs.Worked.Digits.{bytes_of_digits}
 use Rattle.implib_delay.specs.Processor.{with_value}
+use Rattle.implib_delay.specs.Code.{tail_code}
 use Rattle.implib_delay.specs.Decoding.{run_bytes}
 use Rattle.implib_delay.specs.WorkedCode.{WorkedCode, WorkedLinkedCode}
 use Rattle.implib_delay.specs.WorkedCalls.{WorkedCalls, WorkedPremises, WorkedAnswers, NearFieldsLead, NearBegins, NearAnswers}
 use Rattle.implib_delay.proofs.Words.{value_elsewhere}
 
 pub worked_code : WorkedCode
-unfolding bytes_of_digits
+unfolding bytes_of_digits tail_code
 worked_code = record { stub64 = refl; stub32 = refl; tail64 = refl; tail32 = refl }
 
 pub worked_linked_code : WorkedLinkedCode
-unfolding bytes_of_digits
+unfolding bytes_of_digits tail_code
 worked_linked_code = record { program64_stub = refl; library64_stub = refl; program32_stub = refl; library32_stub = refl; program32_tail = refl }
 
 pub worked_calls : WorkedCalls
-unfolding run_bytes bytes_of_digits
+unfolding run_bytes bytes_of_digits tail_code
 worked_calls = record {
   helper64 = refl;
   helper32 = refl;

@@ -41,7 +41,7 @@ tail_field Bits32 = 17
 -- xmm5 in its own frame of 0x88 bytes, above the home space of the helper; it calls the helper with the
 -- descriptor in rcx and the entry's address in rdx, loads what it kept, and jumps to the answer. On I386 it
 -- pushes ecx and edx, and for the helper, which drops them, the entry's address and the descriptor, again.
-abbrev pub tail_code : Mode → List ℕ
+unfoldable pub tail_code : Mode → List ℕ
 tail_code Bits64 =
     0x48 ∷ 0x81 ∷ 0xEC ∷ 0x88 ∷ 0 ∷ 0 ∷ 0  -- sub rsp, 0x88
     ∷ 0x48 ∷ 0x89 ∷ 0x8C ∷ 0x24 ∷ 0x90 ∷ 0 ∷ 0 ∷ 0  -- mov [rsp+0x90], rcx

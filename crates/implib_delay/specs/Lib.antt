@@ -4,3 +4,8 @@ pub mod Code
 pub mod Calls
 pub mod WorkedCode
 pub mod WorkedCalls
+pub mod Table
+pub mod Names
+pub mod Objects
+pub mod Refusal
+pub mod Members
