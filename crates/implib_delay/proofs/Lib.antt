@@ -5,3 +5,4 @@ pub mod WorkedCalls
 pub mod Rows
 pub mod Held
 pub mod Refused
+pub mod WorkedObjects

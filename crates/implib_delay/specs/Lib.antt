@@ -9,3 +9,4 @@ pub mod Names
 pub mod Objects
 pub mod Refusal
 pub mod Members
+pub mod WorkedObjects

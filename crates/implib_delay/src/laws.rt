@@ -5,6 +5,7 @@ ghost use Rattle.implib_delay.specs.Processor.{Mode, State, word_size};
 ghost use Rattle.implib_delay.specs.WorkedCalls.{NearAnswers, NearBegins, NearFieldsLead};
 ghost use Rattle.implib_delay.specs.WorkedCalls.{WorkedAnswers, WorkedCalls, WorkedPremises};
 ghost use Rattle.implib_delay.specs.WorkedCode.{WorkedCode, WorkedLinkedCode};
+ghost use Rattle.implib_delay.specs.WorkedObjects.{WorkedNames, WorkedObjects, WorkedRefusals};
 ghost use Rattle.std.specs.Prelude.{◌%◌, ◌≡◌, ℕ};
 
 /// The first call of a delayed function, whose code is linked and whose entry is not bound yet, calls
@@ -37,4 +38,12 @@ pub fn worked_premises()
     ensures near_fields { NearFieldsLead }
     ensures near_begins { NearBegins }
     ensures near_answers { NearAnswers }
+{}
+
+/// The objects of foo.dll, which was worked by hand, are these on both machines; the members have
+/// these names, and these definitions are refused.
+pub fn worked_members()
+    ensures objects { WorkedObjects }
+    ensures names { WorkedNames }
+    ensures refusals { WorkedRefusals }
 {}
