@@ -1,5 +1,5 @@
 -- The objects of delayed imports fit what a file has room for.
-use Rattle.std.proofs.Common.{◌≡◌, ℕ, ◌+◌, ◌<◌, ◌≤◌, ◌^◌, Bool, true, false, if◌then◌else◌, List, [], ◌∷◌, ◌++◌, length, refl, ◌∙◌, arith, codes, length-append}
+use Rattle.std.proofs.Common.{◌≡◌, ℕ, ◌+◌, ◌<◌, ◌^◌, Bool, true, false, if◌then◌else◌, List, [], ◌∷◌, ◌++◌, length, refl, ◌∙◌, arith, codes}
 use Rattle.std.specs.List.{AllByRecursion}
 use Rattle.std.proofs.lemmas.Bool.{or_from}
 use Rattle.std.proofs.lemmas.List.Folds.{list_any-append}
@@ -9,15 +9,15 @@ use Rattle.implib.specs.declared.coff.object.Place.TheVariants.{Undefined, Secti
 use Rattle.implib.specs.declared.machine.MachineType.{MachineType}
 use Rattle.implib.specs.declared.machine.MachineType.TheVariants.{I386, ARMNT, AMD64, ARM64}
 use Rattle.implib.specs.Definition.{ExportView}
-use Rattle.implib.specs.Formats.Constants.{align_16bytes, align_4bytes, align_8bytes, class_external, class_static, cnt_code, cnt_initialized_data, mem_execute_read, mem_read_write}
+use Rattle.implib.specs.Formats.Constants.{align_16bytes, align_4bytes, class_external, class_static, cnt_code, mem_execute_read}
 use Rattle.implib.specs.Machine.{is_32bit}
 use Rattle.implib_delay.specs.Code.{stub_code, tail_code}
-use Rattle.implib_delay.specs.Processor.{Bits32, Bits64}
-use Rattle.implib.specs.Formats.Layout.{FitsRelocation}
-use Rattle.implib.specs.Formats.Writer.{AddedSymbol, IsPlaceAmong, IsSymbolIndex, WriterState, all_entries}
+use Rattle.implib.specs.Formats.Layout.{Fits, FitsRelocation}
+use Rattle.implib.proofs.Formats.WriterLayout.{layout_of-fits}
+use Rattle.implib.specs.Formats.Writer.{AddedSymbol, IsPlaceAmong, IsSymbolIndex, WriterState, layout_of}
 use Rattle.implib.specs.Import.{holds, imp_symbol, is_empty_text}
 use Rattle.implib.specs.LibraryName.{NamesOfDll}
-use Rattle.implib.specs.Members.Gnu.{added, data_name, hint_name, mangled_name, section, text_name, thunk}
+use Rattle.implib.specs.Members.Gnu.{added, data_name, mangled_name, section, text_name, thunk}
 use Rattle.implib.specs.Members.ImportTables.{relocation, thunk_flags, thunk_width, zeros}
 use Rattle.implib.specs.Views.Table.{CanBeHeld}
 use Rattle.implib.specs.Views.Writer.{IsSound, IsSoundSection, IsSoundSymbol}
@@ -25,7 +25,7 @@ use Rattle.implib.proofs.Formats.Table.{CanBeHeld-from_sound, LieWithin}
 use Rattle.implib.proofs.Members.GnuObjects.{filled_text, holds-mangled_name}
 use Rattle.implib.proofs.Members.MsvcObjects.{plain_section_fits, relocation_fits}
 use Rattle.implib_delay.specs.Names.{handle_symbol, helper_symbol, name_symbol, tail_symbol}
-use Rattle.implib_delay.specs.Objects.{address_kind, export_object, export_sections, export_symbols, head_object, jump_kind, mode_of, relocated, read_only_flags, stub_relocations, tail_object, tail_relocations, thunk_relocations, unbound_entry, unwind_codes, unwound_function, word_kind}
+use Rattle.implib_delay.specs.Objects.{address_kind, export_object, export_symbols, head_object, jump_kind, mode_of, relocated, read_only_flags, stub_relocations, tail_object, tail_relocations, unbound_entry, unwind_codes, unwound_function, word_kind}
 
 -- Names.
 
@@ -279,6 +279,13 @@ pub CanBeHeld-head64 : (machine : MachineType) (library : List ℕ) → holds 0 
 CanBeHeld-head64 machine library free =
     CanBeHeld-from_sound (head64 machine library) 5 (IsSound-head64 machine library free) (omega arith)
     (code_within machine, (tt, (tt, ((omega arith, (omega arith, (omega arith, tt))), tt))))
+
+pub Fits-head_object : (machine : MachineType) (library : List ℕ) → holds 0 library ≡ false → Fits (layout_of (head_object machine library))
+unfolding head_object
+Fits-head_object I386 library free = layout_of-fits (head32 I386 library) 3 (IsSound-head32 I386 library free)
+Fits-head_object ARMNT library free = layout_of-fits (head32 ARMNT library) 3 (IsSound-head32 ARMNT library free)
+Fits-head_object AMD64 library free = layout_of-fits (head64 AMD64 library) 5 (IsSound-head64 AMD64 library free)
+Fits-head_object ARM64 library free = layout_of-fits (head64 ARM64 library) 5 (IsSound-head64 ARM64 library free)
 
 -- An export.
 

@@ -6,3 +6,4 @@ pub mod Rows
 pub mod Held
 pub mod Refused
 pub mod WorkedObjects
+pub mod Readings

@@ -1,5 +1,5 @@
 -- What is known of a definition that is refused, or is not.
-use Rattle.std.proofs.Common.{◌≡◌, Bool, true, false, if◌then◌else◌, Option, Some, None, refl,}
+use Rattle.std.proofs.Common.{◌≡◌, true, false, Option, Some, None, refl}
 use Rattle.std.specs.List.{list_any}
 use Rattle.std.specs.Option.{option_map}
 use Rattle.implib.specs.declared.flavor.Flavor.TheVariants.{Gnu}
@@ -18,7 +18,7 @@ first_none : (first second : Option DelayCause) → first_cause first second ≡
 first_none (Some cause) second none = cc
 first_none None second none = (refl, none)
 
-no_names : (names : Option Cause) → option_map OfNames names ≡ None → names ≡ None
+pub no_names : (names : Option Cause) → option_map OfNames names ≡ None → names ≡ None
 no_names None none = refl
 no_names (Some cause) none = cc
 

@@ -1,18 +1,15 @@
 -- A writer that takes a table row by row.
-use Rattle.std.proofs.Common.{◌≡◌, ℕ, zero, suc, ◌+◌, ◌<◌, ◌≤◌, ◌^◌, List, [], ◌∷◌, ◌++◌, IsSomeAnd, length, map, take, drop, get_or, refl, sym, ap, subst, ◌∙◌, append_assoc, arith, length-append}
+use Rattle.std.proofs.Common.{◌≡◌, ℕ, zero, suc, ◌+◌, ◌<◌, ◌≤◌, List, [], ◌∷◌, ◌++◌, IsSomeAnd, length, map, take, drop, get_or, refl, sym, ap, subst, ◌∙◌, append_assoc, arith, length-append}
 use Rattle.std.specs.List.{AllByRecursion}
-use Rattle.std.proofs.lemmas.List.{append-nil, drop_all, length-take-le, map-append, take_all, take_more}
+use Rattle.std.proofs.lemmas.List.{append-nil, drop_all, map-append, take_all, take_more}
 use Rattle.std.proofs.lemmas.List.Concat.{flat_map-append}
 use Rattle.std.proofs.lemmas.List.Folds.{flat_map-map, length-flat_map-take}
-use Rattle.implib.specs.declared.coff.object.Relocation.{Relocation}
 use Rattle.implib_delay.specs.declared.table.SectionRow.{SectionRow}
 use Rattle.implib_delay.specs.declared.table.SymbolRow.{SymbolRow}
 use Rattle.implib.specs.Formats.Object.{ObjectSection, section_numbered}
-use Rattle.implib.specs.Views.Table.{CanBeAdded, CanBeHeld, HasRoomForAll, LiesIn, with_relocations}
+use Rattle.implib.specs.Views.Table.{CanBeAdded, HasRoomForAll, with_relocations}
 use Rattle.implib_delay.specs.Table.{bare_row, section_row, symbol_row}
-use Rattle.implib.specs.Formats.Writer.{AddedSymbol, HasRoomFor, WriterState, IsSymbolIndex, all_entries, entries_added, sections_with_relocation}
-use Rattle.implib.specs.Views.Writer.{IsSound, IsSoundSection, IsSoundSymbol}
-
+use Rattle.implib.specs.Formats.Writer.{AddedSymbol, all_entries, entries_added}
 use Rattle.implib.specs.declared.coff.object.Place.TheVariants.{Undefined}
 
 -- what is read past the end of rows

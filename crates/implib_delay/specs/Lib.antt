@@ -10,3 +10,4 @@ pub mod Objects
 pub mod Refusal
 pub mod Members
 pub mod WorkedObjects
+pub mod Reader

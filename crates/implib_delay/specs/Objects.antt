@@ -2,7 +2,7 @@
 --
 -- Each function has a descriptor of its own, since the helper uses of a descriptor only the entry and the thunk at
 -- one index (mingw-w64, `delayimp`): with a table of one, the index is 0 wherever a linker puts the parts.
-use Rattle.std.specs.Prelude.{ℕ, ◌+◌, ◌-◌, List, [], ◌∷◌, ◌++◌, codes, replicate, if◌then◌else◌}
+use Rattle.std.specs.Prelude.{ℕ, ◌+◌, ◌-◌, List, [], ◌∷◌, ◌++◌, codes, if◌then◌else◌}
 use Rattle.implib.specs.declared.coff.object.Place.TheVariants.{Undefined, Section}
 use Rattle.implib.specs.declared.coff.object.Relocation.{Relocation}
 use Rattle.implib.specs.declared.machine.MachineType.{MachineType}

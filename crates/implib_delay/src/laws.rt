@@ -1,12 +1,19 @@
 //! Laws of delayed calls, each as the contract of a function that does nothing.
 
 ghost use Rattle.implib_delay.specs.Calls.{Begins, FieldsLead, FirstCall, LaterCalls, Placement};
+ghost use Rattle.implib.specs.Definition.{DefinitionView};
+ghost use Rattle.implib.specs.Members.MemberSpec.{MemberView};
+ghost use Rattle.implib.specs.Renaming.{renamed};
+ghost use Rattle.implib_delay.specs.Members.{AreDelayedMembersOf};
+ghost use Rattle.implib_delay.specs.Reader.{DelayedReadBack};
 ghost use Rattle.implib_delay.specs.Processor.{Mode, State, word_size};
 ghost use Rattle.implib_delay.specs.WorkedCalls.{NearAnswers, NearBegins, NearFieldsLead};
 ghost use Rattle.implib_delay.specs.WorkedCalls.{WorkedAnswers, WorkedCalls, WorkedPremises};
 ghost use Rattle.implib_delay.specs.WorkedCode.{WorkedCode, WorkedLinkedCode};
 ghost use Rattle.implib_delay.specs.WorkedObjects.{WorkedNames, WorkedObjects, WorkedRefusals};
-ghost use Rattle.std.specs.Prelude.{◌%◌, ◌≡◌, ℕ};
+ghost use Rattle.std.specs.Prelude.{◌%◌, ◌≡◌, ℕ, List};
+
+use implib::MachineType;
 
 /// The first call of a delayed function, whose code is linked and whose entry is not bound yet, calls
 /// the helper with its descriptor and its entry. From each state in which the helper may return, by
@@ -46,4 +53,10 @@ pub fn worked_members()
     ensures objects { WorkedObjects }
     ensures names { WorkedNames }
     ensures refusals { WorkedRefusals }
+{}
+
+/// Members of a definition are read by their bytes as exactly the imports that the definition means.
+pub fn members_read_back()
+    ensures { (d : DefinitionView) (machine : MachineType) (members : List MemberView) →
+        AreDelayedMembersOf (renamed d) machine members → DelayedReadBack d machine members }
 {}

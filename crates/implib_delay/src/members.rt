@@ -13,6 +13,7 @@ ghost use Rattle.implib_delay.specs.Members.{AreDelayedMembersOf, delay_refusal,
 ghost use Rattle.implib_delay.specs.Members.{export_spec, head_spec, names_of, numbered_specs};
 ghost use Rattle.implib_delay.specs.Members.{tail_spec};
 ghost use Rattle.implib_delay.specs.Names.{handle_symbol, name_symbol, tail_symbol};
+ghost use Rattle.implib_delay.specs.Reader.{DelayedReadBack};
 ghost use Rattle.implib_delay.specs.Refusal.{IfRefused, input_refusal};
 ghost use Rattle.std.specs.List.{list_all};
 ghost use Rattle.std.specs.Prelude.{None, Some, [], false, map, string_bytes, true, ◌∷◌, ◌≡◌, IfOk};
@@ -41,11 +42,14 @@ use std::alloc::Global;
 pub fn delayed_members(def: ModuleDef, machine: MachineType) -> Result<Vec<Member>, DelayError>
     ensures ok { IfOk result (λ members. AreDelayedMembersOf (renamed (definition_view def)) machine
         (map member_view members.items)) }
+    ensures reads { IfOk result (λ members. DelayedReadBack (definition_view def) machine
+        (map member_view members.items)) }
     ensures refused { IfRefused result
         (λ cause. delay_refusal (renamed (definition_view def)) machine ≡ Some cause) }
 {
     let library = ImportLibrary::from_def(def, machine, Flavor::Gnu);
-    renamed_members(library.definition(), machine)
+    let members = renamed_members(library.definition(), machine)?;
+    Ok(members)
 }
 
 // The members of a definition whose exports are under their names to link by.

@@ -1,8 +1,3 @@
-use Rattle.std.proofs.Common.{◌≡◌, ◌∷◌, [], refl, sym, subst}
-use Rattle.implib.specs.Formats.Writer.{WriterState, layout_of}
-use Rattle.implib.specs.Views.Making.{EncodesObject}
-use Rattle.implib.specs.Views.Table.{CanBeHeld}
-use Rattle.implib_delay.specs.Table.{table_view}
 use Rattle.implib_delay.proofs.Held.{CanBeHeld-head32, head_object-32}
 use Rattle.implib_delay.proofs.objects.head_of_32_bits.Goals as goal
 
