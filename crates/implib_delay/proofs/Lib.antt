@@ -7,3 +7,4 @@ pub mod Held
 pub mod Refused
 pub mod WorkedObjects
 pub mod Readings
+pub mod WorkedReadings

@@ -56,7 +56,7 @@ worked_answers = record {
     pointer = refl;
     registers = (refl, (refl, (refl, (refl, (refl, (refl, (refl, (refl, tt))))))));
     vectors = (refl, (refl, (refl, (refl, (refl, (refl, (refl, (refl, (refl, (refl, tt))))))))));
-    stack = λ q above below. stays s.words (s.registers 4 + 8) 0x140003008 0x7FFE0000 q (λ e. omega arith) (λ e. omega arith);
+    stack = λ q above below. stays s.words (s.registers 4 + 8) 0x14000A100 0x7FFE0000 q (λ e. omega arith) (λ e. omega arith);
     sound = refl;
   };
   library64_answers = λ s pointer. record {
@@ -74,7 +74,7 @@ worked_answers = record {
     pointer = refl;
     registers = (refl, (refl, (refl, (refl, tt))));
     vectors = tt;
-    stack = λ q above below. stays s.words (s.registers 4 + 8) 0x403008 0x6B001234 q (λ e. omega arith) (λ e. omega arith);
+    stack = λ q above below. stays s.words (s.registers 4 + 8) 0x40A0E0 0x6B001234 q (λ e. omega arith) (λ e. omega arith);
     sound = refl;
   };
   library32_answers = λ s pointer. record {

@@ -11,3 +11,4 @@ pub mod Refusal
 pub mod Members
 pub mod WorkedObjects
 pub mod Reader
+pub mod WorkedReadings

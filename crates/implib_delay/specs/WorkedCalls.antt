@@ -72,18 +72,18 @@ arguments_seen mode left = left.to ∷ first_argument mode left.state ∷ second
 
 -- The tail of GNU dlltool 2.40 on AMD64, in the place of `program64`'s: it keeps no xmm register.
 abbrev pub older_tail : List ℕ
-older_tail = hex "48 83 ec 48 48 89 4c 24 40 48 89 54 24 38 4c 89 44 24 30 4c 89 4c 24 28 48 89 c2 48 8d 0d 1e 0f 00 00 e8 d9 06 00 00 4c 8b 4c 24 28 4c 8b 44 24 30 48 8b 54 24 38 48 8b 4c 24 40 48 83 c4 48 ff e0"
+older_tail = hex "48 83 ec 48 48 89 4c 24 40 48 89 54 24 38 4c 89 44 24 30 4c 89 4c 24 28 48 89 c2 48 8d 0d 4e 88 00 00 e8 e9 11 00 00 4c 8b 4c 24 28 4c 8b 44 24 30 48 8b 54 24 38 48 8b 4c 24 40 48 83 c4 48 ff e0"
 
 -- `program64`'s tail with `mov rcx, rbx` for `mov rcx, r11`
 abbrev pub tail_of_rbx : List ℕ
-tail_of_rbx = hex "48 81 ec 88 00 00 00 48 89 8c 24 90 00 00 00 48 89 94 24 98 00 00 00 4c 89 84 24 a0 00 00 00 4c 89 8c 24 a8 00 00 00 0f 29 44 24 20 0f 29 4c 24 30 0f 29 54 24 40 0f 29 5c 24 50 0f 29 64 24 60 0f 29 6c 24 70 48 89 c2 48 89 d9 e8 b0 06 00 00 ff e0"
+tail_of_rbx = hex "48 81 ec 88 00 00 00 48 89 8c 24 90 00 00 00 48 89 94 24 98 00 00 00 4c 89 84 24 a0 00 00 00 4c 89 8c 24 a8 00 00 00 0f 29 44 24 20 0f 29 4c 24 30 0f 29 54 24 40 0f 29 5c 24 50 0f 29 64 24 60 0f 29 6c 24 70 48 89 c2 48 89 d9 e8 c0 11 00 00 ff e0"
 
 -- `program32`'s tail without `push [esp+12]`, and without `push edx` and `pop edx`
 abbrev pub tail_without_descriptor : List ℕ
-tail_without_descriptor = hex "51 52 50 e8 f8 06 00 00 5a 59 83 c4 04 ff e0"
+tail_without_descriptor = hex "51 52 50 e8 18 10 00 00 5a 59 83 c4 04 ff e0"
 
 abbrev pub tail_without_edx : List ℕ
-tail_without_edx = hex "51 50 ff 74 24 08 e8 f5 06 00 00 59 83 c4 04 ff e0"
+tail_without_edx = hex "51 50 ff 74 24 08 e8 15 10 00 00 59 83 c4 04 ff e0"
 
 -- what comes of the code and of code that is wrong
 pub record WorkedCalls : Type 0 where
@@ -91,11 +91,11 @@ pub record WorkedCalls : Type 0 where
   pub helper64 : option_map (arguments_seen Bits64)
       (to_helper Bits64 program64 (linked_stub Bits64 program64.fields)
       (linked_tail Bits64 program64.helper_field) (at_call program64 0x7FF008 0x1000))
-      ≡ Some (0x140001800 ∷ 0x140002040 ∷ 0x140003008 ∷ [])
+      ≡ Some (0x1400029A0 ∷ 0x14000A000 ∷ 0x14000A100 ∷ [])
   pub helper32 : option_map (arguments_seen Bits32)
       (to_helper Bits32 program32 (linked_stub Bits32 program32.fields)
       (linked_tail Bits32 program32.helper_field) (at_call program32 0x19FF70 0x1000))
-      ≡ Some (0x401800 ∷ 0x402040 ∷ 0x403008 ∷ [])
+      ≡ Some (0x402820 ∷ 0x40A000 ∷ 0x40A0E0 ∷ [])
   -- the function is reached with all arguments
   pub function64 : option_map seen
       (whole_call Bits64 program64 (linked_stub Bits64 program64.fields)
@@ -123,12 +123,12 @@ pub record WorkedCalls : Type 0 where
   pub of_rbx : option_map (arguments_seen Bits64)
       (to_helper Bits64 program64 (linked_stub Bits64 program64.fields) tail_of_rbx
       (at_call program64 0x7FF008 0x1000))
-      ≡ Some (0x140001800 ∷ 0x1003 ∷ 0x140003008 ∷ [])
+      ≡ Some (0x1400029A0 ∷ 0x1003 ∷ 0x14000A100 ∷ [])
   -- with a push too few the helper gets the entry for its descriptor, or the function another edx
   pub without_descriptor : option_map (arguments_seen Bits32)
       (to_helper Bits32 program32 (linked_stub Bits32 program32.fields) tail_without_descriptor
       (at_call program32 0x19FF70 0x1000))
-      ≡ Some (0x401800 ∷ 0x403008 ∷ 0x1002 ∷ [])
+      ≡ Some (0x402820 ∷ 0x40A0E0 ∷ 0x1002 ∷ [])
   pub without_edx : option_map seen32
       (whole_call Bits32 program32 (linked_stub Bits32 program32.fields) tail_without_edx 11 0x6B001234
       (at_call program32 0x19FF70 0x1000))
@@ -164,22 +164,22 @@ pub record WorkedAnswers : Type 0 where
 -- fields of which one does not lead where it should
 pub record NearFieldsLead : Type 0 where
   pub jump : FieldsLead Bits64
-      (record program64 { fields = record program64.fields { jump = field 0x03 0x20 0 0 } }) → ⊥
+      (record program64 { fields = record program64.fields { jump = field 0xDB 0x89 0 0 } }) → ⊥
   pub entry : FieldsLead Bits64
-      (record program64 { fields = record program64.fields { entry = field 0x02 0x20 0 0 } }) → ⊥
+      (record program64 { fields = record program64.fields { entry = field 0xDA 0x89 0 0 } }) → ⊥
   pub descriptor : FieldsLead Bits64
-      (record program64 { fields = record program64.fields { descriptor = field 0x2C 0x10 0 1 } }) → ⊥
+      (record program64 { fields = record program64.fields { descriptor = field 0xCC 0x88 0 1 } }) → ⊥
   pub tail : FieldsLead Bits64
-      (record program64 { fields = record program64.fields { tail = field 0xE7 0 0 0x80 } }) → ⊥
-  pub helper : FieldsLead Bits64 (record program64 { helper_field = field 0xB0 0x07 0 0 }) → ⊥
+      (record program64 { fields = record program64.fields { tail = field 0x57 0 0 0x80 } }) → ⊥
+  pub helper : FieldsLead Bits64 (record program64 { helper_field = field 0xC0 0x12 0 0 }) → ⊥
 
 -- states in which one premise of a call does not hold
 pub record NearBegins : Type 0 where
   pub pointer : Begins Bits64 program64 0x7FF100 (at_call program64 0x7FF000 0x1000) → ⊥
   pub room : Begins Bits64 program64 0x7FF100 (at_call program64 0x88 0x1000) → ⊥
   pub within : Begins Bits64 program64 0x7FF028 (at_call program64 0x7FF008 0x1000) → ⊥
-  pub aligned : Begins Bits64 (record program64 { entry = 0x14000300C }) 0x7FF100
-      (at_call (record program64 { entry = 0x14000300C }) 0x7FF008 0x1000) → ⊥
+  pub aligned : Begins Bits64 (record program64 { entry = 0x14000A104 }) 0x7FF100
+      (at_call (record program64 { entry = 0x14000A104 }) 0x7FF008 0x1000) → ⊥
   pub unbound : Begins Bits64 program64 0x7FF100
       (record (at_call program64 0x7FF008 0x1000) { words = λ q. q }) → ⊥
   pub sound : Begins Bits64 program64 0x7FF100

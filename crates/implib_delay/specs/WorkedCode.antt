@@ -10,21 +10,21 @@ use Rattle.implib_delay.specs.Calls.{Placement}
 abbrev pub field : ℕ → ℕ → ℕ → ℕ → Field
 field a b c d = record { first = a; second = b; third = c; fourth = d }
 
--- On AMD64, in a program at 0x140000000 and in a DLL whose tail lies before its stubs.
+-- On AMD64, in a program that GNU ld 2.40 linked, and in a DLL whose tail lies before its stubs.
 abbrev pub program64 : Placement
 program64 = record {
-  stub = 0x140001000;
-  tail = 0x140001100;
-  entry = 0x140003008;
-  descriptor = 0x140002040;
-  helper = 0x140001800;
+  stub = 0x140001720;
+  tail = 0x140001790;
+  entry = 0x14000A100;
+  descriptor = 0x14000A000;
+  helper = 0x1400029A0;
   fields = record {
-    jump = field 0x02 0x20 0 0;
-    entry = field 0xFB 0x1F 0 0;
-    descriptor = field 0x2C 0x10 0 0;
-    tail = field 0xE7 0 0 0;
+    jump = field 0xDA 0x89 0 0;
+    entry = field 0xD3 0x89 0 0;
+    descriptor = field 0xCC 0x88 0 0;
+    tail = field 0x57 0 0 0;
   };
-  helper_field = field 0xB0 0x06 0 0;
+  helper_field = field 0xC0 0x11 0 0;
 }
 
 abbrev pub library64 : Placement
@@ -46,18 +46,18 @@ library64 = record {
 -- On I386, the same.
 abbrev pub program32 : Placement
 program32 = record {
-  stub = 0x401000;
-  tail = 0x401100;
-  entry = 0x403008;
-  descriptor = 0x402040;
-  helper = 0x401800;
+  stub = 0x401794;
+  tail = 0x401800;
+  entry = 0x40A0E0;
+  descriptor = 0x40A000;
+  helper = 0x402820;
   fields = record {
-    jump = field 0x08 0x30 0x40 0;
-    entry = field 0x08 0x30 0x40 0;
-    descriptor = field 0x40 0x20 0x40 0;
-    tail = field 0xEB 0 0 0;
+    jump = field 0xE0 0xA0 0x40 0;
+    entry = field 0xE0 0xA0 0x40 0;
+    descriptor = field 0x00 0xA0 0x40 0;
+    tail = field 0x57 0 0 0;
   };
-  helper_field = field 0xF4 0x06 0 0;
+  helper_field = field 0x14 0x10 0 0;
 }
 
 abbrev pub library32 : Placement
@@ -86,12 +86,12 @@ pub record WorkedCode : Type 0 where
 -- The bytes that a linker leaves of them.
 pub record WorkedLinkedCode : Type 0 where
   pub program64_stub : linked_stub Bits64 program64.fields
-      ≡ hex "ff 25 02 20 00 00 48 8d 05 fb 1f 00 00 4c 8d 1d 2c 10 00 00 e9 e7 00 00 00"
+      ≡ hex "ff 25 da 89 00 00 48 8d 05 d3 89 00 00 4c 8d 1d cc 88 00 00 e9 57 00 00 00"
   pub library64_stub : linked_stub Bits64 library64.fields
       ≡ hex "ff 25 0a 1f 00 00 48 8d 05 03 1f 00 00 4c 8d 1d 4c 0f 00 00 e9 e7 fe ff ff"
   pub program32_stub : linked_stub Bits32 program32.fields
-      ≡ hex "ff 25 08 30 40 00 b8 08 30 40 00 68 40 20 40 00 e9 eb 00 00 00"
+      ≡ hex "ff 25 e0 a0 40 00 b8 e0 a0 40 00 68 00 a0 40 00 e9 57 00 00 00"
   pub library32_stub : linked_stub Bits32 library32.fields
       ≡ hex "ff 25 10 30 00 10 b8 10 30 00 10 68 60 20 00 10 e9 eb fe ff ff"
   pub program32_tail : linked_tail Bits32 program32.helper_field
-      ≡ hex "51 52 50 ff 74 24 0c e8 f4 06 00 00 5a 59 83 c4 04 ff e0"
+      ≡ hex "51 52 50 ff 74 24 0c e8 14 10 00 00 5a 59 83 c4 04 ff e0"

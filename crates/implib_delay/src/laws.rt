@@ -11,6 +11,7 @@ ghost use Rattle.implib_delay.specs.WorkedCalls.{NearAnswers, NearBegins, NearFi
 ghost use Rattle.implib_delay.specs.WorkedCalls.{WorkedAnswers, WorkedCalls, WorkedPremises};
 ghost use Rattle.implib_delay.specs.WorkedCode.{WorkedCode, WorkedLinkedCode};
 ghost use Rattle.implib_delay.specs.WorkedObjects.{WorkedNames, WorkedObjects, WorkedRefusals};
+ghost use Rattle.implib_delay.specs.WorkedReadings.{WorkedReadings};
 ghost use Rattle.std.specs.Prelude.{◌%◌, ◌≡◌, ℕ, List};
 
 use implib::MachineType;
@@ -59,4 +60,9 @@ pub fn worked_members()
 pub fn members_read_back()
     ensures { (d : DefinitionView) (machine : MachineType) (members : List MemberView) →
         AreDelayedMembersOf (renamed d) machine members → DelayedReadBack d machine members }
+{}
+
+/// The objects of foo.dll are read as these imports, and objects that are no delayed imports as none.
+pub fn worked_readings()
+    ensures { WorkedReadings }
 {}
