@@ -1,12 +1,14 @@
--- Delayed calls: the first call of a delayed function goes to the helper and from there to the function, a later
--- one to the function (Microsoft's x64 calling convention, and stdcall and fastcall on I386).
+-- Delayed calls: the first call of a delayed function goes to the helper and from there to the
+-- function, a later one to the function (Microsoft's x64 calling convention, and stdcall and
+-- fastcall on I386).
 use Rattle.std.specs.Prelude.{◌≡◌, ℕ, ◌+◌, ◌%◌, ◌≤◌, ◌<◌, true, List, [], ◌∷◌, Some}
 use Rattle.implib_delay.specs.Processor.{Mode, Bits64, Bits32, State, word_size, rax, rcx, rdx, rbx, rsp, rbp, rsi, rdi}
 use Rattle.implib_delay.specs.Decoding.{fixed_address, relative, run}
 use Rattle.implib_delay.specs.Code.{Field, StubFields, field_number, linked_stub, linked_tail}
 use Rattle.implib_delay.specs.Code.{jump_field, entry_field, descriptor_field, tail_field, helper_field}
 
--- Where the code of a delayed function and what it speaks of lie in memory, and what is in the code's fields.
+-- Where the code of a delayed function and what it speaks of lie in memory, and what is in the
+-- code's fields.
 pub record Placement : Type 0 where
   pub stub : ℕ
   pub tail : ℕ
@@ -16,8 +18,8 @@ pub record Placement : Type 0 where
   pub fields : StubFields
   pub helper_field : Field
 
--- the address that a field in the text at an address leads to: relative to the byte behind it, or on I386 the
--- number in it
+-- the address that a field in the text at an address leads to: relative to the byte behind it, or
+-- on I386 the number in it
 abbrev pub address_in : Mode → ℕ → ℕ → Field → ℕ
 address_in mode at offset f = fixed_address mode (at + (offset + 4)) (field_number f)
 
@@ -70,12 +72,14 @@ abbrev pub kept_vectors : Mode → List ℕ
 kept_vectors Bits64 = 6 ∷ 7 ∷ 8 ∷ 9 ∷ 10 ∷ 11 ∷ 12 ∷ 13 ∷ 14 ∷ 15 ∷ []
 kept_vectors Bits32 = []
 
--- the bytes above the return address that a function may write: the home space of AMD64's four registers
+-- the bytes above the return address that a function may write: the home space of AMD64's four
+-- registers
 abbrev pub home_size : Mode → ℕ
 home_size Bits64 = 0x20
 home_size Bits32 = 0
 
--- the bytes that the helper drops when it returns: the return address, and on I386 its two arguments
+-- the bytes that the helper drops when it returns: the return address, and on I386 its two
+-- arguments
 abbrev pub dropped_size : Mode → ℕ
 dropped_size Bits64 = 8
 dropped_size Bits32 = 12
@@ -85,13 +89,14 @@ abbrev pub used_size : Mode → ℕ
 used_size Bits64 = 0x90
 used_size Bits32 = 24
 
--- the stack's pointer behind a call, as the convention has it: 8 from a multiple of 16, or a multiple of 4
+-- the stack's pointer behind a call, as the convention has it: 8 from a multiple of 16, or a
+-- multiple of 4
 abbrev pub IsCallPointer : Mode → ℕ → Type 0
 IsCallPointer Bits64 pointer = pointer % 16 ≡ 8
 IsCallPointer Bits32 pointer = pointer % 4 ≡ 0
 
--- A call of the function begins in this state, whose stack ends at an address: it has room, and the entry still
--- leads behind the stub's jump.
+-- A call of the function begins in this state, whose stack ends at an address: it has room, and the
+-- entry still leads behind the stub's jump.
 pub record Begins (mode : Mode) (p : Placement) (end : ℕ) (s : State) : Type 0 where
   pub pointer : IsCallPointer mode (s.registers rsp)
   pub room : used_size mode ≤ s.registers rsp
@@ -122,8 +127,9 @@ pub record CallsHelper (mode : Mode) (p : Placement) (s called : State) : Type 0
   pub pointer : IsCallPointer mode (called.registers rsp)
   pub sound : called.is_sound ≡ true
 
--- What is taken for granted of the helper: it answers an address, has written it into the entry, and has kept what
--- the convention says is kept, registers and the stack above its own arguments and home space.
+-- What is taken for granted of the helper: it answers an address, has written it into the entry,
+-- and has kept what the convention says is kept, registers and the stack above its own arguments
+-- and home space.
 pub record Answers (mode : Mode) (p : Placement) (end address : ℕ) (called returned : State) : Type 0 where
   pub answer : returned.registers rax ≡ address
   pub written : returned.words p.entry ≡ address
@@ -134,8 +140,8 @@ pub record Answers (mode : Mode) (p : Placement) (end address : ℕ) (called ret
       returned.words q ≡ called.words q
   pub sound : returned.is_sound ≡ called.is_sound
 
--- Control is at the function as it was at the call: arguments, registers that are kept, the stack's pointer, the
--- return address and the stack above the home space. The entry leads to the function.
+-- Control is at the function as it was at the call: arguments, registers that are kept, the stack's
+-- pointer, the return address and the stack above the home space. The entry leads to the function.
 pub record ArrivesAs (mode : Mode) (p : Placement) (end address : ℕ) (s arrived : State) : Type 0 where
   pub arguments : SameAt (argument_registers mode) arrived.registers s.registers
   pub argument_vectors : SameAt (argument_vectors mode) arrived.vectors s.vectors
@@ -154,15 +160,16 @@ pub record Arrives (mode : Mode) (p : Placement) (end address : ℕ) (s returned
   pub goes : Goes mode p (return_point mode p) returned address arrived
   pub arrives_as : ArrivesAs mode p end address s arrived
 
--- The first call: the helper is called and, whatever state it returns in that the convention allows, the function
--- is reached as if it had been called itself.
+-- The first call: the helper is called and, whatever state it returns in that the convention
+-- allows, the function is reached as if it had been called itself.
 pub record FirstCall (mode : Mode) (p : Placement) (end : ℕ) (s : State) : Type 0 where
   pub called : State
   pub calls : CallsHelper mode p s called
   pub arrives : (address : ℕ) (returned : State) → Answers mode p end address called returned →
       Arrives mode p end address s returned
 
--- A later call: while the entry has the function's address, control goes there, and nothing else changes.
+-- A later call: while the entry has the function's address, control goes there, and nothing else
+-- changes.
 abbrev pub LaterCalls : Mode → Placement → Type 0
 LaterCalls mode p = (address : ℕ) (s : State) → s.words p.entry ≡ address → s.is_sound ≡ true →
     Goes mode p p.stub s address s

@@ -1,12 +1,14 @@
--- The code of delayed imports, as it is in the members (fields are 0) and as a linker leaves it (fields are
--- filled). GNU's `libdelayimp` has the helper, `__delayLoadHelper2`, that the code calls.
+-- The code of delayed imports, as it is in the members (fields are 0) and as a linker leaves it
+-- (fields are filled). GNU's `libdelayimp` has the helper, `__delayLoadHelper2`, that the code
+-- calls.
 use Rattle.std.specs.Prelude.{ℕ, ◌+◌, ◌*◌, ◌^◌, List, [], ◌∷◌, ◌++◌, take, drop}
 use Rattle.implib_delay.specs.Processor.{Mode, Bits64, Bits32}
 
--- The code of a delayed function. It jumps to the address in the function's entry; the entry first leads to the
--- instruction behind the jump. There the address of the entry and that of the function's descriptor go where
--- `tail_code` takes them, and control goes there. On AMD64 `jmp [rip+E]; lea rax, [rip+E]; lea r11, [rip+D];
--- jmp T`, where r11 is no argument and need not be kept; on I386 `jmp [E]; mov eax, E; push D; jmp T`.
+-- The code of a delayed function. It jumps to the address in the function's entry; the entry first
+-- leads to the instruction behind the jump. There the address of the entry and that of the
+-- function's descriptor go where `tail_code` takes them, and control goes there. On AMD64 `jmp
+-- [rip+E]; lea rax, [rip+E]; lea r11, [rip+D]; jmp T`, where r11 is no argument and need not be
+-- kept; on I386 `jmp [E]; mov eax, E; push D; jmp T`.
 abbrev pub stub_code : Mode → List ℕ
 stub_code Bits64 =
     0xFF ∷ 0x25 ∷ 0 ∷ 0 ∷ 0 ∷ 0
@@ -21,7 +23,8 @@ stub_code Bits32 =
     ∷ 0xE9 ∷ 0 ∷ 0 ∷ 0 ∷ 0
     ∷ []
 
--- the offsets of its fields: the entry's for the jump, the entry's address, the descriptor's, and the tail's
+-- the offsets of its fields: the entry's for the jump, the entry's address, the descriptor's, and
+-- the tail's
 abbrev pub jump_field : Mode → ℕ
 jump_field mode = 2
 
@@ -37,10 +40,11 @@ abbrev pub tail_field : Mode → ℕ
 tail_field Bits64 = 21
 tail_field Bits32 = 17
 
--- The code that all stubs of a DLL share. On AMD64 it keeps rcx, rdx, r8 and r9 in their home space, and xmm0 to
--- xmm5 in its own frame of 0x88 bytes, above the home space of the helper; it calls the helper with the
--- descriptor in rcx and the entry's address in rdx, loads what it kept, and jumps to the answer. On I386 it
--- pushes ecx and edx, and for the helper, which drops them, the entry's address and the descriptor, again.
+-- The code that all stubs of a DLL share. On AMD64 it keeps rcx, rdx, r8 and r9 in their home
+-- space, and xmm0 to xmm5 in its own frame of 0x88 bytes, above the home space of the helper; it
+-- calls the helper with the descriptor in rcx and the entry's address in rdx, loads what it kept,
+-- and jumps to the answer. On I386 it pushes ecx and edx, and for the helper, which drops them, the
+-- entry's address and the descriptor, again.
 unfoldable pub tail_code : Mode → List ℕ
 tail_code Bits64 =
     0x48 ∷ 0x81 ∷ 0xEC ∷ 0x88 ∷ 0 ∷ 0 ∷ 0  -- sub rsp, 0x88

@@ -1,6 +1,6 @@
--- How the instructions of `Processor` are decoded from bytes (AMD64 Architecture Programmer's Manual, volume 3,
--- "Instruction Encoding"): a REX prefix, the opcode, the ModRM byte with its displacement, and numbers. Bytes
--- that are none of these instructions are not decoded.
+-- How the instructions of `Processor` are decoded from bytes (AMD64 Architecture Programmer's
+-- Manual, volume 3, "Instruction Encoding"): a REX prefix, the opcode, the ModRM byte with its
+-- displacement, and numbers. Bytes that are none of these instructions are not decoded.
 use Rattle.std.specs.Prelude.{ℕ, zero, suc, ◌+◌, ◌*◌, ◌/◌, ◌%◌, ◌^◌, ◌==◌, nat_lt, ◌&&◌, List, [], ◌∷◌}
 use Rattle.std.specs.Prelude.{Option, None, Some, drop, length, if◌then◌else◌, ◌-◌}
 use Rattle.std.specs.Option.{option_and_then, option_map}
@@ -36,8 +36,8 @@ pub record Operands : Type 0 where
   pub middle : ℕ
   pub size : ℕ
 
--- A displacement of a byte behind the stack pointer's SIB byte, which is not negative; and one of 32 bits. For
--- example, `24 0c` is 12 from rsp on.
+-- A displacement of a byte behind the stack pointer's SIB byte, which is not negative; and one of
+-- 32 bits. For example, `24 0c` is 12 from rsp on.
 abbrev pub short_displacement : List ℕ → Option ℕ
 short_displacement (sib ∷ displacement ∷ rest) =
     if sib == 0x24 && nat_lt displacement 0x80 then Some displacement else None
@@ -50,7 +50,8 @@ long_displacement (sib ∷ rest) = elim (number_of rest) [
 ]
 long_displacement _ = None
 
--- the address in a ModRM byte's displacement of 32 bits: on AMD64 it is relative to the next instruction
+-- the address in a ModRM byte's displacement of 32 bits: on AMD64 it is relative to the next
+-- instruction
 abbrev pub fixed_address : Mode → ℕ → ℕ → ℕ
 fixed_address Bits64 next field = relative Bits64 next field
 fixed_address Bits32 next field = field
@@ -59,8 +60,8 @@ fixed_address Bits32 next field = field
 abbrev pub sized : Operand → ℕ → ℕ → Operands
 sized operand middle size = record { operand = operand; middle = middle; size = size }
 
--- The operands at an offset in a text whose first byte is at an address: a register (the top bits 3), an address
--- (0, and 5 at the end), or one relative to rsp (1 or 2, and 4 at the end).
+-- The operands at an offset in a text whose first byte is at an address: a register (the top bits
+-- 3), an address (0, and 5 at the end), or one relative to rsp (1 or 2, and 4 at the end).
 abbrev pub operands : Mode → ℕ → ℕ → List ℕ → Option Operands
 operands mode at offset [] = None
 operands mode at offset (byte ∷ rest) =
@@ -94,7 +95,8 @@ long_number bytes = elim (number_of bytes) [
   | Some number ↦ if nat_lt number (2 ^ 31) then Some number else None
 ]
 
--- the sum or the difference of a register and a number, by the middle of the ModRM byte: 0 adds, 5 takes off
+-- the sum or the difference of a register and a number, by the middle of the ModRM byte: 0 adds, 5
+-- takes off
 abbrev pub sum_of : ℕ → ℕ → ℕ → Option Instruction
 sum_of middle r number =
     if middle == 0 then Some (Add r number) else if middle == 5 then Some (Subtract r number) else None
@@ -153,7 +155,8 @@ sum_behind before width extension number rest found = option_and_then
 abbrev pub with_number : (ℕ → Instruction) → List ℕ → Option Decoded
 with_number instruction rest = option_map (λ n. decoded_as 5 (instruction n)) (number_of rest)
 
--- The instruction of an opcode without a prefix, at an offset in a text, and of the bytes behind it.
+-- The instruction of an opcode without a prefix, at an offset in a text, and of the bytes behind
+-- it.
 abbrev pub plain : Mode → ℕ → ℕ → ℕ → List ℕ → Option Decoded
 plain mode at offset opcode rest =
     let found : Option Operands = operands mode at (offset + 1) rest in
@@ -174,7 +177,8 @@ plain_of_32_bits at offset opcode rest =
     else if opcode == 0x83 then sum_behind 1 1 0 short_number rest found
     else plain Bits32 at offset opcode rest
 
--- The instruction of an opcode behind the prefix REX.W, whose R and B extend the numbers of registers by 8.
+-- The instruction of an opcode behind the prefix REX.W, whose R and B extend the numbers of
+-- registers by 8.
 abbrev pub wide : ℕ → ℕ → ℕ → ℕ → ℕ → List ℕ → Option Decoded
 wide at offset r b opcode rest =
     let found : Option Operands = operands Bits64 at (offset + 2) rest in
@@ -193,8 +197,9 @@ of_vectors at offset opcode rest =
     else if opcode == 0x29 then with_operands 2 vector_to found
     else None
 
--- The instruction at an offset in a text whose first byte is at an address: `bytes` are those from there on.
--- A REX prefix is 40 and its bits: W is 8, R 4, X 2, which no instruction here has, and B 1.
+-- The instruction at an offset in a text whose first byte is at an address: `bytes` are those from
+-- there on. A REX prefix is 40 and its bits: W is 8, R 4, X 2, which no instruction here has, and B
+-- 1.
 abbrev pub decoded : Mode → ℕ → ℕ → List ℕ → Option Decoded
 decoded Bits32 at offset [] = None
 decoded Bits32 at offset (opcode ∷ rest) = plain_of_32_bits at offset opcode rest
@@ -211,8 +216,8 @@ pub record Left : Type 0 where
   pub to : ℕ
   pub state : State
 
--- Instructions are run one after the other until control leaves for an address: of a text whose first byte is at
--- an address, from an offset on, where `bytes` are its bytes from there on.
+-- Instructions are run one after the other until control leaves for an address: of a text whose
+-- first byte is at an address, from an offset on, where `bytes` are its bytes from there on.
 unfoldable pub run_bytes : ℕ → Mode → ℕ → ℕ → List ℕ → State → Option Left
 run_bytes zero mode at offset bytes s = None
 run_bytes (suc steps) mode at offset bytes s =

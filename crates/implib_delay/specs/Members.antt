@@ -43,8 +43,8 @@ numbered_specs machine library number [] = []
 numbered_specs machine library number (e ∷ exports) =
     (export_spec machine library number e ∷ []) ++ numbered_specs machine library (number + 1) exports
 
--- The exports in order, the head and the tail. For example, for bar and qux in foo.dll: `foo_dll_d_s00000.o`,
--- `foo_dll_d_s00001.o`, `foo_dll_d_h.o` and `foo_dll_d_t.o`.
+-- The exports in order, the head and the tail. For example, for bar and qux in foo.dll:
+-- `foo_dll_d_s00000.o`, `foo_dll_d_s00001.o`, `foo_dll_d_h.o` and `foo_dll_d_t.o`.
 abbrev pub delayed_specs : MachineType → NamesOfDll → List ExportView → List MemberSpec
 delayed_specs machine dll exports =
     numbered_specs machine dll.linked 0 exports ++ (head_spec machine dll.linked ∷ tail_spec machine dll ∷ [])

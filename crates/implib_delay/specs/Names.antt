@@ -4,9 +4,9 @@ use Rattle.implib.specs.declared.machine.MachineType.{MachineType}
 use Rattle.implib.specs.Machine.{has_leading_underscore}
 use Rattle.implib.specs.Members.Gnu.{five_digits, mangled_name}
 
--- The names of the members: of the head and the tail, and of the export of a number. In the order of their names,
--- in which GNU's linker puts the parts of a table from version 2.46 on, the tail is last. For example,
--- `foo_dll_d_h.o`, `foo_dll_d_t.o` and `foo_dll_d_s00000.o` of foo.dll.
+-- The names of the members: of the head and the tail, and of the export of a number. In the order
+-- of their names, in which GNU's linker puts the parts of a table from version 2.46 on, the tail is
+-- last. For example, `foo_dll_d_h.o`, `foo_dll_d_t.o` and `foo_dll_d_s00000.o` of foo.dll.
 unfoldable pub head_name : List ℕ → List ℕ
 head_name library = [] ++ (mangled_name library ++ codes "_d_h.o")
 
@@ -24,8 +24,8 @@ tail_symbol machine library =
     (if has_leading_underscore machine then codes "___tailMerge_" else codes "__tailMerge_")
     ++ (mangled_name library ++ [])
 
--- The symbols of the DLL's handle and of its name, on each machine. For example, `__DLL_HANDLE_foo_dll` and
--- `__foo_dll_iname`.
+-- The symbols of the DLL's handle and of its name, on each machine. For example,
+-- `__DLL_HANDLE_foo_dll` and `__foo_dll_iname`.
 unfoldable pub handle_symbol : List ℕ → List ℕ
 handle_symbol library = codes "__DLL_HANDLE_" ++ (mangled_name library ++ [])
 

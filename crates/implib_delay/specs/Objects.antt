@@ -1,7 +1,9 @@
--- The objects of delayed imports, as tables, for AMD64 and I386: what is added to a writer of objects, in order.
+-- The objects of delayed imports, as tables, for AMD64 and I386: what is added to a writer of
+-- objects, in order.
 --
--- Each function has a descriptor of its own, since the helper uses of a descriptor only the entry and the thunk at
--- one index (mingw-w64, `delayimp`): with a table of one, the index is 0 wherever a linker puts the parts.
+-- Each function has a descriptor of its own, since the helper uses of a descriptor only the entry
+-- and the thunk at one index (mingw-w64, `delayimp`): with a table of one, the index is 0 wherever
+-- a linker puts the parts.
 use Rattle.std.specs.Prelude.{ℕ, ◌+◌, ◌-◌, List, [], ◌∷◌, ◌++◌, codes, if◌then◌else◌}
 use Rattle.implib.specs.declared.coff.object.Place.TheVariants.{Undefined, Section}
 use Rattle.implib.specs.declared.coff.object.Relocation.{Relocation}
@@ -44,8 +46,8 @@ word_kind machine = if is_32bit machine then i386_dir32 else 1
 abbrev pub read_only_flags : ℕ
 read_only_flags = cnt_initialized_data + align_4bytes + 0x4000_0000
 
--- How AMD64's tail is unwound ("Exception Handling: x64"): version 1, a prologue of 7 bytes, two codes, that is of
--- the allocation of 0x11 * 8 bytes that ends at byte 7.
+-- How AMD64's tail is unwound ("Exception Handling: x64"): version 1, a prologue of 7 bytes, two
+-- codes, that is of the allocation of 0x11 * 8 bytes that ends at byte 7.
 abbrev pub unwind_codes : List ℕ
 unwind_codes = 1 ∷ 7 ∷ 2 ∷ 0 ∷ 7 ∷ 1 ∷ 0x11 ∷ 0 ∷ []
 
@@ -103,8 +105,9 @@ tail_object machine dll = record {
   symbols = added (name_symbol dll.linked) (Section 3) class_external ∷ [];  -- 0
 }
 
--- The descriptor ("Delay-Load Directory Table"): its first word says that the fields are relative to the image.
--- At 4 it leads to the DLL's name, at 8 to its handle, at 12 to the address table and at 16 to the name table.
+-- The descriptor ("Delay-Load Directory Table"): its first word says that the fields are relative
+-- to the image. At 4 it leads to the DLL's name, at 8 to its handle, at 12 to the address table and
+-- at 16 to the name table.
 abbrev pub descriptor_bytes : List ℕ
 descriptor_bytes = 1 ∷ zeros 31
 

@@ -1,6 +1,7 @@
--- The steps of an x86 processor for the few instructions of delayed imports (AMD64 Architecture Programmer's
--- Manual, volume 3; Intel 64 and IA-32 Architectures Software Developer's Manual, volume 2): moves, pushes and
--- pops, lea, add and sub, call and jmp. Flags are left out, since none of these reads one.
+-- The steps of an x86 processor for the few instructions of delayed imports (AMD64 Architecture
+-- Programmer's Manual, volume 3; Intel 64 and IA-32 Architectures Software Developer's Manual,
+-- volume 2): moves, pushes and pops, lea, add and sub, call and jmp. Flags are left out, since none
+-- of these reads one.
 use Rattle.std.specs.Prelude.{ℕ, ◌+◌, ◌-◌, ◌%◌, ◌==◌, nat_le, Bool, ◌&&◌, if◌then◌else◌}
 
 -- the mode: 64 bits on AMD64, 32 bits on I386
@@ -43,9 +44,9 @@ pub record Vector : Type 0 where
   pub low : ℕ
   pub high : ℕ
 
--- The state: registers and xmm registers by their numbers, and the words of memory by their addresses. Words
--- do not overlap, since each access is to be aligned; `is_sound` says that each one was, and that the stack
--- pointer did not pass 0.
+-- The state: registers and xmm registers by their numbers, and the words of memory by their
+-- addresses. Words do not overlap, since each access is to be aligned; `is_sound` says that each
+-- one was, and that the stack pointer did not pass 0.
 pub record State : Type 0 where
   pub registers : ℕ → ℕ
   pub vectors : ℕ → Vector

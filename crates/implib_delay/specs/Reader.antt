@@ -1,6 +1,7 @@
--- Reading a delayed import by its bytes, whoever wrote it in this form: by the names of sections and symbols, the
--- fields of the descriptor and the relocations (mingw-w64, `delayimp.h`, "ImgDelayDescr"). The reader states the
--- names of sections and the offsets of fields itself, and takes none from the tables.
+-- Reading a delayed import by its bytes, whoever wrote it in this form: by the names of sections
+-- and symbols, the fields of the descriptor and the relocations (mingw-w64, `delayimp.h`,
+-- "ImgDelayDescr"). The reader states the names of sections and the offsets of fields itself, and
+-- takes none from the tables.
 use Rattle.std.specs.Prelude.{◌≡◌, ℕ, Bool, false, ◌&&◌, ◌==◌, List, [], ◌∷◌, ◌++◌, map, take, bytes_eq, codes, Option, Some, None}
 use Rattle.std.specs.Prelude.{is_some, if◌then◌else◌}
 use Rattle.std.specs.List.{find}
@@ -29,13 +30,14 @@ abbrev pub passes : (ObjectSection → Bool) → Option ObjectSection → Bool
 passes test None = false
 passes test (Some section) = test section
 
--- whether an object defines the symbol that another's section is relocated to at an offset, in a section of a name
+-- whether an object defines the symbol that another's section is relocated to at an offset, in a
+-- section of a name
 abbrev pub is_defined_by : Object → Object → ℕ → List ℕ → ObjectSection → Bool
 is_defined_by other o offset name section =
     is_some (option_and_then (section_defining other name) (relocated_to o offset section))
 
--- The descriptor: its first word is 1, for fields that are relative to the image. At 8 it leads to the handle, in the
--- head's `.data`, and at 12 to the entry.
+-- The descriptor: its first word is 1, for fields that are relative to the image. At 8 it leads to
+-- the handle, in the head's `.data`, and at 12 to the entry.
 abbrev pub is_descriptor : Object → Object → ObjectSection → Bool
 is_descriptor o head section =
     u32_at section.bytes 0 == 1
@@ -46,8 +48,9 @@ is_descriptor o head section =
 abbrev pub is_entry : Object → ObjectSection → Bool
 is_entry o section = u32_at section.bytes 0 == 6 && leads_to o 0 text_section section
 
--- The stub jumps through the entry; behind the jump it takes the addresses of the entry and the descriptor, and jumps
--- to the code that the head defines. Where its fields are follows from the machine, 0x14C for I386.
+-- The stub jumps through the entry; behind the jump it takes the addresses of the entry and the
+-- descriptor, and jumps to the code that the head defines. Where its fields are follows from the
+-- machine, 0x14C for I386.
 abbrev pub is_stub : Object → Object → ObjectSection → Bool
 is_stub o head section =
     let narrow : Bool = o.machine == 0x14C in
@@ -98,8 +101,8 @@ delayed_import_in own head tail = option_and_then
     (λ o. option_and_then (λ h. option_and_then (λ t. delayed_import o h t) (object_in tail)) (object_in head))
     (object_in own)
 
--- What the members of a definition are read as: the last two are the head and the tail, and with these the others, one
--- after the other, are the imports that the definition means.
+-- What the members of a definition are read as: the last two are the head and the tail, and with
+-- these the others, one after the other, are the imports that the definition means.
 pub record DelayedReadBack (d : DefinitionView) (machine : MachineType) (members : List MemberView) : Type 0 where
   pub exports : List MemberView
   pub head : MemberView

@@ -7,7 +7,7 @@ use Rattle.implib.specs.declared.flavor.Flavor.TheVariants.{Gnu}
 use Rattle.implib.specs.declared.machine.MachineType.{MachineType}
 use Rattle.implib.specs.declared.machine.MachineType.TheVariants.{I386, ARMNT, AMD64, ARM64}
 use Rattle.implib.specs.Definition.{DefinitionView, ExportView}
-use Rattle.implib.specs.Fault.{Cause, cause_of}
+use Rattle.implib.specs.Fault.{Cause, cause_of, export_index}
 use Rattle.implib.specs.Import.{is_alias}
 use Rattle.implib.specs.Members.NameRules.{definition_names_refusal}
 use Rattle.implib_delay.specs.declared.error.DelayError.{DelayError}
@@ -28,6 +28,13 @@ delay_cause fault.Machine = NoMachine
 delay_cause (fault.Data index) = IsData index
 delay_cause (fault.Alias index) = IsAlias index
 delay_cause (fault.Names names) = OfNames (cause_of names)
+
+-- the index of the export in a cause, if it has one
+abbrev pub delay_index : DelayCause → Option ℕ
+delay_index NoMachine = None
+delay_index (IsData index) = Some index
+delay_index (IsAlias index) = Some index
+delay_index (OfNames cause) = export_index cause
 
 -- the error that an error of `implib` becomes
 abbrev pub of_error : Error → DelayError
@@ -67,8 +74,8 @@ kinds_refusal index [] = None
 kinds_refusal index (e ∷ exports) =
     first_cause (if e.private then None else kind_refusal index e) (kinds_refusal (index + 1) exports)
 
--- The first rule that a definition breaks, its exports under their names to link by: on the machine, on names as
--- in an ordinary library for GNU's linker, on what its exports are.
+-- The first rule that a definition breaks, its exports under their names to link by: on the
+-- machine, on names as in an ordinary library for GNU's linker, on what its exports are.
 unfoldable pub input_refusal : DefinitionView → MachineType → Option DelayCause
 input_refusal d machine =
     first_cause (machine_refusal machine)

@@ -1,5 +1,5 @@
--- Delayed calls worked by hand: what premises hold of places and states, what does not, and what comes of code
--- that is wrong.
+-- Delayed calls worked by hand: what premises hold of places and states, what does not, and what
+-- comes of code that is wrong.
 use Rattle.std.specs.Prelude.{◌≡◌, ℕ, ◌+◌, ◌==◌, nat_le, ◌||◌, true, false, List, [], ◌∷◌, Option, Some, if◌then◌else◌}
 use Rattle.std.specs.Option.{option_and_then, option_map}
 use Rattle.implib.specs.Worked.Digits.{hex}
@@ -13,8 +13,8 @@ use Rattle.implib_delay.specs.WorkedCode.{field, program64, library64, program32
 abbrev pub vector : ℕ → ℕ → Vector
 vector low high = record { low = low; high = high }
 
--- The state of a call: the stack's pointer, and in each register another number above a first one. Memory has at
--- each address the address, and in the entry the place behind the stub's jump.
+-- The state of a call: the stack's pointer, and in each register another number above a first one.
+-- Memory has at each address the address, and in the entry the place behind the stub's jump.
 abbrev pub at_call : Placement → ℕ → ℕ → State
 at_call p pointer first = record {
   registers = λ r. if r == 4 then pointer else first + r;
@@ -23,8 +23,8 @@ at_call p pointer first = record {
   is_sound = true;
 }
 
--- The state where a helper returns that keeps as little as it may: other registers are 0, and so is the word above
--- its return address.
+-- The state where a helper returns that keeps as little as it may: other registers are 0, and so is
+-- the word above its return address.
 abbrev pub helped : Mode → Placement → ℕ → State → State
 helped mode p address s = record {
   registers = λ r.
@@ -37,8 +37,8 @@ helped mode p address s = record {
   is_sound = s.is_sound;
 }
 
--- The first call by any code: the stub from its begin and behind its jump, the tail to the helper, and from an
--- offset on.
+-- The first call by any code: the stub from its begin and behind its jump, the tail to the helper,
+-- and from an offset on.
 abbrev pub to_helper : Mode → Placement → List ℕ → List ℕ → State → Option Left
 to_helper mode p stub tail s =
     let behind : Option Left = option_and_then (λ a. run mode p.stub stub 6 a.state) (run mode p.stub stub 0 s) in
@@ -150,7 +150,8 @@ pub record WorkedPremises : Type 0 where
   pub program32_begins : Begins Bits32 program32 0x1A0000 (at_call program32 0x19FF70 0x1000)
   pub library32_begins : Begins Bits32 library32 0x1008 (at_call library32 0x1000 7)
 
--- what a helper that keeps as little as it may answers, from any state that the stack's pointer of these has
+-- what a helper that keeps as little as it may answers, from any state that the stack's pointer of
+-- these has
 pub record WorkedAnswers : Type 0 where
   pub program64_answers : (s : State) → s.registers 4 ≡ 0x7FEF78 →
       Answers Bits64 program64 0x7FF100 0x7FFE0000 s (helped Bits64 program64 0x7FFE0000 s)

@@ -1,5 +1,5 @@
--- The code of delayed functions worked by hand: its bytes, as an assembler and a disassembler (GNU `as`,
--- `objdump -d`) have them, and in two places of memory for each mode.
+-- The code of delayed functions worked by hand: its bytes, as an assembler and a disassembler (GNU
+-- `as`, `objdump -d`) have them, and in two places of memory for each mode.
 use Rattle.std.specs.Prelude.{◌≡◌, ℕ}
 use Rattle.implib.specs.Worked.Digits.{hex}
 use Rattle.implib_delay.specs.Processor.{Bits64, Bits32}

@@ -1,5 +1,5 @@
--- Objects of delayed imports worked by hand: those of foo.dll with all their numbers, on both machines, the names
--- of their members, and definitions that are refused.
+-- Objects of delayed imports worked by hand: those of foo.dll with all their numbers, on both
+-- machines, the names of their members, and definitions that are refused.
 use Rattle.std.specs.Prelude.{◌≡◌, ℕ, List, [], ◌∷◌, ◌++◌, None, Some, codes, true}
 use Rattle.implib.specs.declared.machine.MachineType.TheVariants.{I386, ARMNT, AMD64, ARM64}
 use Rattle.implib.specs.Definition.{DefinitionView, ExportView, empty_definition, empty_export}

@@ -1,4 +1,5 @@
--- Readings of delayed imports worked by hand: of the objects of foo.dll, and of objects that are none.
+-- Readings of delayed imports worked by hand: of the objects of foo.dll, and of objects that are
+-- none.
 use Rattle.std.specs.Prelude.{◌≡◌, List, [], ◌∷◌, ◌++◌, Option, None, Some, ℕ, bytes_eq, codes, map, if◌then◌else◌}
 use Rattle.implib.specs.Formats.Layout.{ObjectLayout, object_of}
 use Rattle.implib.specs.Formats.Object.{Object, ObjectSection}

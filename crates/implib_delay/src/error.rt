@@ -1,6 +1,6 @@
 //! The errors of making delayed imports.
 
-ghost use Rattle.implib_delay.specs.Refusal.{of_error};
+ghost use Rattle.implib_delay.specs.Refusal.{delay_cause, delay_index, of_error};
 ghost use Rattle.implib_delay.specs.declared.error.DelayError.TheVariants.{OutOfMemory};
 ghost use Rattle.std.specs.Prelude.{◌≡◌};
 
@@ -23,6 +23,19 @@ pub enum DelayFault {
     /// A fault that an ordinary library for GNU's linker would have too.
     #[error("{0}")]
     Names(Fault),
+}
+
+impl DelayFault {
+    /// The index of the export at fault among all exports of the definition, from 0.
+    pub fn export_index(&self) -> Option<usize>
+        ensures { result ≡ delay_index (delay_cause self.now) }
+    {
+        match self {
+            DelayFault::Data(index) | DelayFault::Alias(index) => Some(*index),
+            DelayFault::Names(fault) => fault.export_index(),
+            DelayFault::Machine => None,
+        }
+    }
 }
 
 /// A fault of the input, or a failed allocation.
