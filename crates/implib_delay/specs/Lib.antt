@@ -1,0 +1,14 @@
+pub mod Processor
+pub mod Decoding
+pub mod Code
+pub mod Calls
+pub mod WorkedCode
+pub mod WorkedCalls
+pub mod Table
+pub mod Names
+pub mod Objects
+pub mod Refusal
+pub mod Members
+pub mod WorkedObjects
+pub mod Reader
+pub mod WorkedReadings

@@ -1,0 +1,16 @@
+//! Delayed imports for GNU's linker.
+//!
+//! A delayed function's DLL is loaded at the function's first call, by the helper of GNU's `libdelayimp`.
+#![tactic(auto)]
+
+mod asked;
+mod error;
+pub mod laws;
+mod members;
+mod names;
+mod objects;
+mod refusal;
+mod table;
+
+pub use error::{DelayError, DelayFault};
+pub use members::delayed_members;
