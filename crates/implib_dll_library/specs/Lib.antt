@@ -1,2 +1,3 @@
 pub mod Libraries
+pub mod Members
 pub mod Worked

@@ -1,11 +1,8 @@
 -- The library of a DLL (this project's own; docs/DLLTOOL.md, "From a DLL").
-use Rattle.std.specs.Prelude.{◌≡◌, ◌≢◌, ℕ, Bool, true, List, [], Option, None, Some, Ok, Err, codes, if◌then◌else◌, nat_eq}
+use Rattle.std.specs.Prelude.{◌≡◌, ◌≢◌, ℕ, Bool, true, List, None, Some, Ok, Err, codes, nat_eq}
 use Rattle.std.specs.List.{starts_with}
-use Rattle.std.specs.Str.{IsUtf8}
 use Rattle.implib.specs.declared.machine.MachineType.{MachineType}
 use Rattle.implib.specs.Conversions.{machine_numbered}
-use Rattle.implib.specs.Fault.{cause_of}
-use Rattle.implib.specs.Import.{is_empty_text}
 use Rattle.implib.specs.Members.MemberSpec.{MemberView}
 use Rattle.implib_dll.specs.declared.section.Layout.TheVariants.{File}
 use Rattle.implib_dll.specs.Exports.{Exports, exports_in}
@@ -14,11 +11,8 @@ use Rattle.implib_driver.specs.declared.dll.DllRefusal.TheVariants.{Read, NoExpo
 use Rattle.implib_driver.specs.declared.dll.DllCallError.{DllCallError}
 use Rattle.implib_driver.specs.declared.dll.DllCallError.TheVariants.{Call, Dll}
 use Rattle.implib_driver.specs.Request.{Asked, CallFaultView, RequestView, call_fault_view}
-use Rattle.implib_from_dll.specs.Definition.{exports_of}
-use Rattle.implib_from_dll.specs.Unsaid.{IsUnsaid}
-use Rattle.implib_rules.specs.Exports.{MembersOfExports, RefusesExports}
-use Rattle.implib_rules.specs.Names.{lacks_name}
-use Rattle.implib_rules.specs.Options.{LibraryOptionsView}
+use Rattle.implib_dll_library.specs.Members as library
+use Rattle.implib_dll_library.specs.declared.members.Unmade.TheVariants as unmade
 
 -- whether bytes begin as an image does ("MS-DOS Stub": IMAGE_DOS_SIGNATURE)
 abbrev pub begins_dll : List ℕ → Bool
@@ -28,19 +22,9 @@ begins_dll bytes = starts_with nat_eq bytes (codes "MZ")
 abbrev pub ReadsDll : List ℕ → Exports → Type 0
 ReadsDll bytes e = exports_in File bytes ≡ Ok (Some e)
 
--- the name of a DLL: the one that is given, or else that of its export directory, or that of its file where
--- that is empty
-abbrev pub dll_named : List ℕ → List ℕ → Option (List ℕ) → List ℕ
-dll_named path own (Some given) = given
-dll_named path own None = if is_empty_text own then path else own
-
--- what the library of a DLL is made for
-abbrev pub options_for : Exports → RequestView → LibraryOptionsView
-options_for e request = record request.library { dll = Some (dll_named request.definition e.dll request.library.dll) }
-
 -- the members of the library of a DLL: those of its exports
 abbrev pub MembersOfDll : Exports → RequestView → List MemberView → Type 0
-MembersOfDll e request members = MembersOfExports (exports_of e) (options_for e request) members
+MembersOfDll e request members = library.MembersOfDll e request.definition request.library members
 
 -- why bytes have no export directory
 abbrev pub IsRefusalOfReading : List ℕ → DllRefusal → Type 0
@@ -52,10 +36,10 @@ IsRefusalOfReading bytes _ = ⊥
 -- why a DLL has no members
 abbrev pub IsUnmade : Exports → RequestView → DllRefusal → Type 0
 IsUnmade e request OlderSymbols = request.older_symbols ≡ true
-IsUnmade e request NameNotUtf8 = (request.library.dll ≡ None) × (¬ (IsUtf8 e.dll))
-IsUnmade e request (Unsaid why) = IsUnsaid e why
-IsUnmade e request NoName = lacks_name (options_for e request).dll [] ≡ true
-IsUnmade e request (Members fault) = RefusesExports (exports_of e) (options_for e request) (cause_of fault)
+IsUnmade e request NameNotUtf8 = library.IsUnmade e request.definition request.library unmade.NameNotUtf8
+IsUnmade e request (Unsaid why) = library.IsUnmade e request.definition request.library (unmade.Unsaid why)
+IsUnmade e request NoName = library.IsUnmade e request.definition request.library unmade.NoName
+IsUnmade e request (Members fault) = library.IsUnmade e request.definition request.library (unmade.Members fault)
 IsUnmade e request OutOfMemory = Unit {0}
 IsUnmade e request _ = ⊥
 

@@ -5,7 +5,8 @@ use Rattle.implib.specs.declared.machine.MachineType.TheVariants.{I386, AMD64, A
 use Rattle.implib_driver.specs.declared.options.Setting.TheVariants.{Definition, Input, Output, Machine}
 use Rattle.implib_driver.specs.declared.options.Switch.TheVariants.{CompatImplib, LeadingUnderscore}
 use Rattle.implib_driver.specs.Arguments.{Given, Switched}
-use Rattle.implib_driver.specs.Dll.{begins_dll, dll_named}
+use Rattle.implib_dll_library.specs.Members.{dll_named}
+use Rattle.implib_driver.specs.Dll.{begins_dll}
 use Rattle.implib_driver.specs.Request.{Asks, HasNoOlderSymbols, HasNoUnderscore, HasTwoInputs, LacksDefinition, request_for, task_of}
 use Rattle.implib_driver.specs.WorkedCalls.{for_i386, itself}
 use Rattle.implib_rules.specs.Additions.{no_additions}

@@ -3,18 +3,15 @@
 ghost use Rattle.implib.specs.Conversions.{machine_numbered};
 ghost use Rattle.implib_dll.specs.Views.{exports_view};
 ghost use Rattle.implib_driver.specs.Dll.{IsRefusalOfReading, IsUnmade, MembersOfDll};
-ghost use Rattle.implib_driver.specs.Dll.{ReadsDll, begins_dll, dll_named, dll_status};
+ghost use Rattle.implib_driver.specs.Dll.{ReadsDll, begins_dll, dll_status};
 ghost use Rattle.implib_driver.specs.Request.{request_view};
-ghost use Rattle.implib_driver.specs.declared.dll.DllRefusal.TheVariants as refusal;
-ghost use Rattle.std.specs.Prelude.{◌≡◌, IfErr, IfOk, None, Some, option_map};
-ghost use Rattle.std.specs.Str.{IsUtf8};
+ghost use Rattle.std.specs.Prelude.{◌≡◌, IfErr, IfOk, None, Some};
 
 use crate::request::{CallFault, Request};
 use implib_dll::{Exports, Fault, ReadError};
-use implib_from_dll::{Unsaid, exports_of};
-use implib_rules::exports::{ExportsRefusal, members_of_exports};
+use implib_dll_library::Unmade;
+use implib_from_dll::Unsaid;
 use implib_rules::members::LibraryMembers;
-use implib_rules::options::LibraryOptions;
 use std::alloc::Global;
 
 /// Why a DLL has no import library here.
@@ -75,30 +72,6 @@ pub fn dll_exports(alloc: Global, bytes: &[u8]) -> Result<Exports<'_>, DllRefusa
     }
 }
 
-// The name of a DLL: the one that is given, or else its own, or that of its file where that is
-// empty.
-fn dll_named<'a>(
-    path: &'a str,
-    own: &'a [u8],
-    given: Option<&'a str>,
-) -> Result<&'a str, DllRefusal>
-    ensures named { IfOk result (λ name. name.now
-        ≡ dll_named path.now own.now (option_map (λ text. text.now) given.entry)) }
-    ensures refused { IfErr result (λ why. (why ≡ refusal.NameNotUtf8)
-        × ((option_map (λ text. text.now) given.entry ≡ None) × (¬ (IsUtf8 own.now)))) }
-{
-    if let Some(name) = given {
-        return Ok(name);
-    }
-    if own.is_empty() {
-        return Ok(path);
-    }
-    match str::from_utf8(own) {
-        Ok(name) => Ok(name),
-        Err(_) => Err(DllRefusal::NameNotUtf8),
-    }
-}
-
 /// The members of the library of a DLL.
 ///
 /// # Errors
@@ -117,21 +90,13 @@ pub fn members_of_dll(
     if request.older_symbols {
         return Err(DllRefusal::OlderSymbols);
     }
-    let dll = dll_named(request.definition, exports.dll, request.library.dll)?;
-    let list = match exports_of(alloc, exports) {
-        Ok(list) => list,
-        Err(Unsaid::OutOfMemory) => return Err(DllRefusal::OutOfMemory),
-        Err(unsaid) => return Err(DllRefusal::Unsaid(unsaid)),
-    };
-    let options = LibraryOptions {
-        dll: Some(dll),
-        ..request.library
-    };
-    match members_of_exports(alloc, list, &options) {
+    match implib_dll_library::members_of_dll(alloc, exports, request.definition, &request.library) {
         Ok(members) => Ok(members),
-        Err(ExportsRefusal::NoName) => Err(DllRefusal::NoName),
-        Err(ExportsRefusal::Members(fault)) => Err(DllRefusal::Members(fault)),
-        Err(ExportsRefusal::OutOfMemory) => Err(DllRefusal::OutOfMemory),
+        Err(Unmade::NameNotUtf8) => Err(DllRefusal::NameNotUtf8),
+        Err(Unmade::Unsaid(unsaid)) => Err(DllRefusal::Unsaid(unsaid)),
+        Err(Unmade::NoName) => Err(DllRefusal::NoName),
+        Err(Unmade::Members(fault)) => Err(DllRefusal::Members(fault)),
+        Err(Unmade::OutOfMemory) => Err(DllRefusal::OutOfMemory),
     }
 }
 
