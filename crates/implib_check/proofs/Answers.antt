@@ -1,11 +1,21 @@
 -- What a call answers with, once its files are read.
-use Rattle.std.proofs.Common.{◌≡◌, ◌∙◌, ℕ, List, None, Option, Some, ap, inl, inr, sym}
+use Rattle.std.proofs.Common.{◌≡◌, ◌∙◌, ℕ, ◌==◌, length, List, None, Option, Some, ap, false, inl, inr, subst, sym, true}
+use Rattle.std.proofs.lemmas.Bool.{true≢false}
 use Rattle.std.specs.Prelude.{IfSome}
 use Rattle.std.specs.Option.{option_map, option_map_or}
 use Rattle.implib_read.specs.Archives.{Archive, archive_in}
 use Rattle.implib_read.specs.Classes.{MemberRead, library_in, members_read}
-use Rattle.implib_check.specs.Answers.{AnswersOf, AnswersOfBoth, OrFailed, compared, compared_in, status_in}
-use Rattle.implib_check.specs.Status.{no_library_status}
+use Rattle.implib_compare.specs.Meant.{IsVerdictOn}
+use Rattle.implib_compare.specs.Working.{working_of}
+use Rattle.implib_compare.specs.declared.compare.Verdict.{Verdict}
+use Rattle.implib_check.specs.Against.{is_library}
+use Rattle.implib_check.specs.Answers.{AnswersOf, AnswersOfBoth, CheckedAs, DefinedAs, OrFailed, compared, compared_in, status_in}
+use Rattle.implib_check.specs.Calls.{CheckView, DefineView}
+use Rattle.implib_check.specs.Defining.{IsUndefined}
+use Rattle.implib_check.specs.declared.defining.Undefined.{Undefined}
+use Rattle.implib_read.specs.Identity.{dlls_of}
+use Rattle.implib_check.specs.Status.{comparison_status, no_library_status, undefined_status}
+use Rattle.implib_check.specs.Targets.{options_for, options_of}
 
 -- what failed answers with 3
 pub answered_failed : (of : Archive → ℕ) (file : Option (List ℕ)) (status : ℕ) → status ≡ 3 → AnswersOf of file status
@@ -83,3 +93,35 @@ both_read left right l r a b status first second read other (inr answers) =
     (inr (answers
     ∙ sym (ap (λ found. option_map_or (compared a) found (no_library_status r)) other)
     ∙ sym (ap (λ found. option_map_or (λ x. option_map_or (compared x) (archive_in r) (no_library_status r)) found (no_library_status l)) read)))
+
+-- an archive beside a definition, where its members are as they are read
+pub checked_is : (check : CheckView) (library definition : List ℕ) (a : Archive) (ms : List MemberRead) (v : Verdict) (status : ℕ)
+    → archive_in library ≡ Some a → ms ≡ members_read a.members → is_library definition ≡ false
+    → IsVerdictOn check.older_symbols definition (options_for check ms) ms v
+    → OrFailed status (status ≡ comparison_status v (working_of a ms))
+    → OrFailed status (CheckedAs check library definition (archive_in library) status)
+checked_is check library definition a ms v status read same unlike on (inl failed) = inl failed
+checked_is check library definition a ms v status read same unlike on (inr is) =
+    inr (subst (λ found. CheckedAs check library definition found status) (sym read) (
+      (λ yes. absurd (true≢false (sym yes ∙ unlike))),
+      (λ here. inl (record {
+        verdict = v;
+        on = subst (λ xs. IsVerdictOn check.older_symbols definition (options_for check xs) xs v) same on;
+        is = subst (λ xs. status ≡ comparison_status v (working_of a xs)) same is;
+      })),
+    ))
+
+-- an archive without a definition, where its members are as they are read
+pub undefined_is : (define : DefineView) (library : List ℕ) (a : Archive) (ms : List MemberRead) (why : Undefined) (status : ℕ)
+    → archive_in library ≡ Some a → ms ≡ members_read a.members → (length (dlls_of ms) == 1) ≡ true
+    → IsUndefined false define.older_symbols (options_of define ms) ms why → status ≡ undefined_status why
+    → OrFailed status (DefinedAs define library (archive_in library) status)
+undefined_is define library a ms why status read same one unlike is =
+    inr (subst (λ found. DefinedAs define library found status) (sym read) (
+      (λ other. absurd (true≢false (sym (subst (λ xs. (length (dlls_of xs) == 1) ≡ true) same one) ∙ other))),
+      (λ here. inr (record {
+        why = why;
+        undefined = subst (λ xs. IsUndefined false define.older_symbols (options_of define xs) xs why) same unlike;
+        is = is;
+      })),
+    ))

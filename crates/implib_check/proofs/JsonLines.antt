@@ -6,11 +6,14 @@ use Rattle.std.specs.declared.cmp.Ordering.{Ordering}
 use Rattle.std.specs.declared.cmp.Ordering.TheVariants.{Less, Equal, Greater}
 use Rattle.std.proofs.lemmas.Bool.{or_parts}
 use Rattle.implib.specs.Import.{Ask, Name, Ordinal}
+use Rattle.implib_dll.specs.Exports.{Target, Empty, Address, Forwarder}
+use Rattle.implib_dll_check.specs.declared.import.Loss.{Loss}
 use Rattle.implib.specs.declared.def.position.Position.{Position}
 use Rattle.implib_read.specs.Classes.{Class, AnImport, AnAlias, Descriptor, NullDescriptor, NullThunk, Head, Tail, DelayImport, Other, NotUnderstood, MemberRead}
 use Rattle.serde_json.specs.Data.{Data, Members, member, no_members, number, put, string, unsigned}
 use Rattle.serde_json.specs.Written.{has_float, members_have_float}
 use Rattle.implib_check.specs.Json.{Clash, CutApart, Different, FaultOf, FaultView, FindingView, InDefinition, InLibrary, Listed, Missing, MisleadingEntry, NoIndex, NotOnePart, SeveralDlls, SideView, SiteView, UnreadableIndex}
+use Rattle.implib_check.specs.Json.{ExportView, Exported, Lost, Searched, Unasked, address_word, loss_words, with_export, with_loss, with_named, with_target}
 use Rattle.implib_check.specs.Json.{kind_word, object_of, piece_words, side_object, site_object, text_of, what_of, with_asked, with_class, with_fault, with_finding, with_member, with_name, with_number, with_position, with_side, with_sides, with_site, with_word}
 
 neither : (a b : Bool) → a ≡ false → b ≡ false → (a || b) ≡ false
@@ -118,6 +121,34 @@ fault_floatless (NotOnePart part) fields others =
     (word_floatless (codes "why") (codes "not one part") fields others)
 fault_floatless SeveralDlls fields others = word_floatless (codes "why") (codes "several DLLs") fields others
 
+target_floatless : (target : Target) (fields : Members) → AreFloatless fields → AreFloatless (with_target target fields)
+target_floatless Empty fields others = others
+target_floatless (Address place kind) fields others =
+    number_floatless (codes "address") place (with_word (codes "kind") (address_word kind) fields)
+    (word_floatless (codes "kind") (address_word kind) fields others)
+target_floatless (Forwarder text) fields others =
+    name_floatless (codes "target") text (with_word (codes "kind") (codes "forwarder") fields)
+    (word_floatless (codes "kind") (codes "forwarder") fields others)
+
+named_floatless : (name : Option (ℕ × List ℕ)) (fields : Members) → AreFloatless fields → AreFloatless (with_named name fields)
+named_floatless None fields others = others
+named_floatless (Some found) fields others =
+    number_floatless (codes "hint") found.0 (with_name (codes "name") found.1 fields) (name_floatless (codes "name") found.1 fields others)
+
+export_floatless : (path : List ℕ) (e : ExportView) (fields : Members) → AreFloatless fields → AreFloatless (with_export path e fields)
+export_floatless path e fields others =
+    let of_file = with_word (codes "file") path fields in
+    let of_ordinal = with_number (codes "ordinal") e.ordinal of_file in
+    named_floatless e.name (with_target e.target of_ordinal)
+    (target_floatless e.target of_ordinal
+    (number_floatless (codes "ordinal") e.ordinal of_file (word_floatless (codes "file") path fields others)))
+
+loss_floatless : (side : SideView) (dll : List ℕ) (loss : Loss) (fields : Members) → AreFloatless fields → AreFloatless (with_loss side dll loss fields)
+loss_floatless side dll loss fields others =
+    let why = with_word (codes "why") (loss_words loss) fields in
+    side_floatless side (with_word (codes "dll_file") dll why)
+    (word_floatless (codes "dll_file") dll why (word_floatless (codes "why") (loss_words loss) fields others))
+
 finding_floatless : (f : FindingView) (fields : Members) → AreFloatless fields → AreFloatless (with_finding f fields)
 finding_floatless (Listed side) fields others = side_floatless side fields others
 finding_floatless (Different here there) fields others =
@@ -128,6 +159,11 @@ finding_floatless (Clash symbol here there) fields others =
     sides_floatless symbol (side_object here) (side_object there) fields (side_floatless here no_members refl) (side_floatless there no_members refl) others
 finding_floatless (FaultOf path fault) fields others =
     fault_floatless fault (with_word (codes "library") path fields) (word_floatless (codes "library") path fields others)
+finding_floatless (Lost side dll loss) fields others = loss_floatless side dll loss fields others
+finding_floatless (Searched site count) fields others =
+    number_floatless (codes "count") count (with_site site fields) (site_floatless site fields others)
+finding_floatless (Unasked path export) fields others = export_floatless path export fields others
+finding_floatless (Exported path export) fields others = export_floatless path export fields others
 
 pub object_floatless : (f : FindingView) → has_float (object_of f) ≡ false
 object_floatless f =

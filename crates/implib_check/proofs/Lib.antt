@@ -1,3 +1,4 @@
+pub mod BesideDlls
 pub mod Answers
 pub mod Claims
 pub mod Computed

@@ -1,6 +1,6 @@
 -- What the program answers with, by what its files hold: the exit statuses of its calls (docs/CHECK.md, "Exit status"). Each
 -- call may also end with status 3, where a file, a stream or memory fails.
-use Rattle.std.specs.Prelude.{◌≡◌, ◌⊎◌, ℕ, Bool, List, Option, None, Some, IfSome, length, map}
+use Rattle.std.specs.Prelude.{◌≡◌, ◌⊎◌, ℕ, ◌==◌, Bool, true, false, List, Err, Ok, Option, None, Some, IfSome, length, map}
 use Rattle.std.specs.Option.{option_map_or}
 use Rattle.implib_read.specs.Archives.{Archive, archive_in}
 use Rattle.implib_read.specs.ArchiveViews.{archive_view}
@@ -10,8 +10,19 @@ use Rattle.implib_read.specs.Classes.{members_read}
 use Rattle.implib_read.specs.Identity.{dlls_of}
 use Rattle.implib_compare.specs.Comparison.{has_unread, verdict}
 use Rattle.implib_compare.specs.Working.{both_work, working_of, working_status}
-use Rattle.implib_check.specs.Tasks.{Checks, Compares, Defines, Help, Identifies, Joins, Lists, TaskView, Version, WorksOf}
-use Rattle.implib_check.specs.Status.{comparison_status, identity_status, list_status, no_library_status}
+use Rattle.implib_check.specs.Against.{DefinitionAgainst, begins_archive, begins_dll, is_library, library_against}
+use Rattle.implib_check.specs.Calls.{CheckView, DefineView}
+use Rattle.implib_check.specs.Defining.{DefinesFor, IsUndefined}
+use Rattle.implib_check.specs.Targets.{options_for, options_of}
+use Rattle.implib_check.specs.declared.defining.Undefined.{Undefined}
+use Rattle.implib_compare.specs.Meant.{IsRefusalFor, IsVerdictOn}
+use Rattle.implib_compare.specs.declared.compare.Verdict.{Verdict}
+use Rattle.implib_rules.specs.declared.library.Refusal.{Refusal}
+use Rattle.implib_check.specs.Tasks.{Checks, Compares, Defines, Help, Identifies, Joins, Lists, ListsExports, TaskView, Version, WorksOf}
+use Rattle.implib_dll.specs.Exports.{Exports, exports_in}
+use Rattle.implib_dll.specs.Outcome.{Read}
+use Rattle.implib_dll.specs.declared.section.Layout.TheVariants.{File}
+use Rattle.implib_check.specs.Status.{comparison_status, identity_status, list_status, no_library_status, refusal_status, undefined_status}
 
 -- a library is that of these bytes
 abbrev pub IsReadAs : List ℕ → Library → Type 0
@@ -60,16 +71,99 @@ compared_in left right = option_map_or (λ a. option_map_or (compared a) (archiv
 abbrev pub AnswersOfBoth : Option (List ℕ) → Option (List ℕ) → ℕ → Type 0
 AnswersOfBoth left right status = OrFailed status (IfSome left (λ l. IfSome right (λ r. status ≡ compared_in l r)))
 
+-- the status of bytes that are no DLL with exports: 3 where they are refused, and 1 where nothing is exported
+abbrev pub IsNoDll : Read (Option Exports) → ℕ → Type 0
+IsNoDll (Ok (Some e)) status = ⊥
+IsNoDll (Ok None) status = status ≡ 1
+IsNoDll (Err fault) status = status ≡ 3
+
+-- the status of the exports of a DLL: 3 where its bytes are refused, and 1 where nothing is exported
+abbrev pub exported : Read (Option Exports) → ℕ
+exported (Ok (Some e)) = 0
+exported (Ok None) = 1
+exported (Err fault) = 3
+
+abbrev pub AnswersExports : Option (List ℕ) → ℕ → Type 0
+AnswersExports file status = OrFailed status (IfSome file (λ bytes. status ≡ exported (exports_in File bytes)))
+
+-- The status of an archive beside a definition: of the verdict on both, and where they are the same, of whether the
+-- archive works.
+pub record IsChecked (check : CheckView) (a : Archive) (definition : List ℕ) (status : ℕ) : Type 0 where
+  pub verdict : Verdict
+  pub on : IsVerdictOn check.older_symbols definition (options_for check (members_read a.members)) (members_read a.members) verdict
+  pub is : status ≡ comparison_status verdict (working_of a (members_read a.members))
+
+-- the status of a definition that is refused
+pub record IsCheckRefused (check : CheckView) (a : Archive) (definition : List ℕ) (status : ℕ) : Type 0 where
+  pub why : Refusal
+  pub is_refusal : IsRefusalFor check.older_symbols definition (options_for check (members_read a.members)) why
+  pub is : status ≡ refusal_status why
+
+-- the status of an archive, or of bytes that are none, beside a definition: 2 where that is a library, too
+abbrev pub CheckedAs : CheckView → List ℕ → List ℕ → Option Archive → ℕ → Type 0
+CheckedAs check library definition None status = status ≡ no_library_status library
+CheckedAs check library definition (Some a) status =
+    (is_library definition ≡ true → status ≡ 2)
+    × (is_library definition ≡ false → IsChecked check a definition status ⊎ IsCheckRefused check a definition status)
+
+-- what is said of the status of a library beside a definition: 2 where exports of a DLL are asked for
+abbrev pub IsAnswerChecked : CheckView → List ℕ → List ℕ → ℕ → Type 0
+IsAnswerChecked check library definition status =
+    (check.lists_unasked ≡ true → status ≡ 2)
+    × (check.lists_unasked ≡ false → CheckedAs check library definition (archive_in library) status)
+
+-- The status of an archive of one DLL whose definition is asked for: 0 where the text that says its imports is one.
+pub record IsDefinedAs (define : DefineView) (a : Archive) (status : ℕ) : Type 0 where
+  pub text : List ℕ
+  pub defines : DefinesFor define.older_symbols text (options_of define (members_read a.members)) (members_read a.members)
+  pub is : status ≡ 0
+
+pub record IsUndefinedAs (define : DefineView) (a : Archive) (status : ℕ) : Type 0 where
+  pub why : Undefined
+  pub undefined : IsUndefined false define.older_symbols (options_of define (members_read a.members)) (members_read a.members) why
+  pub is : status ≡ undefined_status why
+
+-- the status of an archive, or of bytes that are none, whose definition is asked for: 1 where it is not of one DLL
+abbrev pub DefinedAs : DefineView → List ℕ → Option Archive → ℕ → Type 0
+DefinedAs define library None status = status ≡ no_library_status library
+DefinedAs define library (Some a) status =
+    ((length (dlls_of (members_read a.members)) == 1) ≡ false → status ≡ 1)
+    × ((length (dlls_of (members_read a.members)) == 1) ≡ true → IsDefinedAs define a status ⊎ IsUndefinedAs define a status)
+
+abbrev pub AnswersDefine : DefineView → Option (List ℕ) → ℕ → Type 0
+AnswersDefine define file status =
+    IfSome file (λ f. begins_dll f ≡ false → OrFailed status (DefinedAs define f (archive_in f) status))
+
+-- what is said of the status of a library or a definition beside a DLL: 2 where it is a DLL itself
+abbrev pub IsAnswerBeside : CheckView → List ℕ → List ℕ → ℕ → Type 0
+IsAnswerBeside check first dll status =
+    (begins_archive first ≡ true → status ≡ library_against check first dll)
+    × ((begins_archive first ≡ false → begins_dll first ≡ true → status ≡ 2)
+    × (begins_archive first ≡ false → begins_dll first ≡ false
+    → DefinitionAgainst check first (exports_in File dll) status))
+
+-- what is said of the status of a library or a definition beside a DLL or a definition
+abbrev pub IsAnswerWith : CheckView → List ℕ → List ℕ → ℕ → Type 0
+IsAnswerWith check first second status =
+    (begins_dll second ≡ true → IsAnswerBeside check first second status)
+    × (begins_dll second ≡ false → IsAnswerChecked check first second status)
+
+-- the same where the bytes of both files are known
+abbrev pub AnswersBeside : CheckView → Option (List ℕ) → Option (List ℕ) → ℕ → Type 0
+AnswersBeside check first second status =
+    OrFailed status (IfSome first (λ f. IfSome second (λ d. IsAnswerWith check f d status)))
+
 -- the status of what a command line asks for: 2 where it asks for nothing
 abbrev pub AnswersTask : (List ℕ → Option (List ℕ)) → Option TaskView → ℕ → Type 0
 AnswersTask seen None status = status ≡ 2
 AnswersTask seen (Some (Lists path)) status = AnswersOf listed (seen path) status
+AnswersTask seen (Some (ListsExports path)) status = AnswersExports (seen path) status
 AnswersTask seen (Some (Identifies path strictly)) status = AnswersOf (identified strictly) (seen path) status
 AnswersTask seen (Some (WorksOf path)) status = AnswersOf worked (seen path) status
 AnswersTask seen (Some (Compares left right)) status = AnswersOfBoth (seen left) (seen right) status
 AnswersTask seen (Some Help) status = OrFailed status (status ≡ 0)
 AnswersTask seen (Some Version) status = OrFailed status (status ≡ 0)
--- of the others the statuses are those of `Status`, by what is found
+AnswersTask seen (Some (Defines define)) status = AnswersDefine define (seen define.library) status
+-- of libraries in one link the status is that of `Status`, by what is found
 AnswersTask seen (Some (Joins paths)) status = Unit {0}
-AnswersTask seen (Some (Checks check)) status = Unit {0}
-AnswersTask seen (Some (Defines define)) status = Unit {0}
+AnswersTask seen (Some (Checks check)) status = AnswersBeside check (seen check.library) (seen check.definition) status

@@ -16,7 +16,7 @@ use Rattle.implib_check.specs.declared.call.Reading.{Reading}
 use Rattle.implib_check.specs.declared.call.Setting.{Setting}
 use Rattle.implib_check.specs.declared.call.Setting.TheVariants as setting
 
--- a library, and the definition that it is compared with
+-- a library, and the definition or the DLL that it is compared with
 pub record CheckView : Type 0 where
   pub library : List ℕ
   pub definition : List ℕ
@@ -29,6 +29,8 @@ pub record CheckView : Type 0 where
   pub naming : NamingView
   -- whether addresses have their older symbols too
   pub older_symbols : Bool
+  -- whether the exports of a DLL that no import asks for are listed
+  pub lists_unasked : Bool
 
 -- the view of a comparison of the program
 abbrev pub check_view : Check → CheckView
@@ -40,6 +42,7 @@ check_view c = record {
   dll = option_map (λ text. text.now) c.dll;
   naming = naming_view c.naming;
   older_symbols = c.older_symbols;
+  lists_unasked = c.lists_unasked;
 }
 
 -- a library whose definition is asked for
@@ -72,6 +75,7 @@ pub record ReadingView : Type 0 where
   pub dll : Option (List ℕ)
   pub naming : NamingView
   pub older_symbols : Bool
+  pub lists_unasked : Bool
   -- the option whose value the next word is
   pub waiting : Option Setting
 
@@ -85,6 +89,7 @@ reading_view r = record {
   dll = option_map (λ text. text.now) r.dll;
   naming = naming_view r.naming;
   older_symbols = r.older_symbols;
+  lists_unasked = r.lists_unasked;
   waiting = r.waiting;
 }
 
@@ -98,6 +103,7 @@ unread_call = record {
   dll = None;
   naming = record { is_plain = false; kills_at = false; exports_as = false; keeps_decorated = false };
   older_symbols = false;
+  lists_unasked = false;
   waiting = None;
 }
 
@@ -117,6 +123,7 @@ with_option option r =
     else if bytes_eq option (codes "--export-as") then Some (record r { naming = record r.naming { exports_as = true } })
     else if bytes_eq option (codes "--lib") then Some (record r { naming = record r.naming { exports_as = true; keeps_decorated = true } })
     else if bytes_eq option (codes "-C") || bytes_eq option (codes "--compat-implib") then Some (record r { older_symbols = true })
+    else if bytes_eq option (codes "--all") then Some (record r { lists_unasked = true })
     else if bytes_eq option (codes "-m") then Some (record r { waiting = Some setting.Machine })
     else if bytes_eq option (codes "--machine") then Some (record r { waiting = Some setting.Machine })
     else if bytes_eq option (codes "-D") then Some (record r { waiting = Some setting.Dll })
@@ -168,6 +175,7 @@ check_of (Some library) (Some definition) None r = Some (record {
   dll = r.dll;
   naming = r.naming;
   older_symbols = r.older_symbols;
+  lists_unasked = r.lists_unasked;
 })
 check_of _ _ _ r = None
 
@@ -197,7 +205,7 @@ define_of _ _ _ r = None
 -- What all words say. A library has the name of its DLL and the names that it asks for itself, so no option says
 -- these.
 abbrev pub define_in : ReadingView → Option DefineView
-define_in r = if lacks_older r || (r.naming.kills_at || (r.naming.exports_as || is_some r.dll)) then None else define_of r.library r.definition r.waiting r
+define_in r = if lacks_older r || (r.naming.kills_at || (r.naming.exports_as || (is_some r.dll || r.lists_unasked))) then None else define_of r.library r.definition r.waiting r
 
 -- the definition that words ask for
 abbrev pub define_called : List (List ℕ) → Option DefineView

@@ -36,8 +36,8 @@ DefinesFor false text options members = Defines text options members
 
 -- Why a library has no definition: a member may import what is not read; or the text that says its imports, as far as
 -- a text can, is refused, or means others.
-abbrev pub IsUndefined : Bool → LibraryOptionsView → List MemberRead → Undefined → Type 0
-IsUndefined older options members Unread = has_unread members ≡ true
-IsUndefined older options members (Refused refusal) = IsRefusalFor older (definition_text options members) options refusal
-IsUndefined older options members Different = IsVerdictOn older (definition_text options members) options members TheyDiffer
-IsUndefined older options members (Failed failure) = Unit {0}
+abbrev pub IsUndefined : Bool → Bool → LibraryOptionsView → List MemberRead → Undefined → Type 0
+IsUndefined hints older options members Unread = has_unread members ≡ true
+IsUndefined hints older options members (Refused refusal) = IsRefusalFor older (definition_text hints options members) options refusal
+IsUndefined hints older options members Different = IsVerdictOn older (definition_text hints options members) options members TheyDiffer
+IsUndefined hints older options members (Failed failure) = Unit {0}

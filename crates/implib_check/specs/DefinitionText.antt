@@ -62,10 +62,19 @@ word_of_symbol machine naming symbol =
 
 -- Lines.
 
--- what is asked for, unless it is the word
-abbrev pub asked_text : List ℕ → Ask → List ℕ
-asked_text word (Ordinal ordinal) = codes " @" ++ (decimal ordinal ++ codes " NONAME")
-asked_text word (Name name hint) = if bytes_eq name word then [] else codes " == " ++ name_text name
+-- the hint as the ordinal of an export by name, which an import library has it by, where that is asked for
+abbrev pub hint_ordinal : Bool → ℕ → List ℕ
+hint_ordinal hints hint = if hints && not (hint == 0) then codes " @" ++ decimal hint else []
+
+-- a name that is asked for, unless it is the word
+abbrev pub other_text : List ℕ → List ℕ → List ℕ
+other_text word name = if bytes_eq name word then [] else codes " == " ++ name_text name
+
+-- what is asked for, unless it is the word, and the hint where it is an ordinal
+abbrev pub asked_text : Bool → List ℕ → Ask → List ℕ
+asked_text hints word (Ordinal ordinal) = codes " @" ++ (decimal ordinal ++ codes " NONAME")
+asked_text hints word (Name name hint) =
+    other_text word name ++ hint_ordinal hints hint
 
 -- what an import is of
 abbrev pub kind_text : ImportKind → List ℕ
@@ -74,18 +83,19 @@ kind_text Data = codes " DATA"
 kind_text Const = codes " CONSTANT"
 kind_text CodeOrConst = []
 
--- the hint, as a comment: no definition says it, but as the ordinal of an export by name
-abbrev pub hint_text : Ask → List ℕ
-hint_text (Ordinal ordinal) = []
-hint_text (Name name hint) = if hint == 0 then [] else codes " ; hint " ++ decimal hint
+-- the hint, as a comment, where it is no ordinal
+abbrev pub hint_text : Bool → Ask → List ℕ
+hint_text hints (Ordinal ordinal) = []
+hint_text hints (Name name hint) = if hints || hint == 0 then [] else codes " ; hint " ++ decimal hint
 
 -- an import by its word
-abbrev pub export_text : List ℕ → Imported → List ℕ
-export_text word i = codes "    " ++ (name_text word ++ (asked_text word i.imports.ask ++ (kind_text i.kind ++ (hint_text i.imports.ask ++ 10 ∷ []))))
+abbrev pub export_text : Bool → List ℕ → Imported → List ℕ
+export_text hints word i =
+    codes "    " ++ (name_text word ++ (asked_text hints word i.imports.ask ++ (kind_text i.kind ++ (hint_text hints i.imports.ask ++ 10 ∷ []))))
 
 -- an import
-abbrev pub import_text : MachineType → NamingView → Imported → List ℕ
-import_text machine naming i = export_text (word_of_symbol machine naming (linked_symbol i.imports.declared)) i
+abbrev pub import_text : Bool → MachineType → NamingView → Imported → List ℕ
+import_text hints machine naming i = export_text hints (word_of_symbol machine naming (linked_symbol i.imports.declared)) i
 
 -- an alias of one symbol for another, and what it is of
 abbrev pub weak_text : MachineType → NamingView → List ℕ → List ℕ → List ℕ → List ℕ
@@ -101,17 +111,17 @@ alias_text machine naming before a =
     else weak_text machine naming (without_imp a.weak) (without_imp a.target) (codes " DATA")
 
 -- a member, given the weak symbol of the one before it
-abbrev pub member_text : MachineType → NamingView → List ℕ → Class → List ℕ
-member_text machine naming before (AnImport i) = import_text machine naming i
-member_text machine naming before (AnAlias a) = alias_text machine naming before a
-member_text machine naming before Descriptor = []
-member_text machine naming before NullDescriptor = []
-member_text machine naming before NullThunk = []
-member_text machine naming before Head = []
-member_text machine naming before Tail = []
-member_text machine naming before DelayImport = []
-member_text machine naming before Other = []
-member_text machine naming before NotUnderstood = []
+abbrev pub member_text : Bool → MachineType → NamingView → List ℕ → Class → List ℕ
+member_text hints machine naming before (AnImport i) = import_text hints machine naming i
+member_text hints machine naming before (AnAlias a) = alias_text machine naming before a
+member_text hints machine naming before Descriptor = []
+member_text hints machine naming before NullDescriptor = []
+member_text hints machine naming before NullThunk = []
+member_text hints machine naming before Head = []
+member_text hints machine naming before Tail = []
+member_text hints machine naming before DelayImport = []
+member_text hints machine naming before Other = []
+member_text hints machine naming before NotUnderstood = []
 
 -- the weak symbol of a member, if it is an alias
 abbrev pub weak_of : Class → List ℕ
@@ -127,10 +137,10 @@ weak_of Other = []
 weak_of NotUnderstood = []
 
 -- members, given the weak symbol of the one before them
-abbrev pub members_text : MachineType → NamingView → List ℕ → List MemberRead → List ℕ
-members_text machine naming before [] = []
-members_text machine naming before (m ∷ members) =
-    member_text machine naming before m.class ++ members_text machine naming (weak_of m.class) members
+abbrev pub members_text : Bool → MachineType → NamingView → List ℕ → List MemberRead → List ℕ
+members_text hints machine naming before [] = []
+members_text hints machine naming before (m ∷ members) =
+    member_text hints machine naming before m.class ++ members_text hints machine naming (weak_of m.class) members
 
 -- The head.
 
@@ -165,7 +175,7 @@ head_text options told dll =
     codes "; -m " ++ (machine_text options.machine ++ (codes " --flavor " ++ (flavor_text options.flavor ++ (naming_text options.naming
     ++ (10 ∷ (untold_text told ++ (codes "LIBRARY " ++ (name_text dll ++ codes "\nEXPORTS\n"))))))))
 
--- the definition of a library
-abbrev pub definition_text : LibraryOptionsView → List MemberRead → List ℕ
-definition_text options members =
-    head_text options (tells_constants members) (first_dll members) ++ members_text options.machine options.naming [] members
+-- the definition of a library, with its hints as ordinals or as comments
+abbrev pub definition_text : Bool → LibraryOptionsView → List MemberRead → List ℕ
+definition_text hints options members =
+    head_text options (tells_constants members) (first_dll members) ++ members_text hints options.machine options.naming [] members

@@ -1,7 +1,14 @@
 -- What is found, as a JSON object (this project's choice; docs/CHECK.md, "JSON").
 use Rattle.std.specs.Prelude.{ℕ, ◌+◌, zero, suc, ◌==◌, List, [], ◌++◌, Option, Some, None, codes, drop, if◌then◌else◌, length, take}
+use Rattle.std.specs.Option.{option_map}
 use Rattle.std.specs.Str.Lossy.{replacement_bytes, utf8_valid_len}
 use Rattle.implib.specs.Import.{Ask, Name, Ordinal}
+use Rattle.implib_dll.specs.Exports.{Target, Empty, Address, Forwarder}
+use Rattle.implib_dll.specs.Views.{target_view}
+use Rattle.implib_dll.specs.declared.section.AddressKind.{AddressKind}
+use Rattle.implib_dll.specs.declared.section.AddressKind.TheVariants as address
+use Rattle.implib_dll_check.specs.declared.import.Loss.{Loss}
+use Rattle.implib_dll_check.specs.declared.import.Loss.TheVariants.{OtherDll, OtherMachine, NotFound, DataAsFunction}
 use Rattle.implib.specs.declared.def.position.Position.{Position}
 use Rattle.implib_read.specs.Classes.{Class, AnImport, AnAlias, Descriptor, NullDescriptor, NullThunk, Head, Tail, DelayImport, Other, NotUnderstood, MemberRead}
 use Rattle.implib_read.specs.Archives.{StoredMember}
@@ -14,6 +21,7 @@ use Rattle.implib_read.specs.declared.import.ImportKind.{ImportKind}
 use Rattle.implib_read.specs.declared.import.ImportKind.TheVariants.{Code, CodeOrConst, Const, Data as OfData}
 use Rattle.serde_json.specs.Data.{Data, Members, no_members, number, object, put, string, unsigned}
 use Rattle.serde_json.specs.Written.{compact_text}
+use Rattle.implib_check.specs.declared.finding.Export.{Export}
 use Rattle.implib_check.specs.declared.finding.Fault.{Fault}
 use Rattle.implib_check.specs.declared.finding.Fault.TheVariants as fault
 use Rattle.implib_check.specs.declared.finding.Finding.{Finding}
@@ -46,6 +54,12 @@ pub data FaultView : Type 0 where
   NotOnePart : Piece → FaultView
   SeveralDlls : FaultView
 
+-- an export of a DLL: its ordinal, where it leads, and its name with its position among the names, if it has one
+pub record ExportView : Type 0 where
+  pub ordinal : ℕ
+  pub target : Target
+  pub name : Option (ℕ × List ℕ)
+
 -- what is found
 pub data FindingView : Type 0 where
   Listed : SideView → FindingView
@@ -53,6 +67,10 @@ pub data FindingView : Type 0 where
   Missing : SideView → SiteView → FindingView
   Clash : List ℕ → SideView → SideView → FindingView
   FaultOf : List ℕ → FaultView → FindingView
+  Lost : SideView → List ℕ → Loss → FindingView
+  Searched : SiteView → ℕ → FindingView
+  Unasked : List ℕ → ExportView → FindingView
+  Exported : List ℕ → ExportView → FindingView
 
 -- the views of what the program has
 abbrev pub site_view : Site → SiteView
@@ -70,12 +88,23 @@ fault_view (fault.CutApart apart) = CutApart (cut_apart_view apart.now).0 (cut_a
 fault_view (fault.NotOnePart part) = NotOnePart part
 fault_view fault.SeveralDlls = SeveralDlls
 
+abbrev pub export_view : Export → ExportView
+export_view e = record {
+  ordinal = e.ordinal;
+  target = target_view e.target;
+  name = option_map (λ found. (found.0, found.1.now)) e.name;
+}
+
 abbrev pub finding_view : Finding → FindingView
 finding_view (finding.Listed side) = Listed (side_view side)
 finding_view (finding.Different here there) = Different (side_view here) (side_view there)
 finding_view (finding.Missing here there) = Missing (side_view here) (site_view there)
 finding_view (finding.Clash symbol here there) = Clash symbol.now (side_view here) (side_view there)
 finding_view (finding.Fault path fault) = FaultOf path.now (fault_view fault)
+finding_view (finding.Lost side dll loss) = Lost (side_view side) dll.now loss
+finding_view (finding.Searched site count) = Searched (site_view site) count
+finding_view (finding.Unasked path export) = Unasked path.now (export_view export)
+finding_view (finding.Exported path export) = Exported path.now (export_view export)
 
 -- Names and words.
 
@@ -104,6 +133,19 @@ piece_words piece.OfNullDescriptor = codes "null descriptor"
 piece_words piece.OfNullThunk = codes "null thunk"
 piece_words piece.OfHead = codes "head"
 piece_words piece.OfTail = codes "tail"
+
+-- why an import is lost
+abbrev pub loss_words : Loss → List ℕ
+loss_words OtherDll = codes "another DLL"
+loss_words OtherMachine = codes "another machine"
+loss_words NotFound = codes "not exported"
+loss_words DataAsFunction = codes "data as a function"
+
+-- the word of what is at an address
+abbrev pub address_word : AddressKind → List ℕ
+address_word address.Code = codes "code"
+address_word address.Data = codes "data"
+address_word address.Outside = codes "outside"
 
 -- what a member is, in a word
 abbrev pub class_word : Class → List ℕ
@@ -134,6 +176,10 @@ what_of (Different here there) = codes "difference"
 what_of (Missing here there) = codes "difference"
 what_of (Clash symbol here there) = codes "clash"
 what_of (FaultOf path fault) = fault_word fault
+what_of (Lost side dll loss) = codes "lost"
+what_of (Searched site count) = codes "searched"
+what_of (Unasked path export) = codes "unasked"
+what_of (Exported path export) = codes "export"
 
 -- Objects: the fields of a part, with those that are there.
 
@@ -211,6 +257,27 @@ with_fault (CutApart m cut) fields =
 with_fault (NotOnePart part) fields = with_word (codes "part") (piece_words part) (with_word (codes "why") (codes "not one part") fields)
 with_fault SeveralDlls fields = with_word (codes "why") (codes "several DLLs") fields
 
+-- where an export leads
+abbrev pub with_target : Target → Members → Members
+with_target Empty fields = fields
+with_target (Address place kind) fields =
+    with_number (codes "address") place (with_word (codes "kind") (address_word kind) fields)
+with_target (Forwarder text) fields = with_name (codes "target") text (with_word (codes "kind") (codes "forwarder") fields)
+
+-- the name of an export, and its position, which is the hint by which a loader finds it at once
+abbrev pub with_named : Option (ℕ × List ℕ) → Members → Members
+with_named None fields = fields
+with_named (Some found) fields = with_number (codes "hint") found.0 (with_name (codes "name") found.1 fields)
+
+-- an export of the DLL of a file
+abbrev pub with_export : List ℕ → ExportView → Members → Members
+with_export path e fields =
+    with_named e.name (with_target e.target (with_number (codes "ordinal") e.ordinal (with_word (codes "file") path fields)))
+
+-- an import that is lost in the DLL of a file
+abbrev pub with_loss : SideView → List ℕ → Loss → Members → Members
+with_loss side dll loss fields = with_side side (with_word (codes "dll_file") dll (with_word (codes "why") (loss_words loss) fields))
+
 -- what is found
 abbrev pub with_finding : FindingView → Members → Members
 with_finding (Listed side) fields = with_side side fields
@@ -218,6 +285,10 @@ with_finding (Different here there) fields = with_sides here.symbol (side_object
 with_finding (Missing here there) fields = with_sides here.symbol (side_object here) (site_object there) fields
 with_finding (Clash symbol here there) fields = with_sides symbol (side_object here) (side_object there) fields
 with_finding (FaultOf path fault) fields = with_fault fault (with_word (codes "library") path fields)
+with_finding (Lost side dll loss) fields = with_loss side dll loss fields
+with_finding (Searched site count) fields = with_number (codes "count") count (with_site site fields)
+with_finding (Unasked path export) fields = with_export path export fields
+with_finding (Exported path export) fields = with_export path export fields
 
 -- The object of what is found.
 abbrev pub object_of : FindingView → Data

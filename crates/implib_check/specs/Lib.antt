@@ -1,3 +1,4 @@
+pub mod Against
 pub mod Calls
 pub mod Targets
 pub mod Refused
@@ -12,6 +13,7 @@ pub mod Json
 pub mod Together
 pub mod Status
 pub mod Worked
+pub mod WorkedAgainst
 pub mod WorkedChecks
 pub mod WorkedDefinitions
 pub mod WorkedExportAs

@@ -13,6 +13,8 @@ pub data TaskView : Type 0 where
   Version : TaskView
   -- a line for each import of a library
   Lists : List ℕ → TaskView
+  -- a line for each export of a DLL
+  ListsExports : List ℕ → TaskView
   -- the DLLs of a library; whether there is to be one alone
   Identifies : List ℕ → Bool → TaskView
   -- whether a library works
@@ -31,6 +33,7 @@ abbrev pub task_view : Task → TaskView
 task_view task.Help = Help
 task_view task.Version = Version
 task_view (task.List path) = Lists path.now
+task_view (task.Exports path) = ListsExports path.now
 task_view (task.Identify path is_strict) = Identifies path.now is_strict
 task_view (task.Works path) = WorksOf path.now
 task_view (task.Same left right) = Compares left.now right.now
@@ -49,6 +52,7 @@ alone option =
 abbrev pub with_library : List ℕ → List ℕ → Option TaskView
 with_library option path =
     if bytes_eq option (codes "--list") then Some (Lists path)
+    else if bytes_eq option (codes "--exports") then Some (ListsExports path)
     else if bytes_eq option (codes "--identify") then Some (Identifies path false)
     else if bytes_eq option (codes "--identify-strict") then Some (Identifies path true)
     else if bytes_eq option (codes "--works") then Some (WorksOf path)
@@ -102,6 +106,7 @@ abbrev pub has_json_form : TaskView → Bool
 has_json_form Help = false
 has_json_form Version = false
 has_json_form (Lists path) = true
+has_json_form (ListsExports path) = true
 has_json_form (Identifies path is_strict) = false
 has_json_form (WorksOf path) = true
 has_json_form (Compares left right) = true

@@ -24,6 +24,7 @@ plain_check = record {
   dll = None;
   naming = record { is_plain = false; kills_at = false; exports_as = false; keeps_decorated = false };
   older_symbols = false;
+  lists_unasked = false;
 }
 
 -- with each option
@@ -36,6 +37,7 @@ full_check = record {
   dll = Some (codes "d/zoo.dll");
   naming = record { is_plain = true; kills_at = true; exports_as = false; keeps_decorated = false };
   older_symbols = false;
+  lists_unasked = false;
 }
 
 -- What calls say, and some that say nothing.

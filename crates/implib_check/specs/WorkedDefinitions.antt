@@ -39,24 +39,31 @@ plain_define = record { library = codes "a.lib"; machine = None; flavor = None; 
 
 -- What the definitions of libraries are.
 pub record WorkedDefinitions : Type 0 where
-  pub zoo_text : definition_text (on AMD64 Msvc) zoo
+  pub zoo_text : definition_text false (on AMD64 Msvc) zoo
       ≡ codes "; -m i386:x86-64 --flavor msvc\nLIBRARY zoo.dll\nEXPORTS\n    feed\n    nourish == feed\n"
   -- an ordinal, data, a constant, another name, and a hint
-  pub kinds : definition_text (on ARM64 Msvc)
+  pub kinds : definition_text false (on ARM64 Msvc)
       (of_dll (codes "zoo.dll") (codes "__imp_night" ∷ codes "night" ∷ []) (Ordinal 107) Code 0xAA64
       ∷ of_dll (codes "zoo.dll") (codes "__imp_keepers" ∷ []) (Name (codes "keepers") 0) Data 0xAA64
       ∷ of_dll (codes "zoo.dll") (codes "__imp_size" ∷ codes "size" ∷ []) (Name (codes "size") 3) Const 0xAA64
       ∷ of_dll (codes "zoo.dll") (codes "__imp_open" ∷ codes "open" ∷ []) (Name (codes "OPEN") 0) Code 0xAA64 ∷ [])
       ≡ codes "; -m arm64 --flavor msvc\nLIBRARY zoo.dll\nEXPORTS\n    night @107 NONAME\n    keepers DATA\n    size CONSTANT ; hint 3\n    open == \"OPEN\"\n"
+  -- with hints as ordinals: of a name, of data, and of another name; none is 0
+  pub hints : definition_text true (on ARM64 Msvc)
+      (of_dll (codes "zoo.dll") (codes "__imp_night" ∷ codes "night" ∷ []) (Ordinal 107) Code 0xAA64
+      ∷ of_dll (codes "zoo.dll") (codes "__imp_feed" ∷ codes "feed" ∷ []) (Name (codes "feed") 0) Code 0xAA64
+      ∷ of_dll (codes "zoo.dll") (codes "__imp_keepers" ∷ []) (Name (codes "keepers") 2) Data 0xAA64
+      ∷ of_dll (codes "zoo.dll") (codes "__imp_open" ∷ codes "open" ∷ []) (Name (codes "OPEN") 65535) Code 0xAA64 ∷ [])
+      ≡ codes "; -m arm64 --flavor msvc\nLIBRARY zoo.dll\nEXPORTS\n    night @107 NONAME\n    feed\n    keepers @2 DATA\n    open == \"OPEN\" @65535\n"
   -- for GNU's linker, on I386; the members of import tables have no line
-  pub gnu : definition_text (on I386 Gnu)
+  pub gnu : definition_text false (on I386 Gnu)
       (member Tail ∷ member Head ∷ of_dll (codes "the zoo.dll") (codes "__imp__feed@8" ∷ codes "_feed@8" ∷ []) (Name (codes "feed") 0) CodeOrConst 0x14C ∷ [])
       ≡ codes "; -m i386 --flavor gnu\n; CONSTANT is not told from code\nLIBRARY \"the zoo.dll\"\nEXPORTS\n    feed@8 == feed\n"
   -- the alias of an address alone is of data, and behind that of the symbol it has no line
-  pub data_alias : definition_text (on AMD64 Msvc)
+  pub data_alias : definition_text false (on AMD64 Msvc)
       (of_dll (codes "z.dll") feed (Name (codes "feed") 0) Code 0x8664 ∷ alias (codes "__imp_a") (codes "__imp_feed") ∷ [])
       ≡ codes "; -m i386:x86-64 --flavor msvc\nLIBRARY z.dll\nEXPORTS\n    feed\n    a == feed DATA\n"
-  pub both_aliases : definition_text (on AMD64 Msvc)
+  pub both_aliases : definition_text false (on AMD64 Msvc)
       (of_dll (codes "z.dll") feed (Name (codes "feed") 0) Code 0x8664 ∷ alias (codes "a") (codes "feed") ∷ alias (codes "__imp_a") (codes "__imp_feed") ∷ [])
       ≡ codes "; -m i386:x86-64 --flavor msvc\nLIBRARY z.dll\nEXPORTS\n    feed\n    a == feed\n"
   -- the options that the head has

@@ -4,8 +4,11 @@ use Rattle.implib.specs.Import.{Name, Ordinal}
 use Rattle.implib_read.specs.Classes.{MemberRead}
 use Rattle.implib_read.specs.declared.import.ImportKind.TheVariants.{Code}
 use Rattle.serde_json.specs.Data.{Data, Members, member, no_members, number, object, string, unsigned}
-use Rattle.implib_check.specs.Json.{Clash, CutApart, Different, FaultOf, InDefinition, InLibrary, Listed, Missing, MisleadingEntry, NoIndex, NotOnePart}
-use Rattle.implib_check.specs.Json.{SeveralDlls, SideView, UnreadableIndex, line_of, object_of, text_of}
+use Rattle.implib_check.specs.Json.{Clash, CutApart, Different, Exported, FaultOf, InDefinition, InLibrary, Listed, Lost, Missing, MisleadingEntry, NoIndex, NotOnePart}
+use Rattle.implib_check.specs.Json.{Searched, SeveralDlls, SideView, Unasked, UnreadableIndex, address_word, line_of, loss_words, object_of, text_of}
+use Rattle.implib_dll.specs.Exports.{Address, Forwarder}
+use Rattle.implib_dll.specs.declared.section.AddressKind.TheVariants as address
+use Rattle.implib_dll_check.specs.declared.import.Loss.TheVariants.{DataAsFunction, NotFound, OtherDll, OtherMachine}
 use Rattle.implib_compare.specs.Worked.{alias, feed, of_dll}
 use Rattle.implib_compare.specs.declared.working.Piece.TheVariants.{OfHead}
 
@@ -128,6 +131,61 @@ pub record WorkedJson : Type 0 where
       (word (codes "library") (codes "a.lib")
       (word (codes "what") (codes "not decided")
       (word (codes "why") (codes "several DLLs") no_members)))
+  -- beside a DLL: an import that is lost, of a library and of a definition, searches, and exports
+  pub lost : object_of (Lost (in_library by_name) (codes "z.dll") NotFound) ≡ object
+      (word (codes "dll") (codes "zoo.dll")
+      (word (codes "dll_file") (codes "z.dll")
+      (numeral (codes "hint") 5
+      (word (codes "kind") (codes "code")
+      (word (codes "library") (codes "a.lib")
+      (numeral (codes "machine") 0x8664
+      (word (codes "member") (codes "m")
+      (word (codes "name") (codes "feed")
+      (numeral (codes "offset") 8
+      (word (codes "symbol") (codes "feed")
+      (word (codes "what") (codes "lost")
+      (word (codes "why") (codes "not exported") no_members))))))))))))
+  pub lost_of_definition : object_of (Lost (in_definition by_ordinal) (codes "z.dll") DataAsFunction) ≡ object
+      (numeral (codes "column") 3
+      (word (codes "dll") (codes "zoo.dll")
+      (word (codes "dll_file") (codes "z.dll")
+      (word (codes "file") (codes "a.def")
+      (word (codes "kind") (codes "code")
+      (numeral (codes "line") 4
+      (numeral (codes "machine") 0x14C
+      (numeral (codes "ordinal") 7
+      (word (codes "symbol") (codes "feed")
+      (word (codes "what") (codes "lost")
+      (word (codes "why") (codes "data as a function") no_members)))))))))))
+  pub of_other_dll : loss_words OtherDll ≡ codes "another DLL"
+  pub of_other_machine : loss_words OtherMachine ≡ codes "another machine"
+  pub found_by_search : object_of (Searched (InLibrary (codes "a.lib")) 16) ≡ object
+      (numeral (codes "count") 16
+      (word (codes "library") (codes "a.lib")
+      (word (codes "what") (codes "searched") no_members)))
+  pub of_code : object_of (Exported (codes "z.dll") (record { ordinal = 7; target = Address 0x1040 address.Code; name = Some (3, codes "feed") })) ≡ object
+      (numeral (codes "address") 0x1040
+      (word (codes "file") (codes "z.dll")
+      (numeral (codes "hint") 3
+      (word (codes "kind") (codes "code")
+      (word (codes "name") (codes "feed")
+      (numeral (codes "ordinal") 7
+      (word (codes "what") (codes "export") no_members)))))))
+  pub of_data : object_of (Unasked (codes "z.dll") (record { ordinal = 9; target = Address 0x2000 address.Data; name = None })) ≡ object
+      (numeral (codes "address") 0x2000
+      (word (codes "file") (codes "z.dll")
+      (word (codes "kind") (codes "data")
+      (numeral (codes "ordinal") 9
+      (word (codes "what") (codes "unasked") no_members)))))
+  pub of_forwarder : object_of (Exported (codes "z.dll") (record { ordinal = 8; target = Forwarder (codes "y.eat"); name = Some (0, codes "eat") })) ≡ object
+      (word (codes "file") (codes "z.dll")
+      (numeral (codes "hint") 0
+      (word (codes "kind") (codes "forwarder")
+      (word (codes "name") (codes "eat")
+      (numeral (codes "ordinal") 8
+      (word (codes "target") (codes "y.eat")
+      (word (codes "what") (codes "export") no_members)))))))
+  pub outside : address_word address.Outside ≡ codes "outside"
   -- names: UTF-8 stays, and each other byte becomes U+FFFD, those of a character that is cut off too
   pub utf8 : text_of (0x66 ∷ 0xC3 ∷ 0xBC ∷ []) ≡ 0x66 ∷ 0xC3 ∷ 0xBC ∷ []
   pub latin : text_of (0x66 ∷ 0xFC ∷ 0x72 ∷ []) ≡ 0x66 ∷ 0xEF ∷ 0xBF ∷ 0xBD ∷ 0x72 ∷ []

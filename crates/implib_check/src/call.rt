@@ -11,12 +11,12 @@ use implib_rules::linked::Naming;
 use implib_rules::machine::machine_called;
 use implib_rules::name::last_part;
 
-/// A library, and the definition that it is compared with.
+/// A library, and the definition or the DLL that it is compared with.
 #[derive(Clone, Copy, Debug)]
 pub struct Check<'a> {
     /// The file of the library.
     pub library: &'a str,
-    /// The file of the definition.
+    /// The file of the definition or of the DLL.
     pub definition: &'a str,
     /// The machine, if one is named.
     pub machine: Option<MachineType>,
@@ -28,6 +28,8 @@ pub struct Check<'a> {
     pub naming: Naming,
     /// Whether addresses have their older symbols too (`-C`).
     pub older_symbols: bool,
+    /// Whether the exports of a DLL that no import asks for are listed (`--all`).
+    pub lists_unasked: bool,
 }
 
 /// A library whose definition is asked for, and what it is for.
@@ -63,6 +65,7 @@ struct Reading<'a> {
     dll: Option<&'a str>,
     naming: Naming,
     older_symbols: bool,
+    lists_unasked: bool,
     // The option whose value the next word is.
     waiting: Option<Setting>,
 }
@@ -84,6 +87,7 @@ fn unread_call<'a>() -> Reading<'a>
             keeps_decorated: false,
         },
         older_symbols: false,
+        lists_unasked: false,
         waiting: None,
     }
 }
@@ -159,6 +163,10 @@ fn with_option<'a>(option: &str, reading: Reading<'a>) -> Option<Reading<'a>>
         }),
         "-C" | "--compat-implib" => Some(Reading {
             older_symbols: true,
+            ..reading
+        }),
+        "--all" => Some(Reading {
+            lists_unasked: true,
             ..reading
         }),
         "-m" | "--machine" => Some(Reading {
@@ -253,6 +261,7 @@ fn check_in<'a>(reading: Reading<'a>) -> Option<Check<'a>>
             dll: reading.dll,
             naming: reading.naming,
             older_symbols: reading.older_symbols,
+            lists_unasked: reading.lists_unasked,
         }),
         _ => None,
     }
@@ -287,6 +296,7 @@ fn define_in<'a>(reading: Reading<'a>) -> Option<Define<'a>>
         || reading.naming.kills_at
         || reading.naming.exports_as
         || reading.dll.is_some()
+        || reading.lists_unasked
     {
         return None;
     }

@@ -31,7 +31,7 @@ pub enum Undefined {
 
 /// The definition of a library: a text that means its imports and aliases. The text is held against the library, as
 /// any other definition, with the older symbols of addresses or without; so what is not the library's meaning is never
-/// handed out. Differences are written.
+/// handed out. Differences are written. Hints are ordinals in the text, or comments.
 ///
 /// # Errors
 ///
@@ -44,18 +44,19 @@ pub fn definition_of<O: Write>(
     paths: (&str, &str),
     members: &[MemberRead],
     options: &LibraryOptions,
+    hints: bool,
     older_symbols: bool,
 ) -> Result<Vec<u8>, Undefined>
     requires { options.now.naming.exports_as ≡ false }
-    ensures text { IfOk result (λ text. text.items ≡ definition_text (library_options_view options.now) (map member_read_view members.now)) }
+    ensures text { IfOk result (λ text. text.items ≡ definition_text hints (library_options_view options.now) (map member_read_view members.now)) }
     ensures defines { IfOk result (λ text. DefinesFor older_symbols text.items (library_options_view options.now) (map member_read_view members.now)) }
-    ensures undefined { IfErr result (IsUndefined older_symbols (library_options_view options.now) (map member_read_view members.now)) }
+    ensures undefined { IfErr result (IsUndefined hints older_symbols (library_options_view options.now) (map member_read_view members.now)) }
 {
     meant_is_defined();
     if has_unread(members) {
         return Err(Undefined::Unread);
     }
-    let Ok(text) = definition_text(form.alloc, options, members) else {
+    let Ok(text) = definition_text(form.alloc, hints, options, members) else {
         return Err(Undefined::Failed(Failure::OutOfMemory));
     };
     let checked = check_definition(form, printer, paths, members, &text, options, older_symbols);

@@ -2,7 +2,7 @@
 
 ghost use Rattle.std.specs.Prelude.{◌≡◌, ◌++◌, [], decimal, map, IfOk, OnOk};
 ghost use Rattle.std.specs.List.{list_all, list_any};
-ghost use Rattle.implib_check.specs.DefinitionText.{alias_text, asked_text, definition_text, export_text, first_dll, flavor_text, head_text};
+ghost use Rattle.implib_check.specs.DefinitionText.{alias_text, asked_text, definition_text, export_text, first_dll, hint_ordinal, other_text, flavor_text, head_text};
 ghost use Rattle.implib_check.specs.DefinitionText.{hint_text, import_text, is_address, is_capital_or_digit, is_name_byte, is_name_sign, is_plain_name};
 ghost use Rattle.implib_check.specs.DefinitionText.{is_small_letter, kind_text, machine_text, member_text, members_text, name_text};
 ghost use Rattle.implib_check.specs.DefinitionText.{naming_text, untold_text, weak_of, weak_text, without_underscore, word_of_symbol};
@@ -129,9 +129,31 @@ fn push_number(text: &mut Vec<u8>, number: u16) -> Result<(), AllocError>
     Ok(())
 }
 
-// Adds what is asked for, unless it is the word.
-fn push_asked(text: &mut Vec<u8>, word: &[u8], ask: AskFound) -> Result<(), AllocError>
-    ensures { OnOk result (text.new.items ≡ text.old.items ++ asked_text word.now (ask_view ask.entry)) }
+// Adds the hint as an ordinal, if it is asked for.
+fn push_hint_ordinal(text: &mut Vec<u8>, hints: bool, hint: u16) -> Result<(), AllocError>
+    ensures { OnOk result (text.new.items ≡ text.old.items ++ hint_ordinal hints hint) }
+{
+    if hints && hint != 0 {
+        text.extend_from_slice(b" @")?;
+        push_number(text, hint)?;
+    }
+    Ok(())
+}
+
+// Adds a name that is asked for, unless it is the word.
+fn push_other(text: &mut Vec<u8>, word: &[u8], name: &[u8]) -> Result<(), AllocError>
+    ensures { OnOk result (text.new.items ≡ text.old.items ++ other_text word.now name.now) }
+{
+    if name != word {
+        text.extend_from_slice(b" == ")?;
+        push_name(text, name)?;
+    }
+    Ok(())
+}
+
+// Adds what is asked for, unless it is the word, and the hint where it is an ordinal.
+fn push_asked(text: &mut Vec<u8>, hints: bool, word: &[u8], ask: AskFound) -> Result<(), AllocError>
+    ensures { OnOk result (text.new.items ≡ text.old.items ++ asked_text hints word.now (ask_view ask.entry)) }
 {
     match ask {
         AskFound::Ordinal(ordinal) => {
@@ -139,11 +161,9 @@ fn push_asked(text: &mut Vec<u8>, word: &[u8], ask: AskFound) -> Result<(), Allo
             push_number(text, ordinal)?;
             text.extend_from_slice(b" NONAME")?;
         }
-        AskFound::Name(name, _) => {
-            if name != word {
-                text.extend_from_slice(b" == ")?;
-                push_name(text, name)?;
-            }
+        AskFound::Name(name, hint) => {
+            push_other(text, word, name)?;
+            push_hint_ordinal(text, hints, hint)?;
         }
     }
     Ok(())
@@ -160,12 +180,12 @@ fn kind_text(kind: ImportKind) -> &'static [u8]
     }
 }
 
-// Adds the hint, as a comment.
-fn push_hint(text: &mut Vec<u8>, ask: AskFound) -> Result<(), AllocError>
-    ensures { OnOk result (text.new.items ≡ text.old.items ++ hint_text (ask_view ask.entry)) }
+// Adds the hint, as a comment, where it is no ordinal.
+fn push_hint(text: &mut Vec<u8>, hints: bool, ask: AskFound) -> Result<(), AllocError>
+    ensures { OnOk result (text.new.items ≡ text.old.items ++ hint_text hints (ask_view ask.entry)) }
 {
     match ask {
-        AskFound::Name(_, hint) if hint != 0 => {
+        AskFound::Name(_, hint) if !hints && hint != 0 => {
             text.extend_from_slice(b" ; hint ")?;
             push_number(text, hint)
         }
@@ -174,14 +194,19 @@ fn push_hint(text: &mut Vec<u8>, ask: AskFound) -> Result<(), AllocError>
 }
 
 // Adds the line of an import, by its word.
-fn push_export(text: &mut Vec<u8>, word: &[u8], import: &ImportFound) -> Result<(), AllocError>
-    ensures { OnOk result (text.new.items ≡ text.old.items ++ export_text word.now (imported_view import.now)) }
+fn push_export(
+    text: &mut Vec<u8>,
+    hints: bool,
+    word: &[u8],
+    import: &ImportFound,
+) -> Result<(), AllocError>
+    ensures { OnOk result (text.new.items ≡ text.old.items ++ export_text hints word.now (imported_view import.now)) }
 {
     text.extend_from_slice(b"    ")?;
     push_name(text, word)?;
-    push_asked(text, word, import.ask)?;
+    push_asked(text, hints, word, import.ask)?;
     text.extend_from_slice(kind_text(import.kind))?;
-    push_hint(text, import.ask)?;
+    push_hint(text, hints, import.ask)?;
     text.push(b'\n')?;
     Ok(())
 }
@@ -189,14 +214,15 @@ fn push_export(text: &mut Vec<u8>, word: &[u8], import: &ImportFound) -> Result<
 // Adds the line of an import.
 fn push_import(
     text: &mut Vec<u8>,
+    hints: bool,
     machine: MachineType,
     naming: Naming,
     import: &ImportFound,
 ) -> Result<(), AllocError>
-    ensures { OnOk result (text.new.items ≡ text.old.items ++ import_text machine (naming_view naming) (imported_view import.now)) }
+    ensures { OnOk result (text.new.items ≡ text.old.items ++ import_text hints machine (naming_view naming) (imported_view import.now)) }
 {
     let word = word_of_symbol(machine, naming, linked_symbol(&import.declared));
-    push_export(text, word, import)
+    push_export(text, hints, word, import)
 }
 
 // Adds the line of an alias of one symbol for another, with what it is of.
@@ -242,15 +268,16 @@ fn push_alias(
 // Adds the line of a member, if it has one.
 fn push_member(
     text: &mut Vec<u8>,
+    hints: bool,
     machine: MachineType,
     naming: Naming,
     before: &[u8],
     class: &MemberClass,
 ) -> Result<(), AllocError>
-    ensures { OnOk result (text.new.items ≡ text.old.items ++ member_text machine (naming_view naming) before.now (class_view class.now)) }
+    ensures { OnOk result (text.new.items ≡ text.old.items ++ member_text hints machine (naming_view naming) before.now (class_view class.now)) }
 {
     match class {
-        MemberClass::Import(import) => push_import(text, machine, naming, import),
+        MemberClass::Import(import) => push_import(text, hints, machine, naming, import),
         MemberClass::Alias(alias) => push_alias(text, machine, naming, before, alias),
         _ => Ok(()),
     }
@@ -269,15 +296,16 @@ fn weak_of<'a>(class: &MemberClass<'a>) -> &'a [u8]
 // Adds the lines of members.
 fn push_members(
     text: &mut Vec<u8>,
+    hints: bool,
     machine: MachineType,
     naming: Naming,
     members: &[MemberRead],
 ) -> Result<(), AllocError>
-    ensures { OnOk result (text.new.items ≡ text.old.items ++ members_text machine (naming_view naming) [] (map member_read_view members.now)) }
+    ensures { OnOk result (text.new.items ≡ text.old.items ++ members_text hints machine (naming_view naming) [] (map member_read_view members.now)) }
 {
     let mut before: &[u8] = b"";
     for member in members {
-        push_member(text, machine, naming, before, &member.class)?;
+        push_member(text, hints, machine, naming, before, &member.class)?;
         before = weak_of(&member.class);
     }
     Ok(())
@@ -361,13 +389,15 @@ fn push_head(
     Ok(())
 }
 
-/// The text that says the imports and aliases of a library, as far as a text can, in time linear in their length.
+/// The text that says the imports and aliases of a library, as far as a text can, in time linear in their length. The
+/// hints are ordinals of exports by name, by which an import library has them again, or comments.
 pub fn definition_text(
     alloc: Global,
+    hints: bool,
     options: &LibraryOptions,
     members: &[MemberRead],
 ) -> Result<Vec<u8>, AllocError>
-    ensures { IfOk result (λ text. text.items ≡ definition_text (library_options_view options.now) (map member_read_view members.now)) }
+    ensures { IfOk result (λ text. text.items ≡ definition_text hints (library_options_view options.now) (map member_read_view members.now)) }
 {
     let mut text = Vec::new(alloc);
     push_head(
@@ -376,6 +406,6 @@ pub fn definition_text(
         tells_constants(members),
         first_dll(members),
     )?;
-    push_members(&mut text, options.machine, options.naming, members)?;
+    push_members(&mut text, hints, options.machine, options.naming, members)?;
     Ok(text)
 }

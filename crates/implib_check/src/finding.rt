@@ -1,11 +1,13 @@
 //! What is found in libraries, and the line of text that says it.
 
 ghost use Rattle.std.specs.Prelude.{◌≡◌};
-ghost use Rattle.implib_check.specs.Json.{piece_words};
+ghost use Rattle.implib_check.specs.Json.{address_word, loss_words, piece_words};
 
 use crate::positions::Positions;
 use crate::text::{Listed, Place, Said, Shown, Site, symbol_of_member};
 use implib_compare::working::Piece;
+use implib_dll::{AddressKind, Target};
+use implib_dll_check::Loss;
 use implib_read::{CutApart, IndexEntry, MemberRead};
 use std::fmt;
 
@@ -66,6 +68,15 @@ pub enum Fault<'e, 'a> {
     SeveralDlls,
 }
 
+/// An export of a DLL.
+#[derive(Clone, Copy)]
+pub struct Export<'a> {
+    pub ordinal: u32,
+    pub target: Target<'a>,
+    /// Its name, if it has one, and the position of that in the name table.
+    pub name: Option<(usize, &'a [u8])>,
+}
+
 /// What is found.
 #[derive(Clone, Copy)]
 pub enum Finding<'p, 'q, 'm, 'a> {
@@ -79,6 +90,14 @@ pub enum Finding<'p, 'q, 'm, 'a> {
     Clash(&'q [u8], Side<'p, 'm, 'a>, Side<'p, 'm, 'a>),
     /// The file of a library, and why that does not work.
     Fault(&'p str, Fault<'m, 'a>),
+    /// An import that is lost in the DLL of this file.
+    Lost(Side<'p, 'm, 'a>, &'q str, Loss),
+    /// How many imports from here a loader searches for.
+    Searched(Site<'p>, usize),
+    /// An export of the DLL of this file that no import asks for.
+    Unasked(&'p str, Export<'a>),
+    /// An export of the DLL of this file.
+    Exported(&'p str, Export<'a>),
 }
 
 /// The words for a part of import tables.
@@ -91,6 +110,39 @@ pub fn piece_words(piece: Piece) -> &'static str
         Piece::OfNullThunk => "null thunk",
         Piece::OfHead => "head",
         Piece::OfTail => "tail",
+    }
+}
+
+/// Why an import is lost.
+pub fn loss_words(loss: Loss) -> &'static str
+    ensures { result.now ≡ loss_words loss }
+{
+    match loss {
+        Loss::OtherDll => "another DLL",
+        Loss::OtherMachine => "another machine",
+        Loss::NotFound => "not exported",
+        Loss::DataAsFunction => "data as a function",
+    }
+}
+
+/// The word of what is at an address.
+pub fn address_word(kind: AddressKind) -> &'static str
+    ensures { result.now ≡ address_word kind }
+{
+    match kind {
+        AddressKind::Code => "code",
+        AddressKind::Data => "data",
+        AddressKind::Outside => "outside",
+    }
+}
+
+// What a DLL says against an import that is lost in it.
+fn loss_said(loss: Loss) -> &'static str {
+    match loss {
+        Loss::OtherDll => "is another DLL",
+        Loss::OtherMachine => "is for another machine",
+        Loss::NotFound => "does not export that",
+        Loss::DataAsFunction => "has data there, and a function is imported",
     }
 }
 
@@ -143,6 +195,37 @@ impl<'e, 'a> fmt::Display for Fault<'e, 'a> {
     }
 }
 
+impl<'a> fmt::Display for Export<'a> {
+    fn fmt<W: fmt::Write>(&self, f: &mut fmt::Formatter<W>) -> fmt::Result {
+        let ordinal = self.ordinal;
+        match self.target {
+            Target::Empty => write!(f, "{ordinal}\t\t")?,
+            Target::Address(address, kind) => {
+                write!(f, "{ordinal}\t{}\t0x{address:x}", address_word(kind))?;
+            }
+            Target::Forwarder(text) => write!(f, "{ordinal}\tforwarder\t{}", Shown(text))?,
+        }
+        match self.name {
+            Some((position, name)) => write!(f, "\t{position}\t{}", Shown(name)),
+            None => f.write_str("\t\t"),
+        }
+    }
+}
+
+// An export, as a message names it.
+#[derive(Clone, Copy)]
+struct Named<'e, 'a>(&'e Export<'a>);
+
+impl<'e, 'a> fmt::Display for Named<'e, 'a> {
+    fn fmt<W: fmt::Write>(&self, f: &mut fmt::Formatter<W>) -> fmt::Result {
+        let ordinal = self.0.ordinal;
+        match self.0.name {
+            Some((_, name)) => write!(f, "{}, ordinal {ordinal}", Shown(name)),
+            None => write!(f, "ordinal {ordinal}"),
+        }
+    }
+}
+
 impl<'p, 'q, 'm, 'a> fmt::Display for Finding<'p, 'q, 'm, 'a> {
     fn fmt<W: fmt::Write>(&self, f: &mut fmt::Formatter<W>) -> fmt::Result {
         match self {
@@ -165,6 +248,22 @@ impl<'p, 'q, 'm, 'a> fmt::Display for Finding<'p, 'q, 'm, 'a> {
                 write!(f, "{symbol}: {first}: {said}; {later}: {other}")
             }
             Finding::Fault(path, fault) => write!(f, "{path}: {fault}"),
+            Finding::Lost(side, dll, loss) => {
+                let symbol = Shown(side.symbol);
+                let said = Said(side.member);
+                write!(f, "{side}: {symbol}: {said}; {dll} {}", loss_said(*loss))
+            }
+            Finding::Searched(site, count) => {
+                let path = site.path();
+                write!(
+                    f,
+                    "{path}: a loader searches for {count}, which do not stand at their hints"
+                )
+            }
+            Finding::Unasked(path, export) => {
+                write!(f, "{path}: no import asks for {}", Named(export))
+            }
+            Finding::Exported(_, export) => write!(f, "{export}"),
         }
     }
 }

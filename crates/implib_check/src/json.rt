@@ -6,15 +6,20 @@ ghost use Rattle.std.specs.String.{string_bytes};
 ghost use Rattle.implib_check.specs.Json.{class_word, fault_view, finding_view, line_of, object_of, side_object, side_view, site_object, site_view, text_of};
 ghost use Rattle.implib_check.specs.Json.{what_of, with_asked, with_class, with_fault, with_finding, with_member, with_name, with_number, with_position};
 ghost use Rattle.implib_check.specs.Json.{with_side, with_sides, with_site, with_word, CutApart as CutApartView, MisleadingEntry};
+ghost use Rattle.implib_check.specs.Json.{export_view, with_export, with_loss, with_named, with_target};
+ghost use Rattle.implib_dll.specs.Views.{target_view};
+ghost use Rattle.std.specs.Option.{option_map};
 ghost use Rattle.implib_read.specs.ClassViews.{class_view, member_read_view};
 ghost use Rattle.implib_read.specs.CuttingViews.{cut_apart_view};
 ghost use Rattle.implib_read.specs.ImportViews.{ask_view};
 ghost use Rattle.implib_read.specs.IndexViews.{index_entry_view};
 ghost use Rattle.serde_json.specs.View.{members_view, view};
 
-use crate::finding::{Fault, Finding, Side, piece_words};
+use crate::finding::{Export, Fault, Finding, Side, address_word, loss_words, piece_words};
 use crate::text::{Site, kind_word};
 use implib::def::Position;
+use implib_dll::Target;
+use implib_dll_check::Loss;
 use implib_read::{AskFound, CutApart, IndexEntry, MemberClass, MemberRead};
 use serde_json::{Map, Value, put};
 use std::alloc::{AllocError, Global};
@@ -248,6 +253,70 @@ fn put_fault(fields: &mut Fields, alloc: Global, fault: &Fault) -> Result<(), Al
     }
 }
 
+// Adds where an export leads.
+fn put_target(fields: &mut Fields, alloc: Global, target: Target) -> Result<(), AllocError>
+    ensures { OnOk result (members_view fields.new.entries ≡ with_target (target_view target.entry) (members_view fields.old.entries)) }
+{
+    match target {
+        Target::Empty => Ok(()),
+        Target::Address(address, kind) => {
+            put_word(fields, alloc, "kind", address_word(kind))?;
+            put_number(fields, alloc, "address", address as usize)
+        }
+        Target::Forwarder(text) => {
+            put_word(fields, alloc, "kind", "forwarder")?;
+            put_name(fields, alloc, "target", text)
+        }
+    }
+}
+
+// Adds the name of an export, and its position.
+fn put_named(
+    fields: &mut Fields,
+    alloc: Global,
+    name: Option<(usize, &[u8])>,
+) -> Result<(), AllocError>
+    ensures { OnOk result (members_view fields.new.entries ≡ with_named (option_map (λ found. (found.0, found.1.now)) name.entry) (members_view fields.old.entries)) }
+{
+    match name {
+        Some((position, text)) => {
+            put_name(fields, alloc, "name", text)?;
+            put_number(fields, alloc, "hint", position)
+        }
+        None => Ok(()),
+    }
+}
+
+// Adds an export of the DLL of a file.
+fn put_export(
+    fields: &mut Fields,
+    alloc: Global,
+    path: &str,
+    export: &Export,
+) -> Result<(), AllocError>
+    ensures { OnOk result (members_view fields.new.entries ≡ with_export path.now (export_view export.now) (members_view fields.old.entries)) }
+{
+    put_word(fields, alloc, "file", path)?;
+    put_number(fields, alloc, "ordinal", export.ordinal as usize)?;
+    put_target(fields, alloc, export.target)?;
+    put_named(fields, alloc, export.name)
+}
+
+// Adds an import that is lost in the DLL of a file.
+fn put_loss(
+    fields: &mut Fields,
+    alloc: Global,
+    side: &Side,
+    dll: &str,
+    loss: Loss,
+) -> Result<(), AllocError>
+    ensures { OnOk result (members_view fields.new.entries ≡ with_loss (side_view side.now) dll.now loss (members_view fields.old.entries)) }
+{
+    put_word(fields, alloc, "why", loss_words(loss))?;
+    put_word(fields, alloc, "dll_file", dll)?;
+    put_side(fields, alloc, side)
+}
+
 // What a member is, in a word.
 fn class_word(class: &MemberClass) -> &'static str
     ensures { result.now ≡ class_word (class_view class.now) }
@@ -268,6 +337,10 @@ fn what_of(finding: &Finding) -> &'static str
         Finding::Clash(_, _, _) => "clash",
         Finding::Fault(_, Fault::SeveralDlls) => "not decided",
         Finding::Fault(_, _) => "broken",
+        Finding::Lost(_, _, _) => "lost",
+        Finding::Searched(_, _) => "searched",
+        Finding::Unasked(_, _) => "unasked",
+        Finding::Exported(_, _) => "export",
     }
 }
 
@@ -293,6 +366,13 @@ fn put_finding(fields: &mut Fields, alloc: Global, finding: &Finding) -> Result<
             put_word(fields, alloc, "library", path)?;
             put_fault(fields, alloc, fault)
         }
+        Finding::Lost(side, dll, loss) => put_loss(fields, alloc, side, dll, *loss),
+        Finding::Searched(site, count) => {
+            put_site(fields, alloc, *site)?;
+            put_number(fields, alloc, "count", *count)
+        }
+        Finding::Unasked(path, export) => put_export(fields, alloc, path, export),
+        Finding::Exported(path, export) => put_export(fields, alloc, path, export),
     }
 }
 

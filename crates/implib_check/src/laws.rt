@@ -5,6 +5,7 @@ ghost use Rattle.implib_check.specs.OwnIndexes.{OwnIndexesLead};
 ghost use Rattle.implib_check.specs.OwnLibraries.{MeantIsDefined, OwnLibrariesAreTheSame, SameSaysTheDefined};
 ghost use Rattle.implib_check.specs.OwnTables.{OwnTablesAreWhole};
 ghost use Rattle.implib_check.specs.Worked.{WorkedIdentities, WorkedStatuses, WorkedTasks};
+ghost use Rattle.implib_check.specs.WorkedAgainst.{WorkedAgainst};
 ghost use Rattle.implib_check.specs.WorkedChecks.{WorkedChecks, WorkedTargets};
 ghost use Rattle.implib_check.specs.WorkedDefinitions.{WorkedDefines, WorkedDefinitions};
 ghost use Rattle.implib_check.specs.WorkedExportAs.{WorkedExportAs};
@@ -138,4 +139,9 @@ pub fn same_says_the_made()
 /// What definitions mean where short imports have a third text, worked by hand.
 pub fn worked_export_as()
     ensures { WorkedExportAs }
+{}
+
+/// What calls for DLLs say, and which statuses libraries and definitions have beside one, worked by hand.
+pub fn worked_against()
+    ensures { WorkedAgainst }
 {}

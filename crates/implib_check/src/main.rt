@@ -7,14 +7,20 @@
 //! with lines of text or of JSON ([`finding`], [`text`], [`json`], [`report`], [`differences`], [`positions`]).
 #![tactic(auto)]
 
+pub mod against;
+mod beside;
 pub mod call;
+mod console;
 pub mod defining;
 pub mod definition;
 pub mod definition_text;
 mod differences;
+mod exported;
 mod finding;
+mod joined;
 mod json;
 pub mod laws;
+mod of_dll;
 mod positions;
 pub mod program;
 mod report;
@@ -24,6 +30,7 @@ pub mod target;
 pub mod task;
 mod text;
 pub mod together;
+mod works;
 
 use crate::program::perform;
 use crate::shelf::SystemFiles;

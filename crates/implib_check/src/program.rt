@@ -1,9 +1,10 @@
 //! The program: its arguments, its files, what it writes, and its exit status.
 
-ghost use Rattle.std.specs.Prelude.{◌≡◌, ◌⊎◌, None, Some, length, map, IfErr, IfOk, IfSome};
-ghost use Rattle.implib_check.specs.Answers.{AnswersOf, AnswersOfBoth, AnswersTask, IsReadAs, OrFailed, compared_as, identified, listed, worked};
+ghost use Rattle.std.specs.Prelude.{◌≡◌, false, length, map, IfOk};
+ghost use Rattle.implib_check.specs.Answers.{AnswersBeside, AnswersDefine, AnswersOf, AnswersOfBoth, AnswersTask, CheckedAs, DefinedAs, IsAnswerWith, OrFailed, compared_as, identified, listed};
+ghost use Rattle.implib_check.specs.Calls.{check_view, define_view};
 ghost use Rattle.implib_compare.specs.Comparison.{has_unread, verdict};
-ghost use Rattle.implib_compare.specs.Working.{working_of, working_status};
+ghost use Rattle.implib_compare.specs.Working.{working_of};
 ghost use Rattle.implib_compare.specs.declared.compare.Verdict.TheVariants.{Same};
 ghost use Rattle.implib_read.specs.ArchiveViews.{archive_view};
 ghost use Rattle.implib_read.specs.Archives.{archive_in};
@@ -12,31 +13,28 @@ ghost use Rattle.implib_check.specs.Tasks.{in_form, task_named};
 ghost use Rattle.std.specs.Option.{option_and_then};
 ghost use Rattle.std.specs.String.{string_bytes};
 ghost use Rattle.implib_read.specs.Identity.{dlls_of};
-ghost use Rattle.implib_check.specs.Status.{identity_status, no_library_status, refusal_status, undefined_status};
+ghost use Rattle.implib_check.specs.Status.{comparison_status, identity_status, undefined_status};
 
+use crate::against::{begins_dll, is_library};
+use crate::beside::{run_against, run_exports};
 use crate::call::{Check, Define};
+use crate::console::{NAME, bytes_of, complain, doubt, library_of, print, refuse, status_of};
 use crate::defining::{Undefined, definition_of};
 use crate::definition::{CheckError, check_definition};
 use crate::differences::tell_both;
-use crate::finding::{Fault, Finding, Side, Source};
+use crate::finding::{Finding, Source};
+use crate::joined::run_together;
+use crate::of_dll::library_of_dll;
 use crate::report::{BUFFER, Failure, Form, Lines, flushed, tell};
 use crate::shelf::Shelf;
-use crate::status::{
-    comparison_status, identity_status, list_status, refusal_status, together_status,
-    undefined_status,
-};
+use crate::status::{comparison_status, identity_status, list_status, undefined_status};
 use crate::target::{options_for, options_of};
 use crate::task::{CommandLine, Task, call_named};
-use crate::text::{Place, Shown, Site, doubt_of, fault_of, is_listed};
-use crate::together::{Claim, add_claims, clashes};
-use implib::Flavor;
+use crate::text::{Place, Shown, Site, fault_of, is_listed};
+use crate::works::{run_works, tell_working};
 use implib_compare::compare::{Comparison, Verdict, compare, has_unread};
-use implib_compare::working::{
-    Examined, IndexFound, Piece, Working, both_work, examine, has_one, working_status,
-};
-use implib_read::{CutApart, Library, MemberRead, cut_at, dlls_of};
-use implib_rules::library::Refusal;
-use implib_rules::{ShownPlace, position_of};
+use implib_compare::working::{Working, both_work};
+use implib_read::{Library, MemberRead, dlls_of};
 use indexmap::IndexSet;
 use std::alloc::{AllocError, Global};
 use std::env::Env;
@@ -44,15 +42,17 @@ use std::fmt::Write as _;
 use std::io::{BufWriter, Write};
 use std::{env, fmt};
 
-const NAME: &str = "implib_check";
-
 // What the program prints for `--help`.
 const HELP: &str = "\
-usage: implib_check LIB DEF [-m MACHINE] [-k] [--no-leading-underscore]
+usage: implib_check LIB DLL [--all] [-D DLL] [--json]
+       implib_check LIB DEF [-m MACHINE] [-k] [--no-leading-underscore]
                     [--export-as] [--lib] [-C] [-D DLL] [--flavor FLAVOR]
                     [--json]
+       implib_check DEF DLL [--all] [and the options of LIB DEF]
        implib_check --def LIB [-m MACHINE] [--no-leading-underscore] [-C]
                     [--flavor FLAVOR]
+       implib_check --def DLL and these options but -C
+       implib_check --exports DLL [--json]
        implib_check --list LIB [--json]
        implib_check --identify LIB
        implib_check --identify-strict LIB
@@ -62,7 +62,9 @@ usage: implib_check LIB DEF [-m MACHINE] [-k] [--no-leading-underscore]
 
 Reads import libraries of any maker. With a library and a module definition:
 whether the library has the imports and aliases that implib_dlltool would give
-one of the definition; the differences.
+one of the definition; the differences. With a DLL: whether a program that is
+linked with the library, or with that of the definition, finds in the DLL what
+it imports; what it does not find.
 
   -m, --machine      i386, i386:x86-64, arm or arm64; without it the library's
   -k, --kill-at      ask for names without @ and the number after it, on i386
@@ -76,7 +78,11 @@ one of the definition; the differences.
   -D, --dllname      the DLL's name, before the definition's
   --flavor           msvc or gnu; without it the library's
   --def              a definition that means the library's imports and aliases,
-                     or which member no definition says
+                     or which member no definition says; of a DLL, a definition
+                     of which implib_dlltool makes the library of the DLL
+  --all              the exports of the DLL, too, that no import asks for
+  --exports          a line for each export of a DLL: ordinal, code, data or
+                     forwarder, address or other DLL's export, hint, name
   --list             a line for each import and alias: offset, DLL, symbol,
                      type, what is asked by, name, ordinal or hint
   --identify         the DLLs that the library imports from
@@ -92,47 +98,14 @@ one of the definition; the differences.
   -h, --help
   -V, --version
 
-Status: 0 done, the same; 1 different, a refused definition, no DLL, no
-definition, broken, or a clash; 2 wrong call; 3 a file or memory failed;
-4 a member that may matter was not understood.
+Status: 0 done, the same, found in the DLL; 1 different, not found, a refused
+definition, no DLL, no import, no export, no definition, broken, or a clash;
+2 wrong call; 3 a file or memory failed; 4 a member that may matter was not
+understood.
 ";
 
 // What the program prints for `--version`.
 const VERSION: &str = "implib_check 0.1.0\n";
-
-// Writes a line, and gives an exit status. A failure of the writer is ignored.
-fn complain<E: Write, D: fmt::Display + Drop>(
-    faults: &mut E,
-    subject: &str,
-    message: D,
-    status: u8,
-) -> u8
-    ensures { result ≡ status }
-{
-    let mut lines = Lines { writer: faults };
-    let _ = writeln!(lines, "{subject}: {message}");
-    status
-}
-
-// Prints a text. A failure is status 3.
-fn print<O: Write, E: Write>(printer: &mut O, faults: &mut E, text: &str) -> u8
-    ensures { OrFailed result (result ≡ 0) }
-{
-    match printer.write_all(text.as_bytes()) {
-        Ok(()) => 0,
-        Err(error) => complain(faults, NAME, error, 3),
-    }
-}
-
-// Says which members leave the answer open.
-fn doubt<E: Write>(faults: &mut E, path: &str, members: &[MemberRead], others: bool) {
-    let mut lines = Lines { writer: faults };
-    for member in members {
-        if let Some(what) = doubt_of(&member.class, others) {
-            let _ = writeln!(lines, "{}: {what}", Place(Site::Library(path), member));
-        }
-    }
-}
 
 // Writes the imports and aliases of a library.
 fn list<O: Write>(
@@ -160,81 +133,6 @@ fn write_names<O: Write>(printer: &mut O, names: &IndexSet<&[u8]>) -> Result<(),
         writeln!(lines, "{}", Shown(name))?;
     }
     Ok(())
-}
-
-// The bytes of a file, or an exit status.
-fn bytes_of<S: Shelf, E: Write>(
-    alloc: Global,
-    shelf: &S,
-    faults: &mut E,
-    path: &str,
-) -> Result<Vec<u8>, u8>
-    ensures read { IfOk result (λ bytes. IfSome (S.seen shelf.now path.now) (λ file. bytes.items ≡ file)) }
-    ensures failed { IfErr result (λ status. status ≡ 3) }
-{
-    match shelf.read(alloc, path) {
-        Ok(bytes) => Ok(bytes),
-        Err(error) => Err(complain(faults, path, error, 3)),
-    }
-}
-
-// The library that bytes are, or an exit status.
-fn library_of<'a, E: Write>(
-    alloc: Global,
-    faults: &mut E,
-    path: &str,
-    bytes: &'a [u8],
-) -> Result<Library<'a>, u8>
-    ensures read { IfOk result (IsReadAs bytes.now) }
-    ensures none { IfErr result (λ status. OrFailed status ((archive_in bytes.now ≡ None) × (status ≡ no_library_status bytes.now))) }
-{
-    match Library::read(alloc, bytes) {
-        Ok(Some(library)) => Ok(library),
-        Ok(None) => Err(complain(
-            faults,
-            path,
-            NoLibrary(cut_at(bytes)),
-            no_library_status(bytes),
-        )),
-        Err(_) => Err(complain(faults, path, "out of memory", 3)),
-    }
-}
-
-// Why bytes are no library: they are cut off at this offset, or do not begin as an archive.
-#[derive(Drop)]
-struct NoLibrary(Option<usize>);
-
-impl fmt::Display for NoLibrary {
-    fn fmt<W: fmt::Write>(&self, f: &mut fmt::Formatter<W>) -> fmt::Result {
-        match self.0 {
-            Some(offset) => write!(
-                f,
-                "the library is cut off: the member at {offset:#x} passes the end of the file"
-            ),
-            None => f.write_str("not an archive, or a thin one"),
-        }
-    }
-}
-
-// The exit status of bytes that are no library: that of a broken one where they are cut off.
-fn no_library_status(bytes: &[u8]) -> u8
-    ensures { result ≡ no_library_status bytes.now }
-{
-    match cut_at(bytes) {
-        Some(_) => 1,
-        None => 3,
-    }
-}
-
-// The exit status of what was written.
-fn status_of<E: Write>(faults: &mut E, written: Result<(), Failure>, status: u8) -> u8
-    ensures { OrFailed result (result ≡ status) }
-{
-    match written {
-        Ok(()) => status,
-        Err(Failure::Writing) => complain(faults, NAME, "standard output failed", 3),
-        Err(Failure::OutOfMemory) => complain(faults, NAME, "out of memory", 3),
-    }
 }
 
 // Lists a library, and gives the exit status.
@@ -369,7 +267,10 @@ fn tell_checked<O: Write, E: Write>(
     verdict: Verdict,
     path: &str,
     library: &Library,
-) -> u8 {
+) -> u8
+    ensures { OrFailed result (result ≡ comparison_status verdict
+        (working_of (archive_view library.now.archive) (map member_read_view library.now.members.items))) }
+{
     match tell_working_if_same(form, printer, verdict, path, library) {
         Ok(working) => comparison_status(verdict, working),
         Err(failure) => status_of(faults, Err(failure), 3),
@@ -438,41 +339,22 @@ fn run_same<S: Shelf, O: Write, E: Write>(
     )
 }
 
-// Says why a definition is refused, and gives the exit status.
-fn refuse<E: Write>(faults: &mut E, path: &str, refusal: &Refusal) -> u8
-    ensures { result ≡ refusal_status refusal.now }
-{
-    let mut lines = Lines { writer: faults };
-    let _ = writeln!(
-        lines,
-        "{} {refusal}",
-        ShownPlace(path, position_of(refusal))
-    );
-    refusal_status(refusal)
-}
-
 // Compares a library with a definition, and gives the exit status.
-fn run_check<S: Shelf, O: Write, E: Write>(
-    alloc: Global,
-    shelf: &S,
+fn check_library<O: Write, E: Write>(
     form: Form,
     printer: &mut O,
     faults: &mut E,
     check: &Check,
-) -> u8 {
-    let bytes = match bytes_of(alloc, shelf, faults, check.library) {
-        Ok(bytes) => bytes,
-        Err(status) => return status,
-    };
-    let definition = match bytes_of(alloc, shelf, faults, check.definition) {
-        Ok(definition) => definition,
-        Err(status) => return status,
-    };
-    let library = match library_of(alloc, faults, check.library, &bytes) {
+    bytes: &[u8],
+    definition: &[u8],
+) -> u8
+    ensures { OrFailed result (CheckedAs (check_view check.now) bytes.now definition.now (archive_in bytes.now) result) }
+{
+    let library = match library_of(form.alloc, faults, check.library, bytes) {
         Ok(library) => library,
         Err(status) => return status,
     };
-    if definition.as_slice().starts_with(b"!<arch>\n") {
+    if is_library(definition) {
         let message = "a library, and no definition; --same LIB LIB compares two libraries";
         return complain(faults, check.definition, message, 2);
     }
@@ -485,7 +367,7 @@ fn run_check<S: Shelf, O: Write, E: Write>(
         printer,
         paths,
         members,
-        &definition,
+        definition,
         &options,
         check.older_symbols,
     );
@@ -494,6 +376,51 @@ fn run_check<S: Shelf, O: Write, E: Write>(
         Err(CheckError::Refused(refusal)) => refuse(faults, check.definition, &refusal),
         Err(CheckError::Failed(failure)) => status_of(faults, Err(failure), 3),
     }
+}
+
+// Compares bytes with a definition, or holds them against a DLL, and gives the exit status.
+#[tactic(auto, using(crate::proofs::BesideDlls::beside_dll, crate::proofs::BesideDlls::beside_all, crate::proofs::BesideDlls::beside_definition))]
+fn check_bytes<O: Write, E: Write>(
+    form: Form,
+    printer: &mut O,
+    faults: &mut E,
+    check: &Check,
+    bytes: &[u8],
+    definition: &[u8],
+) -> u8
+    ensures { OrFailed result (IsAnswerWith (check_view check.now) bytes.now definition.now result) }
+{
+    if begins_dll(definition) {
+        return run_against(form, printer, faults, check, bytes, definition);
+    }
+    if check.lists_unasked {
+        let message = "no DLL, and --all asks for its exports";
+        return complain(faults, check.definition, message, 2);
+    }
+    check_library(form, printer, faults, check, bytes, definition)
+}
+
+// Compares a library with a definition, or holds one of them against a DLL, and gives the exit status.
+#[tactic(auto, using(crate::proofs::BesideDlls::beside_failed, crate::proofs::BesideDlls::beside_files))]
+fn run_check<S: Shelf, O: Write, E: Write>(
+    alloc: Global,
+    shelf: &S,
+    form: Form,
+    printer: &mut O,
+    faults: &mut E,
+    check: &Check,
+) -> u8
+    ensures { AnswersBeside (check_view check.now) (S.seen shelf.now check.now.library.now) (S.seen shelf.now check.now.definition.now) result }
+{
+    let bytes = match bytes_of(alloc, shelf, faults, check.library) {
+        Ok(bytes) => bytes,
+        Err(status) => return status,
+    };
+    let definition = match bytes_of(alloc, shelf, faults, check.definition) {
+        Ok(definition) => definition,
+        Err(status) => return status,
+    };
+    check_bytes(form, printer, faults, check, &bytes, &definition)
 }
 
 // What the differences of a library call the definition that is tried.
@@ -536,7 +463,9 @@ fn say_undefined<E: Write>(
 }
 
 // Says of which DLLs a library is that has more than one, and gives the exit status.
-fn say_dlls<E: Write>(faults: &mut E, path: &str, names: &IndexSet<&[u8]>) -> u8 {
+fn say_dlls<E: Write>(faults: &mut E, path: &str, names: &IndexSet<&[u8]>) -> u8
+    ensures { result ≡ 1 }
+{
     let mut lines = Lines { writer: faults };
     for name in names.iter() {
         let _ = writeln!(
@@ -548,20 +477,42 @@ fn say_dlls<E: Write>(faults: &mut E, path: &str, names: &IndexSet<&[u8]>) -> u8
     1
 }
 
-// Writes the definition of a library, and gives the exit status.
+// Writes the definition of a library or of a DLL, and gives the exit status.
 fn run_define<S: Shelf, O: Write, E: Write>(
     alloc: Global,
     shelf: &S,
     printer: &mut O,
     faults: &mut E,
     define: &Define,
-) -> u8 {
-    let path = define.library;
-    let bytes = match bytes_of(alloc, shelf, faults, path) {
+) -> u8
+    ensures { AnswersDefine (define_view define.now) (S.seen shelf.now define.now.library.now) result }
+{
+    let bytes = match bytes_of(alloc, shelf, faults, define.library) {
         Ok(bytes) => bytes,
         Err(status) => return status,
     };
-    let library = match library_of(alloc, faults, path, &bytes) {
+    if !begins_dll(&bytes) {
+        return define_library(alloc, printer, faults, define, &bytes, false);
+    }
+    match library_of_dll(alloc, faults, define, &bytes) {
+        Ok(file) => define_library(alloc, printer, faults, define, &file, true),
+        Err(status) => status,
+    }
+}
+
+// Writes the definition of a library, with its hints as ordinals or as comments, and gives the exit status.
+fn define_library<O: Write, E: Write>(
+    alloc: Global,
+    printer: &mut O,
+    faults: &mut E,
+    define: &Define,
+    bytes: &[u8],
+    hints: bool,
+) -> u8
+    ensures { hints ≡ false → OrFailed result (DefinedAs (define_view define.now) bytes.now (archive_in bytes.now) result) }
+{
+    let path = define.library;
+    let library = match library_of(alloc, faults, path, bytes) {
         Ok(library) => library,
         Err(status) => return status,
     };
@@ -572,10 +523,11 @@ fn run_define<S: Shelf, O: Write, E: Write>(
         Ok(names) => names,
         Err(_) => return complain(faults, NAME, "out of memory", 3),
     };
-    if names.is_empty() {
+    let count = names.len();
+    if count == 0 {
         return complain(faults, path, "imports from no DLL", 1);
     }
-    if names.len() > 1 {
+    if count > 1 {
         return say_dlls(faults, path, &names);
     }
     let form = Form {
@@ -583,308 +535,21 @@ fn run_define<S: Shelf, O: Write, E: Write>(
         is_json: false,
     };
     let paths = (path, TRIED);
-    match definition_of(form, faults, paths, members, &options, define.older_symbols) {
+    let found = definition_of(
+        form,
+        faults,
+        paths,
+        members,
+        &options,
+        hints,
+        define.older_symbols,
+    );
+    match found {
         Ok(text) => match printer.write_all(&text) {
             Ok(()) => 0,
             Err(error) => complain(faults, NAME, error, 3),
         },
         Err(why) => say_undefined(faults, path, members, &why),
-    }
-}
-
-// Writes the entries of an index that mislead.
-fn tell_index<O: Write>(
-    form: Form,
-    printer: &mut O,
-    path: &str,
-    number: u8,
-    found: &IndexFound,
-) -> Result<(), Failure> {
-    let Some(entries) = found else {
-        return tell(
-            form,
-            printer,
-            &Finding::Fault(path, Fault::UnreadableIndex(number)),
-        );
-    };
-    for entry in entries {
-        tell(
-            form,
-            printer,
-            &Finding::Fault(path, Fault::MisleadingEntry(number, entry)),
-        )?;
-    }
-    Ok(())
-}
-
-// Writes the short imports by which linkers ask for different names.
-fn tell_cuts<O: Write>(
-    form: Form,
-    printer: &mut O,
-    path: &str,
-    cut: &[CutApart],
-) -> Result<(), Failure> {
-    for apart in cut {
-        tell(form, printer, &Finding::Fault(path, Fault::CutApart(apart)))?;
-    }
-    Ok(())
-}
-
-// Writes what is wrong with the indexes of a library.
-fn tell_indexes<O: Write>(
-    form: Form,
-    printer: &mut O,
-    path: &str,
-    examined: &Examined,
-) -> Result<(), Failure> {
-    match &examined.first {
-        Some(found) => tell_index(form, printer, path, 1, found)?,
-        None => tell(form, printer, &Finding::Fault(path, Fault::NoIndex))?,
-    }
-    match &examined.second {
-        Some(found) => tell_index(form, printer, path, 2, found),
-        None => Ok(()),
-    }
-}
-
-// Writes that a part of import tables is not there once, if it is not.
-fn tell_piece<O: Write>(
-    form: Form,
-    printer: &mut O,
-    path: &str,
-    members: &[MemberRead],
-    piece: Piece,
-) -> Result<(), Failure> {
-    if !has_one(piece, members) {
-        tell(
-            form,
-            printer,
-            &Finding::Fault(path, Fault::NotOnePart(piece)),
-        )?;
-    }
-    Ok(())
-}
-
-// Writes which parts of import tables are not there once.
-fn tell_tables<O: Write>(
-    form: Form,
-    printer: &mut O,
-    path: &str,
-    flavor: Flavor,
-    members: &[MemberRead],
-) -> Result<(), Failure> {
-    match flavor {
-        Flavor::Msvc => {
-            tell_piece(form, printer, path, members, Piece::OfDescriptor)?;
-            tell_piece(form, printer, path, members, Piece::OfNullDescriptor)?;
-            tell_piece(form, printer, path, members, Piece::OfNullThunk)
-        }
-        Flavor::Gnu => {
-            tell_piece(form, printer, path, members, Piece::OfHead)?;
-            tell_piece(form, printer, path, members, Piece::OfTail)
-        }
-    }
-}
-
-// Writes why a library does not work, if it does not.
-fn tell_working<O: Write>(
-    form: Form,
-    printer: &mut O,
-    path: &str,
-    library: &Library,
-) -> Result<Working, Failure>
-    ensures { IfOk result (λ working. working ≡ working_of (archive_view library.now.archive) (map member_read_view library.now.members.items)) }
-{
-    let examined = examine(form.alloc, library)?;
-    tell_indexes(form, printer, path, &examined)?;
-    tell_cuts(form, printer, path, &examined.cut)?;
-    if examined.dlls == 1 && !examined.is_whole {
-        tell_tables(form, printer, path, examined.flavor, &library.members)?;
-    }
-    if examined.dlls > 1 {
-        tell(form, printer, &Finding::Fault(path, Fault::SeveralDlls))?;
-    }
-    Ok(examined.working)
-}
-
-// Says whether a library that is read works, and gives the exit status.
-fn work<O: Write, E: Write>(
-    form: Form,
-    printer: &mut O,
-    faults: &mut E,
-    path: &str,
-    library: &Library,
-) -> u8
-    ensures { OrFailed result (result ≡ working_status (working_of (archive_view library.now.archive) (map member_read_view library.now.members.items))) }
-{
-    match tell_working(form, printer, path, library) {
-        Ok(working) => working_status(working),
-        Err(failure) => status_of(faults, Err(failure), 3),
-    }
-}
-
-// Says whether a library works, and gives the exit status.
-#[tactic(auto, using(crate::proofs::Answers::answered_failed, crate::proofs::Answers::answered_none, crate::proofs::Answers::answered_read))]
-fn run_works<S: Shelf, O: Write, E: Write>(
-    alloc: Global,
-    shelf: &S,
-    form: Form,
-    printer: &mut O,
-    faults: &mut E,
-    path: &str,
-) -> u8
-    ensures { AnswersOf worked (S.seen shelf.now path.now) result }
-{
-    let bytes = match bytes_of(alloc, shelf, faults, path) {
-        Ok(bytes) => bytes,
-        Err(status) => return status,
-    };
-    let library = match library_of(alloc, faults, path, &bytes) {
-        Ok(library) => library,
-        Err(status) => return status,
-    };
-    doubt(faults, path, &library.members, false);
-    work(form, printer, faults, path, &library)
-}
-
-// The bytes of files, or an exit status.
-fn all_bytes<S: Shelf, E: Write>(
-    alloc: Global,
-    shelf: &S,
-    faults: &mut E,
-    paths: &[String],
-) -> Result<Vec<Vec<u8>>, u8> {
-    let mut files = Vec::new(alloc);
-    for path in paths {
-        let bytes = bytes_of(alloc, shelf, faults, path)?;
-        if files.push(bytes).is_err() {
-            return Err(complain(faults, NAME, "out of memory", 3));
-        }
-    }
-    Ok(files)
-}
-
-// The libraries that files are, or an exit status.
-fn all_libraries<'a, E: Write>(
-    alloc: Global,
-    faults: &mut E,
-    paths: &[String],
-    files: &'a [Vec<u8>],
-) -> Result<Vec<Library<'a>>, u8> {
-    let mut libraries = Vec::new(alloc);
-    for (path, bytes) in paths.iter().zip(files) {
-        let library = library_of(alloc, faults, path, bytes)?;
-        doubt(faults, path, &library.members, false);
-        if libraries.push(library).is_err() {
-            return Err(complain(faults, NAME, "out of memory", 3));
-        }
-    }
-    Ok(libraries)
-}
-
-// Whether a library has a member that may import what is not read.
-fn is_some_unread(libraries: &[Library]) -> bool {
-    for library in libraries {
-        if has_unread(&library.members) {
-            return true;
-        }
-    }
-    false
-}
-
-// The import or the alias by which a claim is made.
-fn side_of_claim<'p, 'm, 'a>(
-    paths: &'p [String],
-    libraries: &'m [Library<'a>],
-    claim: &Claim,
-) -> Option<Side<'p, 'm, 'a>> {
-    let path = paths.get(claim.library)?;
-    let member = libraries.get(claim.library)?.members.get(claim.member)?;
-    Some(Source::Library(path).side(member))
-}
-
-// Writes a claim, and the first claim of its symbol, with which it clashes.
-fn tell_clash<O: Write>(
-    form: Form,
-    printer: &mut O,
-    paths: &[String],
-    libraries: &[Library],
-    claim: &Claim,
-    first: &Claim,
-) -> Result<(), Failure> {
-    let Some(here) = side_of_claim(paths, libraries, first) else {
-        return Ok(());
-    };
-    let Some(there) = side_of_claim(paths, libraries, claim) else {
-        return Ok(());
-    };
-    tell(form, printer, &Finding::Clash(&claim.symbol, here, there))
-}
-
-// Writes which claims clash, and whether one does.
-fn tell_clashes<O: Write>(
-    form: Form,
-    printer: &mut O,
-    paths: &[String],
-    libraries: &[Library],
-    claims: &[Claim],
-    found: &[Option<usize>],
-) -> Result<bool, Failure> {
-    let mut is_told = false;
-    for (claim, number) in claims.iter().zip(found) {
-        let Some(number) = *number else {
-            continue;
-        };
-        let Some(first) = claims.get(number) else {
-            continue;
-        };
-        tell_clash(form, printer, paths, libraries, claim, first)?;
-        is_told = true;
-    }
-    Ok(is_told)
-}
-
-// The claims of libraries, in order.
-fn all_claims(alloc: Global, libraries: &[Library]) -> Result<Vec<Claim>, AllocError> {
-    let mut claims = Vec::new(alloc);
-    for i in 0..libraries.len() {
-        add_claims(alloc, &mut claims, i, &libraries[i].members)?;
-    }
-    Ok(claims)
-}
-
-// Writes what libraries do to each other, and whether two clash.
-fn tell_together<O: Write>(
-    form: Form,
-    printer: &mut O,
-    paths: &[String],
-    libraries: &[Library],
-) -> Result<bool, Failure> {
-    let claims = all_claims(form.alloc, libraries)?;
-    let found = clashes(form.alloc, &claims)?;
-    tell_clashes(form, printer, paths, libraries, &claims, &found)
-}
-
-// Says what libraries of one link do to each other, and gives the exit status.
-fn run_together<S: Shelf, O: Write, E: Write>(
-    alloc: Global,
-    shelf: &S,
-    form: Form,
-    printer: &mut O,
-    faults: &mut E,
-    paths: &[String],
-) -> u8 {
-    let files = match all_bytes(alloc, shelf, faults, paths) {
-        Ok(files) => files,
-        Err(status) => return status,
-    };
-    let libraries = match all_libraries(alloc, faults, paths, &files) {
-        Ok(libraries) => libraries,
-        Err(status) => return status,
-    };
-    match tell_together(form, printer, paths, &libraries) {
-        Ok(clash) => together_status(is_some_unread(&libraries), clash),
-        Err(failure) => status_of(faults, Err(failure), 3),
     }
 }
 
@@ -917,6 +582,7 @@ fn run<S: Shelf, O: Write, E: Write>(
         Some(Task::Help) => print(printer, faults, HELP),
         Some(Task::Version) => print(printer, faults, VERSION),
         Some(Task::List(path)) => run_list(alloc, shelf, form, printer, faults, path),
+        Some(Task::Exports(path)) => run_exports(alloc, shelf, form, printer, faults, path),
         Some(Task::Identify(path, is_strict)) => run_identify(
             alloc, shelf, printer, faults, path, is_strict,
         ),

@@ -16,6 +16,8 @@ pub enum Task<'a> {
     Version,
     /// A line for each import of a library.
     List(&'a str),
+    /// A line for each export of a DLL.
+    Exports(&'a str),
     /// The DLLs of a library; whether there is to be one alone.
     Identify(&'a str, bool),
     /// Whether a library works.
@@ -49,6 +51,8 @@ fn with_library<'a>(option: &str, path: &'a str) -> Option<Task<'a>>
 {
     if option == "--list" {
         Some(Task::List(path))
+    } else if option == "--exports" {
+        Some(Task::Exports(path))
     } else if option == "--identify" {
         Some(Task::Identify(path, false))
     } else if option == "--identify-strict" {
@@ -183,9 +187,12 @@ fn has_json_form(task: &Task) -> bool
     ensures { result ≡ has_json_form (task_view task.now) }
 {
     match task {
-        Task::List(_) | Task::Works(_) | Task::Same(_, _) | Task::Together(_) | Task::Check(_) => {
-            true
-        }
+        Task::List(_)
+        | Task::Exports(_)
+        | Task::Works(_)
+        | Task::Same(_, _)
+        | Task::Together(_)
+        | Task::Check(_) => true,
         Task::Help | Task::Version | Task::Identify(_, _) | Task::Define(_) => false,
     }
 }

@@ -1,6 +1,6 @@
 use Rattle.std.proofs.Common.{sym}
 use Rattle.implib_check.proofs.Answers.{members_of_library}
-use Rattle.implib_check.proofs.program.library_of.Goals as goal
+use Rattle.implib_check.proofs.console.library_of.Goals as goal
 
 pub returns-in-Ok-Some-clause-read : goal.returns-in-Ok-Some-clause-read
 returns-in-Ok-Some-clause-read g c =

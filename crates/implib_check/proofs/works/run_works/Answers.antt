@@ -3,7 +3,7 @@ use Rattle.implib_read.specs.ArchiveViews.{archive_view}
 use Rattle.implib_compare.specs.Working.{working_of, working_status}
 use Rattle.implib_check.specs.Answers.{OrFailed, worked}
 use Rattle.implib_check.proofs.Answers.{answered_read}
-use Rattle.implib_check.proofs.program.run_works.Goals as goal
+use Rattle.implib_check.proofs.works.run_works.Goals as goal
 
 pub returns : goal.returns
 returns g c =
