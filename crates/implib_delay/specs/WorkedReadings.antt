@@ -2,7 +2,7 @@
 -- none.
 use Rattle.std.specs.Prelude.{◌≡◌, List, [], ◌∷◌, ◌++◌, Option, None, Some, ℕ, bytes_eq, codes, map, if◌then◌else◌}
 use Rattle.implib.specs.Formats.Layout.{ObjectLayout, object_of}
-use Rattle.implib.specs.Formats.Object.{Object, ObjectSection}
+use Rattle.implib.specs.Formats.Object.{ObjectSection}
 use Rattle.implib.specs.Import.{Import, Name, Ordinal}
 use Rattle.implib.specs.Worked.Objects.{zeros}
 use Rattle.implib_delay.specs.Reader.{delayed_import}
