@@ -25,6 +25,7 @@ pub mod MovedCode
 pub mod Fields
 pub mod FieldsInMemory
 pub mod Operands
+pub mod Stored
 pub mod OperandStubs
 pub mod UsualCode
 pub mod CallsByName

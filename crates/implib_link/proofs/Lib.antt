@@ -5,3 +5,4 @@ pub mod Tables
 pub mod PackedTables
 pub mod TablesOfPrograms
 pub mod TablesInMemory
+pub mod StoredInMemory

@@ -10,6 +10,7 @@ pub mod Packed
 pub mod Bounds
 pub mod Rebased
 pub mod Moves
+pub mod Stored
 pub mod Pointers
 pub mod Pages
 pub mod Writing

@@ -17,6 +17,7 @@ pub mod other_libraries;
 pub mod packed;
 pub mod program;
 pub mod search;
+pub mod stored;
 pub mod stubs;
 pub mod tables;
 pub mod texts;

@@ -8,17 +8,18 @@ use Rattle.std.proofs.lemmas.Option.{slice_get_within}
 use Rattle.implib.specs.declared.coff.object.Relocation.{Relocation}
 use Rattle.implib.specs.declared.machine.MachineType.{MachineType}
 use Rattle.implib.specs.declared.machine.MachineType.TheVariants.{I386, ARMNT, AMD64, ARM64}
-use Rattle.implib.specs.Formats.Object.{Entry}
+use Rattle.implib.specs.Formats.Object.{ASymbol, Entry, ObjectSymbol}
 use Rattle.implib.specs.Link.Image.{Range, byte_at, is_in}
 use Rattle.implib.specs.Link.Load.{BytesAt, NumberAt}
 use Rattle.implib.specs.Link.Placement.{Placed}
-use Rattle.implib.specs.Link.Resolution.{symbol_address}
+use Rattle.implib.specs.Link.Resolution.{is_undefined_external, symbol_address}
 use Rattle.implib.proofs.Link.LinkedMembers.{among_contains, among_map}
 use Rattle.implib.proofs.Link.Ranges.{Among, all_among, among_back, is_in_from, range_located}
 use Rattle.implib_link.specs.Gnu.Calls.{field_width}
-use Rattle.implib_link.specs.Gnu.Fields.{AreLinkedBeside, FieldHolds, IsRelocated, LinkedCode, MeetsAlone, field_at, meets, range_of_code, ranges_of_codes}
+use Rattle.implib_link.specs.Gnu.Fields.{AreLinkedBeside, DefinesIn, FieldHolds, IsRelocated, LinkedCode, MeetsAlone, field_at, meets, range_of_code, ranges_of_codes}
 use Rattle.implib_link.specs.Gnu.Moves.{AreInMemory, AreMoved, ArePaged, absolute_places, places_of_code}
 use Rattle.implib_link.specs.Gnu.Rebased.{Place, absolute_width, covers, moved_number, table_places}
+use Rattle.implib_link.specs.Gnu.Stored.{AreFurtherHeld, AreStoredInMemory, StoresAreMoved}
 use Rattle.implib_link.proofs.Gnu.Fields.{alone_among, alone_same, covering_one, get_drop, get_take, holds_moved, holds_steady, located_each, located_from, meets_bounds, meets_from, meeting, whole_width}
 use Rattle.implib_link.proofs.Gnu.Keeps.{Keeps}
 use Rattle.implib_link.proofs.Gnu.Loaded.{kept_outside}
@@ -135,6 +136,51 @@ pub settled_linked : (machine : MachineType) (image_base : ℕ) (image : List Ra
 unfolding linked_rests
 settled_linked machine image_base image linked codes targets beside c symbol address taken = record { taken = taken; whole = λ r width n same m is number. inl (refl, number) }
 
+-- What memory has of a program at a base, with the addresses that its code holds.
+pub record StoredRests (machine : MachineType) (image_base : ℕ) (image : List Range) (linked : List Placed) (codes : List LinkedCode) (targets : LinkedCode → ℕ → ℕ) (memory : List Range) : Type 0 where
+  pub rests : Rests machine image_base image linked codes targets memory
+  pub further : AreFurtherHeld machine rests.from codes targets
+  pub settled : (c d : LinkedCode) (index : ℕ) (s t : ObjectSymbol) → Contains codes c → Contains codes d → slice_get c.from.object.entries index ≡ Some (ASymbol s) → is_undefined_external s ≡ true →
+      DefinesIn d t → t.name ≡ s.name → Settles machine image_base image linked codes targets memory rests c index (d.position + t.value)
+
+linked_stores : (machine : MachineType) (image_base : ℕ) (image : List Range) (linked : List Placed) (codes : List LinkedCode) (targets : LinkedCode → ℕ → ℕ) → AreLinkedBeside machine image_base image linked codes targets →
+    AreFurtherHeld machine image_base codes targets → StoredRests machine image_base image linked codes targets (image ++ ranges_of_codes codes)
+unfolding linked_rests
+linked_stores machine image_base image linked codes targets beside further = record {
+  rests = linked_rests machine image_base image linked codes targets beside;
+  further = further;
+  settled = λ c d index s t held d_held at undefined defines named.
+      settled_linked machine image_base image linked codes targets beside c index (d.position + t.value) (beside.resolved.code c d index s t held d_held at undefined defines named);
+}
+
+moved_stores : (machine : MachineType) (image_base : ℕ) (image : List Range) (linked : List Placed) (codes : List LinkedCode) (targets : LinkedCode → ℕ → ℕ) (from : ℕ) (places : List Place) (memory : List Range) →
+    AreMoved machine from image_base image linked codes targets places memory → table_places machine linked ≡ [] → ArePaged machine from image_base → AreFurtherHeld machine from codes targets → StoresAreMoved machine codes places →
+    StoredRests machine image_base image linked codes targets memory
+unfolding moved_rests
+moved_stores machine image_base image linked codes targets from places memory moved none paged further stores = record {
+  rests = moved_rests machine image_base image linked codes targets from places memory moved none paged;
+  further = further;
+  settled = λ c d index s t held d_held at undefined defines named. record {
+    taken = moved.beside.resolved.code c d index s t held d_held at undefined defines named;
+    whole = λ r width n same m is number.
+        inr (moved.rebased.moved (record { address = c.position + r.offset; width = width }) n
+        (stores c d r width s t held d_held (among_contains r c.code.relocations m) is (subst (λ k. slice_get c.from.object.entries k ≡ Some (ASymbol s)) (sym same) at) undefined defines named) number);
+  };
+}
+
+pub stored_rests : (machine : MachineType) (image_base : ℕ) (image : List Range) (linked : List Placed) (codes : List LinkedCode) (targets : LinkedCode → ℕ → ℕ) (memory : List Range) →
+    AreStoredInMemory machine image_base image linked codes targets memory → table_places machine linked ≡ [] → StoredRests machine image_base image linked codes targets memory
+stored_rests machine image_base image linked codes targets memory (inl (beside, (further, is))) none =
+    subst (StoredRests machine image_base image linked codes targets) (sym is) (linked_stores machine image_base image linked codes targets beside further)
+stored_rests machine image_base image linked codes targets memory (inr (from, (places, (paged, (moved, (further, stores)))))) none =
+    moved_stores machine image_base image linked codes targets from places memory moved none paged further stores
+
+-- so it is in memory
+pub stored_in_memory : (machine : MachineType) (image_base : ℕ) (image : List Range) (linked : List Placed) (codes : List LinkedCode) (targets : LinkedCode → ℕ → ℕ) (memory : List Range) →
+    AreStoredInMemory machine image_base image linked codes targets memory → AreInMemory machine image_base image linked codes targets memory
+stored_in_memory machine image_base image linked codes targets memory (inl (beside, (further, is))) = inl (beside, is)
+stored_in_memory machine image_base image linked codes targets memory (inr (from, (places, (paged, (moved, (further, stores)))))) = inr (from, (places, (paged, moved)))
+
 any_meets : (machine : MachineType) (k count : ℕ) (rs : List Relocation) (s : Relocation) → Among s rs → meets machine k count s ≡ true → list_any (meets machine k count) rs ≡ true
 unfolding Among
 any_meets machine k count [] s m is = absurd m
@@ -231,12 +277,8 @@ module _ (machine : MachineType) (image_base : ℕ) (image : List Range) (linked
         (sym (get_drop offset c.bytes i) ∙ get_take (field_width machine type) (drop offset c.bytes) i b is, omega arith)
 
     -- one that stores no address whole is in memory as it was linked
-    pub steady_there : absolute_width machine type ≡ None →
-        (new : ℕ → ℕ) × (NumberAt (written ++ memory) (field_width machine type) (c.position + offset) (new (field_width machine type))
-        × FieldHolds machine type image_base (c.position + offset) (targets c symbol) (field_at c.code.bytes offset) new)
-    steady_there none = (
-      field_at c.bytes offset,
-      (
+    pub linked_there : absolute_width machine type ≡ None → NumberAt (written ++ memory) (field_width machine type) (c.position + offset) (field_at c.bytes offset (field_width machine type))
+    linked_there none =
         number_unwritten offset (field_width machine type) (field_at c.bytes offset (field_width machine type)) inside (record {
           bytes = take (field_width machine type) (drop offset c.bytes);
           located = located_from memory (take (field_width machine type) (drop offset c.bytes)) (c.position + offset) (λ i b is.
@@ -255,9 +297,14 @@ module _ (machine : MachineType) (image_base : ℕ) (image : List Range) (linked
               subst (λ a. byte_at memory a ≡ Some b) (sym place) (at.code_kept c (offset + i) b m found.0 clear));
           count = bytes_count;
           value = refl;
-        }),
-        holds_steady machine type at.from image_base (c.position + offset) (targets c symbol) (field_at c.code.bytes offset) (field_at c.bytes offset) none at.paged holds_linked,
-      ),
+        })
+
+    pub steady_there : absolute_width machine type ≡ None →
+        (new : ℕ → ℕ) × (NumberAt (written ++ memory) (field_width machine type) (c.position + offset) (new (field_width machine type))
+        × FieldHolds machine type image_base (c.position + offset) (targets c symbol) (field_at c.code.bytes offset) new)
+    steady_there none = (
+      field_at c.bytes offset,
+      (linked_there none, holds_steady machine type at.from image_base (c.position + offset) (targets c symbol) (field_at c.code.bytes offset) (field_at c.bytes offset) none at.paged holds_linked),
     )
 
     -- one that stores an address whole has it at the base

@@ -1,6 +1,7 @@
 -- There is memory of a linked program at any base that it can be moved to.
-use Rattle.std.proofs.Common.{◌≡◌, ℕ, ◌+◌, ◌≤◌, List, [], ◌∷◌, ◌++◌, length, ap, ◌∙◌, inr, arith}
-use Rattle.std.specs.List.{AllByRecursion, flat_map, list_any}
+use Rattle.std.proofs.Common.{◌≡◌, ℕ, ◌+◌, ◌≤◌, List, [], ◌∷◌, ◌++◌, length, Some, ap, ◌∙◌, inr, arith}
+use Rattle.std.specs.List.{AllByRecursion, Contains, flat_map, list_any}
+use Rattle.implib.specs.declared.coff.object.Relocation.{Relocation}
 use Rattle.implib.specs.declared.machine.MachineType.{MachineType}
 use Rattle.implib.specs.Link.Image.{Range, range_end}
 use Rattle.implib.specs.Link.Placement.{Placed}
@@ -8,7 +9,7 @@ use Rattle.implib.proofs.Link.LinkedMembers.{among_contains}
 use Rattle.implib.proofs.Link.Ranges.{among_flat}
 use Rattle.implib_link.specs.Gnu.Fields.{AreLinkedBeside, IsRelocated, LinkedCode, range_of_code, ranges_of_codes}
 use Rattle.implib_link.specs.Gnu.Moves.{AreMoved, AreInMemory, ArePaged, CanBeMoved, places_of_code}
-use Rattle.implib_link.specs.Gnu.Rebased.{Place, covers, table_places}
+use Rattle.implib_link.specs.Gnu.Rebased.{Place, absolute_width, covers, table_places}
 use Rattle.implib_link.proofs.Gnu.Choices.{PlaceIn, all_widths, can_rebase, places_apart, places_in, places_widths}
 use Rattle.implib_link.proofs.Gnu.Moved.{among_place, apart_back, places_from}
 use Rattle.implib_link.proofs.Search.Lists.{contains_among}
@@ -28,8 +29,16 @@ module _ (machine : MachineType) (image_base : ℕ) (targets : LinkedCode → �
     all_in_code codes relocated.1 within.1,
   )
 
+-- where its code stores an address whole, there is a place
+pub code_places : (machine : MachineType) (codes : List LinkedCode) (c : LinkedCode) (r : Relocation) (width : ℕ) → Contains codes c → Contains c.code.relocations r → absolute_width machine r.kind ≡ Some width →
+    Contains (flat_map (places_of_code machine) codes) (record { address = c.position + r.offset; width = width })
+code_places machine codes c r width held m is =
+    among_contains (record { address = c.position + r.offset; width = width }) (flat_map (places_of_code machine) codes)
+    (among_flat (places_of_code machine) c codes (record { address = c.position + r.offset; width = width }) (contains_among c codes held)
+    (among_place machine c.position r width c.code.relocations is (contains_among r c.code.relocations m)))
+
 -- at the places where its code stores addresses whole
-moved_exists : (machine : MachineType) (from to : ℕ) (image : List Range) (linked : List Placed) (codes : List LinkedCode) (targets : LinkedCode → ℕ → ℕ) → table_places machine linked ≡ [] →
+pub moved_exists : (machine : MachineType) (from to : ℕ) (image : List Range) (linked : List Placed) (codes : List LinkedCode) (targets : LinkedCode → ℕ → ℕ) → table_places machine linked ≡ [] →
     AreLinkedBeside machine from image linked codes targets → CanBeMoved machine codes → (memory : List Range) × AreMoved machine from to image linked codes targets (flat_map (places_of_code machine) codes) memory
 moved_exists machine from to image linked codes targets none beside can =
     let ranges : List Range = ranges_of_codes codes in
@@ -41,10 +50,7 @@ moved_exists machine from to image linked codes targets none beside can =
       record {
         beside = beside;
         within = can.within;
-        needed = λ c r width address entry held m is symbol own.
-            among_contains (record { address = c.position + r.offset; width = width }) (flat_map (places_of_code machine) codes)
-            (among_flat (places_of_code machine) c codes (record { address = c.position + r.offset; width = width }) (contains_among c codes held)
-            (among_place machine c.position r width c.code.relocations is (contains_among r c.code.relocations m)));
+        needed = λ c r width address entry held m is symbol own. code_places machine codes c r width held m is;
         only = λ a byte is covered. ap (λ ps. list_any (covers a) (ps ++ flat_map (places_of_code machine) codes)) none ∙ covered;
         rebased = rebased.1;
       },

@@ -49,10 +49,10 @@ rel32_leads n old base position target after further is counts near small =
     let place : base + position + 4 + after ≡ base + (position + 4 + after) = omega arith in
     ap (plus_signed 32 1 n) place ∙ signed_leads n base (position + 4 + after) target (omega arith) (relative n old position target after further is counts) (omega arith) small
 
-dir32_is : (n old base target : ℕ) → n ≡ (old + (base + target)) % 2 ^ 32 → old ≡ 0 → base + 2 ^ 31 ≤ 2 ^ 32 → target < 2 ^ 31 → n ≡ base + target
+pub dir32_is : (n old base target : ℕ) → n ≡ (old + (base + target)) % 2 ^ 32 → old ≡ 0 → base + 2 ^ 31 ≤ 2 ^ 32 → target < 2 ^ 31 → n ≡ base + target
 dir32_is n old base target is empty fits small = omega arith
 
-addr64_is : (n old base target : ℕ) → n ≡ (old + (base + target)) % 2 ^ 64 → old ≡ 0 → base + 2 ^ 31 ≤ 2 ^ 64 → target < 2 ^ 31 → n ≡ base + target
+pub addr64_is : (n old base target : ℕ) → n ≡ (old + (base + target)) % 2 ^ 64 → old ≡ 0 → base + 2 ^ 31 ≤ 2 ^ 64 → target < 2 ^ 31 → n ≡ base + target
 addr64_is n old base target is empty fits small = omega arith
 
 -- Types of relative fields.
@@ -81,7 +81,7 @@ branch_steady ARMNT type after number counts = absurd counts
 branch_steady AMD64 type after number counts = rw (not_addr64 type counts.0 counts.1.1.0, not_addr32 type counts.0 counts.1.1.0) refl
 branch_steady ARM64 type after number counts = subst (λ t. absolute_width ARM64 t ≡ None) (sym counts.0) refl
 
-pointer_width : (machine : MachineType) (type : ℕ) → IsPointer machine type → field_width machine type ≡ thunk_width machine
+pub pointer_width : (machine : MachineType) (type : ℕ) → IsPointer machine type → field_width machine type ≡ thunk_width machine
 pointer_width I386 type stores = refl
 pointer_width ARMNT type stores = absurd stores
 pointer_width AMD64 type stores = subst (λ t. field_width AMD64 t ≡ 8) (sym stores) refl
@@ -132,7 +132,7 @@ pointer_by ARM64 type base position target old new stores empty holds can fits s
 
 -- ARM64's page and offset.
 
-page_leads : (new old base first target : ℕ) → adrp_immediate new ≡ (page (base + target + adrp_immediate old) + (2 ^ 21 - page (base + first) % 2 ^ 21)) % 2 ^ 21 → adrp_immediate old ≡ 0 →
+pub page_leads : (new old base first target : ℕ) → adrp_immediate new ≡ (page (base + target + adrp_immediate old) + (2 ^ 21 - page (base + first) % 2 ^ 21)) % 2 ^ 21 → adrp_immediate old ≡ 0 →
     first + 16 ≤ 2 ^ 31 → target < 2 ^ 31 → plus_signed 21 4096 (adrp_immediate new) (page (base + first) * 4096) ≡ page (base + target) * 4096
 page_leads new old base first target is empty near small =
     let pages = near_pages base first target near small in
@@ -152,7 +152,7 @@ offset_leads new old base target same eight is empty even =
     ∙ ap (λ n. n * 8) (is ∙ ap (λ n. (base + target + n) % 4096 / 8) empty ∙ ap (λ n. n % 4096 / 8) plain)
     ∙ whole_eights (base + target) even
 
-pair_leads : (adrp load paged offset target : ℕ) → paged ≡ page target * 4096 → offset ≡ target % 4096 → paged + offset ≡ target
+pub pair_leads : (adrp load paged offset target : ℕ) → paged ≡ page target * 4096 → offset ≡ target % 4096 → paged + offset ≡ target
 pair_leads adrp load paged offset target first second = rw (first, second) (page_and_offset target)
 
 -- An instruction in code.
