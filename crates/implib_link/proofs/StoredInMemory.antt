@@ -1,6 +1,6 @@
 -- Fields for addresses beside import tables, in memory at any base: they hold addresses of entries, of what linked code
 -- defines, and so of stubs and thunks.
-use Rattle.std.proofs.Common.{◌≡◌, ℕ, ◌+◌, ◌*◌, ◌^◌, ◌<◌, ◌≤◌, List, ◌++◌, length, map, Some, sym, subst, inl, inr, refl, arith}
+use Rattle.std.proofs.Common.{◌≡◌, ℕ, ◌+◌, ◌*◌, ◌^◌, ◌<◌, ◌≤◌, List, ◌++◌, length, Some, subst, inr, refl, arith}
 use Rattle.std.specs.Prelude.{slice_get}
 use Rattle.std.specs.List.{AllByRecursion, Contains, flat_map}
 use Rattle.implib.specs.declared.machine.MachineType.{MachineType}
@@ -17,17 +17,16 @@ use Rattle.implib_link.specs.Gnu.Fields.{AreLinkedBeside, DefinesIn, LinkedCode,
 use Rattle.implib_link.specs.Gnu.Moves.{AreInMemory, ArePaged, CanBeMoved, places_of_code}
 use Rattle.implib_link.specs.Gnu.Operands.{HasPointer}
 use Rattle.implib_link.specs.Gnu.Reading.{ReadsAndWrites}
-use Rattle.implib_link.specs.Gnu.Rebased.{Place, StubArrives}
+use Rattle.implib_link.specs.Gnu.Rebased.{StubArrives}
 use Rattle.implib_link.specs.Gnu.Stored.{AreFurtherHeld, AreStoredInMemory, HoldAddress, PointsTo}
 use Rattle.implib_link.specs.Tables.{AreSteady, AreTables, CanReadFrom, Table, TableEntry, Tables}
 use Rattle.implib_link.proofs.Flavors.LldThunks.{bare_symbol, thunk_defines}
 use Rattle.implib_link.proofs.Gnu.FieldsInMemory.{StoredRests, stored_in_memory, stored_rests}
 use Rattle.implib_link.proofs.Gnu.Memory.{Covers}
-use Rattle.implib_link.proofs.Gnu.Moved.{among_place}
 use Rattle.implib_link.proofs.Gnu.MovedPrograms.{code_places, moved_exists}
 use Rattle.implib_link.proofs.Gnu.Stored.{holds_address, settled_by_code, settled_by_tables}
 use Rattle.implib_link.proofs.Search.Lists.{contains_among}
-use Rattle.implib_link.proofs.TablesInMemory.{EntryIn, covering, entry_in, stub_in_memory, thunk_in_memory}
+use Rattle.implib_link.proofs.TablesInMemory.{covering, entry_in, stub_in_memory, thunk_in_memory}
 
 module _ (machine : MachineType) (image_base : ℕ) (t : Tables) (codes : List LinkedCode) (targets : LinkedCode → ℕ → ℕ) (memory : List Range) (gives : List ℕ → Ask → List ℕ)
     (tables : AreTables machine t) (steady : AreSteady machine t.linked) (at : AreStoredInMemory machine image_base t.image t.linked codes targets memory) (n : ℕ) (written : List Range)

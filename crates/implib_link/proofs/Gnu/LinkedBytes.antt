@@ -15,6 +15,7 @@ use Rattle.implib.specs.Link.Load.{number_in}
 use Rattle.implib.proofs.Formats.Bytes.{length-u32_bytes}
 use Rattle.implib_link.specs.Gnu.Calls.{amd64_addr64, arm64_addr64, arm64_branch26, field_width}
 use Rattle.implib_link.specs.Gnu.Fields.{FieldHolds, IsRelocated, MeetsAlone, field_at, meets}
+use Rattle.implib_link.specs.Gnu.Stored.{HoldsFurther, IsFurtherHeld, amd64_addr32nb, arm64_addr32nb, arm64_pageoffset_12a, i386_dir32nb}
 use Rattle.implib_link.specs.Stub.{adrp_immediate, bits_of, ldr_immediate, page, with_adrp, with_bits}
 use Rattle.implib_link.proofs.Gnu.Fields.{get_drop, get_front, meets_bounds, meets_from}
 use Rattle.implib_link.proofs.Gnu.Jumps.{number-u32}
@@ -230,6 +231,9 @@ load_kept k w = omega arith
 load_has : (k w : ℕ) → k < 4096 → bits_of 10 12 (with_bits 10 12 k w) ≡ k
 load_has k w small = omega arith
 
+added_has : (k w : ℕ) → bits_of 10 12 (with_bits 10 12 k w) ≡ k % 4096
+added_has k w = omega arith
+
 load_word : (k w : ℕ) → w < 2 ^ 32 → with_bits 10 12 k w < 2 ^ 32
 load_word k w small = omega arith
 
@@ -284,15 +288,21 @@ adrp_word k w small =
 
 number_for : MachineType → ℕ → ℕ → ℕ → ℕ → (ℕ → ℕ) → ℕ
 number_for I386 type image_base position target old =
-    if type == i386_dir32 then old 4 + (image_base + target) else old 4 + target + (2 ^ 32 - (position + 4) % 2 ^ 32)
+    if type == i386_dir32 then old 4 + (image_base + target)
+    else if type == i386_dir32nb then old 4 + target
+    else old 4 + target + (2 ^ 32 - (position + 4) % 2 ^ 32)
 number_for ARMNT type image_base position target old = 0
 number_for AMD64 type image_base position target old =
-    if type == amd64_addr64 then old 8 + (image_base + target) else old 4 + target + (2 ^ 32 - (position + 4 + (type - amd64_rel32)) % 2 ^ 32)
+    if type == amd64_addr64 then old 8 + (image_base + target)
+    else if type == amd64_addr32nb then old 4 + target
+    else old 4 + target + (2 ^ 32 - (position + 4 + (type - amd64_rel32)) % 2 ^ 32)
 number_for ARM64 type image_base position target old =
     if type == arm64_addr64 then old 8 + (image_base + target)
     else if type == arm64_branch26 then with_bits 0 26 ((target + (2 ^ 28 - position % 2 ^ 28)) / 4) (old 4)
     else if type == arm64_pagebase_rel21
     then with_adrp (page (image_base + target + adrp_immediate (old 4)) + (2 ^ 21 - page (image_base + position) % 2 ^ 21)) (old 4)
+    else if type == arm64_addr32nb then old 4 + target
+    else if type == arm64_pageoffset_12a then with_bits 10 12 (image_base + target + bits_of 10 12 (old 4)) (old 4)
     else with_bits 10 12 ((image_base + target + ldr_immediate (old 4)) % 4096 / 8) (old 4)
 
 four_word : (n m : ℕ) → n < 2 ^ 32 → m ≡ number_in (bytes_in 4 n) → m ≡ n
@@ -305,16 +315,18 @@ number_holds I386 type image_base position target old new small is = record {
   dir32 = λ dir. let here : (type == i386_dir32) ≡ true = eq-eqb type i386_dir32 dir in (rw here at is) ∙ four_bytes (old 4 + (image_base + target));
   rel32 = λ rel.
       let other : (type == i386_dir32) ≡ false = ne_eqb type i386_dir32 (λ same. omega arith) in
-      (rw other at is) ∙ four_bytes (old 4 + target + (2 ^ 32 - (position + 4) % 2 ^ 32));
+      let further : (type == i386_dir32nb) ≡ false = ne_eqb type i386_dir32nb (λ same. omega arith) in
+      (rw (other, further) at is) ∙ four_bytes (old 4 + target + (2 ^ 32 - (position + 4) % 2 ^ 32));
 }
 number_holds ARMNT type image_base position target old new small is = tt
 number_holds AMD64 type image_base position target old new small is = record {
   addr64 = λ addr. let here : (type == amd64_addr64) ≡ true = eq-eqb type amd64_addr64 addr in (rw here at is) ∙ eight_bytes (old 8 + (image_base + target));
   rel32 = λ further few rel.
       let other : (type == amd64_addr64) ≡ false = ne_eqb type amd64_addr64 (λ same. omega arith) in
+      let relative : (type == amd64_addr32nb) ≡ false = ne_eqb type amd64_addr32nb (λ same. omega arith) in
       let more : type - amd64_rel32 ≡ further = omega arith in
       subst (λ k. new 4 ≡ (old 4 + target + (2 ^ 32 - (position + 4 + k) % 2 ^ 32)) % 2 ^ 32) more
-      ((rw other at is) ∙ four_bytes (old 4 + target + (2 ^ 32 - (position + 4 + (type - amd64_rel32)) % 2 ^ 32)));
+      ((rw (other, relative) at is) ∙ four_bytes (old 4 + target + (2 ^ 32 - (position + 4 + (type - amd64_rel32)) % 2 ^ 32)));
 }
 number_holds ARM64 type image_base position target old new small is = record {
   addr64 = λ addr. let here : (type == arm64_addr64) ≡ true = eq-eqb type arm64_addr64 addr in (rw here at is) ∙ eight_bytes (old 8 + (image_base + target));
@@ -335,9 +347,47 @@ number_holds ARM64 type image_base position target old new small is = record {
       let one : (type == arm64_addr64) ≡ false = ne_eqb type arm64_addr64 (λ same. omega arith) in
       let two : (type == arm64_branch26) ≡ false = ne_eqb type arm64_branch26 (λ same. omega arith) in
       let three : (type == arm64_pagebase_rel21) ≡ false = ne_eqb type arm64_pagebase_rel21 (λ same. omega arith) in
+      let four : (type == arm64_addr32nb) ≡ false = ne_eqb type arm64_addr32nb (λ same. omega arith) in
+      let five : (type == arm64_pageoffset_12a) ≡ false = ne_eqb type arm64_pageoffset_12a (λ same. omega arith) in
       let k : ℕ = (image_base + target + ldr_immediate (old 4)) % 4096 / 8 in
-      let word : new 4 ≡ with_bits 10 12 k (old 4) = four_word (with_bits 10 12 k (old 4)) (new 4) (load_word k (old 4) small) (rw (one, two, three) at is) in
+      let word : new 4 ≡ with_bits 10 12 k (old 4) = four_word (with_bits 10 12 k (old 4)) (new 4) (load_word k (old 4) small) (rw (one, two, three, four, five) at is) in
       (ap (with_bits 10 12 0) word ∙ load_kept k (old 4), ap (bits_of 10 12) word ∙ load_has k (old 4) (omega arith));
+}
+
+further_holds : (machine : MachineType) (type image_base position target : ℕ) (old new : ℕ → ℕ) → old 4 < 2 ^ 32 →
+    new (field_width machine type) ≡ number_in (bytes_in (field_width machine type) (number_for machine type image_base position target old)) → HoldsFurther machine type image_base target old new
+unfolding number_for
+further_holds I386 type image_base position target old new small is = record {
+  relative = λ own.
+      let one : (type == i386_dir32) ≡ false = ne_eqb type i386_dir32 (λ same. omega arith) in
+      let here : (type == i386_dir32nb) ≡ true = eq-eqb type i386_dir32nb own in
+      (rw (one, here) at is) ∙ four_bytes (old 4 + target);
+  added = λ own t adds. cc;
+}
+further_holds ARMNT type image_base position target old new small is = record { relative = λ own. absurd own; added = λ own t adds. cc }
+further_holds AMD64 type image_base position target old new small is = record {
+  relative = λ own.
+      let one : (type == amd64_addr64) ≡ false = ne_eqb type amd64_addr64 (λ same. omega arith) in
+      let here : (type == amd64_addr32nb) ≡ true = eq-eqb type amd64_addr32nb own in
+      (rw (one, here) at is) ∙ four_bytes (old 4 + target);
+  added = λ own t adds. cc;
+}
+further_holds ARM64 type image_base position target old new small is = record {
+  relative = λ own.
+      let one : (type == arm64_addr64) ≡ false = ne_eqb type arm64_addr64 (λ same. omega arith) in
+      let two : (type == arm64_branch26) ≡ false = ne_eqb type arm64_branch26 (λ same. omega arith) in
+      let three : (type == arm64_pagebase_rel21) ≡ false = ne_eqb type arm64_pagebase_rel21 (λ same. omega arith) in
+      let here : (type == arm64_addr32nb) ≡ true = eq-eqb type arm64_addr32nb own in
+      (rw (one, two, three, here) at is) ∙ four_bytes (old 4 + target);
+  added = λ own t adds.
+      let one : (type == arm64_addr64) ≡ false = ne_eqb type arm64_addr64 (λ same. omega arith) in
+      let two : (type == arm64_branch26) ≡ false = ne_eqb type arm64_branch26 (λ same. omega arith) in
+      let three : (type == arm64_pagebase_rel21) ≡ false = ne_eqb type arm64_pagebase_rel21 (λ same. omega arith) in
+      let four : (type == arm64_addr32nb) ≡ false = ne_eqb type arm64_addr32nb (λ same. omega arith) in
+      let here : (type == arm64_pageoffset_12a) ≡ true = eq-eqb type arm64_pageoffset_12a t in
+      let k : ℕ = image_base + target + bits_of 10 12 (old 4) in
+      let word : new 4 ≡ with_bits 10 12 k (old 4) = four_word (with_bits 10 12 k (old 4)) (new 4) (load_word k (old 4) small) (rw (one, two, three, four, here) at is) in
+      (ap (with_bits 10 12 0) word ∙ load_kept k (old 4), ap (bits_of 10 12) word ∙ added_has k (old 4));
 }
 
 -- Words of bytes.
@@ -355,19 +405,28 @@ word_small (a ∷ b ∷ c ∷ []) all = let one : a < 256 = all.0 in let two : b
 word_small (a ∷ b ∷ c ∷ d ∷ rest) all =
     let one : a < 256 = all.0 in let two : b < 256 = all.1.0 in let three : c < 256 = all.1.1.0 in let four : d < 256 = all.1.1.1.0 in omega arith
 
-pub linked_bytes : (machine : MachineType) (image_base : ℕ) (targets : ℕ → ℕ) (position : ℕ) (code : ObjectSection) → AllByRecursion (λ b. b < 256) code.bytes →
-    (bytes : List ℕ) × IsRelocated machine image_base targets position code bytes
-linked_bytes machine image_base targets position code all =
+pub linked_further : (machine : MachineType) (image_base : ℕ) (targets : ℕ → ℕ) (position : ℕ) (code : ObjectSection) → AllByRecursion (λ b. b < 256) code.bytes →
+    (bytes : List ℕ) × (IsRelocated machine image_base targets position code bytes × IsFurtherHeld machine image_base targets code bytes)
+linked_further machine image_base targets position code all =
     let value : Relocation → List ℕ = λ r. bytes_in (field_width machine r.kind) (number_for machine r.kind image_base (position + r.offset) (targets r.symbol) (field_at code.bytes r.offset)) in
     let wide : (r : Relocation) → length (value r) ≡ field_width machine r.kind = λ r.
     bytes_long (field_width machine r.kind) (number_for machine r.kind image_base (position + r.offset) (targets r.symbol) (field_at code.bytes r.offset)) (width_small machine r.kind) in
     let bytes : List ℕ = write_all machine value wide code.relocations code.bytes in (
       bytes,
-      record {
-        size = all_size machine value wide code.relocations code.bytes;
-        kept = λ offset none. all_aside machine value wide code.relocations code.bytes offset none;
-        fields = λ r alone inside.
-            number_holds machine r.kind image_base (position + r.offset) (targets r.symbol) (field_at code.bytes r.offset) (field_at bytes r.offset)
-            (word_small (drop r.offset code.bytes) (all_dropped r.offset code.bytes all)) (window_written machine value wide code.relocations code.bytes r alone inside);
-      },
+      (
+        record {
+          size = all_size machine value wide code.relocations code.bytes;
+          kept = λ offset none. all_aside machine value wide code.relocations code.bytes offset none;
+          fields = λ r alone inside.
+              number_holds machine r.kind image_base (position + r.offset) (targets r.symbol) (field_at code.bytes r.offset) (field_at bytes r.offset)
+              (word_small (drop r.offset code.bytes) (all_dropped r.offset code.bytes all)) (window_written machine value wide code.relocations code.bytes r alone inside);
+        },
+        λ r alone inside.
+            further_holds machine r.kind image_base (position + r.offset) (targets r.symbol) (field_at code.bytes r.offset) (field_at bytes r.offset)
+            (word_small (drop r.offset code.bytes) (all_dropped r.offset code.bytes all)) (window_written machine value wide code.relocations code.bytes r alone inside),
+      ),
     )
+
+pub linked_bytes : (machine : MachineType) (image_base : ℕ) (targets : ℕ → ℕ) (position : ℕ) (code : ObjectSection) → AllByRecursion (λ b. b < 256) code.bytes →
+    (bytes : List ℕ) × IsRelocated machine image_base targets position code bytes
+linked_bytes machine image_base targets position code all = let both = linked_further machine image_base targets position code all in (both.0, both.1.0)

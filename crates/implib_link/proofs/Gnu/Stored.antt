@@ -1,7 +1,6 @@
 -- Fields for the address of a name hold it, in memory at any base.
-use Rattle.std.proofs.Common.{◌≡◌, ℕ, ◌+◌, ◌*◌, ◌%◌, ◌^◌, ◌<◌, ◌≤◌, List, ◌++◌, [], ◌∷◌, length, None, Some, refl, ap, sym, ◌∙◌, subst, arith}
+use Rattle.std.proofs.Common.{◌≡◌, ℕ, ◌+◌, ◌*◌, ◌%◌, ◌^◌, ◌<◌, ◌≤◌, List, ◌++◌, [], ◌∷◌, length, None, Some, refl, sym, subst, arith}
 use Rattle.std.specs.List.{AllByRecursion, Contains}
-use Rattle.implib.specs.declared.coff.object.Relocation.{Relocation}
 use Rattle.implib.specs.declared.machine.MachineType.{MachineType}
 use Rattle.implib.specs.declared.machine.MachineType.TheVariants.{I386, ARMNT, AMD64, ARM64}
 use Rattle.implib.specs.Formats.Constants.{arm64_pagebase_rel21}
@@ -15,12 +14,11 @@ use Rattle.implib.proofs.Link.LinkedMembers.{among_contains}
 use Rattle.implib.proofs.Link.Ranges.{Among, all_among}
 use Rattle.implib_link.specs.Gnu.Calls.{field_width}
 use Rattle.implib_link.specs.Gnu.Fields.{DefinesIn, FieldHolds, LinkedCode, MeetsAlone, field_at}
-use Rattle.implib_link.specs.Gnu.Moves.{ArePaged}
 use Rattle.implib_link.specs.Gnu.Operands.{HasPageField, HasPointer, IsPointer, Names}
 use Rattle.implib_link.specs.Gnu.Rebased.{absolute_width}
 use Rattle.implib_link.specs.Gnu.Stored.{HasAddField, HasRelative, HoldAddress, HoldsFurther, IsImageRelative, SumArrives, arm64_pageoffset_12a}
 use Rattle.implib_link.specs.Stub.{adrp_immediate, bits_of, page, plus_signed}
-use Rattle.implib_link.proofs.Gnu.FieldsInMemory.{Rests, Settles, StoredRests, field_there, linked_there, own_end, settled_in_tables}
+use Rattle.implib_link.proofs.Gnu.FieldsInMemory.{Settles, StoredRests, field_there, linked_there, own_end, settled_in_tables}
 use Rattle.implib_link.proofs.Gnu.Memory.{Covers}
 use Rattle.implib_link.proofs.Gnu.Operands.{addr64_is, dir32_is, page_leads, pair_leads, pointer_width}
 use Rattle.implib_link.proofs.Gnu.Program.{gets_address}
@@ -85,7 +83,7 @@ module _ (machine : MachineType) (image_base : ℕ) (image : List Range) (linked
         offset + field_width machine type ≤ length c.code.bytes → Names c.from symbol name → HoldsFurther machine type stored.rests.from target (field_at c.code.bytes offset) (field_at c.bytes offset)
     further_holds c offset type symbol held alone inside names =
         subst (λ n. HoldsFurther machine type stored.rests.from n (field_at c.code.bytes offset) (field_at c.bytes offset)) (settled c symbol held names).taken
-        (stored.further c (record { offset = offset; symbol = symbol; kind = type }) held alone inside)
+        (stored.further c held (record { offset = offset; symbol = symbol; kind = type }) alone inside)
 
     relative_holds : (c : LinkedCode) (offset : ℕ) → Contains codes c → HasRelative machine c offset name → NumberAt (written ++ memory) 4 (c.position + offset) target
     relative_holds c offset held has =

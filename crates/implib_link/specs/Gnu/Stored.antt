@@ -7,7 +7,7 @@ use Rattle.std.specs.List.{Contains}
 use Rattle.implib.specs.declared.coff.object.Relocation.{Relocation}
 use Rattle.implib.specs.declared.machine.MachineType.{MachineType}
 use Rattle.implib.specs.declared.machine.MachineType.TheVariants.{I386, ARMNT, AMD64, ARM64}
-use Rattle.implib.specs.Formats.Object.{ASymbol, ObjectSymbol}
+use Rattle.implib.specs.Formats.Object.{ASymbol, ObjectSection, ObjectSymbol}
 use Rattle.implib.specs.Link.Image.{Range}
 use Rattle.implib.specs.Link.Load.{NumberAt}
 use Rattle.implib.specs.Link.Placement.{Placed}
@@ -57,14 +57,17 @@ pub record HoldsFurther (machine : MachineType) (type image_base target : ℕ) (
       (with_bits 10 12 0 (new 4) ≡ with_bits 10 12 0 (old 4))
       × (bits_of 10 12 (new 4) ≡ (image_base + target + bits_of 10 12 (old 4)) % 4096)
 
--- so does each field of linked code within its section that no other relocation meets
+-- so does each field of a section of code within it that no other relocation meets
+abbrev pub IsFurtherHeld : MachineType → ℕ → (ℕ → ℕ) → ObjectSection → List ℕ → Type 0
+IsFurtherHeld machine image_base targets code bytes =
+    (r : Relocation) → MeetsAlone machine code.relocations r.offset (field_width machine r.kind) r →
+    r.offset + field_width machine r.kind ≤ length code.bytes →
+    HoldsFurther machine r.kind image_base (targets r.symbol) (field_at code.bytes r.offset) (field_at bytes r.offset)
+
+-- and of all linked code
 abbrev pub AreFurtherHeld : MachineType → ℕ → List LinkedCode → (LinkedCode → ℕ → ℕ) → Type 0
 AreFurtherHeld machine image_base codes targets =
-    (c : LinkedCode) (r : Relocation) → Contains codes c →
-    MeetsAlone machine c.code.relocations r.offset (field_width machine r.kind) r →
-    r.offset + field_width machine r.kind ≤ length c.code.bytes →
-    HoldsFurther machine r.kind image_base (targets c r.symbol) (field_at c.code.bytes r.offset)
-    (field_at c.bytes r.offset)
+    (c : LinkedCode) → Contains codes c → IsFurtherHeld machine image_base (targets c) c.code c.bytes
 
 -- where code stores whole the address of a name that linked code defines, there is a base relocation
 abbrev pub StoresAreMoved : MachineType → List LinkedCode → List Place → Type 0

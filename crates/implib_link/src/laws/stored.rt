@@ -1,6 +1,6 @@
 //! Laws of the addresses that code and data hold as numbers.
 
-ghost use Rattle.implib.specs.Formats.Object.{ObjectSymbol};
+ghost use Rattle.implib.specs.Formats.Object.{ObjectSection, ObjectSymbol};
 ghost use Rattle.implib.specs.Formats.ShortImport.{ShortImport};
 ghost use Rattle.implib.specs.Import.{Ask, imp_symbol};
 ghost use Rattle.implib.specs.Link.Image.{Range};
@@ -9,16 +9,17 @@ ghost use Rattle.implib.specs.Members.ImportTables.{thunk_width};
 ghost use Rattle.implib.specs.declared.machine.MachineType.{MachineType};
 ghost use Rattle.implib_link.specs.Flavors.LldThunks.{IsThunk, ThunkArrives};
 ghost use Rattle.implib_link.specs.Gnu.Calls.{StubAt};
-ghost use Rattle.implib_link.specs.Gnu.Fields.{AreLinkedBeside, DefinesIn, LinkedCode, placed_code};
+ghost use Rattle.implib_link.specs.Gnu.Fields.{AreLinkedBeside, DefinesIn, IsRelocated};
+ghost use Rattle.implib_link.specs.Gnu.Fields.{LinkedCode, placed_code};
 ghost use Rattle.implib_link.specs.Gnu.Moves.{AreInMemory, ArePaged, CanBeMoved};
 ghost use Rattle.implib_link.specs.Gnu.Operands.{HasPointer};
 ghost use Rattle.implib_link.specs.Gnu.Reading.{ReadsAndWrites};
 ghost use Rattle.implib_link.specs.Gnu.Rebased.{StubArrives};
 ghost use Rattle.implib_link.specs.Gnu.Stored.{AreFurtherHeld, AreStoredInMemory, HoldAddress};
-ghost use Rattle.implib_link.specs.Gnu.Stored.{PointsTo};
+ghost use Rattle.implib_link.specs.Gnu.Stored.{IsFurtherHeld, PointsTo};
 ghost use Rattle.implib_link.specs.Tables.{AreSteady, AreTables, CanReadFrom, Table, TableEntry};
 ghost use Rattle.implib_link.specs.Tables.{Tables};
-ghost use Rattle.std.specs.List.{Contains};
+ghost use Rattle.std.specs.List.{AllByRecursion, Contains};
 ghost use Rattle.std.specs.Prelude.{◌≡◌, ◌+◌, ◌*◌, ◌++◌, ◌<◌, ◌≤◌, ◌^◌, ℕ, List, Some, length};
 ghost use Rattle.std.specs.Prelude.{slice_get};
 
@@ -111,9 +112,9 @@ pub fn stored_names_reach_their_imports()
 {}
 
 /// What is in memory with the addresses that its code holds is in memory, and so all other laws
-/// hold of it. There is such memory at any base that the machine can move the program to, if in
-/// each section the fields that store addresses whole are within it, and no two of them have an
-/// address in common.
+/// hold of it (`plain`). There is such memory at any base that the machine can move the program to,
+/// if in each section the fields that store addresses whole are within it, and no two of them have
+/// an address in common (`moved`); and there are such linked bytes for any code (`exist`).
 pub fn stored_addresses_are_in_memory()
     ensures plain { (machine : MachineType) (image_base : ℕ) (image : List Range)
         (linked : List Placed) (codes : List LinkedCode) (targets : LinkedCode → ℕ → ℕ)
@@ -129,4 +130,9 @@ pub fn stored_addresses_are_in_memory()
         ArePaged machine from to →
         (memory : List Range) ×
         AreStoredInMemory machine to image linked codes targets memory }
+    ensures exist { (machine : MachineType) (image_base : ℕ) (targets : ℕ → ℕ) (position : ℕ)
+        (code : ObjectSection) →
+        AllByRecursion (λ b. b < 256) code.bytes →
+        (bytes : List ℕ) × (IsRelocated machine image_base targets position code bytes ×
+        IsFurtherHeld machine image_base targets code bytes) }
 {}
