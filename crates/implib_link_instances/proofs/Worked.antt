@@ -41,6 +41,9 @@ pub mod FlavorFields
 pub mod Rules
 pub mod Lld
 pub mod LldPrograms
+pub mod Stored
+pub mod Registered
+pub mod NearStored
 pub mod NamedApart
 pub mod Aliases
 pub mod Readings

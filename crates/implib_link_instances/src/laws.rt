@@ -24,6 +24,7 @@ pub mod other_libraries;
 pub mod program;
 pub mod rebased;
 pub mod search;
+pub mod stored;
 pub mod stubs;
 pub mod worked;
 pub mod writing;

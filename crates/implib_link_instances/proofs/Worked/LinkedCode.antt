@@ -82,7 +82,7 @@ arm64_test type image_base position target old new =
     && (bits_of 10 12 (new 4) == (image_base + target + ldr_immediate (old 4)) % 4096 / 8)
     else true
 
-both_equal : (a b c d : ℕ) → ((a == b) && (c == d)) ≡ true → (a ≡ b) × (c ≡ d)
+pub both_equal : (a b c d : ℕ) → ((a == b) && (c == d)) ≡ true → (a ≡ b) × (c ≡ d)
 both_equal a b c d test = let parts = and_parts (a == b) (c == d) test in (eqb-true a b parts.0, eqb-true c d parts.1)
 
 arm64_holds : (type image_base position target : ℕ) (old new : ℕ → ℕ) → arm64_test type image_base position target old new ≡ true → Arm64Holds type image_base position target old new

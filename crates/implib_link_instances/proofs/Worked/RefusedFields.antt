@@ -43,7 +43,7 @@ no_fourth memory a (b ∷ c ∷ d ∷ []) none four located = omega arith
 no_fourth memory a (b ∷ c ∷ d ∷ e ∷ rest) none four located = let is : None ≡ Some e = sym none ∙ located.1.1.1.0 in cc
 
 -- a number of four bytes has a fourth byte
-past_end : (memory : List Range) (a n : ℕ) → byte_at memory (a + 1 + 1 + 1) ≡ None → NumberAt memory 4 a n → ⊥
+pub past_end : (memory : List Range) (a n : ℕ) → byte_at memory (a + 1 + 1 + 1) ≡ None → NumberAt memory 4 a n → ⊥
 past_end memory a n none there = no_fourth memory a there.bytes none there.count there.located
 
 pub other_byte : (memory : List Range) (a byte other : ℕ) (bytes : List ℕ) → byte_at memory a ≡ Some other → byte < other → BytesAt memory a (byte ∷ bytes) → ⊥

@@ -1,0 +1,176 @@
+-- Data and code that name `open` by its bare name, by hand, on three machines, in the program of Worked/Operands with
+-- this object in the place of the passing one: at other places, in images at other bases, and moved to others. Here the
+-- name is that of a stub for GNU's linker.
+use Rattle.std.specs.Prelude.{◌≡◌, ℕ, ◌+◌, ◌*◌, List, [], ◌∷◌, ◌++◌, codes, slice_get}
+use Rattle.implib.specs.declared.coff.object.Relocation.{Relocation}
+use Rattle.implib.specs.declared.machine.MachineType.{MachineType}
+use Rattle.implib.specs.declared.machine.MachineType.TheVariants.{I386, ARMNT, AMD64, ARM64}
+use Rattle.implib.specs.Formats.Constants.{arm64_pagebase_rel21, class_external, i386_dir32, mem_execute_read}
+use Rattle.implib.specs.Formats.Object.{ASymbol, Object, ObjectSection}
+use Rattle.implib.specs.Link.Image.{Range, image_of}
+use Rattle.implib.specs.Link.Placement.{Bases, Placed, Unplaced, placed_from}
+use Rattle.implib.specs.Link.Resolution.{target_address}
+use Rattle.implib.specs.Members.Gnu.{section, text_name}
+use Rattle.implib_link.specs.Flavors.Program.{IsProgram}
+use Rattle.implib_link.specs.Gnu.Calls.{StubAt, amd64_addr64, arm64_addr64}
+use Rattle.implib_link.specs.Gnu.Fields.{DefinesIn, LinkedCode, placed_code, ranges_of_codes}
+use Rattle.implib_link.specs.Gnu.Operands.{HasPageField, HasPointer}
+use Rattle.implib_link.specs.Gnu.Program.{null_descriptor}
+use Rattle.implib_link.specs.Gnu.Rebased.{Place}
+use Rattle.implib_link.specs.Gnu.Stored.{AreStoredInMemory, HasAddField, HasRelative, amd64_addr32nb, arm64_addr32nb, arm64_pageoffset_12a, i386_dir32nb}
+use Rattle.implib_link.specs.Stub.{adrp_immediate, bits_of, page, plus_signed}
+use Rattle.implib_link_instances.specs.Worked.Operands.{field, named_or, open_on, placed_or_passing, stub_linked, stub_section}
+use Rattle.implib_link_instances.specs.Worked.Programs.{another, both_inputs, foo_input, input_objects, symbol_of_class, touching_4, touching_8, zed_input}
+
+-- The section. I386: a pointer; `push offset _open`; three `nop`; an address from the image's base. AMD64: a pointer, as
+-- `.rdata$.refptr.open` has it, with eight bytes behind; an address from the image's base. ARM64: a pointer; `adrp x1`
+-- and `add x2, x1` for `open`; an address from the image's base.
+abbrev pub registering_bytes : MachineType → List ℕ
+registering_bytes I386 =
+    0 ∷ 0 ∷ 0 ∷ 0 ∷ 0x68 ∷ 0 ∷ 0 ∷ 0 ∷ 0 ∷ 0x90 ∷ 0x90 ∷ 0x90 ∷ 0 ∷ 0 ∷ 0 ∷ 0 ∷ []
+registering_bytes ARMNT = []
+registering_bytes AMD64 =
+    0 ∷ 0 ∷ 0 ∷ 0 ∷ 0 ∷ 0 ∷ 0 ∷ 0 ∷ 0 ∷ 0 ∷ 0 ∷ 0 ∷ 0 ∷ 0 ∷ 0 ∷ 0 ∷ 0 ∷ 0 ∷ 0 ∷ 0 ∷ []
+registering_bytes ARM64 =
+    0 ∷ 0 ∷ 0 ∷ 0 ∷ 0 ∷ 0 ∷ 0 ∷ 0 ∷ 1 ∷ 0 ∷ 0 ∷ 0x90 ∷ 0x22 ∷ 0 ∷ 0 ∷ 0x91 ∷ 0 ∷ 0 ∷ 0 ∷ 0 ∷ []
+
+-- its relocations: symbol 1 is `open`
+abbrev pub registering_relocations : MachineType → List Relocation
+registering_relocations I386 = field 0 1 i386_dir32 ∷ field 5 1 i386_dir32 ∷ field 12 1 i386_dir32nb ∷ []
+registering_relocations ARMNT = []
+registering_relocations AMD64 = field 0 1 amd64_addr64 ∷ field 16 1 amd64_addr32nb ∷ []
+registering_relocations ARM64 =
+    field 0 1 arm64_addr64 ∷ field 8 1 arm64_pagebase_rel21 ∷ field 12 1 arm64_pageoffset_12a
+    ∷ field 16 1 arm64_addr32nb ∷ []
+
+-- what it is linked to at 0x2010, `open` being at 0x1040, of images at 0x500000 and 0x180000000
+abbrev pub registering_linked : MachineType → List ℕ
+registering_linked I386 =
+    0x40 ∷ 0x10 ∷ 0x50 ∷ 0 ∷ 0x68 ∷ 0x40 ∷ 0x10 ∷ 0x50 ∷ 0 ∷ 0x90 ∷ 0x90 ∷ 0x90 ∷ 0x40 ∷ 0x10 ∷ 0 ∷ 0 ∷ []
+registering_linked ARMNT = []
+registering_linked AMD64 =
+    0x40 ∷ 0x10 ∷ 0 ∷ 0x80 ∷ 1 ∷ 0 ∷ 0 ∷ 0 ∷ 0 ∷ 0 ∷ 0 ∷ 0 ∷ 0 ∷ 0 ∷ 0 ∷ 0 ∷ 0x40 ∷ 0x10 ∷ 0 ∷ 0 ∷ []
+registering_linked ARM64 =
+    0x40 ∷ 0x10 ∷ 0 ∷ 0x80 ∷ 1 ∷ 0 ∷ 0 ∷ 0 ∷ 0xE1 ∷ 0xFF ∷ 0xFF ∷ 0xF0 ∷ 0x22 ∷ 0 ∷ 1 ∷ 0x91 ∷ 0x40 ∷ 0x10 ∷ 0 ∷ 0 ∷ []
+
+-- and the stub of `open` at 0x1040: on I386 its jump has an address whole
+abbrev pub registered_stub : MachineType → List ℕ
+registered_stub I386 = 0xFF ∷ 0x25 ∷ 0x60 ∷ 0 ∷ 0x50 ∷ 0 ∷ 0x90 ∷ 0x90 ∷ []
+registered_stub ARMNT = []
+registered_stub AMD64 = stub_linked AMD64
+registered_stub ARM64 = stub_linked ARM64
+
+abbrev pub registering_section : MachineType → ObjectSection
+registering_section machine =
+    section text_name mem_execute_read (registering_bytes machine) (registering_relocations machine)
+
+abbrev pub registering : MachineType → Object
+registering machine = record {
+  machine = 0;
+  time = 0;
+  optional_header_size = 0;
+  characteristics = 0;
+  sections = registering_section machine ∷ [];
+  entries = ASymbol (symbol_of_class (codes "table") 1 class_external)
+      ∷ ASymbol (symbol_of_class (open_on machine) 0 class_external)
+      ∷ [];
+}
+
+-- what is linked: this object, foo.dll's members, another object, zed.dll's members, the null descriptor
+abbrev pub registering_objects : MachineType → List Object
+registering_objects machine =
+    registering machine
+    ∷ (input_objects machine (foo_input machine)
+    ++ (another machine
+    ∷ (input_objects machine (zed_input machine)
+    ++ null_descriptor ∷ [])))
+
+abbrev pub registering_placed : MachineType → Bases → List Placed
+registering_placed machine bases = placed_from bases (registering_objects machine)
+
+-- the stub, which is the fourth object's, and the section
+abbrev pub registered_stub_at : MachineType → Bases → LinkedCode
+registered_stub_at machine bases = record {
+  from = placed_or_passing machine (slice_get (registering_placed machine bases) 3);
+  number = 1;
+  code = stub_section machine;
+  position = 0x1040;
+  bytes = registered_stub machine;
+}
+
+abbrev pub registering_at : MachineType → LinkedCode
+registering_at machine = record {
+  from = record { object = registering machine; section_addresses = Unplaced ∷ [] };
+  number = 1;
+  code = registering_section machine;
+  position = 0x2010;
+  bytes = registering_linked machine;
+}
+
+abbrev pub registering_codes : MachineType → Bases → List LinkedCode
+registering_codes machine bases = registered_stub_at machine bases ∷ registering_at machine ∷ []
+
+abbrev pub registering_targets : MachineType → Bases → LinkedCode → ℕ → ℕ
+registering_targets machine bases c index =
+    named_or machine (slice_get c.from.object.entries index)
+    (target_address (registering_placed machine bases) c.from index)
+
+abbrev pub registering_image : MachineType → Bases → List Range
+registering_image machine bases = image_of machine bases (registering_placed machine bases)
+
+abbrev pub registering_memory : MachineType → Bases → List Range
+registering_memory machine bases =
+    registering_image machine bases ++ ranges_of_codes (registering_codes machine bases)
+
+-- with its base relocations applied, for 0x20000000 on I386, 0x7FF700000000 on AMD64 and 0x30000000 on ARM64
+abbrev pub registering_places : MachineType → List Place
+registering_places I386 =
+    record { address = 0x1042; width = 4 }
+    ∷ record { address = 0x2010; width = 4 }
+    ∷ record { address = 0x2015; width = 4 }
+    ∷ []
+registering_places ARMNT = []
+registering_places AMD64 = record { address = 0x2010; width = 8 } ∷ []
+registering_places ARM64 = record { address = 0x2010; width = 8 } ∷ []
+
+abbrev pub registering_moved_memory : MachineType → Bases → List Range
+registering_moved_memory I386 bases =
+    record { start = 0x1042; bytes = 0x60 ∷ 0 ∷ 0 ∷ 0x20 ∷ [] }
+    ∷ record { start = 0x2010; bytes = 0x40 ∷ 0x10 ∷ 0 ∷ 0x20 ∷ [] }
+    ∷ record { start = 0x2015; bytes = 0x40 ∷ 0x10 ∷ 0 ∷ 0x20 ∷ [] }
+    ∷ registering_memory I386 bases
+registering_moved_memory ARMNT bases = []
+registering_moved_memory AMD64 bases =
+    record { start = 0x2010; bytes = 0x40 ∷ 0x10 ∷ 0 ∷ 0 ∷ 0xF7 ∷ 0x7F ∷ 0 ∷ 0 ∷ [] } ∷ registering_memory AMD64 bases
+registering_moved_memory ARM64 bases =
+    record { start = 0x2010; bytes = 0x40 ∷ 0x10 ∷ 0 ∷ 0x30 ∷ 0 ∷ 0 ∷ 0 ∷ 0 ∷ [] } ∷ registering_memory ARM64 bases
+
+-- The program is one of the laws and in memory at a base with the addresses that its code holds; the stub of the entry
+-- at an address defines `open`; and the pointer and the address from the image's base, so far on, are for `open`.
+pub record WorkedRegistered (machine : MachineType) (image_base : ℕ) (bases : Bases) (memory : List Range)
+    (entry further : ℕ) : Type 0 where
+  pub program : IsProgram machine bases (both_inputs machine) (registering_objects machine)
+  pub at : AreStoredInMemory machine image_base (registering_image machine bases) (registering_placed machine bases)
+      (registering_codes machine bases) (registering_targets machine bases) memory
+  pub stub : StubAt machine (registering_placed machine bases) (placed_code (registered_stub_at machine bases))
+      (symbol_of_class (open_on machine) 1 class_external) entry
+  pub defines : DefinesIn (registered_stub_at machine bases) (symbol_of_class (open_on machine) 1 class_external)
+  pub pointer : HasPointer machine (registering_at machine) 0 (open_on machine)
+  pub relative : HasRelative machine (registering_at machine) further (open_on machine)
+
+-- the three programs, as they were linked and moved; I386's immediate operand, and ARM64's two instructions
+pub record WorkedRegistering : Type 0 where
+  pub i386 : WorkedRegistered I386 0x50_0000 touching_4 (registering_memory I386 touching_4) 0x60 12
+  pub i386_moved : WorkedRegistered I386 0x2000_0000 touching_4 (registering_moved_memory I386 touching_4) 0x60 12
+  pub amd64 : WorkedRegistered AMD64 0x1_8000_0000 touching_8 (registering_memory AMD64 touching_8) 0x80 16
+  pub amd64_moved : WorkedRegistered AMD64 0x7FF7_0000_0000 touching_8 (registering_moved_memory AMD64 touching_8) 0x80 16
+  pub arm64 : WorkedRegistered ARM64 0x1_8000_0000 touching_8 (registering_memory ARM64 touching_8) 0x80 16
+  pub arm64_moved : WorkedRegistered ARM64 0x3000_0000 touching_8 (registering_moved_memory ARM64 touching_8) 0x80 16
+  pub i386_immediate : HasPointer I386 (registering_at I386) 5 (open_on I386)
+  pub arm64_page : HasPageField (registering_at ARM64) 8 (open_on ARM64)
+  pub arm64_add : HasAddField (registering_at ARM64) 12 (open_on ARM64)
+  -- where the linked `adrp` and `add` lead, at both bases, by the specification of the instructions
+  pub arm64_sum : plus_signed 21 4096 (adrp_immediate 0xF0FF_FFE1) (page 0x1_8000_2018 * 4096) + bits_of 10 12 0x9101_0022
+      ≡ 0x1_8000_1040
+  pub arm64_moved_sum : plus_signed 21 4096 (adrp_immediate 0xF0FF_FFE1) (page 0x3000_2018 * 4096)
+      + bits_of 10 12 0x9101_0022 ≡ 0x3000_1040
