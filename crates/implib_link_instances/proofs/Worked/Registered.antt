@@ -1,5 +1,5 @@
 -- Data and code that name `open` by its bare name, by computing.
-use Rattle.std.proofs.Common.{◌≡◌, ℕ, ◌+◌, ◌^◌, List, [], ◌∷◌, codes, refl, inl, inr, arith}
+use Rattle.std.proofs.Common.{◌^◌, List, [], ◌∷◌, refl, inl, inr, arith}
 use Rattle.implib.specs.declared.machine.MachineType.TheVariants.{I386, AMD64, ARM64}
 use Rattle.implib.specs.Formats.Constants.{class_external, i386_dir32}
 use Rattle.implib.specs.Formats.Layout.{encoded_size}

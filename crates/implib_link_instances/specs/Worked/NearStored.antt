@@ -1,6 +1,6 @@
 -- Near misses of fields for addresses and of what they hold, each by one thing that is otherwise than in Worked/Stored.
 -- A record `NearX` has those of `X`, each by the name of the field that refuses it; what stands is beside them.
-use Rattle.std.specs.Prelude.{◌≡◌, ℕ, List, [], ◌∷◌, ◌++◌}
+use Rattle.std.specs.Prelude.{◌≡◌, ℕ, List, [], ◌∷◌}
 use Rattle.implib.specs.declared.machine.MachineType.TheVariants.{I386, ARMNT, AMD64, ARM64}
 use Rattle.implib.specs.Link.Image.{Range}
 use Rattle.implib_link.specs.Gnu.Fields.{LinkedCode}

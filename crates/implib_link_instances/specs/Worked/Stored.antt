@@ -4,7 +4,7 @@
 -- `int (*held[2])(void) = {0, mid};`
 -- `int (*pick(void))(void) { asm(".seh_handler mid, @except"); zeta(); gee(); return mid; }`, on I386 without the `asm`,
 -- `zeta` and `gee` by dllimport; linked with `/merge:.xdata=.data`.
-use Rattle.std.specs.Prelude.{ℕ, ◌+◌, List, [], ◌∷◌, ◌++◌, codes, length, slice_get}
+use Rattle.std.specs.Prelude.{ℕ, ◌+◌, List, [], ◌∷◌, ◌++◌, codes, slice_get}
 use Rattle.implib.specs.declared.coff.object.Relocation.{Relocation}
 use Rattle.implib.specs.declared.machine.MachineType.{MachineType}
 use Rattle.implib.specs.declared.machine.MachineType.TheVariants.{I386, ARMNT, AMD64, ARM64}
