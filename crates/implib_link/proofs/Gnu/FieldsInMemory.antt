@@ -38,7 +38,7 @@ pub record Rests (machine : MachineType) (image_base : ℕ) (image : List Range)
       slice_get c.from.object.entries r.symbol ≡ Some entry → symbol_address linked c.from entry ≡ Some address → NumberAt (image ++ ranges_of_codes codes) width (c.position + r.offset) n →
       ((from ≡ image_base) × NumberAt memory width (c.position + r.offset) n) ⊎ NumberAt memory width (c.position + r.offset) (moved_number width from image_base n)
 
-same_pages : (machine : MachineType) (base : ℕ) → ArePaged machine base base
+pub same_pages : (machine : MachineType) (base : ℕ) → ArePaged machine base base
 same_pages I386 base = tt
 same_pages ARMNT base = tt
 same_pages AMD64 base = tt

@@ -1,0 +1,20 @@
+//! Laws of files of linked programs. The functions do nothing: their contracts are the laws.
+
+ghost use Rattle.implib_image.specs.Laws.{FieldsLeadInFiles, FilesLoad, WritesAreInDirectory};
+
+/// A loader that begins with the file of any import tables, as Windows does, loads exactly what
+/// they import.
+pub fn files_load()
+    ensures { FilesLoad }
+{}
+
+/// So in a file with code, mapped at its own base, every field of code against the symbol of an
+/// entry leads to what the DLL gives.
+pub fn fields_lead_in_files()
+    ensures { FieldsLeadInFiles }
+{}
+
+/// Where data directory 12 has the address tables, such a loader writes nothing outside it.
+pub fn writes_are_in_directory()
+    ensures { WritesAreInDirectory }
+{}
