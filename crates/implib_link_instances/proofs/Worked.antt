@@ -44,6 +44,7 @@ pub mod LldPrograms
 pub mod Stored
 pub mod Registered
 pub mod NearStored
+pub mod Files
 pub mod NamedApart
 pub mod Aliases
 pub mod Readings

@@ -8,6 +8,7 @@ pub mod calls;
 pub mod choices;
 pub mod closed;
 pub mod exists;
+pub mod files;
 pub mod in_bytes;
 pub mod instructions;
 pub mod lld;

@@ -94,7 +94,7 @@ further_by machine image_base codes targets test c held r alone inside =
 
 -- I386.
 
-i386_program : IsLldProgram I386 0x2000 (addresses_on I386) (shorts_on I386) (lld_image_on I386) (holding_placed I386)
+pub i386_program : IsLldProgram I386 0x2000 (addresses_on I386) (shorts_on I386) (lld_image_on I386) (holding_placed I386)
 unfolding lld_opened
 i386_program =
     let other = worked_lld_programs.i386.program in
@@ -119,7 +119,7 @@ i386_steady : AreSteady I386 (holding_placed I386)
 unfolding lld_opened
 i386_steady = refl
 
-i386_beside : AreLinkedBeside I386 0x40_0000 (lld_image_on I386) (holding_placed I386) (holding_codes I386) (holding_targets I386)
+pub i386_beside : AreLinkedBeside I386 0x40_0000 (lld_image_on I386) (holding_placed I386) (holding_codes I386) (holding_targets I386)
 unfolding lld_opened relocated_test meet_test
 i386_beside = record {
   held = ((0, omega arith, refl), ((2, omega arith, refl), ((0, omega arith, refl), ((0, omega arith, refl), tt))));
@@ -190,7 +190,7 @@ i386_moved_worked = record { program = i386_program; steady = i386_steady; at = 
 
 -- AMD64.
 
-amd64_program : IsLldProgram AMD64 0x2000 (addresses_on AMD64) (shorts_on AMD64) (lld_image_on AMD64) (holding_placed AMD64)
+pub amd64_program : IsLldProgram AMD64 0x2000 (addresses_on AMD64) (shorts_on AMD64) (lld_image_on AMD64) (holding_placed AMD64)
 unfolding lld_opened
 amd64_program =
     let other = worked_lld_programs.amd64.program in
@@ -215,7 +215,7 @@ amd64_steady : AreSteady AMD64 (holding_placed AMD64)
 unfolding lld_opened
 amd64_steady = refl
 
-amd64_beside : AreLinkedBeside AMD64 0x1_4000_0000 (lld_image_on AMD64) (holding_placed AMD64) (holding_codes AMD64) (holding_targets AMD64)
+pub amd64_beside : AreLinkedBeside AMD64 0x1_4000_0000 (lld_image_on AMD64) (holding_placed AMD64) (holding_codes AMD64) (holding_targets AMD64)
 unfolding lld_opened relocated_test meet_test
 amd64_beside = record {
   held = ((0, omega arith, refl), ((2, omega arith, refl), ((0, omega arith, refl), ((0, omega arith, refl), tt))));
@@ -286,7 +286,7 @@ amd64_moved_worked = record { program = amd64_program; steady = amd64_steady; at
 
 -- ARM64.
 
-arm64_program : IsLldProgram ARM64 0x2000 (addresses_on ARM64) (shorts_on ARM64) (lld_image_on ARM64) (holding_placed ARM64)
+pub arm64_program : IsLldProgram ARM64 0x2000 (addresses_on ARM64) (shorts_on ARM64) (lld_image_on ARM64) (holding_placed ARM64)
 unfolding lld_opened
 arm64_program =
     let other = worked_lld_programs.arm64.program in
@@ -311,7 +311,7 @@ arm64_steady : AreSteady ARM64 (holding_placed ARM64)
 unfolding lld_opened
 arm64_steady = refl
 
-arm64_beside : AreLinkedBeside ARM64 0x1_4000_0000 (lld_image_on ARM64) (holding_placed ARM64) (holding_codes ARM64) (holding_targets ARM64)
+pub arm64_beside : AreLinkedBeside ARM64 0x1_4000_0000 (lld_image_on ARM64) (holding_placed ARM64) (holding_codes ARM64) (holding_targets ARM64)
 unfolding lld_opened relocated_test meet_test
 arm64_beside = record {
   held = ((0, omega arith, refl), ((2, omega arith, refl), ((0, omega arith, refl), ((0, omega arith, refl), tt))));

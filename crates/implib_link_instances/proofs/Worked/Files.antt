@@ -1,0 +1,81 @@
+-- Files that linkers wrote, by computing.
+use Rattle.std.proofs.Common.{◌≡◌, ℕ, ◌+◌, ◌*◌, ◌≤◌, Bool, true, List, [], ◌∷◌, ◌++◌, refl, arith}
+use Rattle.std.specs.List.{AllByRecursion, list_all}
+use Rattle.std.proofs.lemmas.Bool.{and_parts}
+use Rattle.implib.specs.declared.machine.MachineType.{MachineType}
+use Rattle.implib.specs.declared.machine.MachineType.TheVariants.{I386, AMD64, ARM64}
+use Rattle.implib.specs.Link.Image.{Range}
+use Rattle.implib.specs.Link.Load.{BytesAt}
+use Rattle.implib_dll.specs.Bytes.{bytes_at, u16_at, u32_at}
+use Rattle.implib_dll.specs.Digits.{bytes_of_digits}
+use Rattle.implib_dll.specs.Headers.{entry_in, header_at, header_in, header_with, signature_in}
+use Rattle.implib_dll.specs.Outcome.{each_from}
+use Rattle.implib_dll.specs.Sections.{contents_at, section_at}
+use Rattle.implib_image.specs.Files.{mapped_file}
+use Rattle.implib_image.specs.Laws.{IsFileOf}
+use Rattle.implib_link.specs.Gnu.Fields.{ranges_of_codes}
+use Rattle.implib_link.specs.Tables.{AreTables}
+use Rattle.implib_link_instances.specs.Worked.Files.{WorkedFile, WorkedFiles, amd64_headers, arm64_headers, file_on, gnu_data, gnu_file, gnu_headers, gnu_idata, gnu_mapped, gnu_reloc, gnu_text, i386_headers, mapped_on, tables_in}
+use Rattle.implib_link_instances.specs.Worked.LldPrograms.{addresses_on, lld_image_on, shorts_on}
+use Rattle.implib_link_instances.specs.Worked.Stored.{holding_codes, holding_placed}
+use Rattle.implib_link.proofs.TablesOfPrograms.{lld_tables}
+use Rattle.implib_link_instances.proofs.Worked.Lld.{lld_opened}
+use Rattle.implib_link_instances.proofs.Worked.RefusedLinks.{are_located, is_each_located}
+use Rattle.implib_link_instances.proofs.Worked.Stored.{amd64_beside, amd64_program, arm64_beside, arm64_program, i386_beside, i386_program}
+
+-- what the computing has to open
+unfoldable pub file_opened : Unit {0}
+unfolding bytes_at bytes_of_digits contents_at each_from entry_in header_at header_in header_with section_at signature_in u16_at u32_at mapped_file file_on i386_headers amd64_headers arm64_headers gnu_file gnu_headers gnu_text gnu_data gnu_idata gnu_reloc
+file_opened = tt
+
+-- whether memory has the bytes of a range
+abbrev is_held : List Range → Range → Bool
+is_held memory r = is_each_located memory r.start r.bytes
+
+pub holds_by : (memory ranges : List Range) → list_all (is_held memory) ranges ≡ true → AllByRecursion (λ (r : Range). BytesAt memory r.start r.bytes) ranges
+holds_by memory [] test = tt
+holds_by memory (r ∷ ranges) test =
+    let parts = and_parts (is_held memory r) (list_all (is_held memory) ranges) test in
+    (are_located memory r.bytes r.start parts.0, holds_by memory ranges parts.1)
+
+pub i386_is : IsFileOf I386 0x2000 (lld_image_on I386 ++ ranges_of_codes (holding_codes I386)) (file_on I386) (mapped_on I386)
+unfolding lld_opened file_opened
+i386_is = record { mapped = refl; made_for = refl; width = refl; directory = refl; holds = holds_by (mapped_on I386).image (lld_image_on I386 ++ ranges_of_codes (holding_codes I386)) refl }
+
+i386_tables : AreTables I386 (tables_in I386)
+i386_tables = lld_tables I386 0x2000 (addresses_on I386) (shorts_on I386) (lld_image_on I386) (holding_placed I386) i386_program
+
+i386_file : WorkedFile I386 0x2050 0x14
+unfolding lld_opened file_opened
+i386_file = record { is = i386_is; beside = i386_beside; tables = i386_tables; addresses = refl; inside = ((omega arith, omega arith), ((omega arith, omega arith), tt)) }
+
+pub amd64_is : IsFileOf AMD64 0x2000 (lld_image_on AMD64 ++ ranges_of_codes (holding_codes AMD64)) (file_on AMD64) (mapped_on AMD64)
+unfolding lld_opened file_opened
+amd64_is = record { mapped = refl; made_for = refl; width = refl; directory = refl; holds = holds_by (mapped_on AMD64).image (lld_image_on AMD64 ++ ranges_of_codes (holding_codes AMD64)) refl }
+
+amd64_tables : AreTables AMD64 (tables_in AMD64)
+amd64_tables = lld_tables AMD64 0x2000 (addresses_on AMD64) (shorts_on AMD64) (lld_image_on AMD64) (holding_placed AMD64) amd64_program
+
+amd64_file : WorkedFile AMD64 0x2068 0x28
+unfolding lld_opened file_opened
+amd64_file = record { is = amd64_is; beside = amd64_beside; tables = amd64_tables; addresses = refl; inside = ((omega arith, omega arith), ((omega arith, omega arith), tt)) }
+
+pub arm64_is : IsFileOf ARM64 0x2000 (lld_image_on ARM64 ++ ranges_of_codes (holding_codes ARM64)) (file_on ARM64) (mapped_on ARM64)
+unfolding lld_opened file_opened
+arm64_is = record { mapped = refl; made_for = refl; width = refl; directory = refl; holds = holds_by (mapped_on ARM64).image (lld_image_on ARM64 ++ ranges_of_codes (holding_codes ARM64)) refl }
+
+arm64_tables : AreTables ARM64 (tables_in ARM64)
+arm64_tables = lld_tables ARM64 0x2000 (addresses_on ARM64) (shorts_on ARM64) (lld_image_on ARM64) (holding_placed ARM64) arm64_program
+
+arm64_file : WorkedFile ARM64 0x2068 0x28
+unfolding lld_opened file_opened
+arm64_file = record { is = arm64_is; beside = arm64_beside; tables = arm64_tables; addresses = refl; inside = ((omega arith, omega arith), ((omega arith, omega arith), tt)) }
+
+pub worked_files : WorkedFiles
+unfolding file_opened
+worked_files = record {
+  i386 = i386_file;
+  amd64 = amd64_file;
+  arm64 = arm64_file;
+  gnu = record { mapped = refl; made_for = refl; width = refl; directory = refl; holds = holds_by gnu_mapped.image (record { start = 0x3000; bytes = gnu_idata } ∷ []) refl };
+}

@@ -1,0 +1,5 @@
+use Rattle.implib_link_instances.proofs.Worked.Files.{worked_files}
+use Rattle.implib_link_instances.proofs.laws.files.worked_files.Goals as goal
+
+pub returns : goal.returns
+returns c = record { worked = worked_files }
