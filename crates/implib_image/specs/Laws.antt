@@ -1,5 +1,5 @@
 -- What holds of the files of linked programs.
-use Rattle.std.specs.Prelude.{◌≡◌, ℕ, ◌+◌, ◌*◌, ◌≤◌, List, ◌++◌, Option, Some, Ok, length, map, slice_get}
+use Rattle.std.specs.Prelude.{◌≡◌, ℕ, ◌+◌, ◌*◌, ◌≤◌, List, ◌++◌, Some, Ok, length, map, slice_get}
 use Rattle.std.specs.List.{AllByRecursion}
 use Rattle.implib.specs.Import.{Ask}
 use Rattle.implib.specs.Link.Image.{Range, range_end}

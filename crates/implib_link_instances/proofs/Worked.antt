@@ -45,6 +45,7 @@ pub mod Stored
 pub mod Registered
 pub mod NearStored
 pub mod Files
+pub mod NearFiles
 pub mod NamedApart
 pub mod Aliases
 pub mod Readings

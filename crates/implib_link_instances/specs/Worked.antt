@@ -42,6 +42,7 @@ pub mod Stored
 pub mod Registered
 pub mod NearStored
 pub mod Files
+pub mod NearFiles
 pub mod NamedApart
 pub mod Aliases
 pub mod Readings

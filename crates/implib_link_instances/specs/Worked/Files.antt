@@ -4,11 +4,10 @@ use Rattle.std.specs.Prelude.{◌≡◌, ℕ, ◌+◌, ◌-◌, ◌*◌, ◌≤�
 use Rattle.std.specs.List.{AllByRecursion}
 use Rattle.implib.specs.declared.machine.MachineType.{MachineType}
 use Rattle.implib.specs.declared.machine.MachineType.TheVariants.{I386, ARMNT, AMD64, ARM64}
-use Rattle.implib.specs.Link.Image.{Range}
 use Rattle.implib.specs.Members.ImportTables.{thunk_width, zeros}
 use Rattle.implib_dll.specs.Digits.{hex}
-use Rattle.implib_image.specs.Files.{MappedFile, mapped_file}
-use Rattle.implib_image.specs.Laws.{IsFileOf, IsInDirectory}
+use Rattle.implib_image.specs.Files.{MappedFile}
+use Rattle.implib_image.specs.Laws.{IsFileOf}
 use Rattle.implib_link.specs.Gnu.Fields.{AreLinkedBeside, ranges_of_codes}
 use Rattle.implib_link.specs.Tables.{AreTables, Table, Tables, tables_of_lld}
 use Rattle.implib_link_instances.specs.Worked.LldPrograms.{addresses_on, linked_thunk, lld_image_on, shorts_on, tables_on}
