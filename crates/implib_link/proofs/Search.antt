@@ -35,3 +35,4 @@ pub mod BothRooms
 pub mod BothExists
 pub mod NoShorts
 pub mod Sweeps
+pub mod Wanting

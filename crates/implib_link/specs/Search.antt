@@ -14,3 +14,4 @@ pub mod BothFlavors
 pub mod BothExists
 pub mod NoShorts
 pub mod Sweeps
+pub mod Wanting

@@ -21,4 +21,5 @@ pub mod stored;
 pub mod stubs;
 pub mod tables;
 pub mod texts;
+pub mod wanting;
 pub mod writing;
