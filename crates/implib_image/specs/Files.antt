@@ -1,6 +1,7 @@
--- A file of a linked program, as a loader takes it that knows nothing else: its headers say where its sections are in the
--- file and in memory, its base, and by data directories where its import directory and its address tables are (PE/COFF
--- specification, "Optional Header (Image Only)", "Section Table (Section Headers)"). Addresses count from the base.
+-- A file of a linked program, as a loader takes it that knows nothing else: its headers say where
+-- its sections are in the file and in memory, its base, and by data directories where its import
+-- directory and its address tables are (PE/COFF specification, "Optional Header (Image Only)",
+-- "Section Table (Section Headers)"). Addresses count from the base.
 use Rattle.std.specs.Prelude.{◌≡◌, ℕ, ◌+◌, ◌-◌, ◌*◌, ◌^◌, ◌==◌, ◌&&◌, nat_le, nat_lt, List, [], ◌++◌, length, map, Option, Some, None, Ok, if◌then◌else◌}
 use Rattle.implib.specs.Import.{Ask}
 use Rattle.implib.specs.Link.Image.{Range}
@@ -18,9 +19,9 @@ pub record DataDirectory : Type 0 where
   pub address : ℕ
   pub size : ℕ
 
--- The data directory of a number, from 0, if the optional header has it ("Optional Header Data Directories (Image
--- Only)"): there are NumberOfRvaAndSizes, a number right in front of the first one, each of 8 bytes, and they end before
--- the section table begins.
+-- The data directory of a number, from 0, if the optional header has it ("Optional Header Data
+-- Directories (Image Only)"): there are NumberOfRvaAndSizes, a number right in front of the first
+-- one, each of 8 bytes, and they end before the section table begins.
 abbrev pub data_directory : List ℕ → Header → ℕ → Option DataDirectory
 data_directory bytes header number =
     if nat_lt number (u32_at bytes (header.entry.place - 4))
@@ -31,8 +32,8 @@ data_directory bytes header number =
     })
     else None
 
--- ImageBase ("Optional Header Windows-Specific Fields (Image Only)"): of PE32+ 8 bytes at 24, 88 in front of the data
--- directories; of PE32 4 bytes at 28, 68 in front of them
+-- ImageBase ("Optional Header Windows-Specific Fields (Image Only)"): of PE32+ 8 bytes at 24, 88 in
+-- front of the data directories; of PE32 4 bytes at 28, 68 in front of them
 abbrev pub preferred_base : List ℕ → Header → ℕ
 preferred_base bytes header =
     if header.is_pe32_plus
@@ -41,11 +42,12 @@ preferred_base bytes header =
 
 -- a section in memory: its data, and zeros up to its size
 abbrev pub mapped_section : Section → Range
-mapped_section s = record { start = s.address; bytes = s.contents ++ zeros (s.size - length s.contents) }
+mapped_section s =
+    record { start = s.address; bytes = s.contents ++ zeros (s.size - length s.contents) }
 
--- A file as a loader maps it: its machine, the width of its thunks, which is 8 of PE32+ ("Import Lookup Table"), the base
--- that it was linked for, its sections in memory, and its data directories 1 and 12, the import table and the import
--- address table.
+-- A file as a loader maps it: its machine, the width of its thunks, which is 8 of PE32+ ("Import
+-- Lookup Table"), the base that it was linked for, its sections in memory, and its data directories
+-- 1 and 12, the import table and the import address table.
 pub record MappedFile : Type 0 where
   pub machine : ℕ
   pub width : ℕ
@@ -75,9 +77,11 @@ address_in (Some d) = if d.address == 0 then None else Some d.address
 -- what a loader writes that finds an import directory at an address, or has none
 abbrev pub WritesFrom : MappedFile → (List ℕ → Ask → List ℕ) → Option ℕ → ℕ → List Range → Type 0
 WritesFrom file gives None n written = (n ≡ 0) × (written ≡ [])
-WritesFrom file gives (Some address) n written = ReadsAndWrites file.image file.width gives n address written
+WritesFrom file gives (Some address) n written =
+    ReadsAndWrites file.image file.width gives n address written
 
--- What a loader writes that begins with a file, as Windows does: it maps the sections, and walks the import directory from
--- the address in data directory 1 on, of so many descriptors. The directory's size does not matter to it.
+-- What a loader writes that begins with a file, as Windows does: it maps the sections, and walks
+-- the import directory from the address in data directory 1 on, of so many descriptors. The
+-- directory's size does not matter to it.
 abbrev pub LoadsFile : MappedFile → (List ℕ → Ask → List ℕ) → ℕ → List Range → Type 0
 LoadsFile file gives n written = WritesFrom file gives (address_in file.imports) n written

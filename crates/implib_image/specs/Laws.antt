@@ -26,30 +26,35 @@ pub record IsFileOf (machine : MachineType) (descriptors : ℕ) (ranges : List R
   pub directory : address_in file.imports ≡ Some descriptors
   pub holds : AllByRecursion (λ (r : Range). BytesAt file.image r.start r.bytes) ranges
 
--- A loader that begins with the file of import tables loads just what they import, and such a loader ends: it stops after
--- as many descriptors as there are tables, and writes what one does that is handed the imports; there is such a loader.
+-- A loader that begins with the file of import tables loads just what they import, and such a
+-- loader ends: it stops after as many descriptors as there are tables, and writes what one does
+-- that is handed the imports; there is such a loader.
 abbrev pub FilesLoad : Type 0
-FilesLoad = (machine : MachineType) (t : Tables) (bytes : List ℕ) (file : MappedFile) (gives : List ℕ → Ask → List ℕ)
+FilesLoad = (machine : MachineType) (t : Tables) (bytes : List ℕ) (file : MappedFile)
+    (gives : List ℕ → Ask → List ℕ)
     → AreTables machine t → IsFileOf machine t.directory t.image bytes file
     → ((dll : List ℕ) (ask : Ask) → length (gives dll ask) ≡ thunk_width machine)
     → ((n : ℕ) (written : List Range) → LoadsFile file gives n written
     → (n ≡ length t.tables) × (AreTablesLoaded machine t gives written
-    × Writes t.image (thunk_width machine) gives t.directory (map imported_by_table t.tables) written))
+    × Writes t.image (thunk_width machine) gives t.directory (map imported_by_table t.tables)
+    written))
     × ((written : List Range) × LoadsFile file gives (length t.tables) written)
 
--- In a file with code beside its tables, mapped at the base that its header has, every field of code against the symbol
--- of an entry leads to the entry, where such a loader wrote what the DLL gives; bytes that no relocation meets are as they
--- were in the object.
+-- In a file with code beside its tables, mapped at the base that its header has, every field of
+-- code against the symbol of an entry leads to the entry, where such a loader wrote what the DLL
+-- gives; bytes that no relocation meets are as they were in the object.
 abbrev pub FieldsLeadInFiles : Type 0
-FieldsLeadInFiles = (machine : MachineType) (t : Tables) (codes : List LinkedCode) (targets : LinkedCode → ℕ → ℕ)
-    (bytes : List ℕ) (file : MappedFile) (gives : List ℕ → Ask → List ℕ) (n : ℕ) (written : List Range)
+FieldsLeadInFiles = (machine : MachineType) (t : Tables) (codes : List LinkedCode)
+    (targets : LinkedCode → ℕ → ℕ) (bytes : List ℕ) (file : MappedFile)
+    (gives : List ℕ → Ask → List ℕ) (n : ℕ) (written : List Range)
     → AreTables machine t → AreSteady machine t.linked
     → AreLinkedBeside machine file.base t.image t.linked codes targets
     → IsFileOf machine t.directory (t.image ++ ranges_of_codes codes) bytes file
     → ((dll : List ℕ) (ask : Ask) → length (gives dll ask) ≡ thunk_width machine)
     → LoadsFile file gives n written
     → ((i j : ℕ) (x : Table) (e : TableEntry) (name : List ℕ) → slice_get t.tables i ≡ Some x
-    → slice_get x.entries j ≡ Some e → e.symbol ≡ Some name → CanReadFrom machine file.base x.address
+    → slice_get x.entries j ≡ Some e → e.symbol ≡ Some name
+    → CanReadFrom machine file.base x.address
     → AllLead machine file.base t.linked codes (written ++ file.image) name (gives x.dll e.ask))
     × AreKept machine codes (written ++ file.image)
 

@@ -43,6 +43,7 @@ pub mod Registered
 pub mod NearStored
 pub mod Files
 pub mod NearFiles
+pub mod Wanting
 pub mod NamedApart
 pub mod Aliases
 pub mod Readings

@@ -27,5 +27,6 @@ pub mod rebased;
 pub mod search;
 pub mod stored;
 pub mod stubs;
+pub mod wanting;
 pub mod worked;
 pub mod writing;

@@ -1,5 +1,6 @@
--- Files that linkers wrote, as a loader maps them: those of Worked/Stored by lld-link 14.0.6, whole, for three machines;
--- and one by GNU ld 2.40 for AMD64, of an object by gcc 12 with a library of implib_dlltool and one of GNU dlltool, whole.
+-- Files that linkers wrote, as a loader maps them: those of Worked/Stored by lld-link 14.0.6,
+-- whole, for three machines; and one by GNU ld 2.40 for AMD64, of an object by gcc 12 with a
+-- library of implib_dlltool and one of GNU dlltool, whole.
 use Rattle.std.specs.Prelude.{◌≡◌, ℕ, ◌+◌, ◌-◌, ◌*◌, ◌≤◌, List, [], ◌∷◌, ◌++◌, length, None, Some}
 use Rattle.std.specs.List.{AllByRecursion}
 use Rattle.implib.specs.declared.machine.MachineType.{MachineType}
@@ -13,103 +14,114 @@ use Rattle.implib_link.specs.Tables.{AreTables, Table, Tables, tables_of_lld}
 use Rattle.implib_link_instances.specs.Worked.LldPrograms.{addresses_on, linked_thunk, lld_image_on, shorts_on, tables_on}
 use Rattle.implib_link_instances.specs.Worked.Stored.{held_linked, holding_codes, holding_placed, holding_targets, picking_linked, unwind_linked}
 
--- what is behind the headers, from 0x400 on: the sections, each filled with zeros to 512 bytes; of the last two, unwind
--- information and base relocations, the bytes as they are in the file
--- the headers of the file for I386
+-- what is behind the headers, from 0x400 on: the sections, each filled with zeros to 512 bytes; of
+-- the last two, unwind information and base relocations, the bytes as they are in the file the
+-- headers of the file for I386
 unfoldable pub i386_headers : List ℕ
 i386_headers =
     (hex "4d 5a 78 00 01 00 00 00 04 00 00 00 00 00 00 00 00 00 00 00 00 00 00 00 40"
     ++ (zeros 35
-    ++ (hex "78 00 00 00 0e 1f ba 0e 00 b4 09 cd 21 b8 01 4c cd 21 54 68 69 73 20 70 72 6f 67 72 61 6d 20 63"
-    ++ (hex "61 6e 6e 6f 74 20 62 65 20 72 75 6e 20 69 6e 20 44 4f 53 20 6d 6f 64 65 2e 24 00 00 50 45 00 00"
-    ++ (hex "4c 01 04 00 7b 83 0a 6b 00 00 00 00 00 00 00 00 e0 00 02 01 0b 01 0e 00 00 02 00 00 00 06 00 00"
-    ++ (hex "00 00 00 00 00 10 00 00 00 10 00 00 00 00 00 00 00 00 40 00 00 10 00 00 00 02 00 00 06 00 00 00"
-    ++ (hex "00 00 00 00 06 00 00 00 00 00 00 00 00 50 00 00 00 04 00 00 00 00 00 00 03 00 40 85 00 00 10 00"
-    ++ (hex "00 10 00 00 00 00 10 00 00 10 00 00 00 00 00 00 10 00 00 00 00 00 00 00 00 00 00 00 00 20 00 00"
-    ++ (hex "3c"
+    ++ (hex "78 00 00 00 0e 1f ba 0e 00 b4 09 cd 21 b8 01 4c cd 21 54 68 69 73 20 70 72 6f 67 72"
+    ++ (hex "61 6d 20 63 61 6e 6e 6f 74 20 62 65 20 72 75 6e 20 69 6e 20 44 4f 53 20 6d 6f 64 65"
+    ++ (hex "2e 24 00 00 50 45 00 00 4c 01 04 00 7b 83 0a 6b 00 00 00 00 00 00 00 00 e0 00 02 01"
+    ++ (hex "0b 01 0e 00 00 02 00 00 00 06 00 00 00 00 00 00 00 10 00 00 00 10 00 00 00 00 00 00"
+    ++ (hex "00 00 40 00 00 10 00 00 00 02 00 00 06 00 00 00 00 00 00 00 06 00 00 00 00 00 00 00"
+    ++ (hex "00 50 00 00 00 04 00 00 00 00 00 00 03 00 40 85 00 00 10 00 00 10 00 00 00 00 10 00"
+    ++ (hex "00 10 00 00 00 00 00 00 10 00 00 00 00 00 00 00 00 00 00 00 00 20 00 00 3c"
     ++ (zeros 28
     ++ (hex "40 00 00 1c"
     ++ (zeros 51
     ++ (hex "50 20 00 00 14"
     ++ (zeros 27
-    ++ (hex "2e 74 65 78 74 00 00 00 18 00 00 00 00 10 00 00 00 02 00 00 00 04 00 00 00 00 00 00 00 00 00 00"
-    ++ (hex "00 00 00 00 20 00 00 60 2e 72 64 61 74 61 00 00 85 00 00 00 00 20 00 00 00 02 00 00 00 06 00 00"
-    ++ (hex "00 00 00 00 00 00 00 00 00 00 00 00 40 00 00 40 2e 64 61 74 61 00 00 00 08 00 00 00 00 30 00 00"
-    ++ (hex "00 02 00 00 00 08 00 00 00 00 00 00 00 00 00 00 00 00 00 00 40 00 00 c0 2e 72 65 6c 6f 63 00 00"
-    ++ (hex "1c 00 00 00 00 40 00 00 00 02 00 00 00 0a 00 00 00 00 00 00 00 00 00 00 00 00 00 00 40 00 00 42"
-    ++ zeros 496)))))))))))))))))))
+    ++ (hex "2e 74 65 78 74 00 00 00 18 00 00 00 00 10 00 00 00 02 00 00 00 04 00 00 00 00 00 00"
+    ++ (hex "00 00 00 00 00 00 00 00 20 00 00 60 2e 72 64 61 74 61 00 00 85 00 00 00 00 20 00 00"
+    ++ (hex "00 02 00 00 00 06 00 00 00 00 00 00 00 00 00 00 00 00 00 00 40 00 00 40 2e 64 61 74"
+    ++ (hex "61 00 00 00 08 00 00 00 00 30 00 00 00 02 00 00 00 08 00 00 00 00 00 00 00 00 00 00"
+    ++ (hex "00 00 00 00 40 00 00 c0 2e 72 65 6c 6f 63 00 00 1c 00 00 00 00 40 00 00 00 02 00 00"
+    ++ (hex "00 0a 00 00 00 00 00 00 00 00 00 00 00 00 00 00 40 00 00 42"
+    ++ zeros 496))))))))))))))))))))
 
 abbrev pub i386_reloc : List ℕ
-i386_reloc = hex "00 10 00 00 10 00 00 00 02 30 08 30 0d 30 14 30 00 30 00 00 0c 00 00 00 04 30 00 00" ++ zeros 484
+i386_reloc =
+    hex "00 10 00 00 10 00 00 00 02 30 08 30 0d 30 14 30 00 30 00 00 0c 00 00 00 04 30 00 00" ++ zeros 484
 
 -- the headers of the file for AMD64
 unfoldable pub amd64_headers : List ℕ
 amd64_headers =
     (hex "4d 5a 78 00 01 00 00 00 04 00 00 00 00 00 00 00 00 00 00 00 00 00 00 00 40"
     ++ (zeros 35
-    ++ (hex "78 00 00 00 0e 1f ba 0e 00 b4 09 cd 21 b8 01 4c cd 21 54 68 69 73 20 70 72 6f 67 72 61 6d 20 63"
-    ++ (hex "61 6e 6e 6f 74 20 62 65 20 72 75 6e 20 69 6e 20 44 4f 53 20 6d 6f 64 65 2e 24 00 00 50 45 00 00"
-    ++ (hex "64 86 05 00 7b 83 0a 6b 00 00 00 00 00 00 00 00 f0 00 22 00 0b 02 0e 00 00 02 00 00 00 08 00 00"
-    ++ (hex "00 00 00 00 00 10 00 00 00 10 00 00 00 00 00 40 01 00 00 00 00 10 00 00 00 02 00 00 06 00 00 00"
-    ++ (hex "00 00 00 00 06 00 00 00 00 00 00 00 00 60 00 00 00 04 00 00 00 00 00 00 03 00 60 81 00 00 10 00"
-    ++ (hex "00 00 00 00 00 10 00 00 00 00 00 00 00 00 10 00 00 00 00 00 00 10 00 00 00 00 00 00 00 00 00 00"
-    ++ (hex "10 00 00 00 00 00 00 00 00 00 00 00 00 20 00 00 3c 00 00 00 00 00 00 00 00 00 00 00 00 40 00 00"
+    ++ (hex "78 00 00 00 0e 1f ba 0e 00 b4 09 cd 21 b8 01 4c cd 21 54 68 69 73 20 70 72 6f 67 72"
+    ++ (hex "61 6d 20 63 61 6e 6e 6f 74 20 62 65 20 72 75 6e 20 69 6e 20 44 4f 53 20 6d 6f 64 65"
+    ++ (hex "2e 24 00 00 50 45 00 00 64 86 05 00 7b 83 0a 6b 00 00 00 00 00 00 00 00 f0 00 22 00"
+    ++ (hex "0b 02 0e 00 00 02 00 00 00 08 00 00 00 00 00 00 00 10 00 00 00 10 00 00 00 00 00 40"
+    ++ (hex "01 00 00 00 00 10 00 00 00 02 00 00 06 00 00 00 00 00 00 00 06 00 00 00 00 00 00 00"
+    ++ (hex "00 60 00 00 00 04 00 00 00 00 00 00 03 00 60 81 00 00 10 00 00 00 00 00 00 10 00 00"
+    ++ (hex "00 00 00 00 00 00 10 00 00 00 00 00 00 10 00 00 00 00 00 00 00 00 00 00 10 00 00 00"
+    ++ (hex "00 00 00 00 00 00 00 00 00 20 00 00 3c 00 00 00 00 00 00 00 00 00 00 00 00 40 00 00"
     ++ (hex "0c 00 00 00 00 00 00 00 00 00 00 00 00 50 00 00 0c"
     ++ (zeros 51
     ++ (hex "68 20 00 00 28"
     ++ (zeros 27
-    ++ (hex "2e 74 65 78 74 00 00 00 26 00 00 00 00 10 00 00 00 02 00 00 00 04 00 00 00 00 00 00 00 00 00 00"
-    ++ (hex "00 00 00 00 20 00 00 60 2e 72 64 61 74 61 00 00 b1 00 00 00 00 20 00 00 00 02 00 00 00 06 00 00"
-    ++ (hex "00 00 00 00 00 00 00 00 00 00 00 00 40 00 00 40 2e 64 61 74 61 00 00 00 1c 00 00 00 00 30 00 00"
-    ++ (hex "00 02 00 00 00 08 00 00 00 00 00 00 00 00 00 00 00 00 00 00 40 00 00 c0 2e 70 64 61 74 61 00 00"
-    ++ (hex "0c 00 00 00 00 40 00 00 00 02 00 00 00 0a 00 00 00 00 00 00 00 00 00 00 00 00 00 00 40 00 00 40"
-    ++ (hex "2e 72 65 6c 6f 63 00 00 0c 00 00 00 00 50 00 00 00 02 00 00 00 0c 00 00 00 00 00 00 00 00 00 00"
-    ++ (hex "00 00 00 00 40 00 00 42"
-    ++ zeros 440))))))))))))))))))))
+    ++ (hex "2e 74 65 78 74 00 00 00 26 00 00 00 00 10 00 00 00 02 00 00 00 04 00 00 00 00 00 00"
+    ++ (hex "00 00 00 00 00 00 00 00 20 00 00 60 2e 72 64 61 74 61 00 00 b1 00 00 00 00 20 00 00"
+    ++ (hex "00 02 00 00 00 06 00 00 00 00 00 00 00 00 00 00 00 00 00 00 40 00 00 40 2e 64 61 74"
+    ++ (hex "61 00 00 00 1c 00 00 00 00 30 00 00 00 02 00 00 00 08 00 00 00 00 00 00 00 00 00 00"
+    ++ (hex "00 00 00 00 40 00 00 c0 2e 70 64 61 74 61 00 00 0c 00 00 00 00 40 00 00 00 02 00 00"
+    ++ (hex "00 0a 00 00 00 00 00 00 00 00 00 00 00 00 00 00 40 00 00 40 2e 72 65 6c 6f 63 00 00"
+    ++ (hex "0c 00 00 00 00 50 00 00 00 02 00 00 00 0c 00 00 00 00 00 00 00 00 00 00 00 00 00 00"
+    ++ (hex "40 00 00 42"
+    ++ zeros 440))))))))))))))))))))))
 
 abbrev pub amd64_pdata : List ℕ
-amd64_pdata = hex "00 10 00 00 1c 10 00 00 10 30 00 00" ++ zeros 500
+amd64_pdata =
+    hex "00 10 00 00 1c 10 00 00 10 30 00 00" ++ zeros 500
 
 abbrev pub amd64_reloc : List ℕ
-amd64_reloc = hex "00 30 00 00 0c 00 00 00 08 a0 00 00" ++ zeros 500
+amd64_reloc =
+    hex "00 30 00 00 0c 00 00 00 08 a0 00 00" ++ zeros 500
 
 -- the headers of the file for ARM64
 unfoldable pub arm64_headers : List ℕ
 arm64_headers =
     (hex "4d 5a 78 00 01 00 00 00 04 00 00 00 00 00 00 00 00 00 00 00 00 00 00 00 40"
     ++ (zeros 35
-    ++ (hex "78 00 00 00 0e 1f ba 0e 00 b4 09 cd 21 b8 01 4c cd 21 54 68 69 73 20 70 72 6f 67 72 61 6d 20 63"
-    ++ (hex "61 6e 6e 6f 74 20 62 65 20 72 75 6e 20 69 6e 20 44 4f 53 20 6d 6f 64 65 2e 24 00 00 50 45 00 00"
-    ++ (hex "64 aa 05 00 7b 83 0a 6b 00 00 00 00 00 00 00 00 f0 00 22 00 0b 02 0e 00 00 02 00 00 00 08 00 00"
-    ++ (hex "00 00 00 00 00 10 00 00 00 10 00 00 00 00 00 40 01 00 00 00 00 10 00 00 00 02 00 00 06 00 00 00"
-    ++ (hex "00 00 00 00 06 00 00 00 00 00 00 00 00 60 00 00 00 04 00 00 00 00 00 00 03 00 60 81 00 00 10 00"
-    ++ (hex "00 00 00 00 00 10 00 00 00 00 00 00 00 00 10 00 00 00 00 00 00 10 00 00 00 00 00 00 00 00 00 00"
-    ++ (hex "10 00 00 00 00 00 00 00 00 00 00 00 00 20 00 00 3c 00 00 00 00 00 00 00 00 00 00 00 00 40 00 00"
+    ++ (hex "78 00 00 00 0e 1f ba 0e 00 b4 09 cd 21 b8 01 4c cd 21 54 68 69 73 20 70 72 6f 67 72"
+    ++ (hex "61 6d 20 63 61 6e 6e 6f 74 20 62 65 20 72 75 6e 20 69 6e 20 44 4f 53 20 6d 6f 64 65"
+    ++ (hex "2e 24 00 00 50 45 00 00 64 aa 05 00 7b 83 0a 6b 00 00 00 00 00 00 00 00 f0 00 22 00"
+    ++ (hex "0b 02 0e 00 00 02 00 00 00 08 00 00 00 00 00 00 00 10 00 00 00 10 00 00 00 00 00 40"
+    ++ (hex "01 00 00 00 00 10 00 00 00 02 00 00 06 00 00 00 00 00 00 00 06 00 00 00 00 00 00 00"
+    ++ (hex "00 60 00 00 00 04 00 00 00 00 00 00 03 00 60 81 00 00 10 00 00 00 00 00 00 10 00 00"
+    ++ (hex "00 00 00 00 00 00 10 00 00 00 00 00 00 10 00 00 00 00 00 00 00 00 00 00 10 00 00 00"
+    ++ (hex "00 00 00 00 00 00 00 00 00 20 00 00 3c 00 00 00 00 00 00 00 00 00 00 00 00 40 00 00"
     ++ (hex "08 00 00 00 00 00 00 00 00 00 00 00 00 50 00 00 0c"
     ++ (zeros 51
     ++ (hex "68 20 00 00 28"
     ++ (zeros 27
-    ++ (hex "2e 74 65 78 74 00 00 00 38 00 00 00 00 10 00 00 00 02 00 00 00 04 00 00 00 00 00 00 00 00 00 00"
-    ++ (hex "00 00 00 00 20 00 00 60 2e 72 64 61 74 61 00 00 b1 00 00 00 00 20 00 00 00 02 00 00 00 06 00 00"
-    ++ (hex "00 00 00 00 00 00 00 00 00 00 00 00 40 00 00 40 2e 64 61 74 61 00 00 00 1c 00 00 00 00 30 00 00"
-    ++ (hex "00 02 00 00 00 08 00 00 00 00 00 00 00 00 00 00 00 00 00 00 40 00 00 c0 2e 70 64 61 74 61 00 00"
-    ++ (hex "08 00 00 00 00 40 00 00 00 02 00 00 00 0a 00 00 00 00 00 00 00 00 00 00 00 00 00 00 40 00 00 40"
-    ++ (hex "2e 72 65 6c 6f 63 00 00 0c 00 00 00 00 50 00 00 00 02 00 00 00 0c 00 00 00 00 00 00 00 00 00 00"
-    ++ (hex "00 00 00 00 40 00 00 42"
-    ++ zeros 440))))))))))))))))))))
+    ++ (hex "2e 74 65 78 74 00 00 00 38 00 00 00 00 10 00 00 00 02 00 00 00 04 00 00 00 00 00 00"
+    ++ (hex "00 00 00 00 00 00 00 00 20 00 00 60 2e 72 64 61 74 61 00 00 b1 00 00 00 00 20 00 00"
+    ++ (hex "00 02 00 00 00 06 00 00 00 00 00 00 00 00 00 00 00 00 00 00 40 00 00 40 2e 64 61 74"
+    ++ (hex "61 00 00 00 1c 00 00 00 00 30 00 00 00 02 00 00 00 08 00 00 00 00 00 00 00 00 00 00"
+    ++ (hex "00 00 00 00 40 00 00 c0 2e 70 64 61 74 61 00 00 08 00 00 00 00 40 00 00 00 02 00 00"
+    ++ (hex "00 0a 00 00 00 00 00 00 00 00 00 00 00 00 00 00 40 00 00 40 2e 72 65 6c 6f 63 00 00"
+    ++ (hex "0c 00 00 00 00 50 00 00 00 02 00 00 00 0c 00 00 00 00 00 00 00 00 00 00 00 00 00 00"
+    ++ (hex "40 00 00 42"
+    ++ zeros 440))))))))))))))))))))))
 
 abbrev pub arm64_pdata : List ℕ
-arm64_pdata = hex "00 10 00 00 10 30 00 00" ++ zeros 504
+arm64_pdata =
+    hex "00 10 00 00 10 30 00 00" ++ zeros 504
 
 abbrev pub arm64_reloc : List ℕ
-arm64_reloc = hex "00 30 00 00 0c 00 00 00 08 a0 00 00" ++ zeros 500
+arm64_reloc =
+    hex "00 30 00 00 0c 00 00 00 08 a0 00 00" ++ zeros 500
 
--- The sections in memory. The code, two or four bytes that no code reaches, the thunk; the import tables; the pointers and
--- the unwind data.
+-- The sections in memory. The code, two or four bytes that no code reaches, the thunk; the import
+-- tables; the pointers and the unwind data.
 abbrev pub text_on : MachineType → List ℕ
 text_on I386 = picking_linked I386 ++ (linked_thunk I386 ++ zeros 488)
 text_on ARMNT = []
-text_on AMD64 = picking_linked AMD64 ++ (0xCC ∷ 0xCC ∷ 0xCC ∷ 0xCC ∷ (linked_thunk AMD64 ++ zeros 474))
+text_on AMD64 =
+    picking_linked AMD64 ++ (0xCC ∷ 0xCC ∷ 0xCC ∷ 0xCC ∷ (linked_thunk AMD64 ++ zeros 474))
 text_on ARM64 = picking_linked ARM64 ++ (linked_thunk ARM64 ++ zeros 456)
 
 abbrev pub rdata_on : MachineType → List ℕ
@@ -117,17 +129,24 @@ rdata_on machine = tables_on machine ++ zeros (512 - length (tables_on machine))
 
 abbrev pub data_on : MachineType → List ℕ
 data_on machine =
-    held_linked machine ++ (unwind_linked machine ++ zeros (512 - length (held_linked machine ++ unwind_linked machine)))
+    held_linked machine
+    ++ (unwind_linked machine
+    ++ zeros (512 - length (held_linked machine ++ unwind_linked machine)))
 
 -- the files
 unfoldable pub file_on : MachineType → List ℕ
-file_on I386 = i386_headers ++ (text_on I386 ++ (rdata_on I386 ++ (data_on I386 ++ i386_reloc)))
+file_on I386 =
+    i386_headers ++ (text_on I386 ++ (rdata_on I386 ++ (data_on I386 ++ i386_reloc)))
 file_on ARMNT = []
-file_on AMD64 = amd64_headers ++ (text_on AMD64 ++ (rdata_on AMD64 ++ (data_on AMD64 ++ (amd64_pdata ++ amd64_reloc))))
-file_on ARM64 = arm64_headers ++ (text_on ARM64 ++ (rdata_on ARM64 ++ (data_on ARM64 ++ (arm64_pdata ++ arm64_reloc))))
+file_on AMD64 =
+    amd64_headers
+    ++ (text_on AMD64 ++ (rdata_on AMD64 ++ (data_on AMD64 ++ (amd64_pdata ++ amd64_reloc))))
+file_on ARM64 =
+    arm64_headers
+    ++ (text_on ARM64 ++ (rdata_on ARM64 ++ (data_on ARM64 ++ (arm64_pdata ++ arm64_reloc))))
 
--- and what a loader makes of them: the machine's number, the width of thunks, the base, the sections, data directories 1
--- and 12
+-- and what a loader makes of them: the machine's number, the width of thunks, the base, the
+-- sections, data directories 1 and 12
 abbrev pub mapped_on : MachineType → MappedFile
 mapped_on I386 = record {
   machine = 0x14C;
@@ -169,54 +188,58 @@ mapped_on ARM64 = record {
   addresses = Some (record { address = 0x2068; size = 0x28 });
 }
 
--- The file is that of the program of Worked/Stored, with its code, at the base that it has; the program's tables are in
--- data directory 12.
+-- The file is that of the program of Worked/Stored, with its code, at the base that it has; the
+-- program's tables are in data directory 12.
 abbrev pub tables_in : MachineType → Tables
 tables_in machine =
     tables_of_lld machine 0x2000 (addresses_on machine) (shorts_on machine) (lld_image_on machine)
     (holding_placed machine)
 
 pub record WorkedFile (machine : MachineType) (address size : ℕ) : Type 0 where
-  pub is : IsFileOf machine 0x2000 (lld_image_on machine ++ ranges_of_codes (holding_codes machine)) (file_on machine)
+  pub is : IsFileOf machine 0x2000
+      (lld_image_on machine ++ ranges_of_codes (holding_codes machine)) (file_on machine)
       (mapped_on machine)
-  pub beside : AreLinkedBeside machine (mapped_on machine).base (lld_image_on machine) (holding_placed machine)
-      (holding_codes machine) (holding_targets machine)
+  pub beside : AreLinkedBeside machine (mapped_on machine).base (lld_image_on machine)
+      (holding_placed machine) (holding_codes machine) (holding_targets machine)
   pub tables : AreTables machine (tables_in machine)
   pub addresses : (mapped_on machine).addresses ≡ Some (record { address = address; size = size })
   pub inside : AllByRecursion
       (λ (x : Table). (address ≤ x.address)
       × (x.address + thunk_width machine * length x.entries ≤ address + size)) (tables_in machine).tables
 
--- The file of GNU ld: its headers and its sections. Data directory 1 has all of `.idata`, 12 the address tables in it.
+-- The file of GNU ld: its headers and its sections. Data directory 1 has all of `.idata`, 12 the
+-- address tables in it.
 unfoldable pub gnu_headers : List ℕ
 gnu_headers =
     (hex "4d 5a 90 00 03 00 00 00 04 00 00 00 ff ff 00 00 b8 00 00 00 00 00 00 00 40"
     ++ (zeros 35
-    ++ (hex "80 00 00 00 0e 1f ba 0e 00 b4 09 cd 21 b8 01 4c cd 21 54 68 69 73 20 70 72 6f 67 72 61 6d 20 63"
-    ++ (hex "61 6e 6e 6f 74 20 62 65 20 72 75 6e 20 69 6e 20 44 4f 53 20 6d 6f 64 65 2e 0d 0d 0a 24 00 00 00"
-    ++ (hex "00 00 00 00 50 45 00 00 64 86 04 00 00 00 00 00 00 00 00 00 00 00 00 00 f0 00 2e 02 0b 02 02 28"
-    ++ (hex "00 02 00 00 00 06 00 00 00 00 00 00 00 10 00 00 00 10 00 00 00 00 00 40 01 00 00 00 00 10 00 00"
-    ++ (hex "00 02 00 00 04 00 00 00 00 00 00 00 05 00 02 00 00 00 00 00 00 50 00 00 00 04 00 00 94 06 01 00"
-    ++ (hex "03 00 60 01 00 00 20 00 00 00 00 00 00 10 00 00 00 00 00 00 00 00 10 00 00 00 00 00 00 10 00 00"
-    ++ (hex "00 00 00 00 00 00 00 00 10 00 00 00 00 00 00 00 00 00 00 00 00 30 00 00 bc"
+    ++ (hex "80 00 00 00 0e 1f ba 0e 00 b4 09 cd 21 b8 01 4c cd 21 54 68 69 73 20 70 72 6f 67 72"
+    ++ (hex "61 6d 20 63 61 6e 6e 6f 74 20 62 65 20 72 75 6e 20 69 6e 20 44 4f 53 20 6d 6f 64 65"
+    ++ (hex "2e 0d 0d 0a 24 00 00 00 00 00 00 00 50 45 00 00 64 86 04 00 00 00 00 00 00 00 00 00"
+    ++ (hex "00 00 00 00 f0 00 2e 02 0b 02 02 28 00 02 00 00 00 06 00 00 00 00 00 00 00 10 00 00"
+    ++ (hex "00 10 00 00 00 00 00 40 01 00 00 00 00 10 00 00 00 02 00 00 04 00 00 00 00 00 00 00"
+    ++ (hex "05 00 02 00 00 00 00 00 00 50 00 00 00 04 00 00 94 06 01 00 03 00 60 01 00 00 20 00"
+    ++ (hex "00 00 00 00 00 10 00 00 00 00 00 00 00 00 10 00 00 00 00 00 00 10 00 00 00 00 00 00"
+    ++ (hex "00 00 00 00 10 00 00 00 00 00 00 00 00 00 00 00 00 30 00 00 bc"
     ++ (zeros 28
     ++ (hex "40 00 00 0c"
     ++ (zeros 51
     ++ (hex "60 30 00 00 20"
     ++ (zeros 27
-    ++ (hex "2e 74 65 78 74 00 00 00 70 00 00 00 00 10 00 00 00 02 00 00 00 04 00 00 00 00 00 00 00 00 00 00"
-    ++ (hex "00 00 00 00 20 00 00 60 2e 64 61 74 61 00 00 00 10 00 00 00 00 20 00 00 00 02 00 00 00 06 00 00"
-    ++ (hex "00 00 00 00 00 00 00 00 00 00 00 00 40 00 00 c0 2e 69 64 61 74 61 00 00 bc 00 00 00 00 30 00 00"
-    ++ (hex "00 02 00 00 00 08 00 00 00 00 00 00 00 00 00 00 00 00 00 00 40 00 00 c0 2e 72 65 6c 6f 63 00 00"
-    ++ (hex "0c 00 00 00 00 40 00 00 00 02 00 00 00 0a 00 00 00 00 00 00 00 00 00 00 00 00 00 00 40 00 00 42"
-    ++ zeros 472)))))))))))))))))))
+    ++ (hex "2e 74 65 78 74 00 00 00 70 00 00 00 00 10 00 00 00 02 00 00 00 04 00 00 00 00 00 00"
+    ++ (hex "00 00 00 00 00 00 00 00 20 00 00 60 2e 64 61 74 61 00 00 00 10 00 00 00 00 20 00 00"
+    ++ (hex "00 02 00 00 00 06 00 00 00 00 00 00 00 00 00 00 00 00 00 00 40 00 00 c0 2e 69 64 61"
+    ++ (hex "74 61 00 00 bc 00 00 00 00 30 00 00 00 02 00 00 00 08 00 00 00 00 00 00 00 00 00 00"
+    ++ (hex "00 00 00 00 40 00 00 c0 2e 72 65 6c 6f 63 00 00 0c 00 00 00 00 40 00 00 00 02 00 00"
+    ++ (hex "00 0a 00 00 00 00 00 00 00 00 00 00 00 00 00 00 40 00 00 42"
+    ++ zeros 472)))))))))))))))))))))
 
 unfoldable pub gnu_text : List ℕ
 gnu_text =
-    (hex "53 48 83 ec 20 ff 15 65 20 00 00 89 c3 e8 1e 00 00 00 01 c3 ff 15 e6 0f 00 00 48 83 c4 20 8d 0c"
-    ++ (hex "03 5b ff 25 38 20 00 00 90 90 90 90 90 90 90 90 ff 25 3a 20 00 00 90 90 0f 1f 84 00 00 00 00 00"
-    ++ (hex "ff 25 1a 20 00 00 90 90 0f 1f 84 00 00 00 00 00 ff ff ff ff ff ff ff ff 00 00 00 00 00 00 00 00"
-    ++ (hex "ff ff ff ff ff ff ff ff"
+    (hex "53 48 83 ec 20 ff 15 65 20 00 00 89 c3 e8 1e 00 00 00 01 c3 ff 15 e6 0f 00 00 48 83"
+    ++ (hex "c4 20 8d 0c 03 5b ff 25 38 20 00 00 90 90 90 90 90 90 90 90 ff 25 3a 20 00 00 90 90"
+    ++ (hex "0f 1f 84 00 00 00 00 00 ff 25 1a 20 00 00 90 90 0f 1f 84 00 00 00 00 00 ff ff ff ff"
+    ++ (hex "ff ff ff ff 00 00 00 00 00 00 00 00 ff ff ff ff ff ff ff ff"
     ++ zeros 408))))
 
 unfoldable pub gnu_data : List ℕ
@@ -226,14 +249,15 @@ gnu_data =
 
 unfoldable pub gnu_idata : List ℕ
 gnu_idata =
-    (hex "40 30 00 00 00 00 00 00 00 00 00 00 a0 30 00 00 60 30 00 00 50 30 00 00 00 00 00 00 00 00 00 00"
-    ++ (hex "b4 30 00 00 70 30"
+    (hex "40 30 00 00 00 00 00 00 00 00 00 00 a0 30 00 00 60 30 00 00 50 30 00 00 00 00 00 00"
+    ++ (hex "00 00 00 00 b4 30 00 00 70 30"
     ++ (zeros 26
-    ++ (hex "80 30 00 00 00 00 00 00 00 00 00 00 00 00 00 00 8e 30 00 00 00 00 00 00 00 00 00 00 00 00 00 00"
-    ++ (hex "80 30 00 00 00 00 00 00 00 00 00 00 00 00 00 00 8e 30 00 00 00 00 00 00 00 00 00 00 00 00 00 00"
-    ++ (hex "01 00 45 78 69 74 50 72 6f 63 65 73 73 00 00 00 7a 6f 6f 5f 6f 70 65 6e 00 00 00 00 00 30 00 00"
-    ++ (hex "6b 65 72 6e 65 6c 33 32 2e 64 6c 6c 00 00 00 00 14 30 00 00 7a 6f 6f 2e 64 6c 6c"
-    ++ zeros 325)))))))
+    ++ (hex "80 30 00 00 00 00 00 00 00 00 00 00 00 00 00 00 8e 30 00 00 00 00 00 00 00 00 00 00"
+    ++ (hex "00 00 00 00 80 30 00 00 00 00 00 00 00 00 00 00 00 00 00 00 8e 30 00 00 00 00 00 00"
+    ++ (hex "00 00 00 00 00 00 00 00 01 00 45 78 69 74 50 72 6f 63 65 73 73 00 00 00 7a 6f 6f 5f"
+    ++ (hex "6f 70 65 6e 00 00 00 00 00 30 00 00 6b 65 72 6e 65 6c 33 32 2e 64 6c 6c 00 00 00 00"
+    ++ (hex "14 30 00 00 7a 6f 6f 2e 64 6c 6c"
+    ++ zeros 325))))))))
 
 unfoldable pub gnu_reloc : List ℕ
 gnu_reloc =
@@ -261,4 +285,5 @@ pub record WorkedFiles : Type 0 where
   pub i386 : WorkedFile I386 0x2050 0x14
   pub amd64 : WorkedFile AMD64 0x2068 0x28
   pub arm64 : WorkedFile ARM64 0x2068 0x28
-  pub gnu : IsFileOf AMD64 0x3000 (record { start = 0x3000; bytes = gnu_idata } ∷ []) gnu_file gnu_mapped
+  pub gnu : IsFileOf AMD64 0x3000 (record { start = 0x3000; bytes = gnu_idata } ∷ []) gnu_file
+      gnu_mapped

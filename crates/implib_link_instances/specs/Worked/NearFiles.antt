@@ -1,5 +1,5 @@
--- Near misses of files of linked programs: the files of Worked/Files with single bytes changed. A record `NearX` has those
--- of `X`, each by the name of the field that refuses it.
+-- Near misses of files of linked programs: the files of Worked/Files with single bytes changed. A
+-- record `NearX` has those of `X`, each by the name of the field that refuses it.
 use Rattle.std.specs.Prelude.{◌≡◌, ℕ, List, [], ◌∷◌, drop, None, Ok, Some}
 use Rattle.implib.specs.declared.machine.MachineType.TheVariants.{I386, AMD64, ARM64}
 use Rattle.implib.specs.Import.{Ask}
@@ -30,8 +30,9 @@ with_other_tables = record (mapped_on AMD64) {
       ∷ [];
 }
 
--- another signature; the file for another machine; I386's file with AMD64's number, whose thunks are of 4 bytes; the import
--- directory 4 bytes on, and at 0, as where there is none; the first byte of the tables
+-- another signature; the file for another machine; I386's file with AMD64's number, whose thunks
+-- are of 4 bytes; the import directory 4 bytes on, and at 0, as where there is none; the first byte
+-- of the tables
 pub record NearIsFileOf : Type 0 where
   pub mapped : IsAmd64File (changed 0x78 0x51 (file_on AMD64)) (mapped_on AMD64) → ⊥
   pub made_for : IsFileOf ARM64 0x2000 (lld_image_on AMD64) (file_on AMD64) (mapped_on AMD64) → ⊥
@@ -45,7 +46,8 @@ pub record NearIsFileOf : Type 0 where
   pub other : mapped_file (changed 0x600 0x41 (file_on AMD64)) ≡ Ok with_other_tables
   pub holds : IsAmd64File (changed 0x600 0x41 (file_on AMD64)) with_other_tables → ⊥
 
--- a directory with the address tables, and a range in it, a byte in front of it and a byte past its end
+-- a directory with the address tables, and a range in it, a byte in front of it and a byte past its
+-- end
 abbrev pub address_tables : DataDirectory
 address_tables = record { address = 0x2068; size = 0x28 }
 
@@ -72,9 +74,9 @@ mapped_pe32 = record {
   addresses = None;
 }
 
--- What single bytes of headers say: 13, 12 and one data directories; the base's fifth byte, which PE32+ alone has, and the
--- fourth one of PE32. A section without data is zeros in memory. A file without an import directory, or with one at 0, loads
--- nothing, and with nothing else.
+-- What single bytes of headers say: 13, 12 and one data directories; the base's fifth byte, which
+-- PE32+ alone has, and the fourth one of PE32. A section without data is zeros in memory. A file
+-- without an import directory, or with one at 0, loads nothing, and with nothing else.
 pub record WorkedHeaders (gives : List ℕ → Ask → List ℕ) : Type 0 where
   pub thirteen : mapped_file (changed 0xFC 13 (file_on AMD64)) ≡ Ok (mapped_on AMD64)
   pub twelve : mapped_file (changed 0xFC 12 (file_on AMD64)) ≡ Ok (record (mapped_on AMD64) { addresses = None })

@@ -1,5 +1,6 @@
--- Near misses of fields for addresses and of what they hold, each by one thing that is otherwise than in Worked/Stored.
--- A record `NearX` has those of `X`, each by the name of the field that refuses it; what stands is beside them.
+-- Near misses of fields for addresses and of what they hold, each by one thing that is otherwise
+-- than in Worked/Stored. A record `NearX` has those of `X`, each by the name of the field that
+-- refuses it; what stands is beside them.
 use Rattle.std.specs.Prelude.{◌≡◌, ℕ, List, [], ◌∷◌}
 use Rattle.implib.specs.declared.machine.MachineType.TheVariants.{I386, ARMNT, AMD64, ARM64}
 use Rattle.implib.specs.Link.Image.{Range}
@@ -8,15 +9,16 @@ use Rattle.implib_link.specs.Gnu.Stored.{AreFurtherHeld, HasAddField, HasRelativ
 use Rattle.implib_link_instances.specs.Worked.RefusedFields.{with_byte}
 use Rattle.implib_link_instances.specs.Worked.Stored.{held_at, holding_codes, holding_memory, holding_targets, mid_name, mid_thunk_at, picking_at, picking_code, picking_linked, picking_section, unwind_at, unwind_linked, unwind_section}
 
--- the handler of AMD64, and ARM64's `add`, by the numbers of their fields in the object and after the link
+-- the handler of AMD64, and ARM64's `add`, by the numbers of their fields in the object and after
+-- the link
 abbrev pub Handler : ℕ → ℕ → Type 0
 Handler old new = HoldsFurther AMD64 amd64_addr32nb 0x1_4000_0000 0x1020 (λ w. old) (λ w. new)
 
 abbrev pub Add : ℕ → ℕ → Type 0
 Add old new = HoldsFurther ARM64 arm64_pageoffset_12a 0x1_4000_0000 0x102C (λ w. old) (λ w. new)
 
--- The low half of the whole address; the offset of the next byte; another register. Of an `add` of 32 bits nothing is
--- said; a number in the object is added.
+-- The low half of the whole address; the offset of the next byte; another register. Of an `add` of
+-- 32 bits nothing is said; a number in the object is added.
 pub record NearHoldsFurther : Type 0 where
   pub handler : Handler 0 0x1020
   pub more : Handler 4 0x1024

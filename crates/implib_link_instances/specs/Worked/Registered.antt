@@ -1,6 +1,6 @@
--- Data and code that name `open` by its bare name, by hand, on three machines, in the program of Worked/Operands with
--- this object in the place of the passing one: at other places, in images at other bases, and moved to others. Here the
--- name is that of a stub for GNU's linker.
+-- Data and code that name `open` by its bare name, by hand, on three machines, in the program of
+-- Worked/Operands with this object in the place of the passing one: at other places, in images at
+-- other bases, and moved to others. Here the name is that of a stub for GNU's linker.
 use Rattle.std.specs.Prelude.{◌≡◌, ℕ, ◌+◌, ◌*◌, List, [], ◌∷◌, ◌++◌, codes, slice_get}
 use Rattle.implib.specs.declared.coff.object.Relocation.{Relocation}
 use Rattle.implib.specs.declared.machine.MachineType.{MachineType}
@@ -22,9 +22,10 @@ use Rattle.implib_link.specs.Stub.{adrp_immediate, bits_of, page, plus_signed}
 use Rattle.implib_link_instances.specs.Worked.Operands.{field, named_or, open_on, placed_or_passing, stub_linked, stub_section}
 use Rattle.implib_link_instances.specs.Worked.Programs.{another, both_inputs, foo_input, input_objects, symbol_of_class, touching_4, touching_8, zed_input}
 
--- The section. I386: a pointer; `push offset _open`; three `nop`; an address from the image's base. AMD64: a pointer, as
--- `.rdata$.refptr.open` has it, with eight bytes behind; an address from the image's base. ARM64: a pointer; `adrp x1`
--- and `add x2, x1` for `open`; an address from the image's base.
+-- The section. I386: a pointer; `push offset _open`; three `nop`; an address from the image's base.
+-- AMD64: a pointer, as `.rdata$.refptr.open` has it, with eight bytes behind; an address from the
+-- image's base. ARM64: a pointer; `adrp x1` and `add x2, x1` for `open`; an address from the
+-- image's base.
 abbrev pub registering_bytes : MachineType → List ℕ
 registering_bytes I386 =
     0 ∷ 0 ∷ 0 ∷ 0 ∷ 0x68 ∷ 0 ∷ 0 ∷ 0 ∷ 0 ∷ 0x90 ∷ 0x90 ∷ 0x90 ∷ 0 ∷ 0 ∷ 0 ∷ 0 ∷ []
@@ -76,7 +77,8 @@ registering machine = record {
       ∷ [];
 }
 
--- what is linked: this object, foo.dll's members, another object, zed.dll's members, the null descriptor
+-- what is linked: this object, foo.dll's members, another object, zed.dll's members, the null
+-- descriptor
 abbrev pub registering_objects : MachineType → List Object
 registering_objects machine =
     registering machine
@@ -122,7 +124,8 @@ abbrev pub registering_memory : MachineType → Bases → List Range
 registering_memory machine bases =
     registering_image machine bases ++ ranges_of_codes (registering_codes machine bases)
 
--- with its base relocations applied, for 0x20000000 on I386, 0x7FF700000000 on AMD64 and 0x30000000 on ARM64
+-- with its base relocations applied, for 0x20000000 on I386, 0x7FF700000000 on AMD64 and 0x30000000
+-- on ARM64
 abbrev pub registering_places : MachineType → List Place
 registering_places I386 =
     record { address = 0x1042; width = 4 }
@@ -145,8 +148,9 @@ registering_moved_memory AMD64 bases =
 registering_moved_memory ARM64 bases =
     record { start = 0x2010; bytes = 0x40 ∷ 0x10 ∷ 0 ∷ 0x30 ∷ 0 ∷ 0 ∷ 0 ∷ 0 ∷ [] } ∷ registering_memory ARM64 bases
 
--- The program is one of the laws and in memory at a base with the addresses that its code holds; the stub of the entry
--- at an address defines `open`; and the pointer and the address from the image's base, so far on, are for `open`.
+-- The program is one of the laws and in memory at a base with the addresses that its code holds;
+-- the stub of the entry at an address defines `open`; and the pointer and the address from the
+-- image's base, so far on, are for `open`.
 pub record WorkedRegistered (machine : MachineType) (image_base : ℕ) (bases : Bases) (memory : List Range)
     (entry further : ℕ) : Type 0 where
   pub program : IsProgram machine bases (both_inputs machine) (registering_objects machine)
@@ -158,7 +162,8 @@ pub record WorkedRegistered (machine : MachineType) (image_base : ℕ) (bases : 
   pub pointer : HasPointer machine (registering_at machine) 0 (open_on machine)
   pub relative : HasRelative machine (registering_at machine) further (open_on machine)
 
--- the three programs, as they were linked and moved; I386's immediate operand, and ARM64's two instructions
+-- the three programs, as they were linked and moved; I386's immediate operand, and ARM64's two
+-- instructions
 pub record WorkedRegistering : Type 0 where
   pub i386 : WorkedRegistered I386 0x50_0000 touching_4 (registering_memory I386 touching_4) 0x60 12
   pub i386_moved : WorkedRegistered I386 0x2000_0000 touching_4 (registering_moved_memory I386 touching_4) 0x60 12

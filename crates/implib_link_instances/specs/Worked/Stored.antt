@@ -1,9 +1,10 @@
--- Programs that lld-link 14.0.6 wrote for three machines of an object that clang 14.0.6 made, and that names an import by
--- its bare name in data and in unwind data, beside its code: what is in its sections before and after the link. The
--- import tables are those of Worked/LldPrograms, byte for byte. The object, by `clang -O2`, cut to these sections:
--- `int (*held[2])(void) = {0, mid};`
--- `int (*pick(void))(void) { asm(".seh_handler mid, @except"); zeta(); gee(); return mid; }`, on I386 without the `asm`,
--- `zeta` and `gee` by dllimport; linked with `/merge:.xdata=.data`.
+-- Programs that lld-link 14.0.6 wrote for three machines of an object that clang 14.0.6 made, and
+-- that names an import by its bare name in data and in unwind data, beside its code: what is in its
+-- sections before and after the link. The import tables are those of Worked/LldPrograms, byte for
+-- byte. The object, by `clang -O2`, cut to these sections:
+-- `int (*held[2])(void) = {0, mid};` `int (*pick(void))(void) { asm(".seh_handler mid, @except");
+-- zeta(); gee(); return mid; }`, on I386 without the `asm`, `zeta` and `gee` by dllimport; linked
+-- with `/merge:.xdata=.data`.
 use Rattle.std.specs.Prelude.{ℕ, ◌+◌, List, [], ◌∷◌, ◌++◌, codes, slice_get}
 use Rattle.implib.specs.declared.coff.object.Relocation.{Relocation}
 use Rattle.implib.specs.declared.machine.MachineType.{MachineType}
@@ -27,9 +28,10 @@ use Rattle.implib_link_instances.specs.Worked.LldPrograms.{addresses_on, linked_
 use Rattle.implib_link_instances.specs.Worked.Operands.{field}
 use Rattle.implib_link_instances.specs.Worked.Programs.{symbol_of_class, symbol_on}
 
--- The code. I386: `call [__imp__zeta]`, `call [__imp__gee]`, `mov eax, offset _mid`, `ret`; AMD64: `sub rsp, 40`, the two
--- calls, `lea rax, [rip + mid]`, `add rsp, 40`, `ret`; ARM64: `str x30, [sp, -16]!`, twice `adrp x8`, `ldr x8, [x8]` and
--- `blr x8`, `adrp x0`, `add x0, x0` for `mid`, `ldr x30, [sp], 16`, `ret`.
+-- The code. I386: `call [__imp__zeta]`, `call [__imp__gee]`, `mov eax, offset _mid`, `ret`; AMD64:
+-- `sub rsp, 40`, the two calls, `lea rax, [rip + mid]`, `add rsp, 40`, `ret`; ARM64: `str x30, [sp,
+-- -16]!`, twice `adrp x8`, `ldr x8, [x8]` and `blr x8`, `adrp x0`, `add x0, x0` for `mid`, `ldr
+-- x30, [sp], 16`, `ret`.
 abbrev pub picking_code : MachineType → List ℕ
 picking_code I386 =
     0xFF ∷ 0x15 ∷ 0 ∷ 0 ∷ 0 ∷ 0 ∷ 0xFF ∷ 0x15 ∷ 0 ∷ 0 ∷ 0 ∷ 0 ∷ 0xB8 ∷ 0 ∷ 0 ∷ 0 ∷ 0 ∷ 0xC3 ∷ []
@@ -199,8 +201,8 @@ holding_targets machine c index =
 abbrev pub holding_memory : MachineType → List Range
 holding_memory machine = lld_image_on machine ++ ranges_of_codes (holding_codes machine)
 
--- The base relocations, as in lld's `.reloc`, and the memory with them applied, for 0x10000000 on I386, 0x7FF612340000 on
--- AMD64 and 0x40000000 on ARM64.
+-- The base relocations, as in lld's `.reloc`, and the memory with them applied, for 0x10000000 on
+-- I386, 0x7FF612340000 on AMD64 and 0x40000000 on ARM64.
 abbrev pub holding_places : MachineType → List Place
 holding_places I386 =
     record { address = 0x1002; width = 4 }
@@ -227,8 +229,8 @@ holding_moved_memory AMD64 =
 holding_moved_memory ARM64 =
     record { start = 0x3008; bytes = 0x2C ∷ 0x10 ∷ 0 ∷ 0x40 ∷ 0 ∷ 0 ∷ 0 ∷ 0 ∷ [] } ∷ holding_memory ARM64
 
--- The program is one of the laws, it is in memory at a base with the addresses that its code holds, and has the thunk of
--- `mid`; its second pointer, so far from the first, is for `mid`.
+-- The program is one of the laws, it is in memory at a base with the addresses that its code holds,
+-- and has the thunk of `mid`; its second pointer, so far from the first, is for `mid`.
 pub record WorkedHolding (machine : MachineType) (image_base : ℕ) (memory : List Range) (second : ℕ) : Type 0 where
   pub program : IsLldProgram machine 0x2000 (addresses_on machine) (shorts_on machine) (lld_image_on machine)
       (holding_placed machine)
@@ -238,8 +240,8 @@ pub record WorkedHolding (machine : MachineType) (image_base : ℕ) (memory : Li
   pub thunk : IsThunk machine (mid_thunk_at machine) (mid_on machine)
   pub pointer : HasPointer machine (held_at machine) second (mid_name machine)
 
--- The three programs, at the bases that they were linked for and at others, and what else names `mid`: I386's immediate
--- operand, AMD64's `lea`, the handlers, and ARM64's two instructions.
+-- The three programs, at the bases that they were linked for and at others, and what else names
+-- `mid`: I386's immediate operand, AMD64's `lea`, the handlers, and ARM64's two instructions.
 pub record WorkedHoldings : Type 0 where
   pub i386 : WorkedHolding I386 0x40_0000 (holding_memory I386) 4
   pub i386_moved : WorkedHolding I386 0x1000_0000 (holding_moved_memory I386) 4
