@@ -43,7 +43,8 @@ i386_headers =
 
 abbrev pub i386_reloc : List ℕ
 i386_reloc =
-    hex "00 10 00 00 10 00 00 00 02 30 08 30 0d 30 14 30 00 30 00 00 0c 00 00 00 04 30 00 00" ++ zeros 484
+    hex "00 10 00 00 10 00 00 00 02 30 08 30 0d 30 14 30 00 30 00 00 0c 00 00 00 04 30 00 00"
+    ++ zeros 484
 
 -- the headers of the file for AMD64
 unfoldable pub amd64_headers : List ℕ
@@ -160,7 +161,14 @@ mapped_on I386 = record {
   imports = Some (record { address = 0x2000; size = 0x3C });
   addresses = Some (record { address = 0x2050; size = 0x14 });
 }
-mapped_on ARMNT = record { machine = 0; width = 0; base = 0; image = []; imports = None; addresses = None }
+mapped_on ARMNT = record {
+  machine = 0;
+  width = 0;
+  base = 0;
+  image = [];
+  imports = None;
+  addresses = None;
+}
 mapped_on AMD64 = record {
   machine = 0x8664;
   width = 8;
@@ -205,7 +213,8 @@ pub record WorkedFile (machine : MachineType) (address size : ℕ) : Type 0 wher
   pub addresses : (mapped_on machine).addresses ≡ Some (record { address = address; size = size })
   pub inside : AllByRecursion
       (λ (x : Table). (address ≤ x.address)
-      × (x.address + thunk_width machine * length x.entries ≤ address + size)) (tables_in machine).tables
+      × (x.address + thunk_width machine * length x.entries ≤ address + size))
+      (tables_in machine).tables
 
 -- The file of GNU ld: its headers and its sections. Data directory 1 has all of `.idata`, 12 the
 -- address tables in it.

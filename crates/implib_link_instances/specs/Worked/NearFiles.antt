@@ -37,7 +37,8 @@ pub record NearIsFileOf : Type 0 where
   pub mapped : IsAmd64File (changed 0x78 0x51 (file_on AMD64)) (mapped_on AMD64) → ⊥
   pub made_for : IsFileOf ARM64 0x2000 (lld_image_on AMD64) (file_on AMD64) (mapped_on AMD64) → ⊥
   pub four : mapped_file (changed 0x7C 0x64 (changed 0x7D 0x86 (file_on I386))) ≡ Ok made_for_amd64
-  pub width : IsFileOf AMD64 0x2000 (lld_image_on I386) (changed 0x7C 0x64 (changed 0x7D 0x86 (file_on I386)))
+  pub width : IsFileOf AMD64 0x2000 (lld_image_on I386)
+      (changed 0x7C 0x64 (changed 0x7D 0x86 (file_on I386)))
       made_for_amd64 → ⊥
   pub directory : IsAmd64File (changed 0x108 4 (file_on AMD64))
       (record (mapped_on AMD64) { imports = Some (record { address = 0x2004; size = 0x3C }) }) → ⊥
@@ -79,12 +80,18 @@ mapped_pe32 = record {
 -- without an import directory, or with one at 0, loads nothing, and with nothing else.
 pub record WorkedHeaders (gives : List ℕ → Ask → List ℕ) : Type 0 where
   pub thirteen : mapped_file (changed 0xFC 13 (file_on AMD64)) ≡ Ok (mapped_on AMD64)
-  pub twelve : mapped_file (changed 0xFC 12 (file_on AMD64)) ≡ Ok (record (mapped_on AMD64) { addresses = None })
+  pub twelve : mapped_file (changed 0xFC 12 (file_on AMD64))
+      ≡ Ok (record (mapped_on AMD64) { addresses = None })
   pub one : mapped_file (changed 0xFC 1 (file_on AMD64))
       ≡ Ok (record (mapped_on AMD64) { imports = None; addresses = None })
-  pub base : mapped_file (changed 0xAC 2 (file_on AMD64)) ≡ Ok (record (mapped_on AMD64) { base = 0x2_4000_0000 })
-  pub base_4 : mapped_file (changed 0xAF 0x10 (file_on I386)) ≡ Ok (record (mapped_on I386) { base = 0x1040_0000 })
+  pub base : mapped_file (changed 0xAC 2 (file_on AMD64))
+      ≡ Ok (record (mapped_on AMD64) { base = 0x2_4000_0000 })
+  pub base_4 : mapped_file (changed 0xAF 0x10 (file_on I386))
+      ≡ Ok (record (mapped_on I386) { base = 0x1040_0000 })
   pub bss : mapped_file worked_pe32 ≡ Ok mapped_pe32
   pub none : LoadsFile (record (mapped_on AMD64) { imports = None }) gives 0 []
-  pub at_0 : LoadsFile (record (mapped_on AMD64) { imports = Some (record { address = 0; size = 0x3C }) }) gives 0 []
+  pub at_0 : LoadsFile (record (mapped_on AMD64) {
+    imports = Some
+        (record { address = 0; size = 0x3C });
+  }) gives 0 []
   pub none_more : LoadsFile (record (mapped_on AMD64) { imports = None }) gives 1 [] → ⊥

@@ -47,8 +47,10 @@ unwinding bytes = record (unwind_at AMD64) { bytes = bytes } ∷ []
 
 -- another handler; a pointer without a base relocation, and with one at the other pointer
 pub record NearStores : Type 0 where
-  pub held : AreFurtherHeld AMD64 0x1_4000_0000 (unwinding (unwind_linked AMD64)) (holding_targets AMD64)
-  pub further : AreFurtherHeld AMD64 0x1_4000_0000 (unwinding (with_byte (unwind_linked AMD64) 8 0x21))
+  pub held : AreFurtherHeld AMD64 0x1_4000_0000 (unwinding (unwind_linked AMD64))
+      (holding_targets AMD64)
+  pub further : AreFurtherHeld AMD64 0x1_4000_0000
+      (unwinding (with_byte (unwind_linked AMD64) 8 0x21))
       (holding_targets AMD64) → ⊥
   pub moved : StoresAreMoved AMD64 (held_at AMD64 ∷ mid_thunk_at AMD64 ∷ []) [] → ⊥
   pub moved_other : StoresAreMoved AMD64 (held_at AMD64 ∷ mid_thunk_at AMD64 ∷ [])
@@ -56,7 +58,9 @@ pub record NearStores : Type 0 where
 
 -- the handler's field in an object that has a number there
 abbrev pub unwinding_more : LinkedCode
-unwinding_more = record (unwind_at AMD64) { code = record (unwind_section AMD64) { bytes = unwind_linked AMD64 } }
+unwinding_more = record (unwind_at AMD64) {
+  code = record (unwind_section AMD64) { bytes = unwind_linked AMD64 };
+}
 
 -- a pointer; a field with a number
 pub record NearHasRelative : Type 0 where
@@ -65,17 +69,21 @@ pub record NearHasRelative : Type 0 where
 
 -- ARM64's code with other bytes
 abbrev pub picking_with : List ℕ → LinkedCode
-picking_with bytes = record (picking_at ARM64) { code = record (picking_section ARM64) { bytes = bytes } }
+picking_with bytes = record (picking_at ARM64) {
+  code = record (picking_section ARM64) { bytes = bytes };
+}
 
 -- an `add` of 32 bits; a number in the field
 pub record NearHasAddField : Type 0 where
-  pub adds : HasAddField (picking_with (with_byte (picking_code ARM64) 35 0x11)) 32 (mid_name ARM64) → ⊥
+  pub adds : HasAddField (picking_with (with_byte (picking_code ARM64) 35 0x11)) 32
+      (mid_name ARM64) → ⊥
   pub empty : HasAddField (picking_with (picking_linked ARM64)) 32 (mid_name ARM64) → ⊥
 
 -- `adrp` and `add` of `mid` on ARM64, by their bytes
 abbrev pub AddOfMid : ℕ → List ℕ → ℕ → List ℕ → Type 0
 AddOfMid first adrp second add =
-    SumArrives 0x1_4000_0000 (record { start = first; bytes = adrp } ∷ record { start = second; bytes = add } ∷ [])
+    SumArrives 0x1_4000_0000 (record { start = first; bytes = adrp }
+    ∷ record { start = second; bytes = add } ∷ [])
     0x101C 0x1020 0x9000_0000 0x9100_0000 0x102C
 
 -- Each a byte further on; each of another register; the offset of the next byte, and the next page.
@@ -94,15 +102,19 @@ with_other address byte memory = record { start = address; bytes = byte ∷ [] }
 
 -- the memory with another byte in the pointer, in the handler, and in ARM64's `add`
 pub record NearHoldAddress : Type 0 where
-  pub whole : HoldAddress AMD64 0x1_4000_0000 (holding_codes AMD64) (with_other 0x3008 0x21 (holding_memory AMD64))
+  pub whole : HoldAddress AMD64 0x1_4000_0000 (holding_codes AMD64)
+      (with_other 0x3008 0x21 (holding_memory AMD64))
       (mid_name AMD64) 0x1020 → ⊥
-  pub relative : HoldAddress AMD64 0x1_4000_0000 (holding_codes AMD64) (with_other 0x3018 0x21 (holding_memory AMD64))
+  pub relative : HoldAddress AMD64 0x1_4000_0000 (holding_codes AMD64)
+      (with_other 0x3018 0x21 (holding_memory AMD64))
       (mid_name AMD64) 0x1020 → ⊥
-  pub sums : HoldAddress ARM64 0x1_4000_0000 (holding_codes ARM64) (with_other 0x1021 0xB4 (holding_memory ARM64))
+  pub sums : HoldAddress ARM64 0x1_4000_0000 (holding_codes ARM64)
+      (with_other 0x1021 0xB4 (holding_memory ARM64))
       (mid_name ARM64) 0x102C → ⊥
 
 -- the pointer to the thunk: another one, and to what it is not
 pub record NearPointsTo : Type 0 where
   pub points : PointsTo AMD64 0x1_4000_0000 (holding_memory AMD64) 0x3008 (λ a. a ≡ 0x1020)
-  pub there : PointsTo AMD64 0x1_4000_0000 (with_other 0x3008 0x21 (holding_memory AMD64)) 0x3008 (λ a. a ≡ 0x1020) → ⊥
+  pub there : PointsTo AMD64 0x1_4000_0000 (with_other 0x3008 0x21 (holding_memory AMD64)) 0x3008
+      (λ a. a ≡ 0x1020) → ⊥
   pub reached : PointsTo AMD64 0x1_4000_0000 (holding_memory AMD64) 0x3008 (λ a. a ≡ 0x1021) → ⊥

@@ -37,7 +37,8 @@ registering_bytes ARM64 =
 
 -- its relocations: symbol 1 is `open`
 abbrev pub registering_relocations : MachineType → List Relocation
-registering_relocations I386 = field 0 1 i386_dir32 ∷ field 5 1 i386_dir32 ∷ field 12 1 i386_dir32nb ∷ []
+registering_relocations I386 = field 0 1 i386_dir32 ∷ field 5 1 i386_dir32 ∷ field 12 1 i386_dir32nb
+    ∷ []
 registering_relocations ARMNT = []
 registering_relocations AMD64 = field 0 1 amd64_addr64 ∷ field 16 1 amd64_addr32nb ∷ []
 registering_relocations ARM64 =
@@ -47,12 +48,15 @@ registering_relocations ARM64 =
 -- what it is linked to at 0x2010, `open` being at 0x1040, of images at 0x500000 and 0x180000000
 abbrev pub registering_linked : MachineType → List ℕ
 registering_linked I386 =
-    0x40 ∷ 0x10 ∷ 0x50 ∷ 0 ∷ 0x68 ∷ 0x40 ∷ 0x10 ∷ 0x50 ∷ 0 ∷ 0x90 ∷ 0x90 ∷ 0x90 ∷ 0x40 ∷ 0x10 ∷ 0 ∷ 0 ∷ []
+    0x40 ∷ 0x10 ∷ 0x50 ∷ 0 ∷ 0x68 ∷ 0x40 ∷ 0x10 ∷ 0x50 ∷ 0 ∷ 0x90 ∷ 0x90 ∷ 0x90 ∷ 0x40 ∷ 0x10 ∷ 0
+    ∷ 0 ∷ []
 registering_linked ARMNT = []
 registering_linked AMD64 =
-    0x40 ∷ 0x10 ∷ 0 ∷ 0x80 ∷ 1 ∷ 0 ∷ 0 ∷ 0 ∷ 0 ∷ 0 ∷ 0 ∷ 0 ∷ 0 ∷ 0 ∷ 0 ∷ 0 ∷ 0x40 ∷ 0x10 ∷ 0 ∷ 0 ∷ []
+    0x40 ∷ 0x10 ∷ 0 ∷ 0x80 ∷ 1 ∷ 0 ∷ 0 ∷ 0 ∷ 0 ∷ 0 ∷ 0 ∷ 0 ∷ 0 ∷ 0 ∷ 0 ∷ 0 ∷ 0x40 ∷ 0x10 ∷ 0 ∷ 0
+    ∷ []
 registering_linked ARM64 =
-    0x40 ∷ 0x10 ∷ 0 ∷ 0x80 ∷ 1 ∷ 0 ∷ 0 ∷ 0 ∷ 0xE1 ∷ 0xFF ∷ 0xFF ∷ 0xF0 ∷ 0x22 ∷ 0 ∷ 1 ∷ 0x91 ∷ 0x40 ∷ 0x10 ∷ 0 ∷ 0 ∷ []
+    0x40 ∷ 0x10 ∷ 0 ∷ 0x80 ∷ 1 ∷ 0 ∷ 0 ∷ 0 ∷ 0xE1 ∷ 0xFF ∷ 0xFF ∷ 0xF0 ∷ 0x22 ∷ 0 ∷ 1 ∷ 0x91 ∷ 0x40
+    ∷ 0x10 ∷ 0 ∷ 0 ∷ []
 
 -- and the stub of `open` at 0x1040: on I386 its jump has an address whole
 abbrev pub registered_stub : MachineType → List ℕ
@@ -144,21 +148,27 @@ registering_moved_memory I386 bases =
     ∷ registering_memory I386 bases
 registering_moved_memory ARMNT bases = []
 registering_moved_memory AMD64 bases =
-    record { start = 0x2010; bytes = 0x40 ∷ 0x10 ∷ 0 ∷ 0 ∷ 0xF7 ∷ 0x7F ∷ 0 ∷ 0 ∷ [] } ∷ registering_memory AMD64 bases
+    record { start = 0x2010; bytes = 0x40 ∷ 0x10 ∷ 0 ∷ 0 ∷ 0xF7 ∷ 0x7F ∷ 0 ∷ 0 ∷ [] }
+    ∷ registering_memory AMD64 bases
 registering_moved_memory ARM64 bases =
-    record { start = 0x2010; bytes = 0x40 ∷ 0x10 ∷ 0 ∷ 0x30 ∷ 0 ∷ 0 ∷ 0 ∷ 0 ∷ [] } ∷ registering_memory ARM64 bases
+    record { start = 0x2010; bytes = 0x40 ∷ 0x10 ∷ 0 ∷ 0x30 ∷ 0 ∷ 0 ∷ 0 ∷ 0 ∷ [] }
+    ∷ registering_memory ARM64 bases
 
 -- The program is one of the laws and in memory at a base with the addresses that its code holds;
 -- the stub of the entry at an address defines `open`; and the pointer and the address from the
 -- image's base, so far on, are for `open`.
-pub record WorkedRegistered (machine : MachineType) (image_base : ℕ) (bases : Bases) (memory : List Range)
+pub record WorkedRegistered (machine : MachineType) (image_base : ℕ) (bases : Bases)
+    (memory : List Range)
     (entry further : ℕ) : Type 0 where
   pub program : IsProgram machine bases (both_inputs machine) (registering_objects machine)
-  pub at : AreStoredInMemory machine image_base (registering_image machine bases) (registering_placed machine bases)
+  pub at : AreStoredInMemory machine image_base (registering_image machine bases)
+      (registering_placed machine bases)
       (registering_codes machine bases) (registering_targets machine bases) memory
-  pub stub : StubAt machine (registering_placed machine bases) (placed_code (registered_stub_at machine bases))
+  pub stub : StubAt machine (registering_placed machine bases)
+      (placed_code (registered_stub_at machine bases))
       (symbol_of_class (open_on machine) 1 class_external) entry
-  pub defines : DefinesIn (registered_stub_at machine bases) (symbol_of_class (open_on machine) 1 class_external)
+  pub defines : DefinesIn (registered_stub_at machine bases)
+      (symbol_of_class (open_on machine) 1 class_external)
   pub pointer : HasPointer machine (registering_at machine) 0 (open_on machine)
   pub relative : HasRelative machine (registering_at machine) further (open_on machine)
 
@@ -166,16 +176,22 @@ pub record WorkedRegistered (machine : MachineType) (image_base : ℕ) (bases : 
 -- instructions
 pub record WorkedRegistering : Type 0 where
   pub i386 : WorkedRegistered I386 0x50_0000 touching_4 (registering_memory I386 touching_4) 0x60 12
-  pub i386_moved : WorkedRegistered I386 0x2000_0000 touching_4 (registering_moved_memory I386 touching_4) 0x60 12
-  pub amd64 : WorkedRegistered AMD64 0x1_8000_0000 touching_8 (registering_memory AMD64 touching_8) 0x80 16
-  pub amd64_moved : WorkedRegistered AMD64 0x7FF7_0000_0000 touching_8 (registering_moved_memory AMD64 touching_8) 0x80 16
-  pub arm64 : WorkedRegistered ARM64 0x1_8000_0000 touching_8 (registering_memory ARM64 touching_8) 0x80 16
-  pub arm64_moved : WorkedRegistered ARM64 0x3000_0000 touching_8 (registering_moved_memory ARM64 touching_8) 0x80 16
+  pub i386_moved : WorkedRegistered I386 0x2000_0000 touching_4
+      (registering_moved_memory I386 touching_4) 0x60 12
+  pub amd64 : WorkedRegistered AMD64 0x1_8000_0000 touching_8
+      (registering_memory AMD64 touching_8) 0x80 16
+  pub amd64_moved : WorkedRegistered AMD64 0x7FF7_0000_0000 touching_8
+      (registering_moved_memory AMD64 touching_8) 0x80 16
+  pub arm64 : WorkedRegistered ARM64 0x1_8000_0000 touching_8
+      (registering_memory ARM64 touching_8) 0x80 16
+  pub arm64_moved : WorkedRegistered ARM64 0x3000_0000 touching_8
+      (registering_moved_memory ARM64 touching_8) 0x80 16
   pub i386_immediate : HasPointer I386 (registering_at I386) 5 (open_on I386)
   pub arm64_page : HasPageField (registering_at ARM64) 8 (open_on ARM64)
   pub arm64_add : HasAddField (registering_at ARM64) 12 (open_on ARM64)
   -- where the linked `adrp` and `add` lead, at both bases, by the specification of the instructions
-  pub arm64_sum : plus_signed 21 4096 (adrp_immediate 0xF0FF_FFE1) (page 0x1_8000_2018 * 4096) + bits_of 10 12 0x9101_0022
+  pub arm64_sum : plus_signed 21 4096 (adrp_immediate 0xF0FF_FFE1) (page 0x1_8000_2018 * 4096)
+      + bits_of 10 12 0x9101_0022
       ≡ 0x1_8000_1040
   pub arm64_moved_sum : plus_signed 21 4096 (adrp_immediate 0xF0FF_FFE1) (page 0x3000_2018 * 4096)
       + bits_of 10 12 0x9101_0022 ≡ 0x3000_1040

@@ -48,7 +48,8 @@ picking_code ARM64 =
 abbrev pub picking_relocations : MachineType → List Relocation
 picking_relocations I386 = field 2 1 i386_dir32 ∷ field 8 2 i386_dir32 ∷ field 13 3 i386_dir32 ∷ []
 picking_relocations ARMNT = []
-picking_relocations AMD64 = field 6 1 amd64_rel32 ∷ field 12 2 amd64_rel32 ∷ field 19 3 amd64_rel32 ∷ []
+picking_relocations AMD64 = field 6 1 amd64_rel32 ∷ field 12 2 amd64_rel32 ∷ field 19 3 amd64_rel32
+    ∷ []
 picking_relocations ARM64 =
     field 4 1 arm64_pagebase_rel21 ∷ field 8 1 arm64_pageoffset_12l
     ∷ field 16 2 arm64_pagebase_rel21 ∷ field 20 2 arm64_pageoffset_12l
@@ -57,10 +58,12 @@ picking_relocations ARM64 =
 -- and after the link, from 0x1000 on
 abbrev pub picking_linked : MachineType → List ℕ
 picking_linked I386 =
-    0xFF ∷ 0x15 ∷ 0x54 ∷ 0x20 ∷ 0x40 ∷ 0 ∷ 0xFF ∷ 0x15 ∷ 0x5C ∷ 0x20 ∷ 0x40 ∷ 0 ∷ 0xB8 ∷ 0x12 ∷ 0x10 ∷ 0x40 ∷ 0 ∷ 0xC3 ∷ []
+    0xFF ∷ 0x15 ∷ 0x54 ∷ 0x20 ∷ 0x40 ∷ 0 ∷ 0xFF ∷ 0x15 ∷ 0x5C ∷ 0x20 ∷ 0x40 ∷ 0 ∷ 0xB8 ∷ 0x12 ∷ 0x10
+    ∷ 0x40 ∷ 0 ∷ 0xC3 ∷ []
 picking_linked ARMNT = []
 picking_linked AMD64 =
-    0x48 ∷ 0x83 ∷ 0xEC ∷ 0x28 ∷ 0xFF ∷ 0x15 ∷ 0x66 ∷ 0x10 ∷ 0 ∷ 0 ∷ 0xFF ∷ 0x15 ∷ 0x70 ∷ 0x10 ∷ 0 ∷ 0
+    0x48 ∷ 0x83 ∷ 0xEC ∷ 0x28 ∷ 0xFF ∷ 0x15 ∷ 0x66 ∷ 0x10 ∷ 0 ∷ 0 ∷ 0xFF ∷ 0x15 ∷ 0x70 ∷ 0x10 ∷ 0
+    ∷ 0
     ∷ 0x48 ∷ 0x8D ∷ 5 ∷ 9 ∷ 0 ∷ 0 ∷ 0 ∷ 0x48 ∷ 0x83 ∷ 0xC4 ∷ 0x28 ∷ 0xC3 ∷ []
 picking_linked ARM64 =
     0xFE ∷ 0x0F ∷ 0x1F ∷ 0xF8 ∷ 8 ∷ 0 ∷ 0 ∷ 0xB0 ∷ 8 ∷ 0x39 ∷ 0x40 ∷ 0xF9 ∷ 0 ∷ 1 ∷ 0x3F ∷ 0xD6
@@ -114,11 +117,13 @@ mid_thunk ARM64 = 0x102C
 
 abbrev pub picking_section : MachineType → ObjectSection
 picking_section machine =
-    section text_name (cnt_code + align_16bytes + mem_execute_read) (picking_code machine) (picking_relocations machine)
+    section text_name (cnt_code + align_16bytes + mem_execute_read) (picking_code machine)
+    (picking_relocations machine)
 
 abbrev pub held_section : MachineType → ObjectSection
 held_section machine =
-    section (codes ".data") (cnt_initialized_data + align_16bytes + mem_read_write) (held_bytes machine)
+    section (codes ".data") (cnt_initialized_data + align_16bytes + mem_read_write)
+    (held_bytes machine)
     (held_relocations machine)
 
 abbrev pub unwind_section : MachineType → ObjectSection
@@ -145,7 +150,10 @@ holding_object machine = record {
 
 abbrev pub placed_holding : MachineType → Placed
 placed_holding machine =
-    record { object = holding_object machine; section_addresses = Unplaced ∷ Unplaced ∷ Unplaced ∷ [] }
+    record {
+      object = holding_object machine;
+      section_addresses = Unplaced ∷ Unplaced ∷ Unplaced ∷ [];
+    }
 
 -- what is linked: the object, lld's tables, the thunk
 abbrev pub holding_placed : MachineType → List Placed
@@ -192,11 +200,13 @@ unwind_at machine = record {
 }
 
 abbrev pub holding_codes : MachineType → List LinkedCode
-holding_codes machine = picking_at machine ∷ mid_thunk_at machine ∷ held_at machine ∷ unwind_at machine ∷ []
+holding_codes machine = picking_at machine ∷ mid_thunk_at machine ∷ held_at machine
+    ∷ unwind_at machine ∷ []
 
 abbrev pub holding_targets : MachineType → LinkedCode → ℕ → ℕ
 holding_targets machine c index =
-    taken_address (mid_thunk machine) (holding_placed machine) c.from (slice_get c.from.object.entries index)
+    taken_address (mid_thunk machine) (holding_placed machine) c.from
+    (slice_get c.from.object.entries index)
 
 abbrev pub holding_memory : MachineType → List Range
 holding_memory machine = lld_image_on machine ++ ranges_of_codes (holding_codes machine)
@@ -225,17 +235,22 @@ holding_moved_memory I386 =
     ∷ holding_memory I386
 holding_moved_memory ARMNT = []
 holding_moved_memory AMD64 =
-    record { start = 0x3008; bytes = 0x20 ∷ 0x10 ∷ 0x34 ∷ 0x12 ∷ 0xF6 ∷ 0x7F ∷ 0 ∷ 0 ∷ [] } ∷ holding_memory AMD64
+    record { start = 0x3008; bytes = 0x20 ∷ 0x10 ∷ 0x34 ∷ 0x12 ∷ 0xF6 ∷ 0x7F ∷ 0 ∷ 0 ∷ [] }
+    ∷ holding_memory AMD64
 holding_moved_memory ARM64 =
-    record { start = 0x3008; bytes = 0x2C ∷ 0x10 ∷ 0 ∷ 0x40 ∷ 0 ∷ 0 ∷ 0 ∷ 0 ∷ [] } ∷ holding_memory ARM64
+    record { start = 0x3008; bytes = 0x2C ∷ 0x10 ∷ 0 ∷ 0x40 ∷ 0 ∷ 0 ∷ 0 ∷ 0 ∷ [] }
+    ∷ holding_memory ARM64
 
 -- The program is one of the laws, it is in memory at a base with the addresses that its code holds,
 -- and has the thunk of `mid`; its second pointer, so far from the first, is for `mid`.
-pub record WorkedHolding (machine : MachineType) (image_base : ℕ) (memory : List Range) (second : ℕ) : Type 0 where
-  pub program : IsLldProgram machine 0x2000 (addresses_on machine) (shorts_on machine) (lld_image_on machine)
+pub record WorkedHolding (machine : MachineType) (image_base : ℕ) (memory : List Range)
+    (second : ℕ) : Type 0 where
+  pub program : IsLldProgram machine 0x2000 (addresses_on machine) (shorts_on machine)
+      (lld_image_on machine)
       (holding_placed machine)
   pub steady : AreSteady machine (holding_placed machine)
-  pub at : AreStoredInMemory machine image_base (lld_image_on machine) (holding_placed machine) (holding_codes machine)
+  pub at : AreStoredInMemory machine image_base (lld_image_on machine) (holding_placed machine)
+      (holding_codes machine)
       (holding_targets machine) memory
   pub thunk : IsThunk machine (mid_thunk_at machine) (mid_on machine)
   pub pointer : HasPointer machine (held_at machine) second (mid_name machine)
@@ -255,4 +270,5 @@ pub record WorkedHoldings : Type 0 where
   pub arm64_handler : HasRelative ARM64 (unwind_at ARM64) 8 (mid_name ARM64)
   pub arm64_page : HasPageField (picking_at ARM64) 28 (mid_name ARM64)
   pub arm64_add : HasAddField (picking_at ARM64) 32 (mid_name ARM64)
-  pub amd64_call : HasInstruction AMD64 (picking_at AMD64) 4 (0xFF ∷ 0x15 ∷ []) [] (codes "__imp_zeta")
+  pub amd64_call : HasInstruction AMD64 (picking_at AMD64) 4 (0xFF ∷ 0x15 ∷ []) []
+      (codes "__imp_zeta")

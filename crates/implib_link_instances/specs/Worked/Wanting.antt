@@ -32,7 +32,13 @@ with_names = wanting listed_names ∷ quiet ∷ []
 -- a common block of 8 bytes, which is no name that is left to others
 abbrev pub common_bar : Object
 common_bar = record (wanting []) {
-  entries = ASymbol (record { name = codes "bar"; value = 8; section = 0; kind = 0; class = class_external }) ∷ [];
+  entries = ASymbol (record {
+    name = codes "bar";
+    value = 8;
+    section = 0;
+    kind = 0;
+    class = class_external;
+  }) ∷ [];
 }
 
 -- The list's names are wanted in front of the object's, but for `stack`, which the object has; for
@@ -41,9 +47,12 @@ common_bar = record (wanting []) {
 pub record WorkedWanting : Type 0 where
   pub alone : unresolved (quiet ∷ []) ≡ codes "printf" ∷ []
   pub wanted : unresolved with_names ≡ codes "bar" ∷ codes "__imp_queue" ∷ codes "printf" ∷ []
-  pub had : unresolved (wanting (codes "stack" ∷ codes "baz" ∷ []) ∷ quiet ∷ []) ≡ codes "baz" ∷ codes "printf" ∷ []
+  pub had : unresolved (wanting (codes "stack" ∷ codes "baz" ∷ []) ∷ quiet ∷ [])
+      ≡ codes "baz" ∷ codes "printf" ∷ []
   pub none : claimed_names (wanting listed_names) ≡ []
   pub common : claimed_names common_bar ≡ codes "bar" ∷ []
   pub takes : TakesInto (archive_of two_libraries) with_names closed_taken
-  pub amd64 : IsProgram AMD64 touching_8 (both_inputs AMD64) (wanting listed_names ∷ program_objects AMD64)
-  pub i386 : IsProgram I386 touching_4 (both_inputs I386) (wanting (codes "_open" ∷ []) ∷ program_objects I386)
+  pub amd64 : IsProgram AMD64 touching_8 (both_inputs AMD64)
+      (wanting listed_names ∷ program_objects AMD64)
+  pub i386 : IsProgram I386 touching_4 (both_inputs I386)
+      (wanting (codes "_open" ∷ []) ∷ program_objects I386)
