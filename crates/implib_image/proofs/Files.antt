@@ -1,9 +1,10 @@
 -- What a loader finds that begins with a file.
-use Rattle.std.proofs.Common.{◌≡◌, ℕ, zero, suc, ◌+◌, ◌-◌, ◌*◌, ◌<◌, ◌≤◌, List, [], ◌∷◌, ◌++◌, length, map, Some, refl, sym, ◌∙◌, subst, inl, inr, arith}
+use Rattle.std.proofs.Common.{◌≡◌, ℕ, zero, suc, ◌+◌, ◌-◌, ◌*◌, ◌^◌, ◌<◌, ◌≤◌, List, [], ◌∷◌, ◌++◌, length, map, Some, refl, sym, ◌∙◌, subst, inl, inr, arith}
 use Rattle.std.specs.Prelude.{slice_get, slice_index}
-use Rattle.std.specs.List.{AllByRecursion}
+use Rattle.std.specs.List.{AllByRecursion, Contains}
 use Rattle.std.proofs.lemmas.Bool.{cases_Bool}
 use Rattle.std.proofs.lemmas.List.{length-map}
+use Rattle.implib.specs.Formats.Object.{ObjectSymbol}
 use Rattle.implib.specs.Import.{Ask}
 use Rattle.implib.specs.Link.Image.{Range, byte_at, is_in, range_end}
 use Rattle.implib.specs.Link.Load.{BytesAt}
@@ -13,16 +14,18 @@ use Rattle.implib.proofs.Link.LinkedMembers.{among_map}
 use Rattle.implib.proofs.Link.Ranges.{all_among, among_back}
 use Rattle.implib_image.specs.Files.{DataDirectory, LoadsFile, MappedFile, WritesFrom}
 use Rattle.implib_image.specs.Laws.{IsFileOf, IsInDirectory}
-use Rattle.implib_link.specs.Gnu.Fields.{AreLinkedBeside, LinkedCode, range_of_code, ranges_of_codes}
+use Rattle.implib_link.specs.Gnu.Fields.{AreLinkedBeside, DefinesIn, LinkedCode, range_of_code, ranges_of_codes}
 use Rattle.implib_link.specs.Gnu.Loaded.{Writes}
 use Rattle.implib_link.specs.Gnu.Operands.{AllLead, AreKept}
 use Rattle.implib_link.specs.Gnu.Reading.{ReadsAndWrites}
+use Rattle.implib_link.specs.Gnu.Stored.{AreFurtherHeld, HoldAddress}
 use Rattle.implib_link.specs.Tables.{AreSteady, AreTables, AreTablesLoaded, CanReadFrom, IsInTable, Table, TableEntry, Tables, imported_by_table}
 use Rattle.implib_link.proofs.Gnu.Fields.{located_each}
-use Rattle.implib_link.proofs.Gnu.FieldsInMemory.{Rests, part_there, same_pages}
+use Rattle.implib_link.proofs.Gnu.FieldsInMemory.{Rests, StoredRests, part_there, same_pages}
 use Rattle.implib_link.proofs.Gnu.Keeps.{Keeps, bytes_kept, keeps_written, memory_can_be_read, memory_read, number_kept}
 use Rattle.implib_link.proofs.Gnu.Memory.{Covers, byte_front, within_bounds, written_covers}
 use Rattle.implib_link.proofs.Gnu.Operands.{all_lead}
+use Rattle.implib_link.proofs.Gnu.Stored.{holds_address, settled_by_code}
 use Rattle.implib_link.proofs.Search.Lists.{contains_among}
 use Rattle.implib_link.proofs.Tables.{tables_load}
 use Rattle.implib_link.proofs.TablesInMemory.{entry_in, entry_reached, written_read}
@@ -143,3 +146,21 @@ module _ (machine : MachineType) (t : Tables) (codes : List LinkedCode) (targets
 
   pub file_keeps : AreKept machine codes (written ++ file.image)
   file_keeps c offset count held none = part_there machine file.base t.image t.linked codes targets file.image resting written covering c (contains_among c codes held) offset count none
+
+  -- with what code holds by further types
+  module _ (further : AreFurtherHeld machine file.base codes targets) where
+    stored : StoredRests machine file.base t.image t.linked codes targets file.image
+    unfolding resting
+    stored = record {
+      rests = resting;
+      further = further;
+      settled = λ c d index s k held d_held at undefined defines named. record {
+        taken = beside.resolved.code c d index s k held d_held at undefined defines named;
+        whole = λ r width number same m is there. inl (refl, number_kept linked_memory file.image all_kept width (c.position + r.offset) number there);
+      };
+    }
+
+    pub file_holds : (d : LinkedCode) (s : ObjectSymbol) → Contains codes d → DefinesIn d s → d.position + s.value < 2 ^ 31 → HoldAddress machine file.base codes (written ++ file.image) s.name (d.position + s.value)
+    file_holds d s held defines small =
+        holds_address machine file.base t.image t.linked codes targets file.image stored written covering s.name (d.position + s.value) small
+        (settled_by_code machine file.base t.image t.linked codes targets file.image stored written covering d s held defines)

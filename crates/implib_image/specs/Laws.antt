@@ -1,6 +1,7 @@
 -- What holds of the files of linked programs.
-use Rattle.std.specs.Prelude.{◌≡◌, ℕ, ◌+◌, ◌*◌, ◌≤◌, List, ◌++◌, Some, Ok, length, map, slice_get}
-use Rattle.std.specs.List.{AllByRecursion}
+use Rattle.std.specs.Prelude.{◌≡◌, ℕ, ◌+◌, ◌*◌, ◌^◌, ◌<◌, ◌≤◌, List, ◌++◌, Some, Ok, length, map, slice_get}
+use Rattle.std.specs.List.{AllByRecursion, Contains}
+use Rattle.implib.specs.Formats.Object.{ObjectSymbol}
 use Rattle.implib.specs.Import.{Ask}
 use Rattle.implib.specs.Link.Image.{Range, range_end}
 use Rattle.implib.specs.Link.Load.{BytesAt}
@@ -8,9 +9,10 @@ use Rattle.implib.specs.Machine.{machine_number}
 use Rattle.implib.specs.Members.ImportTables.{thunk_width}
 use Rattle.implib.specs.declared.machine.MachineType.{MachineType}
 use Rattle.implib_image.specs.Files.{DataDirectory, LoadsFile, MappedFile, address_in, mapped_file}
-use Rattle.implib_link.specs.Gnu.Fields.{AreLinkedBeside, LinkedCode, ranges_of_codes}
+use Rattle.implib_link.specs.Gnu.Fields.{AreLinkedBeside, DefinesIn, LinkedCode, ranges_of_codes}
 use Rattle.implib_link.specs.Gnu.Loaded.{Writes}
 use Rattle.implib_link.specs.Gnu.Operands.{AllLead, AreKept}
+use Rattle.implib_link.specs.Gnu.Stored.{AreFurtherHeld, HoldAddress}
 use Rattle.implib_link.specs.Tables.{AreSteady, AreTables, AreTablesLoaded, CanReadFrom, Table, TableEntry, Tables, imported_by_table}
 
 -- A file is that of what was linked:
@@ -57,6 +59,22 @@ FieldsLeadInFiles = (machine : MachineType) (t : Tables) (codes : List LinkedCod
     → CanReadFrom machine file.base x.address
     → AllLead machine file.base t.linked codes (written ++ file.image) name (gives x.dll e.ask))
     × AreKept machine codes (written ++ file.image)
+
+-- And every field for the address of a name that linked code defines holds it there: stored whole,
+-- from the base, and by ARM64's `adrp` and `add`.
+abbrev pub FilesHoldAddresses : Type 0
+FilesHoldAddresses = (machine : MachineType) (t : Tables) (codes : List LinkedCode)
+    (targets : LinkedCode → ℕ → ℕ) (bytes : List ℕ) (file : MappedFile)
+    (gives : List ℕ → Ask → List ℕ) (n : ℕ) (written : List Range)
+    → AreTables machine t → AreSteady machine t.linked
+    → AreLinkedBeside machine file.base t.image t.linked codes targets
+    → AreFurtherHeld machine file.base codes targets
+    → IsFileOf machine t.directory (t.image ++ ranges_of_codes codes) bytes file
+    → ((dll : List ℕ) (ask : Ask) → length (gives dll ask) ≡ thunk_width machine)
+    → LoadsFile file gives n written
+    → (d : LinkedCode) (s : ObjectSymbol) → Contains codes d → DefinesIn d s
+    → d.position + s.value < 2 ^ 31
+    → HoldAddress machine file.base codes (written ++ file.image) s.name (d.position + s.value)
 
 -- a range is in a data directory
 pub record IsInDirectory (d : DataDirectory) (r : Range) : Type 0 where

@@ -1,6 +1,7 @@
 //! Laws of files of linked programs. The functions do nothing: their contracts are the laws.
 
-ghost use Rattle.implib_image.specs.Laws.{FieldsLeadInFiles, FilesLoad, WritesAreInDirectory};
+ghost use Rattle.implib_image.specs.Laws.{FieldsLeadInFiles, FilesHoldAddresses, FilesLoad};
+ghost use Rattle.implib_image.specs.Laws.{WritesAreInDirectory};
 
 /// A loader that begins with the file of any import tables, as Windows does, loads exactly what
 /// they import.
@@ -12,6 +13,12 @@ pub fn files_load()
 /// entry leads to what the DLL gives.
 pub fn fields_lead_in_files()
     ensures { FieldsLeadInFiles }
+{}
+
+/// And every field for the address of a name that linked code defines holds it, as a pointer in
+/// data and a handler in unwind data.
+pub fn files_hold_addresses()
+    ensures { FilesHoldAddresses }
 {}
 
 /// Where data directory 12 has the address tables, such a loader writes nothing outside it.

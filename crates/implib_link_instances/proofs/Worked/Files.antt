@@ -20,7 +20,7 @@ use Rattle.implib_link_instances.specs.Worked.Stored.{holding_codes, holding_pla
 use Rattle.implib_link.proofs.TablesOfPrograms.{lld_tables}
 use Rattle.implib_link_instances.proofs.Worked.Lld.{lld_opened}
 use Rattle.implib_link_instances.proofs.Worked.RefusedLinks.{are_located, is_each_located}
-use Rattle.implib_link_instances.proofs.Worked.Stored.{amd64_beside, amd64_program, arm64_beside, arm64_program, i386_beside, i386_program}
+use Rattle.implib_link_instances.proofs.Worked.Stored.{amd64_beside, amd64_further, amd64_program, arm64_beside, arm64_further, arm64_program, i386_beside, i386_further, i386_program}
 
 -- what the computing has to open
 unfoldable pub file_opened : Unit {0}
@@ -46,7 +46,7 @@ i386_tables = lld_tables I386 0x2000 (addresses_on I386) (shorts_on I386) (lld_i
 
 i386_file : WorkedFile I386 0x2050 0x14
 unfolding lld_opened file_opened
-i386_file = record { is = i386_is; beside = i386_beside; tables = i386_tables; addresses = refl; inside = ((omega arith, omega arith), ((omega arith, omega arith), tt)) }
+i386_file = record { is = i386_is; beside = i386_beside; further = i386_further; tables = i386_tables; addresses = refl; inside = ((omega arith, omega arith), ((omega arith, omega arith), tt)) }
 
 pub amd64_is : IsFileOf AMD64 0x2000 (lld_image_on AMD64 ++ ranges_of_codes (holding_codes AMD64)) (file_on AMD64) (mapped_on AMD64)
 unfolding lld_opened file_opened
@@ -57,7 +57,7 @@ amd64_tables = lld_tables AMD64 0x2000 (addresses_on AMD64) (shorts_on AMD64) (l
 
 amd64_file : WorkedFile AMD64 0x2068 0x28
 unfolding lld_opened file_opened
-amd64_file = record { is = amd64_is; beside = amd64_beside; tables = amd64_tables; addresses = refl; inside = ((omega arith, omega arith), ((omega arith, omega arith), tt)) }
+amd64_file = record { is = amd64_is; beside = amd64_beside; further = amd64_further; tables = amd64_tables; addresses = refl; inside = ((omega arith, omega arith), ((omega arith, omega arith), tt)) }
 
 pub arm64_is : IsFileOf ARM64 0x2000 (lld_image_on ARM64 ++ ranges_of_codes (holding_codes ARM64)) (file_on ARM64) (mapped_on ARM64)
 unfolding lld_opened file_opened
@@ -68,7 +68,7 @@ arm64_tables = lld_tables ARM64 0x2000 (addresses_on ARM64) (shorts_on ARM64) (l
 
 arm64_file : WorkedFile ARM64 0x2068 0x28
 unfolding lld_opened file_opened
-arm64_file = record { is = arm64_is; beside = arm64_beside; tables = arm64_tables; addresses = refl; inside = ((omega arith, omega arith), ((omega arith, omega arith), tt)) }
+arm64_file = record { is = arm64_is; beside = arm64_beside; further = arm64_further; tables = arm64_tables; addresses = refl; inside = ((omega arith, omega arith), ((omega arith, omega arith), tt)) }
 
 pub worked_files : WorkedFiles
 unfolding file_opened

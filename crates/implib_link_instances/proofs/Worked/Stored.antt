@@ -142,7 +142,7 @@ i386_beside = record {
   resolved = takes_with_thunk (mid_thunk I386) (holding_placed I386) (holding_codes I386) refl;
 }
 
-i386_further : AreFurtherHeld I386 0x40_0000 (holding_codes I386) (holding_targets I386)
+pub i386_further : AreFurtherHeld I386 0x40_0000 (holding_codes I386) (holding_targets I386)
 unfolding lld_opened further_test
 i386_further = further_by I386 0x40_0000 (holding_codes I386) (holding_targets I386) refl
 
@@ -238,7 +238,7 @@ amd64_beside = record {
   resolved = takes_with_thunk (mid_thunk AMD64) (holding_placed AMD64) (holding_codes AMD64) refl;
 }
 
-amd64_further : AreFurtherHeld AMD64 0x1_4000_0000 (holding_codes AMD64) (holding_targets AMD64)
+pub amd64_further : AreFurtherHeld AMD64 0x1_4000_0000 (holding_codes AMD64) (holding_targets AMD64)
 unfolding lld_opened further_test
 amd64_further = further_by AMD64 0x1_4000_0000 (holding_codes AMD64) (holding_targets AMD64) refl
 
@@ -334,7 +334,7 @@ arm64_beside = record {
   resolved = takes_with_thunk (mid_thunk ARM64) (holding_placed ARM64) (holding_codes ARM64) refl;
 }
 
-arm64_further : AreFurtherHeld ARM64 0x1_4000_0000 (holding_codes ARM64) (holding_targets ARM64)
+pub arm64_further : AreFurtherHeld ARM64 0x1_4000_0000 (holding_codes ARM64) (holding_targets ARM64)
 unfolding lld_opened further_test
 arm64_further = further_by ARM64 0x1_4000_0000 (holding_codes ARM64) (holding_targets ARM64) refl
 

@@ -10,6 +10,7 @@ use Rattle.implib_dll.specs.Digits.{hex}
 use Rattle.implib_image.specs.Files.{MappedFile}
 use Rattle.implib_image.specs.Laws.{IsFileOf}
 use Rattle.implib_link.specs.Gnu.Fields.{AreLinkedBeside, ranges_of_codes}
+use Rattle.implib_link.specs.Gnu.Stored.{AreFurtherHeld}
 use Rattle.implib_link.specs.Tables.{AreTables, Table, Tables, tables_of_lld}
 use Rattle.implib_link_instances.specs.Worked.LldPrograms.{addresses_on, linked_thunk, lld_image_on, shorts_on, tables_on}
 use Rattle.implib_link_instances.specs.Worked.Stored.{held_linked, holding_codes, holding_placed, holding_targets, picking_linked, unwind_linked}
@@ -209,6 +210,8 @@ pub record WorkedFile (machine : MachineType) (address size : ℕ) : Type 0 wher
       (mapped_on machine)
   pub beside : AreLinkedBeside machine (mapped_on machine).base (lld_image_on machine)
       (holding_placed machine) (holding_codes machine) (holding_targets machine)
+  pub further : AreFurtherHeld machine (mapped_on machine).base (holding_codes machine)
+      (holding_targets machine)
   pub tables : AreTables machine (tables_in machine)
   pub addresses : (mapped_on machine).addresses ≡ Some (record { address = address; size = size })
   pub inside : AllByRecursion
