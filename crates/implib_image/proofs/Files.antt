@@ -2,6 +2,7 @@
 use Rattle.std.proofs.Common.{◌≡◌, ℕ, zero, suc, ◌+◌, ◌-◌, ◌*◌, ◌^◌, ◌<◌, ◌≤◌, List, [], ◌∷◌, ◌++◌, length, map, Some, refl, sym, ◌∙◌, subst, inl, inr, arith}
 use Rattle.std.specs.Prelude.{slice_get, slice_index}
 use Rattle.std.specs.List.{AllByRecursion, Contains}
+use Rattle.std.proofs.Math.Nat.{mul-add}
 use Rattle.std.proofs.lemmas.Bool.{cases_Bool}
 use Rattle.std.proofs.lemmas.List.{length-map}
 use Rattle.implib.specs.Formats.Object.{ObjectSymbol}
@@ -13,13 +14,13 @@ use Rattle.implib.specs.declared.machine.MachineType.{MachineType}
 use Rattle.implib.proofs.Link.LinkedMembers.{among_map}
 use Rattle.implib.proofs.Link.Ranges.{all_among, among_back}
 use Rattle.implib_image.specs.Files.{DataDirectory, LoadsFile, MappedFile, WritesFrom}
-use Rattle.implib_image.specs.Laws.{IsFileOf, IsInDirectory}
+use Rattle.implib_image.specs.Laws.{HasTable, IsFileOf, IsInDirectory, thunks_with_nulls}
 use Rattle.implib_link.specs.Gnu.Fields.{AreLinkedBeside, DefinesIn, LinkedCode, range_of_code, ranges_of_codes}
 use Rattle.implib_link.specs.Gnu.Loaded.{Writes}
 use Rattle.implib_link.specs.Gnu.Operands.{AllLead, AreKept}
 use Rattle.implib_link.specs.Gnu.Reading.{ReadsAndWrites}
 use Rattle.implib_link.specs.Gnu.Stored.{AreFurtherHeld, HoldAddress}
-use Rattle.implib_link.specs.Tables.{AreSteady, AreTables, AreTablesLoaded, CanReadFrom, IsInTable, Table, TableEntry, Tables, imported_by_table}
+use Rattle.implib_link.specs.Tables.{AreSteady, AreTables, AreTablesLoaded, Block, CanReadFrom, IsInTable, Table, TableEntry, Tables, imported_by_table, packed_tables}
 use Rattle.implib_link.proofs.Gnu.Fields.{located_each}
 use Rattle.implib_link.proofs.Gnu.FieldsInMemory.{Rests, StoredRests, part_there, same_pages}
 use Rattle.implib_link.proofs.Gnu.Keeps.{Keeps, bytes_kept, keeps_written, memory_can_be_read, memory_read, number_kept}
@@ -54,6 +55,17 @@ holds_keep memory (r ∷ ranges) all a b is =
       | inr outside ↦ holds_keep memory ranges all.1 a b (rw outside at is)
     ]
 
+-- Tables that follow one another are in a directory with room for them.
+pub packed_inside : (width address : ℕ) (blocks : List Block) (d : DataDirectory) → d.address ≤ address → address + width * thunks_with_nulls blocks ≤ d.address + d.size →
+    AllByRecursion (HasTable width d) (packed_tables width address blocks)
+packed_inside width address [] d from to = tt
+packed_inside width address (b ∷ blocks) d from to =
+    let own : ℕ = length b.entries in
+    let rest : ℕ = thunks_with_nulls blocks in
+    let whole : width * (own + 1 + rest) ≡ width * (own + 1) + width * rest = mul-add width (own + 1) rest in
+    let null : width * (own + 1) ≡ width * own + width * 1 = mul-add width own 1 in
+    ((from, omega arith), packed_inside width (address + width * (own + 1)) blocks d (omega arith) (omega arith))
+
 -- The file of import tables.
 module _ (machine : MachineType) (t : Tables) (bytes : List ℕ) (file : MappedFile) (gives : List ℕ → Ask → List ℕ) (tables : AreTables machine t) (own : IsFileOf machine t.directory t.image bytes file)
     (wide : (dll : List ℕ) (ask : Ask) → length (gives dll ask) ≡ thunk_width machine) where
@@ -83,12 +95,12 @@ module _ (machine : MachineType) (t : Tables) (bytes : List ℕ) (file : MappedF
       (found.0, subst (λ o. WritesFrom file gives o (length t.tables) found.0) (sym own.directory) reads)
 
   -- what is in tables that are in a directory
-  all_in : (d : DataDirectory) → AllByRecursion (λ (x : Table). (d.address ≤ x.address) × (x.address + thunk_width machine * length x.entries ≤ d.address + d.size)) t.tables → (written : List Range) →
+  all_in : (d : DataDirectory) → AllByRecursion (HasTable (thunk_width machine) d) t.tables → (written : List Range) →
       AllByRecursion (IsInTable (thunk_width machine) t.tables) written → AllByRecursion (IsInDirectory d) written
   all_in d inside [] within = tt
   all_in d inside (r ∷ written) within =
       let one = within.0 in
-      let bounds = all_among (λ (x : Table). (d.address ≤ x.address) × (x.address + thunk_width machine * length x.entries ≤ d.address + d.size)) one.table t.tables (contains_among one.table t.tables one.held) inside in
+      let bounds = all_among (HasTable (thunk_width machine) d) one.table t.tables (contains_among one.table t.tables one.held) inside in
       let low : d.address ≤ one.table.address = bounds.0 in
       let high : one.table.address + thunk_width machine * length one.table.entries ≤ d.address + d.size = bounds.1 in
       let from : one.table.address ≤ r.start = one.from in
@@ -96,7 +108,7 @@ module _ (machine : MachineType) (t : Tables) (bytes : List ℕ) (file : MappedF
       (record { from = omega arith; to = omega arith }, all_in d inside written within.1)
 
   pub file_writes_inside : (n : ℕ) (written : List Range) (d : DataDirectory) → LoadsFile file gives n written →
-      AllByRecursion (λ (x : Table). (d.address ≤ x.address) × (x.address + thunk_width machine * length x.entries ≤ d.address + d.size)) t.tables → AllByRecursion (IsInDirectory d) written
+      AllByRecursion (HasTable (thunk_width machine) d) t.tables → AllByRecursion (IsInDirectory d) written
   file_writes_inside n written d loads inside = all_in d inside written (file_loads n written loads).1.0.within
 
 -- The file of tables and code.

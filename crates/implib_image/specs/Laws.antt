@@ -1,5 +1,5 @@
 -- What holds of the files of linked programs.
-use Rattle.std.specs.Prelude.{◌≡◌, ℕ, ◌+◌, ◌*◌, ◌^◌, ◌<◌, ◌≤◌, List, ◌++◌, Some, Ok, length, map, slice_get}
+use Rattle.std.specs.Prelude.{◌≡◌, ℕ, ◌+◌, ◌*◌, ◌^◌, ◌<◌, ◌≤◌, List, [], ◌∷◌, ◌++◌, Some, Ok, length, map, slice_get}
 use Rattle.std.specs.List.{AllByRecursion, Contains}
 use Rattle.implib.specs.Formats.Object.{ObjectSymbol}
 use Rattle.implib.specs.Import.{Ask}
@@ -13,7 +13,7 @@ use Rattle.implib_link.specs.Gnu.Fields.{AreLinkedBeside, DefinesIn, LinkedCode,
 use Rattle.implib_link.specs.Gnu.Loaded.{Writes}
 use Rattle.implib_link.specs.Gnu.Operands.{AllLead, AreKept}
 use Rattle.implib_link.specs.Gnu.Stored.{AreFurtherHeld, HoldAddress}
-use Rattle.implib_link.specs.Tables.{AreSteady, AreTables, AreTablesLoaded, CanReadFrom, Table, TableEntry, Tables, imported_by_table}
+use Rattle.implib_link.specs.Tables.{AreSteady, AreTables, AreTablesLoaded, Block, CanReadFrom, Table, TableEntry, Tables, imported_by_table, packed_tables}
 
 -- A file is that of what was linked:
 -- `mapped`: its headers are read, and its sections are in it;
@@ -81,6 +81,11 @@ pub record IsInDirectory (d : DataDirectory) (r : Range) : Type 0 where
   pub from : d.address ≤ r.start
   pub to : range_end r ≤ d.address + d.size
 
+-- a data directory has the entries of a table
+abbrev pub HasTable : ℕ → DataDirectory → Table → Type 0
+HasTable width d x =
+    (d.address ≤ x.address) × (x.address + width * length x.entries ≤ d.address + d.size)
+
 -- Where data directory 12 has the address tables, such a loader writes nothing outside it.
 abbrev pub WritesAreInDirectory : Type 0
 WritesAreInDirectory = (machine : MachineType) (t : Tables) (bytes : List ℕ) (file : MappedFile)
@@ -88,7 +93,17 @@ WritesAreInDirectory = (machine : MachineType) (t : Tables) (bytes : List ℕ) (
     → AreTables machine t → IsFileOf machine t.directory t.image bytes file
     → ((dll : List ℕ) (ask : Ask) → length (gives dll ask) ≡ thunk_width machine)
     → LoadsFile file gives n written → file.addresses ≡ Some d
-    → AllByRecursion
-    (λ (x : Table). (d.address ≤ x.address)
-    × (x.address + thunk_width machine * length x.entries ≤ d.address + d.size)) t.tables
+    → AllByRecursion (HasTable (thunk_width machine) d) t.tables
     → AllByRecursion (IsInDirectory d) written
+
+-- how many thunks the tables of blocks have, with the null thunk of each
+abbrev pub thunks_with_nulls : List Block → ℕ
+thunks_with_nulls [] = 0
+thunks_with_nulls (b ∷ blocks) = length b.entries + 1 + thunks_with_nulls blocks
+
+-- Tables that follow one another, each behind the null thunk of the one before it, are in a
+-- directory that begins where they do, or before, and has room for these thunks.
+abbrev pub PackedTablesAreInDirectory : Type 0
+PackedTablesAreInDirectory = (width address : ℕ) (blocks : List Block) (d : DataDirectory)
+    → d.address ≤ address → address + width * thunks_with_nulls blocks ≤ d.address + d.size
+    → AllByRecursion (HasTable width d) (packed_tables width address blocks)

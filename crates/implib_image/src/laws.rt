@@ -1,7 +1,7 @@
 //! Laws of files of linked programs. The functions do nothing: their contracts are the laws.
 
 ghost use Rattle.implib_image.specs.Laws.{FieldsLeadInFiles, FilesHoldAddresses, FilesLoad};
-ghost use Rattle.implib_image.specs.Laws.{WritesAreInDirectory};
+ghost use Rattle.implib_image.specs.Laws.{PackedTablesAreInDirectory, WritesAreInDirectory};
 
 /// A loader that begins with the file of any import tables, as Windows does, loads exactly what
 /// they import.
@@ -24,4 +24,10 @@ pub fn files_hold_addresses()
 /// Where data directory 12 has the address tables, such a loader writes nothing outside it.
 pub fn writes_are_in_directory()
     ensures { WritesAreInDirectory }
+{}
+
+/// Tables that follow one another, as all the linkers here place them, are in a directory that
+/// begins where they do and has room for their entries and null thunks.
+pub fn packed_tables_are_in_directory()
+    ensures { PackedTablesAreInDirectory }
 {}

@@ -46,7 +46,7 @@ i386_tables = lld_tables I386 0x2000 (addresses_on I386) (shorts_on I386) (lld_i
 
 i386_file : WorkedFile I386 0x2050 0x14
 unfolding lld_opened file_opened
-i386_file = record { is = i386_is; beside = i386_beside; further = i386_further; tables = i386_tables; addresses = refl; inside = ((omega arith, omega arith), ((omega arith, omega arith), tt)) }
+i386_file = record { is = i386_is; beside = i386_beside; further = i386_further; tables = i386_tables; addresses = refl; inside = ((omega arith, omega arith), ((omega arith, omega arith), tt)); exact = refl }
 
 pub amd64_is : IsFileOf AMD64 0x2000 (lld_image_on AMD64 ++ ranges_of_codes (holding_codes AMD64)) (file_on AMD64) (mapped_on AMD64)
 unfolding lld_opened file_opened
@@ -57,7 +57,7 @@ amd64_tables = lld_tables AMD64 0x2000 (addresses_on AMD64) (shorts_on AMD64) (l
 
 amd64_file : WorkedFile AMD64 0x2068 0x28
 unfolding lld_opened file_opened
-amd64_file = record { is = amd64_is; beside = amd64_beside; further = amd64_further; tables = amd64_tables; addresses = refl; inside = ((omega arith, omega arith), ((omega arith, omega arith), tt)) }
+amd64_file = record { is = amd64_is; beside = amd64_beside; further = amd64_further; tables = amd64_tables; addresses = refl; inside = ((omega arith, omega arith), ((omega arith, omega arith), tt)); exact = refl }
 
 pub arm64_is : IsFileOf ARM64 0x2000 (lld_image_on ARM64 ++ ranges_of_codes (holding_codes ARM64)) (file_on ARM64) (mapped_on ARM64)
 unfolding lld_opened file_opened
@@ -68,7 +68,7 @@ arm64_tables = lld_tables ARM64 0x2000 (addresses_on ARM64) (shorts_on ARM64) (l
 
 arm64_file : WorkedFile ARM64 0x2068 0x28
 unfolding lld_opened file_opened
-arm64_file = record { is = arm64_is; beside = arm64_beside; further = arm64_further; tables = arm64_tables; addresses = refl; inside = ((omega arith, omega arith), ((omega arith, omega arith), tt)) }
+arm64_file = record { is = arm64_is; beside = arm64_beside; further = arm64_further; tables = arm64_tables; addresses = refl; inside = ((omega arith, omega arith), ((omega arith, omega arith), tt)); exact = refl }
 
 pub worked_files : WorkedFiles
 unfolding file_opened

@@ -30,6 +30,9 @@ near_is_in_directory = record {
   last = record { from = omega arith; to = omega arith };
   from = λ x. (let from : 0x2068 ≤ 0x2067 = x.from in omega arith);
   to = λ x. (let to : 0x2091 ≤ 0x2090 = x.to in omega arith);
+  table = (omega arith, omega arith);
+  table_short = λ x. (let to : 0x2078 ≤ 0x2077 = x.1 in omega arith);
+  table_before = λ x. (let from : 0x2069 ≤ 0x2068 = x.0 in omega arith);
 }
 
 pub worked_headers : (gives : List ℕ → Ask → List ℕ) → WorkedHeaders gives

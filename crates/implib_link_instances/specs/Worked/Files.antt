@@ -1,17 +1,18 @@
 -- Files that linkers wrote, as a loader maps them: those of Worked/Stored by lld-link 14.0.6,
 -- whole, for three machines; and one by GNU ld 2.40 for AMD64, of an object by gcc 12 with a
 -- library of implib_dlltool and one of GNU dlltool, whole.
-use Rattle.std.specs.Prelude.{◌≡◌, ℕ, ◌+◌, ◌-◌, ◌*◌, ◌≤◌, List, [], ◌∷◌, ◌++◌, length, None, Some}
+use Rattle.std.specs.Prelude.{◌≡◌, ℕ, ◌-◌, ◌*◌, List, [], ◌∷◌, ◌++◌, length, map, None, Some}
 use Rattle.std.specs.List.{AllByRecursion}
 use Rattle.implib.specs.declared.machine.MachineType.{MachineType}
 use Rattle.implib.specs.declared.machine.MachineType.TheVariants.{I386, ARMNT, AMD64, ARM64}
 use Rattle.implib.specs.Members.ImportTables.{thunk_width, zeros}
 use Rattle.implib_dll.specs.Digits.{hex}
 use Rattle.implib_image.specs.Files.{MappedFile}
-use Rattle.implib_image.specs.Laws.{IsFileOf}
+use Rattle.implib_image.specs.Laws.{HasTable, IsFileOf, thunks_with_nulls}
+use Rattle.implib_link.specs.Flavors.LldImports.{grouped}
 use Rattle.implib_link.specs.Gnu.Fields.{AreLinkedBeside, ranges_of_codes}
 use Rattle.implib_link.specs.Gnu.Stored.{AreFurtherHeld}
-use Rattle.implib_link.specs.Tables.{AreTables, Table, Tables, tables_of_lld}
+use Rattle.implib_link.specs.Tables.{AreTables, Tables, block_of_group, tables_of_lld}
 use Rattle.implib_link_instances.specs.Worked.LldPrograms.{addresses_on, linked_thunk, lld_image_on, shorts_on, tables_on}
 use Rattle.implib_link_instances.specs.Worked.Stored.{held_linked, holding_codes, holding_placed, holding_targets, picking_linked, unwind_linked}
 
@@ -198,7 +199,7 @@ mapped_on ARM64 = record {
 }
 
 -- The file is that of the program of Worked/Stored, with its code, at the base that it has; the
--- program's tables are in data directory 12.
+-- program's tables are in data directory 12, which has just the room that they need.
 abbrev pub tables_in : MachineType → Tables
 tables_in machine =
     tables_of_lld machine 0x2000 (addresses_on machine) (shorts_on machine) (lld_image_on machine)
@@ -215,9 +216,10 @@ pub record WorkedFile (machine : MachineType) (address size : ℕ) : Type 0 wher
   pub tables : AreTables machine (tables_in machine)
   pub addresses : (mapped_on machine).addresses ≡ Some (record { address = address; size = size })
   pub inside : AllByRecursion
-      (λ (x : Table). (address ≤ x.address)
-      × (x.address + thunk_width machine * length x.entries ≤ address + size))
+      (HasTable (thunk_width machine) (record { address = address; size = size }))
       (tables_in machine).tables
+  pub exact : size
+      ≡ thunk_width machine * thunks_with_nulls (map block_of_group (grouped (shorts_on machine)))
 
 -- The file of GNU ld: its headers and its sections. Data directory 1 has all of `.idata`, 12 the
 -- address tables in it.

@@ -1,14 +1,15 @@
 -- Near misses of files of linked programs: the files of Worked/Files with single bytes changed. A
 -- record `NearX` has those of `X`, each by the name of the field that refuses it.
-use Rattle.std.specs.Prelude.{◌≡◌, ℕ, List, [], ◌∷◌, drop, None, Ok, Some}
+use Rattle.std.specs.Prelude.{◌≡◌, ℕ, List, [], ◌∷◌, codes, drop, None, Ok, Some}
 use Rattle.implib.specs.declared.machine.MachineType.TheVariants.{I386, AMD64, ARM64}
-use Rattle.implib.specs.Import.{Ask}
+use Rattle.implib.specs.Import.{Ask, Ordinal}
 use Rattle.implib.specs.Link.Image.{Range}
 use Rattle.implib.specs.Members.ImportTables.{zeros}
 use Rattle.implib_dll.specs.Digits.{changed}
 use Rattle.implib_dll.specs.WorkedFiles.{worked_pe32}
 use Rattle.implib_image.specs.Files.{DataDirectory, LoadsFile, MappedFile, mapped_file}
-use Rattle.implib_image.specs.Laws.{IsFileOf, IsInDirectory}
+use Rattle.implib_image.specs.Laws.{HasTable, IsFileOf, IsInDirectory}
+use Rattle.implib_link.specs.Tables.{Table}
 use Rattle.implib_link_instances.specs.Worked.Files.{amd64_pdata, amd64_reloc, data_on, file_on, mapped_on, rdata_on, text_on}
 use Rattle.implib_link_instances.specs.Worked.LldPrograms.{lld_image_on}
 
@@ -55,11 +56,24 @@ address_tables = record { address = 0x2068; size = 0x28 }
 abbrev pub eight_from : ℕ → Range
 eight_from start = record { start = start; bytes = 0 ∷ 0 ∷ 0 ∷ 0 ∷ 0 ∷ 0 ∷ 0 ∷ 0 ∷ [] }
 
+-- a table with two entries
+abbrev pub two_entries : Table
+two_entries = record {
+  dll = codes "beta.dll";
+  address = 0x2068;
+  entries = record { ask = Ordinal 7; symbol = None } ∷ record { ask = Ordinal 8; symbol = None }
+    ∷ [];
+}
+
 pub record NearIsInDirectory : Type 0 where
   pub first : IsInDirectory address_tables (eight_from 0x2068)
   pub last : IsInDirectory address_tables (eight_from 0x2088)
   pub from : IsInDirectory address_tables (eight_from 0x2067) → ⊥
   pub to : IsInDirectory address_tables (eight_from 0x2089) → ⊥
+  -- of the table, in a directory with room for it, in one a byte shorter, and in one a byte behind
+  pub table : HasTable 8 (record { address = 0x2068; size = 0x10 }) two_entries
+  pub table_short : HasTable 8 (record { address = 0x2068; size = 0x0F }) two_entries → ⊥
+  pub table_before : HasTable 8 (record { address = 0x2069; size = 0x28 }) two_entries → ⊥
 
 -- a DLL with a `.bss` of 16 bytes and one data directory, mapped
 abbrev pub mapped_pe32 : MappedFile
