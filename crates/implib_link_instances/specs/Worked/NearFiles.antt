@@ -62,7 +62,7 @@ two_entries = record {
   dll = codes "beta.dll";
   address = 0x2068;
   entries = record { ask = Ordinal 7; symbol = None } ∷ record { ask = Ordinal 8; symbol = None }
-    ∷ [];
+      ∷ [];
 }
 
 pub record NearIsInDirectory : Type 0 where
