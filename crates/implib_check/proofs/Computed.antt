@@ -4,6 +4,10 @@ use Rattle.implib_check.specs.Worked.{WorkedIdentities, WorkedStatuses, WorkedTa
 use Rattle.implib_rules.specs.Names.{part_after_last}
 use Rattle.implib_check.specs.WorkedChecks.{WorkedChecks, WorkedTargets}
 use Rattle.implib_check.specs.WorkedJson.{WorkedJson}
+use Rattle.implib_check.specs.WorkedStarting.{WorkedStarting}
+use Rattle.implib_dll.specs.Exports.{exports_in}
+use Rattle.implib_dll.specs.Headers.{header_for, signature_in}
+use Rattle.implib_dll.specs.Lookup.{order_at, searched}
 use Rattle.implib_check.specs.WorkedTogether.{WorkedTogether}
 use Rattle.implib_check.specs.WorkedDefinitions.{WorkedDefines, WorkedDefinitions}
 use Rattle.std.specs.Fmt.{digits}
@@ -215,4 +219,35 @@ worked_json = record {
   line = refl;
   nested_line = refl;
   escaped_line = refl;
+}
+
+pub worked_starting : WorkedStarting
+unfolding chars digits encode_utf8 exports_in header_for is_utf8 order_at searched serde_json_on_literals signature_in utf8_valid_len
+worked_starting = record {
+  one_folder = refl;
+  two_folders = refl;
+  in_json = refl;
+  no_folder = refl;
+  no_program = refl;
+  any_case = refl;
+  second_folder = refl;
+  other_ending = refl;
+  no_file = refl;
+  met = refl;
+  unmet = refl;
+  other_machine = refl;
+  nothing_exported = refl;
+  refused = refl;
+  nothing = refl;
+  unasked = refl;
+  missing = refl;
+  missing_first = refl;
+  refused_first = refl;
+  refused_last = refl;
+  program = refl;
+  no_image = refl;
+  no_file_object = refl;
+  name_object = refl;
+  ordinal_object = refl;
+  machine_object = refl;
 }

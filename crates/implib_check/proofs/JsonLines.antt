@@ -7,12 +7,14 @@ use Rattle.std.specs.declared.cmp.Ordering.TheVariants.{Less, Equal, Greater}
 use Rattle.std.proofs.lemmas.Bool.{or_parts}
 use Rattle.implib.specs.Import.{Ask, Name, Ordinal}
 use Rattle.implib_dll.specs.Exports.{Target, Empty, Address, Forwarder}
+use Rattle.implib_dll.specs.Imports.{Ask as Asked, ByName, ByOrdinal}
 use Rattle.implib_dll_check.specs.declared.import.Loss.{Loss}
 use Rattle.implib.specs.declared.def.position.Position.{Position}
 use Rattle.implib_read.specs.Classes.{Class, AnImport, AnAlias, Descriptor, NullDescriptor, NullThunk, Head, Tail, DelayImport, Other, NotUnderstood, MemberRead}
 use Rattle.serde_json.specs.Data.{Data, Members, member, no_members, number, put, string, unsigned}
 use Rattle.serde_json.specs.Written.{has_float, members_have_float}
 use Rattle.implib_check.specs.Json.{Clash, CutApart, Different, FaultOf, FaultView, FindingView, InDefinition, InLibrary, Listed, Missing, MisleadingEntry, NoIndex, NotOnePart, SeveralDlls, SideView, SiteView, UnreadableIndex}
+use Rattle.implib_check.specs.Json.{LostIn, NoFile, UnmetBy, UnmetView, with_ask_of, with_program, with_unmet}
 use Rattle.implib_check.specs.Json.{ExportView, Exported, Lost, Searched, Unasked, address_word, loss_words, with_export, with_loss, with_named, with_target}
 use Rattle.implib_check.specs.Json.{kind_word, object_of, piece_words, side_object, site_object, text_of, what_of, with_asked, with_class, with_fault, with_finding, with_member, with_name, with_number, with_position, with_side, with_sides, with_site, with_word}
 
@@ -149,6 +151,19 @@ loss_floatless side dll loss fields others =
     side_floatless side (with_word (codes "dll_file") dll why)
     (word_floatless (codes "dll_file") dll why (word_floatless (codes "why") (loss_words loss) fields others))
 
+ask_of_floatless : (ask : Option Asked) (fields : Members) → AreFloatless fields → AreFloatless (with_ask_of ask fields)
+ask_of_floatless None fields others = others
+ask_of_floatless (Some (ByName name hint)) fields others =
+    number_floatless (codes "hint") hint (with_name (codes "name") name fields) (name_floatless (codes "name") name fields others)
+ask_of_floatless (Some (ByOrdinal ordinal)) fields others = number_floatless (codes "ordinal") ordinal fields others
+
+unmet_floatless : (unmet : UnmetView) (fields : Members) → AreFloatless fields → AreFloatless (with_unmet unmet fields)
+unmet_floatless NoFile fields others = word_floatless (codes "why") (codes "no file") fields others
+unmet_floatless (LostIn path loss ask) fields others =
+    let why = with_word (codes "why") (loss_words loss) fields in
+    ask_of_floatless ask (with_word (codes "dll_file") path why)
+    (word_floatless (codes "dll_file") path why (word_floatless (codes "why") (loss_words loss) fields others))
+
 finding_floatless : (f : FindingView) (fields : Members) → AreFloatless fields → AreFloatless (with_finding f fields)
 finding_floatless (Listed side) fields others = side_floatless side fields others
 finding_floatless (Different here there) fields others =
@@ -164,6 +179,10 @@ finding_floatless (Searched site count) fields others =
     number_floatless (codes "count") count (with_site site fields) (site_floatless site fields others)
 finding_floatless (Unasked path export) fields others = export_floatless path export fields others
 finding_floatless (Exported path export) fields others = export_floatless path export fields others
+finding_floatless (UnmetBy program dll unmet) fields others =
+    let of_program = with_word (codes "program") program fields in
+    unmet_floatless unmet (with_name (codes "dll") dll of_program)
+    (name_floatless (codes "dll") dll of_program (word_floatless (codes "program") program fields others))
 
 pub object_floatless : (f : FindingView) → has_float (object_of f) ≡ false
 object_floatless f =

@@ -18,10 +18,12 @@ use Rattle.implib_check.specs.declared.defining.Undefined.{Undefined}
 use Rattle.implib_compare.specs.Meant.{IsRefusalFor, IsVerdictOn}
 use Rattle.implib_compare.specs.declared.compare.Verdict.{Verdict}
 use Rattle.implib_rules.specs.declared.library.Refusal.{Refusal}
-use Rattle.implib_check.specs.Tasks.{Checks, Compares, Defines, Help, Identifies, Joins, Lists, ListsExports, TaskView, Version, WorksOf}
+use Rattle.implib_check.specs.Tasks.{Checks, Compares, Defines, Help, Identifies, Joins, Lists, ListsExports, Searches, TaskView, Version, WorksOf}
 use Rattle.implib_dll.specs.Exports.{Exports, exports_in}
+use Rattle.implib_dll.specs.Imports.{imports_in}
 use Rattle.implib_dll.specs.Outcome.{Read}
 use Rattle.implib_dll.specs.declared.section.Layout.TheVariants.{File}
+use Rattle.implib_check.specs.Starting.{AreKnown, listings, program_status}
 use Rattle.implib_check.specs.Status.{comparison_status, identity_status, list_status, no_library_status, refusal_status, undefined_status}
 
 -- a library is that of these bytes
@@ -153,17 +155,26 @@ abbrev pub AnswersBeside : CheckView → Option (List ℕ) → Option (List ℕ)
 AnswersBeside check first second status =
     OrFailed status (IfSome first (λ f. IfSome second (λ d. IsAnswerWith check f d status)))
 
+-- What is said of the status of a program beside folders, where the bytes of all files and the names in all folders are
+-- known.
+abbrev pub AnswersProgram : (List ℕ → Option (List ℕ)) → (List ℕ → Option (List (List ℕ))) → List ℕ → List (List ℕ) → ℕ
+    → Type 0
+AnswersProgram seen listed program folders status =
+    (file : List ℕ → List ℕ) (names : List ℕ → List (List ℕ)) → AreKnown seen file → AreKnown listed names
+    → OrFailed status (status ≡ program_status file (listings names folders) (imports_in File (file program)))
+
 -- the status of what a command line asks for: 2 where it asks for nothing
-abbrev pub AnswersTask : (List ℕ → Option (List ℕ)) → Option TaskView → ℕ → Type 0
-AnswersTask seen None status = status ≡ 2
-AnswersTask seen (Some (Lists path)) status = AnswersOf listed (seen path) status
-AnswersTask seen (Some (ListsExports path)) status = AnswersExports (seen path) status
-AnswersTask seen (Some (Identifies path strictly)) status = AnswersOf (identified strictly) (seen path) status
-AnswersTask seen (Some (WorksOf path)) status = AnswersOf worked (seen path) status
-AnswersTask seen (Some (Compares left right)) status = AnswersOfBoth (seen left) (seen right) status
-AnswersTask seen (Some Help) status = OrFailed status (status ≡ 0)
-AnswersTask seen (Some Version) status = OrFailed status (status ≡ 0)
-AnswersTask seen (Some (Defines define)) status = AnswersDefine define (seen define.library) status
+abbrev pub AnswersTask : (List ℕ → Option (List ℕ)) → (List ℕ → Option (List (List ℕ))) → Option TaskView → ℕ → Type 0
+AnswersTask seen names None status = status ≡ 2
+AnswersTask seen names (Some (Lists path)) status = AnswersOf listed (seen path) status
+AnswersTask seen names (Some (ListsExports path)) status = AnswersExports (seen path) status
+AnswersTask seen names (Some (Identifies path strictly)) status = AnswersOf (identified strictly) (seen path) status
+AnswersTask seen names (Some (WorksOf path)) status = AnswersOf worked (seen path) status
+AnswersTask seen names (Some (Compares left right)) status = AnswersOfBoth (seen left) (seen right) status
+AnswersTask seen names (Some Help) status = OrFailed status (status ≡ 0)
+AnswersTask seen names (Some Version) status = OrFailed status (status ≡ 0)
+AnswersTask seen names (Some (Defines define)) status = AnswersDefine define (seen define.library) status
 -- of libraries in one link the status is that of `Status`, by what is found
-AnswersTask seen (Some (Joins paths)) status = Unit {0}
-AnswersTask seen (Some (Checks check)) status = AnswersBeside check (seen check.library) (seen check.definition) status
+AnswersTask seen names (Some (Joins paths)) status = Unit {0}
+AnswersTask seen names (Some (Checks check)) status = AnswersBeside check (seen check.library) (seen check.definition) status
+AnswersTask seen names (Some (Searches path folders)) status = AnswersProgram seen names path folders status

@@ -4,7 +4,8 @@ use Rattle.std.specs.Option.{option_map}
 use Rattle.std.specs.Str.Lossy.{replacement_bytes, utf8_valid_len}
 use Rattle.implib.specs.Import.{Ask, Name, Ordinal}
 use Rattle.implib_dll.specs.Exports.{Target, Empty, Address, Forwarder}
-use Rattle.implib_dll.specs.Views.{target_view}
+use Rattle.implib_dll.specs.Imports.{Ask as Asked, ByName, ByOrdinal}
+use Rattle.implib_dll.specs.Views.{ask_view, target_view}
 use Rattle.implib_dll.specs.declared.section.AddressKind.{AddressKind}
 use Rattle.implib_dll.specs.declared.section.AddressKind.TheVariants as address
 use Rattle.implib_dll_check.specs.declared.import.Loss.{Loss}
@@ -27,6 +28,8 @@ use Rattle.implib_check.specs.declared.finding.Fault.TheVariants as fault
 use Rattle.implib_check.specs.declared.finding.Finding.{Finding}
 use Rattle.implib_check.specs.declared.finding.Finding.TheVariants as finding
 use Rattle.implib_check.specs.declared.finding.Side.{Side}
+use Rattle.implib_check.specs.declared.finding.Unmet.{Unmet}
+use Rattle.implib_check.specs.declared.finding.Unmet.TheVariants as unmet
 use Rattle.implib_check.specs.declared.text.Site.{Site}
 use Rattle.implib_check.specs.declared.text.Site.TheVariants as site
 use Rattle.implib_compare.specs.declared.working.Piece.{Piece}
@@ -60,6 +63,12 @@ pub record ExportView : Type 0 where
   pub target : Target
   pub name : Option (ℕ × List ℕ)
 
+-- why a program does not find what it imports from a DLL: no folder has it; or in the DLL of a file this is lost, of one ask
+-- or of all
+pub data UnmetView : Type 0 where
+  NoFile : UnmetView
+  LostIn : List ℕ → Loss → Option Asked → UnmetView
+
 -- what is found
 pub data FindingView : Type 0 where
   Listed : SideView → FindingView
@@ -71,6 +80,7 @@ pub data FindingView : Type 0 where
   Searched : SiteView → ℕ → FindingView
   Unasked : List ℕ → ExportView → FindingView
   Exported : List ℕ → ExportView → FindingView
+  UnmetBy : List ℕ → List ℕ → UnmetView → FindingView
 
 -- the views of what the program has
 abbrev pub site_view : Site → SiteView
@@ -95,6 +105,10 @@ export_view e = record {
   name = option_map (λ found. (found.0, found.1.now)) e.name;
 }
 
+abbrev pub unmet_view : Unmet → UnmetView
+unmet_view unmet.NoFile = NoFile
+unmet_view (unmet.Lost path loss ask) = LostIn path.now loss (option_map ask_view ask)
+
 abbrev pub finding_view : Finding → FindingView
 finding_view (finding.Listed side) = Listed (side_view side)
 finding_view (finding.Different here there) = Different (side_view here) (side_view there)
@@ -105,6 +119,7 @@ finding_view (finding.Lost side dll loss) = Lost (side_view side) dll.now loss
 finding_view (finding.Searched site count) = Searched (site_view site) count
 finding_view (finding.Unasked path export) = Unasked path.now (export_view export)
 finding_view (finding.Exported path export) = Exported path.now (export_view export)
+finding_view (finding.Unmet program dll unmet) = UnmetBy program.now dll.now (unmet_view unmet)
 
 -- Names and words.
 
@@ -180,6 +195,7 @@ what_of (Lost side dll loss) = codes "lost"
 what_of (Searched site count) = codes "searched"
 what_of (Unasked path export) = codes "unasked"
 what_of (Exported path export) = codes "export"
+what_of (UnmetBy program dll unmet) = codes "unmet"
 
 -- Objects: the fields of a part, with those that are there.
 
@@ -278,6 +294,23 @@ with_export path e fields =
 abbrev pub with_loss : SideView → List ℕ → Loss → Members → Members
 with_loss side dll loss fields = with_side side (with_word (codes "dll_file") dll (with_word (codes "why") (loss_words loss) fields))
 
+-- what a program asks a DLL for, if that is told
+abbrev pub with_ask_of : Option Asked → Members → Members
+with_ask_of None fields = fields
+with_ask_of (Some (ByName name hint)) fields = with_number (codes "hint") hint (with_name (codes "name") name fields)
+with_ask_of (Some (ByOrdinal ordinal)) fields = with_number (codes "ordinal") ordinal fields
+
+-- why a program does not find what it imports from a DLL
+abbrev pub with_unmet : UnmetView → Members → Members
+with_unmet NoFile fields = with_word (codes "why") (codes "no file") fields
+with_unmet (LostIn path loss ask) fields =
+    with_ask_of ask (with_word (codes "dll_file") path (with_word (codes "why") (loss_words loss) fields))
+
+-- the file of a program, a DLL that it imports from, and what it does not find there
+abbrev pub with_program : List ℕ → List ℕ → UnmetView → Members → Members
+with_program program dll unmet fields =
+    with_unmet unmet (with_name (codes "dll") dll (with_word (codes "program") program fields))
+
 -- what is found
 abbrev pub with_finding : FindingView → Members → Members
 with_finding (Listed side) fields = with_side side fields
@@ -289,6 +322,7 @@ with_finding (Lost side dll loss) fields = with_loss side dll loss fields
 with_finding (Searched site count) fields = with_number (codes "count") count (with_site site fields)
 with_finding (Unasked path export) fields = with_export path export fields
 with_finding (Exported path export) fields = with_export path export fields
+with_finding (UnmetBy program dll unmet) fields = with_program program dll unmet fields
 
 -- The object of what is found.
 abbrev pub object_of : FindingView → Data

@@ -11,6 +11,7 @@ pub mod OwnTables
 pub mod Tasks
 pub mod Json
 pub mod Together
+pub mod Starting
 pub mod Status
 pub mod Worked
 pub mod WorkedAgainst
@@ -18,5 +19,6 @@ pub mod WorkedChecks
 pub mod WorkedDefinitions
 pub mod WorkedExportAs
 pub mod WorkedJson
+pub mod WorkedStarting
 pub mod WorkedTogether
 pub mod Answers

@@ -27,6 +27,8 @@ pub data TaskView : Type 0 where
   Checks : CheckView → TaskView
   -- the definition of a library
   Defines : DefineView → TaskView
+  -- whether a program finds what it imports in the DLLs of folders
+  Searches : List ℕ → List (List ℕ) → TaskView
 
 -- the view of a task of the program
 abbrev pub task_view : Task → TaskView
@@ -40,6 +42,7 @@ task_view (task.Same left right) = Compares left.now right.now
 task_view (task.Together paths) = Joins (map string_bytes paths.now)
 task_view (task.Check check) = Checks (check_view check)
 task_view (task.Define define) = Defines (define_view define)
+task_view (task.Program path folders) = Searches path.now (map string_bytes folders.now)
 
 -- the task of a word alone
 abbrev pub alone : List ℕ → Option TaskView
@@ -76,6 +79,14 @@ with_all [] = None
 with_all (path ∷ []) = None
 with_all (path ∷ other ∷ paths) = Some (Joins (path ∷ other ∷ paths))
 
+-- what a program finds in folders: its file, a word, and one folder or more
+abbrev pub with_folders : List (List ℕ) → Option TaskView
+with_folders [] = None
+with_folders (path ∷ []) = None
+with_folders (path ∷ option ∷ []) = None
+with_folders (path ∷ option ∷ folder ∷ folders) =
+    if bytes_eq option (codes "--search") then Some (Searches path (folder ∷ folders)) else None
+
 -- what words ask for that name files and options: behind `--def` a definition, behind `--together` what libraries do to
 -- each other, else a comparison with a definition
 abbrev pub with_files : List (List ℕ) → Option TaskView
@@ -87,7 +98,7 @@ with_files (first ∷ rest) =
 
 -- what the words after the program's name ask for
 abbrev pub task_named : List (List ℕ) → Option TaskView
-task_named words = option_or (task_by_name words) (with_files words)
+task_named words = option_or (task_by_name words) (option_or (with_folders words) (with_files words))
 
 -- whether a word asks for JSON
 abbrev pub is_json_word : List ℕ → Bool
@@ -113,6 +124,7 @@ has_json_form (Compares left right) = true
 has_json_form (Joins paths) = true
 has_json_form (Checks check) = true
 has_json_form (Defines define) = false
+has_json_form (Searches path folders) = true
 
 -- a task, if it has the form that is asked for
 abbrev pub in_form : Bool → TaskView → Option TaskView

@@ -32,6 +32,21 @@ use std::alloc::Global;
 use std::fmt;
 use std::io::{BufWriter, Write};
 
+/// Why a file is no image that is read.
+#[derive(Drop)]
+pub(crate) struct NoImage(pub Fault);
+
+impl fmt::Display for NoImage {
+    fn fmt<W: fmt::Write>(&self, f: &mut fmt::Formatter<W>) -> fmt::Result {
+        let offset = self.0.offset;
+        write!(
+            f,
+            "no program that can be read: {}, at {offset:#x}",
+            self.0.cause
+        )
+    }
+}
+
 // Why a file is no DLL that is read.
 #[derive(Drop)]
 struct NoDll(Fault);

@@ -6,7 +6,7 @@ ghost use Rattle.implib_check.specs.Json.{address_word, loss_words, piece_words}
 use crate::positions::Positions;
 use crate::text::{Listed, Place, Said, Shown, Site, symbol_of_member};
 use implib_compare::working::Piece;
-use implib_dll::{AddressKind, Target};
+use implib_dll::{AddressKind, Ask, Target};
 use implib_dll_check::Loss;
 use implib_read::{CutApart, IndexEntry, MemberRead};
 use std::fmt;
@@ -77,6 +77,15 @@ pub struct Export<'a> {
     pub name: Option<(usize, &'a [u8])>,
 }
 
+/// Why a program does not find what it imports from a DLL.
+#[derive(Clone, Copy)]
+pub enum Unmet<'q, 'a> {
+    /// No folder has the DLL.
+    NoFile,
+    /// In the DLL of this file, this is lost, or all of it.
+    Lost(&'q str, Loss, Option<Ask<'a>>),
+}
+
 /// What is found.
 #[derive(Clone, Copy)]
 pub enum Finding<'p, 'q, 'm, 'a> {
@@ -98,6 +107,8 @@ pub enum Finding<'p, 'q, 'm, 'a> {
     Unasked(&'p str, Export<'a>),
     /// An export of the DLL of this file.
     Exported(&'p str, Export<'a>),
+    /// The file of a program, a DLL that it imports from, and what it does not find there.
+    Unmet(&'p str, &'a [u8], Unmet<'q, 'a>),
 }
 
 /// The words for a part of import tables.
@@ -152,6 +163,31 @@ fn index_words(number: u8) -> &'static str {
         "the index"
     } else {
         "the second index"
+    }
+}
+
+// What is asked for, in words.
+#[derive(Clone, Copy)]
+struct Asked<'a>(Ask<'a>);
+
+impl<'a> fmt::Display for Asked<'a> {
+    fn fmt<W: fmt::Write>(&self, f: &mut fmt::Formatter<W>) -> fmt::Result {
+        match self.0 {
+            Ask::Name { text, .. } => write!(f, "{}", Shown(text)),
+            Ask::Ordinal(ordinal) => write!(f, "ordinal {ordinal}"),
+        }
+    }
+}
+
+impl<'q, 'a> fmt::Display for Unmet<'q, 'a> {
+    fn fmt<W: fmt::Write>(&self, f: &mut fmt::Formatter<W>) -> fmt::Result {
+        match self {
+            Unmet::NoFile => f.write_str("no folder has it"),
+            Unmet::Lost(path, loss, Some(ask)) => {
+                write!(f, "asks for {}; {path} {}", Asked(*ask), loss_said(*loss))
+            }
+            Unmet::Lost(path, loss, None) => write!(f, "{path} {}", loss_said(*loss)),
+        }
     }
 }
 
@@ -264,6 +300,10 @@ impl<'p, 'q, 'm, 'a> fmt::Display for Finding<'p, 'q, 'm, 'a> {
                 write!(f, "{path}: no import asks for {}", Named(export))
             }
             Finding::Exported(_, export) => write!(f, "{export}"),
+            Finding::Unmet(program, dll, unmet) => {
+                let dll = Shown(dll);
+                write!(f, "{program}: imports from {dll}: {unmet}")
+            }
         }
     }
 }

@@ -6,8 +6,9 @@ ghost use Rattle.std.specs.String.{string_bytes};
 ghost use Rattle.implib_check.specs.Json.{class_word, fault_view, finding_view, line_of, object_of, side_object, side_view, site_object, site_view, text_of};
 ghost use Rattle.implib_check.specs.Json.{what_of, with_asked, with_class, with_fault, with_finding, with_member, with_name, with_number, with_position};
 ghost use Rattle.implib_check.specs.Json.{with_side, with_sides, with_site, with_word, CutApart as CutApartView, MisleadingEntry};
-ghost use Rattle.implib_check.specs.Json.{export_view, with_export, with_loss, with_named, with_target};
-ghost use Rattle.implib_dll.specs.Views.{target_view};
+ghost use Rattle.implib_check.specs.Json.{export_view, unmet_view, with_export, with_loss, with_named, with_target};
+ghost use Rattle.implib_check.specs.Json.{with_ask_of, with_program, with_unmet};
+ghost use Rattle.implib_dll.specs.Views.{ask_view as asked_view, target_view};
 ghost use Rattle.std.specs.Option.{option_map};
 ghost use Rattle.implib_read.specs.ClassViews.{class_view, member_read_view};
 ghost use Rattle.implib_read.specs.CuttingViews.{cut_apart_view};
@@ -15,10 +16,12 @@ ghost use Rattle.implib_read.specs.ImportViews.{ask_view};
 ghost use Rattle.implib_read.specs.IndexViews.{index_entry_view};
 ghost use Rattle.serde_json.specs.View.{members_view, view};
 
-use crate::finding::{Export, Fault, Finding, Side, address_word, loss_words, piece_words};
+use crate::finding::{
+    Export, Fault, Finding, Side, Unmet, address_word, loss_words, piece_words,
+};
 use crate::text::{Site, kind_word};
 use implib::def::Position;
-use implib_dll::Target;
+use implib_dll::{Ask, Target};
 use implib_dll_check::Loss;
 use implib_read::{AskFound, CutApart, IndexEntry, MemberClass, MemberRead};
 use serde_json::{Map, Value, put};
@@ -317,6 +320,49 @@ fn put_loss(
     put_side(fields, alloc, side)
 }
 
+// Adds what a program asks a DLL for, if that is told.
+fn put_ask_of(fields: &mut Fields, alloc: Global, ask: Option<Ask>) -> Result<(), AllocError>
+    ensures { OnOk result (members_view fields.new.entries ≡ with_ask_of (option_map asked_view ask.entry) (members_view fields.old.entries)) }
+{
+    match ask {
+        Some(Ask::Name { text, hint }) => {
+            put_name(fields, alloc, "name", text)?;
+            put_number(fields, alloc, "hint", hint as usize)
+        }
+        Some(Ask::Ordinal(ordinal)) => put_number(fields, alloc, "ordinal", ordinal as usize),
+        None => Ok(()),
+    }
+}
+
+// Adds why a program does not find what it imports.
+fn put_unmet(fields: &mut Fields, alloc: Global, unmet: &Unmet) -> Result<(), AllocError>
+    ensures { OnOk result (members_view fields.new.entries ≡ with_unmet (unmet_view unmet.now) (members_view fields.old.entries)) }
+{
+    match unmet {
+        Unmet::NoFile => put_word(fields, alloc, "why", "no file"),
+        Unmet::Lost(path, loss, ask) => {
+            put_word(fields, alloc, "why", loss_words(*loss))?;
+            put_word(fields, alloc, "dll_file", path)?;
+            put_ask_of(fields, alloc, *ask)
+        }
+    }
+}
+
+// Adds the file of a program, a DLL that it imports from, and what it does not find there.
+fn put_program(
+    fields: &mut Fields,
+    alloc: Global,
+    program: &str,
+    dll: &[u8],
+    unmet: &Unmet,
+) -> Result<(), AllocError>
+    ensures { OnOk result (members_view fields.new.entries ≡ with_program program.now dll.now (unmet_view unmet.now) (members_view fields.old.entries)) }
+{
+    put_word(fields, alloc, "program", program)?;
+    put_name(fields, alloc, "dll", dll)?;
+    put_unmet(fields, alloc, unmet)
+}
+
 // What a member is, in a word.
 fn class_word(class: &MemberClass) -> &'static str
     ensures { result.now ≡ class_word (class_view class.now) }
@@ -341,6 +387,7 @@ fn what_of(finding: &Finding) -> &'static str
         Finding::Searched(_, _) => "searched",
         Finding::Unasked(_, _) => "unasked",
         Finding::Exported(_, _) => "export",
+        Finding::Unmet(_, _, _) => "unmet",
     }
 }
 
@@ -373,6 +420,7 @@ fn put_finding(fields: &mut Fields, alloc: Global, finding: &Finding) -> Result<
         }
         Finding::Unasked(path, export) => put_export(fields, alloc, path, export),
         Finding::Exported(path, export) => put_export(fields, alloc, path, export),
+        Finding::Unmet(program, dll, unmet) => put_program(fields, alloc, program, dll, unmet),
     }
 }
 

@@ -10,6 +10,7 @@ ghost use Rattle.implib_check.specs.WorkedChecks.{WorkedChecks, WorkedTargets};
 ghost use Rattle.implib_check.specs.WorkedDefinitions.{WorkedDefines, WorkedDefinitions};
 ghost use Rattle.implib_check.specs.WorkedExportAs.{WorkedExportAs};
 ghost use Rattle.implib_check.specs.WorkedJson.{WorkedJson};
+ghost use Rattle.implib_check.specs.WorkedStarting.{WorkedStarting};
 ghost use Rattle.implib_check.specs.WorkedTogether.{WorkedTogether};
 
 use implib_read::laws::{
@@ -108,6 +109,11 @@ pub fn worked_together()
 /// What JSON objects have, worked by hand.
 pub fn worked_json()
     ensures { WorkedJson }
+{}
+
+/// Programs beside folders, worked by hand: calls, files of DLLs, statuses and objects.
+pub fn worked_starting()
+    ensures { WorkedStarting }
 {}
 
 /// What is read of the library of a definition is what the definition says, also where short imports have a third text.

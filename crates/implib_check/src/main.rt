@@ -25,6 +25,7 @@ mod positions;
 pub mod program;
 mod report;
 pub mod shelf;
+pub mod starting;
 pub mod status;
 pub mod target;
 pub mod task;

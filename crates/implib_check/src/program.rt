@@ -27,6 +27,7 @@ use crate::joined::run_together;
 use crate::of_dll::library_of_dll;
 use crate::report::{BUFFER, Failure, Form, Lines, flushed, tell};
 use crate::shelf::Shelf;
+use crate::starting::run_program;
 use crate::status::{comparison_status, identity_status, list_status, undefined_status};
 use crate::target::{options_for, options_of};
 use crate::task::{CommandLine, Task, call_named};
@@ -52,6 +53,7 @@ usage: implib_check LIB DLL [--all] [-D DLL] [--json]
        implib_check --def LIB [-m MACHINE] [--no-leading-underscore] [-C]
                     [--flavor FLAVOR]
        implib_check --def DLL and these options but -C
+       implib_check PROGRAM --search DIR.. [--json]
        implib_check --exports DLL [--json]
        implib_check --list LIB [--json]
        implib_check --identify LIB
@@ -80,6 +82,8 @@ it imports; what it does not find.
   --def              a definition that means the library's imports and aliases,
                      or which member no definition says; of a DLL, a definition
                      of which implib_dlltool makes the library of the DLL
+  --search           whether a program, or a DLL, finds what it imports in the
+                     DLLs of these folders; what it does not find
   --all              the exports of the DLL, too, that no import asks for
   --exports          a line for each export of a DLL: ordinal, code, data or
                      forwarder, address or other DLL's export, hint, name
@@ -572,7 +576,7 @@ fn run<S: Shelf, O: Write, E: Write>(
     printer: &mut O,
     faults: &mut E,
 ) -> u8
-    ensures { AnswersTask (S.seen shelf.now) (option_and_then (in_form command_line.now.is_json) (task_named (map string_bytes command_line.now.words.items))) result }
+    ensures { AnswersTask (S.seen shelf.now) (S.listed shelf.now) (option_and_then (in_form command_line.now.is_json) (task_named (map string_bytes command_line.now.words.items))) result }
 {
     let form = Form {
         alloc,
@@ -593,6 +597,9 @@ fn run<S: Shelf, O: Write, E: Write>(
         Some(Task::Together(paths)) => run_together(alloc, shelf, form, printer, faults, paths),
         Some(Task::Check(check)) => run_check(alloc, shelf, form, printer, faults, &check),
         Some(Task::Define(define)) => run_define(alloc, shelf, printer, faults, &define),
+        Some(Task::Program(path, folders)) => {
+            run_program(alloc, shelf, form, printer, faults, path, folders)
+        },
         None => complain(faults, NAME, wrong_call(&command_line.words), 2),
     }
 }

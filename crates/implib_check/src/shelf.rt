@@ -1,6 +1,7 @@
 //! Where libraries and definitions are read from.
 
-ghost use Rattle.std.specs.Prelude.{◌≡◌, ℕ, IfOk, IfSome, List, Option};
+ghost use Rattle.std.specs.Prelude.{◌≡◌, ℕ, IfOk, IfSome, List, Option, map};
+ghost use Rattle.std.specs.String.{string_bytes};
 
 use std::alloc::Global;
 use std::fs::Files;
@@ -11,9 +12,17 @@ pub trait Shelf {
     // The bytes of the file that a path leads to, where they are known.
     ghost seen: { Self → List ℕ → Option (List ℕ) };
 
+    // The names of the files in the folder that a path leads to, where they are known.
+    ghost listed: { Self → List ℕ → Option (List (List ℕ)) };
+
     /// The bytes of a file.
     fn read(&self, alloc: Global, path: &str) -> io::Result<Vec<u8>>
         ensures { IfOk result (λ bytes. IfSome (seen self.now path.now) (λ file. bytes.items ≡ file)) };
+
+    /// The names of what is in a folder, in the order that the system has them in.
+    fn names(&self, alloc: Global, folder: &str) -> io::Result<Vec<String>>
+        ensures { IfOk result (λ names. IfSome (listed self.now folder.now)
+            (λ known. map string_bytes names.items ≡ known)) };
 }
 
 /// The files of the system, of whose bytes no contract can tell.
@@ -22,12 +31,22 @@ pub struct SystemFiles<'r, R> {
     pub rt: &'r R,
 }
 
-impl<'r, R: Files + AllocGlobal> Shelf for SystemFiles<'r, R> {
+impl<'r, R: Files + AllocGlobal + Clone + Drop> Shelf for SystemFiles<'r, R> {
     ghost use Rattle.std.specs.Prelude.{None};
 
     ghost seen = { λ _ _. None };
 
+    ghost listed = { λ _ _. None };
+
     fn read(&self, _alloc: Global, path: &str) -> io::Result<Vec<u8>> {
         fs::read(self.rt, path)
+    }
+
+    fn names(&self, alloc: Global, folder: &str) -> io::Result<Vec<String>> {
+        let mut names = Vec::new(alloc);
+        for entry in fs::read_dir(self.rt, folder)? {
+            names.push(String::from_str(alloc, entry?.file_name())?)?;
+        }
+        Ok(names)
     }
 }

@@ -4,7 +4,7 @@ ghost use Rattle.std.specs.Prelude.{◌≡◌, map, IfOk};
 ghost use Rattle.std.specs.Option.{option_and_then, option_map, option_or};
 ghost use Rattle.std.specs.String.{string_bytes};
 ghost use Rattle.implib_check.specs.Tasks.{alone, asks_json, has_json_form, in_form, is_json_word, plain_words, task_by_name, task_named};
-ghost use Rattle.implib_check.specs.Tasks.{task_view, with_all, with_files, with_libraries, with_library};
+ghost use Rattle.implib_check.specs.Tasks.{task_view, with_all, with_files, with_folders, with_libraries, with_library};
 
 use crate::call::{Check, Define, check_called, define_called};
 use std::alloc::{AllocError, Global};
@@ -30,6 +30,8 @@ pub enum Task<'a> {
     Check(Check<'a>),
     /// The definition of a library.
     Define(Define<'a>),
+    /// Whether a program finds what it imports in the DLLs of folders.
+    Program(&'a str, &'a [String]),
 }
 
 // The task of a word alone.
@@ -97,6 +99,20 @@ fn with_all(paths: &[String]) -> Option<Task<'_>>
     }
 }
 
+// What a program finds in folders: its file, a word, and one folder or more.
+fn with_folders(words: &[String]) -> Option<Task<'_>>
+    ensures { option_map task_view result ≡ with_folders (map string_bytes words.now) }
+{
+    let [path, option, folders @ ..] = words else {
+        return None;
+    };
+    if option.as_str() == "--search" && !folders.is_empty() {
+        Some(Task::Program(path.as_str(), folders))
+    } else {
+        None
+    }
+}
+
 // What words ask for that name files and options: behind `--def` a definition, behind `--together` what libraries do to
 // each other, else a comparison with a definition.
 fn with_files(words: &[String]) -> Option<Task<'_>>
@@ -123,7 +139,10 @@ fn with_files(words: &[String]) -> Option<Task<'_>>
 pub fn task_named(words: &[String]) -> Option<Task<'_>>
     ensures { option_map task_view result ≡ task_named (map string_bytes words.now) }
 {
-    match task_by_name(words) {
+    if let Some(task) = task_by_name(words) {
+        return Some(task);
+    }
+    match with_folders(words) {
         Some(task) => Some(task),
         None => with_files(words),
     }
@@ -192,7 +211,8 @@ fn has_json_form(task: &Task) -> bool
         | Task::Works(_)
         | Task::Same(_, _)
         | Task::Together(_)
-        | Task::Check(_) => true,
+        | Task::Check(_)
+        | Task::Program(_, _) => true,
         Task::Help | Task::Version | Task::Identify(_, _) | Task::Define(_) => false,
     }
 }

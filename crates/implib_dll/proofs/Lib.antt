@@ -1,3 +1,4 @@
+pub mod Ends
 pub mod ExportsInMemory
 pub mod Finding
 pub mod InMemory

@@ -25,19 +25,20 @@ signature_in bytes =
     else refusal NoPeSignature 0x3C)
     else refusal NoDosHeader 0
 
--- The entry of data directory 0, by the place and the size of the optional header and by the size
--- of the fields before its data directories, of which the last, NumberOfRvaAndSizes, says how many
--- entries there are. With none there is no export directory, as with RVA 0.
-unfoldable pub entry_in : List ℕ → ℕ → ℕ → ℕ → Read Entry
-entry_in bytes optional size fields =
+-- The entry of a data directory, by its number, by the place and the size of the optional header,
+-- and by the size of the fields before its data directories, of which the last,
+-- NumberOfRvaAndSizes, says how many entries there are. Without this entry there is no such table,
+-- as with RVA 0.
+unfoldable pub entry_in : ℕ → List ℕ → ℕ → ℕ → ℕ → Read Entry
+entry_in number bytes optional size fields =
     if nat_lt size fields then refusal OptionalHeaderCut (optional - 4)
-    else if u32_at bytes (optional + fields - 4) == 0 then Ok
-    (record { place = optional + fields; rva = 0; size = 0 })
-    else if nat_lt size (fields + 8) then refusal OptionalHeaderCut (optional - 4)
+    else if nat_le (u32_at bytes (optional + fields - 4)) number then Ok
+    (record { place = optional + fields + 8 * number; rva = 0; size = 0 })
+    else if nat_lt size (fields + 8 * number + 8) then refusal OptionalHeaderCut (optional - 4)
     else Ok (record {
-      place = optional + fields;
-      rva = u32_at bytes (optional + fields);
-      size = u32_at bytes (optional + fields + 4);
+      place = optional + fields + 8 * number;
+      rva = u32_at bytes (optional + fields + 8 * number);
+      size = u32_at bytes (optional + fields + 8 * number + 4);
     })
 
 -- the section table behind the optional header, which the loader of Windows takes up to 96 headers
@@ -56,25 +57,29 @@ header_with bytes place is_pe32_plus end entry =
       section_count = u16_at bytes (place + 6);
     })
 
--- what the headers say, by the place and the size of the optional header, and by whether it is that
--- of PE32+
-abbrev pub header_of : List ℕ → ℕ → ℕ → Bool → ℕ → Read Header
-header_of bytes place size is_pe32_plus fields = do
-  entry ← entry_in bytes (place + 24) size fields
+-- what the headers say, with the entry of a data directory, by the place and the size of the optional
+-- header, and by whether it is that of PE32+
+abbrev pub header_of : ℕ → List ℕ → ℕ → ℕ → Bool → ℕ → Read Header
+header_of number bytes place size is_pe32_plus fields = do
+  entry ← entry_in number bytes (place + 24) size fields
   header_with bytes place is_pe32_plus (place + 24 + size) entry
 
 -- The headers behind a signature. The magic number is 0x10B for PE32, with 96 bytes before the data
 -- directories, and 0x20B for PE32+, with 112.
-unfoldable pub header_at : List ℕ → ℕ → ℕ → Read Header
-header_at bytes place size =
+unfoldable pub header_at : ℕ → List ℕ → ℕ → ℕ → Read Header
+header_at number bytes place size =
     if nat_lt size 2 then refusal OptionalHeaderCut (place + 20)
     else if nat_lt (length bytes) (place + 24 + size) then refusal OptionalHeaderCut (place + 20)
-    else if u16_at bytes (place + 24) == 0x10B then header_of bytes place size false 96
-    else if u16_at bytes (place + 24) == 0x20B then header_of bytes place size true 112
+    else if u16_at bytes (place + 24) == 0x10B then header_of number bytes place size false 96
+    else if u16_at bytes (place + 24) == 0x20B then header_of number bytes place size true 112
     else refusal UnknownMagic (place + 24)
 
--- the headers of a file
-unfoldable pub header_in : List ℕ → Read Header
-header_in bytes = do
+-- the headers of a file, with the entry of a data directory
+unfoldable pub header_for : ℕ → List ℕ → Read Header
+header_for number bytes = do
   place ← signature_in bytes
-  header_at bytes place (u16_at bytes (place + 20))
+  header_at number bytes place (u16_at bytes (place + 20))
+
+-- the headers of a file, with the entry of data directory 0, the export table
+abbrev pub header_in : List ℕ → Read Header
+header_in bytes = header_for 0 bytes

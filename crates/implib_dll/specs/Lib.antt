@@ -2,6 +2,7 @@ pub mod Bytes
 pub mod Digits
 pub mod Exports
 pub mod Headers
+pub mod Imports
 pub mod Laws
 pub mod Lookup
 pub mod Memory
@@ -10,6 +11,7 @@ pub mod Rows
 pub mod Sections
 pub mod Views
 pub mod WorkedFiles
+pub mod WorkedImports
 pub mod WorkedLookups
 pub mod WorkedMemory
 pub mod WorkedRefusals

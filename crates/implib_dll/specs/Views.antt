@@ -1,6 +1,10 @@
 -- What a caller sees of the values that borrow an image's bytes.
 use Rattle.std.specs.Prelude.{ℕ, List, map}
 use Rattle.implib_dll.specs.declared.exports.Exports.{Exports}
+use Rattle.implib_dll.specs.declared.imports.Ask.{Ask}
+use Rattle.implib_dll.specs.declared.imports.Ask.TheVariants.{Name as NameAsked, Ordinal}
+use Rattle.implib_dll.specs.declared.imports.ImportedDll.{ImportedDll}
+use Rattle.implib_dll.specs.declared.imports.Imports.{Imports}
 use Rattle.implib_dll.specs.declared.name.Name.{Name}
 use Rattle.implib_dll.specs.declared.rows.Row.{Row}
 use Rattle.implib_dll.specs.declared.section.Part.{Part}
@@ -9,6 +13,7 @@ use Rattle.implib_dll.specs.declared.target.Target.{Target}
 use Rattle.implib_dll.specs.declared.target.Target.TheVariants.{Empty, Address, Forwarder}
 use Rattle.implib_dll.specs.Exports as seen
 use Rattle.implib_dll.specs.Exports.{NameEntry, Exports as SeenExports, Target as SeenTarget}
+use Rattle.implib_dll.specs.Imports.{Ask as SeenAsk, ByName, ByOrdinal, ImportedDll as SeenImportedDll, Imports as SeenImports}
 use Rattle.implib_dll.specs.Rows.{Row as SeenRow}
 use Rattle.implib_dll.specs.Sections.{Section as SeenSection}
 
@@ -50,3 +55,13 @@ row_view r = record {
   names =
       map (λ name. name.now) r.names.items;
 }
+
+abbrev pub ask_view : Ask → SeenAsk
+ask_view (NameAsked text hint) = ByName text.now hint
+ask_view (Ordinal ordinal) = ByOrdinal ordinal
+
+abbrev pub imported_view : ImportedDll → SeenImportedDll
+imported_view i = record { dll = i.dll.now; asks = map ask_view i.asks.items }
+
+abbrev pub imports_view : Imports → SeenImports
+imports_view i = record { machine = i.machine; dlls = map imported_view i.dlls.items }

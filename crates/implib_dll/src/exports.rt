@@ -11,7 +11,7 @@ ghost use Rattle.implib_dll.specs.Views.{exports_view, part_view, section_view};
 
 use crate::fault::{Cause, ReadError, refused};
 use crate::fields::u32_at;
-use crate::header::{Header, header_in};
+use crate::header::{EXPORT_TABLE, Header, header_for};
 use crate::name::{Name, names_in};
 use crate::section::{Layout, Part, Section, part_at, sections_in, text_at};
 use crate::target::{Target, targets_in};
@@ -135,7 +135,7 @@ fn exports_behind<'a>(
 fn exports_in(alloc: Global, layout: Layout, bytes: &[u8]) -> Result<Option<Exports<'_>>, ReadError>
     ensures { Gives (option_map exports_view) result (exports_in layout bytes.now) }
 {
-    let header = header_in(bytes)?;
+    let header = header_for(EXPORT_TABLE, bytes)?;
     let (sections, _) = sections_in(alloc, layout, bytes, header.sections, header.section_count)?;
     exports_behind(alloc, &header, &sections, bytes.len())
 }

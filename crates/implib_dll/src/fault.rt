@@ -16,7 +16,7 @@ pub enum Cause {
     #[error("no PE signature")]
     NoPeSignature,
     /// The optional header leads out of the file, or is too small for the fields of its magic
-    /// number or for data directory 0: SizeOfOptionalHeader.
+    /// number or for the data directory that is read: SizeOfOptionalHeader.
     #[error("the optional header is cut")]
     OptionalHeaderCut,
     /// The magic number of the optional header is neither 0x10B nor 0x20B: Magic.
@@ -57,10 +57,32 @@ pub enum Cause {
     /// pointer table.
     #[error("the name of an export is outside of the sections")]
     NameOutside,
-    /// The forwarders and names so far, each with its NUL, are together longer than the file, so
-    /// that some overlap: the entry of the table that leads to the last.
+    /// The forwarders and names so far, each with its NUL, or the names and thunks of imports, are
+    /// together longer than the file, so that some overlap: the entry of the table that leads to
+    /// the last.
     #[error("the names overlap, and are together longer than the file")]
     TextsTooLong,
+    /// The import directory table is not in the data of a section: the entry of data directory 1.
+    #[error("the import directory is outside of the sections")]
+    ImportDirectoryOutside,
+    /// No descriptor ends the import directory table: the entry of data directory 1.
+    #[error("the import directory has no end")]
+    ImportDirectoryOpen,
+    /// The name of an imported DLL, with its NUL, is not in the data of one section: Name RVA.
+    #[error("the name of an imported DLL is outside of the sections")]
+    ImportedDllOutside,
+    /// An import lookup table is not in the data of a section: Import Lookup Table RVA, or Import
+    /// Address Table RVA where that is 0.
+    #[error("an import lookup table is outside of the sections")]
+    LookupTableOutside,
+    /// No thunk ends an import lookup table, in its section and in as many bytes as there is room
+    /// for: the same field.
+    #[error("an import lookup table has no end")]
+    LookupTableOpen,
+    /// The hint and the name of an import, with its NUL, are not in the data of one section: its
+    /// entry of the import lookup table.
+    #[error("the name of an import is outside of the sections")]
+    AskOutside,
 }
 
 /// What is wrong, and at which offset of the file, from 0.

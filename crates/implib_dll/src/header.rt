@@ -1,18 +1,23 @@
 //! The headers of an image.
 
 ghost use Rattle.std.specs.Prelude.{◌≡◌, ℕ, ◌+◌, ◌*◌, ◌<◌, ◌≤◌, ◌^◌, length, IfOk};
-ghost use Rattle.implib_dll.specs.Headers.{entry_in, header_at, header_in, header_of, header_with, is_dos_header, is_signature, signature_in};
+ghost use Rattle.implib_dll.specs.Headers.{entry_in, header_at, header_for, header_of, header_with, is_dos_header, is_signature, signature_in};
 ghost use Rattle.implib_dll.specs.Outcome.{Gives};
 
 use crate::fault::{Cause, ReadError, refused};
 use crate::fields::{u16_at, u32_at};
 
-/// The entry of data directory 0, the export table.
+/// The number of the data directory that is the export table, and of the import table.
+pub(crate) const EXPORT_TABLE: usize = 0;
+
+pub(crate) const IMPORT_TABLE: usize = 1;
+
+/// The entry of a data directory.
 #[derive(Clone, Copy)]
 pub struct Entry {
     /// The offset of the entry.
     pub place: usize,
-    /// The address of the export directory, or 0 where there is none.
+    /// The address of the table, or 0 where there is none.
     pub rva: u32,
     pub size: u32,
 }
@@ -60,26 +65,34 @@ fn signature_in(bytes: &[u8]) -> Result<usize, ReadError>
     Ok(place)
 }
 
-/// The entry of data directory 0.
+/// The entry of a data directory.
 #[tactic(auto, unfolding(crate::specs::Headers::entry_in))]
-fn entry_in(bytes: &[u8], optional: usize, size: usize, fields: usize) -> Result<Entry, ReadError>
+fn entry_in(
+    number: usize,
+    bytes: &[u8],
+    optional: usize,
+    size: usize,
+    fields: usize,
+) -> Result<Entry, ReadError>
+    requires number { number < 16 }
     requires low { 4 ≤ optional }
     requires fields { 4 ≤ fields }
+    requires few { fields < 256 }
     requires within { optional + size ≤ length bytes.now }
-    ensures { Gives (λ entry. entry) result (entry_in bytes.now optional size fields) }
+    ensures { Gives (λ entry. entry) result (entry_in number bytes.now optional size fields) }
 {
     if size < fields {
         return Err(refused(Cause::OptionalHeaderCut, optional - 4));
     }
-    let place = optional + fields;
-    if u32_at(bytes, place - 4) == 0 {
+    let place = optional + fields + 8 * number;
+    if u32_at(bytes, optional + fields - 4) as usize <= number {
         return Ok(Entry {
             place,
             rva: 0,
             size: 0,
         });
     }
-    if size < fields + 8 {
+    if size < fields + 8 * number + 8 {
         return Err(refused(Cause::OptionalHeaderCut, optional - 4));
     }
     Ok(Entry {
@@ -123,30 +136,34 @@ fn header_with(
 
 /// What the headers say, by the kind of the optional header.
 fn header_of(
+    number: usize,
     bytes: &[u8],
     place: usize,
     size: usize,
     is_pe32_plus: bool,
     fields: usize,
 ) -> Result<Header, ReadError>
+    requires number { number < 16 }
     requires low { place + size < 2 ^ 39 }
     requires fields { 4 ≤ fields }
+    requires few { fields < 256 }
     requires within { place + 24 + size ≤ length bytes.now }
     ensures found { Gives (λ header. header) result
-        (header_of bytes.now place size is_pe32_plus fields) }
+        (header_of number bytes.now place size is_pe32_plus fields) }
     ensures within { IfOk result
         (λ header. header.sections + 40 * header.section_count ≤ length bytes.now) }
 {
-    let entry = entry_in(bytes, place + 24, size, fields)?;
+    let entry = entry_in(number, bytes, place + 24, size, fields)?;
     header_with(bytes, place, is_pe32_plus, place + 24 + size, entry)
 }
 
 /// The headers behind a signature.
 #[tactic(auto, unfolding(crate::specs::Headers::header_at))]
-fn header_at(bytes: &[u8], place: usize, size: usize) -> Result<Header, ReadError>
+fn header_at(number: usize, bytes: &[u8], place: usize, size: usize) -> Result<Header, ReadError>
+    requires number { number < 16 }
     requires low { place + size < 2 ^ 39 }
     requires signature { place + 24 ≤ length bytes.now }
-    ensures found { Gives (λ header. header) result (header_at bytes.now place size) }
+    ensures found { Gives (λ header. header) result (header_at number bytes.now place size) }
     ensures within { IfOk result
         (λ header. header.sections + 40 * header.section_count ≤ length bytes.now) }
 {
@@ -158,21 +175,22 @@ fn header_at(bytes: &[u8], place: usize, size: usize) -> Result<Header, ReadErro
     }
     let magic = u16_at(bytes, place + 24);
     if magic == 0x10B {
-        return header_of(bytes, place, size, false, 96);
+        return header_of(number, bytes, place, size, false, 96);
     }
     if magic == 0x20B {
-        return header_of(bytes, place, size, true, 112);
+        return header_of(number, bytes, place, size, true, 112);
     }
     Err(refused(Cause::UnknownMagic, place + 24))
 }
 
-/// The headers of a file.
-#[tactic(auto, unfolding(crate::specs::Headers::header_in))]
-pub(crate) fn header_in(bytes: &[u8]) -> Result<Header, ReadError>
-    ensures found { Gives (λ header. header) result (header_in bytes.now) }
+/// The headers of a file, with the entry of a data directory.
+#[tactic(auto, unfolding(crate::specs::Headers::header_for))]
+pub(crate) fn header_for(number: usize, bytes: &[u8]) -> Result<Header, ReadError>
+    requires { number < 16 }
+    ensures found { Gives (λ header. header) result (header_for number bytes.now) }
     ensures within { IfOk result
         (λ header. header.sections + 40 * header.section_count ≤ length bytes.now) }
 {
     let place = signature_in(bytes)?;
-    header_at(bytes, place, u16_at(bytes, place + 20) as usize)
+    header_at(number, bytes, place, u16_at(bytes, place + 20) as usize)
 }

@@ -4,6 +4,7 @@
 ghost use Rattle.implib_dll.specs.Laws.{FindsExactly, FindsTheName, HintsChangeNothing, NamesLead, OrdinalsLead, RightHintFinds};
 ghost use Rattle.implib_dll.specs.Memory.{ExportsLieInMemory, FileIsInMemory, ImageIsRead, LookupsAreThoseInMemory};
 ghost use Rattle.implib_dll.specs.WorkedFiles.{WorkedFiles};
+ghost use Rattle.implib_dll.specs.WorkedImports.{WorkedImports};
 ghost use Rattle.implib_dll.specs.WorkedLookups.{WorkedLookups};
 ghost use Rattle.implib_dll.specs.WorkedMemory.{WorkedMemory};
 ghost use Rattle.implib_dll.specs.WorkedRefusals.{WorkedRefusals};
@@ -65,6 +66,12 @@ pub fn image_is_read()
 /// What DLLs export, byte by byte: made by hand for I386 and AMD64, and a real one of GNU's linker.
 pub fn worked_files()
     ensures { WorkedFiles }
+{}
+
+/// What programs import, byte by byte: one of GNU's linker for I386, and one of lld for AMD64; with
+/// changed bytes, and refused.
+pub fn worked_imports()
+    ensures { WorkedImports }
 {}
 
 /// What lookups find and what they miss.

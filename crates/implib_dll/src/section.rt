@@ -204,7 +204,7 @@ impl<'a> Section<'a> {
 }
 
 /// The bytes from an address on, and their offset.
-fn located<'a>(sections: &[Section<'a>], rva: u32) -> Option<Part<'a>>
+pub(crate) fn located<'a>(sections: &[Section<'a>], rva: u32) -> Option<Part<'a>>
     ensures found { option_map part_view result ≡ located (map section_view sections.now) rva }
     ensures low { IfSome result (λ found. found.place < 2 ^ 33) }
 {

@@ -4,4 +4,6 @@ pub mod Laws
 pub mod Verdict
 pub mod Worked
 pub mod WorkedImports
+pub mod WorkedPrograms
 pub mod Missing
+pub mod Programs

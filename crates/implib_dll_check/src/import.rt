@@ -83,7 +83,7 @@ fn is_called(alloc: Global, names: &[Vec<u8>], dll: &[u8]) -> Result<bool, Alloc
 }
 
 // What an import comes to that a loader looks up.
-fn judged_by(verdict: &Verdict<'_>) -> Judgement
+pub(crate) fn judged_by(verdict: &Verdict<'_>) -> Judgement
     ensures { result ≡ judged_by (verdict_view verdict.now) }
 {
     if verdict.target.is_none() {

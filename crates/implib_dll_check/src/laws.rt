@@ -4,6 +4,7 @@
 ghost use Rattle.implib_dll_check.specs.Laws.{OwnAsksPass};
 ghost use Rattle.implib_dll_check.specs.Worked.{WorkedVerdicts};
 ghost use Rattle.implib_dll_check.specs.WorkedImports.{WorkedImports};
+ghost use Rattle.implib_dll_check.specs.WorkedPrograms.{WorkedPrograms};
 
 /// What is asked for by the imports that are made of a DLL is found there, and without a search.
 pub fn own_asks_pass()
@@ -18,4 +19,9 @@ pub fn worked_verdicts()
 /// Imports of libraries, of each kind, worked by hand come to this in a DLL.
 pub fn worked_imports()
     ensures { WorkedImports }
+{}
+
+/// What programs ask of DLLs, worked by hand.
+pub fn worked_programs()
+    ensures { WorkedPrograms }
 {}

@@ -4,7 +4,8 @@
 //! whether data is imported as data. [`loader_name`] is the name by which a loader tells DLLs apart,
 //! and [`missing`] what a DLL exports and no import asks for.
 //!
-//! [`judgements`] says what the members of a library come to, and [`asks_in`] what they ask for.
+//! [`judgements`] says what the members of a library come to, and [`asks_in`] what they ask for;
+//! [`judge_ask`] what an ask of a program's import directory comes to.
 //!
 //! Each equals a definition in `specs/`, over the lookups of `implib_dll`.
 #![tactic(auto)]
@@ -13,9 +14,11 @@ mod dll_name;
 mod import;
 mod lacking;
 pub mod laws;
+mod program;
 mod verdict;
 
 pub use dll_name::loader_name;
 pub use import::{Judgement, Loss, asks_in, judgements};
 pub use lacking::missing;
+pub use program::{finds_all, is_asked, judge_ask};
 pub use verdict::{Ask, Verdict, judge};
