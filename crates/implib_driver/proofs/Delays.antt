@@ -1,7 +1,6 @@
 -- Lemmas on libraries of delayed imports: why there is none, and what is done where one is asked for.
 use Rattle.std.proofs.Common.{◌≡◌, ℕ, Bool, List, Option, None, Some, subst, sym}
 use Rattle.std.specs.Str.{IsUtf8}
-use Rattle.implib.specs.declared.machine.MachineType.{MachineType}
 use Rattle.implib.specs.Definition.{DefinitionView}
 use Rattle.implib.specs.Members.MemberSpec.{MemberView}
 use Rattle.implib.specs.Renaming.{renamed}

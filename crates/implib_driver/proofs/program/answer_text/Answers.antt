@@ -1,4 +1,4 @@
-use Rattle.std.proofs.Common.{◌≡◌, rules}
+use Rattle.std.proofs.Common.{rules}
 use Rattle.implib_driver.specs.Request.{request_view}
 use Rattle.implib_driver.proofs.Delays.{finishes_alone, finishes_delaying}
 use Rattle.implib_driver.proofs.program.answer_text.Goals as goal
