@@ -42,6 +42,9 @@ impl<'a> fmt::Display for Message<'a> {
             Message::Refusal(path, refusal) => {
                 write!(f, "{} {refusal}", ShownPlace(path, position_of(refusal)))
             }
+            Message::Complaint(path, Complaint::Undelayed(why)) => {
+                write!(f, "{} {why}", ShownPlace(path, why.position()))
+            }
             Message::Complaint(subject, complaint) => {
                 write!(f, "{}: {complaint}", ShownPath(subject))
             }

@@ -1,4 +1,5 @@
 //! Tests of the program.
 
 mod calls;
+mod delays;
 mod texts;

@@ -4,3 +4,4 @@ pub mod LibReading
 pub mod Saying
 pub mod Calls
 pub mod Finishing
+pub mod Delays

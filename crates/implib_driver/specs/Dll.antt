@@ -1,5 +1,5 @@
 -- The library of a DLL (this project's own; docs/DLLTOOL.md, "From a DLL").
-use Rattle.std.specs.Prelude.{◌≡◌, ◌≢◌, ℕ, Bool, true, List, None, Some, Ok, Err, codes, nat_eq}
+use Rattle.std.specs.Prelude.{◌≡◌, ◌≢◌, ℕ, Bool, true, List, None, Some, Ok, Err, codes, is_some, nat_eq}
 use Rattle.std.specs.List.{starts_with}
 use Rattle.implib.specs.declared.machine.MachineType.{MachineType}
 use Rattle.implib.specs.Conversions.{machine_numbered}
@@ -7,7 +7,7 @@ use Rattle.implib.specs.Members.MemberSpec.{MemberView}
 use Rattle.implib_dll.specs.declared.section.Layout.TheVariants.{File}
 use Rattle.implib_dll.specs.Exports.{Exports, exports_in}
 use Rattle.implib_driver.specs.declared.dll.DllRefusal.{DllRefusal}
-use Rattle.implib_driver.specs.declared.dll.DllRefusal.TheVariants.{Read, NoExports, UnknownMachine, OtherMachine, OlderSymbols, NameNotUtf8, Unsaid, NoName, Members, OutOfMemory}
+use Rattle.implib_driver.specs.declared.dll.DllRefusal.TheVariants.{Read, NoExports, UnknownMachine, OtherMachine, OlderSymbols, Delayed, NameNotUtf8, Unsaid, NoName, Members, OutOfMemory}
 use Rattle.implib_driver.specs.declared.dll.DllCallError.{DllCallError}
 use Rattle.implib_driver.specs.declared.dll.DllCallError.TheVariants.{Call, Dll}
 use Rattle.implib_driver.specs.Request.{Asked, CallFaultView, RequestView, call_fault_view}
@@ -36,6 +36,7 @@ IsRefusalOfReading bytes _ = ⊥
 -- why a DLL has no members
 abbrev pub IsUnmade : Exports → RequestView → DllRefusal → Type 0
 IsUnmade e request OlderSymbols = request.older_symbols ≡ true
+IsUnmade e request Delayed = is_some request.delayed ≡ true
 IsUnmade e request NameNotUtf8 = library.IsUnmade e request.definition request.library unmade.NameNotUtf8
 IsUnmade e request (Unsaid why) = library.IsUnmade e request.definition request.library (unmade.Unsaid why)
 IsUnmade e request NoName = library.IsUnmade e request.definition request.library unmade.NoName

@@ -3,6 +3,7 @@ pub mod Arguments
 pub mod Identity
 pub mod Request
 pub mod Dll
+pub mod Delay
 pub mod LibWords
 pub mod Verbose
 pub mod Disk
@@ -18,3 +19,4 @@ pub mod WorkedOptions
 pub mod WorkedCalls
 pub mod WorkedLibWords
 pub mod WorkedDlls
+pub mod WorkedDelays

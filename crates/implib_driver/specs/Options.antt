@@ -5,7 +5,7 @@ use Rattle.implib_driver.specs.declared.options.Meaning.{Meaning}
 use Rattle.implib_driver.specs.declared.options.Meaning.TheVariants.{Takes, Switches, Unsupported, Unknown}
 use Rattle.implib_driver.specs.declared.options.Setting.{Setting}
 use Rattle.implib_driver.specs.declared.options.Switch.{Switch}
-use Rattle.implib_driver.specs.declared.options.Setting.TheVariants.{Definition, Output, Machine, Dll, Flavor, Assembler, AssemblerFlags, TemporaryPrefix, FurtherPrefix, Identify, Input}
+use Rattle.implib_driver.specs.declared.options.Setting.TheVariants.{Definition, Output, DelayedOutput, Machine, Dll, Flavor, Assembler, AssemblerFlags, TemporaryPrefix, FurtherPrefix, Identify, Input}
 use Rattle.implib_driver.specs.declared.options.Switch.TheVariants.{KillAt, NoLeadingUnderscore, LeadingUnderscore, ExportAs, AddUnderscore, AddStdcallUnderscore, AddStdcallAlias, DeterministicLibraries, NonDeterministicLibraries, NoDelete, IdentifyStrict, KeepsDecorated, CompatImplib, Verbose, Help, Version}
 
 -- the long names, without `--`, of GNU dlltool's options that have no meaning here
@@ -13,7 +13,6 @@ abbrev pub is_unsupported : List ℕ → Bool
 is_unsupported name =
     if bytes_eq name (codes "output-exp") then true
     else if bytes_eq name (codes "output-def") then true
-    else if bytes_eq name (codes "output-delaylib") then true
     else if bytes_eq name (codes "base-file") then true
     else if bytes_eq name (codes "no-idata4") then true
     else if bytes_eq name (codes "no-idata5") then true
@@ -32,6 +31,7 @@ option_named name =
     else if bytes_eq name (codes "def") then Takes Definition
     else if bytes_eq name (codes "dll") then Takes Definition
     else if bytes_eq name (codes "output-lib") then Takes Output
+    else if bytes_eq name (codes "output-delaylib") then Takes DelayedOutput
     else if bytes_eq name (codes "machine") then Takes Machine
     else if bytes_eq name (codes "dllname") then Takes Dll
     else if bytes_eq name (codes "flavor") || bytes_eq name (codes "flavour") then Takes Flavor
@@ -63,6 +63,7 @@ abbrev pub option_lettered : ℕ → Meaning
 option_lettered letter =
     if letter == byte "d" then Takes Definition
     else if letter == byte "l" then Takes Output
+    else if letter == byte "y" then Takes DelayedOutput
     else if letter == byte "m" then Takes Machine
     else if letter == byte "D" then Takes Dll
     else if letter == byte "S" then Takes Assembler
@@ -80,7 +81,6 @@ option_lettered letter =
     else if letter == byte "V" then Switches Version
     else if letter == byte "e" then Unsupported
     else if letter == byte "z" then Unsupported
-    else if letter == byte "y" then Unsupported
     else if letter == byte "b" then Unsupported
     else if letter == byte "x" then Unsupported
     else if letter == byte "c" then Unsupported
@@ -100,6 +100,7 @@ setting_number TemporaryPrefix = 7
 setting_number FurtherPrefix = 8
 setting_number Identify = 9
 setting_number Input = 10
+setting_number DelayedOutput = 11
 
 -- the number of an option without a value
 abbrev pub switch_number : Switch → ℕ

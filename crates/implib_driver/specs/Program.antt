@@ -1,5 +1,5 @@
 -- What a run of the program does (this project's own).
-use Rattle.std.specs.Prelude.{◌≡◌, ◌⊎◌, ℕ, Bool, true, false, List, [], ◌∷◌, ◌++◌, Option, Result, Ok, Err, IfSome, codes, drop, length, map, nat_eq, nat_lt, ◌||◌, if◌then◌else◌}
+use Rattle.std.specs.Prelude.{◌≡◌, ◌≢◌, ◌⊎◌, ℕ, Bool, true, false, List, [], ◌∷◌, ◌++◌, Option, None, Some, Result, Ok, Err, IfSome, codes, drop, length, map, nat_eq, nat_lt, ◌||◌, if◌then◌else◌}
 use Rattle.std.specs.List.{starts_with}
 use Rattle.std.specs.Io.KnownBytes.{Appends}
 use Rattle.std.specs.Str.{IsUtf8, bytes_eq}
@@ -18,8 +18,11 @@ use Rattle.implib_driver.specs.Arguments.{OccurrenceView, WordFaultView}
 use Rattle.implib_driver.specs.Disk.{DiskView}
 use Rattle.implib_driver.specs.declared.identity.NotIdentified.{NotIdentified}
 use Rattle.implib_driver.specs.Identity.{identified}
-use Rattle.implib_driver.specs.Placing.{Answer, Answers}
-use Rattle.implib_driver.specs.Reports.{ComplaintView, Complains, Line, OfArgument, OfCall, OfIdentity, OfMemory, OfStub, OfSystem, OfUtf16, OfWord, Refuses, Says, Warns}
+use Rattle.implib_driver.specs.declared.delay.DelayRefusal.{DelayRefusal}
+use Rattle.implib_driver.specs.declared.delay.DelayRefusal.TheVariants.{Refused, Undelayed as CannotDelay}
+use Rattle.implib_driver.specs.Delay.{IsDelayedLibrary, IsRefusalOfDelayed}
+use Rattle.implib_driver.specs.Placing.{Answer, Answers, IsPlaced, IsUnplaced}
+use Rattle.implib_driver.specs.Reports.{ComplaintView, Complains, Line, OfArgument, OfCall, OfIdentity, OfMemory, OfStub, OfSystem, OfUndelayed, OfUtf16, OfWord, OfWriting, Refuses, Says, Warns}
 use Rattle.implib_driver.specs.LibWords.{words_read}
 pub use Rattle.implib_driver.specs.Verdicts.{answer_status, output_or_none, verdict}
 use Rattle.implib_driver.specs.Dll.{begins_dll}
@@ -30,7 +33,7 @@ use Rattle.implib_driver.specs.Verbose.{warnings_for}
 use Rattle.implib_rules.specs.declared.library.Refusal.{Refusal}
 use Rattle.implib_rules.specs.declared.library.Refusal.TheVariants.{OutOfMemory}
 use Rattle.implib_rules.specs.declared.places.Place.{Place}
-use Rattle.implib_rules.specs.Library.{CountsMembers, definition_text, is_out_of_memory}
+use Rattle.implib_rules.specs.Library.{CountsMembers, definition_text, is_out_of_memory, status_of}
 use Rattle.implib_rules.specs.Names.{last_part}
 use Rattle.implib_rules.specs.Older.{IsRefusalOfAsked, MembersAsked}
 use Rattle.implib_rules.specs.Places.{ArePlacesOf, export_lines}
@@ -195,6 +198,78 @@ FinishesWithout bytes refusal request before after status =
     begins_utf16 bytes ≡ false → IsRefusalOfAsked request.older_symbols bytes request.library refusal →
     (known : Bool) (disk : DiskView) → Finishes known bytes request disk disk before after status
 
+-- what is said of a definition that has no library of delayed imports, and the exit status then: 3 for want of memory,
+-- and else 1
+abbrev pub delay_lines : List ℕ → DelayRefusal → List Line
+delay_lines path (Refused refusal) = Refuses path refusal ∷ []
+delay_lines path (CannotDelay why) = Complains path (OfUndelayed why) ∷ []
+
+abbrev pub delay_status : DelayRefusal → ℕ
+delay_status (Refused refusal) = status_of refusal
+delay_status (CannotDelay why) = 1
+
+-- The other library was put with status 0, if one is asked for, and then that of delayed imports. The first is there,
+-- whole, when the second is begun; what becomes of it when the second takes its place is not stated, as of all other
+-- paths (Disk).
+pub record IsDelayed (known : Bool) (bytes path file : List ℕ) (request : RequestView) (disk put : DiskView)
+    (before after : Option (List Line)) (status : ℕ) : Type 0 where
+  pub middle : DiskView
+  pub finishes : Finishes known bytes request disk middle before after 0
+  pub placed : IsPlaced known middle put path file
+  pub is_status : status ≡ 0
+
+-- the other library was put, if one is asked for, and then that of delayed imports was not, which was said
+pub record FailsToDelay (known : Bool) (bytes path : List ℕ) (request : RequestView) (disk put : DiskView)
+    (before after : Option (List Line)) (status : ℕ) : Type 0 where
+  pub middle : DiskView
+  pub said : Option (List Line)
+  pub finishes : Finishes known bytes request disk middle before said 0
+  pub unplaced : IsUnplaced middle put
+  pub says : Says said after (Complains path OfWriting ∷ [])
+  pub is_status : status ≡ 3
+
+-- the other library was not put, or cannot be made, and nothing else was done
+pub record StopsBefore (known : Bool) (bytes : List ℕ) (request : RequestView) (disk put : DiskView)
+    (before after : Option (List Line)) (status : ℕ) : Type 0 where
+  pub finishes : Finishes known bytes request disk put before after status
+  pub fails : status ≢ 0
+
+-- what is done with the bytes of a definition whose library of delayed imports is this, for this path
+abbrev pub FinishesDelayed : Bool → List ℕ → List ℕ → List ℕ → RequestView → DiskView → DiskView → Option (List Line) → Option (List Line) → ℕ → Type 0
+FinishesDelayed known bytes path file request disk put before after status =
+    IsDelayed known bytes path file request disk put before after status
+    ⊎ FailsToDelay known bytes path request disk put before after status
+    ⊎ StopsBefore known bytes request disk put before after status
+
+-- the definition has a library of delayed imports, and this was done with it
+pub record HasDelayed (known : Bool) (bytes path : List ℕ) (request : RequestView) (disk put : DiskView)
+    (before after : Option (List Line)) (status : ℕ) : Type 0 where
+  pub file : List ℕ
+  pub is_library : IsDelayedLibrary bytes request.library file
+  pub finishes : FinishesDelayed known bytes path file request disk put before after status
+
+-- the definition has none, which was said, and nothing was put
+pub record HasNoDelayed (bytes : List ℕ) (request : RequestView) (disk put : DiskView) (before after : Option (List Line))
+    (status : ℕ) : Type 0 where
+  pub refusal : DelayRefusal
+  pub refused : IsRefusalOfDelayed bytes request.library refusal
+  pub same_disk : put ≡ disk
+  pub says : Says before after (delay_lines request.definition refusal)
+  pub is_status : status ≡ delay_status refusal
+
+-- what is done with the bytes of a definition where a library of delayed imports is asked for, for this path
+abbrev pub FinishesDelaying : Bool → List ℕ → List ℕ → RequestView → DiskView → DiskView → Option (List Line) → Option (List Line) → ℕ → Type 0
+FinishesDelaying known bytes path request disk put before after status =
+    HasDelayed known bytes path request disk put before after status
+    ⊎ HasNoDelayed bytes request disk put before after status
+    ⊎ IsInUtf16 bytes request disk put before after status
+
+-- what is done with the bytes of a definition, where delayed imports are for this path, if one is given
+abbrev pub FinishesText : Bool → List ℕ → Option (List ℕ) → RequestView → DiskView → DiskView → Option (List Line) → Option (List Line) → ℕ → Type 0
+FinishesText known bytes None request disk put before after status = Finishes known bytes request disk put before after status
+FinishesText known bytes (Some path) request disk put before after status =
+    FinishesDelaying known bytes path request disk put before after status
+
 -- the request that options make for a machine, as the one that a DLL is for
 abbrev pub ForMachine : Type 0
 ForMachine = MachineType → Asked RequestView
@@ -202,7 +277,8 @@ ForMachine = MachineType → Asked RequestView
 -- what is done with bytes: those of a DLL where they begin so, and else of a definition
 abbrev pub FinishesRead : Bool → ForMachine → Bool → List ℕ → RequestView → DiskView → DiskView → Option (List Line) → Option (List Line) → ℕ → Type 0
 FinishesRead known machines true bytes request disk put before after status = FinishesDll known machines bytes request.definition disk put before after status
-FinishesRead known machines false bytes request disk put before after status = Finishes known bytes request disk put before after status
+FinishesRead known machines false bytes request disk put before after status =
+    FinishesText known bytes request.delayed request disk put before after status
 
 -- the definition or the DLL was read, and this was done with its bytes
 pub record IsRead (known : Bool) (machines : ForMachine) (request : RequestView) (before after : Devices) (status : ℕ) : Type 0 where

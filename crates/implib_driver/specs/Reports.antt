@@ -1,5 +1,6 @@
 -- What the program says on standard error, as what it says and of what; the words of a line are not stated.
 use Rattle.std.specs.Prelude.{◌≡◌, ℕ, List, ◌++◌, Option, None, Some}
+use Rattle.implib_driver.specs.declared.delay.Undelayed.{Undelayed}
 use Rattle.implib_driver.specs.declared.dll.DllRefusal.{DllRefusal}
 use Rattle.implib_driver.specs.declared.identity.NotIdentified.{NotIdentified}
 use Rattle.implib_driver.specs.declared.reporter.Complaint.{Complaint}
@@ -29,6 +30,8 @@ pub data ComplaintView : Type 0 where
   OfStub : ComplaintView
   -- a definition in UTF-16
   OfUtf16 : ComplaintView
+  -- a definition that has no library of delayed imports
+  OfUndelayed : Undelayed → ComplaintView
   -- a DLL that has no library
   OfDll : DllRefusal → ComplaintView
 
@@ -43,6 +46,7 @@ complaint_view (complaint.Writing cause) = OfWriting
 complaint_view (complaint.Identity fault) = OfIdentity fault
 complaint_view complaint.FailingStub = OfStub
 complaint_view complaint.Utf16 = OfUtf16
+complaint_view (complaint.Undelayed why) = OfUndelayed why
 complaint_view (complaint.Dll refusal) = OfDll refusal
 
 -- what is said at once

@@ -8,7 +8,7 @@ use Rattle.implib.specs.declared.flavor.Flavor.{Flavor}
 use Rattle.implib.specs.declared.flavor.Flavor.TheVariants.{Msvc, Gnu}
 use Rattle.implib.specs.declared.machine.MachineType.{MachineType}
 use Rattle.implib.specs.declared.machine.MachineType.TheVariants.{I386, ARMNT, AMD64, ARM64}
-use Rattle.implib_driver.specs.declared.options.Setting.TheVariants.{Definition, Input, Output, Machine, Dll, Flavor as FlavorSetting, Assembler, AssemblerFlags, TemporaryPrefix, FurtherPrefix, Identify}
+use Rattle.implib_driver.specs.declared.options.Setting.TheVariants.{DelayedOutput, Definition, Input, Output, Machine, Dll, Flavor as FlavorSetting, Assembler, AssemblerFlags, TemporaryPrefix, FurtherPrefix, Identify}
 use Rattle.implib_driver.specs.declared.options.Switch.TheVariants.{Help, IdentifyStrict, KeepsDecorated, KillAt, LeadingUnderscore, NoLeadingUnderscore, Verbose, Version, ExportAs, AddUnderscore, AddStdcallUnderscore, CompatImplib}
 use Rattle.implib_driver.specs.declared.request.CallError.{CallError}
 use Rattle.implib_driver.specs.declared.request.CallError.TheVariants as error
@@ -36,6 +36,8 @@ pub record RequestView : Type 0 where
   pub definition : List ℕ
   -- the file of the library
   pub output : Option (List ℕ)
+  -- the file of the library of delayed imports
+  pub delayed : Option (List ℕ)
   -- what it is made for
   pub library : LibraryOptionsView
   -- whether addresses have their older symbols too
@@ -48,6 +50,7 @@ abbrev pub request_view : Request → RequestView
 request_view r = record {
   definition = r.definition.now;
   output = option_map (λ text. text.now) r.output;
+  delayed = option_map (λ text. text.now) r.delayed;
   library = library_options_view r.library;
   older_symbols = r.older_symbols;
   is_verbose = r.is_verbose;
@@ -82,6 +85,9 @@ pub data CallFaultView : Type 0 where
   HasNoUnderscore : CallFaultView
   HasNoOlderSymbols : CallFaultView
   ReplacesDefinition : CallFaultView
+  HasOneOutput : CallFaultView
+  HasNoDelay : CallFaultView
+  DelaysForMicrosoft : CallFaultView
 
 -- the view of a fault of the program
 abbrev pub call_fault_view : CallFault → CallFaultView
@@ -97,6 +103,9 @@ call_fault_view fault.OtherArchitecture = IsOtherArchitecture
 call_fault_view fault.NoUnderscore = HasNoUnderscore
 call_fault_view fault.NoOlderSymbols = HasNoOlderSymbols
 call_fault_view fault.OutputIsDefinition = ReplacesDefinition
+call_fault_view fault.OneOutput = HasOneOutput
+call_fault_view fault.NoDelay = HasNoDelay
+call_fault_view fault.DelayForMicrosoft = DelaysForMicrosoft
 
 -- a value that is asked for, or what is wrong
 abbrev pub Asked : Type 0 → Type 0
@@ -211,6 +220,7 @@ caller_of program = record { machine = machine_of_name (last_part program); call
 abbrev pub has_gnu_habits : List OccurrenceView → Bool
 has_gnu_habits options =
     is_some (last_given Assembler options) || is_some (last_given AssemblerFlags options) || is_some (last_given TemporaryPrefix options)
+    || is_some (last_given DelayedOutput options)
 
 -- the flavour by the ending of a file's name
 abbrev pub flavor_by_ending : Option (List ℕ) → Flavor
@@ -290,6 +300,32 @@ output_or definition (Some path) =
 abbrev pub output_in : List ℕ → List OccurrenceView → Asked (Option (List ℕ))
 output_in definition options = output_or definition (last_given Output options)
 
+-- the file of a library of delayed imports, which is not the other library's
+abbrev pub delayed_apart : Option (List ℕ) → Option (List ℕ) → Asked (Option (List ℕ))
+delayed_apart None delayed = Ok delayed
+delayed_apart (Some path) None = Ok None
+delayed_apart (Some path) (Some other) = if bytes_eq other path then Err HasOneOutput else Ok (Some other)
+
+-- the file of the library of delayed imports that options give
+abbrev pub delayed_in : List ℕ → Option (List ℕ) → List OccurrenceView → Asked (Option (List ℕ))
+delayed_in definition output options =
+    with (output_or definition (last_given DelayedOutput options)) (λ delayed. delayed_apart output delayed)
+
+-- Whether imports can be delayed: I386 and AMD64 have the code, and Microsoft's linkers delay the imports of an ordinary
+-- library by their option `/delayload`.
+abbrev pub can_delay : MachineType → Flavor → Asked (Unit {0})
+can_delay ARMNT flavor = Err HasNoDelay
+can_delay ARM64 flavor = Err HasNoDelay
+can_delay I386 Msvc = Err DelaysForMicrosoft
+can_delay AMD64 Msvc = Err DelaysForMicrosoft
+can_delay I386 Gnu = Ok tt
+can_delay AMD64 Gnu = Ok tt
+
+-- whether they can where that is asked for
+abbrev pub delay_for : MachineType → Flavor → Option (List ℕ) → Asked (Unit {0})
+delay_for machine flavor None = Ok tt
+delay_for machine flavor (Some path) = can_delay machine flavor
+
 -- How options want names to be read. Of the two about C's underscore the last counts, and one is asked for only
 -- where there is one.
 abbrev pub naming_in : MachineType → List OccurrenceView → Asked NamingView
@@ -330,18 +366,21 @@ abbrev pub request_of : Caller → List OccurrenceView → Option (List ℕ) →
 request_of caller options given =
     with (definition_or given) (λ definition.
     with (output_in definition options) (λ output.
+    with (delayed_in definition output options) (λ delayed.
     with (machine_in caller.machine options) (λ machine.
     with (flavor_in caller.called_as machine output options) (λ flavor.
     with (dll_in options) (λ dll.
     with (naming_in machine options) (λ naming.
+    with (delay_for machine flavor delayed) (λ delays.
     with (older_symbols_in flavor options) (λ older_symbols.
     Ok (record {
       definition = definition;
       output = output;
+      delayed = delayed;
       library = record { machine = machine; flavor = flavor; dll = dll; naming = naming; additions = additions_in options };
       older_symbols = older_symbols;
       is_verbose = is_switched Verbose options;
-    }))))))))
+    }))))))))))
 
 -- the file to make a library of: the definition's, or the one that is given without an option, but not both
 abbrev pub input_of : Option (List ℕ) → List (List ℕ) → Asked (Option (List ℕ))

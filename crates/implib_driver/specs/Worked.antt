@@ -33,7 +33,7 @@ pub record CallsRead : Type 0 where
   pub mingw : read_words mingw_words ≡ Ok mingw_options
   pub last : last_given Definition (Given Definition (codes "a") ∷ Given Output (codes "o") ∷ Given Definition (codes "b") ∷ []) ≡ Some (codes "b")
   pub lacks_value : read_words (codes "-k" ∷ codes "-d" ∷ []) ≡ Err (LacksValue Definition)
-  pub unsupported : read_words (codes "-k" ∷ codes "-yX.a" ∷ codes "b" ∷ []) ≡ Err (IsUnsupported (codes "-yX.a"))
+  pub unsupported : read_words (codes "-k" ∷ codes "-xX.a" ∷ codes "b" ∷ []) ≡ Err (IsUnsupported (codes "-xX.a"))
   pub unknown : read_words (codes "--kill-at=1" ∷ []) ≡ Err (IsUnknown (codes "--kill-at=1"))
   -- a word that is no option is a file, but one of options
   pub file : read_words (codes "-k" ∷ codes "a.dll" ∷ []) ≡ Ok (Switched KillAt ∷ Given Input (codes "a.dll") ∷ [])

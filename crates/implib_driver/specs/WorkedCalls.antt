@@ -39,6 +39,7 @@ pub record CallsAnswered : Type 0 where
   pub rustc : task_of itself rustc_options ≡ Ok (Asks (record {
     definition = codes "F.def";
     output = Some (codes "F.lib");
+    delayed = None;
     library = record { machine = I386; flavor = Gnu; dll = Some (codes "zoo.dll"); naming = plain; additions = no_additions };
     older_symbols = false;
     is_verbose = false;
@@ -46,6 +47,7 @@ pub record CallsAnswered : Type 0 where
   pub mingw : task_of for_i386 mingw_options ≡ Ok (Asks (record {
     definition = codes "X.def";
     output = Some (codes "X.a");
+    delayed = None;
     library = record { machine = AMD64; flavor = Gnu; dll = None; naming = killing; additions = no_additions };
     older_symbols = false;
     is_verbose = false;
@@ -53,6 +55,7 @@ pub record CallsAnswered : Type 0 where
   pub by_ending : task_of itself (Given Definition (codes "-") ∷ Given Output (codes "a.lib") ∷ []) ≡ Ok (Asks (record {
     definition = codes "-";
     output = Some (codes "a.lib");
+    delayed = None;
     library = record { machine = AMD64; flavor = Msvc; dll = None; naming = usual; additions = no_additions };
     older_symbols = false;
     is_verbose = false;
@@ -60,6 +63,7 @@ pub record CallsAnswered : Type 0 where
   pub arm64 : task_of itself (Given Definition (codes "a") ∷ Given Machine (codes "AArch64") ∷ []) ≡ Ok (Asks (record {
     definition = codes "a";
     output = None;
+    delayed = None;
     library = record { machine = ARM64; flavor = Msvc; dll = None; naming = usual; additions = no_additions };
     older_symbols = false;
     is_verbose = false;
@@ -67,6 +71,7 @@ pub record CallsAnswered : Type 0 where
   pub verbose : task_of itself (Given Definition (codes "a") ∷ Switched Verbose ∷ []) ≡ Ok (Asks (record {
     definition = codes "a";
     output = None;
+    delayed = None;
     library = record { machine = AMD64; flavor = Gnu; dll = None; naming = usual; additions = no_additions };
     older_symbols = false;
     is_verbose = true;
@@ -74,6 +79,7 @@ pub record CallsAnswered : Type 0 where
   pub older_symbols : task_of itself (Given Definition (codes "a") ∷ Switched CompatImplib ∷ []) ≡ Ok (Asks (record {
     definition = codes "a";
     output = None;
+    delayed = None;
     library = record { machine = AMD64; flavor = Gnu; dll = None; naming = usual; additions = no_additions };
     older_symbols = true;
     is_verbose = false;
@@ -90,6 +96,7 @@ abbrev pub asked_for : Option (List ℕ) → RequestView
 asked_for output = record {
   definition = codes "a.def";
   output = output;
+  delayed = None;
   library = record { machine = AMD64; flavor = Gnu; dll = None; naming = usual; additions = no_additions };
   older_symbols = false;
   is_verbose = false;

@@ -22,6 +22,7 @@ pub record DllsAsked : Type 0 where
   pub operand : task_of itself (Given Output (codes "a.lib") ∷ Given Input (codes "a.dll") ∷ []) ≡ Ok (Asks (record {
     definition = codes "a.dll";
     output = Some (codes "a.lib");
+    delayed = None;
     library = record { machine = AMD64; flavor = Msvc; dll = None; naming = usual; additions = no_additions };
     older_symbols = false;
     is_verbose = false;
@@ -33,6 +34,7 @@ pub record DllsAsked : Type 0 where
   pub by_machine : request_for for_i386 (Given Input (codes "a.dll") ∷ []) ARM64 ≡ Ok (record {
     definition = codes "a.dll";
     output = None;
+    delayed = None;
     library = record { machine = ARM64; flavor = Msvc; dll = None; naming = usual; additions = no_additions };
     older_symbols = false;
     is_verbose = false;
@@ -41,6 +43,7 @@ pub record DllsAsked : Type 0 where
   pub other_machine : request_for itself (Given Input (codes "a.dll") ∷ Given Machine (codes "i386") ∷ []) AMD64 ≡ Ok (record {
     definition = codes "a.dll";
     output = None;
+    delayed = None;
     library = record { machine = I386; flavor = Gnu; dll = None; naming = usual; additions = no_additions };
     older_symbols = false;
     is_verbose = false;

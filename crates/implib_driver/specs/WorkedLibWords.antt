@@ -123,6 +123,7 @@ pub record LibWordsRead : Type 0 where
   pub asked : asked_by (codes "implib_dlltool") (read_lib_words usual_words) ≡ Ok (Asks (record {
     definition = codes "a.def";
     output = Some (codes "b.a");
+    delayed = None;
     library = record { machine = I386; flavor = Msvc; dll = Some (codes "zoo.dll"); naming = decorated; additions = no_additions };
     older_symbols = false;
     is_verbose = false;
@@ -131,6 +132,7 @@ pub record LibWordsRead : Type 0 where
   pub by_name : asked_by (codes "aarch64-pc-windows-msvc-lib") (words_read (codes "aarch64-pc-windows-msvc-lib") (codes "/def:a" ∷ codes "/out:b" ∷ codes "/verbose" ∷ [])) ≡ Ok (Asks (record {
     definition = codes "a";
     output = Some (codes "b");
+    delayed = None;
     library = record { machine = ARM64; flavor = Msvc; dll = None; naming = decorated; additions = no_additions };
     older_symbols = false;
     is_verbose = true;

@@ -2,7 +2,7 @@
 use Rattle.std.specs.Prelude.{◌≡◌, ℕ, Bool, true, false, List, [], ◌∷◌, None, Some, Ok, Err, codes, map}
 use Rattle.implib.specs.declared.flavor.Flavor.TheVariants.{Msvc, Gnu}
 use Rattle.implib.specs.declared.machine.MachineType.TheVariants.{I386, ARMNT, AMD64, ARM64}
-use Rattle.implib_driver.specs.declared.options.Setting.TheVariants.{Definition, Output, Machine, Dll, Flavor, Assembler, AssemblerFlags, TemporaryPrefix, FurtherPrefix, Identify, Input}
+use Rattle.implib_driver.specs.declared.options.Setting.TheVariants.{Definition, DelayedOutput, Output, Machine, Dll, Flavor, Assembler, AssemblerFlags, TemporaryPrefix, FurtherPrefix, Identify, Input}
 use Rattle.implib_driver.specs.declared.options.Switch.{Switch}
 use Rattle.implib_driver.specs.declared.options.Switch.TheVariants.{KeepsDecorated, KillAt, NoLeadingUnderscore, LeadingUnderscore, DeterministicLibraries, NonDeterministicLibraries, NoDelete, Verbose, Help, Version, ExportAs, AddUnderscore, AddStdcallUnderscore, AddStdcallAlias, IdentifyStrict, CompatImplib}
 use Rattle.implib.specs.Conversions.{flavor_named}
@@ -17,7 +17,8 @@ words_with_values =
     ∷ codes "--flavor" ∷ codes "i" ∷ codes "-S" ∷ codes "j" ∷ codes "--as" ∷ codes "k" ∷ codes "-f" ∷ codes "l"
     ∷ codes "--as-flags" ∷ codes "m" ∷ codes "-t" ∷ codes "n" ∷ codes "--temp-prefix" ∷ codes "o"
     ∷ codes "--def" ∷ codes "p" ∷ codes "-p" ∷ codes "q" ∷ codes "--ext-prefix-alias" ∷ codes "r"
-    ∷ codes "-I" ∷ codes "s" ∷ codes "--identify" ∷ codes "t" ∷ codes "--dll" ∷ codes "u" ∷ codes "v" ∷ []
+    ∷ codes "-I" ∷ codes "s" ∷ codes "--identify" ∷ codes "t" ∷ codes "--dll" ∷ codes "u" ∷ codes "v"
+    ∷ codes "-y" ∷ codes "w" ∷ codes "--output-delaylib" ∷ codes "x" ∷ []
 
 -- what they give
 abbrev pub given : List OccurrenceView
@@ -27,7 +28,8 @@ given =
     ∷ Given Flavor (codes "i") ∷ Given Assembler (codes "j") ∷ Given Assembler (codes "k") ∷ Given AssemblerFlags (codes "l")
     ∷ Given AssemblerFlags (codes "m") ∷ Given TemporaryPrefix (codes "n") ∷ Given TemporaryPrefix (codes "o")
     ∷ Given Definition (codes "p") ∷ Given FurtherPrefix (codes "q") ∷ Given FurtherPrefix (codes "r")
-    ∷ Given Identify (codes "s") ∷ Given Identify (codes "t") ∷ Given Definition (codes "u") ∷ Given Input (codes "v") ∷ []
+    ∷ Given Identify (codes "s") ∷ Given Identify (codes "t") ∷ Given Definition (codes "u") ∷ Given Input (codes "v")
+    ∷ Given DelayedOutput (codes "w") ∷ Given DelayedOutput (codes "x") ∷ []
 
 -- each option without a value, by its letter, where it has one, and by its long name
 abbrev pub words_of_switches : List (List ℕ)
@@ -50,9 +52,9 @@ switched =
 -- the options of GNU dlltool without a meaning here
 abbrev pub unsupported : List (List ℕ)
 unsupported =
-    codes "-e" ∷ codes "-z" ∷ codes "-y" ∷ codes "-b" ∷ codes "-x" ∷ codes "-c" ∷ codes "-a"
+    codes "-e" ∷ codes "-z" ∷ codes "-b" ∷ codes "-x" ∷ codes "-c" ∷ codes "-a"
     ∷ codes "--output-exp" ∷ codes "--output-def"
-    ∷ codes "--output-delaylib" ∷ codes "--base-file"
+    ∷ codes "--base-file"
     ∷ codes "--no-idata4" ∷ codes "--no-idata5" ∷ codes "--add-indirect"
     ∷ codes "--export-all-symbols" ∷ codes "--no-export-all-symbols"
     ∷ codes "--exclude-symbols" ∷ codes "--no-default-excludes" ∷ codes "--use-nul-prefixed-import-tables" ∷ []
@@ -76,6 +78,7 @@ pub record OptionsNamed : Type 0 where
   pub definition : last_given Definition given ≡ Some (codes "u")
   pub input : last_given Input given ≡ Some (codes "v")
   pub output : last_given Output given ≡ Some (codes "d")
+  pub delayed_output : last_given DelayedOutput given ≡ Some (codes "x")
   pub machine : last_given Machine given ≡ Some (codes "f")
   pub dll : last_given Dll given ≡ Some (codes "h")
   pub flavor : last_given Flavor given ≡ Some (codes "i")

@@ -27,6 +27,8 @@ pub enum DllRefusal {
     OtherMachine,
     /// `--compat-implib`, which is for definitions.
     OlderSymbols,
+    /// `--output-delaylib`, which is for definitions.
+    Delayed,
     /// The name of the DLL in its export directory is not UTF-8.
     NameNotUtf8,
     /// An export has no place in a definition.
@@ -76,7 +78,7 @@ pub fn dll_exports(alloc: Global, bytes: &[u8]) -> Result<Exports<'_>, DllRefusa
 ///
 /// # Errors
 ///
-/// `OlderSymbols`; `NameNotUtf8`; `Unsaid`; `NoName`; `Members`; or an allocation failed.
+/// `OlderSymbols`; `Delayed`; `NameNotUtf8`; `Unsaid`; `NoName`; `Members`; or an allocation failed.
 pub fn members_of_dll(
     alloc: Global,
     exports: &Exports<'_>,
@@ -89,6 +91,9 @@ pub fn members_of_dll(
 {
     if request.older_symbols {
         return Err(DllRefusal::OlderSymbols);
+    }
+    if request.delayed.is_some() {
+        return Err(DllRefusal::Delayed);
     }
     match implib_dll_library::members_of_dll(alloc, exports, request.definition, &request.library) {
         Ok(members) => Ok(members),

@@ -3,6 +3,7 @@
 ghost use Rattle.implib_driver.specs.Worked.{CallsRead};
 ghost use Rattle.implib_driver.specs.WorkedCallers.{CallersNamed, FaultsOrdered, FlavorsChosen};
 ghost use Rattle.implib_driver.specs.WorkedCalls.{AnswersTold, CallsAnswered};
+ghost use Rattle.implib_driver.specs.WorkedDelays.{DelaysAsked};
 ghost use Rattle.implib_driver.specs.WorkedDlls.{DllsAsked};
 ghost use Rattle.implib_driver.specs.WorkedLibWords.{LibWordsRead};
 ghost use Rattle.implib_driver.specs.Stubs.{StubsTold};
@@ -61,4 +62,11 @@ pub fn stubs_told()
 /// and the name that it has are as was worked by hand.
 pub fn dlls_asked()
     ensures { DllsAsked }
+{}
+
+/// Calls for libraries of delayed imports, as QEMU and mingw-w64 write them, ask for what was worked by
+/// hand, or are refused, and of two faults the right one comes first; of a refusal the right thing is
+/// said.
+pub fn delays_asked()
+    ensures { DelaysAsked }
 {}

@@ -6,6 +6,7 @@
 #![tactic(auto)]
 
 pub mod arguments;
+pub mod delay;
 pub mod disk;
 pub mod dll;
 pub mod identity;

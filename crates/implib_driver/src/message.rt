@@ -1,6 +1,7 @@
 //! What the program says of a call that it refuses, or that failed.
 
 use crate::arguments::WordFault;
+use crate::delay::Undelayed;
 use crate::dll::DllRefusal;
 use crate::identity::NotIdentified;
 use crate::options::Setting;
@@ -14,6 +15,7 @@ impl fmt::Display for Setting {
         f.write_str(match self {
             Setting::Definition => "-d",
             Setting::Output => "-l",
+            Setting::DelayedOutput => "-y",
             Setting::Machine => "-m",
             Setting::Dll => "-D",
             Setting::Flavor => "--flavor",
@@ -133,7 +135,7 @@ impl<'a> fmt::Display for CallFault<'a> {
             }
             CallFault::NoDefinition => f.write_str(
                 "no definition: expected the option -d\n\
-                 usage: implib_dlltool -d FILE [-l OUT] [-m MACHINE] [-D DLL] [--flavor FLAVOUR]",
+                 usage: implib_dlltool -d FILE [-l OUT] [-y OUT] [-m MACHINE] [-D DLL] [--flavor FLAVOUR]",
             ),
             CallFault::UnknownMachine(name) => write!(
                 f,
@@ -158,6 +160,16 @@ impl<'a> fmt::Display for CallFault<'a> {
             CallFault::OutputIsDefinition => {
                 f.write_str("the library would take the place of the definition")
             }
+            CallFault::OneOutput => {
+                f.write_str("-l and -y name one file; expected a file for each library")
+            }
+            CallFault::NoDelay => f.write_str(
+                "--output-delaylib: not supported on arm and arm64; -m i386 and i386:x86-64 can",
+            ),
+            CallFault::DelayForMicrosoft => f.write_str(
+                "--output-delaylib: not for Microsoft's linkers, which delay the imports of an \
+                 ordinary library by /delayload; --flavor gnu can",
+            ),
             CallFault::NoUnderscore => {
                 f.write_str("--leading-underscore: C's symbols have one on i386 alone")
             }
@@ -181,6 +193,9 @@ impl fmt::Display for DllRefusal {
             DllRefusal::OlderSymbols => {
                 f.write_str("--compat-implib: not supported for a DLL; for a definition it is")
             }
+            DllRefusal::Delayed => f.write_str(
+                "--output-delaylib: not supported for a DLL; for a definition it is",
+            ),
             DllRefusal::NameNotUtf8 => {
                 f.write_str("the name in its export directory is not UTF-8; -D can give one")
             }
@@ -189,6 +204,18 @@ impl fmt::Display for DllRefusal {
             DllRefusal::Members(fault) => write!(f, "{fault}"),
             DllRefusal::OutOfMemory => f.write_str("out of memory"),
         }
+    }
+}
+
+impl fmt::Display for Undelayed {
+    fn fmt<W: fmt::Write>(&self, f: &mut fmt::Formatter<W>) -> fmt::Result {
+        f.write_str(match self {
+            Undelayed::Data(_) => {
+                "data cannot be delayed, since only a call loads the DLL; leave it out for -y"
+            }
+            Undelayed::Alias(_) => "an alias cannot be delayed; leave it out for -y",
+            Undelayed::Machine => "this machine has no code for delayed imports",
+        })
     }
 }
 
@@ -208,6 +235,7 @@ impl<'a> fmt::Display for Complaint<'a> {
                 NotIdentified::SeveralDlls => "it imports from two DLLs or more",
             }),
             Complaint::Dll(refusal) => write!(f, "{refusal}"),
+            Complaint::Undelayed(why) => write!(f, "{why}"),
             Complaint::Utf16 => f.write_str("the definition is UTF-16; expected UTF-8"),
             Complaint::FailingStub => f.write_str(
                 "functions for GNU's linker cannot run on arm, by the stubs that they have there; \

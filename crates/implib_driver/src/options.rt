@@ -13,6 +13,8 @@ pub enum Setting {
     Definition,
     /// `-l`, `--output-lib`: the import library.
     Output,
+    /// `-y`, `--output-delaylib`: the library of delayed imports.
+    DelayedOutput,
     /// `-m`, `--machine`
     Machine,
     /// `-D`, `--dllname`: the DLL's name, before the definition's own.
@@ -89,6 +91,7 @@ impl Setting {
             Setting::FurtherPrefix => 8,
             Setting::Identify => 9,
             Setting::Input => 10,
+            Setting::DelayedOutput => 11,
         }
     }
 
@@ -151,7 +154,7 @@ fn is_unsupported(name: &str) -> bool
     ensures { result ≡ is_unsupported name.now }
 {
     match name {
-        "output-exp" | "output-def" | "output-delaylib" | "base-file" => true,
+        "output-exp" | "output-def" | "base-file" => true,
         "no-idata4" | "no-idata5" | "add-indirect" => true,
         "export-all-symbols" | "no-export-all-symbols" | "exclude-symbols" => true,
         "no-default-excludes" | "use-nul-prefixed-import-tables" => true,
@@ -166,6 +169,7 @@ pub fn option_named(name: &str) -> Meaning
     match name {
         "input-def" | "def" | "dll" => Meaning::Takes(Setting::Definition),
         "output-lib" => Meaning::Takes(Setting::Output),
+        "output-delaylib" => Meaning::Takes(Setting::DelayedOutput),
         "machine" => Meaning::Takes(Setting::Machine),
         "dllname" => Meaning::Takes(Setting::Dll),
         "flavor" | "flavour" => Meaning::Takes(Setting::Flavor),
@@ -201,6 +205,7 @@ pub fn option_lettered(letter: u8) -> Meaning
     match letter {
         b'd' => Meaning::Takes(Setting::Definition),
         b'l' => Meaning::Takes(Setting::Output),
+        b'y' => Meaning::Takes(Setting::DelayedOutput),
         b'm' => Meaning::Takes(Setting::Machine),
         b'D' => Meaning::Takes(Setting::Dll),
         b'S' => Meaning::Takes(Setting::Assembler),
@@ -216,7 +221,7 @@ pub fn option_lettered(letter: u8) -> Meaning
         b'v' => Meaning::Switches(Switch::Verbose),
         b'h' => Meaning::Switches(Switch::Help),
         b'V' => Meaning::Switches(Switch::Version),
-        b'e' | b'z' | b'y' | b'b' | b'x' | b'c' | b'a' => Meaning::Unsupported,
+        b'e' | b'z' | b'b' | b'x' | b'c' | b'a' => Meaning::Unsupported,
         _ => Meaning::Unknown,
     }
 }

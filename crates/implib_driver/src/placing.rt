@@ -9,7 +9,7 @@ ghost use Rattle.std.specs.Prelude.{◌≡◌, IfOk, None, OnErr, OnOk};
 
 use crate::disk::Disk;
 use crate::request::Request;
-use implib_archive::{Archive, WriteError};
+use implib_archive::{Archive, Members, Source, WriteError};
 use implib_rules::library::{LibraryError, archive_for};
 use implib_rules::members::LibraryMembers;
 use std::alloc::Global;
@@ -19,10 +19,10 @@ use std::io::{BufWriter, Write};
 const BUFFER: usize = 1 << 16;
 
 // Writes an archive to a file that is empty, and gives the file.
-fn fill<W: Write + Drop>(
+fn fill<'a, W: Write + Drop, S: Source<'a>>(
     alloc: Global,
     file: W,
-    archive: &Archive<'_, &LibraryMembers>,
+    archive: &Archive<'a, S>,
 ) -> Result<W, WriteError>
     ensures { IfOk result (λ filled. Appends (W.contents file) (W.contents filled)
         (archive_of archive.now.kind archive.now.members)) }
@@ -40,12 +40,16 @@ fn fill<W: Write + Drop>(
     }
 }
 
-// Writes an archive to a new file, and puts that into its place; or removes it.
-fn place<D: Disk>(
+/// Writes an archive to a new file, and puts that into its place; or removes it.
+///
+/// # Errors
+///
+/// It was not written, and no file is in another's place.
+pub(crate) fn place<'a, D: Disk, S: Source<'a>>(
     alloc: Global,
     disk: &mut D,
     path: &str,
-    archive: &Archive<'_, &LibraryMembers>,
+    archive: &Archive<'a, S>,
 ) -> Result<(), WriteError>
     requires { (D.view disk.old).left ≡ None }
     ensures placed { OnOk result (IsPlaced D.is_known (D.view disk.old) (D.view disk.new) path.now

@@ -3,6 +3,9 @@
 ghost use Rattle.implib.specs.Definition.{definition_view};
 ghost use Rattle.implib_driver.specs.Program.{DoesWords, Finishes, FinishesRead, FinishesWith};
 ghost use Rattle.implib_driver.specs.Program.{FinishesFailing, FinishesWithout, members_counted};
+ghost use Rattle.implib_driver.specs.Program.{FinishesDelayed, FinishesDelaying, FinishesText};
+ghost use Rattle.implib_driver.specs.Program.{delay_lines, delay_status};
+ghost use Rattle.implib_archive.specs.Archive.{archive_of};
 ghost use Rattle.implib_driver.specs.Identity.{identified};
 ghost use Rattle.implib_driver.specs.Program.{Identifies, IsUncalled, KeepsFiles, Makes, Performs};
 ghost use Rattle.implib_driver.specs.Program.{NamesDlls, OnlyComplains, Prints, Runs};
@@ -25,11 +28,12 @@ ghost use Rattle.std.specs.String.{string_bytes};
 ghost use Rattle.std.specs.Vec.Iter.{into_iter_items};
 
 use crate::arguments::{Occurrence, ReadWordsError};
+use crate::delay::{DelayRefusal, delayed_archive, delayed_members_for};
 use crate::disk::Disk;
 use crate::dll::{DllCallError, DllRefusal, begins_dll, dll_exports, members_of_dll};
 use crate::identity::{IdentifyError, identify};
 use crate::lib_words::words_read;
-use crate::placing::put;
+use crate::placing::{place, put};
 use crate::reporter::{Complaint, Reporter};
 use crate::request::{
     CallError, Caller, Identification, Request, Task, caller_of, request_in, task_of,
@@ -37,7 +41,8 @@ use crate::request::{
 use crate::stubs::has_failing_stub;
 use crate::verbose::warnings_for;
 use implib::def::ModuleDef;
-use implib::{Flavor, MachineType, ParseError};
+use implib::{Flavor, MachineType, Member, ParseError};
+use implib_archive::Archive;
 use implib_dll::Exports;
 use implib_from_dll::machine_of;
 use implib_rules::library::{LibraryError, Refusal, members_asked};
@@ -54,7 +59,7 @@ use std::{io, mem};
 
 // What the program prints for `--help`.
 const HELP: &str = "\
-usage: implib_dlltool -d FILE [-l OUT] [-m MACHINE] [-D DLL] [--flavor FLAVOUR]
+usage: implib_dlltool -d FILE [-l OUT] [-y OUT] [-m MACHINE] [-D DLL] [--flavor FLAVOUR]
        implib_dlltool -l OUT FOO.dll
 
 Makes the import library of a module definition, or of all that a DLL exports.
@@ -63,6 +68,11 @@ Makes the import library of a module definition, or of all that a DLL exports.
       --dll FILE           the DLL; its machine is the library's. A FILE that begins
                            with MZ is a DLL, and any other a definition
   -l, --output-lib OUT     the import library; without it FILE is checked
+  -y, --output-delaylib OUT
+                           a library by which GNU's linker makes each first call of
+                           a function load the DLL; link it with -ldelayimp. On
+                           i386 and i386:x86-64, of functions alone; names are
+                           asked for as under -k
   -m, --machine MACHINE    i386 or x86; i386:x86-64, amd64, x64 or x86_64; arm or
                            armnt; arm64 or aarch64; by default the one that the
                            program's name begins with, as i686-w64-mingw32-dlltool,
@@ -70,7 +80,7 @@ Makes the import library of a module definition, or of all that a DLL exports.
   -D, --dllname DLL        the name of the DLL, before that of FILE
       --flavor FLAVOUR     msvc or gnu: whose linker the library is for; by
                            default msvc for arm and arm64 and for OUT in .lib,
-                           unless -S, -f or -t is given, and else gnu; called
+                           unless -S, -f, -t or -y is given, and else gnu; called
                            as llvm-dlltool msvc, and called as another dlltool
                            gnu but for arm and arm64
   -k, --kill-at            on I386 ask for names without @ and what follows it
@@ -433,6 +443,13 @@ fn refuse<T: Reporter>(
     }
 }
 
+// A library of delayed imports, and the path that it is for.
+#[derive(Drop)]
+struct Delayed<'a> {
+    path: &'a str,
+    archive: Archive<'a, &'a [Member]>,
+}
+
 // Whether bytes begin as a text in UTF-16.
 fn begins_utf16(bytes: &[u8]) -> bool
     ensures { result ≡ begins_utf16 bytes.now }
@@ -462,6 +479,104 @@ fn answer_definition<D: Disk, T: Reporter>(
         }
         Ok(members) => finish(alloc, bytes, members, disk, request, reporter),
         Err(refusal) => refuse(alloc, bytes, refusal, request, reporter),
+    }
+}
+
+// Says why a definition has no library of delayed imports, and gives the exit status.
+fn refuse_delay<T: Reporter>(reporter: &mut T, path: &str, refusal: DelayRefusal) -> u8
+    ensures said { Says (T.said reporter.old) (T.said reporter.new)
+        (delay_lines path.now refusal) }
+    ensures status { result ≡ delay_status refusal }
+{
+    match refusal {
+        DelayRefusal::Refused(refusal) => {
+            reporter.refuse(path, &refusal);
+            refusal_status(&refusal)
+        }
+        DelayRefusal::Undelayed(why) => {
+            reporter.complain(path, Complaint::Undelayed(why));
+            1
+        }
+    }
+}
+
+// Puts the library of a definition, if one is asked for, and then this one of delayed imports; gives
+// the exit status.
+fn finish_delayed<D: Disk, T: Reporter>(
+    alloc: Global,
+    bytes: &[u8],
+    disk: &mut D,
+    delayed: &Delayed<'_>,
+    request: &Request<'_>,
+    reporter: &mut T,
+) -> u8
+    requires { (D.view disk.old).left ≡ None }
+    ensures { FinishesDelayed D.is_known bytes.now delayed.now.path.now
+        (archive_of delayed.now.archive.kind delayed.now.archive.members) (request_view request.now)
+        (D.view disk.old) (D.view disk.new) (T.said reporter.old) (T.said reporter.new) result }
+{
+    let status = answer_definition(alloc, bytes, disk, request, reporter);
+    if status != 0 {
+        return status;
+    }
+    match place(alloc, disk, delayed.path, &delayed.archive) {
+        Ok(()) => 0,
+        Err(cause) => {
+            reporter.complain(delayed.path, Complaint::Writing(cause));
+            3
+        }
+    }
+}
+
+// Puts the libraries of a definition that is read, of which that of delayed imports is for this
+// path, and gives the exit status. Nothing is put unless both can be made.
+fn answer_delaying<D: Disk, T: Reporter>(
+    alloc: Global,
+    bytes: &[u8],
+    disk: &mut D,
+    path: &str,
+    request: &Request<'_>,
+    reporter: &mut T,
+) -> u8
+    requires { (D.view disk.old).left ≡ None }
+    ensures { FinishesDelaying D.is_known bytes.now path.now (request_view request.now)
+        (D.view disk.old) (D.view disk.new) (T.said reporter.old) (T.said reporter.new) result }
+{
+    if begins_utf16(bytes) {
+        reporter.complain(request.definition, Complaint::Utf16);
+        return 1;
+    }
+    let members = match delayed_members_for(alloc, bytes, &request.library) {
+        Ok(members) => members,
+        Err(refusal) => return refuse_delay(reporter, request.definition, refusal),
+    };
+    match delayed_archive(alloc, members.as_slice()) {
+        Ok(archive) => {
+            let delayed = Delayed { path, archive };
+            finish_delayed(alloc, bytes, disk, &delayed, request, reporter)
+        }
+        Err(refusal) => {
+            refuse_delay(reporter, request.definition, DelayRefusal::Refused(refusal))
+        }
+    }
+}
+
+// Puts the libraries of a definition that is read, and gives the exit status.
+fn answer_text<D: Disk, T: Reporter>(
+    alloc: Global,
+    bytes: &[u8],
+    disk: &mut D,
+    request: &Request<'_>,
+    reporter: &mut T,
+) -> u8
+    requires { (D.view disk.old).left ≡ None }
+    ensures { FinishesText D.is_known bytes.now (request_view request.now).delayed
+        (request_view request.now) (D.view disk.old) (D.view disk.new)
+        (T.said reporter.old) (T.said reporter.new) result }
+{
+    match request.delayed {
+        None => answer_definition(alloc, bytes, disk, request, reporter),
+        Some(path) => answer_delaying(alloc, bytes, disk, path, request, reporter),
     }
 }
 
@@ -611,7 +726,7 @@ fn answer<D: Disk, T: Reporter>(
     if begins_dll(bytes) {
         return answer_dll(alloc, bytes, disk, call, reporter);
     }
-    answer_definition(alloc, bytes, disk, &call.request, reporter)
+    answer_text(alloc, bytes, disk, &call.request, reporter)
 }
 
 // Makes a library, and gives the exit status.

@@ -5,6 +5,7 @@ ghost use Rattle.implib_rules.specs.Warnings.{warning_view};
 ghost use Rattle.std.specs.Prelude.{[], ◌∷◌, List, Option};
 
 use crate::arguments::WordFault;
+use crate::delay::Undelayed;
 use crate::dll::DllRefusal;
 use crate::identity::NotIdentified;
 use crate::request::CallFault;
@@ -34,6 +35,8 @@ pub enum Complaint<'a> {
     FailingStub,
     /// A definition is in UTF-16.
     Utf16,
+    /// A definition has no library of delayed imports.
+    Undelayed(Undelayed),
     /// A DLL has no library.
     Dll(DllRefusal),
 }

@@ -13,11 +13,12 @@ ghost use Rattle.implib_driver.specs.Request.{flavor_in};
 ghost use Rattle.implib_driver.specs.Request.{has_gnu_habits, holds_text, input_in, is_other_architecture};
 ghost use Rattle.implib_driver.specs.Request.{machine_in, machine_named, machine_of_architecture};
 ghost use Rattle.implib_driver.specs.Request.{machine_of_name};
+ghost use Rattle.implib_driver.specs.Request.{delay_for, delayed_apart, delayed_in, output_or};
 ghost use Rattle.implib_driver.specs.Request.{naming_in, older_symbols_in, output_in, request_in};
 ghost use Rattle.implib_driver.specs.Request.{request_view};
 ghost use Rattle.implib_driver.specs.Request.{task_of, task_view};
 ghost use Rattle.std.specs.Option.{option_map, option_to_list};
-ghost use Rattle.std.specs.Prelude.{◌≡◌, ◌<◌, Err, IfErr, IfOk, Ok, length, map};
+ghost use Rattle.std.specs.Prelude.{◌≡◌, ◌<◌, Err, IfErr, IfOk, Ok, OnOk, length, map};
 
 use crate::arguments::{Occurrence, is_last, is_switched, last_given};
 use crate::options::{Setting, Switch};
@@ -37,6 +38,8 @@ pub struct Request<'a> {
     pub definition: &'a str,
     /// The file of the import library; none is written without it.
     pub output: Option<&'a str>,
+    /// The file of the library of delayed imports; none is written without it.
+    pub delayed: Option<&'a str>,
     /// What the library is made for.
     pub library: LibraryOptions<'a>,
     /// Whether addresses have their older symbols too (`-C`).
@@ -95,6 +98,12 @@ pub enum CallFault<'a> {
     NoOlderSymbols,
     /// The library would take the definition's place.
     OutputIsDefinition,
+    /// The library of delayed imports would take the other library's place.
+    OneOutput,
+    /// `--output-delaylib` for a machine without code for delayed imports.
+    NoDelay,
+    /// `--output-delaylib` for Microsoft's linkers, which delay imports of an ordinary library.
+    DelayForMicrosoft,
 }
 
 /// Whose ways a program's name asks for.
@@ -257,6 +266,7 @@ fn has_gnu_habits(options: &[Occurrence<'_>]) -> bool
     last_given(options, Setting::Assembler).is_some()
         || last_given(options, Setting::AssemblerFlags).is_some()
         || last_given(options, Setting::TemporaryPrefix).is_some()
+        || last_given(options, Setting::DelayedOutput).is_some()
 }
 
 // The flavour by the ending of a file's name.
@@ -354,6 +364,26 @@ fn dll_in<'a>(options: &[Occurrence<'a>]) -> Result<Option<&'a str>, CallFault<'
     Ok(Some(name))
 }
 
+// The file of a library, which is not the definition's.
+fn file_given<'a>(
+    given: Option<&'a str>,
+    definition: &str,
+) -> Result<Option<&'a str>, CallFault<'a>>
+    ensures ok { IfOk result (λ output.
+        output_or definition.now (option_map (λ text. text.now) given.entry)
+        ≡ Ok (option_map (λ text. text.now) output)) }
+    ensures refused { IfErr result (λ fault.
+        output_or definition.now (option_map (λ text. text.now) given.entry)
+        ≡ Err (call_fault_view fault)) }
+{
+    match given {
+        Some("-") => Err(CallFault::OutputToStandard),
+        Some("") => Err(CallFault::EmptyOutput),
+        Some(path) if path == definition => Err(CallFault::OutputIsDefinition),
+        output => Ok(output),
+    }
+}
+
 // The file of the library that the options give, which is not the definition's.
 fn output_in<'a>(
     options: &[Occurrence<'a>],
@@ -364,11 +394,67 @@ fn output_in<'a>(
     ensures refused { IfErr result (λ fault.
         output_in definition.now (map occurrence_view options.now) ≡ Err (call_fault_view fault)) }
 {
-    match last_given(options, Setting::Output) {
-        Some("-") => Err(CallFault::OutputToStandard),
-        Some("") => Err(CallFault::EmptyOutput),
-        Some(path) if path == definition => Err(CallFault::OutputIsDefinition),
-        output => Ok(output),
+    file_given(last_given(options, Setting::Output), definition)
+}
+
+// The file of a library of delayed imports, which is not the other library's.
+fn delayed_apart<'a>(
+    output: Option<&str>,
+    delayed: Option<&'a str>,
+) -> Result<Option<&'a str>, CallFault<'a>>
+    ensures ok { IfOk result (λ file. delayed_apart (option_map (λ text. text.now) output.entry)
+        (option_map (λ text. text.now) delayed.entry) ≡ Ok (option_map (λ text. text.now) file)) }
+    ensures refused { IfErr result (λ fault.
+        delayed_apart (option_map (λ text. text.now) output.entry)
+        (option_map (λ text. text.now) delayed.entry) ≡ Err (call_fault_view fault)) }
+{
+    let Some(path) = output else {
+        return Ok(delayed);
+    };
+    match delayed {
+        Some(other) if other == path => Err(CallFault::OneOutput),
+        _ => Ok(delayed),
+    }
+}
+
+// The file of the library of delayed imports that the options give.
+fn delayed_in<'a>(
+    options: &[Occurrence<'a>],
+    definition: &str,
+    output: Option<&str>,
+) -> Result<Option<&'a str>, CallFault<'a>>
+    ensures ok { IfOk result (λ file.
+        delayed_in definition.now (option_map (λ text. text.now) output.entry)
+        (map occurrence_view options.now) ≡ Ok (option_map (λ text. text.now) file)) }
+    ensures refused { IfErr result (λ fault.
+        delayed_in definition.now (option_map (λ text. text.now) output.entry)
+        (map occurrence_view options.now) ≡ Err (call_fault_view fault)) }
+{
+    let delayed = file_given(last_given(options, Setting::DelayedOutput), definition)?;
+    delayed_apart(output, delayed)
+}
+
+// Whether imports can be delayed so: on machines that have the code, by GNU's linker.
+fn test_delay<'a>(
+    delayed: Option<&str>,
+    machine: MachineType,
+    flavor: Flavor,
+) -> Result<(), CallFault<'a>>
+    ensures ok { OnOk result (delay_for machine flavor (option_map (λ text. text.now) delayed.entry)
+        ≡ Ok tt) }
+    ensures refused { IfErr result (λ fault.
+        delay_for machine flavor (option_map (λ text. text.now) delayed.entry)
+        ≡ Err (call_fault_view fault)) }
+{
+    if delayed.is_none() {
+        return Ok(());
+    }
+    match machine {
+        MachineType::ARMNT | MachineType::ARM64 => Err(CallFault::NoDelay),
+        MachineType::I386 | MachineType::AMD64 => match flavor {
+            Flavor::Msvc => Err(CallFault::DelayForMicrosoft),
+            Flavor::Gnu => Ok(()),
+        },
     }
 }
 
@@ -481,15 +567,18 @@ pub(crate) fn request_in<'a>(
         return Err(CallError::Refused(CallFault::EmptyDefinition));
     }
     let output = output_in(options, definition)?;
+    let delayed = delayed_in(options, definition, output)?;
     let machine = machine_in(alloc, options, caller.machine)?;
     let flavor = flavor_in(options, caller.called_as, machine, output)?;
     let dll = dll_in(options)?;
     let naming = naming_in(options, machine)?;
+    test_delay(delayed, machine, flavor)?;
     let older_symbols = older_symbols_in(options, flavor)?;
     let additions = additions_in(options);
     Ok(Request {
         definition,
         output,
+        delayed,
         library: LibraryOptions {
             machine,
             flavor,
@@ -507,11 +596,12 @@ pub(crate) fn request_in<'a>(
 ///
 /// # Errors
 ///
-/// What is wrong first: two files to make a library of; no definition, or one in a file without a name; the library to standard output, to a file without a name or
-/// to the definition's;
-/// an unknown machine, or none where the program's name is of another architecture; an unknown
-/// flavour; an empty name of the DLL; an underscore where C's symbols have none; older symbols for
-/// Microsoft's linker. `OutOfMemory` may come before the last five.
+/// What is wrong first: two files to make a library of; no definition, or one in a file without a
+/// name; the library, and then that of delayed imports, to standard output, to a file without a name
+/// or to the definition's; both to one file; an unknown machine, or none where the program's name is
+/// of another architecture; an unknown flavour; an empty name of the DLL; an underscore where C's
+/// symbols have none; delayed imports for a machine without their code, or for Microsoft's linkers;
+/// older symbols for Microsoft's linker. `OutOfMemory` may come before those that follow the machine.
 pub fn task_of<'a>(
     alloc: Global,
     options: &[Occurrence<'a>],

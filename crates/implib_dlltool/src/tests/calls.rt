@@ -9,7 +9,7 @@ use std::test::Fail;
 use std::{env, fs, io};
 
 // Runs the program with words and standard input; the status, and what it wrote on standard error.
-fn ran(rt: &HostRuntime, words: &[&str], input: &[u8]) -> Result<(u8, String), Fail> {
+pub(crate) fn ran(rt: &HostRuntime, words: &[&str], input: &[u8]) -> Result<(u8, String), Fail> {
     ran_as(rt, "implib_dlltool", words, input)
 }
 
@@ -202,7 +202,7 @@ fn wrong_calls_are_told(rt: HostRuntime) -> Result<(), Fail> {
         (
             [].as_slice(),
             "implib_dlltool: no definition: expected the option -d\n\
-             usage: implib_dlltool -d FILE [-l OUT] [-m MACHINE] [-D DLL] [--flavor FLAVOUR]\n",
+             usage: implib_dlltool -d FILE [-l OUT] [-y OUT] [-m MACHINE] [-D DLL] [--flavor FLAVOUR]\n",
         ),
         (
             ["-kvd", "-", "--", "-k"].as_slice(),

@@ -21,6 +21,7 @@ fn options_are_told_by_their_names(rt: HostRuntime) -> Result<(), Fail> {
         (Setting::TemporaryPrefix, "-t"),
         (Setting::FurtherPrefix, "-p"),
         (Setting::Identify, "-I"),
+        (Setting::DelayedOutput, "-y"),
     ] {
         let shown = format!(in rt.alloc(); "{setting}")?;
         assert_eq!(rt; shown.as_str(), name);
@@ -73,9 +74,11 @@ fn the_help_has_options_and_statuses(rt: HostRuntime) -> Result<(), Fail> {
     assert_eq!(rt; status, 0);
     let help = str::from_utf8(printed.as_slice()).unwrap_or("?");
     for part in [
-        "usage: implib_dlltool -d FILE [-l OUT] [-m MACHINE] [-D DLL] [--flavor FLAVOUR]\n",
+        "usage: implib_dlltool -d FILE [-l OUT] [-y OUT] [-m MACHINE] [-D DLL] [--flavor FLAVOUR]\n",
         "\n  -d, --input-def FILE     the module definition; - is standard input; also --def\n",
         "\n  -l, --output-lib OUT     the import library; without it FILE is checked\n",
+        "\n  -y, --output-delaylib OUT\n",
+        "\n                           i386 and i386:x86-64, of functions alone; names are\n",
         "\n  -m, --machine MACHINE    i386 or x86; i386:x86-64, amd64, x64 or x86_64; arm or\n",
         "\n                           armnt; arm64 or aarch64; by default the one that the\n",
         "\n  -D, --dllname DLL        the name of the DLL, before that of FILE\n",

@@ -12,6 +12,7 @@ options = record {
   definition = refl;
   input = refl;
   output = refl;
+  delayed_output = refl;
   machine = refl;
   dll = refl;
   flavor = refl;

@@ -1,0 +1,158 @@
+//! The library of delayed imports of a definition.
+
+ghost use Rattle.implib.specs.Library.{member_view};
+ghost use Rattle.implib_archive.specs.declared.kind.Kind.TheVariants as kind;
+ghost use Rattle.implib_archive.specs.Refusal.{refusal_of};
+ghost use Rattle.implib_driver.specs.Delay.{DelayedMembersFor, IsRefusalOfDelayedArchive};
+ghost use Rattle.implib_driver.specs.Delay.{IsRefusalOfDelayedMembers, IsRefusalPlaced};
+ghost use Rattle.implib_driver.specs.Delay.{delayed_options, position_of_undelayed};
+ghost use Rattle.implib_delay.specs.Refusal.{delay_cause};
+ghost use Rattle.implib_rules.specs.Options.{library_options_view};
+ghost use Rattle.std.specs.Prelude.{◌≡◌, IfErr, IfOk, None, OnOk, map};
+
+use implib::def::{ModuleDef, Position};
+use implib::{Fault, Member};
+use implib_archive::{Archive, Kind};
+use implib_delay::{DelayError, DelayFault, delayed_members};
+use implib_rules::library::{Refusal, definition_for};
+use implib_rules::linked::Naming;
+use implib_rules::options::LibraryOptions;
+use implib_rules::places::position_of_fault;
+use implib_rules::text::DefinitionText;
+use std::alloc::{AllocError, Global};
+
+/// Why the imports of a definition cannot be delayed, where an ordinary library could be made.
+#[derive(Clone, Copy, Debug)]
+pub enum Undelayed {
+    /// The export that begins here is data or a constant.
+    Data(Position),
+    /// The export that begins here is a weak name for another.
+    Alias(Position),
+    /// The machine has no code for delayed imports.
+    Machine,
+}
+
+impl Undelayed {
+    /// Where that is, if it is not of the whole definition.
+    pub fn position(&self) -> Option<Position>
+        ensures { result ≡ position_of_undelayed self.now }
+    {
+        match self {
+            Undelayed::Data(position) | Undelayed::Alias(position) => Some(*position),
+            Undelayed::Machine => None,
+        }
+    }
+}
+
+/// Why a definition has no library of delayed imports.
+#[derive(Debug, Drop)]
+pub enum DelayRefusal {
+    /// An ordinary library is refused so too.
+    Refused(Refusal),
+    /// Its imports cannot be delayed.
+    Undelayed(Undelayed),
+}
+
+impl From<AllocError> for DelayRefusal {
+    ghost use Rattle.implib_driver.specs.declared.delay.DelayRefusal.TheVariants.{Refused};
+    ghost use Rattle.implib_rules.specs.declared.library.Refusal.TheVariants.{OutOfMemory};
+    ghost use Rattle.std.specs.Prelude.{◌≡◌};
+
+    ghost from_gives = { λ _ error. error ≡ Refused OutOfMemory };
+
+    fn from(_refused: AllocError) -> DelayRefusal {
+        DelayRefusal::Refused(Refusal::OutOfMemory)
+    }
+}
+
+impl From<Refusal> for DelayRefusal {
+    ghost use Rattle.implib_driver.specs.declared.delay.DelayRefusal.TheVariants.{Refused};
+    ghost use Rattle.std.specs.Prelude.{◌≡◌};
+
+    ghost from_gives = { λ refusal error. error ≡ Refused refusal };
+
+    fn from(refusal: Refusal) -> DelayRefusal {
+        DelayRefusal::Refused(refusal)
+    }
+}
+
+// The options under which a delayed library is made: its names are asked for as under `-k`.
+fn delayed_options<'a>(options: &LibraryOptions<'a>) -> LibraryOptions<'a>
+    ensures { library_options_view result ≡ delayed_options (library_options_view options.now) }
+{
+    LibraryOptions {
+        naming: Naming {
+            kills_at: true,
+            ..options.naming
+        },
+        ..*options
+    }
+}
+
+// A refusal of an export, or of the whole definition, with its place in the text.
+fn refusal_placed(alloc: Global, text: &str, fault: DelayFault) -> DelayRefusal
+    ensures { IsRefusalPlaced text.now (delay_cause fault) result }
+{
+    // An export's place is asked for by a fault of it, whichever.
+    let at = match &fault {
+        DelayFault::Machine => return DelayRefusal::Undelayed(Undelayed::Machine),
+        DelayFault::Data(index) | DelayFault::Alias(index) => {
+            position_of_fault(alloc, text, &Fault::EmptyName(*index))
+        }
+        DelayFault::Names(names) => position_of_fault(alloc, text, names),
+    };
+    let Ok(position) = at else {
+        return DelayRefusal::Refused(Refusal::OutOfMemory);
+    };
+    match fault {
+        DelayFault::Machine => DelayRefusal::Undelayed(Undelayed::Machine),
+        DelayFault::Data(_) => DelayRefusal::Undelayed(Undelayed::Data(position)),
+        DelayFault::Alias(_) => DelayRefusal::Undelayed(Undelayed::Alias(position)),
+        DelayFault::Names(names) => DelayRefusal::Refused(Refusal::Members(names, position)),
+    }
+}
+
+/// The members of the library of delayed imports of a definition, for the machine and under the name
+/// of the options. Names are asked for as under `-k`, as by GNU dlltool.
+///
+/// # Errors
+///
+/// `Refused`: bytes that are not UTF-8; what [`definition_for`] refuses; an export that an ordinary
+/// library for GNU's linker refuses too. `Undelayed`: data, with its place; a machine without code
+/// for delayed imports.
+pub fn delayed_members_for(
+    alloc: Global,
+    bytes: &[u8],
+    options: &LibraryOptions<'_>,
+) -> Result<Vec<Member>, DelayRefusal>
+    ensures made { IfOk result (λ members. DelayedMembersFor bytes.now
+        (library_options_view options.now) (map member_view members.items)) }
+    ensures refused { IfErr result
+        (IsRefusalOfDelayedMembers bytes.now (library_options_view options.now)) }
+{
+    let read = DefinitionText::new(alloc, bytes)?;
+    let text = match read.text() {
+        Ok(text) => text,
+        Err(position) => return Err(DelayRefusal::Refused(Refusal::NotUtf8(position))),
+    };
+    let def = definition_for(alloc, text, &delayed_options(options))?;
+    match delayed_members(def, options.machine) {
+        Ok(members) => Ok(members),
+        Err(DelayError::Invalid(fault)) => Err(refusal_placed(alloc, text, fault)),
+        Err(DelayError::OutOfMemory(_)) => Err(DelayRefusal::Refused(Refusal::OutOfMemory)),
+    }
+}
+
+/// The archive of delayed imports: of GNU's kind.
+///
+/// # Errors
+///
+/// `Archive`: what such an archive cannot carry. `OutOfMemory`.
+pub fn delayed_archive(alloc: Global, members: &[Member]) -> Result<Archive<'_, &[Member]>, Refusal>
+    ensures holds { IfOk result (λ archive. archive
+        ≡ record { kind = kind.Gnu; members = map member_view members.now }) }
+    ensures accepted { OnOk result (refusal_of kind.Gnu (map member_view members.now) ≡ None) }
+    ensures refused { IfErr result (IsRefusalOfDelayedArchive (map member_view members.now)) }
+{
+    Ok(Archive::new(alloc, members, Kind::Gnu)?)
+}
