@@ -1,5 +1,5 @@
 -- What is done with the bytes of a DLL (this project's own).
-use Rattle.std.specs.Prelude.{◌≡◌, ◌⊎◌, ℕ, Bool, true, false, List, [], ◌∷◌, Option}
+use Rattle.std.specs.Prelude.{◌≡◌, ◌⊎◌, ℕ, Bool, true, false, List, [], ◌∷◌, Option, None}
 use Rattle.implib.specs.declared.machine.MachineType.{MachineType}
 use Rattle.implib.specs.Members.MemberSpec.{MemberView}
 use Rattle.implib_dll.specs.Exports.{Exports}
@@ -24,6 +24,8 @@ pub record PutsMembers (known : Bool) (members : List MemberView) (request : Req
 
 -- a DLL has members whose stubs can run, and their library was put
 pub record IsMade (known : Bool) (e : Exports) (request : RequestView) (disk put : DiskView) (before after : Option (List Line)) (status : ℕ) : Type 0 where
+  -- no library of delayed imports is asked for
+  pub undelayed : request.delayed ≡ None
   pub members : List MemberView
   pub made : MembersOfDll e request members
   pub runs : has_failing_stub request.library members ≡ false

@@ -77,8 +77,13 @@ pub record DelaysAsked : Type 0 where
     definition = codes "p.def";
     output = None;
     delayed = Some (codes "libp.a");
-    library = record { machine = AMD64; flavor = Gnu; dll = Some (codes "qemu.exe"); naming = usual;
-        additions = no_additions };
+    library = record {
+      machine = AMD64;
+      flavor = Gnu;
+      dll = Some (codes "qemu.exe");
+      naming = usual;
+      additions = no_additions;
+    };
     older_symbols = false;
     is_verbose = false;
   }))
@@ -87,8 +92,13 @@ pub record DelaysAsked : Type 0 where
     definition = codes "X.def";
     output = Some (codes "libX.a");
     delayed = Some (codes "libX.delayimp.a");
-    library = record { machine = I386; flavor = Gnu; dll = None; naming = killing;
-        additions = no_additions };
+    library = record {
+      machine = I386;
+      flavor = Gnu;
+      dll = None;
+      naming = killing;
+      additions = no_additions;
+    };
     older_symbols = false;
     is_verbose = false;
   }))
@@ -98,14 +108,19 @@ pub record DelaysAsked : Type 0 where
   -- only GNU dlltool has a use for the option, so the other library is for GNU's linker too
   pub gnu_by_delay : task_of itself (given ∷ Given Output (codes "a.lib") ∷ delayed ∷ [])
       ≡ Ok (Asks (record {
-    definition = codes "a";
-    output = Some (codes "a.lib");
-    delayed = Some (codes "y");
-    library = record { machine = AMD64; flavor = Gnu; dll = None; naming = usual;
-        additions = no_additions };
-    older_symbols = false;
-    is_verbose = false;
-  }))
+        definition = codes "a";
+        output = Some (codes "a.lib");
+        delayed = Some (codes "y");
+        library = record {
+          machine = AMD64;
+          flavor = Gnu;
+          dll = None;
+          naming = usual;
+          additions = no_additions;
+        };
+        older_symbols = false;
+        is_verbose = false;
+      }))
   pub last_counts : delayed_in (codes "a") None (delayed ∷ Given DelayedOutput (codes "z") ∷ [])
       ≡ Ok (Some (codes "z"))
   pub none_given : delayed_in (codes "a") (Some (codes "b")) (given ∷ []) ≡ Ok None
@@ -154,8 +169,12 @@ pub record DelaysAsked : Type 0 where
   pub kills : delayed_options (named_so usual) ≡ named_so killing
   pub kills_as_before : delayed_options (named_so killing) ≡ named_so killing
   pub kills_plain : delayed_options (named_so plain)
-      ≡ named_so (record { is_plain = true; kills_at = true; exports_as = false;
-          keeps_decorated = false })
+      ≡ named_so (record {
+        is_plain = true;
+        kills_at = true;
+        exports_as = false;
+        keeps_decorated = false;
+      })
   -- what is said of a refusal, where it is, and with which status
   pub data_said : (at : Position) → delay_lines (codes "a") (CannotDelay (Data at))
       ≡ Complains (codes "a") (OfUndelayed (Data at)) ∷ []

@@ -5,7 +5,7 @@ ghost use Rattle.implib_dll.specs.Views.{exports_view};
 ghost use Rattle.implib_driver.specs.Dll.{IsRefusalOfReading, IsUnmade, MembersOfDll};
 ghost use Rattle.implib_driver.specs.Dll.{ReadsDll, begins_dll, dll_status};
 ghost use Rattle.implib_driver.specs.Request.{request_view};
-ghost use Rattle.std.specs.Prelude.{◌≡◌, IfErr, IfOk, None, Some};
+ghost use Rattle.std.specs.Prelude.{◌≡◌, IfErr, IfOk, None, OnOk, Some};
 
 use crate::request::{CallFault, Request};
 use implib_dll::{Exports, Fault, ReadError};
@@ -86,15 +86,30 @@ pub fn members_of_dll(
 ) -> Result<LibraryMembers, DllRefusal>
     ensures made { IfOk result (λ members.
         MembersOfDll (exports_view exports.now) (request_view request.now) members) }
+    ensures undelayed { OnOk result ((request_view request.now).delayed ≡ None) }
     ensures refused { IfErr result
         (IsUnmade (exports_view exports.now) (request_view request.now)) }
 {
     if request.older_symbols {
         return Err(DllRefusal::OlderSymbols);
     }
-    if request.delayed.is_some() {
-        return Err(DllRefusal::Delayed);
+    match request.delayed {
+        Some(_) => Err(DllRefusal::Delayed),
+        None => ordinary_members_of_dll(alloc, exports, request),
     }
+}
+
+// The members of the ordinary library of a DLL.
+fn ordinary_members_of_dll(
+    alloc: Global,
+    exports: &Exports<'_>,
+    request: &Request<'_>,
+) -> Result<LibraryMembers, DllRefusal>
+    ensures made { IfOk result (λ members.
+        MembersOfDll (exports_view exports.now) (request_view request.now) members) }
+    ensures refused { IfErr result
+        (IsUnmade (exports_view exports.now) (request_view request.now)) }
+{
     match implib_dll_library::members_of_dll(alloc, exports, request.definition, &request.library) {
         Ok(members) => Ok(members),
         Err(Unmade::NameNotUtf8) => Err(DllRefusal::NameNotUtf8),
