@@ -16,9 +16,7 @@ ghost use Rattle.implib_read.specs.ImportViews.{ask_view};
 ghost use Rattle.implib_read.specs.IndexViews.{index_entry_view};
 ghost use Rattle.serde_json.specs.View.{members_view, view};
 
-use crate::finding::{
-    Export, Fault, Finding, Side, Unmet, address_word, loss_words, piece_words,
-};
+use crate::finding::{Export, Fault, Finding, Side, Unmet, address_word, loss_words, piece_words};
 use crate::text::{Site, kind_word};
 use implib::def::Position;
 use implib_dll::{Ask, Target};

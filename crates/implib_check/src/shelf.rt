@@ -5,6 +5,7 @@ ghost use Rattle.std.specs.String.{string_bytes};
 
 use std::alloc::Global;
 use std::fs::Files;
+use std::io::ErrorKind;
 use std::{fs, io};
 
 /// Files that are read.
@@ -19,7 +20,8 @@ pub trait Shelf {
     fn read(&self, alloc: Global, path: &str) -> io::Result<Vec<u8>>
         ensures { IfOk result (λ bytes. IfSome (seen self.now path.now) (λ file. bytes.items ≡ file)) };
 
-    /// The names of what is in a folder, in the order that the system has them in.
+    /// The names of what is in a folder, in the order that the system has them in; without those
+    /// that are not UTF-8.
     fn names(&self, alloc: Global, folder: &str) -> io::Result<Vec<String>>
         ensures { IfOk result (λ names. IfSome (listed self.now folder.now)
             (λ known. map string_bytes names.items ≡ known)) };
@@ -45,7 +47,12 @@ impl<'r, R: Files + AllocGlobal + Clone + Drop> Shelf for SystemFiles<'r, R> {
     fn names(&self, alloc: Global, folder: &str) -> io::Result<Vec<String>> {
         let mut names = Vec::new(alloc);
         for entry in fs::read_dir(self.rt, folder)? {
-            names.push(String::from_str(alloc, entry?.file_name())?)?;
+            match entry {
+                Ok(entry) => names.push(String::from_str(alloc, entry.file_name())?)?,
+                // A name that is not UTF-8.
+                Err(error) if error.kind() == ErrorKind::InvalidFilename => {}
+                Err(error) => return Err(error),
+            }
         }
         Ok(names)
     }

@@ -115,11 +115,7 @@ fn path_in(alloc: Global, folder: &str, name: &str) -> Result<String, AllocError
 }
 
 // The path of the file that a loader takes for the DLL that it knows by a name, in the first folder that has one.
-fn dll_path(
-    alloc: Global,
-    folders: &[Folder],
-    known: &[u8],
-) -> Result<Option<String>, AllocError>
+fn dll_path(alloc: Global, folders: &[Folder], known: &[u8]) -> Result<Option<String>, AllocError>
     ensures { IfOk result (λ found. option_map string_bytes found ≡ dll_path (map folder_view folders.now) known.now) }
 {
     for folder in folders {
@@ -132,11 +128,7 @@ fn dll_path(
 }
 
 // The same of a DLL that an image names.
-fn file_of(
-    alloc: Global,
-    folders: &[Folder],
-    dll: &[u8],
-) -> Result<Option<String>, AllocError>
+fn file_of(alloc: Global, folders: &[Folder], dll: &[u8]) -> Result<Option<String>, AllocError>
     ensures { IfOk result (λ found. option_map string_bytes found
         ≡ dll_path (map folder_view folders.now) (loader_name dll.now)) }
 {
