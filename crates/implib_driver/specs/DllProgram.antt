@@ -24,7 +24,8 @@ pub record PutsMembers (known : Bool) (members : List MemberView) (request : Req
 
 -- a DLL has members whose stubs can run, and their library was put
 pub record IsMade (known : Bool) (e : Exports) (request : RequestView) (disk put : DiskView) (before after : Option (List Line)) (status : ℕ) : Type 0 where
-  -- no library of delayed imports is asked for
+  -- neither older symbols nor a library of delayed imports are asked for
+  pub ordinary : request.older_symbols ≡ false
   pub undelayed : request.delayed ≡ None
   pub members : List MemberView
   pub made : MembersOfDll e request members

@@ -5,7 +5,7 @@ ghost use Rattle.implib_dll.specs.Views.{exports_view};
 ghost use Rattle.implib_driver.specs.Dll.{IsRefusalOfReading, IsUnmade, MembersOfDll};
 ghost use Rattle.implib_driver.specs.Dll.{ReadsDll, begins_dll, dll_status};
 ghost use Rattle.implib_driver.specs.Request.{request_view};
-ghost use Rattle.std.specs.Prelude.{◌≡◌, IfErr, IfOk, None, OnOk, Some};
+ghost use Rattle.std.specs.Prelude.{◌≡◌, IfErr, IfOk, None, OnOk, Some, false};
 
 use crate::request::{CallFault, Request};
 use implib_dll::{Exports, Fault, ReadError};
@@ -86,6 +86,7 @@ pub fn members_of_dll(
 ) -> Result<LibraryMembers, DllRefusal>
     ensures made { IfOk result (λ members.
         MembersOfDll (exports_view exports.now) (request_view request.now) members) }
+    ensures ordinary { OnOk result ((request_view request.now).older_symbols ≡ false) }
     ensures undelayed { OnOk result ((request_view request.now).delayed ≡ None) }
     ensures refused { IfErr result
         (IsUnmade (exports_view exports.now) (request_view request.now)) }
