@@ -1,5 +1,5 @@
 -- Loops that look for the entry which ends a table.
-use Rattle.std.proofs.Common.{◌≡◌, ℕ, suc, ◌+◌, ◌-◌, ◌<◌, ◌≤◌, Bool, cond, true, false, Some, None, refl, ap, ◌∙◌, arith}
+use Rattle.std.proofs.Common.{◌≡◌, ℕ, suc, ◌+◌, ◌-◌, ◌<◌, ◌≤◌, Bool, cond, true, false, Some, None, ap, ◌∙◌, arith}
 use Rattle.implib_dll.specs.Imports.{first_end}
 
 -- the first number is looked for

@@ -2,7 +2,6 @@
 -- "Import Lookup Table", "Hint/Name Table"), as loaders take it. Counts are found by the entries
 -- that end the tables, as far as there are bytes for them.
 use Rattle.std.specs.Prelude.{ℕ, zero, suc, ◌+◌, ◌*◌, ◌-◌, ◌/◌, ◌==◌, Bool, ◌&&◌, ◌||◌, not, List, [], length, nat_le, nat_lt, take, Option, None, Some, Ok, Err, if◌then◌else◌}
-use Rattle.implib_dll.specs.declared.fault.Cause.{Cause}
 use Rattle.implib_dll.specs.declared.fault.Cause.TheVariants.{AskOutside, ImportDirectoryOpen, ImportDirectoryOutside, ImportedDllOutside, LookupTableOpen, LookupTableOutside, TextsTooLong}
 use Rattle.implib_dll.specs.declared.header.Header.{Header}
 use Rattle.implib_dll.specs.declared.section.Layout.{Layout}

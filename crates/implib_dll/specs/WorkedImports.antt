@@ -1,7 +1,7 @@
 -- Programs that linkers wrote, and what they import.
 use Rattle.std.specs.Prelude.{◌≡◌, ℕ, ◌++◌, true, false, List, [], ◌∷◌, Ok, codes, replicate}
 use Rattle.implib_dll.specs.declared.fault.Cause.TheVariants.{AskOutside, ImportDirectoryOpen, ImportDirectoryOutside, ImportedDllOutside, LookupTableOpen, LookupTableOutside, OptionalHeaderCut, TextsTooLong}
-use Rattle.implib_dll.specs.declared.section.Layout.TheVariants.{File, Image}
+use Rattle.implib_dll.specs.declared.section.Layout.TheVariants.{File}
 use Rattle.implib_dll.specs.Digits.{changed, hex}
 use Rattle.implib_dll.specs.Imports.{Ask, ByName, ByOrdinal, ImportedDll, Imports, ask_at, imports_in}
 use Rattle.implib_dll.specs.Outcome.{refusal}

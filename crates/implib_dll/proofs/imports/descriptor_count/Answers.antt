@@ -1,5 +1,5 @@
 -- The table ends at the first number that ends it.
-use Rattle.std.proofs.Common.{◌∙◌, sym, ℕ, Bool, List, ◌*◌, ◌/◌, length}
+use Rattle.std.proofs.Common.{◌∙◌, sym, ◌*◌, ◌/◌, length}
 use Rattle.implib_dll.specs.Imports.{descriptor_count, is_null_descriptor}
 use Rattle.implib_dll.proofs.Ends.{first_end-here, first_end-later, first_end-none, first_end-start}
 use Rattle.implib_dll.proofs.imports.descriptor_count.Goals as goal

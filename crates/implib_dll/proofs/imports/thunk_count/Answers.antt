@@ -1,5 +1,5 @@
 -- The table ends at the first number that ends it.
-use Rattle.std.proofs.Common.{◌∙◌, sym, ℕ, Bool, List, ◌*◌, ◌/◌, length}
+use Rattle.std.proofs.Common.{◌∙◌, sym, ◌*◌, ◌/◌, length}
 use Rattle.implib_dll.specs.Imports.{is_null_thunk, thunk_count, thunk_size}
 use Rattle.implib_dll.proofs.Ends.{first_end-here, first_end-later, first_end-none, first_end-start}
 use Rattle.implib_dll.proofs.imports.thunk_count.Goals as goal
