@@ -7,7 +7,7 @@ use Rattle.implib.specs.Link.Image.{Range}
 use Rattle.implib.specs.Link.Load.{BytesAt}
 use Rattle.implib_dll.specs.Bytes.{bytes_at, u16_at, u32_at}
 use Rattle.implib_dll.specs.Digits.{bytes_of_digits}
-use Rattle.implib_dll.specs.Headers.{entry_in, header_at, header_in, header_with, signature_in}
+use Rattle.implib_dll.specs.Headers.{entry_in, header_at, header_for, header_with, signature_in}
 use Rattle.implib_dll.specs.Outcome.{each_from}
 use Rattle.implib_dll.specs.Sections.{contents_at, section_at}
 use Rattle.implib_image.specs.Files.{mapped_file}
@@ -24,7 +24,7 @@ use Rattle.implib_link_instances.proofs.Worked.Stored.{amd64_beside, amd64_furth
 
 -- what the computing has to open
 unfoldable pub file_opened : Unit {0}
-unfolding bytes_at bytes_of_digits contents_at each_from entry_in header_at header_in header_with section_at signature_in u16_at u32_at mapped_file file_on i386_headers amd64_headers arm64_headers gnu_file gnu_headers gnu_text gnu_data gnu_idata gnu_reloc
+unfolding bytes_at bytes_of_digits contents_at each_from entry_in header_at header_for header_with section_at signature_in u16_at u32_at mapped_file file_on i386_headers amd64_headers arm64_headers gnu_file gnu_headers gnu_text gnu_data gnu_idata gnu_reloc
 file_opened = tt
 
 -- whether memory has the bytes of a range
