@@ -5,10 +5,18 @@ use implib_driver::request::holds_text;
 use std::test::Fail;
 use std::{env, fs};
 
+// Calls for a library of delayed imports; the status, what was written, and whether there is a file.
+fn ran_undelayed(rt: &HostRuntime, more: &str, text: &str) -> Result<(u8, String, bool), Fail> {
+    let file = env::temp_dir(rt)?.join(rt.alloc(), "implib_dlltool_undelayed.a")?;
+    let words = ["-d", "-", "-y", file.as_str(), more];
+    let (status, wrote) = ran(rt, words.as_slice(), text.as_bytes())?;
+    let is_made = fs::exists(rt, file.as_path())?;
+    Ok((status, wrote, is_made))
+}
+
 // Definitions whose imports cannot be delayed, by their places, and calls that ask for none.
 #[test]
 fn undelayed_definitions_are_told(rt: HostRuntime) -> Result<(), Fail> {
-    let file = env::temp_dir(&rt)?.join(rt.alloc(), "implib_dlltool_undelayed.a")?;
     for (more, text, said, status) in [
         (
             "--no-delete",
@@ -49,11 +57,10 @@ fn undelayed_definitions_are_told(rt: HostRuntime) -> Result<(), Fail> {
             2,
         ),
     ] {
-        let words = ["-d", "-", "-y", file.as_str(), more];
-        let (got, wrote) = ran(&rt, words.as_slice(), text.as_bytes())?;
+        let (got, wrote, is_made) = ran_undelayed(&rt, more, text)?;
         assert_eq!(rt; wrote.as_str(), said);
         assert_eq!(rt; got, status);
-        assert!(rt; !fs::exists(&rt, file.as_path())?);
+        assert!(rt; !is_made);
     }
     Ok(())
 }
