@@ -7,7 +7,7 @@ use implib_driver::reporter::{Complaint, Reporter};
 use implib_rules::library::Refusal;
 use implib_rules::warnings::{Notice, NoticeMessage, Warning};
 use implib_rules::{ShownPath, ShownPlace, position_of};
-use std::alloc::Global;
+use std::alloc::{AllocError, Global};
 use std::fmt;
 use std::fmt::Write as _;
 use std::io::Write;
@@ -90,7 +90,13 @@ impl<E: Write> Console<E> {
 
     // Says a line.
     fn say(&mut self, message: &Message<'_>) {
-        match format!(in self.alloc; "{message}\n") {
+        let line = format!(in self.alloc; "{message}\n");
+        self.put(line, message);
+    }
+
+    // Writes the line of a message at once, or in pieces where memory for it was refused.
+    fn put(&mut self, line: Result<String, AllocError>, message: &Message<'_>) {
+        match line {
             Ok(line) => {
                 let _ = self.lines.writer.write_all(line.as_bytes());
             }

@@ -1,12 +1,13 @@
 //! Tests of the lines that are said.
 
-use super::Console;
+use super::{Console, Message};
 use implib::Fault;
 use implib::def::Position;
 use implib::def::lexer::TokenKind;
-use implib_driver::reporter::Reporter;
+use implib_driver::reporter::{Complaint, Reporter};
 use implib_rules::library::Refusal;
 use implib_rules::warnings::{Notice, Warning};
+use std::alloc::AllocError;
 use std::process::Abort;
 use std::test::Fail;
 
@@ -136,5 +137,15 @@ fn paths_are_whole(rt: HostRuntime) -> Result<(), Fail> {
     let mut console = Console::new(rt.alloc(), Vec::new(rt.alloc()));
     console.refuse(path.as_str(), &Refusal::NoName);
     expect_lines(&rt, console, said.as_str());
+    Ok(())
+}
+
+// A line that memory is refused for is said all the same, whole.
+#[test]
+fn lines_are_said_without_memory(rt: HostRuntime) -> Result<(), Fail> {
+    let mut console = Console::new(rt.alloc(), Vec::new(rt.alloc()));
+    let message = Message::Complaint("implib_dlltool", &Complaint::OutOfMemory);
+    console.put(Err(AllocError), &message);
+    expect_lines(&rt, console, "implib_dlltool: out of memory\n");
     Ok(())
 }

@@ -72,17 +72,22 @@ fn a_stale_file_is_passed_over(rt: HostRuntime) -> Result<(), Fail> {
     Ok(())
 }
 
-// A new file cannot be made in a folder that is not there.
+// Whether a call failed since something is not there.
+fn is_missing<T: Drop>(got: io::Result<T>) -> bool {
+    match got {
+        Ok(_) => false,
+        Err(error) => error.kind() == ErrorKind::NotFound,
+    }
+}
+
+// No file is made in a folder that is not there, and none is read.
 #[test]
-fn no_file_is_made_in_no_folder(rt: HostRuntime) -> Result<(), Fail> {
+fn no_file_is_in_no_folder(rt: HostRuntime) -> Result<(), Fail> {
     let folder = folder(&rt, "implib_dlltool_none")?;
     let file = folder.join(rt.alloc(), "none/zoo.a")?;
     let mut disk = SystemDisk::new(&rt, 7);
-    let is_missing = match disk.begin(file.as_str()) {
-        Ok(_) => false,
-        Err(error) => error.kind() == ErrorKind::NotFound,
-    };
-    assert!(rt; is_missing);
+    assert!(rt; is_missing(disk.begin(file.as_str())));
+    assert!(rt; is_missing(disk.read(rt.alloc(), file.as_str())));
     fs::remove_dir_all(&rt, folder.as_path())?;
     Ok(())
 }
