@@ -64,14 +64,16 @@ fn flavours_show_their_names(rt: HostRuntime) -> Result<(), Fail> {
 #[test]
 fn unknown_names_have_a_text(rt: HostRuntime) -> Result<(), Fail> {
     let alloc = rt.alloc();
-    if let Err(unknown) = "x64".parse::<MachineType>() {
-        let shown = format!(in alloc; "{unknown}")?;
-        assert_eq!(rt; shown.as_str(), "unknown machine");
-    }
-    if let Err(unknown) = "x64".parse::<Flavor>() {
-        let shown = format!(in alloc; "{unknown}")?;
-        assert_eq!(rt; shown.as_str(), "unknown flavour");
-    }
+    let machine = match "x64".parse::<MachineType>() {
+        Ok(_) => String::new(alloc),
+        Err(unknown) => format!(in alloc; "{unknown}")?,
+    };
+    assert_eq!(rt; machine.as_str(), "unknown machine");
+    let flavor = match "x64".parse::<Flavor>() {
+        Ok(_) => String::new(alloc),
+        Err(unknown) => format!(in alloc; "{unknown}")?,
+    };
+    assert_eq!(rt; flavor.as_str(), "unknown flavour");
     Ok(())
 }
 

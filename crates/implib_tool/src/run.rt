@@ -206,3 +206,6 @@ pub fn run<R: Source, W: Sink>(
     let lists = read_members(alloc, reader, machine, flavor)?;
     write_listing(alloc, writer, lists.as_slice())
 }
+
+#[cfg(test)]
+mod tests;

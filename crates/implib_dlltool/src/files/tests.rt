@@ -92,6 +92,21 @@ fn no_file_is_in_no_folder(rt: HostRuntime) -> Result<(), Fail> {
     Ok(())
 }
 
+// A name as long as a system takes, 255 bytes, is in no name of a new file.
+#[test]
+fn a_file_of_the_longest_name_is_made(rt: HostRuntime) -> Result<(), Fail> {
+    let folder = folder(&rt, "implib_dlltool_long")?;
+    let name = [b'z'; 255];
+    let name = str::from_utf8(&name).unwrap_or("");
+    let file = folder.join(rt.alloc(), name)?;
+    let mut disk = SystemDisk::new(&rt, 7);
+    let made = disk.begin(file.as_str())?;
+    disk.replace(made)?;
+    assert!(rt; fs::exists(&rt, file.as_path())?);
+    fs::remove_dir_all(&rt, folder.as_path())?;
+    Ok(())
+}
+
 // A new file that is removed is gone, and the old one stays.
 #[test]
 fn a_removed_file_leaves_the_old_one(rt: HostRuntime) -> Result<(), Fail> {
