@@ -121,21 +121,24 @@ fn tokens_are_told_as_they_are_written(rt: HostRuntime) -> Result<(), Fail> {
 }
 
 // A path is told whole, however long it is; control characters of it, also those beyond ASCII, are
-// escaped.
+// escaped, whatever is said of it.
 #[test]
 fn paths_are_whole(rt: HostRuntime) -> Result<(), Fail> {
     let mut path = String::new(rt.alloc());
-    let mut said = String::new(rt.alloc());
+    let mut shown = String::new(rt.alloc());
     for _ in 0..1000 {
         path.push_str("folder/")?;
-        said.push_str("folder/")?;
+        shown.push_str("folder/")?;
     }
     path.push_str("\n\u{85}a.def")?;
-    said.push_str(
-        "\\n\\u{85}a.def: no name of a DLL: expected LIBRARY or NAME with one, or the option -D\n",
+    shown.push_str("\\n\\u{85}a.def")?;
+    let said = format!(in rt.alloc();
+        "{shown}: no name of a DLL: expected LIBRARY or NAME with one, or the option -D\n\
+         {shown}: out of memory\n"
     )?;
     let mut console = Console::new(rt.alloc(), Vec::new(rt.alloc()));
     console.refuse(path.as_str(), &Refusal::NoName);
+    console.complain(path.as_str(), Complaint::OutOfMemory);
     expect_lines(&rt, console, said.as_str());
     Ok(())
 }
