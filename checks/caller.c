@@ -8,8 +8,8 @@
  * writes it.
  *
  * With the argument `library` it calls implib_library in its stead, and what follows is the archive; with
- * `definition` implib_definition, and what follows is the encoding; with `imports` implib_imports, of the bytes of the
- * text. With the argument `with` it calls implib_library_with in the same way, and implib_write, whose pieces have to be the same
+ * `definition` implib_definition, and what follows is the encoding; with `imports` implib_imports, and with `exports` implib_exports,
+ * of the bytes of the text. With the argument `with` it calls implib_library_with in the same way, and implib_write, whose pieces have to be the same
  * library; then a case begins with four numbers more, the size of the options, the flags, whether a name of the DLL
  * is given, and its length, and the name is before the text. With `warnings` it calls implib_warnings so, and what
  * follows is the encoding; with `check` implib_check_library, where the length of a library and the library are after
@@ -118,6 +118,15 @@ static uint32_t imports(const uint8_t *bytes, size_t bytes_length, uint16_t mach
     if (place != NULL)
         *place = 0;
     return implib_imports(bytes, bytes_length, buffer, buffer_length, length);
+}
+
+/* implib_exports, of bytes alone. */
+static uint32_t exports(const uint8_t *bytes, size_t bytes_length, uint16_t machine, uint32_t flavor,
+                        uint8_t *buffer, size_t buffer_length, size_t *length, size_t *place)
+{
+    (void)machine;
+    (void)flavor;
+    return implib_exports(bytes, bytes_length, buffer, buffer_length, length, place);
 }
 
 struct answer {
@@ -520,6 +529,8 @@ int main(int count, char *arguments[])
         function = definition;
     if (count == 2 && strcmp(arguments[1], "imports") == 0)
         function = imports;
+    if (count == 2 && strcmp(arguments[1], "exports") == 0)
+        function = exports;
     int is_of_exports = count == 2 && strcmp(arguments[1], "of") == 0;
     int is_of_warnings = count == 2 && strcmp(arguments[1], "warnings") == 0;
     int is_of_checks = count == 2 && strcmp(arguments[1], "check") == 0;

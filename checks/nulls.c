@@ -108,6 +108,12 @@ uint32_t implib_definition_nonnull(const uint8_t *text, size_t text_length, uint
     return pass(text, text_length, machine, IMPLIB_FLAVOR_GNU, buffer, buffer_length, length, place) + 3;
 }
 
+uint32_t implib_exports_nonnull(const uint8_t *bytes, size_t bytes_length, uint8_t *buffer, size_t buffer_length,
+                                size_t *length, size_t *place)
+{
+    return pass(bytes, bytes_length, IMPLIB_MACHINE_ARM64, IMPLIB_FLAVOR_GNU, buffer, buffer_length, length, place) + 3;
+}
+
 void implib_position_nonnull(const uint8_t *text, size_t text_length, size_t offset, size_t *line, size_t *column)
 {
     hold(text != NULL && line != NULL && column != NULL, "a null pointer is passed on for a position");
@@ -133,6 +139,14 @@ static uint32_t definition(const uint8_t *text, size_t text_length, uint16_t mac
 {
     hold(flavor == IMPLIB_FLAVOR_GNU, "another flavour");
     return implib_definition(text, text_length, machine, buffer, buffer_length, length, place) - 1;
+}
+
+/* implib_exports, of bytes alone. */
+static uint32_t exports(const uint8_t *bytes, size_t bytes_length, uint16_t machine, uint32_t flavor,
+                        uint8_t *buffer, size_t buffer_length, size_t *length, size_t *place)
+{
+    hold(machine == IMPLIB_MACHINE_ARM64 && flavor == IMPLIB_FLAVOR_GNU, "another machine or flavour");
+    return implib_exports(bytes, bytes_length, buffer, buffer_length, length, place);
 }
 
 typedef uint32_t callee_with(const struct implib_options *options, const uint8_t *text, size_t text_length,
@@ -244,9 +258,9 @@ int main(void)
         size_t *some_first = given & 4 ? &first : NULL, *some_second = given & 8 ? &second : NULL;
         size_t text_length = given & 1 ? 2 : 0, buffer_length = given & 2 ? 3 : 0;
 
-        for (uint32_t call = 0; call < 3; call++) {
+        for (uint32_t call = 0; call < 4; call++) {
             uint32_t (*own)(const uint8_t *, size_t, uint16_t, uint32_t, uint8_t *, size_t, size_t *, size_t *) =
-                call == 0 ? implib_library : call == 1 ? implib_members : definition;
+                call == 0 ? implib_library : call == 1 ? implib_members : call == 2 ? definition : exports;
             first = second = 0;
             hold(own(some_text, text_length, IMPLIB_MACHINE_ARM64, IMPLIB_FLAVOR_GNU, some_buffer, buffer_length,
                      some_first, some_second) == IMPLIB_BUFFER_TOO_SMALL + call,

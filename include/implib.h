@@ -62,7 +62,7 @@ extern "C" {
 
 /* The version of this header, which grows with every change of what it declares or says. implib_version()
  * gives that of the library. */
-#define IMPLIB_VERSION 6
+#define IMPLIB_VERSION 7
 uint32_t implib_version(void);
 
 /* What a call answers. New statuses get new numbers. Those of faults of the input are 16 to 39. */
@@ -125,7 +125,12 @@ enum implib_status {
     IMPLIB_NOT_A_LIBRARY = 46, /* the bytes are no archive, or a thin one */
 
     /* Of implib_write alone; *place is 0. */
-    IMPLIB_WRITE_FAILED = 47 /* the caller's function did not take a piece */
+    IMPLIB_WRITE_FAILED = 47, /* the caller's function did not take a piece */
+
+    /* Of implib_exports alone. */
+    IMPLIB_NOT_AN_IMAGE = 48,       /* the bytes are no PE32 or PE32+ image, or a part of it is cut; *place is the
+                                     * offset of the field for which they are none */
+    IMPLIB_NO_EXPORT_DIRECTORY = 49 /* the image exports nothing; *place is 0 */
 };
 
 /* The flags of the options, and the options of the program that they stand for. */
@@ -309,6 +314,38 @@ static inline uint32_t implib_imports(const uint8_t *bytes, size_t bytes_length,
 #define IMPLIB_IMPORT_NOT_UNDERSTOOD 9u   /* neither, or import tables that lead nowhere */
 
 /*
+ * Puts what a DLL exports at the beginning of the buffer, and returns a status: IMPLIB_SUCCESS, IMPLIB_BUFFER_TOO_SMALL,
+ * IMPLIB_OUT_OF_MEMORY, IMPLIB_NOT_AN_IMAGE or IMPLIB_NO_EXPORT_DIRECTORY. Nothing in the file is trusted; time and
+ * memory are linear in its length.
+ *
+ * bytes        the DLL: the file, whole
+ * length       gets the length of the encoding in bytes, where the status is IMPLIB_SUCCESS or
+ *              IMPLIB_BUFFER_TOO_SMALL; else 0
+ * place        gets what the status says of it; else 0
+ *
+ * The buffer is as of implib_library, with the encoding in the archive's place. It has numbers and texts as that of
+ * implib_members; the texts here are of any bytes.
+ *
+ *     number               the machine, by its number in the PE/COFF specification
+ *     text                 the name that the export directory gives the DLL
+ *     number               how many entries the export address table has, and then of each, in their order
+ *       number             its ordinal
+ *       number             what it leads to, an IMPLIB_EXPORT_..
+ *       number             its address from the image's base, or 0
+ *       text               of a forwarder, the export of another DLL, as `NTDLL.RtlAllocateHeap` or `NTDLL.#27`
+ *       number             how many names it has, and then each, a text, in the order of the name table
+ */
+static inline uint32_t implib_exports(const uint8_t *bytes, size_t bytes_length, uint8_t *buffer,
+                                      size_t buffer_length, size_t *length, size_t *place);
+
+/* What an ordinal of a DLL leads to. New kinds get new numbers. */
+#define IMPLIB_EXPORT_NONE 0u      /* nothing: no export has this ordinal */
+#define IMPLIB_EXPORT_CODE 1u      /* an address in a section that may be executed */
+#define IMPLIB_EXPORT_DATA 2u      /* an address in another section */
+#define IMPLIB_EXPORT_OUTSIDE 3u   /* an address in no section */
+#define IMPLIB_EXPORT_FORWARDER 4u /* an export of another DLL */
+
+/*
  * Puts how a library compares with what a definition means under these options at the beginning of the buffer, and
  * returns a status, which is IMPLIB_SUCCESS whatever the verdict. The library may be of any maker. It is compared as the
  * program implib_check does it (docs/CHECK.md): with the library that implib_library_with makes, by their imports and
@@ -445,6 +482,8 @@ uint32_t implib_warnings_nonnull(const uint8_t *text, size_t text_length, const 
                                  uint8_t *buffer, size_t buffer_length, size_t *length, size_t *place);
 uint32_t implib_imports_nonnull(const uint8_t *bytes, size_t bytes_length, uint8_t *buffer, size_t buffer_length,
                                 size_t *length);
+uint32_t implib_exports_nonnull(const uint8_t *bytes, size_t bytes_length, uint8_t *buffer, size_t buffer_length,
+                                size_t *length, size_t *place);
 uint32_t implib_check_library_nonnull(const uint8_t *bytes, size_t bytes_length, const uint8_t *text,
                                       size_t text_length, const uint8_t *dll, size_t dll_length, uint32_t has_dll,
                                       uint16_t machine, uint32_t flavor, uint32_t flags, uint8_t *buffer,
@@ -570,6 +609,16 @@ static inline uint32_t implib_imports(const uint8_t *bytes, size_t bytes_length,
     return implib_imports_nonnull(bytes_length == 0 ? &no_bytes : bytes, bytes_length,
                                   buffer_length == 0 ? &no_buffer : buffer, buffer_length,
                                   length == NULL ? &no_length : length);
+}
+
+static inline uint32_t implib_exports(const uint8_t *bytes, size_t bytes_length, uint8_t *buffer,
+                                      size_t buffer_length, size_t *length, size_t *place)
+{
+    uint8_t no_bytes = 0, no_buffer = 0;
+    size_t no_length, no_place;
+    return implib_exports_nonnull(bytes_length == 0 ? &no_bytes : bytes, bytes_length,
+                                  buffer_length == 0 ? &no_buffer : buffer, buffer_length,
+                                  length == NULL ? &no_length : length, place == NULL ? &no_place : place);
 }
 
 static inline uint32_t implib_check_library(const uint8_t *bytes, size_t bytes_length, const uint8_t *text,

@@ -160,3 +160,5 @@ module _ (library text : List ℕ) (given : GivenOptions) (old : List ℕ) where
       checks_encoded new (Err (failure.RefusedAt fault offset)) puts = absurd puts
       checks_encoded new (Err (failure.NoExport fault index)) puts = absurd puts
       checks_encoded new (Err failure.NotALibrary) puts = absurd puts
+      checks_encoded new (Err (failure.NotAnImage offset)) puts = absurd puts
+      checks_encoded new (Err failure.NoExportDirectory) puts = absurd puts

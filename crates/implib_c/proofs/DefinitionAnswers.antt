@@ -131,3 +131,5 @@ module _ (text old : List ℕ) (machine : ℕ) (definition : DefinitionView) (ha
     answers_encoded new (Err (failure.RefusedAt fault offset)) puts = absurd puts
     answers_encoded new (Err (failure.NoExport fault index)) puts = absurd puts
     answers_encoded new (Err failure.NotALibrary) puts = absurd puts
+    answers_encoded new (Err (failure.NotAnImage offset)) puts = absurd puts
+    answers_encoded new (Err failure.NoExportDirectory) puts = absurd puts

@@ -29,6 +29,8 @@ module _ (library old : List ℕ) where
   answers_lacking (failure.RefusedAt fault offset) lacks = absurd lacks
   answers_lacking (failure.NoExport fault index) lacks = absurd lacks
   answers_lacking failure.NotALibrary lacks = record { ending = NoLibrary; ends = lacks; status_is = refl; length_is = refl; buffer_is = refl; buffer_reads = tt }
+  answers_lacking (failure.NotAnImage offset) lacks = absurd lacks
+  answers_lacking failure.NoExportDirectory lacks = absurd lacks
 
   module _ (bytes : List ℕ) (encoded : EncodesImports library bytes) where
     -- there is no room
@@ -83,3 +85,5 @@ module _ (library old : List ℕ) where
     answers_encoded new (Err (failure.RefusedAt fault offset)) puts = absurd puts
     answers_encoded new (Err (failure.NoExport fault index)) puts = absurd puts
     answers_encoded new (Err failure.NotALibrary) puts = absurd puts
+    answers_encoded new (Err (failure.NotAnImage offset)) puts = absurd puts
+    answers_encoded new (Err failure.NoExportDirectory) puts = absurd puts

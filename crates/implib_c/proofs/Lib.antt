@@ -22,6 +22,9 @@ pub mod WarningsAnswers
 pub mod ImportsBack
 pub mod ImportsAnswers
 pub mod ImportsRead
+pub mod DllExportsBack
+pub mod DllExportsAnswers
+pub mod WorkedDllExports
 pub mod RowsPushed
 pub mod Flagged
 pub mod ToldBack

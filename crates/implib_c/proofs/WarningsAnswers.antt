@@ -120,3 +120,5 @@ module _ (text : List ℕ) (given : GivenOptions) (old : List ℕ) where
       warns_encoded new (Err (failure.RefusedAt fault offset)) puts = absurd puts
       warns_encoded new (Err (failure.NoExport fault index)) puts = absurd puts
       warns_encoded new (Err failure.NotALibrary) puts = absurd puts
+      warns_encoded new (Err (failure.NotAnImage offset)) puts = absurd puts
+      warns_encoded new (Err failure.NoExportDirectory) puts = absurd puts

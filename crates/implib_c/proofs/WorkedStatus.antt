@@ -94,6 +94,8 @@ worked_statuses = record {
     text_45 = refl;
     text_46 = refl;
     text_47 = refl;
+    text_48 = refl;
+    text_49 = refl;
     text_6 = refl;
     text_15 = refl;
   };

@@ -13,7 +13,7 @@ use Rattle.implib.specs.Text.Parses.{RefusesAt}
 use Rattle.implib_c.specs.declared.outcome.Failure.{Failure}
 use Rattle.implib_c.specs.declared.outcome.Failure.TheVariants.{BufferTooSmall, OutOfMemory, NotUtf8}
 use Rattle.implib_c.specs.declared.outcome.Failure.TheVariants.{UnknownMachine, UnknownFlavor, SyntaxError, Refused}
-use Rattle.implib_c.specs.declared.outcome.Failure.TheVariants.{NoArchive, UnknownFlags, DllNotUtf8, NoDllName, RefusedAt, NoExport, NotALibrary}
+use Rattle.implib_c.specs.declared.outcome.Failure.TheVariants.{NoArchive, UnknownFlags, DllNotUtf8, NoDllName, RefusedAt, NoExport, NotALibrary, NotAnImage, NoExportDirectory}
 use Rattle.implib_archive.specs.declared.error.Error.{Error as ArchiveError}
 use Rattle.implib_archive.specs.declared.error.Error.TheVariants as archive_error
 use Rattle.implib_archive.specs.declared.kind.Kind.{Kind}
@@ -59,6 +59,8 @@ failure_status NoDllName = status.NoDllName
 failure_status (RefusedAt fault offset) = cause_status (cause_of fault)
 failure_status (NoExport fault index) = export_status fault
 failure_status NotALibrary = status.NotALibrary
+failure_status (NotAnImage offset) = status.NotAnImage
+failure_status NoExportDirectory = status.NoExportDirectory
 
 -- the status of an answer
 abbrev pub status_given : Result ℕ Failure → Status
@@ -82,6 +84,8 @@ length_given (Err NoDllName) = 0
 length_given (Err (RefusedAt fault offset)) = 0
 length_given (Err (NoExport fault index)) = 0
 length_given (Err NotALibrary) = 0
+length_given (Err (NotAnImage offset)) = 0
+length_given (Err NoExportDirectory) = 0
 
 -- the place in an answer
 abbrev pub place_given : Result ℕ Failure → ℕ
@@ -100,6 +104,8 @@ place_given (Err NoDllName) = 0
 place_given (Err (RefusedAt fault offset)) = offset
 place_given (Err (NoExport fault index)) = index
 place_given (Err NotALibrary) = 0
+place_given (Err (NotAnImage offset)) = offset
+place_given (Err NoExportDirectory) = 0
 
 -- the text is refused, or memory was
 abbrev pub OnTextFault : List ℕ → MachineType → Flavor → Failure → Type 0
@@ -117,6 +123,8 @@ OnTextFault text machine flavor NoDllName = ⊥
 OnTextFault text machine flavor (RefusedAt fault offset) = ⊥
 OnTextFault text machine flavor (NoExport fault index) = ⊥
 OnTextFault text machine flavor NotALibrary = ⊥
+OnTextFault text machine flavor (NotAnImage offset) = ⊥
+OnTextFault text machine flavor NoExportDirectory = ⊥
 
 -- the text has these members for this flavour, by the numbers of a machine and of the flavour
 abbrev pub HasMembers : List ℕ → ℕ → ℕ → Flavor → List MemberView → Type 0
@@ -152,6 +160,8 @@ PutsInto members old new (Err NoDllName) = ⊥
 PutsInto members old new (Err (RefusedAt fault offset)) = ⊥
 PutsInto members old new (Err (NoExport fault index)) = ⊥
 PutsInto members old new (Err NotALibrary) = ⊥
+PutsInto members old new (Err (NotAnImage offset)) = ⊥
+PutsInto members old new (Err NoExportDirectory) = ⊥
 
 -- an encoding is put at the beginning of the buffer, where there is room; else nothing is
 abbrev pub PutsEncoding : List ℕ → List ℕ → List ℕ → Result ℕ Failure → Type 0
@@ -170,6 +180,8 @@ PutsEncoding bytes old new (Err NoDllName) = ⊥
 PutsEncoding bytes old new (Err (RefusedAt fault offset)) = ⊥
 PutsEncoding bytes old new (Err (NoExport fault index)) = ⊥
 PutsEncoding bytes old new (Err NotALibrary) = ⊥
+PutsEncoding bytes old new (Err (NotAnImage offset)) = ⊥
+PutsEncoding bytes old new (Err NoExportDirectory) = ⊥
 
 -- the members' archive is put at the beginning of the buffer, where there is one and room for it; else nothing
 -- is
@@ -193,3 +205,5 @@ PacksInto kind members old new (Err NoDllName) = ⊥
 PacksInto kind members old new (Err (RefusedAt fault offset)) = ⊥
 PacksInto kind members old new (Err (NoExport fault index)) = ⊥
 PacksInto kind members old new (Err NotALibrary) = ⊥
+PacksInto kind members old new (Err (NotAnImage offset)) = ⊥
+PacksInto kind members old new (Err NoExportDirectory) = ⊥

@@ -11,6 +11,8 @@ pub mod Warnings
 pub mod WarningsAnswer
 pub mod Imports
 pub mod ImportsAnswer
+pub mod DllExports
+pub mod DllExportsAnswer
 pub mod Check
 pub mod CheckAnswer
 pub mod Place
@@ -22,11 +24,13 @@ pub mod GivenOf
 pub mod DefinitionGiven
 pub mod WarningsGiven
 pub mod ImportsGiven
+pub mod DllExportsGiven
 pub mod CheckGiven
 pub mod WorkedEncoding
 pub mod WorkedDefinition
 pub mod WorkedWarnings
 pub mod WorkedImports
+pub mod WorkedDllExports
 pub mod WorkedCheck
 pub mod WorkedGaps
 pub mod WorkedStatus

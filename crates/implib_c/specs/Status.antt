@@ -19,7 +19,7 @@ use Rattle.implib_c.specs.declared.status.Status.TheVariants.{TooManyMembers, Ar
 use Rattle.implib_c.specs.declared.status.Status.TheVariants.{EmptyLibraryName, LineEndInLibraryName, NulInLibraryName}
 use Rattle.implib_c.specs.declared.status.Status.TheVariants.{NoDllName, UnknownOptions, UnknownFlags, DllNotUtf8}
 use Rattle.implib_c.specs.declared.status.Status.TheVariants.{UnknownExportFlags, ExportNotUtf8, NullInExport}
-use Rattle.implib_c.specs.declared.status.Status.TheVariants.{NotALibrary, WriteFailed}
+use Rattle.implib_c.specs.declared.status.Status.TheVariants.{NoExportDirectory, NotALibrary, NotAnImage, WriteFailed}
 
 -- the number of a status: those of a call first, from 16 to 39 those of the input's faults, then those of options, of
 -- exports and of bytes that are read
@@ -62,6 +62,8 @@ status_number ExportNotUtf8 = 44
 status_number NullInExport = 45
 status_number NotALibrary = 46
 status_number WriteFailed = 47
+status_number NotAnImage = 48
+status_number NoExportDirectory = 49
 
 -- the status with a number
 abbrev pub status_numbered : ℕ → Option Status
@@ -104,6 +106,8 @@ status_numbered number =
     else if number == 45 then Some NullInExport
     else if number == 46 then Some NotALibrary
     else if number == 47 then Some WriteFailed
+    else if number == 48 then Some NotAnImage
+    else if number == 49 then Some NoExportDirectory
     else None
 
 -- the text of a status
@@ -146,6 +150,8 @@ status_text ExportNotUtf8 = codes "export name is not UTF-8"
 status_text NullInExport = codes "export has a null pointer"
 status_text NotALibrary = codes "not a library"
 status_text WriteFailed = codes "writing failed"
+status_text NotAnImage = codes "not an image"
+status_text NoExportDirectory = codes "no export directory"
 
 -- the status of a fault of the input
 abbrev pub cause_status : Cause → Status

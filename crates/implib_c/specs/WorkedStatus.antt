@@ -128,6 +128,8 @@ pub record WorkedTexts : Type 0 where
   pub text_45 : text_for 45 ≡ codes "export has a null pointer"
   pub text_46 : text_for 46 ≡ codes "not a library"
   pub text_47 : text_for 47 ≡ codes "writing failed"
+  pub text_48 : text_for 48 ≡ codes "not an image"
+  pub text_49 : text_for 49 ≡ codes "no export directory"
   pub text_6 : text_for 6 ≡ codes "unknown status"
   pub text_15 : text_for 15 ≡ codes "unknown status"
 
@@ -157,7 +159,7 @@ pub record WorkedArguments : Type 0 where
   pub export_as_keep_decorated : naming_numbered 12 ≡ Some (record { is_plain = false; kills_at = false; exports_as = true; keeps_decorated = true })
   pub each_flag : naming_numbered 15 ≡ Some (record { is_plain = true; kills_at = true; exports_as = true; keeps_decorated = true })
   pub unknown_flag : naming_numbered 16 ≡ None
-  pub version_is : version ≡ 6
+  pub version_is : version ≡ 7
 
 -- all of them
 pub record WorkedStatuses : Type 0 where

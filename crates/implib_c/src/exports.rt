@@ -8,6 +8,7 @@ ghost use Rattle.implib.specs.Text.Position.{line_and_column};
 ghost use Rattle.implib_c.specs.Answer.{Answers};
 ghost use Rattle.implib_c.specs.CheckAnswer.{CheckAnswers};
 ghost use Rattle.implib_c.specs.DefinitionAnswer.{DefinitionAnswers};
+ghost use Rattle.implib_c.specs.DllExportsAnswer.{ExportsAnswers};
 ghost use Rattle.implib_c.specs.Given.{length_given, place_given, status_given};
 ghost use Rattle.implib_c.specs.ImportsAnswer.{ImportsAnswers};
 ghost use Rattle.implib_c.specs.Library.{LibraryAnswers};
@@ -21,6 +22,7 @@ ghost use Rattle.std.specs.Prelude.{◌<◌, ◌≡◌, length, map};
 
 use crate::check::check_into;
 use crate::definition::definition_into;
+use crate::dll_exports::exports_into;
 use crate::export::Export;
 use crate::imports::imports_into;
 use crate::library_of::library_of_into;
@@ -32,7 +34,7 @@ use crate::warnings::warnings_into;
 use std::alloc::Global;
 
 // `IMPLIB_VERSION` of the header.
-const VERSION: u32 = 6;
+const VERSION: u32 = 7;
 
 // Writes the length and the place of an answer. Gives its status.
 fn tell(answer: &Result<usize, Failure>, length: &mut usize, place: &mut usize) -> u32
@@ -251,6 +253,28 @@ pub extern "C" fn implib_imports_nonnull(
     let answer = imports_into(alloc, bytes, buffer);
     *length = length_of(&answer);
     status_of(&answer).number()
+}
+
+/// Puts what the DLL in a file exports at the beginning of `buffer`, encoded as
+/// `specs/DllExports.antt` says, and gives a status: 0 where it is done. The file is of a PE32 or
+/// PE32+ image, for any machine; nothing in it is trusted.
+///
+/// `length` gets the length of the encoding in bytes, where the status is 0 or 1 (the buffer is too
+/// small), and otherwise 0. `place` gets the offset of the field for which a file is no image, where
+/// the status says that it is none, and otherwise 0. Where the status is not 0 the buffer is as it
+/// was, and where it is 0, what follows the encoding.
+#[unsafe(no_mangle)]
+pub extern "C" fn implib_exports_nonnull(
+    alloc: Global,
+    bytes: &[u8],
+    buffer: &mut [u8],
+    length: &mut usize,
+    place: &mut usize,
+) -> u32
+    ensures { ExportsAnswers bytes.now buffer.old buffer.new length.new place.new result }
+{
+    let answer = exports_into(alloc, bytes, buffer);
+    tell(&answer, length, place)
 }
 
 /// Puts how a library, of any maker, compares with what a text means under these options at the

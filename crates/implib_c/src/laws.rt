@@ -4,6 +4,7 @@
 ghost use Rattle.implib.specs.Members.MemberSpec.{MemberView};
 ghost use Rattle.implib_c.specs.Check.{ReadsToldBack, Told};
 ghost use Rattle.implib_c.specs.Definition.{ReadsDefinitionBack, StatedDefinition};
+ghost use Rattle.implib_c.specs.DllExports.{DllRows, ReadsDllBack};
 ghost use Rattle.implib_c.specs.Encoding.{ReadsBack};
 ghost use Rattle.implib_c.specs.Imports.{ReadsRowsBack, Row};
 ghost use Rattle.implib_c.specs.LibraryOf.{GivenExport, exports_given};
@@ -12,6 +13,7 @@ ghost use Rattle.implib_c.specs.Status.{NumbersReturn};
 ghost use Rattle.implib_c.specs.Warnings.{ReadsWarningsBack, Said};
 ghost use Rattle.implib_c.specs.WorkedCheck.{WorkedChecks};
 ghost use Rattle.implib_c.specs.WorkedDefinition.{WorkedDefinitions};
+ghost use Rattle.implib_c.specs.WorkedDllExports.{WorkedDllExports};
 ghost use Rattle.implib_c.specs.WorkedEncoding.{WorkedEncodings};
 ghost use Rattle.implib_c.specs.WorkedExports.{WorkedExports};
 ghost use Rattle.implib_c.specs.WorkedImports.{WorkedImports};
@@ -62,6 +64,16 @@ pub fn rows_read_back()
 /// Rows of libraries, worked by hand, are these, have these bytes, and are read so.
 pub fn worked_imports()
     ensures { WorkedImports }
+{}
+
+/// An encoding of what a DLL exports reads back, whatever follows it.
+pub fn dll_exports_read_back()
+    ensures { (d : DllRows) (rest : List ℕ) → ReadsDllBack d rest }
+{}
+
+/// What DLLs export, worked by hand, is this, has these bytes, and is read so.
+pub fn worked_dll_exports()
+    ensures { WorkedDllExports }
 {}
 
 /// An encoding of what is told of a library beside a definition's reads back, whatever follows it.

@@ -5,6 +5,7 @@
 
 mod check;
 mod definition;
+mod dll_exports;
 mod encoding;
 mod export;
 mod exports;

@@ -48,6 +48,10 @@ pub enum Failure {
     NoExport(ExportFault, usize),
     /// The bytes are no archive, or a thin one.
     NotALibrary,
+    /// The bytes are no image: the offset of the field for which they are none.
+    NotAnImage(usize),
+    /// The image has no export directory.
+    NoExportDirectory,
 }
 
 impl From<ParseError> for Failure {
@@ -119,6 +123,8 @@ impl Failure {
             Failure::NoDllName => Status::NoDllName,
             Failure::NoExport(fault, _) => Status::of_export(*fault),
             Failure::NotALibrary => Status::NotALibrary,
+            Failure::NotAnImage(_) => Status::NotAnImage,
+            Failure::NoExportDirectory => Status::NoExportDirectory,
         }
     }
 }
@@ -152,7 +158,8 @@ pub fn place_of(answer: &Result<usize, Failure>) -> usize
             Failure::NotUtf8(offset)
             | Failure::SyntaxError(_, offset)
             | Failure::RefusedAt(_, offset)
-            | Failure::NoExport(_, offset),
+            | Failure::NoExport(_, offset)
+            | Failure::NotAnImage(offset),
         ) => *offset,
         Err(Failure::Refused(fault)) => fault.export_index().unwrap_or(0),
         _ => 0,

@@ -85,6 +85,10 @@ pub enum Status {
     NullInExport,
     /// The bytes are no archive, or a thin one.
     NotALibrary,
+    /// The bytes are no image: [`implib_dll::Fault`].
+    NotAnImage,
+    /// The image has no export directory.
+    NoExportDirectory,
     /// A function of the header's caller did not take a piece of a library.
     WriteFailed,
 }
@@ -133,6 +137,8 @@ impl Status {
             Status::NullInExport => 45,
             Status::NotALibrary => 46,
             Status::WriteFailed => 47,
+            Status::NotAnImage => 48,
+            Status::NoExportDirectory => 49,
         }
     }
 
@@ -179,6 +185,8 @@ impl Status {
             45 => Some(Status::NullInExport),
             46 => Some(Status::NotALibrary),
             47 => Some(Status::WriteFailed),
+            48 => Some(Status::NotAnImage),
+            49 => Some(Status::NoExportDirectory),
             _ => None,
         }
     }
@@ -228,6 +236,8 @@ impl Status {
             Status::NullInExport => "export has a null pointer",
             Status::NotALibrary => "not a library",
             Status::WriteFailed => "writing failed",
+            Status::NotAnImage => "not an image",
+            Status::NoExportDirectory => "no export directory",
         }
     }
 

@@ -9,6 +9,7 @@ use Rattle.implib_dll.specs.Lookup.{order_at, searched}
 use Rattle.implib_dll.specs.Memory.{byte_at, searched_in}
 use Rattle.implib_dll.specs.Outcome.{each_from}
 use Rattle.implib_dll.specs.Sections.{contents_at, kind_at, located, part_at, section_at, text_at}
+use Rattle.implib_dll.specs.WorkedDlls.{WorkedDlls, worked_arm64, worked_armnt, worked_i386}
 use Rattle.implib_dll.specs.WorkedFiles.{WorkedFiles, worked_pe32, worked_pe32_plus, worked_unnamed, worked_zoo}
 use Rattle.implib_dll.specs.WorkedImports.{WorkedImports, program_of_gnu, program_of_lld}
 use Rattle.implib_dll.specs.WorkedLookups.{WorkedLookups}
@@ -33,6 +34,17 @@ worked_files = record {
   machine = refl;
   base_0 = refl;
   base_65535 = refl;
+}
+
+pub worked_dlls : WorkedDlls
+unfolding bytes_at bytes_of_digits contents_at each_from entry_in exports_at exports_behind exports_in header_at header_for header_with kind_at located part_at section_at signature_in table_at target_of text_at text_in u16_at u32_at worked_arm64 worked_armnt worked_i386
+worked_dlls = record {
+  arm64 = refl;
+  armnt = refl;
+  i386 = refl;
+  i386_rows = refl;
+  arm64_no_execute = refl;
+  i386_forwarder_past = refl;
 }
 
 pub worked_lookups : WorkedLookups

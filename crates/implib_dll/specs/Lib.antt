@@ -10,6 +10,7 @@ pub mod Outcome
 pub mod Rows
 pub mod Sections
 pub mod Views
+pub mod WorkedDlls
 pub mod WorkedFiles
 pub mod WorkedImports
 pub mod WorkedLookups

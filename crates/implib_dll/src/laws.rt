@@ -3,6 +3,7 @@
 
 ghost use Rattle.implib_dll.specs.Laws.{FindsExactly, FindsTheName, HintsChangeNothing, NamesLead, OrdinalsLead, RightHintFinds};
 ghost use Rattle.implib_dll.specs.Memory.{ExportsLieInMemory, FileIsInMemory, ImageIsRead, LookupsAreThoseInMemory};
+ghost use Rattle.implib_dll.specs.WorkedDlls.{WorkedDlls};
 ghost use Rattle.implib_dll.specs.WorkedFiles.{WorkedFiles};
 ghost use Rattle.implib_dll.specs.WorkedImports.{WorkedImports};
 ghost use Rattle.implib_dll.specs.WorkedLookups.{WorkedLookups};
@@ -66,6 +67,11 @@ pub fn image_is_read()
 /// What DLLs export, byte by byte: made by hand for I386 and AMD64, and a real one of GNU's linker.
 pub fn worked_files()
     ensures { WorkedFiles }
+{}
+
+/// What DLLs of lld for ARM64 and ARMNT, and of GNU's linker for I386, export, byte by byte.
+pub fn worked_dlls()
+    ensures { WorkedDlls }
 {}
 
 /// What programs import, byte by byte: one of GNU's linker for I386, and one of lld for AMD64; with
