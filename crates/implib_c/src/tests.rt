@@ -593,7 +593,7 @@ fn offsets_have_lines_and_columns(rt: HostRuntime) -> Result<(), Fail> {
 
 #[test]
 fn the_version_is_that_of_the_header(rt: HostRuntime) -> Result<(), Fail> {
-    assert_eq!(rt; implib_version(), 6);
+    assert_eq!(rt; implib_version(), 7);
     Ok(())
 }
 
