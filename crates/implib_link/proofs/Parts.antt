@@ -1,0 +1,4 @@
+pub mod Sections
+pub mod Texts
+pub mod Heads
+pub mod Programs
