@@ -2,3 +2,4 @@ pub mod Sections
 pub mod Texts
 pub mod Heads
 pub mod Programs
+pub mod Members

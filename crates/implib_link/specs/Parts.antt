@@ -3,7 +3,7 @@
 -- as the libraries of GNU dlltool, of GNU ld and of MinGW have them, and those made here for GNU's linker.
 use Rattle.std.specs.Prelude.{◌≡◌, ℕ, ◌+◌, ◌*◌, ◌-◌, ◌^◌, Bool, ◌&&◌, ◌||◌, ◌==◌, nat_lt, not, true, false, List, [], ◌∷◌, ◌++◌, bytes_eq, drop, slice_get, take, Option, Some, None, if◌then◌else◌}
 use Rattle.std.specs.List.{AllByRecursion, IsDistinct, filter, filter_map, flat_map, list_all}
-use Rattle.std.specs.Option.{option_and_then, option_map, option_or}
+use Rattle.std.specs.Option.{option_and_then, option_map}
 use Rattle.implib.specs.declared.coff.object.Relocation.{Relocation}
 use Rattle.implib.specs.declared.machine.MachineType.{MachineType}
 use Rattle.implib.specs.Formats.Bytes.{u16_bytes}
@@ -12,13 +12,16 @@ use Rattle.implib.specs.Formats.File.{is_defined_external}
 use Rattle.implib.specs.Formats.Object.{ASymbol, Auxiliary, Entry, Object, ObjectSection, ObjectSymbol, before_nul, section_numbered}
 use Rattle.implib.specs.Import.{Ask, Name, Ordinal}
 use Rattle.implib.specs.Link.Image.{IsAdmissible}
+use Rattle.implib.specs.Link.LinkedMembers.{LinkInput, linked_members, objects_in}
 use Rattle.implib.specs.Link.Load.{number_in}
 use Rattle.implib.specs.Link.Placement.{Addresses, Bases, Descriptors, DirectoryEnds, DllNames, Group, HintNames, Lookups, alignment, group_named, same_group}
 use Rattle.implib.specs.Link.Resolution.{is_undefined_external}
 use Rattle.implib.specs.Members.ImportTables.{thunk_width, zeros}
+use Rattle.implib_link.specs.Flavors.Program.{gnu_input}
 use Rattle.implib_link.specs.Gnu.OtherLibraries.{HoldsFields}
-use Rattle.implib_link.specs.Gnu.Program.{ClaimsNone, claimed_names, has_tables, null_descriptor}
-use Rattle.implib_link.specs.Tables.{Block, TableEntry}
+use Rattle.implib_link.specs.Gnu.Program.{ClaimsNone, claimed_names, has_tables, is_table, null_descriptor}
+use Rattle.implib_link.specs.Gnu.Rebased.{absolute_width}
+use Rattle.implib_link.specs.Tables.{Block, TableEntry, block_of_flavor}
 
 -- the objects of a DLL's library that are linked, and its entries
 pub record Part : Type 0 where
@@ -78,7 +81,7 @@ own_bytes o None = None
 own_bytes o (Some (Auxiliary bytes)) = None
 own_bytes o (Some (ASymbol s)) = if is_undefined_external s then None else bytes_at_symbol o s
 
--- those at the symbol of a name that an object defines for others, or the first of several objects
+-- those at the symbol of a name that an object defines for others, and that the last of several objects does
 abbrev pub named_bytes_in : Object → List ℕ → List Entry → Option (List ℕ)
 named_bytes_in o name [] = None
 named_bytes_in o name (Auxiliary bytes ∷ entries) = named_bytes_in o name entries
@@ -87,7 +90,8 @@ named_bytes_in o name (ASymbol s ∷ entries) =
 
 abbrev pub named_bytes : List ℕ → List Object → Option (List ℕ)
 named_bytes name [] = None
-named_bytes name (o ∷ objects) = option_or (named_bytes_in o name o.entries) (named_bytes name objects)
+named_bytes name (o ∷ []) = named_bytes_in o name o.entries
+named_bytes name (o ∷ q ∷ objects) = named_bytes name (q ∷ objects)
 
 -- Thunks.
 
@@ -216,7 +220,7 @@ is_empty (Some s) = bytes_eq s.bytes [] && has_none s.relocations
 abbrev pub begins : Group → Object → ℕ → Bool
 begins group o symbol = is_empty (only_section group o) && leads_to group o (slice_get o.entries symbol)
 
--- the DLL's name: the text at a symbol that is left to other objects, which one of these defines
+-- the DLL's name: the text at a symbol that is left to other objects, which the last of these defines
 abbrev pub dll_text : List Object → Option Entry → Option (List ℕ)
 dll_text objects None = None
 dll_text objects (Some (Auxiliary bytes)) = None
@@ -234,15 +238,34 @@ pub record IsHead (machine : MachineType) (o : Object) (others : List Object) (d
   pub addresses : begins Addresses o row.addresses ≡ true
   pub name : dll_text others (slice_get o.entries row.name) ≡ Some dll
 
--- A part: a head, objects with the table's entries, in their order, and a tail; the relocations of each are within its
--- sections.
+-- objects are a head, those of the table's entries, in their order, and a tail
+unfoldable pub BeginWithHead : MachineType → List Object → Block → Type 0
+BeginWithHead machine [] table = ⊥
+BeginWithHead machine (o ∷ objects) table =
+    IsHead machine o objects table.dll × AreEntries machine objects table.entries
+
+-- A part: its objects are these, and the relocations of each are within its sections.
 pub record IsPart (machine : MachineType) (p : Part) : Type 0 where
-  pub head : Object
-  pub others : List Object
-  pub objects : p.objects ≡ head ∷ others
-  pub begin : IsHead machine head others p.table.dll
-  pub entries : AreEntries machine others p.table.entries
+  pub objects : BeginWithHead machine p.objects p.table
   pub sized : AllByRecursion HoldsFields p.objects
+
+-- whether an object's import tables store no address whole
+abbrev pub is_whole : Option ℕ → Bool
+is_whole None = false
+is_whole (Some width) = true
+
+abbrev pub stores_none : MachineType → Object → Bool
+stores_none machine o = list_all
+    (λ s. not (is_table s) || list_all (λ r. not (is_whole (absolute_width machine r.kind))) s.relocations)
+    o.sections
+
+-- The part that is linked of a definition for GNU's linker: the head, the chosen exports' members and the tail, and the
+-- exports' entries.
+abbrev pub part_of : MachineType → LinkInput → Part
+part_of machine p = record {
+  objects = objects_in (linked_members p.definition machine p.chosen);
+  table = block_of_flavor machine (gnu_input p);
+}
 
 -- the objects of parts, one after another, and the names that they claim
 abbrev pub objects_of_parts : List Part → List Object

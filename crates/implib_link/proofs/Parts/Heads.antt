@@ -2,7 +2,7 @@
 use Rattle.std.proofs.Common.{◌≡◌, ℕ, zero, suc, ◌+◌, ◌*◌, ◌-◌, ◌%◌, ◌^◌, ◌<◌, Bool, true, false, List, [], ◌∷◌, ◌++◌, length, map, Option, Some, None, refl, ap, sym, ◌∙◌, subst, inl, inr, arith, ◌⊎◌, if◌then◌else◌}
 use Rattle.std.specs.Prelude.{◌&&◌, ◌==◌, bytes_eq, not, slice_get}
 use Rattle.std.specs.List.{AllByRecursion, filter_map}
-use Rattle.std.specs.Option.{option_and_then, option_or}
+use Rattle.std.specs.Option.{option_and_then}
 use Rattle.std.proofs.lemmas.Bool.{and_parts, cases_Bool, eqb-true}
 use Rattle.std.proofs.Math.Nat.{mul-suc}
 use Rattle.std.proofs.lemmas.List.{append_assoc, length-replicate}
@@ -94,20 +94,18 @@ module _ (machine : MachineType) (linked : List Placed) (image : List Range) (st
   unfolding ends_behind
   located_next o b rest sized located = located_behind machine linked image b (o ∷ []) rest (sized, tt) located
 
-  -- what objects define with texts
+  -- what the last of objects defines with a text
   texts_named : (name bytes : List ℕ) (objects later : List Object) (b : Bases) → AllByRecursion IsSized objects → LocatedFrom machine linked image b (objects ++ later) → named_bytes name objects ≡ Some bytes →
       (a : ℕ) × (Among (record { name = name; address = Some a }) (definitions (placed_from b (objects ++ later))) × BytesAt image a bytes)
   texts_named name bytes [] later b sized located is = cc
-  texts_named name bytes (o ∷ objects) later b sized located is =
-      go (named_bytes_in o name o.entries) refl is (λ others. texts_named name bytes objects later (ends_after b o.sections) sized.1 (located_next o b (objects ++ later) sized.0 located) others)
-    where
-      go : (found : Option (List ℕ)) → named_bytes_in o name o.entries ≡ found → option_or found (named_bytes name objects) ≡ Some bytes →
-          (named_bytes name objects ≡ Some bytes → (a : ℕ) × (Among (record { name = name; address = Some a }) (definitions (placed_from (ends_after b o.sections) (objects ++ later))) × BytesAt image a bytes)) →
-          (a : ℕ) × (Among (record { name = name; address = Some a }) ((filter_map (defined_by_entry (section_addresses_of b o.sections)) o.entries) ++ (definitions (placed_from (ends_after b o.sections) (objects ++ later)))) × BytesAt image a bytes)
-      go None at is behind = let found = behind is in (found.0, (among_back _ (filter_map (defined_by_entry (section_addresses_of b o.sections)) o.entries) (definitions (placed_from (ends_after b o.sections) (objects ++ later))) found.1.0, found.1.1))
-      go (Some text) at is behind =
-          let found = named_located machine linked image starts ends o b (objects ++ later) sized.0 located name o.entries bytes (at ∙ is) in
-          (found.0, (among_front _ (filter_map (defined_by_entry (section_addresses_of b o.sections)) o.entries) (definitions (placed_from (ends_after b o.sections) (objects ++ later))) found.1.0, found.1.1))
+  texts_named name bytes (o ∷ []) later b sized located is =
+      let found = named_located machine linked image starts ends o b later sized.0 located name o.entries bytes is in
+      (found.0, (among_front _ (filter_map (defined_by_entry (section_addresses_of b o.sections)) o.entries) (definitions (placed_from (ends_after b o.sections) later)) found.1.0, found.1.1))
+  texts_named name bytes (o ∷ q ∷ objects) later b sized located is =
+      let found = texts_named name bytes (q ∷ objects) later (ends_after b o.sections) sized.1 (located_next o b (q ∷ objects ++ later) sized.0 located) is in (
+        found.0,
+        (among_back _ (filter_map (defined_by_entry (section_addresses_of b o.sections)) o.entries) (definitions (placed_from (ends_after b o.sections) (q ∷ objects ++ later))) found.1.0, found.1.1),
+      )
 
   -- Entries and the tail.
   record TablesFrom (b : Bases) (objects later : List Object) (entries : List TableEntry) : Type 0 where

@@ -22,7 +22,8 @@ use Rattle.implib.proofs.Link.Ranges.{Among, among_back, among_front}
 use Rattle.implib_link.specs.Directory.{DirectoryAt}
 use Rattle.implib_link.specs.Gnu.OtherLibraries.{HoldsFields, ends_behind}
 use Rattle.implib_link.specs.Gnu.Program.{ClaimsNone, claimed_name, claimed_names, has_tables, is_reference, is_shared, null_descriptor}
-use Rattle.implib_link.specs.Parts.{IsPart, IsProgramOfParts, Part, names_of_parts, objects_of_parts}
+use Rattle.implib_link.specs.Gnu.Rebased.{absolute_width}
+use Rattle.implib_link.specs.Parts.{BeginWithHead, IsPart, IsProgramOfParts, Part, names_of_parts, objects_of_parts}
 use Rattle.implib_link.specs.Tables.{AreTables, Block, TableEntry, tables_at}
 use Rattle.implib_link.proofs.Flavors.Blocks.{plus_sum}
 use Rattle.implib_link.proofs.Gnu.Blocks.{null_located, table_sum}
@@ -118,13 +119,12 @@ module _ (machine : MachineType) (linked : List Placed) (image : List Range) (lo
     pub symbols : (i j : ℕ) (x : Block) (e : TableEntry) (name : List ℕ) → slice_get (blocks_of parts) i ≡ Some x → slice_get x.entries j ≡ Some e → e.symbol ≡ Some name →
         definitions_of name linked ≡ record { name = name; address = Some (b.addresses + thunk_width machine * entries_until i (blocks_of parts) + thunk_width machine * j) } ∷ []
 
-  one_part : (p : Part) (b : Bases) (later : List Object) → IsPart machine p → AreAligned b → LocatedFrom machine linked image b (p.objects ++ later) →
-      ((d : SymbolDefinition) → Among d (definitions (placed_from b (p.objects ++ later))) → definitions_of d.name linked ≡ d ∷ []) → PartLinks machine linked image low high b p.objects p.table.dll p.table.entries
-  one_part p b later is level located only =
-      subst (λ os. PartLinks machine linked image low high b os p.table.dll p.table.entries) (sym is.objects)
-      (part_links machine linked image low high is.head is.others later p.table.dll p.table.entries b level (subst (AllByRecursion HoldsFields) is.objects is.sized)
-      (subst (λ os. LocatedFrom machine linked image b (os ++ later)) is.objects located) is.begin is.entries
-      (subst (λ os. (d : SymbolDefinition) → Among d (definitions (placed_from b (os ++ later))) → definitions_of d.name linked ≡ d ∷ []) is.objects only))
+  one_part : (objects : List Object) (table : Block) (b : Bases) (later : List Object) → BeginWithHead machine objects table → AllByRecursion HoldsFields objects → AreAligned b →
+      LocatedFrom machine linked image b (objects ++ later) → ((d : SymbolDefinition) → Among d (definitions (placed_from b (objects ++ later))) → definitions_of d.name linked ≡ d ∷ []) →
+      PartLinks machine linked image low high b objects table.dll table.entries
+  unfolding BeginWithHead
+  one_part [] table b later is sized level located only = absurd is
+  one_part (o ∷ objects) table b later is sized level located only = part_links machine linked image low high o objects later table.dll table.entries b level sized located is.0 is.1 only
 
   parts_link : (parts : List Part) (b : Bases) (later : List Object) → AllByRecursion (IsPart machine) parts → AreAligned b → LocatedFrom machine linked image b (objects_of_parts parts ++ later) →
       ((d : SymbolDefinition) → Among d (definitions (placed_from b (objects_of_parts parts ++ later))) → definitions_of d.name linked ≡ d ∷ []) → PartsLink b parts later
@@ -143,7 +143,7 @@ module _ (machine : MachineType) (linked : List Placed) (image : List Range) (lo
       let next : Bases = ends_behind b p.objects in
       let all_located : LocatedFrom machine linked image b (p.objects ++ rest) = subst (LocatedFrom machine linked image b) joined located in
       let all_only = subst (λ os. (d : SymbolDefinition) → Among d (definitions (placed_from b os)) → definitions_of d.name linked ≡ d ∷ []) joined only in
-      let one = one_part p b rest is level all_located all_only in
+      let one = one_part p.objects p.table b rest is.objects is.sized level all_located all_only in
       let front : List SymbolDefinition = definitions (placed_from b p.objects) in
       let behind : List SymbolDefinition = definitions (placed_from next rest) in
       let split : definitions (placed_from b (p.objects ++ rest)) ≡ front ++ behind =
