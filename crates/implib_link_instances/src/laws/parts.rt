@@ -1,0 +1,8 @@
+//! Programs of libraries of GNU `dlltool` and of ours, as GNU `ld` wrote them.
+
+ghost use Rattle.implib_link_instances.specs.Worked.Parts.{WorkedParts};
+
+/// Programs of such libraries have import tables: one on AMD64, and one on I386.
+pub fn worked_parts()
+    ensures { WorkedParts }
+{}
