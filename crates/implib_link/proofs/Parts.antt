@@ -3,3 +3,4 @@ pub mod Texts
 pub mod Heads
 pub mod Programs
 pub mod Members
+pub mod Stubs

@@ -62,3 +62,4 @@ pub mod BothReversed
 pub mod BothExists
 pub mod NoShorts
 pub mod Parts
+pub mod NearParts

@@ -1,5 +1,5 @@
 -- What the objects of a part give in an image: a descriptor that a strict loader takes, and its tables.
-use Rattle.std.proofs.Common.{◌≡◌, ℕ, zero, suc, ◌+◌, ◌*◌, ◌-◌, ◌%◌, ◌^◌, ◌<◌, Bool, true, false, List, [], ◌∷◌, ◌++◌, length, map, Option, Some, None, refl, ap, sym, ◌∙◌, subst, inl, inr, arith, ◌⊎◌, if◌then◌else◌}
+use Rattle.std.proofs.Common.{◌≡◌, ℕ, zero, suc, ◌+◌, ◌*◌, ◌%◌, ◌^◌, ◌<◌, true, false, List, [], ◌∷◌, ◌++◌, length, map, Option, Some, None, refl, ap, sym, ◌∙◌, subst, inl, inr, arith, ◌⊎◌, if◌then◌else◌}
 use Rattle.std.specs.Prelude.{◌&&◌, ◌==◌, bytes_eq, not, slice_get}
 use Rattle.std.specs.List.{AllByRecursion, filter_map}
 use Rattle.std.specs.Option.{option_and_then}
@@ -12,12 +12,11 @@ use Rattle.implib.specs.declared.machine.MachineType.{MachineType}
 use Rattle.implib.specs.Formats.Bytes.{u32_bytes}
 use Rattle.implib.specs.Formats.Constants.{image_relative}
 use Rattle.implib.specs.Formats.File.{is_defined_external}
-use Rattle.implib.specs.Formats.Layout.{HasNoNul}
 use Rattle.implib.specs.Formats.Object.{ASymbol, Auxiliary, Entry, Object, ObjectSection, before_nul, section_numbered, u32_at}
 use Rattle.implib.specs.Import.{Ask}
 use Rattle.implib.specs.Link.Image.{Range, range_end, relocated, with_address}
 use Rattle.implib.specs.Link.Load.{BytesAt, TableAt, TextAt, WholeTableAt}
-use Rattle.implib.specs.Link.Placement.{Addresses, Bases, Descriptors, Group, Lookups, Placed, base_of, ends_after, group_named, placed_from, section_addresses_of}
+use Rattle.implib.specs.Link.Placement.{Addresses, Bases, Descriptors, Group, Lookups, Placed, base_of, ends_after, placed_from, section_addresses_of}
 use Rattle.implib.specs.Link.Resolution.{SymbolDefinition, address_in, address_or_zero, defined_by_entry, definitions, definitions_of, first_address, is_undefined_external, symbol_address, target_address}
 use Rattle.implib.specs.Members.ImportTables.{thunk_width, zeros}
 use Rattle.implib.proofs.Link.Descriptors.{LoadsFrom, descriptor_loads}
@@ -27,7 +26,7 @@ use Rattle.implib.proofs.Link.Ranges.{Among, among_back, among_first, among_fron
 use Rattle.implib.proofs.Link.Thunks.{StrictTableAt, zeros_number}
 use Rattle.implib_link.specs.Gnu.OtherLibraries.{ends_behind}
 use Rattle.implib_link.specs.Gnu.Packed.{sections_end}
-use Rattle.implib_link.specs.Parts.{AreEntries, IsEntry, IsHead, IsTail, Row, ask_of, begins, dll_text, entry_name, first_of, fits_four, has_none, is_empty, is_field, is_in_group, is_of, leads_to, named_bytes, named_bytes_in, only_section, row_in, row_of, sections_of, thunk_ask}
+use Rattle.implib_link.specs.Parts.{AreEntries, IsHead, Row, ask_of, begins, dll_text, entry_name, first_of, has_none, is_empty, is_field, is_in_group, leads_to, named_bytes, only_section, row_in, row_of, sections_of}
 use Rattle.implib_link.specs.Tables.{TableEntry}
 use Rattle.implib_link.proofs.Gnu.Packed.{end_of_sections}
 use Rattle.implib_link.proofs.Gnu.Runs.{located_behind}

@@ -1,7 +1,7 @@
 -- What is linked of a definition for GNU's linker is a part, and parts that store no address whole are steady.
-use Rattle.std.proofs.Common.{◌≡◌, ℕ, ◌+◌, ◌*◌, ◌-◌, ◌%◌, ◌/◌, ◌^◌, ◌<◌, ◌⊎◌, true, false, List, [], ◌∷◌, ◌++◌, length, map, Option, Some, None, refl, ap, sym, ◌∙◌, subst, inl, inr, arith}
-use Rattle.std.specs.Prelude.{◌&&◌, ◌||◌, ◌==◌, bytes_eq, drop, nat_lt, not, slice_get, take}
-use Rattle.std.specs.List.{AllByRecursion, filter, list_all}
+use Rattle.std.proofs.Common.{◌≡◌, ℕ, ◌+◌, ◌*◌, ◌-◌, ◌%◌, ◌/◌, ◌^◌, ◌<◌, true, false, List, [], ◌∷◌, ◌++◌, map, Option, Some, None, refl, ap, sym, ◌∙◌, subst, inl, inr, arith}
+use Rattle.std.specs.Prelude.{◌||◌, bytes_eq, not, slice_get, take}
+use Rattle.std.specs.List.{AllByRecursion, list_all}
 use Rattle.std.proofs.lemmas.List.{append_assoc}
 use Rattle.std.proofs.lemmas.Bool.{and_from, and_parts, cases_Bool, lt-ltb}
 use Rattle.implib.specs.declared.coff.object.Relocation.{Relocation}
@@ -11,13 +11,13 @@ use Rattle.implib.specs.Definition.{ExportView}
 use Rattle.implib.specs.Formats.Bytes.{u16_bytes}
 use Rattle.implib.specs.Formats.Constants.{image_relative}
 use Rattle.implib.specs.Formats.Layout.{HasNoNul}
-use Rattle.implib.specs.Formats.Object.{Object, ObjectSection, before_nul}
-use Rattle.implib.specs.Import.{Ask, Name, Ordinal, expected_ask, imp_symbol, name_asked}
+use Rattle.implib.specs.Formats.Object.{Object, ObjectSection}
+use Rattle.implib.specs.Import.{Name, Ordinal, expected_ask, imp_symbol, name_asked}
 use Rattle.implib.specs.LibraryName.{NamesOfDll, names_for}
 use Rattle.implib.specs.declared.flavor.Flavor.TheVariants.{Gnu}
 use Rattle.implib.specs.Link.LinkedMembers.{IsMade, LinkInput, chosen_exports}
 use Rattle.implib.specs.Link.Load.{number_in}
-use Rattle.implib.specs.Link.Placement.{Addresses, Bases, Group, Lookups, group_named, placed_from}
+use Rattle.implib.specs.Link.Placement.{Addresses, Bases, Lookups, placed_from}
 use Rattle.implib.specs.Members.Gnu.{export_object, head_object, hint_name, hint_name_symbol, iname_symbol, relocations_of_thunk, tail_object, thunk}
 use Rattle.implib.specs.Members.ImportTables.{relocation, thunk_width, zeros}
 use Rattle.implib.proofs.Formats.Symbols.{before_nul-ended}
@@ -27,9 +27,9 @@ use Rattle.implib.proofs.Link.LinkedMembers.{dll_free, exports_fit, objects_are}
 use Rattle.implib.proofs.Link.Placement.{after_head, export, head, tail}
 use Rattle.implib.proofs.Link.Tables.{CanBeAsked}
 use Rattle.implib_link.specs.Gnu.OtherLibraries.{HoldsFields}
-use Rattle.implib_link.specs.Gnu.Program.{has_tables, is_table, null_descriptor}
+use Rattle.implib_link.specs.Gnu.Program.{is_table, null_descriptor}
 use Rattle.implib_link.specs.Gnu.Rebased.{absolute_width}
-use Rattle.implib_link.specs.Parts.{AreEntries, BeginWithHead, IsEntry, IsHead, IsPart, IsProgramOfParts, IsTail, Part, ask_of, begins, dll_text, entry_symbol, hint_and_name, is_field, is_null_thunk, is_whole, named_bytes, objects_of_parts, ordinal_with, own_bytes, part_of, row_in, stores_none, thunk_ask}
+use Rattle.implib_link.specs.Parts.{AreEntries, BeginWithHead, IsEntry, IsPart, IsProgramOfParts, IsTail, Part, ask_of, begins, dll_text, entry_symbol, hint_and_name, is_field, is_whole, named_bytes, objects_of_parts, ordinal_with, own_bytes, part_of, row_in, stores_none}
 use Rattle.implib_link.specs.Tables.{AreSteady, Block, TableEntry}
 use Rattle.implib_link.proofs.Gnu.Others.{no_group}
 use Rattle.implib_link.proofs.Gnu.Steady.{AllSteady, IsSteady, NoneAbsolute, all_steady, tables_none}

@@ -1,7 +1,7 @@
 -- Programs of parts have import tables.
-use Rattle.std.proofs.Common.{◌≡◌, ℕ, zero, suc, ◌+◌, ◌*◌, ◌%◌, ◌^◌, ◌<◌, false, List, [], ◌∷◌, ◌++◌, length, map, Option, Some, refl, ap, sym, ◌∙◌, subst, inl, inr, arith, ◌⊎◌}
+use Rattle.std.proofs.Common.{◌≡◌, ℕ, zero, suc, ◌+◌, ◌*◌, ◌^◌, ◌<◌, false, List, [], ◌∷◌, ◌++◌, length, map, Some, refl, ap, sym, ◌∙◌, subst, inl, inr, arith, ◌⊎◌}
 use Rattle.std.specs.Prelude.{◌&&◌, bytes_eq, not, slice_get}
-use Rattle.std.specs.List.{AllByRecursion, IsDistinct, filter, filter_map, flat_map, list_any}
+use Rattle.std.specs.List.{AllByRecursion, IsDistinct, filter, filter_map, flat_map}
 use Rattle.std.proofs.lemmas.Bool.{cases_Bool}
 use Rattle.std.proofs.lemmas.Grind.{flat_map-append}
 use Rattle.std.proofs.lemmas.List.{append-nil, append_assoc, map-append}
@@ -18,20 +18,20 @@ use Rattle.implib.proofs.Link.Linked.{LocatedFrom}
 use Rattle.implib.proofs.Link.LinkedBlocks.{each_located, ends, even, starts}
 use Rattle.implib.proofs.Link.LinkedMembers.{among_map}
 use Rattle.implib.proofs.Link.Placement.{AreAligned}
-use Rattle.implib.proofs.Link.Ranges.{Among, among_back, among_front}
+use Rattle.implib.proofs.Link.Ranges.{Among, among_back, among_flat}
 use Rattle.implib_link.specs.Directory.{DirectoryAt}
 use Rattle.implib_link.specs.Gnu.OtherLibraries.{HoldsFields, ends_behind}
-use Rattle.implib_link.specs.Gnu.Program.{ClaimsNone, claimed_name, claimed_names, has_tables, is_reference, is_shared, null_descriptor}
-use Rattle.implib_link.specs.Gnu.Rebased.{absolute_width}
+use Rattle.implib_link.specs.Gnu.Program.{claimed_name, claimed_names, has_tables, is_reference, is_shared, null_descriptor}
 use Rattle.implib_link.specs.Parts.{BeginWithHead, IsPart, IsProgramOfParts, Part, names_of_parts, objects_of_parts}
 use Rattle.implib_link.specs.Tables.{AreTables, Block, TableEntry, tables_at}
 use Rattle.implib_link.proofs.Flavors.Blocks.{plus_sum}
 use Rattle.implib_link.proofs.Gnu.Blocks.{null_located, table_sum}
 use Rattle.implib_link.proofs.Gnu.Loaded.{times_none as plus_zero}
-use Rattle.implib_link.proofs.Gnu.Others.{contributions_kept, defined_is_claimed, definitions_kept}
+use Rattle.implib_link.proofs.Gnu.Others.{contributions_kept, defined_is_claimed, definitions_kept, placed_kept}
 use Rattle.implib_link.proofs.Gnu.Program.{all_claim}
 use Rattle.implib_link.proofs.Gnu.Runs.{located_behind, placed_parts}
 use Rattle.implib_link.proofs.PackedTables.{are_packed, entries_until, imported_by_block}
+use Rattle.implib_link.proofs.Search.Lists.{among_filter}
 use Rattle.implib_link.proofs.Parts.Heads.{PartLinks, part_links}
 
 -- Names of definitions are among those that objects claim, in their order.
@@ -109,12 +109,21 @@ module _ (machine : MachineType) (linked : List Placed) (image : List Range) (lo
   abbrev blocks_of : List Part → List Block
   blocks_of parts = map (λ (p : Part). p.table) parts
 
+  -- where a part is placed
+  pub record IsPlaced (b : Bases) (address : ℕ) (objects all : List Object) : Type 0 where
+    pub bases : Bases
+    pub rest : List Object
+    pub aligned : AreAligned bases
+    pub addresses : bases.addresses ≡ address
+    pub held : (q : Placed) → Among q (placed_from bases (objects ++ rest)) → Among q (placed_from b all)
+
   -- what is known of parts that are placed from bases on, with other objects after them
   record PartsLink (b : Bases) (parts : List Part) (later : List Object) : Type 0 where
     pub behind : Bases
     pub aligned : AreAligned behind
     pub located : LocatedFrom machine linked image behind later
     pub directory : BytesAt image behind.descriptors (zeros 20) → DirectoryAt image (thunk_width machine) b.descriptors (map imported_by_block (blocks_of parts))
+    pub at : (i : ℕ) (p : Part) → slice_get parts i ≡ Some p → IsPlaced b (b.addresses + thunk_width machine * entries_until i (blocks_of parts)) p.objects (objects_of_parts parts ++ later)
     pub fields : (i : ℕ) (x : Block) → slice_get (blocks_of parts) i ≡ Some x → NumberAt image 4 (b.descriptors + 20 * i + 16) (b.addresses + thunk_width machine * entries_until i (blocks_of parts))
     pub symbols : (i j : ℕ) (x : Block) (e : TableEntry) (name : List ℕ) → slice_get (blocks_of parts) i ≡ Some x → slice_get x.entries j ≡ Some e → e.symbol ≡ Some name →
         definitions_of name linked ≡ record { name = name; address = Some (b.addresses + thunk_width machine * entries_until i (blocks_of parts) + thunk_width machine * j) } ∷ []
@@ -134,6 +143,7 @@ module _ (machine : MachineType) (linked : List Placed) (image : List Range) (lo
     aligned = level;
     located = located;
     directory = λ null. null;
+    at = λ i p is. cc;
     fields = λ i x is. cc;
     symbols = λ i j x e name is asked named. cc;
   }
@@ -155,10 +165,39 @@ module _ (machine : MachineType) (linked : List Placed) (image : List Range) (lo
         aligned = others.aligned;
         located = others.located;
         directory = λ null. (one.loads.loads, subst (λ n. DirectoryAt image (thunk_width machine) n (map imported_by_block (blocks_of parts))) one.descriptors_end (others.directory null));
+        at = places one.addresses_end level others.at;
         fields = fields one others.fields;
         symbols = symbols one others.symbols;
       }
     where
+      places : (ends_behind b p.objects).addresses ≡ b.addresses + thunk_width machine * (length p.table.entries + 1) → AreAligned b →
+          ((i : ℕ) (x : Part) → slice_get parts i ≡ Some x →
+          IsPlaced (ends_behind b p.objects) ((ends_behind b p.objects).addresses + thunk_width machine * entries_until i (blocks_of parts)) x.objects (objects_of_parts parts ++ later)) →
+          (i : ℕ) (x : Part) → slice_get (p ∷ parts) i ≡ Some x →
+          IsPlaced b (b.addresses + thunk_width machine * entries_until i (p.table ∷ blocks_of parts)) x.objects ((p.objects ++ objects_of_parts parts) ++ later)
+      places end level rest zero x is =
+          let same : p ≡ x = cc in
+          subst (λ (y : Part). IsPlaced b (b.addresses + thunk_width machine * 0) y.objects ((p.objects ++ objects_of_parts parts) ++ later)) same (record {
+            bases = b;
+            rest = objects_of_parts parts ++ later;
+            aligned = level;
+            addresses = plus_zero b.addresses (thunk_width machine);
+            held = λ q m. subst (λ os. Among q (placed_from b os)) (sym (append_assoc p.objects (objects_of_parts parts) later)) m;
+          })
+      places end level rest (suc i) x is =
+          let found = rest i x is in
+          record {
+            bases = found.bases;
+            rest = found.rest;
+            aligned = found.aligned;
+            addresses = found.addresses ∙ ap (λ n. n + thunk_width machine * entries_until i (blocks_of parts)) end
+                ∙ table_sum b.addresses (thunk_width machine) (length p.table.entries + 1) (entries_until i (blocks_of parts));
+            held = λ q m.
+                subst (λ os. Among q (placed_from b os)) (sym (append_assoc p.objects (objects_of_parts parts) later))
+                (subst (Among q) (sym (placed_parts b p.objects (objects_of_parts parts ++ later)))
+                (among_back q (placed_from b p.objects) (placed_from (ends_behind b p.objects) (objects_of_parts parts ++ later)) (found.held q m)));
+          }
+
       fields : PartLinks machine linked image low high b p.objects p.table.dll p.table.entries →
           ((i : ℕ) (x : Block) → slice_get (blocks_of parts) i ≡ Some x →
           NumberAt image 4 ((ends_behind b p.objects).descriptors + 20 * i + 16) ((ends_behind b p.objects).addresses + thunk_width machine * entries_until i (blocks_of parts))) →
@@ -235,9 +274,25 @@ module _ (machine : MachineType) (b : Bases) (parts : List Part) (objects : List
       ∙ ap (λ os. definitions_of d.name (placed_from b os)) program.tables
       ∙ only_definition d defined m (among_distinct (map (λ (x : SymbolDefinition). x.name) defined) names among program.distinct)
 
+  links : PartsLink machine linked image (starts machine b objects program.admissible) (ends machine b objects program.admissible) b parts (null_descriptor ∷ [])
+  links =
+      parts_link machine linked image (starts machine b objects program.admissible) (ends machine b objects program.admissible) parts b (null_descriptor ∷ []) are
+      (even machine b objects program.admissible) located only
+
   pub parts_tables : AreTables machine (tables_at machine b objects (map (λ (p : Part). p.table) parts))
   parts_tables =
-      let links = parts_link machine linked image (starts machine b objects program.admissible) (ends machine b objects program.admissible) parts b (null_descriptor ∷ []) are
-      (even machine b objects program.admissible) located only in
       are_packed machine image linked b.descriptors b.addresses (map (λ (p : Part). p.table) parts) (starts machine b objects program.admissible) (ends machine b objects program.admissible)
       (links.directory (null_located machine linked image links.behind links.aligned links.located)) links.fields links.symbols
+
+  -- an object of a part that is placed, and what it defines
+  pub part_placed : (i : ℕ) (p : Part) → slice_get parts i ≡ Some p →
+      IsPlaced machine linked image (starts machine b objects program.admissible) (ends machine b objects program.admissible) b (b.addresses + thunk_width machine * entries_until i (map (λ (x : Part). x.table) parts)) p.objects (objects_of_parts parts ++ null_descriptor ∷ [])
+  part_placed = links.at
+
+  pub kept_is_linked : (q : Placed) → Among q (placed_from b (objects_of_parts parts ++ null_descriptor ∷ [])) → Among q (placed_from b objects)
+  kept_is_linked q m =
+      among_filter (λ (x : Placed). has_tables x.object) q (placed_from b objects)
+      (subst (Among q) (ap (placed_from b) (sym program.tables) ∙ sym (placed_kept b objects)) m)
+
+  pub defined_once : (q : Placed) (d : SymbolDefinition) → Among q (placed_from b (objects_of_parts parts ++ null_descriptor ∷ [])) → Among d (defined_by q) → definitions_of d.name (placed_from b objects) ≡ d ∷ []
+  defined_once q d m held = only d (among_flat defined_by q (placed_from b (objects_of_parts parts ++ null_descriptor ∷ [])) d m held)

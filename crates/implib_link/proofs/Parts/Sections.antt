@@ -1,5 +1,5 @@
 -- Where an object's sections of a group are, and what they are filled in with.
-use Rattle.std.proofs.Common.{◌≡◌, ℕ, zero, suc, ◌+◌, ◌%◌, true, false, List, [], ◌∷◌, ◌++◌, length, Option, Some, None, refl, ap, sym, ◌∙◌, subst, inl, inr, arith}
+use Rattle.std.proofs.Common.{◌≡◌, ℕ, zero, suc, ◌+◌, ◌%◌, true, false, List, [], ◌∷◌, ◌++◌, length, Option, Some, None, refl, ap, sym, ◌∙◌, subst, inl, inr}
 use Rattle.std.specs.Prelude.{slice_get}
 use Rattle.std.specs.List.{AllByRecursion}
 use Rattle.std.specs.Option.{option_and_then}
@@ -8,7 +8,7 @@ use Rattle.implib.specs.declared.machine.MachineType.{MachineType}
 use Rattle.implib.specs.Formats.Object.{ObjectSection}
 use Rattle.implib.specs.Link.Image.{Contribution, Range, contribution_at, contributions_in, filled, relocated}
 use Rattle.implib.specs.Link.Load.{BytesAt}
-use Rattle.implib.specs.Link.Placement.{Bases, Group, Placed, SectionAddress, address_after, alignment, base_of, end_after, group_named, next_multiple, same_group, section_address_of, section_addresses_of}
+use Rattle.implib.specs.Link.Placement.{Bases, Group, Placed, SectionAddress, address_after, alignment, base_of, end_after, group_named, next_multiple, section_address_of, section_addresses_of}
 use Rattle.implib.specs.Link.Resolution.{address_at}
 use Rattle.implib.proofs.Link.Linked.{contribution_located}
 use Rattle.implib.proofs.Link.Placement.{at_least}

@@ -1,8 +1,8 @@
 -- What an object's symbols lead to in an image, and what its thunks ask for there.
-use Rattle.std.proofs.Common.{◌≡◌, ℕ, zero, suc, ◌+◌, ◌*◌, ◌-◌, ◌%◌, ◌/◌, ◌^◌, ◌<◌, ◌≤◌, Bool, true, false, List, [], ◌∷◌, ◌++◌, length, Option, Some, None, refl, ap, sym, ◌∙◌, subst, inl, inr, arith}
+use Rattle.std.proofs.Common.{◌≡◌, ℕ, zero, suc, ◌+◌, ◌*◌, ◌-◌, ◌%◌, ◌/◌, ◌^◌, ◌<◌, true, List, [], ◌∷◌, ◌++◌, length, Option, Some, None, refl, ap, sym, ◌∙◌, subst, inl, inr, arith}
 use Rattle.std.specs.Prelude.{◌&&◌, ◌==◌, bytes_eq, drop, nat_lt, slice_get, take}
 use Rattle.std.specs.List.{AllByRecursion, filter_map}
-use Rattle.std.specs.Option.{option_and_then, option_map, option_or}
+use Rattle.std.specs.Option.{option_and_then, option_map}
 use Rattle.std.proofs.lemmas.Bool.{and_parts, cases_Bool, eqb-true, ltb-true, ne_eqb}
 use Rattle.std.proofs.lemmas.List.{append_assoc, length-replicate}
 use Rattle.std.proofs.lemmas.Slice.Eq.{bytes_eq-Decides}
@@ -13,7 +13,7 @@ use Rattle.implib.specs.Formats.Bytes.{u16_bytes, u32_bytes}
 use Rattle.implib.specs.Formats.Constants.{image_relative}
 use Rattle.implib.specs.Formats.File.{is_defined_external}
 use Rattle.implib.specs.Formats.Layout.{HasNoNul}
-use Rattle.implib.specs.Formats.Object.{ASymbol, Auxiliary, Entry, Object, ObjectSection, ObjectSymbol, before_nul, section_numbered}
+use Rattle.implib.specs.Formats.Object.{ASymbol, Auxiliary, Entry, Object, ObjectSection, before_nul, section_numbered}
 use Rattle.implib.specs.Import.{Ask, Name, Ordinal}
 use Rattle.implib.specs.Link.Image.{Contribution, Range, contributions, filled, range_end, relocated, with_address}
 use Rattle.implib.specs.Link.Load.{BytesAt, number_in}
@@ -25,9 +25,9 @@ use Rattle.implib.proofs.Link.Placement.{length-thunk_of}
 use Rattle.implib.proofs.Link.Ranges.{Among, among_first, among_later, located_parts}
 use Rattle.implib.proofs.Link.Thunks.{StrictThunkAt, name_located, ordinal_located, with_address-zeros}
 use Rattle.implib_link.specs.Gnu.Packed.{sections_end}
-use Rattle.implib_link.specs.Parts.{ask_of, begins, bytes_at_symbol, bytes_from, entry_name, first_of, fits_four, has_none, hint_and_name, holds_texts, is_empty, is_field, is_in_group, is_of, leads_to, named_bytes_in, null_thunk_of, only_section, ordinal_with, own_bytes, sections_of, thunk_ask}
+use Rattle.implib_link.specs.Parts.{ask_of, bytes_at_symbol, bytes_from, has_none, hint_and_name, holds_texts, is_field, is_of, named_bytes_in, null_thunk_of, only_section, ordinal_with, own_bytes, sections_of, thunk_ask}
 use Rattle.implib_link.proofs.Gnu.Sized.{IsSized}
-use Rattle.implib_link.proofs.Parts.Sections.{nth_placed, one_address, one_ends, one_is, one_placed}
+use Rattle.implib_link.proofs.Parts.Sections.{nth_placed, one_ends, one_is, one_placed}
 
 -- The groups whose bytes are located.
 
