@@ -1,12 +1,10 @@
 -- Near misses of parts, by computing.
-use Rattle.std.proofs.Common.{◌≡◌, ℕ, ◌+◌, ◌≤◌, ◌%◌, true, false, List, [], ◌∷◌, ◌++◌, codes, length, Bool, Option, Some, None, refl, ap, sym, ◌∙◌, subst, arith}
+use Rattle.std.proofs.Common.{◌≡◌, ℕ, ◌+◌, ◌≤◌, ◌%◌, false, List, [], ◌∷◌, codes, length, Bool, Option, Some, None, refl, ap, sym, subst, arith}
 use Rattle.std.specs.Prelude.{bytes_eq, slice_get}
 use Rattle.std.proofs.lemmas.Bool.{true≢false}
-use Rattle.implib.specs.declared.machine.MachineType.TheVariants.{AMD64}
-use Rattle.implib_link.specs.Gnu.Program.{has_tables, null_descriptor}
-use Rattle.implib_link.specs.Parts.{AreEntries, BeginWithHead, IsHead, Row, dll_text, names_of_parts}
+use Rattle.implib_link.specs.Gnu.Program.{has_tables}
+use Rattle.implib_link.specs.Parts.{AreEntries, BeginWithHead, Row, dll_text, names_of_parts}
 use Rattle.implib_link_instances.specs.Worked.NearParts.{NearIsEntry, NearIsHead, NearIsPart, NearIsProgramOfParts, NearIsTail, aaa_head, aaa_tail, own_zone}
-use Rattle.implib_link_instances.specs.Worked.OtherLibraries.{zzz_objects}
 use Rattle.implib_link_instances.specs.Worked.Parts.{zzz_part}
 use Rattle.implib_link_instances.proofs.Worked.NearMisses.{same_twice}
 use Rattle.implib_link_instances.proofs.Worked.NearPrograms.{claims}

@@ -10,7 +10,7 @@ use Rattle.implib_link.specs.Gnu.Program.{null_descriptor}
 use Rattle.implib_link.specs.Parts.{IsEntry, IsHead, IsPart, IsProgramOfParts, IsTail, Part}
 use Rattle.implib_link.specs.Tables.{TableEntry}
 use Rattle.implib_link_instances.specs.Worked.OtherLibraries.{aaa_head_bytes, aaa_tail_bytes, aone_bytes, linker_bases, objects_of, zzz_objects}
-use Rattle.implib_link_instances.specs.Worked.Parts.{asking, aaa_part, zzz_part}
+use Rattle.implib_link_instances.specs.Worked.Parts.{aaa_part, asking, zzz_part}
 use Rattle.implib_link_instances.specs.Worked.Programs.{code_object, symbol_of_class}
 
 -- the object in a file
