@@ -1,20 +1,26 @@
 -- Programs of libraries of GNU dlltool 2.40 and of ones made here, by the parts that they are of: the program of
 -- OtherLibraries, and one of kernel32.dll and zoo.dll that GNU ld 2.40 and ld.lld 19.1.7 linked on AMD64 and on I386,
 -- whose files are here byte by byte.
-use Rattle.std.specs.Prelude.{◌≡◌, ℕ, ◌-◌, List, [], ◌∷◌, ◌++◌, codes, drop, take, Some}
+use Rattle.std.specs.Prelude.{◌≡◌, ℕ, ◌-◌, List, [], ◌∷◌, ◌++◌, bytes_eq, codes, drop, length, slice_get, take, Option, Some, None, if◌then◌else◌}
 use Rattle.std.specs.List.{AllByRecursion}
 use Rattle.implib.specs.declared.machine.MachineType.{MachineType}
 use Rattle.implib.specs.declared.machine.MachineType.TheVariants.{I386, AMD64}
-use Rattle.implib.specs.Formats.Object.{Object}
-use Rattle.implib.specs.Import.{Name}
+use Rattle.implib.specs.Formats.Object.{Object, ObjectSection}
+use Rattle.implib.specs.Import.{Ask, Name}
 use Rattle.implib.specs.Link.Image.{Range, image_of}
 use Rattle.implib.specs.Link.LinkedMembers.{LinkInput}
-use Rattle.implib.specs.Link.Placement.{Bases, placed_from}
+use Rattle.implib.specs.Link.Placement.{Bases, Placed, placed_from}
+use Rattle.implib.specs.Members.Gnu.{section}
 use Rattle.implib.specs.Worked.Members.{of_dll}
 use Rattle.implib.specs.Worked.Statements.{plain_export}
+use Rattle.implib_link.specs.Gnu.Fields.{LinkedCode, ranges_of_codes}
+use Rattle.implib_link.specs.Gnu.Moves.{AreInMemory}
+use Rattle.implib_link.specs.Gnu.Operands.{HasInstruction, InstructionArrives}
 use Rattle.implib_link.specs.Gnu.Program.{null_descriptor}
+use Rattle.implib_link.specs.Gnu.Reading.{ReadsAndWrites}
 use Rattle.implib_link.specs.Parts.{IsPart, IsProgramOfParts, Part, part_of}
 use Rattle.implib_link.specs.Tables.{AreSteady, AreTables, Table, TableEntry}
+use Rattle.implib_link_instances.specs.Worked.LldPrograms.{taken_address}
 use Rattle.implib_link_instances.specs.Worked.OtherLibraries.{aaa_objects, beside_objects, image_written, linker_bases, mid_input, objects_of, zzz_objects}
 use Rattle.implib_link_instances.specs.Worked.Programs.{chosen_input, input_objects}
 
@@ -460,3 +466,64 @@ pub record WorkedParts : Type 0 where
   pub lld : IsWritten AMD64 lld_bases zoo_parts zoo_objects lld_image (zoo_tables 0x207C 0x208C)
   pub i386_gnu : IsWritten I386 i386_gnu_bases i386_zoo_parts i386_zoo_objects i386_gnu_image (i386_zoo_tables 0x304C 0x3054)
   pub i386_lld : IsWritten I386 i386_lld_bases i386_zoo_parts i386_zoo_objects i386_lld_image (i386_zoo_tables 0x205C 0x2064)
+
+-- On AMD64, as GNU ld linked it for 0x140000000: the object's code, which calls through the entry of `zoo_open`, by that
+-- name and by a pointer of its own at 0x2000, and jumps through the entry of `ExitProcess`; and the stub of `zoo_open`.
+abbrev pub zoo_linked : List Placed
+zoo_linked = placed_from gnu_bases zoo_objects
+
+abbrev pub placed_or_null : Option Placed → Placed
+placed_or_null None = record { object = null_descriptor; section_addresses = [] }
+placed_or_null (Some p) = p
+
+abbrev pub first_section : List ObjectSection → ObjectSection
+first_section [] = section [] 0 [] []
+first_section (s ∷ sections) = s
+
+-- the first section of the object of a number
+abbrev pub code_of_number : ℕ → ℕ → List ℕ → LinkedCode
+code_of_number index position bytes = record {
+  from = placed_or_null (slice_get zoo_linked index);
+  number = 1;
+  code = first_section (placed_or_null (slice_get zoo_linked index)).object.sections;
+  position = position;
+  bytes = bytes;
+}
+
+abbrev pub start_code : LinkedCode
+start_code = code_of_number 0 0x1000 (0x53 ∷ 0x48 ∷ 0x83 ∷ 0xEC ∷ 0x20 ∷ 0xFF ∷ 0x15 ∷ 0x65 ∷ 0x20 ∷ 0 ∷ 0 ∷ 0x89 ∷ 0xC3
+    ∷ 0xE8 ∷ 0x1E ∷ 0 ∷ 0 ∷ 0 ∷ 1 ∷ 0xC3 ∷ 0xFF ∷ 0x15 ∷ 0xE6 ∷ 0x0F ∷ 0 ∷ 0 ∷ 0x48 ∷ 0x83 ∷ 0xC4 ∷ 0x20 ∷ 0x8D ∷ 0x0C ∷ 3
+    ∷ 0x5B ∷ 0xFF ∷ 0x25 ∷ 0x38 ∷ 0x20 ∷ 0 ∷ 0 ∷ 0x90 ∷ 0x90 ∷ 0x90 ∷ 0x90 ∷ 0x90 ∷ 0x90 ∷ 0x90 ∷ 0x90 ∷ [])
+
+abbrev pub stub_code : LinkedCode
+stub_code = code_of_number 5 0x1030 (0xFF ∷ 0x25 ∷ 0x3A ∷ 0x20 ∷ 0 ∷ 0 ∷ 0x90 ∷ 0x90 ∷ [])
+
+abbrev pub zoo_codes : List LinkedCode
+zoo_codes = start_code ∷ stub_code ∷ []
+
+abbrev pub zoo_targets : LinkedCode → ℕ → ℕ
+zoo_targets c index = taken_address (λ name. if bytes_eq name (codes ".data") then 0x2000 else 0x1030) zoo_linked c.from
+    (slice_get c.from.object.entries index)
+
+abbrev pub zoo_memory : List Range
+zoo_memory = gnu_image ++ ranges_of_codes zoo_codes
+
+-- what the image's base is, and an instruction there that goes to what a DLL gives
+abbrev pub ArrivesAt : List Range → ℕ → List ℕ → List ℕ → List ℕ → Type 0
+ArrivesAt memory position head name bytes =
+    InstructionArrives AMD64 0x1_4000_0000 zoo_linked memory position head [] name bytes
+
+-- The code is in memory beside the tables, and has a call and a jump through entries; so where a loader that knows
+-- nothing else has read them, it stopped after two descriptors, and both go to what their DLLs give.
+pub record WorkedReach : Type 0 where
+  pub at : AreInMemory AMD64 0x1_4000_0000 gnu_image zoo_linked zoo_codes zoo_targets zoo_memory
+  pub call : HasInstruction AMD64 start_code 5 (0xFF ∷ 0x15 ∷ []) [] (codes "__imp_zoo_open")
+  pub jump : HasInstruction AMD64 start_code 34 (0xFF ∷ 0x25 ∷ []) [] (codes "__imp_ExitProcess")
+  pub arrive : (gives : List ℕ → Ask → List ℕ) (n : ℕ) (written : List Range) →
+      ((dll : List ℕ) (ask : Ask) → length (gives dll ask) ≡ 8) →
+      ReadsAndWrites zoo_memory 8 gives n 0x3000 written →
+      (n ≡ 2)
+      × (ArrivesAt (written ++ zoo_memory) 0x1005 (0xFF ∷ 0x15 ∷ []) (codes "__imp_zoo_open")
+      (gives (codes "zoo.dll") (Name (codes "zoo_open") 0))
+      × ArrivesAt (written ++ zoo_memory) 0x1022 (0xFF ∷ 0x25 ∷ []) (codes "__imp_ExitProcess")
+      (gives (codes "kernel32.dll") (Name (codes "ExitProcess") 1)))
