@@ -4,3 +4,4 @@ pub mod Heads
 pub mod Programs
 pub mod Members
 pub mod Stubs
+pub mod OfMembers

@@ -1,6 +1,6 @@
 -- Parts of the import tables of a program, each the objects of one DLL's import library, of whatever maker, and the
 -- table that is read of them: a head with the descriptor, objects with an entry each, and a tail that ends both tables,
--- as the libraries of GNU dlltool, of GNU ld and of MinGW have them, and those made here for GNU's linker.
+-- as GNU dlltool's libraries have them, and those that are made here for GNU's linker.
 use Rattle.std.specs.Prelude.{◌≡◌, ℕ, ◌+◌, ◌*◌, ◌-◌, ◌^◌, Bool, ◌&&◌, ◌||◌, ◌==◌, nat_lt, not, true, false, List, [], ◌∷◌, ◌++◌, bytes_eq, drop, slice_get, take, Option, Some, None, if◌then◌else◌}
 use Rattle.std.specs.List.{AllByRecursion, IsDistinct, filter, filter_map, flat_map, list_all}
 use Rattle.std.specs.Option.{option_and_then, option_map}

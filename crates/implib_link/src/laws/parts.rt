@@ -6,6 +6,7 @@ ghost use Rattle.implib.specs.Link.LinkedMembers.{IsMade, LinkInput, chosen_expo
 ghost use Rattle.implib.specs.Link.Placement.{Bases, placed_from};
 ghost use Rattle.implib.specs.Members.ImportTables.{thunk_width};
 ghost use Rattle.implib.specs.declared.machine.MachineType.{MachineType};
+ghost use Rattle.implib_link.specs.Flavors.Program.{IsProgram};
 ghost use Rattle.implib_link.specs.Gnu.Calls.{Defines, PlacedCode, StubAt};
 ghost use Rattle.implib_link.specs.Parts.{IsPart, IsProgramOfParts, Part, part_of, stores_none};
 ghost use Rattle.implib_link.specs.Tables.{AreSteady, AreTables, Table, tables_at};
@@ -28,6 +29,7 @@ pub fn parts_have_tables()
 {}
 
 /// What is linked of a definition for GNU's linker is such a library's part, and stores no address whole.
+/// A program of such members alone is one of their parts.
 pub fn members_are_part()
     ensures part { (machine : MachineType) (p : LinkInput) →
         IsMade machine p →
@@ -35,6 +37,11 @@ pub fn members_are_part()
     ensures stores { (machine : MachineType) (p : LinkInput) →
         IsMade machine p →
         list_all (stores_none machine) (part_of machine p).objects ≡ true }
+    ensures program { (machine : MachineType) (bases : Bases) (inputs : List LinkInput)
+        (objects : List Object) →
+        AllByRecursion (IsMade machine) inputs →
+        IsProgram machine bases inputs objects →
+        IsProgramOfParts machine bases (map (part_of machine) inputs) objects }
 {}
 
 /// Whatever placed code defines the name of a member's export of code, beside libraries of any
