@@ -6,3 +6,4 @@ pub mod PackedTables
 pub mod TablesOfPrograms
 pub mod TablesInMemory
 pub mod StoredInMemory
+pub mod Parts

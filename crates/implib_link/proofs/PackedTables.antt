@@ -47,7 +47,7 @@ module _ (width : ℕ) where
   next_sum address n m = (let split : width * (n + m) ≡ width * n + width * m = mul-add width n m in omega arith)
 
   -- the table of a block
-  packed_at : (blocks : List Block) (address i : ℕ) (x : Table) → slice_get (packed_tables width address blocks) i ≡ Some x →
+  pub packed_at : (blocks : List Block) (address i : ℕ) (x : Table) → slice_get (packed_tables width address blocks) i ≡ Some x →
       (b : Block) × ((slice_get blocks i ≡ Some b) × (record { dll = b.dll; address = address + width * entries_until i blocks; entries = b.entries } ≡ x))
   packed_at [] address i x is = cc
   packed_at (b ∷ blocks) address zero x is =

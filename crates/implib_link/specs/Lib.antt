@@ -5,3 +5,4 @@ pub mod Gnu
 pub mod Flavors
 pub mod Search
 pub mod Tables
+pub mod Parts

@@ -15,6 +15,7 @@ pub mod no_shorts;
 pub mod operands;
 pub mod other_libraries;
 pub mod packed;
+pub mod parts;
 pub mod program;
 pub mod search;
 pub mod stored;

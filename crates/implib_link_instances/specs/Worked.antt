@@ -61,3 +61,5 @@ pub mod BothFlavors
 pub mod BothReversed
 pub mod BothExists
 pub mod NoShorts
+pub mod Parts
+pub mod NearParts

@@ -76,7 +76,7 @@ placed_kept b (o ∷ objects) =
     ]
 
 -- a symbol that an object defines is one that it claims
-defined_is_claimed : (s : ObjectSymbol) → is_defined_external s ≡ true → (is_shared s && not (is_reference s)) ≡ true
+pub defined_is_claimed : (s : ObjectSymbol) → is_defined_external s ≡ true → (is_shared s && not (is_reference s)) ≡ true
 defined_is_claimed s is =
     let first = and_parts ((s.class == class_external) && nat_le 1 s.section) (nat_le s.section 0x7FFF) is in
     let second = and_parts (s.class == class_external) (nat_le 1 s.section) first.0 in

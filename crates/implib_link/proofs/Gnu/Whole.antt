@@ -12,7 +12,7 @@ use Rattle.implib_link.specs.Gnu.Packed.{end_with, group_end, sections_end}
 use Rattle.implib_link.proofs.Gnu.Runs.{end_behind}
 
 -- a multiple of 4 is one of 1, 2 and 4
-stays : (step n : ℕ) → (((step == 1) || ((step == 2) || (step == 4))) ≡ true) → n % 4 ≡ 0 → next_multiple step n ≡ n
+pub stays : (step n : ℕ) → (((step == 1) || ((step == 2) || (step == 4))) ≡ true) → n % 4 ≡ 0 → next_multiple step n ≡ n
 unfolding next_multiple
 stays step n one even =
     elim (cases_Bool (step == 1)) [

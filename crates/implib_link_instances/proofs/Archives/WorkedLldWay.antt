@@ -45,7 +45,7 @@ use Rattle.implib_link.proofs.Search.Lists.{among_any, contains_among}
 use Rattle.implib_link_instances.proofs.Worked.Calls.{wide}
 use Rattle.implib_link_instances.proofs.Worked.LinkedCode.{all_needed, only_absolute, rebased_by, relocated_by, relocated_test}
 use Rattle.implib_link_instances.proofs.Worked.Lld.{lld_opened}
-use Rattle.implib_link_instances.proofs.Worked.LldPrograms.{disjoint, meet_test, takes_with_thunk}
+use Rattle.implib_link_instances.proofs.Worked.LldPrograms.{disjoint, meet_test, takes_outside}
 use Rattle.implib_link_instances.proofs.Worked.Programs.{distinct_by, opened, instruction_by}
 use Rattle.implib_link_instances.proofs.Worked.RefusedFields.{value}
 use Rattle.implib_link_instances.proofs.Worked.RefusedLinks.{differ}
@@ -169,7 +169,7 @@ beside = record {
     relocated_by AMD64 0x1_4000_0000 (lld_targets calls_linked) 0x1000 two_calls calls_linked.bytes refl,
     (relocated_by AMD64 0x1_4000_0000 (lld_targets thunk_linked) 0x1010 (thunk_section AMD64) thunk_linked.bytes refl, tt),
   );
-  resolved = takes_with_thunk 0x1010 lld_linked lld_codes refl;
+  resolved = takes_outside (λ name. 0x1010) lld_linked lld_codes refl;
 }
 
 at : AreInMemory AMD64 0x1_4000_0000 lld_image lld_linked lld_codes lld_targets lld_memory

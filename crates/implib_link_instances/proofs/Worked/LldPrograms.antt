@@ -56,45 +56,45 @@ disjoint r s (inr behind) a first second =
     let above : r.start ≤ a = one.0 in
     omega arith
 
--- Symbols: those that the tables define are there, the only other one is the thunk's.
+-- Symbols: those that the tables define are there, others are outside of them.
 
-meets_up : ℕ → List Placed → LinkedCode → Entry → Placed → Entry → Bool
-meets_up thunk linked d (Auxiliary bytes) p x = true
-meets_up thunk linked d (ASymbol t) p (Auxiliary bytes) = true
-meets_up thunk linked d (ASymbol t) p (ASymbol s) =
+meets_up : (List ℕ → ℕ) → List Placed → LinkedCode → Entry → Placed → Entry → Bool
+meets_up outside linked d (Auxiliary bytes) p x = true
+meets_up outside linked d (ASymbol t) p (Auxiliary bytes) = true
+meets_up outside linked d (ASymbol t) p (ASymbol s) =
     if is_undefined_external s && (is_defined_external t && ((t.section == d.number) && bytes_eq t.name s.name))
-    then or_thunk thunk (symbol_address linked p (ASymbol s)) == d.position + t.value else true
+    then or_thunk (outside s.name) (symbol_address linked p (ASymbol s)) == d.position + t.value else true
 
 passes : (b x : Bool) → b ≡ true → (if b then x else true) ≡ true → x ≡ true
 passes b x is test = rw is at test
 
-unfoldable pub meet_test : ℕ → List Placed → List LinkedCode → Bool
+unfoldable pub meet_test : (List ℕ → ℕ) → List Placed → List LinkedCode → Bool
 unfolding meets_up
-meet_test thunk linked codes =
-    list_all (λ (c : LinkedCode). list_all (λ (d : LinkedCode). list_all (λ t. list_all (meets_up thunk linked d t c.from) c.from.object.entries) d.from.object.entries) codes) codes
+meet_test outside linked codes =
+    list_all (λ (c : LinkedCode). list_all (λ (d : LinkedCode). list_all (λ t. list_all (meets_up outside linked d t c.from) c.from.object.entries) d.from.object.entries) codes) codes
 
-pub takes_with_thunk : (thunk : ℕ) (linked : List Placed) (codes : List LinkedCode) → meet_test thunk linked codes ≡ true →
-    TakesSymbols linked codes (λ c index. taken_address thunk linked c.from (slice_get c.from.object.entries index))
+pub takes_outside : (outside : List ℕ → ℕ) (linked : List Placed) (codes : List LinkedCode) → meet_test outside linked codes ≡ true →
+    TakesSymbols linked codes (λ c index. taken_address outside linked c.from (slice_get c.from.object.entries index))
 unfolding meets_up meet_test
-takes_with_thunk thunk linked codes test = record {
+takes_outside outside linked codes test = record {
   tables = λ c index address entry held at is. rw at (in_tables c.from entry address is);
   code = λ c d index s t c_held d_held at undefined defines named.
-      let one = each_of (λ (x : LinkedCode). list_all (λ (y : LinkedCode). list_all (λ u. list_all (meets_up thunk linked y u x.from) x.from.object.entries) y.from.object.entries) codes) c codes test (contains_among c codes c_held) in
-      let two = each_of (λ (y : LinkedCode). list_all (λ u. list_all (meets_up thunk linked y u c.from) c.from.object.entries) y.from.object.entries) d codes one (contains_among d codes d_held) in
-      let three = each_of (λ u. list_all (meets_up thunk linked d u c.from) c.from.object.entries) (ASymbol t) d.from.object.entries two (contains_among (ASymbol t) d.from.object.entries defines.held) in
-      let four : meets_up thunk linked d (ASymbol t) c.from (ASymbol s) ≡ true = each_of (meets_up thunk linked d (ASymbol t) c.from) (ASymbol s) c.from.object.entries three (among_at (ASymbol s) c.from.object.entries index at) in
+      let one = each_of (λ (x : LinkedCode). list_all (λ (y : LinkedCode). list_all (λ u. list_all (meets_up outside linked y u x.from) x.from.object.entries) y.from.object.entries) codes) c codes test (contains_among c codes c_held) in
+      let two = each_of (λ (y : LinkedCode). list_all (λ u. list_all (meets_up outside linked y u c.from) c.from.object.entries) y.from.object.entries) d codes one (contains_among d codes d_held) in
+      let three = each_of (λ u. list_all (meets_up outside linked d u c.from) c.from.object.entries) (ASymbol t) d.from.object.entries two (contains_among (ASymbol t) d.from.object.entries defines.held) in
+      let four : meets_up outside linked d (ASymbol t) c.from (ASymbol s) ≡ true = each_of (meets_up outside linked d (ASymbol t) c.from) (ASymbol s) c.from.object.entries three (among_at (ASymbol s) c.from.object.entries index at) in
       let external : is_defined_external t ≡ true = defines.external in
       let here : (t.section == d.number) ≡ true = eq-eqb t.section d.number defines.here in
       let same : bytes_eq t.name s.name ≡ true = subst (λ n. bytes_eq t.name n ≡ true) named (same_text t.name) in
-      let met : (or_thunk thunk (symbol_address linked c.from (ASymbol s)) == d.position + t.value) ≡ true =
-      passes (is_undefined_external s && (is_defined_external t && ((t.section == d.number) && bytes_eq t.name s.name))) (or_thunk thunk (symbol_address linked c.from (ASymbol s)) == d.position + t.value)
+      let met : (or_thunk (outside s.name) (symbol_address linked c.from (ASymbol s)) == d.position + t.value) ≡ true =
+      passes (is_undefined_external s && (is_defined_external t && ((t.section == d.number) && bytes_eq t.name s.name))) (or_thunk (outside s.name) (symbol_address linked c.from (ASymbol s)) == d.position + t.value)
       (and_from (is_undefined_external s) (is_defined_external t && ((t.section == d.number) && bytes_eq t.name s.name)) undefined
       (and_from (is_defined_external t) ((t.section == d.number) && bytes_eq t.name s.name) external (and_from (t.section == d.number) (bytes_eq t.name s.name) here same)))
       four in
-      rw at (eqb-true (or_thunk thunk (symbol_address linked c.from (ASymbol s))) (d.position + t.value) met);
+      rw at (eqb-true (or_thunk (outside s.name) (symbol_address linked c.from (ASymbol s))) (d.position + t.value) met);
 }
   where
-    in_tables : (p : Placed) (entry : Entry) (address : ℕ) → symbol_address linked p entry ≡ Some address → taken_address thunk linked p (Some entry) ≡ address
+    in_tables : (p : Placed) (entry : Entry) (address : ℕ) → symbol_address linked p entry ≡ Some address → taken_address outside linked p (Some entry) ≡ address
     in_tables p (Auxiliary bytes) address is = cc
     in_tables p (ASymbol s) address is = rw is refl
 
@@ -151,7 +151,7 @@ i386_beside = record {
     relocated_by I386 0x40_0000 (lld_targets I386 (code_of_object I386)) 0x1000 (object_section I386) (linked_code I386) refl,
     (relocated_by I386 0x40_0000 (lld_targets I386 (code_of_thunk I386)) 0x1011 (thunk_section I386) (linked_thunk I386) refl, tt),
   );
-  resolved = takes_with_thunk (thunk_address I386) (lld_linked_on I386) (lld_codes I386) refl;
+  resolved = takes_outside (λ name. thunk_address I386) (lld_linked_on I386) (lld_codes I386) refl;
 }
 
 i386_fronts : List Range
@@ -281,7 +281,7 @@ amd64_beside = record {
     relocated_by AMD64 0x1_4000_0000 (lld_targets AMD64 (code_of_object AMD64)) 0x1000 (object_section AMD64) (linked_code AMD64) refl,
     (relocated_by AMD64 0x1_4000_0000 (lld_targets AMD64 (code_of_thunk AMD64)) 0x1020 (thunk_section AMD64) (linked_thunk AMD64) refl, tt),
   );
-  resolved = takes_with_thunk (thunk_address AMD64) (lld_linked_on AMD64) (lld_codes AMD64) refl;
+  resolved = takes_outside (λ name. thunk_address AMD64) (lld_linked_on AMD64) (lld_codes AMD64) refl;
 }
 
 amd64_rebased : IsRebased 0x1_4000_0000 0x7FF6_1234_0000 (lld_places AMD64) (lld_memory AMD64) (lld_moved_memory AMD64)
@@ -395,7 +395,7 @@ arm64_beside = record {
     relocated_by ARM64 0x1_4000_0000 (lld_targets ARM64 (code_of_object ARM64)) 0x1000 (object_section ARM64) (linked_code ARM64) refl,
     (relocated_by ARM64 0x1_4000_0000 (lld_targets ARM64 (code_of_thunk ARM64)) 0x101C (thunk_section ARM64) (linked_thunk ARM64) refl, tt),
   );
-  resolved = takes_with_thunk (thunk_address ARM64) (lld_linked_on ARM64) (lld_codes ARM64) refl;
+  resolved = takes_outside (λ name. thunk_address ARM64) (lld_linked_on ARM64) (lld_codes ARM64) refl;
 }
 
 arm64_rebased : IsRebased 0x1_4000_0000 0x4000_0000 (lld_places ARM64) (lld_memory ARM64) (lld_moved_memory ARM64)

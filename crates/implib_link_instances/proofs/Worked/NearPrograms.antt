@@ -43,7 +43,7 @@ first_entries [] = 0
 first_entries (o ∷ objects) = length o.entries
 
 -- an object claims one of these names
-claims : (name : List ℕ) (names : List (List ℕ)) (o : Object) → list_any (bytes_eq name) names ≡ true → list_any (bytes_eq name) (claimed_names o) ≡ true → ClaimsNone names o → ⊥
+pub claims : (name : List ℕ) (names : List (List ℕ)) (o : Object) → list_any (bytes_eq name) names ≡ true → list_any (bytes_eq name) (claimed_names o) ≡ true → ClaimsNone names o → ⊥
 claims name names o among claimed none =
     true≢false (sym claimed ∙ all_among (λ n. list_any (bytes_eq n) (claimed_names o) ≡ false) name names (any_among name names among) none)
 

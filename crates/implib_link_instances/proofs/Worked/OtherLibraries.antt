@@ -26,7 +26,7 @@ use Rattle.implib_link_instances.proofs.Worked.Programs.{claims_none_by, distinc
 use Rattle.implib_link_instances.proofs.Worked.RefusedLinks.{are_located, number}
 
 -- by a computed answer
-all_claim_none : (names : List (List ℕ)) (objects : List Object) → list_all (λ o. list_all (λ name. not (list_any (bytes_eq name) (claimed_names o))) names) objects ≡ true →
+pub all_claim_none : (names : List (List ℕ)) (objects : List Object) → list_all (λ o. list_all (λ name. not (list_any (bytes_eq name) (claimed_names o))) names) objects ≡ true →
     AllByRecursion (ClaimsNone names) objects
 all_claim_none names [] all = tt
 all_claim_none names (o ∷ objects) all =
@@ -46,7 +46,7 @@ sections_within (s ∷ sections) all =
     let parts = and_parts (list_all (λ r. nat_le (r.offset + 4) (length s.bytes)) s.relocations) (list_all (λ s. list_all (λ r. nat_le (r.offset + 4) (length s.bytes)) s.relocations) sections) all in
     (relocations_within (length s.bytes) s.relocations parts.0, sections_within sections parts.1)
 
-all_hold_fields : (objects : List Object) → list_all (λ o. list_all (λ s. list_all (λ r. nat_le (r.offset + 4) (length s.bytes)) s.relocations) o.sections) objects ≡ true →
+pub all_hold_fields : (objects : List Object) → list_all (λ o. list_all (λ s. list_all (λ r. nat_le (r.offset + 4) (length s.bytes)) s.relocations) o.sections) objects ≡ true →
     AllByRecursion HoldsFields objects
 all_hold_fields [] all = tt
 all_hold_fields (o ∷ objects) all =

@@ -26,7 +26,7 @@ use Rattle.implib_link.proofs.Gnu.Fields.{alone_among}
 use Rattle.implib_link.proofs.Search.Lists.{contains_among, each_of}
 use Rattle.implib_link_instances.proofs.Worked.Lld.{lld_opened}
 use Rattle.implib_link_instances.proofs.Worked.LinkedCode.{all_needed, both_equal, only_absolute, rebased_by, relocated_by, relocated_test}
-use Rattle.implib_link_instances.proofs.Worked.LldPrograms.{disjoint, meet_test, takes_with_thunk, worked_lld_programs}
+use Rattle.implib_link_instances.proofs.Worked.LldPrograms.{disjoint, meet_test, takes_outside, worked_lld_programs}
 use Rattle.implib_link_instances.proofs.Worked.Programs.{instruction_by}
 use Rattle.implib_link_instances.proofs.Worked.RefusedLinks.{number}
 
@@ -139,7 +139,7 @@ i386_beside = record {
       ),
     ),
   );
-  resolved = takes_with_thunk (mid_thunk I386) (holding_placed I386) (holding_codes I386) refl;
+  resolved = takes_outside (λ name. mid_thunk I386) (holding_placed I386) (holding_codes I386) refl;
 }
 
 pub i386_further : AreFurtherHeld I386 0x40_0000 (holding_codes I386) (holding_targets I386)
@@ -235,7 +235,7 @@ amd64_beside = record {
       ),
     ),
   );
-  resolved = takes_with_thunk (mid_thunk AMD64) (holding_placed AMD64) (holding_codes AMD64) refl;
+  resolved = takes_outside (λ name. mid_thunk AMD64) (holding_placed AMD64) (holding_codes AMD64) refl;
 }
 
 pub amd64_further : AreFurtherHeld AMD64 0x1_4000_0000 (holding_codes AMD64) (holding_targets AMD64)
@@ -331,7 +331,7 @@ arm64_beside = record {
       ),
     ),
   );
-  resolved = takes_with_thunk (mid_thunk ARM64) (holding_placed ARM64) (holding_codes ARM64) refl;
+  resolved = takes_outside (λ name. mid_thunk ARM64) (holding_placed ARM64) (holding_codes ARM64) refl;
 }
 
 pub arm64_further : AreFurtherHeld ARM64 0x1_4000_0000 (holding_codes ARM64) (holding_targets ARM64)

@@ -119,7 +119,7 @@ abbrev pub lld_codes : List LinkedCode
 lld_codes = calls_linked ∷ thunk_linked ∷ []
 
 abbrev pub lld_targets : LinkedCode → ℕ → ℕ
-lld_targets c index = taken_address 0x1010 lld_linked c.from (slice_get c.from.object.entries index)
+lld_targets c index = taken_address (λ name. 0x1010) lld_linked c.from (slice_get c.from.object.entries index)
 
 abbrev pub lld_memory : List Range
 lld_memory = lld_image ++ ranges_of_codes lld_codes

@@ -207,19 +207,19 @@ code_of_thunk machine = record {
 abbrev pub lld_codes : MachineType → List LinkedCode
 lld_codes machine = code_of_object machine ∷ code_of_thunk machine ∷ []
 
--- a symbol's address: in the tables of what is linked, or else that of the thunk
+-- a symbol's address: in the tables of what is linked, or else, by its name, outside of them
 abbrev pub or_thunk : ℕ → Option ℕ → ℕ
 or_thunk thunk None = thunk
 or_thunk thunk (Some address) = address
 
-abbrev pub taken_address : ℕ → List Placed → Placed → Option Entry → ℕ
-taken_address thunk linked p None = 0
-taken_address thunk linked p (Some (Auxiliary bytes)) = 0
-taken_address thunk linked p (Some (ASymbol s)) = or_thunk thunk (symbol_address linked p (ASymbol s))
+abbrev pub taken_address : (List ℕ → ℕ) → List Placed → Placed → Option Entry → ℕ
+taken_address outside linked p None = 0
+taken_address outside linked p (Some (Auxiliary bytes)) = 0
+taken_address outside linked p (Some (ASymbol s)) = or_thunk (outside s.name) (symbol_address linked p (ASymbol s))
 
 abbrev pub lld_targets : MachineType → LinkedCode → ℕ → ℕ
 lld_targets machine c index =
-    taken_address (thunk_address machine) (lld_linked_on machine) c.from (slice_get c.from.object.entries index)
+    taken_address (λ name. thunk_address machine) (lld_linked_on machine) c.from (slice_get c.from.object.entries index)
 
 abbrev pub lld_memory : MachineType → List Range
 lld_memory machine = lld_image_on machine ++ ranges_of_codes (lld_codes machine)

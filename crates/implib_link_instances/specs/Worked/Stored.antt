@@ -205,7 +205,7 @@ holding_codes machine = picking_at machine ∷ mid_thunk_at machine ∷ held_at 
 
 abbrev pub holding_targets : MachineType → LinkedCode → ℕ → ℕ
 holding_targets machine c index =
-    taken_address (mid_thunk machine) (holding_placed machine) c.from
+    taken_address (λ name. mid_thunk machine) (holding_placed machine) c.from
     (slice_get c.from.object.entries index)
 
 abbrev pub holding_memory : MachineType → List Range

@@ -19,6 +19,8 @@ ghost use Rattle.implib_link_instances.specs.Worked.NearLinks.{NearJumpsThrough,
 ghost use Rattle.implib_link_instances.specs.Worked.NearLinks.{NearResolves, NearTakesAs};
 ghost use Rattle.implib_link_instances.specs.Worked.NearLinks.{NearTakesIntoAs};
 ghost use Rattle.implib_link_instances.specs.Worked.NearLinks.{NearTakesSymbols};
+ghost use Rattle.implib_link_instances.specs.Worked.NearParts.{NearIsEntry, NearIsHead, NearIsPart};
+ghost use Rattle.implib_link_instances.specs.Worked.NearParts.{NearIsProgramOfParts, NearIsTail};
 ghost use Rattle.implib_link_instances.specs.Worked.NearPrograms.{NearAreEndedByLinker, NearAreEndedByMember};
 ghost use Rattle.implib_link_instances.specs.Worked.NearPrograms.{NearAreProgramObjects, NearAreWhole};
 ghost use Rattle.implib_link_instances.specs.Worked.NearPrograms.{NearIsProgramOf};
@@ -78,6 +80,15 @@ pub fn near_misses_of_archives()
     ensures msvc_archive { NearIsMsvcArchive }
     ensures names { NearNamesNoHeadOrTail }
     ensures apart { NearAreNamedApart }
+{}
+
+/// What is no part of import tables, and no program of parts.
+pub fn near_misses_of_parts()
+    ensures entry { NearIsEntry }
+    ensures tail { NearIsTail }
+    ensures head { NearIsHead }
+    ensures part { NearIsPart }
+    ensures program { NearIsProgramOfParts }
 {}
 
 /// What is no program: for GNU's linker, of both flavours, beside other libraries, and of lld.

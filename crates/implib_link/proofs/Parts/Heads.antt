@@ -1,0 +1,369 @@
+-- What the objects of a part give in an image: a descriptor that a strict loader takes, and its tables.
+use Rattle.std.proofs.Common.{◌≡◌, ℕ, zero, suc, ◌+◌, ◌*◌, ◌%◌, ◌^◌, ◌<◌, true, false, List, [], ◌∷◌, ◌++◌, length, map, Option, Some, None, refl, ap, sym, ◌∙◌, subst, inl, inr, arith, ◌⊎◌, if◌then◌else◌}
+use Rattle.std.specs.Prelude.{◌&&◌, ◌==◌, bytes_eq, not, slice_get}
+use Rattle.std.specs.List.{AllByRecursion, filter_map}
+use Rattle.std.specs.Option.{option_and_then}
+use Rattle.std.proofs.lemmas.Bool.{and_parts, cases_Bool, eqb-true}
+use Rattle.std.proofs.Math.Nat.{mul-suc}
+use Rattle.std.proofs.lemmas.List.{append_assoc, length-replicate}
+use Rattle.std.proofs.lemmas.Slice.Eq.{bytes_eq-Decides}
+use Rattle.implib.specs.declared.coff.object.Relocation.{Relocation}
+use Rattle.implib.specs.declared.machine.MachineType.{MachineType}
+use Rattle.implib.specs.Formats.Bytes.{u32_bytes}
+use Rattle.implib.specs.Formats.Constants.{image_relative}
+use Rattle.implib.specs.Formats.File.{is_defined_external}
+use Rattle.implib.specs.Formats.Object.{ASymbol, Auxiliary, Entry, Object, ObjectSection, before_nul, section_numbered, u32_at}
+use Rattle.implib.specs.Import.{Ask}
+use Rattle.implib.specs.Link.Image.{Range, range_end, relocated, with_address}
+use Rattle.implib.specs.Link.Load.{BytesAt, TableAt, TextAt, WholeTableAt}
+use Rattle.implib.specs.Link.Placement.{Addresses, Bases, Descriptors, Group, Lookups, Placed, base_of, ends_after, placed_from, section_addresses_of}
+use Rattle.implib.specs.Link.Resolution.{SymbolDefinition, address_in, address_or_zero, defined_by_entry, definitions, definitions_of, first_address, is_undefined_external, symbol_address, target_address}
+use Rattle.implib.specs.Members.ImportTables.{thunk_width, zeros}
+use Rattle.implib.proofs.Link.Descriptors.{LoadsFrom, descriptor_loads}
+use Rattle.implib.proofs.Link.Linked.{LocatedFrom}
+use Rattle.implib.proofs.Link.Placement.{AreAligned, aligned_thunk}
+use Rattle.implib.proofs.Link.Ranges.{Among, among_back, among_first, among_front, among_later, located_parts}
+use Rattle.implib.proofs.Link.Thunks.{StrictTableAt, zeros_number}
+use Rattle.implib_link.specs.Gnu.OtherLibraries.{ends_behind}
+use Rattle.implib_link.specs.Gnu.Packed.{sections_end}
+use Rattle.implib_link.specs.Parts.{AreEntries, IsHead, Row, ask_of, begins, dll_text, entry_name, first_of, has_none, is_empty, is_field, is_in_group, leads_to, named_bytes, only_section, row_in, row_of, sections_of}
+use Rattle.implib_link.specs.Tables.{TableEntry}
+use Rattle.implib_link.proofs.Gnu.Packed.{end_of_sections}
+use Rattle.implib_link.proofs.Gnu.Runs.{located_behind}
+use Rattle.implib_link.proofs.Gnu.Sized.{IsSized}
+use Rattle.implib_link.proofs.Parts.Sections.{none_ends, one_address, one_ends, one_is}
+use Rattle.implib_link.proofs.Parts.Texts.{ended_is, named_located, null_located, only_located, plus_none, thunk_located}
+
+-- The address of a symbol in the only section of a group.
+module _ (group : Group) (o : Object) (b : Bases) (s : ObjectSection) (is : only_section group o ≡ Some s) (even : base_of group b % 4 ≡ 0) where
+  in_section : (k value : ℕ) (found : Option ObjectSection) → slice_get o.sections k ≡ found → is_in_group group found ≡ true →
+      address_in (section_addresses_of b o.sections) (suc k) value ≡ Some (base_of group b + value)
+  in_section k value None at own = cc
+  in_section k value (Some x) at own =
+      let one = one_is (sections_of group o.sections) s is in
+      one_address group o.sections b s k x value one.0 one.1 even at own
+
+  group_address : (number value : ℕ) → is_in_group group (section_numbered o.sections number) ≡ true → address_in (section_addresses_of b o.sections) number value ≡ Some (base_of group b + value)
+  group_address zero value own = cc
+  group_address (suc k) value own = in_section k value (slice_get o.sections k) refl own
+
+-- an entry's symbol is defined there
+entry_defined : (o : Object) (b : Bases) (s : ObjectSection) → only_section Addresses o ≡ Some s → b.addresses % 4 ≡ 0 → (name : List ℕ) (entries : List Entry) → first_of (filter_map (entry_name o.sections) entries) ≡ Some name →
+    Among (record { name = name; address = Some b.addresses }) (filter_map (defined_by_entry (section_addresses_of b o.sections)) entries)
+entry_defined o b s is even name [] first = cc
+entry_defined o b s is even name (Auxiliary bytes ∷ entries) first = entry_defined o b s is even name entries first
+entry_defined o b s is even name (ASymbol x ∷ entries) first =
+    let addresses = section_addresses_of b o.sections in
+    elim (cases_Bool (is_defined_external x && ((x.value == 0) && is_in_group Addresses (section_numbered o.sections x.section)))) [
+      | inl all ↦
+          let parts = and_parts (is_defined_external x) ((x.value == 0) && is_in_group Addresses (section_numbered o.sections x.section)) all in
+          let at = and_parts (x.value == 0) (is_in_group Addresses (section_numbered o.sections x.section)) parts.1 in
+          let found : Some x.name ≡ Some name = rw all at first in
+          let same : x.name ≡ name = cc in
+          let place : address_in addresses x.section x.value ≡ Some b.addresses =
+          group_address Addresses o b s is even x.section x.value at.1 ∙ ap (λ n. Some (b.addresses + n)) (eqb-true x.value 0 at.0) ∙ ap Some (plus_none b.addresses) in
+          let definition : record { name = x.name; address = address_in addresses x.section x.value } ≡ record { name = name; address = Some b.addresses } =
+          ap (λ n. record { name = n; address = address_in addresses x.section x.value }) same ∙ ap (λ (a : Option ℕ). record { name = name; address = a }) place in
+          let here : Among (record { name = x.name; address = address_in addresses x.section x.value }) (filter_map (defined_by_entry addresses) (ASymbol x ∷ entries)) = rw parts.0 (among_first _ _) in
+          subst (λ (d : SymbolDefinition). Among d (filter_map (defined_by_entry addresses) (ASymbol x ∷ entries))) definition here
+      | inr other ↦
+          let later = entry_defined o b s is even name entries (rw other at first) in
+          elim (cases_Bool (is_defined_external x)) [ inl is_defined ↦ rw is_defined (among_later _ _ _ later) | inr none ↦ rw none later ]
+    ]
+
+has_section : (machine : MachineType) (o : Object) (ask : Ask) (found : Option ObjectSection) → option_and_then (λ (s : ObjectSection). ask_of machine o s.bytes s.relocations) found ≡ Some ask →
+    (s : ObjectSection) × (found ≡ Some s)
+has_section machine o ask None is = cc
+has_section machine o ask (Some s) is = (s, refl)
+
+next_entry : (a w j : ℕ) → a + w + w * j ≡ a + w * suc j
+next_entry a w j = let split : w * suc j ≡ w * j + w = mul-suc w j in omega arith
+
+next_table : (a w n : ℕ) → a + w + w * (n + 1) ≡ a + w * (suc n + 1)
+next_table a w n = let count : suc (n + 1) ≡ suc n + 1 = omega arith in next_entry a w (n + 1) ∙ ap (λ k. a + w * k) count
+
+no_entry : (a w : ℕ) → a ≡ a + w * 0
+no_entry a w = omega arith
+
+one_null : (a w : ℕ) → a + w ≡ a + w * (0 + 1)
+one_null a w = omega arith
+
+module _ (machine : MachineType) (linked : List Placed) (image : List Range) (starts : AllByRecursion (λ r. 0 < r.start) image) (ends : AllByRecursion (λ r. range_end r < 2 ^ 31) image) where
+  located_next : (o : Object) (b : Bases) (rest : List Object) → IsSized o → LocatedFrom machine linked image b (o ∷ rest) → LocatedFrom machine linked image (ends_after b o.sections) rest
+  unfolding ends_behind
+  located_next o b rest sized located = located_behind machine linked image b (o ∷ []) rest (sized, tt) located
+
+  -- what the last of objects defines with a text
+  texts_named : (name bytes : List ℕ) (objects later : List Object) (b : Bases) → AllByRecursion IsSized objects → LocatedFrom machine linked image b (objects ++ later) → named_bytes name objects ≡ Some bytes →
+      (a : ℕ) × (Among (record { name = name; address = Some a }) (definitions (placed_from b (objects ++ later))) × BytesAt image a bytes)
+  texts_named name bytes [] later b sized located is = cc
+  texts_named name bytes (o ∷ []) later b sized located is =
+      let found = named_located machine linked image starts ends o b later sized.0 located name o.entries bytes is in
+      (found.0, (among_front _ (filter_map (defined_by_entry (section_addresses_of b o.sections)) o.entries) (definitions (placed_from (ends_after b o.sections) later)) found.1.0, found.1.1))
+  texts_named name bytes (o ∷ q ∷ objects) later b sized located is =
+      let found = texts_named name bytes (q ∷ objects) later (ends_after b o.sections) sized.1 (located_next o b (q ∷ objects ++ later) sized.0 located) is in (
+        found.0,
+        (among_back _ (filter_map (defined_by_entry (section_addresses_of b o.sections)) o.entries) (definitions (placed_from (ends_after b o.sections) (q ∷ objects ++ later))) found.1.0, found.1.1),
+      )
+
+  -- Entries and the tail.
+  record TablesFrom (b : Bases) (objects later : List Object) (entries : List TableEntry) : Type 0 where
+    lookups : StrictTableAt image (thunk_width machine) b.lookups (map (λ (e : TableEntry). e.ask) entries)
+    addresses : StrictTableAt image (thunk_width machine) b.addresses (map (λ (e : TableEntry). e.ask) entries)
+    symbols : (j : ℕ) (e : TableEntry) (name : List ℕ) → slice_get entries j ≡ Some e → e.symbol ≡ Some name →
+        Among (record { name = name; address = Some (b.addresses + thunk_width machine * j) }) (definitions (placed_from b (objects ++ later)))
+    aligned : AreAligned (ends_behind b objects)
+    descriptors_end : (ends_behind b objects).descriptors ≡ b.descriptors
+    addresses_end : (ends_behind b objects).addresses ≡ b.addresses + thunk_width machine * (length entries + 1)
+
+  aligned_one : (o : Object) (b : Bases) → AreAligned b → sections_of Descriptors o.sections ≡ [] → sections_end Lookups b.lookups o.sections ≡ b.lookups + thunk_width machine →
+      sections_end Addresses b.addresses o.sections ≡ b.addresses + thunk_width machine → AreAligned (ends_after b o.sections)
+  aligned_one o b even none lookups addresses = record {
+    descriptors = ap (λ n. n % 4) (end_of_sections Descriptors b o.sections ∙ none_ends Descriptors o.sections b.descriptors none) ∙ even.descriptors;
+    lookups = ap (λ n. n % 4) (end_of_sections Lookups b o.sections ∙ lookups) ∙ aligned_thunk machine b.lookups even.lookups;
+    addresses = ap (λ n. n % 4) (end_of_sections Addresses b o.sections ∙ addresses) ∙ aligned_thunk machine b.addresses even.addresses;
+  }
+
+  null_table : (a : ℕ) → BytesAt image a (zeros (thunk_width machine)) → StrictTableAt image (thunk_width machine) a []
+  unfolding TableAt WholeTableAt
+  null_table a located = record {
+    plain = record { bytes = zeros (thunk_width machine); located = located; count = length-replicate {A = ℕ} (thunk_width machine) 0; value = zeros_number machine };
+    whole = tt;
+  }
+
+  tables_from : (objects later : List Object) (entries : List TableEntry) (b : Bases) → AreAligned b → AllByRecursion IsSized objects → LocatedFrom machine linked image b (objects ++ later) →
+      AreEntries machine objects entries → TablesFrom b objects later entries
+  unfolding AreEntries ends_behind TableAt WholeTableAt
+  tables_from [] later entries b even sized located are = absurd are
+  tables_from (o ∷ q ∷ objects) later [] b even sized located are = absurd are
+  tables_from (o ∷ []) later [] b even sized located are =
+      let lookup = null_located machine linked image starts ends o b later sized.0 located Lookups tt even.lookups are.lookup in
+      let address = null_located machine linked image starts ends o b later sized.0 located Addresses tt even.addresses are.address in
+      record {
+        lookups = null_table b.lookups lookup.0;
+        addresses = null_table b.addresses address.0;
+        symbols = λ j e name is named. cc;
+        aligned = aligned_one o b even are.descriptors lookup.1 address.1;
+        descriptors_end = end_of_sections Descriptors b o.sections ∙ none_ends Descriptors o.sections b.descriptors are.descriptors;
+        addresses_end = end_of_sections Addresses b o.sections ∙ address.1 ∙ one_null b.addresses (thunk_width machine);
+      }
+  tables_from (o ∷ objects) later (e ∷ entries) b even sized located (entry, others) =
+      let lookup = thunk_located machine linked image starts ends o b (objects ++ later) sized.0 located Lookups e.ask tt even.lookups entry.lookup in
+      let address = thunk_located machine linked image starts ends o b (objects ++ later) sized.0 located Addresses e.ask tt even.addresses entry.address in
+      let next : Bases = ends_after b o.sections in
+      let lookups_are : next.lookups ≡ b.lookups + thunk_width machine = end_of_sections Lookups b o.sections ∙ lookup.1 in
+      let addresses_are : next.addresses ≡ b.addresses + thunk_width machine = end_of_sections Addresses b o.sections ∙ address.1 in
+      let rest = tables_from objects later entries next (aligned_one o b even entry.descriptors lookup.1 address.1) sized.1 (located_next o b (objects ++ later) sized.0 located) others in
+      let lookups = subst (λ n. StrictTableAt image (thunk_width machine) n (map (λ (e : TableEntry). e.ask) entries)) lookups_are rest.lookups in
+      let addresses = subst (λ n. StrictTableAt image (thunk_width machine) n (map (λ (e : TableEntry). e.ask) entries)) addresses_are rest.addresses in
+      record {
+        lookups = record { plain = (lookup.0.plain, lookups.plain); whole = (lookup.0.whole, lookups.whole) };
+        addresses = record { plain = (address.0.plain, addresses.plain); whole = (address.0.whole, addresses.whole) };
+        symbols = symbols addresses_are rest.symbols;
+        aligned = rest.aligned;
+        descriptors_end = rest.descriptors_end ∙ end_of_sections Descriptors b o.sections ∙ none_ends Descriptors o.sections b.descriptors entry.descriptors;
+        addresses_end = rest.addresses_end ∙ ap (λ n. n + thunk_width machine * (length entries + 1)) addresses_are ∙ next_table b.addresses (thunk_width machine) (length entries);
+      }
+    where
+      symbols : (ends_after b o.sections).addresses ≡ b.addresses + thunk_width machine →
+          ((j : ℕ) (e : TableEntry) (name : List ℕ) → slice_get entries j ≡ Some e → e.symbol ≡ Some name →
+          Among (record { name = name; address = Some ((ends_after b o.sections).addresses + thunk_width machine * j) }) (definitions (placed_from (ends_after b o.sections) (objects ++ later)))) →
+          (j : ℕ) (x : TableEntry) (name : List ℕ) → slice_get (e ∷ entries) j ≡ Some x → x.symbol ≡ Some name →
+          Among (record { name = name; address = Some (b.addresses + thunk_width machine * j) }) ((filter_map (defined_by_entry (section_addresses_of b o.sections)) o.entries) ++ (definitions (placed_from (ends_after b o.sections) (objects ++ later))))
+      symbols same rest zero x name is named =
+          let own_entry : e ≡ x = cc in
+          let section = has_section machine o e.ask (only_section Addresses o) entry.address in
+          let here = entry_defined o b section.0 section.1 even.addresses name o.entries (entry.symbol ∙ ap (λ (y : TableEntry). y.symbol) own_entry ∙ named) in
+          subst (λ n. Among (record { name = name; address = Some n }) ((filter_map (defined_by_entry (section_addresses_of b o.sections)) o.entries) ++ (definitions (placed_from (ends_after b o.sections) (objects ++ later))))) (no_entry b.addresses (thunk_width machine)) (among_front _ (filter_map (defined_by_entry (section_addresses_of b o.sections)) o.entries) (definitions (placed_from (ends_after b o.sections) (objects ++ later))) here)
+      symbols same rest (suc j) x name is named =
+          among_back _ (filter_map (defined_by_entry (section_addresses_of b o.sections)) o.entries) (definitions (placed_from (ends_after b o.sections) (objects ++ later)))
+          (subst (λ n. Among (record { name = name; address = Some n }) (definitions (placed_from (ends_after b o.sections) (objects ++ later))))
+          (ap (λ n. n + thunk_width machine * j) same ∙ next_entry b.addresses (thunk_width machine) j) (rest j x name is named))
+
+  -- The head.
+  module _ (o : Object) (b : Bases) (rest : List Object) (sized : IsSized o) (even : AreAligned b) (located : LocatedFrom machine linked image b (o ∷ rest)) where
+    abbrev p : Placed
+    p = record { object = o; section_addresses = section_addresses_of b o.sections }
+
+    abbrev filled_row : ℕ → ℕ → ℕ → List ℕ
+    filled_row lookups name addresses =
+        u32_bytes ((0 + lookups) % 2 ^ 32) ++ (zeros 4 ++ (zeros 4 ++ (u32_bytes ((0 + name) % 2 ^ 32) ++ u32_bytes ((0 + addresses) % 2 ^ 32))))
+
+    is_relative : (offset : ℕ) (r : Relocation) → is_field machine offset r ≡ true → ((r.kind == image_relative machine) ≡ true) × (r.offset ≡ offset)
+    is_relative offset r is =
+        let parts = and_parts (r.kind == image_relative machine) (r.offset == offset) is in
+        (parts.0, eqb-true r.offset offset parts.1)
+
+    in_order : (r q n : Relocation) → (is_field machine 0 r && (is_field machine 12 q && is_field machine 16 n)) ≡ true →
+        relocated machine linked p (r ∷ q ∷ n ∷ []) (zeros 20) ≡ filled_row (target_address linked p r.symbol) (target_address linked p q.symbol) (target_address linked p n.symbol)
+    unfolding with_address u32_bytes u32_at
+    in_order r q n are =
+        let first = and_parts (is_field machine 0 r) (is_field machine 12 q && is_field machine 16 n) are in
+        let later = and_parts (is_field machine 12 q) (is_field machine 16 n) first.1 in
+        let x = is_relative 0 r first.0 in
+        let y = is_relative 12 q later.0 in
+        let z = is_relative 16 n later.1 in
+        rw (x.0, y.0, z.0, x.1, y.1, z.1) refl
+
+    name_last : (r q n : Relocation) → (is_field machine 0 r && (is_field machine 16 q && is_field machine 12 n)) ≡ true →
+        relocated machine linked p (r ∷ q ∷ n ∷ []) (zeros 20) ≡ filled_row (target_address linked p r.symbol) (target_address linked p n.symbol) (target_address linked p q.symbol)
+    unfolding with_address u32_bytes u32_at
+    name_last r q n are =
+        let first = and_parts (is_field machine 0 r) (is_field machine 16 q && is_field machine 12 n) are in
+        let later = and_parts (is_field machine 16 q) (is_field machine 12 n) first.1 in
+        let x = is_relative 0 r first.0 in
+        let y = is_relative 16 q later.0 in
+        let z = is_relative 12 n later.1 in
+        rw (x.0, y.0, z.0, x.1, y.1, z.1) refl
+
+    row_filled : (relocations : List Relocation) (row : Row) → row_of machine relocations ≡ Some row →
+        relocated machine linked p relocations (zeros 20) ≡ filled_row (target_address linked p row.lookups) (target_address linked p row.name) (target_address linked p row.addresses)
+    row_filled [] row is = cc
+    row_filled (r ∷ []) row is = cc
+    row_filled (r ∷ q ∷ []) row is = cc
+    row_filled (r ∷ q ∷ n ∷ []) row is =
+        elim (cases_Bool (is_field machine 0 r && (is_field machine 12 q && is_field machine 16 n))) [
+          | inl are ↦
+              let found : Some (record { lookups = r.symbol; name = q.symbol; addresses = n.symbol }) ≡ Some row = rw are at is in
+              let same : record { lookups = r.symbol; name = q.symbol; addresses = n.symbol } ≡ row = cc in
+              in_order r q n are ∙ ap (λ (w : Row). filled_row (target_address linked p w.lookups) (target_address linked p w.name) (target_address linked p w.addresses)) same
+          | inr other ↦ second other (cases_Bool (is_field machine 0 r && (is_field machine 16 q && is_field machine 12 n)))
+        ]
+      where
+        second : (is_field machine 0 r && (is_field machine 12 q && is_field machine 16 n)) ≡ false →
+            ((is_field machine 0 r && (is_field machine 16 q && is_field machine 12 n)) ≡ true) ⊎ ((is_field machine 0 r && (is_field machine 16 q && is_field machine 12 n)) ≡ false) →
+            relocated machine linked p (r ∷ q ∷ n ∷ []) (zeros 20) ≡ filled_row (target_address linked p row.lookups) (target_address linked p row.name) (target_address linked p row.addresses)
+        second other (inl are) =
+            let found : Some (record { lookups = r.symbol; name = n.symbol; addresses = q.symbol }) ≡ Some row = rw (other, are) at is in
+            let same : record { lookups = r.symbol; name = n.symbol; addresses = q.symbol } ≡ row = cc in
+            name_last r q n are ∙ ap (λ (w : Row). filled_row (target_address linked p w.lookups) (target_address linked p w.name) (target_address linked p w.addresses)) same
+        second other (inr none) = let nothing : None ≡ Some row = rw (other, none) at is in cc
+    row_filled (r ∷ q ∷ n ∷ m ∷ relocations) row is = cc
+
+    -- the descriptor
+    row_located : (row : Row) → row_in machine o ≡ Some row →
+        BytesAt image b.descriptors (filled_row (target_address linked p row.lookups) (target_address linked p row.name) (target_address linked p row.addresses))
+        × (sections_end Descriptors b.descriptors o.sections ≡ b.descriptors + 20)
+    row_located row is = go (only_section Descriptors o) refl is
+      where
+        go : (found : Option ObjectSection) → only_section Descriptors o ≡ found → option_and_then (λ (s : ObjectSection). if bytes_eq s.bytes (zeros 20) then row_of machine s.relocations else None) found ≡ Some row →
+            BytesAt image b.descriptors (filled_row (target_address linked p row.lookups) (target_address linked p row.name) (target_address linked p row.addresses))
+            × (sections_end Descriptors b.descriptors o.sections ≡ b.descriptors + 20)
+        go None at is = cc
+        go (Some s) at is =
+            let only = only_located machine linked image starts ends o b rest sized located Descriptors s tt at even.descriptors in
+            elim (cases_Bool (bytes_eq s.bytes (zeros 20))) [
+              | inl blank ↦
+                  let same : s.bytes ≡ zeros 20 = (bytes_eq-Decides s.bytes (zeros 20)).0 blank in
+                  let fields : row_of machine s.relocations ≡ Some row = rw blank at is in (
+                    subst (BytesAt image b.descriptors) (ap (relocated machine linked p s.relocations) same ∙ row_filled s.relocations row fields) only.0,
+                    only.1 ∙ ap (λ n. b.descriptors + n) (ap length same),
+                  )
+              | inr other ↦ let none : None ≡ Some row = rw other at is in cc
+            ]
+
+    -- where a table begins
+    pub begin_of : (group : Group) (index : ℕ) → base_of group b % 4 ≡ 0 → begins group o index ≡ true → (target_address linked p index ≡ base_of group b) × (sections_end group (base_of group b) o.sections ≡ base_of group b)
+    begin_of group index level is =
+        let parts = and_parts (is_empty (only_section group o)) (leads_to group o (slice_get o.entries index)) is in
+        go (only_section group o) refl parts.0 parts.1
+      where
+        leads : (s : ObjectSection) → only_section group o ≡ Some s → (found : Option Entry) → leads_to group o found ≡ true → address_or_zero (option_and_then (symbol_address linked p) found) ≡ base_of group b
+        leads s at None led = cc
+        leads s at (Some (Auxiliary bytes)) led = cc
+        leads s at (Some (ASymbol x)) led =
+            let first = and_parts (not (is_undefined_external x)) ((x.value == 0) && is_in_group group (section_numbered o.sections x.section)) led in
+            let second = and_parts (x.value == 0) (is_in_group group (section_numbered o.sections x.section)) first.1 in
+            let place : address_in (section_addresses_of b o.sections) x.section x.value ≡ Some (base_of group b) =
+            group_address group o b s at level x.section x.value second.1 ∙ ap (λ n. Some (base_of group b + n)) (eqb-true x.value 0 second.0) ∙ ap Some (plus_none (base_of group b)) in
+            elim (cases_Bool (is_undefined_external x)) [
+              | inl left ↦ let none : false ≡ true = rw left at first.0 in cc
+              | inr own ↦ rw own (ap address_or_zero place)
+            ]
+
+        go : (found : Option ObjectSection) → only_section group o ≡ found → is_empty found ≡ true → leads_to group o (slice_get o.entries index) ≡ true →
+            (target_address linked p index ≡ base_of group b) × (sections_end group (base_of group b) o.sections ≡ base_of group b)
+        go None at empty led = cc
+        go (Some s) at empty led =
+            let parts = and_parts (bytes_eq s.bytes []) (has_none s.relocations) empty in
+            let same : s.bytes ≡ [] = (bytes_eq-Decides s.bytes []).0 parts.0 in
+            let one = one_is (sections_of group o.sections) s at in (
+              leads s at (slice_get o.entries index) led,
+              one_ends group o.sections (base_of group b) s one.0 one.1 level ∙ ap (λ n. base_of group b + n) (ap length same) ∙ plus_none (base_of group b),
+            )
+
+    level_next : (n : ℕ) → n % 4 ≡ 0 → (n + 20) % 4 ≡ 0
+    level_next n level = omega arith
+
+    name_found : (dll : List ℕ) (others later : List Object) (found : Option Entry) → AllByRecursion IsSized others → LocatedFrom machine linked image (ends_after b o.sections) (others ++ later) →
+        ((d : SymbolDefinition) → Among d (definitions (placed_from (ends_after b o.sections) (others ++ later))) → definitions_of d.name linked ≡ d ∷ []) → dll_text others found ≡ Some dll →
+        (a : ℕ) × ((address_or_zero (option_and_then (symbol_address linked p) found) ≡ a) × TextAt image a dll)
+    name_found dll others later None all behind only is = cc
+    name_found dll others later (Some (Auxiliary bytes)) all behind only is = cc
+    name_found dll others later (Some (ASymbol s)) all behind only is =
+        elim (cases_Bool (is_undefined_external s)) [
+          | inl left ↦ go left (named_bytes s.name others) refl (rw left at is)
+          | inr own ↦ let none : None ≡ Some dll = rw own at is in cc
+        ]
+      where
+        go : is_undefined_external s ≡ true → (found : Option (List ℕ)) → named_bytes s.name others ≡ found → option_and_then before_nul found ≡ Some dll →
+            (a : ℕ) × ((address_or_zero (symbol_address linked p (ASymbol s)) ≡ a) × TextAt image a dll)
+        go left None at is = cc
+        go left (Some bytes) at is =
+            let text = texts_named s.name bytes others later (ends_after b o.sections) all behind at in
+            let once = only (record { name = s.name; address = Some text.0 }) text.1.0 in
+            let ended = ended_is bytes dll is in
+            let whole : bytes ≡ (dll ++ 0 ∷ []) ++ ended.0 = ended.1.0 ∙ sym (append_assoc dll (0 ∷ []) ended.0) in
+            (text.0, (rw left (ap (λ ds. address_or_zero (first_address ds)) once), record { no_nul = ended.1.1; located = (located_parts image (dll ++ 0 ∷ []) ended.0 text.0 (subst (BytesAt image text.0) whole text.1.1)).0 }))
+
+  -- a head, entries and a tail
+  pub record PartLinks (b : Bases) (objects : List Object) (dll : List ℕ) (entries : List TableEntry) : Type 0 where
+    pub loads : LoadsFrom image (thunk_width machine) b.descriptors b.addresses dll (map (λ (e : TableEntry). e.ask) entries)
+    pub symbols : (j : ℕ) (e : TableEntry) (name : List ℕ) → slice_get entries j ≡ Some e → e.symbol ≡ Some name →
+        definitions_of name linked ≡ record { name = name; address = Some (b.addresses + thunk_width machine * j) } ∷ []
+    pub aligned : AreAligned (ends_behind b objects)
+    pub descriptors_end : (ends_behind b objects).descriptors ≡ b.descriptors + 20
+    pub addresses_end : (ends_behind b objects).addresses ≡ b.addresses + thunk_width machine * (length entries + 1)
+
+  pub part_links : (head : Object) (others later : List Object) (dll : List ℕ) (entries : List TableEntry) (b : Bases) → AreAligned b → AllByRecursion IsSized (head ∷ others) →
+      LocatedFrom machine linked image b (head ∷ (others ++ later)) → IsHead machine head others dll → AreEntries machine others entries →
+      ((d : SymbolDefinition) → Among d (definitions (placed_from b (head ∷ (others ++ later)))) → definitions_of d.name linked ≡ d ∷ []) → PartLinks b (head ∷ others) dll entries
+  unfolding ends_behind
+  part_links head others later dll entries b even sized located begin are only =
+      let rest : List Object = others ++ later in
+      let next : Bases = ends_after b head.sections in
+      let own : List SymbolDefinition = filter_map (defined_by_entry (section_addresses_of b head.sections)) head.entries in
+      let behind : List SymbolDefinition = definitions (placed_from next rest) in
+      let row = row_located head b rest sized.0 even located begin.row begin.fields in
+      let lookups = begin_of head b rest sized.0 even located Lookups begin.row.lookups even.lookups begin.lookups in
+      let addresses = begin_of head b rest sized.0 even located Addresses begin.row.addresses even.addresses begin.addresses in
+      let descriptors_are : next.descriptors ≡ b.descriptors + 20 = end_of_sections Descriptors b head.sections ∙ row.1 in
+      let lookups_are : next.lookups ≡ b.lookups = end_of_sections Lookups b head.sections ∙ lookups.1 in
+      let addresses_are : next.addresses ≡ b.addresses = end_of_sections Addresses b head.sections ∙ addresses.1 in
+      let later_even : AreAligned next = record {
+        descriptors = ap (λ n. n % 4) descriptors_are ∙ level_next head b rest sized.0 even located b.descriptors even.descriptors;
+        lookups = ap (λ n. n % 4) lookups_are ∙ even.lookups;
+        addresses = ap (λ n. n % 4) addresses_are ∙ even.addresses;
+      } in
+      let next_located : LocatedFrom machine linked image next rest = located_next head b rest sized.0 located in
+      let name = name_found head b rest sized.0 even located dll others later (slice_get head.entries begin.row.name) sized.1 next_located (λ d m. only d (among_back d own behind m)) begin.name in
+      let tables = tables_from others later entries next later_even sized.1 next_located are in
+      let asks : List Ask = map (λ (e : TableEntry). e.ask) entries in
+      let bytes = subst (λ x. BytesAt image b.descriptors (filled_row head b rest sized.0 even located x (target_address linked (p head b rest sized.0 even located) begin.row.name) (target_address linked (p head b rest sized.0 even located) begin.row.addresses)))
+      (lookups.0 ∙ sym (plus_none b.lookups)) row.0 in
+      let more = subst (λ x. BytesAt image b.descriptors (filled_row head b rest sized.0 even located (b.lookups + 0) x (target_address linked (p head b rest sized.0 even located) begin.row.addresses)))
+      (name.1.0 ∙ sym (plus_none name.0)) bytes in
+      let whole = subst (λ x. BytesAt image b.descriptors (filled_row head b rest sized.0 even located (b.lookups + 0) (name.0 + 0) x)) (addresses.0 ∙ sym (plus_none b.addresses)) more in
+      record {
+        loads =
+            descriptor_loads machine image starts ends b.descriptors b.lookups b.addresses name.0 dll asks whole
+            (subst (λ n. StrictTableAt image (thunk_width machine) n asks) lookups_are tables.lookups)
+            (subst (λ n. StrictTableAt image (thunk_width machine) n asks) addresses_are tables.addresses) name.1.1;
+        symbols = λ j e name is named.
+            only (record { name = name; address = Some (b.addresses + thunk_width machine * j) })
+            (among_back (record { name = name; address = Some (b.addresses + thunk_width machine * j) }) own behind
+            (subst (λ n. Among (record { name = name; address = Some (n + thunk_width machine * j) }) behind) addresses_are (tables.symbols j e name is named)));
+        aligned = tables.aligned;
+        descriptors_end = tables.descriptors_end ∙ descriptors_are;
+        addresses_end = tables.addresses_end ∙ ap (λ n. n + thunk_width machine * (length entries + 1)) addresses_are;
+      }

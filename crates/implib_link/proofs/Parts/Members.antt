@@ -1,0 +1,263 @@
+-- What is linked of a definition for GNU's linker is a part, and parts that store no address whole are steady.
+use Rattle.std.proofs.Common.{◌≡◌, ℕ, ◌+◌, ◌*◌, ◌-◌, ◌%◌, ◌/◌, ◌^◌, ◌<◌, true, false, List, [], ◌∷◌, ◌++◌, map, Option, Some, None, refl, ap, sym, ◌∙◌, subst, inl, inr, arith}
+use Rattle.std.specs.Prelude.{◌||◌, bytes_eq, not, slice_get, take}
+use Rattle.std.specs.List.{AllByRecursion, list_all}
+use Rattle.std.proofs.lemmas.List.{append_assoc}
+use Rattle.std.proofs.lemmas.Bool.{and_from, and_parts, cases_Bool, lt-ltb}
+use Rattle.implib.specs.declared.coff.object.Relocation.{Relocation}
+use Rattle.implib.specs.declared.machine.MachineType.{MachineType}
+use Rattle.implib.specs.declared.machine.MachineType.TheVariants.{I386, ARMNT, AMD64, ARM64}
+use Rattle.implib.specs.Definition.{ExportView}
+use Rattle.implib.specs.Formats.Bytes.{u16_bytes}
+use Rattle.implib.specs.Formats.Constants.{image_relative}
+use Rattle.implib.specs.Formats.Layout.{HasNoNul}
+use Rattle.implib.specs.Formats.Object.{Object, ObjectSection}
+use Rattle.implib.specs.Import.{Name, Ordinal, expected_ask, imp_symbol, name_asked}
+use Rattle.implib.specs.LibraryName.{NamesOfDll, names_for}
+use Rattle.implib.specs.declared.flavor.Flavor.TheVariants.{Gnu}
+use Rattle.implib.specs.Link.LinkedMembers.{IsMade, LinkInput, chosen_exports}
+use Rattle.implib.specs.Link.Load.{number_in}
+use Rattle.implib.specs.Link.Placement.{Addresses, Bases, Lookups, placed_from}
+use Rattle.implib.specs.Members.Gnu.{export_object, head_object, hint_name, hint_name_symbol, iname_symbol, relocations_of_thunk, tail_object, thunk}
+use Rattle.implib.specs.Members.ImportTables.{relocation, thunk_width, zeros}
+use Rattle.implib.proofs.Formats.Symbols.{before_nul-ended}
+use Rattle.implib.proofs.Link.Definitions.{same_text}
+use Rattle.implib.proofs.Link.Linked.{all_append}
+use Rattle.implib.proofs.Link.LinkedMembers.{dll_free, exports_fit, objects_are}
+use Rattle.implib.proofs.Link.Placement.{after_head, export, head, tail}
+use Rattle.implib.proofs.Link.Tables.{CanBeAsked}
+use Rattle.implib_link.specs.Gnu.OtherLibraries.{HoldsFields}
+use Rattle.implib_link.specs.Gnu.Program.{is_table, null_descriptor}
+use Rattle.implib_link.specs.Gnu.Rebased.{absolute_width}
+use Rattle.implib_link.specs.Parts.{AreEntries, BeginWithHead, IsEntry, IsPart, IsProgramOfParts, IsTail, Part, ask_of, begins, dll_text, entry_symbol, hint_and_name, is_field, is_whole, named_bytes, objects_of_parts, ordinal_with, own_bytes, part_of, row_in, stores_none}
+use Rattle.implib_link.specs.Tables.{AreSteady, Block, TableEntry}
+use Rattle.implib_link.proofs.Gnu.Others.{no_group}
+use Rattle.implib_link.proofs.Gnu.Steady.{AllSteady, IsSteady, NoneAbsolute, all_steady, tables_none}
+use Rattle.implib_link.proofs.Gnu.Sized.{exports_sized, head_sized, tail_sized}
+
+-- The head.
+
+head_row : (machine : MachineType) (dll : NamesOfDll) → row_in machine (head machine dll) ≡ Some (record { lookups = 3; name = 5; addresses = 2 })
+unfolding head_object
+head_row I386 dll = refl
+head_row ARMNT dll = refl
+head_row AMD64 dll = refl
+head_row ARM64 dll = refl
+
+head_lookups : (machine : MachineType) (dll : NamesOfDll) → begins Lookups (head machine dll) 3 ≡ true
+unfolding head_object
+head_lookups machine dll = refl
+
+head_addresses : (machine : MachineType) (dll : NamesOfDll) → begins Addresses (head machine dll) 2 ≡ true
+unfolding head_object
+head_addresses machine dll = refl
+
+last_named : (machine : MachineType) (dll : NamesOfDll) (name : List ℕ) (es : List ExportView) → named_bytes name (after_head machine dll es []) ≡ named_bytes name (tail machine dll ∷ [])
+last_named machine dll name [] = refl
+last_named machine dll name (e ∷ []) = refl
+last_named machine dll name (e ∷ f ∷ es) = last_named machine dll name (f ∷ es)
+
+tail_named : (machine : MachineType) (dll : NamesOfDll) → named_bytes (iname_symbol machine dll.linked) (tail machine dll ∷ []) ≡ Some (dll.text ++ 0 ∷ [])
+unfolding tail_object
+tail_named machine dll = rw (same_text (iname_symbol machine dll.linked)) refl
+
+head_name : (machine : MachineType) (dll : NamesOfDll) (es : List ExportView) → HasNoNul dll.text → dll_text (after_head machine dll es []) (slice_get (head machine dll).entries 5) ≡ Some dll.text
+unfolding head_object
+head_name machine dll es free =
+    rw (last_named machine dll (iname_symbol machine dll.linked) es, tail_named machine dll) (before_nul-ended dll.text [] free)
+
+-- An export.
+
+low_byte : (n : ℕ) → n % 256 < 256
+low_byte n = omega arith
+
+high_byte : (n : ℕ) → n / 256 % 256 < 256
+high_byte n = omega arith
+
+hint_is : (n : ℕ) → n < 2 ^ 16 → n % 256 + 256 * (n / 256 % 256) ≡ n
+hint_is n small = omega arith
+
+hint_read : (n : ℕ) (text : List ℕ) → n < 2 ^ 16 → HasNoNul text → hint_and_name (u16_bytes n ++ (text ++ 0 ∷ [])) ≡ Some (Name text n)
+unfolding u16_bytes
+hint_read n text small free =
+    rw (lt-ltb (n % 256) 256 (low_byte n), lt-ltb (n / 256 % 256) 256 (high_byte n), before_nul-ended text [] free, hint_is n small) refl
+
+number_read : (n : ℕ) (rest : List ℕ) → n < 2 ^ 16 → number_in (take 2 (u16_bytes n ++ rest)) ≡ n
+unfolding u16_bytes
+number_read n rest small = let plain : n % 256 + 256 * (n / 256 % 256 + 256 * 0) ≡ n = omega arith in plain
+
+ordinal_read : (machine : MachineType) (n : ℕ) → n < 2 ^ 16 → ordinal_with machine (u16_bytes n ++ (zeros (thunk_width machine - 3) ++ 0x80 ∷ [])) n ≡ Some (Ordinal n)
+ordinal_read machine n small = rw (same_text (u16_bytes n ++ (zeros (thunk_width machine - 3) ++ 0x80 ∷ [])), lt-ltb n (2 ^ 16) small) refl
+
+same_zeros : (machine : MachineType) → bytes_eq (zeros (thunk_width machine)) (zeros (thunk_width machine)) ≡ true
+same_zeros machine = same_text (zeros (thunk_width machine))
+
+same_kind : (machine : MachineType) → is_field machine 0 (relocation machine 0 0) ≡ true
+same_kind I386 = refl
+same_kind ARMNT = refl
+same_kind AMD64 = refl
+same_kind ARM64 = refl
+
+asks_name : (machine : MachineType) (o : Object) (index : ℕ) (bytes : List ℕ) → own_bytes o (slice_get o.entries index) ≡ Some bytes →
+    ask_of machine o (zeros (thunk_width machine)) (relocation machine 0 index ∷ []) ≡ hint_and_name bytes
+asks_name machine o index bytes is = rw (same_kind machine, same_zeros machine, is) refl
+
+module _ (machine : MachineType) (dll : NamesOfDll) (e : ExportView) (fits : CanBeAsked machine e) where
+  own_hint : e.no_name ≡ false → own_bytes (export machine dll e) (slice_get (export machine dll e).entries (hint_name_symbol e)) ≡ Some (u16_bytes e.ordinal ++ (name_asked machine e ++ 0 ∷ []))
+  unfolding export_object hint_name
+  own_hint is = elim (cases_Bool e.is_data) [ inl of_data ↦ rw (of_data, is) refl | inr of_code ↦ rw (of_code, is) refl ]
+
+  named_thunk : e.no_name ≡ false → thunk machine e ≡ zeros (thunk_width machine)
+  unfolding thunk
+  named_thunk is = rw is refl
+
+  named_field : e.no_name ≡ false → relocations_of_thunk machine e ≡ relocation machine 0 (hint_name_symbol e) ∷ []
+  unfolding relocations_of_thunk
+  named_field is = rw is refl
+
+  ordinal_thunk_is : e.no_name ≡ true → thunk machine e ≡ u16_bytes e.ordinal ++ (zeros (thunk_width machine - 3) ++ 0x80 ∷ [])
+  unfolding thunk
+  ordinal_thunk_is is = rw is refl
+
+  no_field : e.no_name ≡ true → relocations_of_thunk machine e ≡ []
+  unfolding relocations_of_thunk
+  no_field is = rw is refl
+
+  by_name : e.no_name ≡ false → expected_ask machine e ≡ Name (name_asked machine e) e.ordinal
+  by_name is = rw is refl
+
+  by_ordinal : e.no_name ≡ true → expected_ask machine e ≡ Ordinal e.ordinal
+  by_ordinal is = rw is refl
+
+  asks : ask_of machine (export machine dll e) (thunk machine e) (relocations_of_thunk machine e) ≡ Some (expected_ask machine e)
+  asks = elim (cases_Bool e.no_name) [
+    | inl is ↦
+        let bytes : List ℕ = u16_bytes e.ordinal ++ (zeros (thunk_width machine - 3) ++ 0x80 ∷ []) in
+        ap (ask_of machine (export machine dll e) (thunk machine e)) (no_field is)
+        ∙ ap (λ bs. ask_of machine (export machine dll e) bs []) (ordinal_thunk_is is)
+        ∙ ap (ordinal_with machine bytes) (number_read e.ordinal (zeros (thunk_width machine - 3) ++ 0x80 ∷ []) fits.ordinal)
+        ∙ ordinal_read machine e.ordinal fits.ordinal ∙ ap Some (sym (by_ordinal is))
+    | inr is ↦
+        ap (ask_of machine (export machine dll e) (thunk machine e)) (named_field is)
+        ∙ ap (λ bs. ask_of machine (export machine dll e) bs (relocation machine 0 (hint_name_symbol e) ∷ [])) (named_thunk is)
+        ∙ asks_name machine (export machine dll e) (hint_name_symbol e) (u16_bytes e.ordinal ++ (name_asked machine e ++ 0 ∷ [])) (own_hint is)
+        ∙ hint_read e.ordinal (name_asked machine e) fits.ordinal fits.name ∙ ap Some (sym (by_name is))
+  ]
+
+  symbol_read : entry_symbol (export machine dll e) ≡ Some (imp_symbol e.name)
+  unfolding export_object
+  symbol_read = elim (cases_Bool e.is_data) [ inl is ↦ rw is refl | inr is ↦ rw is refl ]
+
+  export_entry : IsEntry machine (export machine dll e) (record { ask = expected_ask machine e; symbol = Some (imp_symbol e.name) })
+  unfolding export_object
+  export_entry = record { descriptors = refl; lookup = asks; address = asks; symbol = symbol_read }
+
+tail_is : (machine : MachineType) (dll : NamesOfDll) → IsTail machine (tail machine dll)
+unfolding tail_object
+tail_is machine dll = record { descriptors = refl; lookup = rw (same_zeros machine) refl; address = rw (same_zeros machine) refl }
+
+abbrev entry_for : MachineType → ExportView → TableEntry
+entry_for machine e = record { ask = expected_ask machine e; symbol = Some (imp_symbol e.name) }
+
+entries_are : (machine : MachineType) (dll : NamesOfDll) (es : List ExportView) → AllByRecursion (CanBeAsked machine) es → AreEntries machine (after_head machine dll es []) (map (entry_for machine) es)
+unfolding AreEntries
+entries_are machine dll [] fit = tail_is machine dll
+entries_are machine dll (e ∷ es) fit = (export_entry machine dll e fit.0, entries_are machine dll es fit.1)
+
+head_first : (machine : MachineType) (dll : NamesOfDll) (es : List ExportView) (text : List ℕ) → HasNoNul dll.text → dll.text ≡ text → AllByRecursion (CanBeAsked machine) es →
+    BeginWithHead machine (head machine dll ∷ after_head machine dll es []) (record { dll = text; entries = map (entry_for machine) es })
+unfolding BeginWithHead
+head_first machine dll es text free same fit = (
+  record {
+    row = record { lookups = 3; name = 5; addresses = 2 };
+    fields = head_row machine dll;
+    lookups = head_lookups machine dll;
+    addresses = head_addresses machine dll;
+    name = head_name machine dll es free ∙ ap Some same;
+  },
+  entries_are machine dll es fit,
+)
+
+pub members_are_part : (machine : MachineType) (p : LinkInput) → IsMade machine p → IsPart machine (part_of machine p)
+members_are_part machine p made =
+    let dll : NamesOfDll = names_for Gnu p.definition in
+    let es : List ExportView = chosen_exports p.definition p.chosen in
+    let are = objects_are p.definition machine p.members p.chosen made in
+    let table : Block = (part_of machine p).table in
+    record {
+      objects = subst (λ os. BeginWithHead machine os table) (sym are) (head_first machine dll es table.dll (dll_free p.definition machine p.members p.chosen made) refl (exports_fit p.definition machine p.members p.chosen made));
+      sized = subst (AllByRecursion HoldsFields) (sym are) (head_sized machine dll, exports_sized machine dll es (tail machine dll ∷ []) (tail_sized machine dll, tt));
+    }
+
+-- Parts that store no address whole.
+
+none_whole : (width : Option ℕ) → not (is_whole width) ≡ true → width ≡ None
+none_whole None is = refl
+none_whole (Some n) is = cc
+
+fields_none : (machine : MachineType) (relocations : List Relocation) → list_all (λ r. not (is_whole (absolute_width machine r.kind))) relocations ≡ true → NoneAbsolute machine relocations
+fields_none machine [] all = tt
+fields_none machine (r ∷ relocations) all =
+    let parts = and_parts (not (is_whole (absolute_width machine r.kind))) (list_all (λ r. not (is_whole (absolute_width machine r.kind))) relocations) all in
+    (none_whole (absolute_width machine r.kind) parts.0, fields_none machine relocations parts.1)
+
+sections_steady : (machine : MachineType) (sections : List ObjectSection) →
+    list_all (λ s. not (is_table s) || list_all (λ r. not (is_whole (absolute_width machine r.kind))) s.relocations) sections ≡ true → AllByRecursion (IsSteady machine) sections
+sections_steady machine [] all = tt
+sections_steady machine (s ∷ sections) all =
+    let own = list_all (λ (r : Relocation). not (is_whole (absolute_width machine r.kind))) s.relocations in
+    let parts = and_parts (not (is_table s) || own) (list_all (λ s. not (is_table s) || list_all (λ r. not (is_whole (absolute_width machine r.kind))) s.relocations) sections) all in
+    let first : IsSteady machine s = elim (cases_Bool (is_table s)) [
+      | inl table ↦ inr (fields_none machine s.relocations (rw table at parts.0))
+      | inr other ↦ inl (no_group s.name other)
+    ] in
+    (first, sections_steady machine sections parts.1)
+
+objects_steady : (machine : MachineType) (objects : List Object) → list_all (stores_none machine) objects ≡ true → AllByRecursion (AllSteady machine) objects
+objects_steady machine [] all = tt
+objects_steady machine (o ∷ objects) all =
+    let parts = and_parts (stores_none machine o) (list_all (stores_none machine) objects) all in
+    (sections_steady machine o.sections parts.0, objects_steady machine objects parts.1)
+
+each_steady : (machine : MachineType) (parts : List Part) → AllByRecursion (λ (p : Part). list_all (stores_none machine) p.objects ≡ true) parts → AllByRecursion (AllSteady machine) (objects_of_parts parts ++ null_descriptor ∷ [])
+each_steady machine [] all = ((inr tt, tt), tt)
+each_steady machine (p ∷ parts) all =
+    subst (AllByRecursion (AllSteady machine)) (sym (append_assoc p.objects (objects_of_parts parts) (null_descriptor ∷ [])))
+    (all_append (AllSteady machine) p.objects (objects_of_parts parts ++ null_descriptor ∷ []) (objects_steady machine p.objects all.0) (each_steady machine parts all.1))
+
+pub parts_steady : (machine : MachineType) (bases : Bases) (parts : List Part) (objects : List Object) → IsProgramOfParts machine bases parts objects →
+    AllByRecursion (λ (p : Part). list_all (stores_none machine) p.objects ≡ true) parts → AreSteady machine (placed_from bases objects)
+parts_steady machine bases parts objects program all =
+    tables_none machine bases objects (all_steady machine objects (subst (AllByRecursion (AllSteady machine)) (sym program.tables) (each_steady machine parts all)))
+
+-- Members store none.
+
+relative_none : (machine : MachineType) → not (is_whole (absolute_width machine (image_relative machine))) ≡ true
+relative_none I386 = refl
+relative_none ARMNT = refl
+relative_none AMD64 = refl
+relative_none ARM64 = refl
+
+thunk_none : (machine : MachineType) (e : ExportView) → list_all (λ (r : Relocation). not (is_whole (absolute_width machine r.kind))) (relocations_of_thunk machine e) ≡ true
+unfolding relocations_of_thunk
+thunk_none machine e = elim (cases_Bool e.no_name) [ inl is ↦ rw is refl | inr is ↦ rw (is, relative_none machine) refl ]
+
+export_none : (machine : MachineType) (dll : NamesOfDll) (e : ExportView) → stores_none machine (export machine dll e) ≡ true
+unfolding export_object
+export_none machine dll e = rw (relative_none machine, thunk_none machine e) refl
+
+exports_none : (machine : MachineType) (dll : NamesOfDll) (es : List ExportView) → list_all (stores_none machine) (after_head machine dll es []) ≡ true
+unfolding tail_object
+exports_none machine dll [] = refl
+exports_none machine dll (e ∷ es) = and_from (stores_none machine (export machine dll e)) (list_all (stores_none machine) (after_head machine dll es [])) (export_none machine dll e) (exports_none machine dll es)
+
+head_none : (machine : MachineType) (dll : NamesOfDll) → stores_none machine (head machine dll) ≡ true
+unfolding head_object
+head_none machine dll = rw (relative_none machine) refl
+
+pub members_store_none : (machine : MachineType) (p : LinkInput) → IsMade machine p → list_all (stores_none machine) (part_of machine p).objects ≡ true
+members_store_none machine p made =
+    let dll : NamesOfDll = names_for Gnu p.definition in
+    let es : List ExportView = chosen_exports p.definition p.chosen in
+    ap (list_all (stores_none machine)) (objects_are p.definition machine p.members p.chosen made)
+    ∙ and_from (stores_none machine (head machine dll)) (list_all (stores_none machine) (after_head machine dll es [])) (head_none machine dll) (exports_none machine dll es)

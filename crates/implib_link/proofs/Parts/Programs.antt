@@ -1,0 +1,298 @@
+-- Programs of parts have import tables.
+use Rattle.std.proofs.Common.{◌≡◌, ℕ, zero, suc, ◌+◌, ◌*◌, ◌^◌, ◌<◌, false, List, [], ◌∷◌, ◌++◌, length, map, Some, refl, ap, sym, ◌∙◌, subst, inl, inr, arith, ◌⊎◌}
+use Rattle.std.specs.Prelude.{◌&&◌, bytes_eq, not, slice_get}
+use Rattle.std.specs.List.{AllByRecursion, IsDistinct, filter, filter_map, flat_map}
+use Rattle.std.proofs.lemmas.Bool.{cases_Bool}
+use Rattle.std.proofs.lemmas.Grind.{flat_map-append}
+use Rattle.std.proofs.lemmas.List.{append-nil, append_assoc, map-append}
+use Rattle.implib.specs.declared.machine.MachineType.{MachineType}
+use Rattle.implib.specs.Formats.File.{is_defined_external}
+use Rattle.implib.specs.Formats.Object.{ASymbol, Auxiliary, Entry, Object}
+use Rattle.implib.specs.Link.Image.{Range, contributions, filled, image_of, range_end}
+use Rattle.implib.specs.Link.Load.{BytesAt, NumberAt}
+use Rattle.implib.specs.Link.Placement.{Addresses, Bases, Descriptors, DllNames, Group, HintNames, Lookups, Placed, SectionAddress, base_of, ends_after, placed_from, section_addresses_of}
+use Rattle.implib.specs.Link.Resolution.{SymbolDefinition, defined_by, defined_by_entry, definitions, definitions_of}
+use Rattle.implib.specs.Members.ImportTables.{thunk_width, zeros}
+use Rattle.implib.proofs.Link.Definitions.{only_definition}
+use Rattle.implib.proofs.Link.Linked.{LocatedFrom}
+use Rattle.implib.proofs.Link.LinkedBlocks.{each_located, ends, even, starts}
+use Rattle.implib.proofs.Link.LinkedMembers.{among_map}
+use Rattle.implib.proofs.Link.Placement.{AreAligned}
+use Rattle.implib.proofs.Link.Ranges.{Among, among_back, among_flat}
+use Rattle.implib_link.specs.Directory.{DirectoryAt}
+use Rattle.implib_link.specs.Gnu.OtherLibraries.{HoldsFields, ends_behind}
+use Rattle.implib_link.specs.Gnu.Program.{claimed_name, claimed_names, has_tables, is_reference, is_shared, null_descriptor}
+use Rattle.implib_link.specs.Parts.{BeginWithHead, IsPart, IsProgramOfParts, Part, names_of_parts, objects_of_parts}
+use Rattle.implib_link.specs.Tables.{AreTables, Block, TableEntry, tables_at}
+use Rattle.implib_link.proofs.Flavors.Blocks.{plus_sum}
+use Rattle.implib_link.proofs.Gnu.Blocks.{null_located, table_sum}
+use Rattle.implib_link.proofs.Gnu.Loaded.{times_none as plus_zero}
+use Rattle.implib_link.proofs.Gnu.Others.{contributions_kept, defined_is_claimed, definitions_kept, placed_kept}
+use Rattle.implib_link.proofs.Gnu.Program.{all_claim}
+use Rattle.implib_link.proofs.Gnu.Runs.{located_behind, placed_parts}
+use Rattle.implib_link.proofs.PackedTables.{are_packed, entries_until, imported_by_block}
+use Rattle.implib_link.proofs.Search.Lists.{among_filter}
+use Rattle.implib_link.proofs.Parts.Heads.{PartLinks, part_links}
+
+-- Names of definitions are among those that objects claim, in their order.
+
+unfoldable IsAmong : List (List ℕ) → List (List ℕ) → Type 0
+IsAmong [] ys = Unit {0}
+IsAmong (x ∷ xs) [] = ⊥
+IsAmong (x ∷ xs) (y ∷ ys) = ((x ≡ y) × IsAmong xs ys) ⊎ IsAmong (x ∷ xs) ys
+
+among_skip : (xs : List (List ℕ)) (y : List ℕ) (ys : List (List ℕ)) → IsAmong xs ys → IsAmong xs (y ∷ ys)
+unfolding IsAmong
+among_skip [] y ys is = tt
+among_skip (x ∷ xs) y ys is = inr is
+
+among_append : (xs ys zs ws : List (List ℕ)) → IsAmong xs ys → IsAmong zs ws → IsAmong (xs ++ zs) (ys ++ ws)
+unfolding IsAmong
+among_append [] [] zs ws first second = second
+among_append [] (y ∷ ys) zs ws first second = among_skip zs y (ys ++ ws) (among_append [] ys zs ws tt second)
+among_append (x ∷ xs) [] zs ws first second = absurd first
+among_append (x ∷ xs) (y ∷ ys) zs ws (inl (e, first)) second = inl (e, among_append xs ys zs ws first second)
+among_append (x ∷ xs) (y ∷ ys) zs ws (inr first) second = inr (among_append (x ∷ xs) ys zs ws first second)
+
+among_all : (P : List ℕ → Type 0) (xs ys : List (List ℕ)) → IsAmong xs ys → AllByRecursion P ys → AllByRecursion P xs
+unfolding IsAmong
+among_all P [] ys is all = tt
+among_all P (x ∷ xs) [] is all = absurd is
+among_all P (x ∷ xs) (y ∷ ys) (inl (e, is)) all = (subst P (sym e) all.0, among_all P xs ys is all.1)
+among_all P (x ∷ xs) (y ∷ ys) (inr is) all = among_all P (x ∷ xs) ys is all.1
+
+among_distinct : (xs ys : List (List ℕ)) → IsAmong xs ys → IsDistinct bytes_eq ys → IsDistinct bytes_eq xs
+unfolding IsAmong IsDistinct
+among_distinct [] ys is distinct = tt
+among_distinct (x ∷ xs) [] is distinct = absurd is
+among_distinct (x ∷ xs) (y ∷ ys) (inl (e, is)) distinct = (
+  subst (λ z. AllByRecursion (λ other. bytes_eq z other ≡ false) xs) (sym e) (among_all (λ other. bytes_eq y other ≡ false) xs ys is distinct.0),
+  among_distinct xs ys is distinct.1,
+)
+among_distinct (x ∷ xs) (y ∷ ys) (inr is) distinct = among_distinct (x ∷ xs) ys is distinct.1
+
+among_held : (name : List ℕ) (xs ys : List (List ℕ)) → IsAmong xs ys → Among name xs → Among name ys
+unfolding IsAmong Among
+among_held name [] ys is held = absurd held
+among_held name (x ∷ xs) [] is held = absurd is
+among_held name (x ∷ xs) (y ∷ ys) (inl (e, is)) (inl same) = inl (same ∙ e)
+among_held name (x ∷ xs) (y ∷ ys) (inl (e, is)) (inr held) = inr (among_held name xs ys is held)
+among_held name (x ∷ xs) (y ∷ ys) (inr is) held = inr (among_held name (x ∷ xs) ys is held)
+
+entries_claim : (addresses : List SectionAddress) (entries : List Entry) → IsAmong (map (λ (d : SymbolDefinition). d.name) (filter_map (defined_by_entry addresses) entries)) (filter_map claimed_name entries)
+unfolding IsAmong
+entries_claim addresses [] = tt
+entries_claim addresses (Auxiliary bytes ∷ entries) = entries_claim addresses entries
+entries_claim addresses (ASymbol s ∷ entries) =
+    elim (cases_Bool (is_defined_external s)) [
+      | inl is ↦ rw (is, defined_is_claimed s is) (inl (refl, entries_claim addresses entries))
+      | inr other ↦ elim (cases_Bool (is_shared s && not (is_reference s))) [
+        | inl claims ↦ rw (other, claims) (among_skip (map (λ (d : SymbolDefinition). d.name) (filter_map (defined_by_entry addresses) entries)) s.name (filter_map claimed_name entries) (entries_claim addresses entries))
+        | inr none ↦ rw (other, none) (entries_claim addresses entries)
+      ]
+    ]
+
+objects_claim : (objects : List Object) (b : Bases) → IsAmong (map (λ (d : SymbolDefinition). d.name) (definitions (placed_from b objects))) (flat_map claimed_names objects)
+unfolding IsAmong
+objects_claim [] b = tt
+objects_claim (o ∷ objects) b =
+    let addresses = section_addresses_of b o.sections in
+    let own : List SymbolDefinition = filter_map (defined_by_entry addresses) o.entries in
+    let others : List SymbolDefinition = definitions (placed_from (ends_after b o.sections) objects) in
+    subst (λ names. IsAmong names (claimed_names o ++ flat_map claimed_names objects)) (sym (map-append (λ (d : SymbolDefinition). d.name) own others))
+    (among_append (map (λ (d : SymbolDefinition). d.name) own) (claimed_names o) (map (λ (d : SymbolDefinition). d.name) others) (flat_map claimed_names objects)
+    (entries_claim addresses o.entries) (objects_claim objects (ends_after b o.sections)))
+
+-- Parts, one after another.
+
+module _ (machine : MachineType) (linked : List Placed) (image : List Range) (low : AllByRecursion (λ r. 0 < r.start) image) (high : AllByRecursion (λ r. range_end r < 2 ^ 31) image) where
+  abbrev blocks_of : List Part → List Block
+  blocks_of parts = map (λ (p : Part). p.table) parts
+
+  -- where a part is placed
+  pub record IsPlaced (b : Bases) (address : ℕ) (objects all : List Object) : Type 0 where
+    pub bases : Bases
+    pub rest : List Object
+    pub aligned : AreAligned bases
+    pub addresses : bases.addresses ≡ address
+    pub held : (q : Placed) → Among q (placed_from bases (objects ++ rest)) → Among q (placed_from b all)
+
+  -- what is known of parts that are placed from bases on, with other objects after them
+  record PartsLink (b : Bases) (parts : List Part) (later : List Object) : Type 0 where
+    pub behind : Bases
+    pub aligned : AreAligned behind
+    pub located : LocatedFrom machine linked image behind later
+    pub directory : BytesAt image behind.descriptors (zeros 20) → DirectoryAt image (thunk_width machine) b.descriptors (map imported_by_block (blocks_of parts))
+    pub at : (i : ℕ) (p : Part) → slice_get parts i ≡ Some p → IsPlaced b (b.addresses + thunk_width machine * entries_until i (blocks_of parts)) p.objects (objects_of_parts parts ++ later)
+    pub fields : (i : ℕ) (x : Block) → slice_get (blocks_of parts) i ≡ Some x → NumberAt image 4 (b.descriptors + 20 * i + 16) (b.addresses + thunk_width machine * entries_until i (blocks_of parts))
+    pub symbols : (i j : ℕ) (x : Block) (e : TableEntry) (name : List ℕ) → slice_get (blocks_of parts) i ≡ Some x → slice_get x.entries j ≡ Some e → e.symbol ≡ Some name →
+        definitions_of name linked ≡ record { name = name; address = Some (b.addresses + thunk_width machine * entries_until i (blocks_of parts) + thunk_width machine * j) } ∷ []
+
+  one_part : (objects : List Object) (table : Block) (b : Bases) (later : List Object) → BeginWithHead machine objects table → AllByRecursion HoldsFields objects → AreAligned b →
+      LocatedFrom machine linked image b (objects ++ later) → ((d : SymbolDefinition) → Among d (definitions (placed_from b (objects ++ later))) → definitions_of d.name linked ≡ d ∷ []) →
+      PartLinks machine linked image low high b objects table.dll table.entries
+  unfolding BeginWithHead
+  one_part [] table b later is sized level located only = absurd is
+  one_part (o ∷ objects) table b later is sized level located only = part_links machine linked image low high o objects later table.dll table.entries b level sized located is.0 is.1 only
+
+  parts_link : (parts : List Part) (b : Bases) (later : List Object) → AllByRecursion (IsPart machine) parts → AreAligned b → LocatedFrom machine linked image b (objects_of_parts parts ++ later) →
+      ((d : SymbolDefinition) → Among d (definitions (placed_from b (objects_of_parts parts ++ later))) → definitions_of d.name linked ≡ d ∷ []) → PartsLink b parts later
+  unfolding DirectoryAt
+  parts_link [] b later are level located only = record {
+    behind = b;
+    aligned = level;
+    located = located;
+    directory = λ null. null;
+    at = λ i p is. cc;
+    fields = λ i x is. cc;
+    symbols = λ i j x e name is asked named. cc;
+  }
+  parts_link (p ∷ parts) b later (is, are) level located only =
+      let rest : List Object = objects_of_parts parts ++ later in
+      let joined : (p.objects ++ objects_of_parts parts) ++ later ≡ p.objects ++ rest = append_assoc p.objects (objects_of_parts parts) later in
+      let next : Bases = ends_behind b p.objects in
+      let all_located : LocatedFrom machine linked image b (p.objects ++ rest) = subst (LocatedFrom machine linked image b) joined located in
+      let all_only = subst (λ os. (d : SymbolDefinition) → Among d (definitions (placed_from b os)) → definitions_of d.name linked ≡ d ∷ []) joined only in
+      let one = one_part p.objects p.table b rest is.objects is.sized level all_located all_only in
+      let front : List SymbolDefinition = definitions (placed_from b p.objects) in
+      let behind : List SymbolDefinition = definitions (placed_from next rest) in
+      let split : definitions (placed_from b (p.objects ++ rest)) ≡ front ++ behind =
+      ap definitions (placed_parts b p.objects rest) ∙ flat_map-append defined_by (placed_from b p.objects) (placed_from next rest) in
+      let others = parts_link parts next later are one.aligned (located_behind machine linked image b p.objects rest is.sized all_located)
+      (λ d m. all_only d (subst (Among d) (sym split) (among_back d front behind m))) in
+      record {
+        behind = others.behind;
+        aligned = others.aligned;
+        located = others.located;
+        directory = λ null. (one.loads.loads, subst (λ n. DirectoryAt image (thunk_width machine) n (map imported_by_block (blocks_of parts))) one.descriptors_end (others.directory null));
+        at = places one.addresses_end level others.at;
+        fields = fields one others.fields;
+        symbols = symbols one others.symbols;
+      }
+    where
+      places : (ends_behind b p.objects).addresses ≡ b.addresses + thunk_width machine * (length p.table.entries + 1) → AreAligned b →
+          ((i : ℕ) (x : Part) → slice_get parts i ≡ Some x →
+          IsPlaced (ends_behind b p.objects) ((ends_behind b p.objects).addresses + thunk_width machine * entries_until i (blocks_of parts)) x.objects (objects_of_parts parts ++ later)) →
+          (i : ℕ) (x : Part) → slice_get (p ∷ parts) i ≡ Some x →
+          IsPlaced b (b.addresses + thunk_width machine * entries_until i (p.table ∷ blocks_of parts)) x.objects ((p.objects ++ objects_of_parts parts) ++ later)
+      places end level rest zero x is =
+          let same : p ≡ x = cc in
+          subst (λ (y : Part). IsPlaced b (b.addresses + thunk_width machine * 0) y.objects ((p.objects ++ objects_of_parts parts) ++ later)) same (record {
+            bases = b;
+            rest = objects_of_parts parts ++ later;
+            aligned = level;
+            addresses = plus_zero b.addresses (thunk_width machine);
+            held = λ q m. subst (λ os. Among q (placed_from b os)) (sym (append_assoc p.objects (objects_of_parts parts) later)) m;
+          })
+      places end level rest (suc i) x is =
+          let found = rest i x is in
+          record {
+            bases = found.bases;
+            rest = found.rest;
+            aligned = found.aligned;
+            addresses = found.addresses ∙ ap (λ n. n + thunk_width machine * entries_until i (blocks_of parts)) end
+                ∙ table_sum b.addresses (thunk_width machine) (length p.table.entries + 1) (entries_until i (blocks_of parts));
+            held = λ q m.
+                subst (λ os. Among q (placed_from b os)) (sym (append_assoc p.objects (objects_of_parts parts) later))
+                (subst (Among q) (sym (placed_parts b p.objects (objects_of_parts parts ++ later)))
+                (among_back q (placed_from b p.objects) (placed_from (ends_behind b p.objects) (objects_of_parts parts ++ later)) (found.held q m)));
+          }
+
+      fields : PartLinks machine linked image low high b p.objects p.table.dll p.table.entries →
+          ((i : ℕ) (x : Block) → slice_get (blocks_of parts) i ≡ Some x →
+          NumberAt image 4 ((ends_behind b p.objects).descriptors + 20 * i + 16) ((ends_behind b p.objects).addresses + thunk_width machine * entries_until i (blocks_of parts))) →
+          (i : ℕ) (x : Block) → slice_get (p.table ∷ blocks_of parts) i ≡ Some x → NumberAt image 4 (b.descriptors + 20 * i + 16) (b.addresses + thunk_width machine * entries_until i (p.table ∷ blocks_of parts))
+      fields one rest zero x is =
+          let first : b.descriptors + 16 ≡ b.descriptors + 20 * 0 + 16 = omega arith in
+          subst (λ n. NumberAt image 4 n (b.addresses + thunk_width machine * 0)) first
+          (subst (NumberAt image 4 (b.descriptors + 16)) (one.loads.table_located ∙ plus_zero b.addresses (thunk_width machine)) one.loads.loads.plain.addresses_field)
+      fields one rest (suc i) x is =
+          let row : (ends_behind b p.objects).descriptors + 20 * i + 16 ≡ b.descriptors + 20 * suc i + 16 =
+          ap (λ n. n + 20 * i + 16) one.descriptors_end ∙ ap (λ n. n + 16) (plus_sum b.descriptors i) in
+          let table : (ends_behind b p.objects).addresses + thunk_width machine * entries_until i (blocks_of parts) ≡ b.addresses + thunk_width machine * (length p.table.entries + 1 + entries_until i (blocks_of parts)) =
+          ap (λ n. n + thunk_width machine * entries_until i (blocks_of parts)) one.addresses_end
+          ∙ table_sum b.addresses (thunk_width machine) (length p.table.entries + 1) (entries_until i (blocks_of parts)) in
+          subst (λ n. NumberAt image 4 n (b.addresses + thunk_width machine * (length p.table.entries + 1 + entries_until i (blocks_of parts)))) row
+          (subst (NumberAt image 4 ((ends_behind b p.objects).descriptors + 20 * i + 16)) table (rest i x is))
+
+      symbols : PartLinks machine linked image low high b p.objects p.table.dll p.table.entries →
+          ((i j : ℕ) (x : Block) (e : TableEntry) (name : List ℕ) → slice_get (blocks_of parts) i ≡ Some x → slice_get x.entries j ≡ Some e → e.symbol ≡ Some name →
+          definitions_of name linked ≡ record { name = name; address = Some ((ends_behind b p.objects).addresses + thunk_width machine * entries_until i (blocks_of parts) + thunk_width machine * j) } ∷ []) →
+          (i j : ℕ) (x : Block) (e : TableEntry) (name : List ℕ) → slice_get (p.table ∷ blocks_of parts) i ≡ Some x → slice_get x.entries j ≡ Some e → e.symbol ≡ Some name →
+          definitions_of name linked ≡ record { name = name; address = Some (b.addresses + thunk_width machine * entries_until i (p.table ∷ blocks_of parts) + thunk_width machine * j) } ∷ []
+      symbols one rest zero j x e name is asked named =
+          let same : p.table ≡ x = cc in
+          one.symbols j e name (subst (λ (y : Block). slice_get y.entries j ≡ Some e) (sym same) asked) named
+          ∙ ap (λ n. record { name = name; address = Some (n + thunk_width machine * j) } ∷ []) (plus_zero b.addresses (thunk_width machine))
+      symbols one rest (suc i) j x e name is asked named =
+          rest i j x e name is asked named
+          ∙ ap (λ n. record { name = name; address = Some (n + thunk_width machine * j) } ∷ [])
+          (ap (λ n. n + thunk_width machine * entries_until i (blocks_of parts)) one.addresses_end
+          ∙ table_sum b.addresses (thunk_width machine) (length p.table.entries + 1) (entries_until i (blocks_of parts)))
+
+-- The law.
+
+module _ (machine : MachineType) (b : Bases) (parts : List Part) (objects : List Object) (are : AllByRecursion (IsPart machine) parts) (program : IsProgramOfParts machine b parts objects) where
+  abbrev linked : List Placed
+  linked = placed_from b objects
+
+  abbrev image : List Range
+  image = image_of machine b (placed_from b objects)
+
+  abbrev kept : List Object
+  kept = objects_of_parts parts ++ null_descriptor ∷ []
+
+  group_located : (group : Group) → BytesAt image (base_of group b) (filled (base_of group b) (contributions machine linked group linked)) →
+      BytesAt image (base_of group b) (filled (base_of group b) (contributions machine linked group (placed_from b kept)))
+  group_located group located =
+      subst (λ os. BytesAt image (base_of group b) (filled (base_of group b) (contributions machine linked group (placed_from b os)))) program.tables
+      (subst (λ cs. BytesAt image (base_of group b) (filled (base_of group b) cs)) (contributions_kept machine linked group b objects) located)
+
+  located : LocatedFrom machine linked image b kept
+  located =
+      let all = each_located machine b objects program.admissible in
+      record {
+        descriptors = group_located Descriptors all.descriptors;
+        lookups = group_located Lookups all.lookups;
+        addresses = group_located Addresses all.addresses;
+        hint_names = group_located HintNames all.hint_names;
+        dll_names = group_located DllNames all.dll_names;
+      }
+
+  claimed : flat_map claimed_names kept ≡ names_of_parts parts
+  claimed = flat_map-append claimed_names (objects_of_parts parts) (null_descriptor ∷ []) ∙ append-nil (names_of_parts parts)
+
+  among : IsAmong (map (λ (d : SymbolDefinition). d.name) (definitions (placed_from b kept))) (names_of_parts parts)
+  among = subst (IsAmong (map (λ (d : SymbolDefinition). d.name) (definitions (placed_from b kept)))) claimed (objects_claim kept b)
+
+  only : (d : SymbolDefinition) → Among d (definitions (placed_from b kept)) → definitions_of d.name linked ≡ d ∷ []
+  only d m =
+      let names : List (List ℕ) = names_of_parts parts in
+      let defined : List SymbolDefinition = definitions (placed_from b kept) in
+      let listed : Among d.name names = among_held d.name (map (λ (x : SymbolDefinition). x.name) defined) names among (among_map (λ (x : SymbolDefinition). x.name) d defined m) in
+      definitions_kept d.name b objects (all_claim d.name names listed (filter (λ o. not (has_tables o)) objects) program.others)
+      ∙ ap (λ os. definitions_of d.name (placed_from b os)) program.tables
+      ∙ only_definition d defined m (among_distinct (map (λ (x : SymbolDefinition). x.name) defined) names among program.distinct)
+
+  links : PartsLink machine linked image (starts machine b objects program.admissible) (ends machine b objects program.admissible) b parts (null_descriptor ∷ [])
+  links =
+      parts_link machine linked image (starts machine b objects program.admissible) (ends machine b objects program.admissible) parts b (null_descriptor ∷ []) are
+      (even machine b objects program.admissible) located only
+
+  pub parts_tables : AreTables machine (tables_at machine b objects (map (λ (p : Part). p.table) parts))
+  parts_tables =
+      are_packed machine image linked b.descriptors b.addresses (map (λ (p : Part). p.table) parts) (starts machine b objects program.admissible) (ends machine b objects program.admissible)
+      (links.directory (null_located machine linked image links.behind links.aligned links.located)) links.fields links.symbols
+
+  -- an object of a part that is placed, and what it defines
+  pub part_placed : (i : ℕ) (p : Part) → slice_get parts i ≡ Some p →
+      IsPlaced machine linked image (starts machine b objects program.admissible) (ends machine b objects program.admissible) b (b.addresses + thunk_width machine * entries_until i (map (λ (x : Part). x.table) parts)) p.objects (objects_of_parts parts ++ null_descriptor ∷ [])
+  part_placed = links.at
+
+  pub kept_is_linked : (q : Placed) → Among q (placed_from b (objects_of_parts parts ++ null_descriptor ∷ [])) → Among q (placed_from b objects)
+  kept_is_linked q m =
+      among_filter (λ (x : Placed). has_tables x.object) q (placed_from b objects)
+      (subst (Among q) (ap (placed_from b) (sym program.tables) ∙ sym (placed_kept b objects)) m)
+
+  pub defined_once : (q : Placed) (d : SymbolDefinition) → Among q (placed_from b (objects_of_parts parts ++ null_descriptor ∷ [])) → Among d (defined_by q) → definitions_of d.name (placed_from b objects) ≡ d ∷ []
+  defined_once q d m held = only d (among_flat defined_by q (placed_from b (objects_of_parts parts ++ null_descriptor ∷ [])) d m held)

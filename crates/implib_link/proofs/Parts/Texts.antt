@@ -1,0 +1,281 @@
+-- What an object's symbols lead to in an image, and what its thunks ask for there.
+use Rattle.std.proofs.Common.{◌≡◌, ℕ, zero, suc, ◌+◌, ◌*◌, ◌-◌, ◌%◌, ◌/◌, ◌^◌, ◌<◌, true, List, [], ◌∷◌, ◌++◌, length, Option, Some, None, refl, ap, sym, ◌∙◌, subst, inl, inr, arith}
+use Rattle.std.specs.Prelude.{◌&&◌, ◌==◌, bytes_eq, drop, nat_lt, slice_get, take}
+use Rattle.std.specs.List.{AllByRecursion, filter_map}
+use Rattle.std.specs.Option.{option_and_then, option_map}
+use Rattle.std.proofs.lemmas.Bool.{and_parts, cases_Bool, eqb-true, ltb-true, ne_eqb}
+use Rattle.std.proofs.lemmas.List.{append_assoc, length-replicate}
+use Rattle.std.proofs.lemmas.Slice.Eq.{bytes_eq-Decides}
+use Rattle.implib.specs.declared.coff.object.Relocation.{Relocation}
+use Rattle.implib.specs.declared.machine.MachineType.{MachineType}
+use Rattle.implib.specs.Ascii.{holds}
+use Rattle.implib.specs.Formats.Bytes.{u16_bytes, u32_bytes}
+use Rattle.implib.specs.Formats.Constants.{image_relative}
+use Rattle.implib.specs.Formats.File.{is_defined_external}
+use Rattle.implib.specs.Formats.Layout.{HasNoNul}
+use Rattle.implib.specs.Formats.Object.{ASymbol, Auxiliary, Entry, Object, ObjectSection, before_nul, section_numbered}
+use Rattle.implib.specs.Import.{Ask, Name, Ordinal}
+use Rattle.implib.specs.Link.Image.{Contribution, Range, contributions, filled, range_end, relocated, with_address}
+use Rattle.implib.specs.Link.Load.{BytesAt, number_in}
+use Rattle.implib.specs.Link.Placement.{Addresses, Bases, Descriptors, DirectoryEnds, DllNames, Group, HintNames, Lookups, Placed, base_of, ends_after, group_named, placed_from, section_addresses_of}
+use Rattle.implib.specs.Link.Resolution.{SymbolDefinition, address_in, address_or_zero, defined_by_entry, is_undefined_external, symbol_address, target_address}
+use Rattle.implib.specs.Members.ImportTables.{thunk_width, zeros}
+use Rattle.implib.proofs.Link.Linked.{LocatedFrom, contribution_located, same_order}
+use Rattle.implib.proofs.Link.Placement.{length-thunk_of}
+use Rattle.implib.proofs.Link.Ranges.{Among, among_first, among_later, located_parts}
+use Rattle.implib.proofs.Link.Thunks.{StrictThunkAt, name_located, ordinal_located, with_address-zeros}
+use Rattle.implib_link.specs.Gnu.Packed.{sections_end}
+use Rattle.implib_link.specs.Parts.{ask_of, bytes_at_symbol, bytes_from, has_none, hint_and_name, holds_texts, is_field, is_of, named_bytes_in, null_thunk_of, only_section, ordinal_with, own_bytes, sections_of, thunk_ask}
+use Rattle.implib_link.proofs.Gnu.Sized.{IsSized}
+use Rattle.implib_link.proofs.Parts.Sections.{nth_placed, one_ends, one_is, one_placed}
+
+-- The groups whose bytes are located.
+
+abbrev pub IsCarried : Group → Type 0
+IsCarried Descriptors = Unit {0}
+IsCarried DirectoryEnds = ⊥
+IsCarried Lookups = Unit {0}
+IsCarried Addresses = Unit {0}
+IsCarried HintNames = Unit {0}
+IsCarried DllNames = Unit {0}
+
+texts_group : (named : Option Group) → holds_texts named ≡ true → (group : Group) × (IsCarried group × (is_of group named ≡ true))
+texts_group None is = cc
+texts_group (Some Descriptors) is = cc
+texts_group (Some DirectoryEnds) is = cc
+texts_group (Some Lookups) is = cc
+texts_group (Some Addresses) is = cc
+texts_group (Some HintNames) is = (HintNames, (tt, refl))
+texts_group (Some DllNames) is = (DllNames, (tt, refl))
+
+pub carried : (machine : MachineType) (linked : List Placed) (image : List Range) (b : Bases) (objects : List Object) (group : Group) → IsCarried group → LocatedFrom machine linked image b objects →
+    BytesAt image (base_of group b) (filled (base_of group b) (contributions machine linked group (placed_from b objects)))
+carried machine linked image b objects Descriptors is located = located.descriptors
+carried machine linked image b objects DirectoryEnds is located = absurd is
+carried machine linked image b objects Lookups is located = located.lookups
+carried machine linked image b objects Addresses is located = located.addresses
+carried machine linked image b objects HintNames is located = located.hint_names
+carried machine linked image b objects DllNames is located = located.dll_names
+
+-- Bytes.
+
+drop_located : (image : List Range) (n : ℕ) (bytes : List ℕ) (a : ℕ) → BytesAt image a bytes → BytesAt image (a + n) (drop n bytes)
+unfolding BytesAt
+drop_located image zero bytes a located = subst (λ m. BytesAt image m bytes) (omega arith) located
+drop_located image (suc n) [] a located = tt
+drop_located image (suc n) (x ∷ bytes) a located =
+    let same : a + 1 + n ≡ a + suc n = omega arith in
+    subst (λ m. BytesAt image m (drop n bytes)) same (drop_located image n bytes (a + 1) located.1)
+
+free_next : (n : ℕ) (text : List ℕ) → HasNoNul text → HasNoNul (suc n ∷ text)
+free_next n text free = rw (ne_eqb (suc n) 0 (λ same. omega arith)) free
+
+pub ended_is : (bytes text : List ℕ) → before_nul bytes ≡ Some text → (rest : List ℕ) × ((bytes ≡ text ++ 0 ∷ rest) × HasNoNul text)
+unfolding before_nul
+ended_is [] text is = cc
+ended_is (zero ∷ bytes) text is = let same : [] ≡ text = cc in (bytes, (ap (λ t. t ++ 0 ∷ bytes) same, ap (holds 0) (sym same)))
+ended_is (suc n ∷ bytes) text is = go (λ t at. ended_is bytes t at) (before_nul bytes) refl is
+  where
+    go : ((t : List ℕ) → before_nul bytes ≡ Some t → (rest : List ℕ) × ((bytes ≡ t ++ 0 ∷ rest) × HasNoNul t)) → (found : Option (List ℕ)) → before_nul bytes ≡ found →
+        option_map (λ t. suc n ∷ t) found ≡ Some text → (rest : List ℕ) × ((suc n ∷ bytes ≡ text ++ 0 ∷ rest) × HasNoNul text)
+    go rest None at is = cc
+    go rest (Some t) at is =
+        let later = rest t at in
+        let same : suc n ∷ t ≡ text = cc in
+        (later.0, (ap (λ xs. suc n ∷ xs) later.1.0 ∙ ap (λ xs. xs ++ 0 ∷ later.0) same, subst HasNoNul same (free_next n t later.1.1)))
+
+u16_is : (low high : ℕ) → low < 256 → high < 256 → u16_bytes (low + 256 * high) ≡ low ∷ high ∷ []
+unfolding u16_bytes
+u16_is low high small below =
+    let first : (low + 256 * high) % 256 ≡ low = omega arith in
+    let second : (low + 256 * high) / 256 % 256 ≡ high = omega arith in
+    rw (first, second) refl
+
+hint_small : (low high : ℕ) → low < 256 → high < 256 → low + 256 * high < 2 ^ 16
+hint_small low high small below = omega arith
+
+pub plus_none : (n : ℕ) → n + 0 ≡ n
+plus_none n = omega arith
+
+-- Sections of an object that is placed first from bases on.
+module _ (machine : MachineType) (linked : List Placed) (image : List Range) (starts : AllByRecursion (λ r. 0 < r.start) image) (ends : AllByRecursion (λ r. range_end r < 2 ^ 31) image)
+    (o : Object) (b : Bases) (rest : List Object) (sized : IsSized o) (located : LocatedFrom machine linked image b (o ∷ rest)) where
+  abbrev p : Placed
+  p = record { object = o; section_addresses = section_addresses_of b o.sections }
+
+  -- the bytes that a symbol of its own leads to
+  plain_bytes : (x : ObjectSection) (relocations : List Relocation) (value : ℕ) (bytes : List ℕ) → bytes_from x relocations value ≡ Some bytes →
+      (relocations ≡ []) × ((holds_texts (group_named x.name) ≡ true) × (drop value x.bytes ≡ bytes))
+  plain_bytes x [] value bytes is =
+      elim (cases_Bool (holds_texts (group_named x.name))) [
+        | inl texts ↦ let here : Some (drop value x.bytes) ≡ Some bytes = rw texts at is in (refl, (texts, cc))
+        | inr other ↦ let none : None ≡ Some bytes = rw other at is in cc
+      ]
+  plain_bytes x (r ∷ relocations) value bytes is = cc
+
+  in_section : (k value : ℕ) (bytes : List ℕ) (found : Option ObjectSection) → slice_get o.sections k ≡ found → option_and_then (λ (x : ObjectSection). bytes_from x x.relocations value) found ≡ Some bytes →
+      (a : ℕ) × ((address_in (section_addresses_of b o.sections) (suc k) value ≡ Some a) × BytesAt image a bytes)
+  in_section k value bytes None at is = cc
+  in_section k value bytes (Some x) at is =
+      let plain = plain_bytes x x.relocations value bytes is in
+      let group = texts_group (group_named x.name) plain.1.0 in
+      let nth = nth_placed machine linked p group.0 image o.sections b k x (contributions machine linked group.0 (placed_from (ends_after b o.sections) rest)) sized at group.1.1
+      (carried machine linked image b (o ∷ rest) group.0 group.1.0 located) in
+      let whole : BytesAt image nth.0 x.bytes = subst (λ rs. BytesAt image nth.0 (relocated machine linked p rs x.bytes)) plain.0 nth.1.1 in
+      (nth.0 + value, (nth.1.0 value, subst (BytesAt image (nth.0 + value)) plain.1.1 (drop_located image value x.bytes nth.0 whole)))
+
+  in_numbered : (number value : ℕ) (bytes : List ℕ) → option_and_then (λ (x : ObjectSection). bytes_from x x.relocations value) (section_numbered o.sections number) ≡ Some bytes →
+      (a : ℕ) × ((address_in (section_addresses_of b o.sections) number value ≡ Some a) × BytesAt image a bytes)
+  in_numbered zero value bytes is = cc
+  in_numbered (suc k) value bytes is = in_section k value bytes (slice_get o.sections k) refl is
+
+  own_located : (found : Option Entry) (bytes : List ℕ) → own_bytes o found ≡ Some bytes → (a : ℕ) × ((option_and_then (symbol_address linked p) found ≡ Some a) × BytesAt image a bytes)
+  own_located None bytes is = cc
+  own_located (Some (Auxiliary other)) bytes is = cc
+  own_located (Some (ASymbol s)) bytes is =
+      elim (cases_Bool (is_undefined_external s)) [
+        | inl left ↦ let none : None ≡ Some bytes = rw left at is in cc
+        | inr own ↦
+            let here : bytes_at_symbol o s ≡ Some bytes = rw own at is in
+            let found = in_numbered s.section s.value bytes here in
+            (found.0, (rw own found.1.0, found.1.1))
+      ]
+
+  -- those at a symbol that it defines for others
+  pub named_located : (name : List ℕ) (entries : List Entry) (bytes : List ℕ) → named_bytes_in o name entries ≡ Some bytes →
+      (a : ℕ) × (Among (record { name = name; address = Some a }) (filter_map (defined_by_entry (section_addresses_of b o.sections)) entries) × BytesAt image a bytes)
+  named_located name [] bytes is = cc
+  named_located name (Auxiliary other ∷ entries) bytes is = named_located name entries bytes is
+  named_located name (ASymbol s ∷ entries) bytes is =
+      let addresses = section_addresses_of b o.sections in
+      elim (cases_Bool (is_defined_external s && bytes_eq name s.name)) [
+        | inl both ↦
+            let parts = and_parts (is_defined_external s) (bytes_eq name s.name) both in
+            let here : bytes_at_symbol o s ≡ Some bytes = rw both at is in
+            let found = in_numbered s.section s.value bytes here in
+            let same : name ≡ s.name = (bytes_eq-Decides name s.name).0 parts.1 in
+            let definition : record { name = s.name; address = address_in addresses s.section s.value } ≡ record { name = name; address = Some found.0 } =
+            ap (λ n. record { name = n; address = address_in addresses s.section s.value }) (sym same) ∙ ap (λ (a : Option ℕ). record { name = name; address = a }) found.1.0 in
+            let first : Among (record { name = s.name; address = address_in addresses s.section s.value }) (filter_map (defined_by_entry addresses) (ASymbol s ∷ entries)) = rw parts.0 (among_first _ _) in
+            (found.0, (subst (λ (d : SymbolDefinition). Among d (filter_map (defined_by_entry addresses) (ASymbol s ∷ entries))) definition first, found.1.1))
+        | inr other ↦
+            let later = named_located name entries bytes (rw other at is) in
+            (later.0, (elim (cases_Bool (is_defined_external s)) [ inl is_defined ↦ rw is_defined (among_later _ _ _ later.1.0) | inr none ↦ rw none later.1.0 ], later.1.1))
+      ]
+
+  -- its only section of a group
+  pub only_located : (group : Group) (s : ObjectSection) → IsCarried group → only_section group o ≡ Some s → base_of group b % 4 ≡ 0 →
+      BytesAt image (base_of group b) (relocated machine linked p s.relocations s.bytes) × (sections_end group (base_of group b) o.sections ≡ base_of group b + length s.bytes)
+  only_located group s is_carried is even =
+      let one = one_is (sections_of group o.sections) s is in
+      let bytes : List ℕ = relocated machine linked p s.relocations s.bytes in
+      let later : List Contribution = contributions machine linked group (placed_from (ends_after b o.sections) rest) in
+      let here : BytesAt image (base_of group b) (filled (base_of group b) (record { address = base_of group b; bytes = bytes } ∷ later)) =
+      subst (λ front. BytesAt image (base_of group b) (filled (base_of group b) (front ++ later))) (one_placed machine linked p group o.sections b s one.0 one.1 even)
+      (carried machine linked image b (o ∷ rest) group is_carried located) in
+      ((contribution_located image (base_of group b) (record { address = base_of group b; bytes = bytes }) later (same_order (base_of group b)) here).0, one_ends group o.sections (base_of group b) s one.0 one.1 even)
+
+  -- Thunks.
+
+  hint_located : (bytes : List ℕ) (ask : Ask) (place a : ℕ) → hint_and_name bytes ≡ Some ask → BytesAt image place bytes →
+      BytesAt image a (u32_bytes ((0 + (place + 0)) % 2 ^ 32) ++ zeros (thunk_width machine - 4)) → StrictThunkAt image (thunk_width machine) a ask
+  hint_located [] ask place a is held here = cc
+  hint_located (low ∷ []) ask place a is held here = cc
+  hint_located (low ∷ high ∷ bytes) ask place a is held here =
+      elim (cases_Bool (nat_lt low 256 && nat_lt high 256)) [
+        | inl both ↦
+            let parts = and_parts (nat_lt low 256) (nat_lt high 256) both in
+            named (ltb-true low 256 parts.0) (ltb-true high 256 parts.1) (before_nul bytes) refl (rw both at is)
+        | inr other ↦ let none : None ≡ Some ask = rw other at is in cc
+      ]
+    where
+      named : low < 256 → high < 256 → (found : Option (List ℕ)) → before_nul bytes ≡ found → option_map (λ text. Name text (low + 256 * high)) found ≡ Some ask → StrictThunkAt image (thunk_width machine) a ask
+      named small below None at is = cc
+      named small below (Some text) at is =
+          let ended = ended_is bytes text at in
+          let hint : List ℕ = u16_bytes (low + 256 * high) in
+          let whole : low ∷ high ∷ bytes ≡ (hint ++ (text ++ 0 ∷ [])) ++ ended.0 =
+          ap (λ xs. low ∷ high ∷ xs) (ended.1.0 ∙ sym (append_assoc text (0 ∷ []) ended.0))
+          ∙ ap (λ xs. xs ++ ((text ++ 0 ∷ []) ++ ended.0)) (sym (u16_is low high small below))
+          ∙ sym (append_assoc hint (text ++ 0 ∷ []) ended.0) in
+          let front = located_parts image (hint ++ (text ++ 0 ∷ [])) ended.0 place (subst (BytesAt image place) whole held) in
+          let same : Name text (low + 256 * high) ≡ ask = cc in
+          subst (StrictThunkAt image (thunk_width machine) a) same
+          (name_located machine image starts ends text (low + 256 * high) place a (hint_small low high small below) ended.1.1 here front.0)
+
+  field_is : (offset : ℕ) (r : Relocation) → is_field machine offset r ≡ true → ((r.kind == image_relative machine) ≡ true) × (r.offset ≡ offset)
+  field_is offset r is =
+      let parts = and_parts (r.kind == image_relative machine) (r.offset == offset) is in
+      (parts.0, eqb-true r.offset offset parts.1)
+
+  asked : (a : ℕ) (bytes : List ℕ) (relocations : List Relocation) (ask : Ask) → ask_of machine o bytes relocations ≡ Some ask → BytesAt image a (relocated machine linked p relocations bytes) →
+      StrictThunkAt image (thunk_width machine) a ask × (length bytes ≡ thunk_width machine)
+  asked a bytes [] ask is held = ordinal (number_in (take 2 bytes)) is
+    where
+      ordinal : (n : ℕ) → ordinal_with machine bytes n ≡ Some ask → StrictThunkAt image (thunk_width machine) a ask × (length bytes ≡ thunk_width machine)
+      ordinal n is =
+          let plain : List ℕ = u16_bytes n ++ (zeros (thunk_width machine - 3) ++ 0x80 ∷ []) in
+          elim (cases_Bool (bytes_eq bytes plain && nat_lt n (2 ^ 16))) [
+            | inl both ↦
+                let parts = and_parts (bytes_eq bytes plain) (nat_lt n (2 ^ 16)) both in
+                let same : bytes ≡ plain = (bytes_eq-Decides bytes plain).0 parts.0 in
+                let found : Some (Ordinal n) ≡ Some ask = rw both at is in
+                let asks : Ordinal n ≡ ask = cc in (
+                  subst (StrictThunkAt image (thunk_width machine) a) asks (ordinal_located machine image n a (ltb-true n (2 ^ 16) parts.1) (subst (BytesAt image a) same held)),
+                  ap length same ∙ length-thunk_of machine n true,
+                )
+            | inr other ↦ let none : None ≡ Some ask = rw other at is in cc
+          ]
+  asked a bytes (r ∷ []) ask is held =
+      elim (cases_Bool (is_field machine 0 r && bytes_eq bytes (zeros (thunk_width machine)))) [
+        | inl both ↦
+            let parts = and_parts (is_field machine 0 r) (bytes_eq bytes (zeros (thunk_width machine))) both in
+            let field = field_is 0 r parts.0 in
+            let same : bytes ≡ zeros (thunk_width machine) = (bytes_eq-Decides bytes (zeros (thunk_width machine))).0 parts.1 in
+            let plain : relocated machine linked p (r ∷ []) bytes ≡ with_address (zeros (thunk_width machine)) 0 (target_address linked p r.symbol) =
+            ap (relocated machine linked p (r ∷ [])) same ∙ rw (field.0, field.1) refl in
+            (led (own_bytes o (slice_get o.entries r.symbol)) refl (rw both at is) (subst (BytesAt image a) plain held), ap length same ∙ length-replicate {A = ℕ} (thunk_width machine) 0)
+        | inr other ↦ let none : None ≡ Some ask = rw other at is in cc
+      ]
+    where
+      led : (found : Option (List ℕ)) → own_bytes o (slice_get o.entries r.symbol) ≡ found → option_and_then hint_and_name found ≡ Some ask →
+          BytesAt image a (with_address (zeros (thunk_width machine)) 0 (target_address linked p r.symbol)) → StrictThunkAt image (thunk_width machine) a ask
+      led None at is here = cc
+      led (Some text) at is here =
+          let own = own_located (slice_get o.entries r.symbol) text at in
+          let target : target_address linked p r.symbol ≡ own.0 + 0 = ap address_or_zero own.1.0 ∙ sym (plus_none own.0) in
+          hint_located text ask own.0 a is own.1.1
+          (subst (BytesAt image a) (ap (with_address (zeros (thunk_width machine)) 0) target ∙ with_address-zeros machine (own.0 + 0)) here)
+  asked a bytes (r ∷ q ∷ relocations) ask is held = cc
+
+  -- an entry's thunk in a table
+  pub thunk_located : (group : Group) (ask : Ask) → IsCarried group → base_of group b % 4 ≡ 0 → thunk_ask machine group o ≡ Some ask →
+      StrictThunkAt image (thunk_width machine) (base_of group b) ask × (sections_end group (base_of group b) o.sections ≡ base_of group b + thunk_width machine)
+  thunk_located group ask is_carried even is = go (only_section group o) refl is
+    where
+      go : (found : Option ObjectSection) → only_section group o ≡ found → option_and_then (λ (s : ObjectSection). ask_of machine o s.bytes s.relocations) found ≡ Some ask →
+          StrictThunkAt image (thunk_width machine) (base_of group b) ask × (sections_end group (base_of group b) o.sections ≡ base_of group b + thunk_width machine)
+      go None at is = cc
+      go (Some s) at is =
+          let only = only_located group s is_carried at even in
+          let thunk = asked (base_of group b) s.bytes s.relocations ask is only.0 in
+          (thunk.0, only.1 ∙ ap (λ n. base_of group b + n) thunk.1)
+
+  none_left : (relocations : List Relocation) → has_none relocations ≡ true → relocations ≡ []
+  none_left [] is = refl
+  none_left (r ∷ relocations) is = cc
+
+  -- the tail's
+  pub null_located : (group : Group) → IsCarried group → base_of group b % 4 ≡ 0 → null_thunk_of machine (only_section group o) ≡ true →
+      BytesAt image (base_of group b) (zeros (thunk_width machine)) × (sections_end group (base_of group b) o.sections ≡ base_of group b + thunk_width machine)
+  null_located group is_carried even is = go (only_section group o) refl is
+    where
+      go : (found : Option ObjectSection) → only_section group o ≡ found → null_thunk_of machine found ≡ true →
+          BytesAt image (base_of group b) (zeros (thunk_width machine)) × (sections_end group (base_of group b) o.sections ≡ base_of group b + thunk_width machine)
+      go None at is = cc
+      go (Some s) at is =
+          let parts = and_parts (bytes_eq s.bytes (zeros (thunk_width machine))) (has_none s.relocations) is in
+          let same : s.bytes ≡ zeros (thunk_width machine) = (bytes_eq-Decides s.bytes (zeros (thunk_width machine))).0 parts.0 in
+          let only = only_located group s is_carried at even in
+          let plain : BytesAt image (base_of group b) s.bytes = subst (λ rs. BytesAt image (base_of group b) (relocated machine linked p rs s.bytes)) (none_left s.relocations parts.1) only.0 in
+          (subst (BytesAt image (base_of group b)) same plain, only.1 ∙ ap (λ n. base_of group b + n) (ap length same ∙ length-replicate {A = ℕ} (thunk_width machine) 0))

@@ -1,0 +1,5 @@
+use Rattle.implib_link.proofs.Parts.Stubs.{stub_beside}
+use Rattle.implib_link.proofs.laws.parts.names_are_stubs_beside_others.Goals as goal
+
+pub returns : goal.returns
+returns c = record { stubs = stub_beside }

@@ -1,0 +1,5 @@
+use Rattle.implib_link_instances.proofs.Worked.Parts.{worked_parts}
+use Rattle.implib_link_instances.proofs.laws.parts.worked_parts.Goals as goal
+
+pub returns : goal.returns
+returns c = worked_parts

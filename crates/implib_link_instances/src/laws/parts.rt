@@ -1,0 +1,13 @@
+//! Programs of libraries of GNU `dlltool` and of ours, as GNU `ld` wrote them.
+
+ghost use Rattle.implib_link_instances.specs.Worked.Parts.{WorkedParts, WorkedReach};
+
+/// Programs of such libraries have import tables: one on AMD64, and one on I386.
+pub fn worked_parts()
+    ensures { WorkedParts }
+{}
+
+/// What GNU C's code calls and jumps to through entries of one of these programs.
+pub fn worked_reach()
+    ensures { WorkedReach }
+{}
