@@ -290,7 +290,7 @@ static inline uint32_t implib_warnings(const struct implib_options *options, con
  * implib_members; the texts here are of any bytes. What a member does not say is 0 or empty.
  *
  *     number               how many members there are, and then of each, in their order
- *       number             its kind, an IMPLIB_IMPORT_..; those up to 4 are imports
+ *       number             its kind, an IMPLIB_IMPORT_..; those up to 4, and 10, are imports
  *       number             the offset of its header in the library
  *       text               of an import, the name of the DLL
  *       text               its symbol: of an import, that of its address without `__imp_`; of an alias, the alias
@@ -309,9 +309,10 @@ static inline uint32_t implib_imports(const uint8_t *bytes, size_t bytes_length,
 #define IMPLIB_IMPORT_CODE_OR_CONSTANT 4u /* objects for GNU's linker do not tell the two */
 #define IMPLIB_IMPORT_ALIAS 5u            /* a symbol that stands for another one */
 #define IMPLIB_IMPORT_TABLES 6u           /* a part of the import tables, as the descriptor of a DLL */
-#define IMPLIB_IMPORT_DELAYED 7u          /* a part of a library of delayed imports */
+#define IMPLIB_IMPORT_DELAYED 7u          /* a part of delayed imports that is not followed, as of data */
 #define IMPLIB_IMPORT_OTHER 8u            /* an object without import tables */
 #define IMPLIB_IMPORT_NOT_UNDERSTOOD 9u   /* neither, or import tables that lead nowhere */
+#define IMPLIB_IMPORT_DELAYED_CODE 10u    /* an import of code, whose DLL is loaded at the first call */
 
 /*
  * Puts what a DLL exports at the beginning of the buffer, and returns a status: IMPLIB_SUCCESS, IMPLIB_BUFFER_TOO_SMALL,

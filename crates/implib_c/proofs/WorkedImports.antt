@@ -40,6 +40,6 @@ bytes = record {
 pub worked_imports : WorkedImports
 worked_imports = record {
   rows = rows;
-  kinds = record { code = refl; data_kind = refl; constant = refl; code_or_constant = refl };
+  kinds = record { code = refl; data_kind = refl; constant = refl; code_or_constant = refl; delayed = refl };
   bytes = bytes;
 }

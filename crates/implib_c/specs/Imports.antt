@@ -5,7 +5,7 @@ use Rattle.std.specs.Option.{option_and_then, option_map}
 use Rattle.implib.specs.Import.{Ask, Name, Ordinal}
 use Rattle.implib_read.specs.Classes.{AnAlias, AnImport, Class, DelayImport, Descriptor, Head, Imported, MemberRead, NotUnderstood, NullDescriptor, NullThunk, Other, Tail, library_in}
 use Rattle.implib_read.specs.declared.import.ImportKind.{ImportKind}
-use Rattle.implib_read.specs.declared.import.ImportKind.TheVariants.{Code, CodeOrConst, Const, Data}
+use Rattle.implib_read.specs.declared.import.ImportKind.TheVariants.{Code, CodeOrConst, Const, Data, Delayed}
 use Rattle.implib_read.specs.Symbols.{linked_symbol}
 use Rattle.implib_c.specs.Encoding.{encoded_list, encoded_number, encoded_text, list_in, number_in, text_in}
 
@@ -27,6 +27,7 @@ kind_number Code = 1
 kind_number Data = 2
 kind_number Const = 3
 kind_number CodeOrConst = 4
+kind_number Delayed = 10
 
 -- 1 where a name is asked for, and 0 where an ordinal is
 abbrev pub by_name_of : Ask → ℕ

@@ -3,7 +3,7 @@ use Rattle.std.specs.Prelude.{◌≡◌, ℕ, List, [], ◌∷◌, ◌++◌, Non
 use Rattle.implib.specs.Worked.Digits.{hex}
 use Rattle.implib_read.specs.Classes.{AnAlias, DelayImport, NotUnderstood, Other}
 use Rattle.implib_read.specs.WorkedLibraries.{member, worked_ld, worked_llvm}
-use Rattle.implib_read.specs.declared.import.ImportKind.TheVariants.{Code, CodeOrConst, Const, Data}
+use Rattle.implib_read.specs.declared.import.ImportKind.TheVariants.{Code, CodeOrConst, Const, Data, Delayed}
 use Rattle.implib_c.specs.Imports.{Row, alias_row, encoded_row, encoded_rows, kind_number, other_row, row_of, rows_in, rows_of}
 
 -- a row of an import of foo.dll for AMD64
@@ -85,6 +85,7 @@ pub record WorkedKinds : Type 0 where
   pub data_kind : kind_number Data ≡ 2
   pub constant : kind_number Const ≡ 3
   pub code_or_constant : kind_number CodeOrConst ≡ 4
+  pub delayed : kind_number Delayed ≡ 10
 
 -- the encodings, and what is read of bytes that are none
 pub record WorkedRowBytes : Type 0 where

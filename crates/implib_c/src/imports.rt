@@ -40,6 +40,7 @@ fn kind_number(kind: ImportKind) -> u64
         ImportKind::Data => 2,
         ImportKind::Const => 3,
         ImportKind::CodeOrConst => 4,
+        ImportKind::Delayed => 10,
     }
 }
 

@@ -32,7 +32,8 @@ use Rattle.implib_archive.specs.Archive.{archive_of}
 use Rattle.implib_archive.specs.Refusal.{refusal_of}
 use Rattle.implib_archive.specs.declared.kind.Kind.{Kind}
 use Rattle.implib_read.specs.Archives.{archive_in}
-use Rattle.implib_read.specs.Classes.{Class, AnImport, AnAlias, Descriptor, NullDescriptor, NullThunk, Head, Tail, DelayImport, Other, NotUnderstood, Imported, MemberRead, class_by_tables, class_of_file, class_of_sections, class_with, files_of, has_section, is_empty, kind_of_code, library_in, members_read}
+use Rattle.implib_read.specs.Classes.{Class, AnImport, AnAlias, Descriptor, NullDescriptor, NullThunk, Head, Tail, DelayImport, Other, NotUnderstood, Imported, MemberRead, class_by_delayed_tables, class_by_helper, class_by_tables, class_of_delayed_thunks, class_of_file, class_of_part, class_of_sections, class_with, files_of, has_section, is_empty, kind_of_code, library_in, members_read}
+use Rattle.implib_read.specs.Delayed.{calls_helper, delayed_import}
 use Rattle.implib_read.specs.Files.{definer_among, file_found}
 use Rattle.implib_read.specs.Files.{ObjectFile as FoundObject}
 use Rattle.implib_read.specs.Following.{Place}
@@ -53,6 +54,7 @@ use Rattle.implib_compare.specs.declared.working.Piece.{Piece}
 use Rattle.implib_compare.specs.declared.working.Piece.TheVariants as piece
 use Rattle.implib_compare.specs.declared.working.Working.TheVariants.{Works}
 use Rattle.implib_compare.specs.Comparison.{has_unread}
+use Rattle.implib_read.specs.declared.import.ImportKind.TheVariants.{Delayed}
 use Rattle.implib_read.specs.Identity.{dll_of, dlls_of, with_dll_of, with_name}
 use Rattle.implib_check.specs.OwnExportAs.{MeantIsMade, SaysWhatIsMade, has_third_text, imports_by_texts, imports_made}
 use Rattle.implib_check.specs.OwnLibraries.{by_export, meanings_read}
@@ -187,19 +189,49 @@ by_tables false None true (Some s) = by (is_empty s.bytes) (is_empty s.relocatio
     by false true = refl
     by false false = refl
 
+-- nor does it by its helper
+by_delayed : (t : Bool) (n : Option ObjectSection) → meaning_of_class (if t then class_of_delayed_thunks n else Other) ≡ None
+by_delayed false n = refl
+by_delayed true None = refl
+by_delayed true (Some s) = by_tables false None true (Some s)
+
+by_helper : (o : Object) (c : Class) → meaning_of_class c ≡ None → meaning_of_class (class_by_helper o c) ≡ None
+by_helper o (AnImport i) none = cc
+by_helper o (AnAlias a) none = cc
+by_helper o Descriptor none = refl
+by_helper o NullDescriptor none = refl
+by_helper o NullThunk none = refl
+by_helper o Head none = refl
+by_helper o Tail none = refl
+by_helper o DelayImport none = by (calls_helper o)
+  where
+    by : (b : Bool) → meaning_of_class (if b then Head else DelayImport) ≡ None
+    by true = refl
+    by false = refl
+by_helper o Other none = by (calls_helper o)
+  where
+    by : (b : Bool) → meaning_of_class (if b then Head else class_by_delayed_tables o) ≡ None
+    by true = refl
+    by false = by_delayed (has_section o (codes ".didat$5")) (section_named o (codes ".didat$7"))
+by_helper o NotUnderstood none = refl
+
 -- an object is no short import that tells code
 object_untold : (defined : List ℕ → Option Place) (o : Object) (m : Meaning) → meaning_of_class (class_of_file defined (FoundObject o)) ≡ Some m
     → is_for_msvc (class_of_file defined (FoundObject o)) ≡ false
-object_untold defined o m means = by (alias_of_object o) (import_of_object defined o) means
+object_untold defined o m means = by (alias_of_object o) (import_of_object defined o) (delayed_import defined o) means
   where
-    by : (a : Option Alias) (i : Option Import)
-        → meaning_of_class (class_with o a (option_map (λ x. record { imports = x; kind = kind_of_code (externals_in o text_section); machine = o.machine }) i)) ≡ Some m
-        → is_for_msvc (class_with o a (option_map (λ x. record { imports = x; kind = kind_of_code (externals_in o text_section); machine = o.machine }) i)) ≡ false
-    by (Some a) i is = refl
-    by None (Some i) is = code_untold (externals_in o text_section)
-    by None None is =
-        let none : meaning_of_class (class_by_tables o) ≡ None =
-        by_tables (has_section o (codes ".idata$3")) (section_named o (codes ".idata$2")) (has_section o (codes ".idata$5")) (section_named o (codes ".idata$7")) in
+    by : (a : Option Alias) (i delayed : Option Import)
+        → meaning_of_class (class_with o a (option_map (λ x. record { imports = x; kind = kind_of_code (externals_in o text_section); machine = o.machine }) i)
+        (option_map (λ x. record { imports = x; kind = Delayed; machine = o.machine }) delayed)) ≡ Some m
+        → is_for_msvc (class_with o a (option_map (λ x. record { imports = x; kind = kind_of_code (externals_in o text_section); machine = o.machine }) i)
+        (option_map (λ x. record { imports = x; kind = Delayed; machine = o.machine }) delayed)) ≡ false
+    by (Some a) i delayed is = refl
+    by None (Some i) delayed is = code_untold (externals_in o text_section)
+    by None None (Some i) is = refl
+    by None None None is =
+        let none : meaning_of_class (class_of_part o) ≡ None =
+        by_helper o (class_by_tables o)
+        (by_tables (has_section o (codes ".idata$3")) (section_named o (codes ".idata$2")) (has_section o (codes ".idata$5")) (section_named o (codes ".idata$7"))) in
         let no : None ≡ Some m = sym none ∙ is in cc
 
 none_told : (defined : List ℕ → Option Place) (specs : List MemberSpec) (ms : List Meaning) → AreObjects specs

@@ -11,7 +11,7 @@ use Rattle.implib.specs.Import.{Alias, Ask, Name, Ordinal}
 use Rattle.implib.specs.Machine.{has_leading_underscore}
 use Rattle.implib_read.specs.Classes.{Class, AnImport, AnAlias, Descriptor, NullDescriptor, NullThunk, Head, Tail, DelayImport, Other, NotUnderstood, Imported, MemberRead}
 use Rattle.implib_read.specs.declared.import.ImportKind.{ImportKind}
-use Rattle.implib_read.specs.declared.import.ImportKind.TheVariants.{Code, CodeOrConst, Const, Data}
+use Rattle.implib_read.specs.declared.import.ImportKind.TheVariants.{Code, CodeOrConst, Const, Data, Delayed}
 use Rattle.implib_rules.specs.Linked.{NamingView, keeps_word}
 use Rattle.implib_rules.specs.Options.{LibraryOptionsView}
 use Rattle.implib_compare.specs.Facts.{tells_constants}
@@ -76,12 +76,13 @@ asked_text hints word (Ordinal ordinal) = codes " @" ++ (decimal ordinal ++ code
 asked_text hints word (Name name hint) =
     other_text word name ++ hint_ordinal hints hint
 
--- what an import is of
+-- what an import is of; no text says that one is delayed
 abbrev pub kind_text : ImportKind → List ℕ
 kind_text Code = []
 kind_text Data = codes " DATA"
 kind_text Const = codes " CONSTANT"
 kind_text CodeOrConst = []
+kind_text Delayed = []
 
 -- the hint, as a comment, where it is no ordinal
 abbrev pub hint_text : Bool → Ask → List ℕ

@@ -19,7 +19,7 @@ use Rattle.implib_read.specs.CuttingViews.{cut_apart_view}
 use Rattle.implib_read.specs.Indexes.{IndexEntry}
 use Rattle.implib_read.specs.IndexViews.{index_entry_view}
 use Rattle.implib_read.specs.declared.import.ImportKind.{ImportKind}
-use Rattle.implib_read.specs.declared.import.ImportKind.TheVariants.{Code, CodeOrConst, Const, Data as OfData}
+use Rattle.implib_read.specs.declared.import.ImportKind.TheVariants.{Code, CodeOrConst, Const, Data as OfData, Delayed}
 use Rattle.serde_json.specs.Data.{Data, Members, no_members, number, object, put, string, unsigned}
 use Rattle.serde_json.specs.Written.{compact_text}
 use Rattle.implib_check.specs.declared.finding.Export.{Export}
@@ -140,6 +140,7 @@ kind_word Code = codes "code"
 kind_word OfData = codes "data"
 kind_word Const = codes "const"
 kind_word CodeOrConst = codes "code-or-const"
+kind_word Delayed = codes "delayed"
 
 -- the words for a part of import tables
 abbrev pub piece_words : Piece → List ℕ

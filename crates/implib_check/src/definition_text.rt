@@ -169,12 +169,12 @@ fn push_asked(text: &mut Vec<u8>, hints: bool, word: &[u8], ask: AskFound) -> Re
     Ok(())
 }
 
-// What an import is of.
+// What an import is of. No text says that one is delayed.
 fn kind_text(kind: ImportKind) -> &'static [u8]
     ensures { result.now ≡ kind_text kind }
 {
     match kind {
-        ImportKind::Code | ImportKind::CodeOrConst => b"",
+        ImportKind::Code | ImportKind::CodeOrConst | ImportKind::Delayed => b"",
         ImportKind::Data => b" DATA",
         ImportKind::Const => b" CONSTANT",
     }

@@ -45,6 +45,7 @@ pub fn kind_word(kind: ImportKind) -> &'static str
         ImportKind::Data => "data",
         ImportKind::Const => "const",
         ImportKind::CodeOrConst => "code-or-const",
+        ImportKind::Delayed => "delayed",
     }
 }
 
@@ -171,7 +172,7 @@ impl<'p, 'm, 'a> fmt::Display for Place<'p, 'm, 'a> {
 pub fn doubt_of(class: &MemberClass, others: bool) -> Option<&'static str> {
     if is_unread(class) {
         return match class {
-            MemberClass::DelayImport => Some("part of a library of delayed imports"),
+            MemberClass::DelayImport => Some("part of delayed imports, and not followed"),
             _ => Some("not understood"),
         };
     }

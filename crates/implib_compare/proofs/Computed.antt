@@ -18,6 +18,9 @@ worked_comparisons = record {
   constant = refl;
   constant_data = refl;
   untold_data = refl;
+  delayed_itself = refl;
+  delayed_code = refl;
+  delayed_untold = refl;
   dll = refl;
   symbols = refl;
   name = refl;
@@ -32,7 +35,7 @@ worked_comparisons = record {
   other = refl;
   other_differs = refl;
   not_understood = refl;
-  delayed = refl;
+  delayed_part = refl;
   flags = refl;
 }
 
@@ -43,6 +46,7 @@ worked_flavors = record {
   code = refl;
   constant = refl;
   gnu = refl;
+  delayed = refl;
   data_alone = refl;
   none = refl;
 }

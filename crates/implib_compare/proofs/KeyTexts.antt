@@ -3,7 +3,7 @@ use Rattle.std.proofs.Common.{◌≡◌, ◌∙◌, ℕ, zero, suc, ◌/◌, ◌
 use Rattle.std.specs.List.{flat_map}
 use Rattle.implib.specs.Import.{Alias}
 use Rattle.implib_read.specs.declared.import.ImportKind.{ImportKind}
-use Rattle.implib_read.specs.declared.import.ImportKind.TheVariants.{Code, CodeOrConst, Const, Data}
+use Rattle.implib_read.specs.declared.import.ImportKind.TheVariants.{Code, CodeOrConst, Const, Data, Delayed}
 use Rattle.implib_compare.specs.Facts.{Asked, ByName, ByOrdinal, Fact, Imports, Aliases, ImportFact, asked_key, bytes_key, fact_key, kind_number, listed_key, number_key, text_key, texts_key}
 
 head_of : List ℕ → ℕ
@@ -84,7 +84,8 @@ kind_of : ℕ → ImportKind
 kind_of zero = Code
 kind_of (suc zero) = Data
 kind_of (suc (suc zero)) = Const
-kind_of (suc (suc (suc n))) = CodeOrConst
+kind_of (suc (suc (suc zero))) = CodeOrConst
+kind_of (suc (suc (suc (suc n)))) = Delayed
 
 kind_back : (k : ImportKind) → kind_of (kind_number k) ≡ k
 unfolding kind_of
@@ -92,6 +93,7 @@ kind_back Code = refl
 kind_back Data = refl
 kind_back Const = refl
 kind_back CodeOrConst = refl
+kind_back Delayed = refl
 
 same_kind : (k l : ImportKind) → kind_number k ≡ kind_number l → k ≡ l
 same_kind k l same = sym (kind_back k) ∙ ap kind_of same ∙ kind_back l

@@ -7,7 +7,7 @@ use Rattle.implib.specs.Import.{Alias, Ask, Name, Ordinal}
 use Rattle.implib_read.specs.Classes.{Class, AnImport, AnAlias, Descriptor, NullDescriptor, NullThunk, Head, Tail, DelayImport, Other, NotUnderstood, Imported, MemberRead}
 use Rattle.implib_read.specs.Symbols.{begins_imp}
 use Rattle.implib_read.specs.declared.import.ImportKind.{ImportKind}
-use Rattle.implib_read.specs.declared.import.ImportKind.TheVariants.{Code, CodeOrConst, Const, Data}
+use Rattle.implib_read.specs.declared.import.ImportKind.TheVariants.{Code, CodeOrConst, Const, Data, Delayed}
 
 -- what is asked of a DLL, whatever the hint
 pub data Asked : Type 0 where
@@ -39,6 +39,7 @@ kind_compared told Data = Data
 kind_compared told Code = if told then Code else CodeOrConst
 kind_compared told Const = if told then Const else CodeOrConst
 kind_compared told CodeOrConst = CodeOrConst
+kind_compared told Delayed = Delayed
 
 -- whether a symbol is of an address, by `__imp_`, or is not
 abbrev pub is_wanted : Bool → List ℕ → Bool
@@ -83,6 +84,7 @@ is_untold Code = false
 is_untold Data = false
 is_untold Const = false
 is_untold CodeOrConst = true
+is_untold Delayed = false
 
 -- whether a member is an import whose kind is not told
 abbrev pub has_untold : Class → Bool
@@ -144,6 +146,7 @@ kind_number Code = 0
 kind_number Data = 1
 kind_number Const = 2
 kind_number CodeOrConst = 3
+kind_number Delayed = 4
 
 -- The key of what a member says: bytes that no other fact has (`KeysTellFacts`).
 abbrev pub fact_key : Fact → List ℕ

@@ -5,7 +5,7 @@ use Rattle.implib.specs.declared.flavor.Flavor.{Flavor}
 use Rattle.implib.specs.declared.flavor.Flavor.TheVariants.{Gnu, Msvc}
 use Rattle.implib_read.specs.Classes.{Class, AnImport, AnAlias, Descriptor, NullDescriptor, NullThunk, Head, Tail, DelayImport, Other, NotUnderstood, MemberRead}
 use Rattle.implib_read.specs.declared.import.ImportKind.{ImportKind}
-use Rattle.implib_read.specs.declared.import.ImportKind.TheVariants.{Code, CodeOrConst, Const, Data}
+use Rattle.implib_read.specs.declared.import.ImportKind.TheVariants.{Code, CodeOrConst, Const, Data, Delayed}
 
 -- whether a kind tells code from a constant, as those of short imports alone do
 abbrev pub tells_code : ImportKind → Bool
@@ -13,6 +13,7 @@ tells_code Code = true
 tells_code Data = false
 tells_code Const = true
 tells_code CodeOrConst = false
+tells_code Delayed = false
 
 -- whether a member is one for Microsoft's linker: of its import tables, or a short import that is no data
 abbrev pub is_for_msvc : Class → Bool

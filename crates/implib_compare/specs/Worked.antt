@@ -4,7 +4,7 @@ use Rattle.implib.specs.declared.flavor.Flavor.TheVariants.{Gnu, Msvc}
 use Rattle.implib.specs.Import.{Ask, Name, Ordinal}
 use Rattle.implib_read.specs.Classes.{Class, AnImport, AnAlias, Descriptor, NullDescriptor, NullThunk, Head, Tail, DelayImport, Other, NotUnderstood, MemberRead}
 use Rattle.implib_read.specs.declared.import.ImportKind.{ImportKind}
-use Rattle.implib_read.specs.declared.import.ImportKind.TheVariants.{Code, CodeOrConst, Const, Data}
+use Rattle.implib_read.specs.declared.import.ImportKind.TheVariants.{Code, CodeOrConst, Const, Data, Delayed}
 use Rattle.implib_compare.specs.Comparison.{differing, verdict}
 use Rattle.implib_compare.specs.Flavors.{flavor_of}
 use Rattle.implib_compare.specs.declared.compare.Verdict.TheVariants.{Different, NotDecided, Same}
@@ -52,6 +52,10 @@ pub record WorkedComparisons : Type 0 where
   pub constant : verdict (feed_of_zoo Code ∷ []) (feed_of_zoo Const ∷ []) ≡ Different
   pub constant_data : verdict (feed_of_zoo Const ∷ []) (feed_of_zoo Data ∷ []) ≡ Different
   pub untold_data : verdict (feed_of_zoo CodeOrConst ∷ []) (feed_of_zoo Data ∷ []) ≡ Different
+  -- a delayed import is as no other
+  pub delayed_itself : verdict (feed_of_zoo Delayed ∷ member Head ∷ []) (member Tail ∷ feed_of_zoo Delayed ∷ []) ≡ Same
+  pub delayed_code : verdict (feed_of_zoo Code ∷ []) (feed_of_zoo Delayed ∷ []) ≡ Different
+  pub delayed_untold : verdict (feed_of_zoo Delayed ∷ []) (feed_of_zoo CodeOrConst ∷ []) ≡ Different
   -- another DLL, symbols, name, ordinal, machine
   pub dll : verdict (feed_of_zoo Code ∷ []) (of_dll (codes "zoo.dl") feed (Name (codes "feed") 0) Code 0x8664 ∷ []) ≡ Different
   pub symbols : verdict (feed_of_zoo Code ∷ []) (of_dll (codes "zoo.dll") (codes "__imp_feed" ∷ []) (Name (codes "feed") 0) Code 0x8664 ∷ []) ≡ Different
@@ -69,7 +73,7 @@ pub record WorkedComparisons : Type 0 where
   pub other : verdict zoo (member Other ∷ zoo) ≡ NotDecided
   pub other_differs : verdict (member Other ∷ []) zoo ≡ Different
   pub not_understood : verdict zoo (member NotUnderstood ∷ zoo) ≡ NotDecided
-  pub delayed : verdict (member DelayImport ∷ []) zoo ≡ NotDecided
+  pub delayed_part : verdict (member DelayImport ∷ []) zoo ≡ NotDecided
   -- which members differ: of two that are equal the second, where the other library has one
   pub flags : differing true (feed_of_zoo Code ∷ alias (codes "a") (codes "b") ∷ feed_of_zoo Code ∷ []) zoo ≡ false ∷ true ∷ true ∷ []
 
@@ -84,5 +88,6 @@ pub record WorkedFlavors : Type 0 where
   pub code : flavor_of (import_on Code 0x8664 ∷ []) ≡ Msvc
   pub constant : flavor_of (import_on Data 0x8664 ∷ import_on Const 0x8664 ∷ []) ≡ Msvc
   pub gnu : flavor_of (member Tail ∷ member Head ∷ import_on CodeOrConst 0x8664 ∷ []) ≡ Gnu
+  pub delayed : flavor_of (member Tail ∷ member Head ∷ import_on Delayed 0x8664 ∷ []) ≡ Gnu
   pub data_alone : flavor_of (import_on Data 0x8664 ∷ alias (codes "a") (codes "b") ∷ member Other ∷ []) ≡ Gnu
   pub none : flavor_of [] ≡ Gnu

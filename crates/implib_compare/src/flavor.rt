@@ -13,7 +13,7 @@ fn tells_code(kind: ImportKind) -> bool
 {
     match kind {
         ImportKind::Code | ImportKind::Const => true,
-        ImportKind::Data | ImportKind::CodeOrConst => false,
+        ImportKind::Data | ImportKind::CodeOrConst | ImportKind::Delayed => false,
     }
 }
 

@@ -165,6 +165,7 @@ fn kind_number(told: bool, kind: ImportKind) -> u8
         ImportKind::Code => { if told { 0 } else { 3 } }
         ImportKind::Const => { if told { 2 } else { 3 } }
         ImportKind::CodeOrConst => 3,
+        ImportKind::Delayed => 4,
     }
 }
 
@@ -234,7 +235,7 @@ fn is_untold(kind: ImportKind) -> bool
 {
     match kind {
         ImportKind::CodeOrConst => true,
-        ImportKind::Code | ImportKind::Data | ImportKind::Const => false,
+        ImportKind::Code | ImportKind::Data | ImportKind::Const | ImportKind::Delayed => false,
     }
 }
 

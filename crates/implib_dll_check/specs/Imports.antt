@@ -12,12 +12,13 @@ use Rattle.implib_dll_check.specs.declared.import.Judgement.TheVariants.{NoImpor
 use Rattle.implib_dll_check.specs.declared.import.Loss.TheVariants.{OtherDll, OtherMachine, NotFound, DataAsFunction}
 use Rattle.implib_read.specs.Classes.{Class, AnImport, AnAlias, Descriptor, NullDescriptor, NullThunk, Head, Tail, DelayImport, Other, NotUnderstood, Imported, MemberRead}
 use Rattle.implib_read.specs.declared.import.ImportKind.{ImportKind}
-use Rattle.implib_read.specs.declared.import.ImportKind.TheVariants.{Code, CodeOrConst, Const, Data}
+use Rattle.implib_read.specs.declared.import.ImportKind.TheVariants.{Code, CodeOrConst, Const, Data, Delayed}
 
 -- whether an import is of data: a constant is, too, whose symbol stands for its address
 abbrev pub is_of_data : ImportKind → Bool
 is_of_data Code = false
 is_of_data CodeOrConst = false
+is_of_data Delayed = false
 is_of_data Data = true
 is_of_data Const = true
 

@@ -9,7 +9,7 @@ use Rattle.implib_dll_check.specs.declared.import.Judgement.TheVariants.{NoImpor
 use Rattle.implib_dll_check.specs.declared.import.Loss.TheVariants.{OtherDll, OtherMachine, NotFound, DataAsFunction}
 use Rattle.implib_read.specs.Classes.{Class, AnImport, Descriptor, Head, Imported, MemberRead}
 use Rattle.implib_read.specs.declared.import.ImportKind.{ImportKind}
-use Rattle.implib_read.specs.declared.import.ImportKind.TheVariants.{Code, CodeOrConst, Const, Data}
+use Rattle.implib_read.specs.declared.import.ImportKind.TheVariants.{Code, CodeOrConst, Const, Data, Delayed}
 
 -- the names of that DLL
 abbrev pub known : List (List ℕ)
@@ -49,6 +49,7 @@ pub record WorkedImports : Type 0 where
   pub as_constant : judged worked_exports known (import_of (codes "w.dll") (Ordinal 6) Const 0x14C) ≡ Reached
   pub as_function : judged worked_exports known (import_of (codes "w.dll") (Ordinal 6) Code 0x14C) ≡ Lost DataAsFunction
   pub as_either : judged worked_exports known (import_of (codes "w.dll") (Ordinal 6) CodeOrConst 0x14C) ≡ Lost DataAsFunction
+  pub as_delayed : judged worked_exports known (import_of (codes "w.dll") (Ordinal 6) Delayed 0x14C) ≡ Lost DataAsFunction
   pub code_as_data : judged worked_exports known (import_of (codes "w.dll") (Ordinal 5) Data 0x14C) ≡ Reached
   -- another DLL, and another machine, each where all else fits
   pub other_dll : judged worked_exports known (import_of (codes "v.dll") (Name (codes "beta") 1) Code 0x14C) ≡ Lost OtherDll

@@ -47,7 +47,7 @@ fn is_of_data(kind: ImportKind) -> bool
     ensures { result ≡ is_of_data kind }
 {
     match kind {
-        ImportKind::Code | ImportKind::CodeOrConst => false,
+        ImportKind::Code | ImportKind::CodeOrConst | ImportKind::Delayed => false,
         ImportKind::Data | ImportKind::Const => true,
     }
 }

@@ -25,7 +25,7 @@ use Rattle.implib.specs.Members.ReadBack.{file_of}
 use Rattle.implib.specs.Members.WeakExternal.{weak_object, weak_spec}
 use Rattle.implib.proofs.Formats.WriterLayout.{object_of-layout_of}
 use Rattle.implib.proofs.Members.MemberReadings.{all_append}
-use Rattle.implib_read.specs.Classes.{Imported, class_of_file, class_with, kind_of_code}
+use Rattle.implib_read.specs.Classes.{Imported, class_of_file, class_with, delayed_by_object, kind_of_code}
 use Rattle.implib_read.specs.Files.{definer_among}
 use Rattle.implib_read.specs.Files.{File as FoundFile, ObjectFile as FoundObject}
 use Rattle.implib_read.specs.Following.{Place, further, only_in, pointed, pointed_by, spot_of, text_at}
@@ -176,11 +176,11 @@ import_with o dll dll' ask ask' same_dll same_ask =
     ∙ ap (λ a. option_and_then (λ name. option_map (import_from o name) a) dll') same_ask
 
 -- what an object means, by its alias and its import, to both readers
-means_by : (o : Object) (a : Option Alias) (i j : Option Import) (wrap : Import → Imported) (m : Meaning) → ((x : Import) → (wrap x).imports ≡ x) → i ≡ j
-    → alias_or_import a j ≡ Some m → meaning_of_class (class_with o a (option_map wrap i)) ≡ Some m
-means_by o (Some a) i j wrap m kept same is = is
-means_by o None None j wrap m kept same is = let none = ap (option_map MeansImport) same ∙ is in cc
-means_by o None (Some x) j wrap m kept same is = ap (λ y. Some (MeansImport y)) (kept x) ∙ ap (option_map MeansImport) same ∙ is
+means_by : (o : Object) (a : Option Alias) (i j : Option Import) (wrap : Import → Imported) (delayed : Option Imported) (m : Meaning) → ((x : Import) → (wrap x).imports ≡ x) → i ≡ j
+    → alias_or_import a j ≡ Some m → meaning_of_class (class_with o a (option_map wrap i) delayed) ≡ Some m
+means_by o (Some a) i j wrap delayed m kept same is = is
+means_by o None None j wrap delayed m kept same is = let none = ap (option_map MeansImport) same ∙ is in cc
+means_by o None (Some x) j wrap delayed m kept same is = ap (λ y. Some (MeansImport y)) (kept x) ∙ ap (option_map MeansImport) same ∙ is
 
 -- with the tail and the head in front of others, as they are written
 module _ (machine : MachineType) (dll : NamesOfDll) (others : List FoundFile) where
@@ -211,7 +211,7 @@ module _ (machine : MachineType) (dll : NamesOfDll) (others : List FoundFile) wh
       let o = written_object (export_object machine dll.linked e) in
       means_by o (alias_of_object o) (import_of_object in_library o)
       (import_of o (written_object (head_object machine dll.linked)) (written_object (tail_object machine dll)))
-      (λ i. record { imports = i; kind = kind_of_code (externals_in o text_section); machine = o.machine }) m (λ x. refl) (same_import e) is
+      (λ i. record { imports = i; kind = kind_of_code (externals_in o text_section); machine = o.machine }) (delayed_by_object in_library o) m (λ x. refl) (same_import e) is
 
   pub good_export : (number : ℕ) (e : ExportView) → IsGood (file_of (export_spec machine dll.linked number e).contents)
   unfolding export_spec

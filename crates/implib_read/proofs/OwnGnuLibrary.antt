@@ -28,6 +28,7 @@ use Rattle.implib_archive.specs.Refusal.{refusal_of}
 use Rattle.implib_archive.specs.declared.kind.Kind.{Kind}
 use Rattle.implib_read.specs.Archives.{archive_in}
 use Rattle.implib_read.specs.Classes.{Class, Head, Tail, class_of_file, files_of, library_in, members_read}
+use Rattle.implib_read.specs.Delayed.{delayed_import}
 use Rattle.implib_read.specs.Files.{definer_among, file_found}
 use Rattle.implib_read.specs.Files.{File as FoundFile, ObjectFile as FoundObject}
 use Rattle.implib_read.specs.Following.{Place, pointed}
@@ -79,13 +80,13 @@ files_plain (p ∷ specs) plain = ap (λ b. b && list_all is_plain (files_of_spe
 
 tail_class : (defined : List ℕ → Option Place) (machine : MachineType) (linked text : List ℕ)
     → class_of_file defined (FoundObject (written_object (tail_object machine (record { linked = linked; text = text })))) ≡ Tail
-unfolding tail_object import_of_object dll_of_object pointed
+unfolding tail_object import_of_object dll_of_object delayed_import pointed
 tail_class defined machine linked [] = refl
 tail_class defined machine linked (x ∷ text) = refl
 
 head_class : (defined : List ℕ → Option Place) (machine : MachineType) (linked : List ℕ)
     → class_of_file defined (FoundObject (written_object (head_object machine linked))) ≡ Head
-unfolding head_object import_of_object dll_of_object
+unfolding head_object import_of_object dll_of_object delayed_import pointed
 head_class defined machine linked = refl
 
 -- The files.

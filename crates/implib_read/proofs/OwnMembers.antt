@@ -24,11 +24,12 @@ use Rattle.implib.specs.Members.MsvcMembers.{descriptor_spec, export_specs, head
 use Rattle.implib.specs.Members.MsvcObjects.{descriptor, null_descriptor, null_thunk}
 use Rattle.implib.specs.Members.ReadBack.{file_of}
 use Rattle.implib.specs.Members.WeakExternal.{weak_object, weak_spec}
-use Rattle.implib_read.specs.Classes.{Class, AnImport, AnAlias, Descriptor, NullDescriptor, NullThunk, Imported, class_of_file, class_of_import, class_with, imported_by_object, kind_of_type}
+use Rattle.implib_read.specs.Classes.{Class, AnImport, AnAlias, Descriptor, NullDescriptor, NullThunk, Imported, class_of_file, class_of_import, class_with, delayed_by_object, imported_by_object, kind_of_type}
 use Rattle.implib_read.specs.Files.{file_found}
 use Rattle.implib_read.specs.Files.{File as FoundFile, ShortImportFile as FoundShortImport, ObjectFile as FoundObject}
 use Rattle.implib_read.specs.Files.{short_import_or_object as found_or_object}
-use Rattle.implib_read.specs.Following.{Place}
+use Rattle.implib_read.specs.Delayed.{delayed_import}
+use Rattle.implib_read.specs.Following.{Place, pointed}
 use Rattle.implib_read.specs.Imports.{dll_of_object, import_of_object}
 use Rattle.implib_read.specs.Objects.{SameObjects, object_found, room_in}
 use Rattle.implib_read.specs.ShortImports.{SameShortImports, arm64ec, found_from, short_import_found}
@@ -133,9 +134,9 @@ import_by true false false i ask make kind m made kept plain is = cc
 import_by false name false i ask make kind m made kept plain is = cc
 import_by type name true i ask make kind m made kept plain is = absurd (true≢false plain)
 
-alias_by : (o : Object) (a : Option Alias) (i : Option Imported) (m : Meaning) → option_map MeansAlias a ≡ Some m → meaning_of_class (class_with o a i) ≡ Some m
-alias_by o None i m is = cc
-alias_by o (Some a) i m is = is
+alias_by : (o : Object) (a : Option Alias) (i delayed : Option Imported) (m : Meaning) → option_map MeansAlias a ≡ Some m → meaning_of_class (class_with o a i delayed) ≡ Some m
+alias_by o None i delayed m is = cc
+alias_by o (Some a) i delayed m is = is
 
 -- a member that means something to `implib`'s reader means it to this one
 meaning_as : (defined : List ℕ → Option Place) (f : File) (m : Meaning) → is_plain f ≡ true → meaning_of f ≡ Some m → meaning_of_class (class_of_file defined (found_of f)) ≡ Some m
@@ -148,7 +149,7 @@ meaning_as defined (ShortImportFile r) m plain is =
     (λ ask. record { dll = r.dll; declared = import_symbols (r.import_type == import_data) r.symbol; ask = ask })
     (λ i. record { imports = i; kind = kind_of_type r.import_type; machine = r.machine })
     m refl (λ x. refl) (not_true (r.machine == arm64ec) tests.0) is
-meaning_as defined (ObjectFile o) m plain is = alias_by o (alias_of_object o) (imported_by_object defined o) m is
+meaning_as defined (ObjectFile o) m plain is = alias_by o (alias_of_object o) (imported_by_object defined o) (delayed_by_object defined o) m is
 
 pub meanings_as : (defined : List ℕ → Option Place) (fs : List File) (ms : List Meaning) → list_all is_plain fs ≡ true → map meaning_of fs ≡ map Some ms
     → map meaning_of_class (map (class_of_file defined) (map found_of fs)) ≡ map Some ms
@@ -165,15 +166,15 @@ meanings_as defined (f ∷ fs) (m ∷ ms) plain same =
 -- The first three members.
 
 descriptor_class : (defined : List ℕ → Option Place) (machine : MachineType) (dll : NamesOfDll) → class_of_file defined (FoundObject (object_of (descriptor machine dll))) ≡ Descriptor
-unfolding object_of descriptor entries_of import_of_object dll_of_object
+unfolding object_of descriptor entries_of import_of_object dll_of_object delayed_import pointed
 descriptor_class defined machine dll = refl
 
 null_descriptor_class : (defined : List ℕ → Option Place) (machine : MachineType) → class_of_file defined (FoundObject (object_of (null_descriptor machine))) ≡ NullDescriptor
-unfolding object_of null_descriptor entries_of import_of_object dll_of_object
+unfolding object_of null_descriptor entries_of import_of_object dll_of_object delayed_import pointed
 null_descriptor_class defined machine = refl
 
 null_thunk_class : (defined : List ℕ → Option Place) (machine : MachineType) (dll : List ℕ) → class_of_file defined (FoundObject (object_of (null_thunk machine dll))) ≡ NullThunk
-unfolding object_of null_thunk entries_of import_of_object dll_of_object
+unfolding object_of null_thunk entries_of import_of_object dll_of_object delayed_import pointed
 null_thunk_class defined machine dll = refl
 
 -- Each member is plain.

@@ -5,6 +5,7 @@ use Rattle.implib.specs.Worked.Digits.{bytes_of_digits}
 use Rattle.implib_archive.specs.Reader.{data_at as archive_data_at, number_in, stored_at, trimmed}
 use Rattle.implib_read.specs.Archives.{archive_in, parts_from, parts_in}
 use Rattle.implib_read.specs.Classes.{library_in, members_read}
+use Rattle.implib_read.specs.Delayed.{delayed_import}
 use Rattle.implib_read.specs.Following.{pointed, pointed_by}
 use Rattle.implib_read.specs.Imports.{ask_of_object, dll_of_object, import_of_object}
 use Rattle.implib_read.specs.Indexes.{entries_from, first_index_in, second_index_in}
@@ -17,7 +18,7 @@ use Rattle.implib_read.specs.WorkedFiles.{WorkedChanges, WorkedIndexes, WorkedLe
 use Rattle.implib_read.specs.WorkedLibraries.{WorkedLibraries, worked_dlltool, worked_ld, worked_llvm}
 
 pub worked_libraries : WorkedLibraries
-unfolding before_nul bytes_at data_at each_at entries_at name_of relocation_at relocation_of section_at section_of strings_at symbol_of u16_at u32_at up_to_nul bytes_of_digits archive_data_at number_in stored_at trimmed archive_in parts_from parts_in library_in members_read pointed pointed_by ask_of_object dll_of_object import_of_object long_name_of member_name without_slash entries_found entry_at object_found object_of_found records_in short_import_found worked_dlltool worked_ld worked_llvm
+unfolding before_nul bytes_at data_at each_at entries_at name_of relocation_at relocation_of section_at section_of strings_at symbol_of u16_at u32_at up_to_nul bytes_of_digits archive_data_at number_in stored_at trimmed archive_in parts_from parts_in library_in members_read pointed pointed_by ask_of_object dll_of_object import_of_object long_name_of member_name without_slash entries_found entry_at object_found object_of_found records_in short_import_found delayed_import worked_dlltool worked_ld worked_llvm
 worked_libraries = record { ld = refl; dlltool = refl; llvm = refl }
 
 pub worked_short_imports : WorkedShortImports
@@ -96,7 +97,7 @@ worked_room = record {
 }
 
 pub worked_changes : WorkedChanges
-unfolding before_nul bytes_at data_at each_at entries_at name_of relocation_at relocation_of section_at section_of strings_at symbol_of u16_at u32_at up_to_nul bytes_of_digits archive_data_at number_in stored_at trimmed archive_in parts_from parts_in library_in members_read pointed pointed_by ask_of_object dll_of_object import_of_object long_name_of member_name without_slash entries_found object_found object_of_found records_in short_import_found worked_ld
+unfolding before_nul bytes_at data_at each_at entries_at name_of relocation_at relocation_of section_at section_of strings_at symbol_of u16_at u32_at up_to_nul bytes_of_digits archive_data_at number_in stored_at trimmed archive_in parts_from parts_in library_in members_read pointed pointed_by ask_of_object dll_of_object import_of_object long_name_of member_name without_slash entries_found object_found object_of_found records_in short_import_found delayed_import worked_ld
 worked_changes = record { as_it_is = refl; addend = refl; no_descriptor = refl }
 
 pub worked_indexes : WorkedIndexes

@@ -7,12 +7,13 @@ use Rattle.implib.specs.Formats.ShortImport.{import_code, import_data}
 use Rattle.implib.specs.Import.{Alias, Import}
 use Rattle.implib.specs.Members.GnuReader.{externals_in, section_named, text_section}
 use Rattle.implib_read.specs.Archives.{StoredMember, archive_in}
+use Rattle.implib_read.specs.Delayed.{calls_helper, delayed_import}
 use Rattle.implib_read.specs.Files.{File, ShortImportFile, ObjectFile, NotRead, definer_among, file_found}
 use Rattle.implib_read.specs.Following.{Place}
 use Rattle.implib_read.specs.Imports.{import_of_object}
 use Rattle.implib_read.specs.ShortImports.{WithExported, import_of_found}
 use Rattle.implib_read.specs.declared.import.ImportKind.{ImportKind}
-use Rattle.implib_read.specs.declared.import.ImportKind.TheVariants.{Code, CodeOrConst, Const, Data}
+use Rattle.implib_read.specs.declared.import.ImportKind.TheVariants.{Code, CodeOrConst, Const, Data, Delayed}
 
 -- an import, with its kind and its machine
 pub record Imported : Type 0 where
@@ -41,6 +42,11 @@ abbrev pub imported_by_object : (List ℕ → Option Place) → Object → Optio
 imported_by_object defined o = option_map
     (λ i. record { imports = i; kind = kind_of_code (externals_in o text_section); machine = o.machine })
     (import_of_object defined o)
+
+-- the delayed import that an object is
+abbrev pub delayed_by_object : (List ℕ → Option Place) → Object → Option Imported
+delayed_by_object defined o =
+    option_map (λ i. record { imports = i; kind = Delayed; machine = o.machine }) (delayed_import defined o)
 
 -- what a member is for
 pub data Class : Type 0 where
@@ -82,7 +88,7 @@ class_of_sections (Some s) thunks names = class_of_descriptor s thunks
 class_of_sections None true names = class_of_thunks names
 class_of_sections None false names = Other
 
--- What an object that is neither an import nor an alias is for, by its sections of import tables.
+-- What an object that is neither an import nor an alias is for, by its sections of import tables alone.
 abbrev pub class_by_tables : Object → Class
 class_by_tables o =
     if has_section o (codes ".idata$3") then NullDescriptor
@@ -91,11 +97,34 @@ class_by_tables o =
     (has_section o (codes ".idata$5"))
     (section_named o (codes ".idata$7"))
 
--- what an object is for, by its alias and its import
-abbrev pub class_with : Object → Option Alias → Option Imported → Class
-class_with o (Some a) i = AnAlias a
-class_with o None (Some i) = AnImport i
-class_with o None None = class_by_tables o
+-- What an object with `.didat$5`, and no import, is for, by its `.didat$7`. The tail of delayed imports has the DLL's
+-- name there. Others are parts that are not followed, as that of data, which GNU dlltool writes too.
+abbrev pub class_of_delayed_thunks : Option ObjectSection → Class
+class_of_delayed_thunks None = DelayImport
+class_of_delayed_thunks (Some s) = class_of_thunks (Some s)
+
+-- what an object without `.idata$2`, `.idata$3` and `.idata$5` is for, by its sections of delayed import tables
+abbrev pub class_by_delayed_tables : Object → Class
+class_by_delayed_tables o =
+    if has_section o (codes ".didat$5") then class_of_delayed_thunks (section_named o (codes ".didat$7")) else Other
+
+-- What an object is for, by what it is for by its import tables. The head of delayed imports has none of its own, or
+-- empty ones, and calls the helper.
+abbrev pub class_by_helper : Object → Class → Class
+class_by_helper o DelayImport = if calls_helper o then Head else DelayImport
+class_by_helper o Other = if calls_helper o then Head else class_by_delayed_tables o
+class_by_helper o class = class
+
+-- what an object that is neither an import nor an alias is for
+abbrev pub class_of_part : Object → Class
+class_of_part o = class_by_helper o (class_by_tables o)
+
+-- what an object is for, by its alias, its import and its delayed import
+abbrev pub class_with : Object → Option Alias → Option Imported → Option Imported → Class
+class_with o (Some a) i delayed = AnAlias a
+class_with o None (Some i) delayed = AnImport i
+class_with o None None (Some i) = AnImport i
+class_with o None None None = class_of_part o
 
 -- what a short import is for; one whose types have no meaning is not understood
 abbrev pub class_of_import : Option Imported → Class
@@ -105,7 +134,7 @@ class_of_import None = NotUnderstood
 -- what a file is for
 abbrev pub class_of_file : (List ℕ → Option Place) → File → Class
 class_of_file defined (ShortImportFile r) = class_of_import (imported_by_short_import r)
-class_of_file defined (ObjectFile o) = class_with o (alias_of_object o) (imported_by_object defined o)
+class_of_file defined (ObjectFile o) = class_with o (alias_of_object o) (imported_by_object defined o) (delayed_by_object defined o)
 class_of_file defined NotRead = NotUnderstood
 
 -- a member: its name, the offset of its header, and what it is for

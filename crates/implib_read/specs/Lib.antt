@@ -6,6 +6,7 @@ pub mod Classes
 pub mod ClassViews
 pub mod Cutting
 pub mod CuttingViews
+pub mod Delayed
 pub mod Identity
 pub mod Files
 pub mod FileViews

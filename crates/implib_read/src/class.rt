@@ -4,6 +4,7 @@ ghost use Rattle.std.specs.Prelude.{◌≡◌, map, IfOk};
 ghost use Rattle.std.specs.Option.{option_map};
 ghost use Rattle.implib.specs.Formats.File.{alias_of_object};
 ghost use Rattle.implib_read.specs.Classes.{class_by_tables, class_of_descriptor, class_of_file, class_of_import, class_of_thunks, class_with};
+ghost use Rattle.implib_read.specs.Classes.{class_by_delayed_tables, class_of_delayed_thunks, class_of_part, delayed_by_object};
 ghost use Rattle.implib_read.specs.Classes.{has_section, imported_by_object, is_empty};
 ghost use Rattle.implib_read.specs.ClassViews.{class_view, imported_view};
 ghost use Rattle.implib_read.specs.FileViews.{file_view};
@@ -12,6 +13,7 @@ ghost use Rattle.implib_read.specs.Objects.{relocations_of};
 ghost use Rattle.implib_read.specs.ObjectViews.{object_view, section_view};
 
 use crate::alias::{AliasFound, alias_of_object};
+use crate::delayed::{calls_helper, delayed_by_object};
 use crate::file::FileFound;
 use crate::follow::{Definers, section_named};
 use crate::import::ImportFound;
@@ -32,11 +34,11 @@ pub enum MemberClass<'a> {
     NullDescriptor,
     /// Microsoft's null thunk of a DLL.
     NullThunk,
-    /// GNU's head of a DLL, with its descriptor.
+    /// GNU's head of a DLL, with its descriptor, or of its delayed imports, with the code that they share.
     Head,
-    /// GNU's tail of a DLL, with its name.
+    /// GNU's tail of a DLL, or of its delayed imports, with its name.
     Tail,
-    /// Part of a library of delayed imports.
+    /// Part of a library of delayed imports that is not followed, as that of data.
     DelayImport,
     /// An object without import tables.
     Other,
@@ -100,7 +102,7 @@ fn class_of_descriptor<'a>(section: Section<'a>, thunks: bool) -> MemberClass<'a
     }
 }
 
-/// What an object that is neither an import nor an alias is for.
+/// What an object that is neither an import nor an alias is for, by its sections of import tables alone.
 fn class_by_tables<'a>(object: &Object<'a>) -> MemberClass<'a>
     ensures { class_view result ≡ class_by_tables (object_view object.now) }
 {
@@ -117,21 +119,69 @@ fn class_by_tables<'a>(object: &Object<'a>) -> MemberClass<'a>
     MemberClass::Other
 }
 
+/// What an object with `.didat$5` is for, by its `.didat$7`.
+fn class_of_delayed_thunks<'a>(section: Option<Section<'a>>) -> MemberClass<'a>
+    ensures { class_view result ≡ class_of_delayed_thunks (option_map section_view section.entry) }
+{
+    match section {
+        Some(section) => class_of_thunks(Some(section)),
+        None => MemberClass::DelayImport,
+    }
+}
+
+/// What an object is for, by its sections of delayed import tables.
+fn class_by_delayed_tables<'a>(object: &Object<'a>) -> MemberClass<'a>
+    ensures { class_view result ≡ class_by_delayed_tables (object_view object.now) }
+{
+    if has_section(object, b".didat$5") {
+        class_of_delayed_thunks(section_named(object, b".didat$7"))
+    } else {
+        MemberClass::Other
+    }
+}
+
+/// What an object that is neither an import nor an alias is for.
+fn class_of_part<'a>(object: &Object<'a>) -> MemberClass<'a>
+    ensures { class_view result ≡ class_of_part (object_view object.now) }
+{
+    match class_by_tables(object) {
+        MemberClass::DelayImport => {
+            if calls_helper(object) {
+                MemberClass::Head
+            } else {
+                MemberClass::DelayImport
+            }
+        }
+        MemberClass::Other => {
+            if calls_helper(object) {
+                MemberClass::Head
+            } else {
+                class_by_delayed_tables(object)
+            }
+        }
+        class => class,
+    }
+}
+
 /// What an object is for.
 fn class_of_object<'o, 'a>(
     alloc: Global,
     definers: &Definers<'o, 'a>,
     object: &'o Object<'a>,
 ) -> Result<MemberClass<'a>, AllocError>
-    ensures { IfOk result (λ class. class_view class ≡ class_with (object_view object.now) (alias_of_object (object_view object.now)) (imported_by_object (places_of definers.now) (object_view object.now))) }
+    ensures { IfOk result (λ class. class_view class ≡ class_with (object_view object.now) (alias_of_object (object_view object.now)) (imported_by_object (places_of definers.now) (object_view object.now)) (delayed_by_object (places_of definers.now) (object_view object.now))) }
 {
     if let Some(alias) = alias_of_object(object) {
         return Ok(MemberClass::Alias(alias));
     }
     let import = imported_by_object(alloc, definers, object)?;
-    match import {
+    if let Some(import) = import {
+        return Ok(MemberClass::Import(import));
+    }
+    let delayed = delayed_by_object(alloc, definers, object)?;
+    match delayed {
         Some(import) => Ok(MemberClass::Import(import)),
-        None => Ok(class_by_tables(object)),
+        None => Ok(class_of_part(object)),
     }
 }
 

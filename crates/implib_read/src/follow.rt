@@ -150,7 +150,7 @@ fn resolved<'o, 'a>(
 }
 
 /// The spot of a place, an addend further.
-fn spot_of<'o, 'a>(addend: u32, place: PlaceFound<'o, 'a>) -> Option<SpotFound<'o, 'a>>
+pub(crate) fn spot_of<'o, 'a>(addend: u32, place: PlaceFound<'o, 'a>) -> Option<SpotFound<'o, 'a>>
     ensures found { option_map spot_view result ≡ spot_of addend (place_view place.entry) }
     ensures small { IfSome result (λ spot. spot.offset < 2 ^ 32) }
 {

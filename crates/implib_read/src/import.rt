@@ -24,6 +24,8 @@ pub enum ImportKind {
     Const,
     /// Objects for GNU's linker do not tell CONSTANT from code.
     CodeOrConst,
+    /// Code whose DLL is loaded at the first call.
+    Delayed,
 }
 
 /// An import.

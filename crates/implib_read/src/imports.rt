@@ -24,14 +24,14 @@ use crate::object::{Entry, Object, Symbol};
 use std::alloc::{AllocError, Global};
 
 /// The text at a spot.
-fn text_at<'a>(at: &SpotFound<'_, 'a>) -> Option<&'a [u8]>
+pub(crate) fn text_at<'a>(at: &SpotFound<'_, 'a>) -> Option<&'a [u8]>
     ensures { option_map (λ found. found.now) result ≡ text_at (spot_view at.now) }
 {
     before_nul(behind(at.section.bytes, at.offset))
 }
 
 /// The begin of the first section of a name.
-fn begin_of<'o, 'a>(name: &[u8], object: &'o Object<'a>) -> Option<SpotFound<'o, 'a>>
+pub(crate) fn begin_of<'o, 'a>(name: &[u8], object: &'o Object<'a>) -> Option<SpotFound<'o, 'a>>
     ensures found { option_map spot_view result ≡ begin_of name.now (object_view object.now) }
     ensures small { IfSome result (λ spot. spot.offset ≡ 0) }
 {
@@ -113,6 +113,22 @@ fn ordinal_in(thunk: &[u8]) -> Option<AskFound<'_>>
     }
 }
 
+/// What a thunk at the begin of a section asks for.
+pub(crate) fn ask_at<'o, 'a>(
+    definers: &Definers<'o, 'a>,
+    at: SpotFound<'o, 'a>,
+) -> Option<AskFound<'a>>
+    ensures { option_map ask_view result ≡ ask_at (places_of definers.now) (spot_view at.entry) (relocation_of_field 0 (spot_view at.entry).section) }
+{
+    let Some(relocation) = relocation_of_field(0, &at.section) else {
+        return ordinal_in(at.section.bytes);
+    };
+    match pointed_by(definers, at, relocation) {
+        Some(spot) => hint_and_name(&spot),
+        None => None,
+    }
+}
+
 /// What an object asks for.
 #[tactic(auto, unfolding(crate::specs::Imports::ask_of_object))]
 pub(crate) fn ask_of_object<'o, 'a>(
@@ -121,14 +137,8 @@ pub(crate) fn ask_of_object<'o, 'a>(
 ) -> Option<AskFound<'a>>
     ensures { option_map ask_view result ≡ ask_of_object (places_of definers.now) (object_view object.now) }
 {
-    let Some(at) = begin_of(b".idata$5", object) else {
-        return None;
-    };
-    let Some(relocation) = relocation_of_field(0, &at.section) else {
-        return ordinal_in(at.section.bytes);
-    };
-    match pointed_by(definers, at, relocation) {
-        Some(spot) => hint_and_name(&spot),
+    match begin_of(b".idata$5", object) {
+        Some(at) => ask_at(definers, at),
         None => None,
     }
 }
@@ -179,7 +189,7 @@ fn externals_among<'a>(
 }
 
 /// The externals that are defined in sections of a name.
-fn externals_in<'a>(
+pub(crate) fn externals_in<'a>(
     alloc: Global,
     object: &Object<'a>,
     section: &[u8],

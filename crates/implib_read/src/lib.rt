@@ -4,7 +4,8 @@
 //! [`Library::read`] says of each member of a library what it is for: an import with its DLL, its symbols and what
 //! it asks for, an alias, a part of the import tables, or another. A short import says so itself. An object for GNU's
 //! linker is followed as a linker does it: from its fields by relocations, to sections and offsets, through symbols
-//! that any member defines.
+//! that any member defines. A delayed import is followed from the entry of its address table, through code of its own
+//! object, to a descriptor for mingw-w64's helper.
 //!
 //! Below that [`Archive::read`] finds the members of an archive, [`IndexEntry::read_first`] and [`SecondIndex::read`]
 //! the entries of its indexes, [`wrong_entries`] those that mislead a linker, [`FileFound::read`] what a member is, [`Object::read`] the sections, symbols and
@@ -21,6 +22,7 @@ mod archive;
 mod class;
 mod cutting;
 mod definers;
+mod delayed;
 mod fields;
 mod file;
 mod follow;

@@ -1,2 +1,3 @@
 pub mod Bounds
+pub mod DelayedLibraries
 pub mod MoreLibraries

@@ -5,11 +5,11 @@ use Rattle.std.specs.Prelude.{◌≡◌, ℕ, List, [], ◌∷◌, ◌++◌, Opt
 use Rattle.std.specs.Option.{option_map}
 use Rattle.implib.specs.Import.{Ask, Ordinal, Name}
 use Rattle.implib.specs.Worked.Digits.{hex}
-use Rattle.implib_read.specs.Classes.{AnImport, Class, DelayImport, Descriptor, Head, NotUnderstood, NullDescriptor, NullThunk, Tail, library_in}
+use Rattle.implib_read.specs.Classes.{AnImport, Class, Descriptor, Head, NotUnderstood, NullDescriptor, NullThunk, Tail, library_in}
 use Rattle.implib_read.specs.WorkedFiles.{changed, wrong_in}
 use Rattle.implib_read.specs.WorkedLibraries.{member, of_foo}
 use Rattle.implib_read.specs.declared.import.ImportKind.{ImportKind}
-use Rattle.implib_read.specs.declared.import.ImportKind.TheVariants.{Code, CodeOrConst, Const, Data}
+use Rattle.implib_read.specs.declared.import.ImportKind.TheVariants.{Code, CodeOrConst, Const, Data, Delayed}
 
 -- what the members of a library are for, in order
 abbrev pub classes_in : List ℕ → Option (List Class)
@@ -273,16 +273,20 @@ worked_delayed =
     ++ hex "0e 00 00 00 00 00 00 00 00 00 00 00 02 00 00 00 00 00 24 00 00 00 00 00 00 00 00 00 00 00 02 00 3b 00 00 00 5f 5f 69 6d 70 5f 62 61 72 00 5f 5f"
     ++ hex "77 69 6e 65 5f 64 65 6c 61 79 5f 6c 6f 61 64 5f 66 6f 6f 00 5f 5f 77 69 6e 65 5f 69 6d 70 6f 72 74 5f 66 6f 6f 5f 64 65 73 63 00 0a"
 
--- What it means. The head has an empty `.idata$2`, and its descriptor in `.data`, where the `.idata$7` of bar leads: so
--- bar is no import as the others are, and not understood.
+-- What it means. The head calls the helper, and its descriptor is in `.data`, where the `.idata$7` of bar leads. The
+-- entry of bar leads to its `.text$1`, which calls the helper at last.
 pub record WorkedDelayed : Type 0 where
   pub members : library_in worked_delayed ≡ Some (
-      member (codes "foo_head-00000001.o") 298 DelayImport
+      member (codes "foo_head-00000001.o") 298 Head
       ∷ member (codes "foo_tail-00000003.o") 1576 Tail
-      ∷ member (codes "foo_syms-00000005.o") 2218 NotUnderstood ∷ []
+      ∷ member (codes "foo_syms-00000005.o") 2218 (of_foo Delayed (codes "__imp_bar" ∷ codes "bar" ∷ []) (Name (codes "bar") 0)) ∷ []
       )
-  -- the empty section is `.idata$9`: only the end of the tables is left
-  pub near : classes_in (changed 665 0x39 worked_delayed) ≡ Some (NullThunk ∷ Tail ∷ NotUnderstood ∷ [])
+  -- the head's empty `.idata$2` is `.idata$9`: only the end of the tables is left
+  pub near : classes_in (changed 665 0x39 worked_delayed) ≡ Some (
+      NullThunk ∷ Tail ∷ of_foo Delayed (codes "__imp_bar" ∷ codes "bar" ∷ []) (Name (codes "bar") 0) ∷ []
+      )
+  -- the entry of bar leads to the name, and not to code
+  pub no_code : classes_in (changed 2722 16 worked_delayed) ≡ Some (Head ∷ Tail ∷ NotUnderstood ∷ [])
 
 -- What `rustc --target x86_64-pc-windows-msvc --crate-type rlib` writes for a block
 -- `#[link(name = "foo", kind = "raw-dylib")] extern "C"` of bar, the static baz, and qux with `#[link_ordinal(5)]`: the

@@ -3,6 +3,7 @@
 #![tactic(auto)]
 
 ghost use Rattle.implib_read_cases.specs.Bounds.{WorkedBounds};
+ghost use Rattle.implib_read_cases.specs.DelayedLibraries.{WorkedDlltool64, WorkedDlltool32, WorkedLater, WorkedOwn64, WorkedOwn32};
 ghost use Rattle.implib_read_cases.specs.MoreLibraries.{WorkedDelayed, WorkedMicrosoft, WorkedRustc, WorkedWinebuild};
 
 /// What a library of Microsoft's linker means, worked by hand.
@@ -28,4 +29,29 @@ pub fn worked_rustc()
 /// What sections, thunks and types mean at the bounds of the reader's rules, worked by hand.
 pub fn worked_bounds()
     ensures { WorkedBounds }
+{}
+
+/// What a library of GNU dlltool 2.40 for a delayed DLL means on AMD64, worked by hand.
+pub fn worked_dlltool64()
+    ensures { WorkedDlltool64 }
+{}
+
+/// What a library of GNU dlltool 2.40 for a delayed DLL means on I386, worked by hand.
+pub fn worked_dlltool32()
+    ensures { WorkedDlltool32 }
+{}
+
+/// What a library in the form of later dlltools for a delayed DLL means, worked by hand.
+pub fn worked_later()
+    ensures { WorkedLater }
+{}
+
+/// What a library of `implib_dlltool -y` means on AMD64, worked by hand.
+pub fn worked_own64()
+    ensures { WorkedOwn64 }
+{}
+
+/// What a library of `implib_dlltool -y` means on I386, worked by hand.
+pub fn worked_own32()
+    ensures { WorkedOwn32 }
 {}

@@ -19,6 +19,7 @@ worked = record {
   as_constant = refl;
   as_function = refl;
   as_either = refl;
+  as_delayed = refl;
   code_as_data = refl;
   other_dll = refl;
   other_machine = refl;
