@@ -1,7 +1,7 @@
 -- An encoding of what a DLL exports reads back.
 use Rattle.std.proofs.Common.{◌≡◌, ℕ, ◌<◌, ◌≤◌, ◌^◌, List, ◌++◌, Some, length, refl, append_assoc, arith, length-append}
-use Rattle.implib_c.specs.DllExports.{DllFits, DllRows, ExportFits, ExportRow, ReadsDllBack, dll_in, encoded_dll, encoded_export, export_row_in}
-use Rattle.implib_c.specs.Encoding.{encoded_list, encoded_number, encoded_text, list_in, text_in}
+use Rattle.implib_c.specs.DllExports.{DllRows, ExportFits, ExportRow, ReadsDllBack, dll_in, encoded_dll, encoded_export, export_row_in}
+use Rattle.implib_c.specs.Encoding.{encoded_list, encoded_number, encoded_text, text_in}
 use Rattle.implib_c.proofs.Lengths.{number_size, text_size}
 use Rattle.implib_c.proofs.ListBack.{front_few, list_back_where, rest_few}
 use Rattle.implib_c.proofs.ReadBack.{list_back, number_back, text_back}

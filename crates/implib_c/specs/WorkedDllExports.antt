@@ -1,10 +1,10 @@
 -- What DLLs export, worked by hand, its encodings byte by byte, and buffers that are read.
 use Rattle.std.specs.Prelude.{◌≡◌, ℕ, List, [], ◌∷◌, ◌++◌, None, Some, codes, length}
 use Rattle.implib.specs.Worked.Digits.{hex}
-use Rattle.implib_dll.specs.Exports.{Address, Empty, Exports, Forwarder}
+use Rattle.implib_dll.specs.Exports.{Address, Empty, Forwarder}
 use Rattle.implib_dll.specs.WorkedFiles.{worked_exports}
 use Rattle.implib_dll.specs.declared.section.AddressKind.TheVariants.{Code, Data, Outside}
-use Rattle.implib_c.specs.DllExports.{DllRows, ExportRow, dll_in, dll_rows, encoded_dll, encoded_export, target_address, target_forwarder, target_number}
+use Rattle.implib_c.specs.DllExports.{DllRows, ExportRow, dll_in, dll_rows, encoded_dll, target_address, target_forwarder, target_number}
 
 -- an ordinal
 abbrev pub export : ℕ → ℕ → ℕ → List ℕ → List (List ℕ) → ExportRow

@@ -8,7 +8,7 @@ ghost use Rattle.implib_c.specs.Encoding.{encoded_list, encoded_text};
 ghost use Rattle.implib_c.specs.Given.{length_given, place_given, status_given};
 ghost use Rattle.implib_c.specs.Status.{status_number};
 ghost use Rattle.implib_dll.specs.Views.{exports_view, target_view};
-ghost use Rattle.std.specs.Prelude.{◌≡◌, ◌<◌, ◌^◌, All, IfErr, IfOk, OnOk, map};
+ghost use Rattle.std.specs.Prelude.{◌≡◌, All, IfErr, IfOk, OnOk, map};
 
 use crate::definition::{push_number, push_text};
 use crate::outcome::{Failure, put_encoding};

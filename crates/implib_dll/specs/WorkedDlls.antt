@@ -8,7 +8,7 @@ use Rattle.implib_dll.specs.declared.section.AddressKind.TheVariants.{Code, Data
 use Rattle.implib_dll.specs.Digits.{changed, hex}
 use Rattle.implib_dll.specs.Exports.{Address, Empty, Exports, Forwarder, exports_in}
 use Rattle.implib_dll.specs.Rows.{rows_of}
-use Rattle.implib_dll.specs.WorkedFiles.{found, named, row, rows_found, targets_found}
+use Rattle.implib_dll.specs.WorkedFiles.{found, named, row, targets_found}
 
 -- A DLL for ARM64, PE32+, by lld-link 19. The directory is at 0x2000 in `.rdata`, of 0x85 bytes, at offset 0x600.
 unfoldable pub worked_arm64 : List ℕ
