@@ -40,6 +40,15 @@ extern "C" {
         place: *mut usize,
     ) -> u32;
 
+    fn implib_exports_nonnull(
+        bytes: *const u8,
+        bytes_length: usize,
+        buffer: *mut u8,
+        buffer_length: usize,
+        length: *mut usize,
+        place: *mut usize,
+    ) -> u32;
+
     fn implib_position_nonnull(
         text: *const u8,
         text_length: usize,
@@ -147,6 +156,19 @@ fn put(
         SUCCESS => Ok(length),
         _ => Err((status, length, place)),
     }
+}
+
+/// Puts what the DLL in a file exports at the beginning of the buffer: the status, the length and the place.
+pub(crate) fn exports(file: &[u8], buffer: &mut [u8]) -> (u32, usize, usize) {
+    let (mut length, mut place) = (0, 0);
+    // SAFETY: file and buffer are slices, so each pointer is not null and leads to as many bytes as its length says.
+    // The buffer and the two numbers are borrowed to be written, so they overlap neither each other nor the file,
+    // and nobody else reads or writes them during the call. The library keeps no pointer.
+    let status = unsafe {
+        let (file, file_length) = (file.as_ptr(), file.len());
+        implib_exports_nonnull(file, file_length, buffer.as_mut_ptr(), buffer.len(), &mut length, &mut place)
+    };
+    (status, length, place)
 }
 
 /// The position of an offset in a text.

@@ -64,14 +64,19 @@ fn export(rest: &mut &[u8]) -> Option<ShortExport> {
 }
 
 /// The number at the front of an encoding.
-fn number(rest: &mut &[u8]) -> Option<u64> {
+pub(crate) fn number(rest: &mut &[u8]) -> Option<u64> {
     Some(u64::from_le_bytes(taken(rest, 8)?.try_into().ok()?))
 }
 
 /// The text at the front of an encoding.
 fn text(rest: &mut &[u8]) -> Option<String> {
+    String::from_utf8(bytes(rest)?).ok()
+}
+
+/// The bytes at the front of an encoding, behind their length.
+pub(crate) fn bytes(rest: &mut &[u8]) -> Option<Vec<u8>> {
     let length = number(rest)?.try_into().ok()?;
-    String::from_utf8(taken(rest, length)?.to_vec()).ok()
+    Some(taken(rest, length)?.to_vec())
 }
 
 fn taken<'a>(rest: &mut &'a [u8], length: usize) -> Option<&'a [u8]> {
