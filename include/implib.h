@@ -274,7 +274,7 @@ static inline uint32_t implib_warnings(const struct implib_options *options, con
 #define IMPLIB_WARNING_SKIPPED 11u         /* a statement is skipped: an import library has no use for it */
 #define IMPLIB_WARNING_ENDS_EARLY 12u      /* a NUL ends the text, and something follows it */
 #define IMPLIB_WARNING_STANDS_ALONE 13u    /* a keyword of other tools is a name here */
-#define IMPLIB_WARNING_LATE         14u    /* an attribute follows the name of EXPORTAS */
+#define IMPLIB_WARNING_LATE 14u            /* an attribute follows the name of EXPORTAS */
 #define IMPLIB_WARNING_COMMENT_LIKE 15u    /* a name begins as a comment of other tools */
 
 /*
