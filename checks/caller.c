@@ -13,7 +13,7 @@
  * library; then a case begins with four numbers more, the size of the options, the flags, whether a name of the DLL
  * is given, and its length, and the name is before the text. With `warnings` it calls implib_warnings so, and what
  * follows is the encoding; with `check` implib_check_library, where the length of a library and the library are after
- * the name. With `of` it calls implib_library_of: then the last number is that of exports, and in the
+ * the name, and with `beside` implib_check_dll, where the text is the file of a DLL. With `of` it calls implib_library_of: then the last number is that of exports, and in the
  * place of the text is of each the length of its name and the name, the same of its target, its ordinal and its flags;
  * a length of 2^64 - 1 is a null pointer. With the argument `texts` it writes a line with the text of each status from
  * 0 to 99 instead.
@@ -136,6 +136,9 @@ struct answer {
     uint8_t *buffer; /* exactly as long as the call is given */
 };
 
+/* Whether libraries are held against DLLs. */
+static int is_of_dlls;
+
 /* The status of a call for this text, which may be null. */
 static uint32_t status_of(struct call call, const uint8_t *text, uint8_t *buffer, size_t room, size_t *length,
                           size_t *place)
@@ -143,6 +146,9 @@ static uint32_t status_of(struct call call, const uint8_t *text, uint8_t *buffer
     if (call.is_of_exports)
         return implib_library_of(&call.options, call.count == 0 ? NULL : call.exports, call.count, buffer, room, length,
                                  place);
+    if (is_of_dlls)
+        return implib_check_dll(call.library.length == 0 ? NULL : call.library.bytes, call.library.length, text,
+                                call.text.length, call.options.dll, call.options.dll_length, buffer, room, length, place);
     if (call.function == NULL && call.with == NULL)
         return implib_check_library(call.library.length == 0 ? NULL : call.library.bytes, call.library.length, text,
                                     call.text.length, &call.options, buffer, room, length, place);
@@ -533,7 +539,8 @@ int main(int count, char *arguments[])
         function = exports;
     int is_of_exports = count == 2 && strcmp(arguments[1], "of") == 0;
     int is_of_warnings = count == 2 && strcmp(arguments[1], "warnings") == 0;
-    int is_of_checks = count == 2 && strcmp(arguments[1], "check") == 0;
+    is_of_dlls = count == 2 && strcmp(arguments[1], "beside") == 0;
+    int is_of_checks = is_of_dlls || (count == 2 && strcmp(arguments[1], "check") == 0);
     if (is_of_exports || is_of_warnings || is_of_checks || (count == 2 && strcmp(arguments[1], "with") == 0))
         function = NULL;
     callee_with *with = is_of_warnings ? implib_warnings : is_of_checks ? NULL : implib_library_with;

@@ -114,6 +114,18 @@ uint32_t implib_exports_nonnull(const uint8_t *bytes, size_t bytes_length, uint8
     return pass(bytes, bytes_length, IMPLIB_MACHINE_ARM64, IMPLIB_FLAVOR_GNU, buffer, buffer_length, length, place) + 3;
 }
 
+uint32_t implib_check_dll_nonnull(const uint8_t *bytes, size_t bytes_length, const uint8_t *dll, size_t dll_length,
+                                  const uint8_t *name, size_t name_length, uint8_t *buffer, size_t buffer_length,
+                                  size_t *length, size_t *place)
+{
+    hold(dll != NULL && dll_length <= 2, "a null pointer or another length is passed on for a DLL");
+    hold(name != NULL && name_length <= 2, "a null pointer or another length is passed on for a name");
+    passed_bytes = dll;
+    passed_dll = name;
+    passed_dll_length = name_length;
+    return pass(bytes, bytes_length, IMPLIB_MACHINE_ARM64, IMPLIB_FLAVOR_GNU, buffer, buffer_length, length, place) + 4;
+}
+
 void implib_position_nonnull(const uint8_t *text, size_t text_length, size_t offset, size_t *line, size_t *column)
 {
     hold(text != NULL && line != NULL && column != NULL, "a null pointer is passed on for a position");
@@ -201,6 +213,25 @@ static uint32_t check(const struct implib_options *options, const uint8_t *text,
     return status;
 }
 
+/* A call beside a DLL, each of whose texts may be null. */
+static void hold_dll(const uint8_t *text, uint8_t *buffer, size_t buffer_length, size_t *first, size_t *second)
+{
+    static const uint8_t name[] = {'c', 'd'};
+    size_t text_length = text == NULL ? 0 : 2;
+    for (unsigned given = 0; given < 4; given++) {
+        const uint8_t *dll = given & 1 ? name : NULL, *own = given & 2 ? name : NULL;
+        uint32_t status = implib_check_dll(text, text_length, dll, given & 1 ? 2 : 0, own, given & 2 ? 1 : 0, buffer,
+                                           buffer_length, first, second);
+        hold(status == IMPLIB_BUFFER_TOO_SMALL + 4, "another status is returned beside a DLL");
+        hold(text == NULL || passed_text == text, "another library is passed on beside a DLL");
+        hold(dll == NULL || passed_bytes == dll, "another DLL is passed on");
+        hold(own == NULL || (passed_dll == own && passed_dll_length == 1), "another name of a DLL is passed on");
+        hold(buffer == NULL || passed_buffer == (const void *)buffer, "another buffer is passed on beside a DLL");
+        hold(first == NULL || (passed_first == first && *first == 11), "another length is given beside a DLL");
+        hold(second == NULL || (passed_second == second && *second == 12), "another place is given beside a DLL");
+    }
+}
+
 /* Calls with exports, of which one may have a null pointer, and with options of each size. */
 static void hold_exports(uint8_t *buffer, size_t buffer_length, size_t *first, size_t *second)
 {
@@ -277,6 +308,7 @@ int main(void)
         hold_options(check, text, 2, some_buffer, buffer_length, some_first, some_second);
         hold_options(check, some_text, text_length, some_buffer, buffer_length, some_first, some_second);
         hold_exports(some_buffer, buffer_length, some_first, some_second);
+        hold_dll(some_text, some_buffer, buffer_length, some_first, some_second);
 
         first = second = 0;
         implib_position(some_text, text_length, 5, some_first, some_second);

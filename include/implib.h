@@ -62,7 +62,7 @@ extern "C" {
 
 /* The version of this header, which grows with every change of what it declares or says. implib_version()
  * gives that of the library. */
-#define IMPLIB_VERSION 7
+#define IMPLIB_VERSION 8
 uint32_t implib_version(void);
 
 /* What a call answers. New statuses get new numbers. Those of faults of the input are 16 to 39. */
@@ -121,13 +121,13 @@ enum implib_status {
     IMPLIB_EXPORT_NOT_UTF8 = 44,      /* the name or the target of an export is not UTF-8 */
     IMPLIB_NULL_IN_EXPORT = 45,       /* the name or the target of an export is a null pointer */
 
-    /* Of implib_imports and implib_check_library; *place is 0. */
+    /* Of implib_imports, implib_check_library and implib_check_dll; *place is 0. */
     IMPLIB_NOT_A_LIBRARY = 46, /* the bytes are no archive, or a thin one */
 
     /* Of implib_write alone; *place is 0. */
     IMPLIB_WRITE_FAILED = 47, /* the caller's function did not take a piece */
 
-    /* Of implib_exports alone. */
+    /* Of implib_exports and implib_check_dll. */
     IMPLIB_NOT_AN_IMAGE = 48,       /* the bytes are no PE32 or PE32+ image, or a part of it is cut; *place is the
                                      * offset of the field for which they are none */
     IMPLIB_NO_EXPORT_DIRECTORY = 49 /* the image exports nothing; *place is 0 */
@@ -385,6 +385,44 @@ static inline uint32_t implib_check_library(const uint8_t *bytes, size_t bytes_l
 #define IMPLIB_CHECK_BROKEN 2u
 
 /*
+ * Puts what the imports of a library come to in a DLL at the beginning of the buffer, and returns a status, which is
+ * IMPLIB_SUCCESS whatever they come to. The library may be of any maker. Each import is looked up as the program
+ * implib_check does it (docs/CHECK.md), which is as a loader does: a name at its hint and then by a binary search, an
+ * ordinal by its index. Forwarders are not followed. Nothing in either file is trusted.
+ *
+ * bytes        the library: the file, whole
+ * dll          the DLL: the file, whole
+ * name         the name of the DLL, without a folder, by which imports have to name it, in letters of any case; of
+ *              length 0 for the one that its export directory gives it. Without a full stop it ends in .dll
+ * length       gets the length of the encoding in bytes, where the status is IMPLIB_SUCCESS or
+ *              IMPLIB_BUFFER_TOO_SMALL; else 0
+ * place        gets what the status says of it; else 0
+ *
+ * The buffer is as of implib_library, with the encoding in the archive's place. A library that is none is refused first
+ * (IMPLIB_NOT_A_LIBRARY), then a DLL that is none (IMPLIB_NOT_AN_IMAGE, IMPLIB_NO_EXPORT_DIRECTORY).
+ *
+ *     number               how many members the library has, and then of each, in the order of implib_imports
+ *       number             what it comes to, an IMPLIB_FOUND_.. or an IMPLIB_LOST_..
+ *     number               how many exports of the DLL no import asks for, and then of each, in order
+ *       number             which row of implib_exports it is, from 0
+ *
+ * A program that is linked with the library starts only where nothing is lost, of what it imports from here; what
+ * implib_imports calls not understood or part of delayed imports may ask for more.
+ */
+static inline uint32_t implib_check_dll(const uint8_t *bytes, size_t bytes_length, const uint8_t *dll,
+                                        size_t dll_length, const uint8_t *name, size_t name_length,
+                                        uint8_t *buffer, size_t buffer_length, size_t *length, size_t *place);
+
+/* What a member of a library comes to in a DLL. New ways to be lost get new numbers. */
+#define IMPLIB_FOUND_NO_IMPORT 0u        /* it imports nothing */
+#define IMPLIB_FOUND_AT_ONCE 1u          /* a loader finds the name at its hint, or the ordinal */
+#define IMPLIB_FOUND_BY_SEARCH 2u        /* a loader finds the name elsewhere */
+#define IMPLIB_LOST_OTHER_DLL 3u         /* the import is of another DLL */
+#define IMPLIB_LOST_OTHER_MACHINE 4u     /* it is for another machine than the DLL */
+#define IMPLIB_LOST_NOT_EXPORTED 5u      /* a loader finds nothing */
+#define IMPLIB_LOST_DATA_AS_FUNCTION 6u  /* the DLL has data there, into which a function's stub would jump */
+
+/*
  * Puts the import library of a definition at the beginning of the buffer, and returns a status: the archive of
  * the members that implib_members gives, of the COFF kind (as of LIB.EXE, a .lib) for Microsoft's linker, and
  * of the GNU kind (as of ar, a .a) for GNU's.
@@ -489,6 +527,9 @@ uint32_t implib_check_library_nonnull(const uint8_t *bytes, size_t bytes_length,
                                       size_t text_length, const uint8_t *dll, size_t dll_length, uint32_t has_dll,
                                       uint16_t machine, uint32_t flavor, uint32_t flags, uint8_t *buffer,
                                       size_t buffer_length, size_t *length, size_t *place);
+uint32_t implib_check_dll_nonnull(const uint8_t *bytes, size_t bytes_length, const uint8_t *dll, size_t dll_length,
+                                  const uint8_t *name, size_t name_length, uint8_t *buffer, size_t buffer_length,
+                                  size_t *length, size_t *place);
 uint32_t implib_library_nonnull(const uint8_t *text, size_t text_length, uint16_t machine, uint32_t flavor,
                                 uint8_t *buffer, size_t buffer_length, size_t *length, size_t *place);
 uint32_t implib_members_nonnull(const uint8_t *text, size_t text_length, uint16_t machine, uint32_t flavor,
@@ -620,6 +661,19 @@ static inline uint32_t implib_exports(const uint8_t *bytes, size_t bytes_length,
     return implib_exports_nonnull(bytes_length == 0 ? &no_bytes : bytes, bytes_length,
                                   buffer_length == 0 ? &no_buffer : buffer, buffer_length,
                                   length == NULL ? &no_length : length, place == NULL ? &no_place : place);
+}
+
+static inline uint32_t implib_check_dll(const uint8_t *bytes, size_t bytes_length, const uint8_t *dll,
+                                        size_t dll_length, const uint8_t *name, size_t name_length,
+                                        uint8_t *buffer, size_t buffer_length, size_t *length, size_t *place)
+{
+    uint8_t no_bytes = 0, no_dll = 0, no_name = 0, no_buffer = 0;
+    size_t no_length, no_place;
+    return implib_check_dll_nonnull(bytes_length == 0 ? &no_bytes : bytes, bytes_length,
+                                    dll_length == 0 ? &no_dll : dll, dll_length,
+                                    name_length == 0 ? &no_name : name, name_length,
+                                    buffer_length == 0 ? &no_buffer : buffer, buffer_length,
+                                    length == NULL ? &no_length : length, place == NULL ? &no_place : place);
 }
 
 static inline uint32_t implib_check_library(const uint8_t *bytes, size_t bytes_length, const uint8_t *text,

@@ -8,7 +8,7 @@ use crate::error::{Error, Fault, Position};
 use crate::{Flavor, MachineType};
 
 /// `IMPLIB_VERSION` of the header that this file was written for.
-pub(crate) const VERSION: u32 = 7;
+pub(crate) const VERSION: u32 = 8;
 
 /// `IMPLIB_STATUS_TEXT_SIZE`: no text of a status is longer, its NUL counted.
 const STATUS_TEXT_SIZE: usize = 32;
@@ -43,6 +43,19 @@ extern "C" {
     fn implib_exports_nonnull(
         bytes: *const u8,
         bytes_length: usize,
+        buffer: *mut u8,
+        buffer_length: usize,
+        length: *mut usize,
+        place: *mut usize,
+    ) -> u32;
+
+    fn implib_check_dll_nonnull(
+        bytes: *const u8,
+        bytes_length: usize,
+        dll: *const u8,
+        dll_length: usize,
+        name: *const u8,
+        name_length: usize,
         buffer: *mut u8,
         buffer_length: usize,
         length: *mut usize,
@@ -167,6 +180,30 @@ pub(crate) fn exports(file: &[u8], buffer: &mut [u8]) -> (u32, usize, usize) {
     let status = unsafe {
         let (file, file_length) = (file.as_ptr(), file.len());
         implib_exports_nonnull(file, file_length, buffer.as_mut_ptr(), buffer.len(), &mut length, &mut place)
+    };
+    (status, length, place)
+}
+
+/// Puts what the imports of a library come to in the DLL of a file, which has this name, at the beginning of the
+/// buffer: the status, the length and the place.
+pub(crate) fn check_dll(library: &[u8], dll: &[u8], name: &[u8], buffer: &mut [u8]) -> (u32, usize, usize) {
+    let (mut length, mut place) = (0, 0);
+    // SAFETY: library, dll, name and buffer are slices, so each pointer is not null and leads to as many bytes as its
+    // length says. The buffer and the two numbers are borrowed to be written, so they overlap neither each other nor
+    // the rest, and nobody else reads or writes them during the call. The library keeps no pointer.
+    let status = unsafe {
+        implib_check_dll_nonnull(
+            library.as_ptr(),
+            library.len(),
+            dll.as_ptr(),
+            dll.len(),
+            name.as_ptr(),
+            name.len(),
+            buffer.as_mut_ptr(),
+            buffer.len(),
+            &mut length,
+            &mut place,
+        )
     };
     (status, length, place)
 }

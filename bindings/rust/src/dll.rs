@@ -1,5 +1,5 @@
-//! What a DLL exports, by the bytes of its file. Nothing in the file is trusted: any other file is refused, with the
-//! offset of the field at fault.
+//! What a DLL exports, and what the imports of a library come to in it, by the bytes of the files. Nothing in them is
+//! trusted: any other file is refused, with the offset of the field at fault.
 
 use crate::c;
 use crate::read::{bytes, number};
@@ -9,6 +9,7 @@ use std::fmt;
 const SUCCESS: u32 = 0;
 const BUFFER_TOO_SMALL: u32 = 1;
 const OUT_OF_MEMORY: u32 = 2;
+const NOT_A_LIBRARY: u32 = 46;
 const NOT_AN_IMAGE: u32 = 48;
 const NO_EXPORT_DIRECTORY: u32 = 49;
 
@@ -58,6 +59,8 @@ pub enum Refusal {
     NotAnImage(usize),
     /// The image has no export directory.
     NoExportDirectory,
+    /// The library is no archive, or a thin one.
+    NotALibrary,
     /// An allocation failed.
     OutOfMemory,
     /// The library that is linked has another version of its interface than this crate.
@@ -71,6 +74,7 @@ impl fmt::Display for Refusal {
         match self {
             Refusal::NotAnImage(offset) => write!(f, "not an image (offset {offset})"),
             Refusal::NoExportDirectory => f.write_str("no export directory"),
+            Refusal::NotALibrary => f.write_str("not a library"),
             Refusal::OutOfMemory => f.write_str("out of memory"),
             Refusal::OtherVersion => f.write_str("the library has another version"),
             Refusal::Unknown => f.write_str("unknown status"),
@@ -87,23 +91,101 @@ impl Dll {
     ///
     /// The file's first fault, as [`Refusal`] has it.
     pub fn read(file: &[u8]) -> Result<Dll, Refusal> {
-        if c::version() != c::VERSION {
-            return Err(Refusal::OtherVersion);
-        }
-        let length = match c::exports(file, &mut []) {
-            (SUCCESS | BUFFER_TOO_SMALL, length, _) => length,
-            (status, _, place) => return Err(refusal(status, place)),
-        };
-        let mut encoding = Vec::new();
-        if encoding.try_reserve_exact(length).is_err() {
-            return Err(Refusal::OutOfMemory);
-        }
-        encoding.resize(length, 0);
-        match c::exports(file, &mut encoding) {
-            (SUCCESS, _, _) => dll_in(&encoding).ok_or(Refusal::Unknown),
-            (status, _, place) => Err(refusal(status, place)),
-        }
+        let encoding = encoded(|buffer| c::exports(file, buffer))?;
+        dll_in(&encoding).ok_or(Refusal::Unknown)
     }
+}
+
+/// What a member of a library comes to in a DLL.
+#[derive(Debug, Clone, Copy, PartialEq, Eq)]
+#[non_exhaustive]
+pub enum Found {
+    /// It imports nothing.
+    NoImport,
+    /// A loader finds the name at its hint, or the ordinal.
+    AtOnce,
+    /// A loader finds the name elsewhere, by a search.
+    BySearch,
+    /// Lost: the import is of another DLL.
+    OtherDll,
+    /// Lost: it is for another machine than the DLL.
+    OtherMachine,
+    /// Lost: a loader finds nothing.
+    NotExported,
+    /// Lost: the DLL has data there, into which a function's stub would jump.
+    DataAsFunction,
+}
+
+impl Found {
+    /// Whether it is that of an import with which a program does not start, or jumps into data.
+    pub fn is_lost(self) -> bool {
+        !matches!(self, Found::NoImport | Found::AtOnce | Found::BySearch)
+    }
+}
+
+/// What a library comes to in a DLL.
+#[derive(Debug, Clone, PartialEq, Eq)]
+pub struct Check {
+    /// What each of its members comes to, in their order.
+    pub members: Vec<Found>,
+    /// The exports of the DLL that no import asks for: their places in [`Dll::exports`].
+    pub unasked: Vec<usize>,
+}
+
+impl Check {
+    /// Looks up each import of a library, of any maker, in the DLL of a file, as a loader does; forwarders are not
+    /// followed. Imports have to name the DLL by this name, which is without a folder, in letters of any case; where
+    /// it is empty, by the one that its export directory has.
+    ///
+    /// # Errors
+    ///
+    /// The first fault of the library and then of the file, as [`Refusal`] has it.
+    pub fn of(library: &[u8], file: &[u8], name: &[u8]) -> Result<Check, Refusal> {
+        let encoding = encoded(|buffer| c::check_dll(library, file, name, buffer))?;
+        check_in(&encoding).ok_or(Refusal::Unknown)
+    }
+}
+
+/// The encoding that a call of the library puts into a buffer.
+fn encoded(call: impl Fn(&mut [u8]) -> (u32, usize, usize)) -> Result<Vec<u8>, Refusal> {
+    if c::version() != c::VERSION {
+        return Err(Refusal::OtherVersion);
+    }
+    let length = match call(&mut []) {
+        (SUCCESS | BUFFER_TOO_SMALL, length, _) => length,
+        (status, _, place) => return Err(refusal(status, place)),
+    };
+    let mut encoding = Vec::new();
+    if encoding.try_reserve_exact(length).is_err() {
+        return Err(Refusal::OutOfMemory);
+    }
+    encoding.resize(length, 0);
+    match call(&mut encoding) {
+        (SUCCESS, _, _) => Ok(encoding),
+        (status, _, place) => Err(refusal(status, place)),
+    }
+}
+
+/// The check of an encoding.
+fn check_in(mut rest: &[u8]) -> Option<Check> {
+    let rest = &mut rest;
+    let mut check = Check { members: Vec::new(), unasked: Vec::new() };
+    for _ in 0..number(rest)? {
+        check.members.push(match number(rest)? {
+            0 => Found::NoImport,
+            1 => Found::AtOnce,
+            2 => Found::BySearch,
+            3 => Found::OtherDll,
+            4 => Found::OtherMachine,
+            5 => Found::NotExported,
+            6 => Found::DataAsFunction,
+            _ => return None,
+        });
+    }
+    for _ in 0..number(rest)? {
+        check.unasked.push(number(rest)?.try_into().ok()?);
+    }
+    Some(check)
 }
 
 /// What a status says of a file.
@@ -111,6 +193,7 @@ fn refusal(status: u32, place: usize) -> Refusal {
     match status {
         NOT_AN_IMAGE => Refusal::NotAnImage(place),
         NO_EXPORT_DIRECTORY => Refusal::NoExportDirectory,
+        NOT_A_LIBRARY => Refusal::NotALibrary,
         OUT_OF_MEMORY => Refusal::OutOfMemory,
         _ => Refusal::Unknown,
     }

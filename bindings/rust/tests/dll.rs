@@ -1,6 +1,7 @@
-//! What a DLL exports.
+//! What a DLL exports, and what the imports of libraries come to in it.
 
-use implib::dll::{Dll, Export, Refusal, Target};
+use implib::dll::{Check, Dll, Export, Found, Refusal, Target};
+use implib::{Flavor, ImportLibrary, MachineType};
 
 /// A DLL for I386: a function of two names, a variable, a hole, a forwarder, and the function again.
 const DLL: [u8; 421] = [
@@ -65,4 +66,33 @@ fn other_files_are_refused() {
     // data directory 0
     bare[0xB8..0xC0].fill(0);
     assert_eq!(Dll::read(&bare), Err(Refusal::NoExportDirectory));
+}
+
+/// A library for Microsoft's linker: three headers, and then what is imported.
+fn library(text: &str, machine: MachineType) -> Vec<u8> {
+    let mut bytes = Vec::new();
+    ImportLibrary::new(text, machine, Flavor::Msvc).unwrap().write_to(&mut bytes).unwrap();
+    bytes
+}
+
+#[test]
+fn imports_are_held_against_the_dll() {
+    let text = "LIBRARY w.dll\nEXPORTS\nalpha\nbeta @2\nlost\nsix @6 NONAME\nvar @6 NONAME DATA";
+    let none = [Found::NoImport; 3];
+    let own = library(text, MachineType::I386);
+    let found = Check::of(&own, &DLL, b"").unwrap();
+    let want = [Found::AtOnce, Found::BySearch, Found::NotExported, Found::DataAsFunction, Found::AtOnce];
+    assert_eq!((&found.members[..3], &found.members[3..]), (none.as_slice(), want.as_slice()));
+    assert_eq!(found.unasked, [3, 4]);
+    assert_eq!(want.map(Found::is_lost), [false, false, true, true, false]);
+    let other = Check::of(&own, &DLL, b"v").unwrap();
+    assert_eq!((&other.members[3..], other.unasked), ([Found::OtherDll; 5].as_slice(), vec![0, 1, 3, 4]));
+    let apart = Check::of(&library(text, MachineType::AMD64), &DLL, b"W").unwrap();
+    assert_eq!(&apart.members[3..], [Found::OtherMachine; 5]);
+}
+
+#[test]
+fn a_library_is_refused_before_the_dll() {
+    assert_eq!(Check::of(b"MZ", b"", b""), Err(Refusal::NotALibrary));
+    assert_eq!(Check::of(b"!<arch>\n", &DLL[..420], b""), Err(Refusal::NotAnImage(292)));
 }

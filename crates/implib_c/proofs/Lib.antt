@@ -25,6 +25,10 @@ pub mod ImportsRead
 pub mod DllExportsBack
 pub mod DllExportsAnswers
 pub mod WorkedDllExports
+pub mod DllCheckBack
+pub mod DllCheckAnswers
+pub mod DllToldFits
+pub mod WorkedDllCheck
 pub mod RowsPushed
 pub mod Flagged
 pub mod ToldBack

@@ -13,6 +13,8 @@ pub mod Imports
 pub mod ImportsAnswer
 pub mod DllExports
 pub mod DllExportsAnswer
+pub mod DllCheck
+pub mod DllCheckAnswer
 pub mod Check
 pub mod CheckAnswer
 pub mod Place
@@ -25,12 +27,14 @@ pub mod DefinitionGiven
 pub mod WarningsGiven
 pub mod ImportsGiven
 pub mod DllExportsGiven
+pub mod DllCheckGiven
 pub mod CheckGiven
 pub mod WorkedEncoding
 pub mod WorkedDefinition
 pub mod WorkedWarnings
 pub mod WorkedImports
 pub mod WorkedDllExports
+pub mod WorkedDllCheck
 pub mod WorkedCheck
 pub mod WorkedGaps
 pub mod WorkedStatus

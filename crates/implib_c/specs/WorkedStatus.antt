@@ -159,7 +159,7 @@ pub record WorkedArguments : Type 0 where
   pub export_as_keep_decorated : naming_numbered 12 ≡ Some (record { is_plain = false; kills_at = false; exports_as = true; keeps_decorated = true })
   pub each_flag : naming_numbered 15 ≡ Some (record { is_plain = true; kills_at = true; exports_as = true; keeps_decorated = true })
   pub unknown_flag : naming_numbered 16 ≡ None
-  pub version_is : version ≡ 7
+  pub version_is : version ≡ 8
 
 -- all of them
 pub record WorkedStatuses : Type 0 where

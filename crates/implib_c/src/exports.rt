@@ -8,6 +8,7 @@ ghost use Rattle.implib.specs.Text.Position.{line_and_column};
 ghost use Rattle.implib_c.specs.Answer.{Answers};
 ghost use Rattle.implib_c.specs.CheckAnswer.{CheckAnswers};
 ghost use Rattle.implib_c.specs.DefinitionAnswer.{DefinitionAnswers};
+ghost use Rattle.implib_c.specs.DllCheckAnswer.{DllCheckAnswers};
 ghost use Rattle.implib_c.specs.DllExportsAnswer.{ExportsAnswers};
 ghost use Rattle.implib_c.specs.Given.{length_given, place_given, status_given};
 ghost use Rattle.implib_c.specs.ImportsAnswer.{ImportsAnswers};
@@ -22,6 +23,7 @@ ghost use Rattle.std.specs.Prelude.{◌<◌, ◌≡◌, length, map};
 
 use crate::check::check_into;
 use crate::definition::definition_into;
+use crate::dll_check::check_dll_into;
 use crate::dll_exports::exports_into;
 use crate::export::Export;
 use crate::imports::imports_into;
@@ -34,7 +36,7 @@ use crate::warnings::warnings_into;
 use std::alloc::Global;
 
 // `IMPLIB_VERSION` of the header.
-const VERSION: u32 = 7;
+const VERSION: u32 = 8;
 
 // Writes the length and the place of an answer. Gives its status.
 fn tell(answer: &Result<usize, Failure>, length: &mut usize, place: &mut usize) -> u32
@@ -274,6 +276,33 @@ pub extern "C" fn implib_exports_nonnull(
     ensures { ExportsAnswers bytes.now buffer.old buffer.new length.new place.new result }
 {
     let answer = exports_into(alloc, bytes, buffer);
+    tell(&answer, length, place)
+}
+
+/// Puts what the imports of a library, of any maker, come to in the DLL of a file at the beginning of
+/// `buffer`, encoded as `specs/DllCheck.antt` says, and gives a status: 0 where it is done, whatever
+/// they come to.
+///
+/// `bytes` is the library. `name` is the name of the DLL, without a folder; where it is empty, that in
+/// its export directory counts. A library that is no archive is refused first.
+///
+/// `length` gets the length of the encoding in bytes, where the status is 0 or 1 (the buffer is too
+/// small), and otherwise 0. `place` gets the offset of the field for which the DLL is no image, where
+/// the status says that it is none, and otherwise 0. Where the status is not 0 the buffer is as it
+/// was, and where it is 0, what follows the encoding.
+#[unsafe(no_mangle)]
+pub extern "C" fn implib_check_dll_nonnull(
+    alloc: Global,
+    bytes: &[u8],
+    dll: &[u8],
+    name: &[u8],
+    buffer: &mut [u8],
+    length: &mut usize,
+    place: &mut usize,
+) -> u32
+    ensures { DllCheckAnswers bytes.now dll.now name.now buffer.old buffer.new length.new place.new result }
+{
+    let answer = check_dll_into(alloc, bytes, dll, name, buffer);
     tell(&answer, length, place)
 }
 

@@ -4,6 +4,7 @@
 ghost use Rattle.implib.specs.Members.MemberSpec.{MemberView};
 ghost use Rattle.implib_c.specs.Check.{ReadsToldBack, Told};
 ghost use Rattle.implib_c.specs.Definition.{ReadsDefinitionBack, StatedDefinition};
+ghost use Rattle.implib_c.specs.DllCheck.{DllTold, ReadsDllToldBack};
 ghost use Rattle.implib_c.specs.DllExports.{DllRows, ReadsDllBack};
 ghost use Rattle.implib_c.specs.Encoding.{ReadsBack};
 ghost use Rattle.implib_c.specs.Imports.{ReadsRowsBack, Row};
@@ -13,9 +14,11 @@ ghost use Rattle.implib_c.specs.Status.{NumbersReturn};
 ghost use Rattle.implib_c.specs.Warnings.{ReadsWarningsBack, Said};
 ghost use Rattle.implib_c.specs.WorkedCheck.{WorkedChecks};
 ghost use Rattle.implib_c.specs.WorkedDefinition.{WorkedDefinitions};
+ghost use Rattle.implib_c.specs.WorkedDllCheck.{WorkedDllChecks};
 ghost use Rattle.implib_c.specs.WorkedDllExports.{WorkedDllExports};
 ghost use Rattle.implib_c.specs.WorkedEncoding.{WorkedEncodings};
 ghost use Rattle.implib_c.specs.WorkedExports.{WorkedExports};
+ghost use Rattle.implib_c.specs.WorkedGaps.{WorkedGaps};
 ghost use Rattle.implib_c.specs.WorkedImports.{WorkedImports};
 ghost use Rattle.implib_c.specs.WorkedPlace.{WorkedPlaces};
 ghost use Rattle.implib_c.specs.WorkedStatus.{WorkedStatuses};
@@ -76,6 +79,16 @@ pub fn worked_dll_exports()
     ensures { WorkedDllExports }
 {}
 
+/// An encoding of what is told of a library beside a DLL reads back, whatever follows it.
+pub fn dll_checks_read_back()
+    ensures { (told : DllTold) (rest : List ℕ) → ReadsDllToldBack told rest }
+{}
+
+/// What imports come to in a DLL, worked by hand, is this, has these bytes, and is read so.
+pub fn worked_dll_checks()
+    ensures { WorkedDllChecks }
+{}
+
 /// An encoding of what is told of a library beside a definition's reads back, whatever follows it.
 pub fn checks_read_back()
     ensures { (told : Told) (rest : List ℕ) → ReadsToldBack told rest }
@@ -127,4 +140,10 @@ pub fn one_library()
 /// same text and options.
 pub fn puts_what_is_written()
     ensures { PutsWhatIsWritten }
+{}
+
+/// No status has a number between those of calls and those of faults, nor a much greater one; the
+/// flavours are 0 and 1, and not 2, 3 or a much greater number.
+pub fn worked_gaps()
+    ensures { WorkedGaps }
 {}

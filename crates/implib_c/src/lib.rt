@@ -5,11 +5,11 @@
 
 mod check;
 mod definition;
+mod dll_check;
 mod dll_exports;
 mod encoding;
 mod export;
 mod exports;
-mod gaps;
 mod imports;
 mod laws;
 mod library_of;

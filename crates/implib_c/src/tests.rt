@@ -3,10 +3,10 @@
 
 use crate::export::Export;
 use crate::exports::{
-    implib_check_library_nonnull, implib_definition_nonnull, implib_exports_nonnull,
-    implib_imports_nonnull, implib_library_nonnull, implib_library_of_nonnull,
-    implib_library_with_nonnull, implib_members_nonnull, implib_position_nonnull,
-    implib_status_text_nonnull, implib_version, implib_warnings_nonnull,
+    implib_check_dll_nonnull, implib_check_library_nonnull, implib_definition_nonnull,
+    implib_exports_nonnull, implib_imports_nonnull, implib_library_nonnull,
+    implib_library_of_nonnull, implib_library_with_nonnull, implib_members_nonnull,
+    implib_position_nonnull, implib_status_text_nonnull, implib_version, implib_warnings_nonnull,
 };
 use implib::{Flavor, ImportLibrary, MachineType};
 use implib_archive::{Archive, Kind};
@@ -593,7 +593,7 @@ fn offsets_have_lines_and_columns(rt: HostRuntime) -> Result<(), Fail> {
 
 #[test]
 fn the_version_is_that_of_the_header(rt: HostRuntime) -> Result<(), Fail> {
-    assert_eq!(rt; implib_version(), 7);
+    assert_eq!(rt; implib_version(), 8);
     Ok(())
 }
 
@@ -901,6 +901,49 @@ fn exports_are_told_and_of_no_dll_none(rt: HostRuntime) -> Result<(), Fail> {
         assert_eq!(rt; exported(rt.alloc(), *count, short.as_mut_slice()), *answer);
         assert!(rt; is_untouched(short.as_slice()));
     }
+    Ok(())
+}
+
+// The status, the length and the place of a call that holds a library against the DLL, under a name,
+// and the low bytes of the first four numbers that it puts.
+fn beside(
+    alloc: Global,
+    library: &[u8],
+    name: &[u8],
+    buffer: &mut [u8],
+) -> ((u32, usize, usize), [u8; 4]) {
+    let mut length = 12_345;
+    let mut place = 67_890;
+    let status = implib_check_dll_nonnull(
+        alloc,
+        library,
+        &DLL,
+        name,
+        buffer,
+        &mut length,
+        &mut place,
+    );
+    ((status, length, place), first_numbers(buffer))
+}
+
+// Names, with the answer and the first four numbers: one import, of another DLL, or for another
+// machine; and four exports that it does not ask for.
+const BESIDE: &[(&[u8], (u32, usize, usize), [u8; 4])] = &[
+    (b"", (0, 56, 0), [1, 3, 4, 0]),
+    (b"Foo", (0, 56, 0), [1, 4, 4, 0]),
+];
+
+#[test]
+fn a_library_is_held_against_a_dll(rt: HostRuntime) -> Result<(), Fail> {
+    for (name, answer, numbers) in BESIDE {
+        let mut buffer = room(rt.alloc(), 64)?;
+        let found = beside(rt.alloc(), SHORT_IMPORT, name, buffer.as_mut_slice());
+        assert_eq!(rt; found, (*answer, *numbers));
+        assert!(rt; is_untouched(buffer.get(56..).unwrap_or(&[])));
+    }
+    let mut short = room(rt.alloc(), 55)?;
+    let found = beside(rt.alloc(), SHORT_IMPORT, b"", short.as_mut_slice());
+    assert_eq!(rt; (found.0, is_untouched(&short)), ((1, 56, 0), true));
     Ok(())
 }
 

@@ -8,6 +8,8 @@ use Rattle.implib_check.specs.WorkedStarting.{WorkedStarting}
 use Rattle.implib_dll.specs.Exports.{exports_in}
 use Rattle.implib_dll.specs.Headers.{header_for, signature_in}
 use Rattle.implib_dll.specs.Lookup.{order_at, searched}
+use Rattle.implib_dll_check.specs.Forwarding.{end_by, split_last}
+use Rattle.implib_check.specs.WorkedThrough.{WorkedThrough}
 use Rattle.implib_check.specs.WorkedTogether.{WorkedTogether}
 use Rattle.implib_check.specs.WorkedDefinitions.{WorkedDefines, WorkedDefinitions}
 use Rattle.std.specs.Fmt.{digits}
@@ -250,4 +252,35 @@ worked_starting = record {
   name_object = refl;
   ordinal_object = refl;
   machine_object = refl;
+}
+
+pub worked_through : WorkedThrough
+unfolding chars digits encode_utf8 end_by exports_in header_for is_utf8 order_at part_after_last searched serde_json_on_literals signature_in split_last utf8_valid_len
+worked_through = record {
+  two_folders = refl;
+  options_before = refl;
+  option_behind = refl;
+  no_folder = refl;
+  no_dll = refl;
+  not_asked = refl;
+  task = refl;
+  in_json = refl;
+  of_program = refl;
+  asks = refl;
+  asks_nothing = refl;
+  exports = refl;
+  no_exports = refl;
+  refused = refl;
+  not_there = refl;
+  empty_file = refl;
+  no_file = refl;
+  followed = refl;
+  stopped = refl;
+  lost = refl;
+  unread = refl;
+  through_dlls = refl;
+  to_nothing = refl;
+  not_followed = refl;
+  is_open = refl;
+  stopped_object = refl;
 }

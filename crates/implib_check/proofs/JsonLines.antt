@@ -13,9 +13,10 @@ use Rattle.implib.specs.declared.def.position.Position.{Position}
 use Rattle.implib_read.specs.Classes.{Class, AnImport, AnAlias, Descriptor, NullDescriptor, NullThunk, Head, Tail, DelayImport, Other, NotUnderstood, MemberRead}
 use Rattle.serde_json.specs.Data.{Data, Members, member, no_members, number, put, string, unsigned}
 use Rattle.serde_json.specs.Written.{has_float, members_have_float}
+use Rattle.implib_dll_check.specs.declared.forwarder.Stop.{Stop}
 use Rattle.implib_check.specs.Json.{Clash, CutApart, Different, FaultOf, FaultView, FindingView, InDefinition, InLibrary, Listed, Missing, MisleadingEntry, NoIndex, NotOnePart, SeveralDlls, SideView, SiteView, UnreadableIndex}
 use Rattle.implib_check.specs.Json.{LostIn, NoFile, UnmetBy, UnmetView, with_ask_of, with_program, with_unmet}
-use Rattle.implib_check.specs.Json.{ExportView, Exported, Lost, Searched, Unasked, address_word, loss_words, with_export, with_loss, with_named, with_target}
+use Rattle.implib_check.specs.Json.{ExportView, Exported, Lost, Searched, StoppedAt, Unasked, address_word, loss_words, stop_words, with_export, with_loss, with_stop, with_named, with_target}
 use Rattle.implib_check.specs.Json.{kind_word, object_of, piece_words, side_object, site_object, text_of, what_of, with_asked, with_class, with_fault, with_finding, with_member, with_name, with_number, with_position, with_side, with_sides, with_site, with_word}
 
 neither : (a b : Bool) → a ≡ false → b ≡ false → (a || b) ≡ false
@@ -151,6 +152,17 @@ loss_floatless side dll loss fields others =
     side_floatless side (with_word (codes "dll_file") dll why)
     (word_floatless (codes "dll_file") dll why (word_floatless (codes "why") (loss_words loss) fields others))
 
+stop_floatless : (side : SideView) (dll text : List ℕ) (why : Stop) (fields : Members) → AreFloatless fields
+    → AreFloatless (with_stop side dll text why fields)
+stop_floatless side dll text why fields others =
+    let nothing = with_word (codes "why") (codes "forwarded to nothing") fields in
+    let file = with_word (codes "dll_file") dll nothing in
+    let forwarder = with_name (codes "forwarder") text file in
+    side_floatless side (with_word (codes "end") (stop_words why) forwarder)
+    (word_floatless (codes "end") (stop_words why) forwarder
+    (name_floatless (codes "forwarder") text file
+    (word_floatless (codes "dll_file") dll nothing (word_floatless (codes "why") (codes "forwarded to nothing") fields others))))
+
 ask_of_floatless : (ask : Option Asked) (fields : Members) → AreFloatless fields → AreFloatless (with_ask_of ask fields)
 ask_of_floatless None fields others = others
 ask_of_floatless (Some (ByName name hint)) fields others =
@@ -175,6 +187,7 @@ finding_floatless (Clash symbol here there) fields others =
 finding_floatless (FaultOf path fault) fields others =
     fault_floatless fault (with_word (codes "library") path fields) (word_floatless (codes "library") path fields others)
 finding_floatless (Lost side dll loss) fields others = loss_floatless side dll loss fields others
+finding_floatless (StoppedAt side dll text why) fields others = stop_floatless side dll text why fields others
 finding_floatless (Searched site count) fields others =
     number_floatless (codes "count") count (with_site site fields) (site_floatless site fields others)
 finding_floatless (Unasked path export) fields others = export_floatless path export fields others

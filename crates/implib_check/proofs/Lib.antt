@@ -16,4 +16,5 @@ pub mod SecondIndex
 pub mod LaterMeanings
 pub mod MadeLibraries
 pub mod ThirdTexts
+pub mod LoadedDlls
 pub mod WorkedTexts

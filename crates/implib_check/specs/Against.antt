@@ -12,6 +12,7 @@ use Rattle.implib_dll.specs.Exports.{Exports, exports_in}
 use Rattle.implib_dll.specs.Outcome.{Read}
 use Rattle.implib_dll.specs.declared.section.Layout.TheVariants.{File}
 use Rattle.implib_dll_check.specs.DllName.{loader_name}
+use Rattle.implib_dll_check.specs.Forwarding.{End, is_stop}
 use Rattle.implib_dll_check.specs.Imports.{is_import, is_lost, judgements}
 use Rattle.implib_dll_check.specs.declared.import.Judgement.{Judgement}
 use Rattle.implib_read.specs.Archives.{Archive, archive_in}
@@ -22,6 +23,7 @@ use Rattle.implib_rules.specs.Options.{LibraryOptionsView}
 use Rattle.implib_rules.specs.declared.library.Refusal.{Refusal}
 use Rattle.implib_check.specs.Calls.{CheckView}
 use Rattle.implib_check.specs.Status.{no_library_status, refusal_status}
+use Rattle.implib_check.specs.Through.{Through, ends_through}
 
 -- whether bytes begin as an image does (PE/COFF specification, "MS-DOS Stub (Image Only)"), and as an archive, or a thin one
 abbrev pub begins_dll : List ℕ → Bool
@@ -45,10 +47,15 @@ abbrev pub against_status : List Judgement → Bool → ℕ
 against_status found unread =
     if list_any is_lost found then 1 else if unread then 4 else if list_any is_import found then 0 else 1
 
--- the status of members in a DLL
-abbrev pub members_against : CheckView → Exports → List MemberRead → ℕ
-members_against check e members =
-    against_status (judgements e (names_of check.dll check.definition e.dll) members) (has_unread members)
+-- The same of what they come to, and where forwarders lead: 1 where one leads to nothing.
+abbrev pub held_status : List Judgement → List (Option End) → Bool → ℕ
+held_status found ends unread = if list_any is_stop ends then 1 else against_status found unread
+
+-- the status of members in a DLL, and through it in others
+abbrev pub members_against : Through → CheckView → Exports → List MemberRead → ℕ
+members_against others check e members =
+    let names = names_of check.dll check.definition e.dll in
+    held_status (judgements e names members) (ends_through others e names members) (has_unread members)
 
 -- whether a call has an option that a definition alone is read by
 abbrev pub has_options : CheckView → Bool
@@ -57,10 +64,10 @@ has_options c =
     || (c.naming.is_plain || (c.naming.kills_at || (c.naming.exports_as || c.naming.keeps_decorated)))))
 
 -- the status of members in the DLL that bytes are read as: 3 where they are refused, and 1 where nothing is exported
-abbrev pub members_in : CheckView → List MemberRead → Read (Option Exports) → ℕ
-members_in check members (Ok (Some e)) = members_against check e members
-members_in check members (Ok None) = 1
-members_in check members (Err fault) = 3
+abbrev pub members_in : Through → CheckView → List MemberRead → Read (Option Exports) → ℕ
+members_in others check members (Ok (Some e)) = members_against others check e members
+members_in others check members (Ok None) = 1
+members_in others check members (Err fault) = 3
 
 -- For which machine and linker a definition is read that is held against a DLL: the machine and the flavour that the call
 -- names, else the DLL's machine, if libraries are made for it, and Microsoft's flavour, or GNU's where older symbols are
@@ -75,12 +82,12 @@ options_against c e = record {
 }
 
 -- The status of a definition in a DLL: of a library that it has for these options, as that is read.
-pub record IsHeld (check : CheckView) (e : Exports) (definition : List ℕ) (status : ℕ) : Type 0 where
+pub record IsHeld (others : Through) (check : CheckView) (e : Exports) (definition : List ℕ) (status : ℕ) : Type 0 where
   pub file : List ℕ
   pub is_library : IsLibraryFor check.older_symbols definition (options_against check e) file
   pub meant : List MemberRead
   pub read : library_in file ≡ Some meant
-  pub is : status ≡ members_against check e meant
+  pub is : status ≡ members_against others check e meant
 
 -- the status of a definition that is refused
 pub record IsRefused (check : CheckView) (e : Exports) (definition : List ℕ) (status : ℕ) : Type 0 where
@@ -89,14 +96,15 @@ pub record IsRefused (check : CheckView) (e : Exports) (definition : List ℕ) (
   pub is : status ≡ refusal_status why
 
 -- The status of a definition beside the DLL of a file's bytes: 3 where these are refused, and 1 where nothing is exported.
-abbrev pub DefinitionAgainst : CheckView → List ℕ → Read (Option Exports) → ℕ → Type 0
-DefinitionAgainst check definition (Ok (Some e)) status = IsHeld check e definition status ⊎ IsRefused check e definition status
-DefinitionAgainst check definition (Ok None) status = status ≡ 1
-DefinitionAgainst check definition (Err fault) status = status ≡ 3
+abbrev pub DefinitionAgainst : Through → CheckView → List ℕ → Read (Option Exports) → ℕ → Type 0
+DefinitionAgainst others check definition (Ok (Some e)) status =
+    IsHeld others check e definition status ⊎ IsRefused check e definition status
+DefinitionAgainst others check definition (Ok None) status = status ≡ 1
+DefinitionAgainst others check definition (Err fault) status = status ≡ 3
 
 -- The status of the library of a file's bytes beside the DLL of another's: 2 where the call has options of definitions.
-abbrev pub library_against : CheckView → List ℕ → List ℕ → ℕ
-library_against check library dll =
+abbrev pub library_against : Through → CheckView → List ℕ → List ℕ → ℕ
+library_against others check library dll =
     if has_options check then 2
-    else option_map_or (λ (a : Archive). members_in check (members_read a.members) (exports_in File dll))
+    else option_map_or (λ (a : Archive). members_in others check (members_read a.members) (exports_in File dll))
     (archive_in library) (no_library_status library)

@@ -1,6 +1,6 @@
 -- What the program answers with, by what its files hold: the exit statuses of its calls (docs/CHECK.md, "Exit status"). Each
 -- call may also end with status 3, where a file, a stream or memory fails.
-use Rattle.std.specs.Prelude.{◌≡◌, ◌⊎◌, ℕ, ◌==◌, Bool, true, false, List, Err, Ok, Option, None, Some, IfSome, length, map}
+use Rattle.std.specs.Prelude.{◌≡◌, ◌⊎◌, ℕ, ◌==◌, ◌||◌, Bool, true, false, List, Err, Ok, Option, None, Some, IfSome, length, map}
 use Rattle.std.specs.Option.{option_map_or}
 use Rattle.implib_read.specs.Archives.{Archive, archive_in}
 use Rattle.implib_read.specs.ArchiveViews.{archive_view}
@@ -11,7 +11,7 @@ use Rattle.implib_read.specs.Identity.{dlls_of}
 use Rattle.implib_compare.specs.Comparison.{has_unread, verdict}
 use Rattle.implib_compare.specs.Working.{both_work, working_of, working_status}
 use Rattle.implib_check.specs.Against.{DefinitionAgainst, begins_archive, begins_dll, is_library, library_against}
-use Rattle.implib_check.specs.Calls.{CheckView, DefineView}
+use Rattle.implib_check.specs.Calls.{CheckView, DefineView, is_searching}
 use Rattle.implib_check.specs.Defining.{DefinesFor, IsUndefined}
 use Rattle.implib_check.specs.Targets.{options_for, options_of}
 use Rattle.implib_check.specs.declared.defining.Undefined.{Undefined}
@@ -24,6 +24,7 @@ use Rattle.implib_dll.specs.Imports.{imports_in}
 use Rattle.implib_dll.specs.Outcome.{Read}
 use Rattle.implib_dll.specs.declared.section.Layout.TheVariants.{File}
 use Rattle.implib_check.specs.Starting.{AreKnown, listings, program_status}
+use Rattle.implib_check.specs.Through.{AreKnownFor, Through, through}
 use Rattle.implib_check.specs.Status.{comparison_status, identity_status, list_status, no_library_status, refusal_status, undefined_status}
 
 -- a library is that of these bytes
@@ -108,11 +109,15 @@ CheckedAs check library definition (Some a) status =
     (is_library definition ≡ true → status ≡ 2)
     × (is_library definition ≡ false → IsChecked check a definition status ⊎ IsCheckRefused check a definition status)
 
--- what is said of the status of a library beside a definition: 2 where exports of a DLL are asked for
+-- whether a call asks for more of a DLL: its exports, or where its forwarders lead
+abbrev pub asks_for_dll : CheckView → Bool
+asks_for_dll check = check.lists_unasked || is_searching check
+
+-- what is said of the status of a library beside a definition: 2 where more of a DLL is asked for
 abbrev pub IsAnswerChecked : CheckView → List ℕ → List ℕ → ℕ → Type 0
 IsAnswerChecked check library definition status =
-    (check.lists_unasked ≡ true → status ≡ 2)
-    × (check.lists_unasked ≡ false → CheckedAs check library definition (archive_in library) status)
+    (asks_for_dll check ≡ true → status ≡ 2)
+    × (asks_for_dll check ≡ false → CheckedAs check library definition (archive_in library) status)
 
 -- The status of an archive of one DLL whose definition is asked for: 0 where the text that says its imports is one.
 pub record IsDefinedAs (define : DefineView) (a : Archive) (status : ℕ) : Type 0 where
@@ -137,23 +142,29 @@ AnswersDefine define file status =
     IfSome file (λ f. begins_dll f ≡ false → OrFailed status (DefinedAs define f (archive_in f) status))
 
 -- what is said of the status of a library or a definition beside a DLL: 2 where it is a DLL itself
-abbrev pub IsAnswerBeside : CheckView → List ℕ → List ℕ → ℕ → Type 0
-IsAnswerBeside check first dll status =
-    (begins_archive first ≡ true → status ≡ library_against check first dll)
+abbrev pub IsAnswerBeside : Through → CheckView → List ℕ → List ℕ → ℕ → Type 0
+IsAnswerBeside others check first dll status =
+    (begins_archive first ≡ true → status ≡ library_against others check first dll)
     × ((begins_archive first ≡ false → begins_dll first ≡ true → status ≡ 2)
     × (begins_archive first ≡ false → begins_dll first ≡ false
-    → DefinitionAgainst check first (exports_in File dll) status))
+    → DefinitionAgainst others check first (exports_in File dll) status))
 
 -- what is said of the status of a library or a definition beside a DLL or a definition
-abbrev pub IsAnswerWith : CheckView → List ℕ → List ℕ → ℕ → Type 0
-IsAnswerWith check first second status =
-    (begins_dll second ≡ true → IsAnswerBeside check first second status)
+abbrev pub IsAnswerWith : Through → CheckView → List ℕ → List ℕ → ℕ → Type 0
+IsAnswerWith others check first second status =
+    (begins_dll second ≡ true → IsAnswerBeside others check first second status)
     × (begins_dll second ≡ false → IsAnswerChecked check first second status)
 
 -- the same where the bytes of both files are known
-abbrev pub AnswersBeside : CheckView → Option (List ℕ) → Option (List ℕ) → ℕ → Type 0
-AnswersBeside check first second status =
-    OrFailed status (IfSome first (λ f. IfSome second (λ d. IsAnswerWith check f d status)))
+abbrev pub AnswersBoth : Through → CheckView → Option (List ℕ) → Option (List ℕ) → ℕ → Type 0
+AnswersBoth others check first second status =
+    OrFailed status (IfSome first (λ f. IfSome second (λ d. IsAnswerWith others check f d status)))
+
+-- The same, and where forwarders are followed, where the bytes of all files and the names in all folders are known.
+abbrev pub AnswersBeside : (List ℕ → Option (List ℕ)) → (List ℕ → Option (List (List ℕ))) → CheckView → ℕ → Type 0
+AnswersBeside seen listed check status =
+    (file : List ℕ → List ℕ) (names : List ℕ → List (List ℕ)) → AreKnownFor seen listed check file names
+    → AnswersBoth (through file (listings names check.folders) check) check (seen check.library) (seen check.definition) status
 
 -- What is said of the status of a program beside folders, where the bytes of all files and the names in all folders are
 -- known.
@@ -176,5 +187,5 @@ AnswersTask seen names (Some Version) status = OrFailed status (status ≡ 0)
 AnswersTask seen names (Some (Defines define)) status = AnswersDefine define (seen define.library) status
 -- of libraries in one link the status is that of `Status`, by what is found
 AnswersTask seen names (Some (Joins paths)) status = Unit {0}
-AnswersTask seen names (Some (Checks check)) status = AnswersBeside check (seen check.library) (seen check.definition) status
+AnswersTask seen names (Some (Checks check)) status = AnswersBeside seen names check status
 AnswersTask seen names (Some (Searches path folders)) status = AnswersProgram seen names path folders status

@@ -1,7 +1,9 @@
 -- What the words of a call say that compares a library with a definition (this project's choice; the options are
 -- those of dlltool).
-use Rattle.std.specs.Prelude.{ℕ, ◌&&◌, ◌||◌, Bool, true, false, List, Option, Some, None, bytes_eq, codes, fold, if◌then◌else◌, is_none, length, nat_eq}
+use Rattle.std.specs.Prelude.{ℕ, ◌+◌, ◌&&◌, ◌||◌, Bool, true, false, List, [], Option, Some, None, bytes_eq, codes, drop, fold, if◌then◌else◌, is_none, length, map, nat_eq, nat_lt, take}
+use Rattle.std.specs.List.{position_from}
 use Rattle.std.specs.Option.{is_some, option_and_then, option_map}
+use Rattle.std.specs.String.{string_bytes}
 use Rattle.implib.specs.declared.flavor.Flavor.{Flavor}
 use Rattle.implib.specs.declared.flavor.Flavor.TheVariants.{Gnu, Msvc}
 use Rattle.implib.specs.declared.machine.MachineType.{MachineType}
@@ -31,6 +33,8 @@ pub record CheckView : Type 0 where
   pub older_symbols : Bool
   -- whether the exports of a DLL that no import asks for are listed
   pub lists_unasked : Bool
+  -- the folders in whose DLLs forwarders are followed
+  pub folders : List (List ℕ)
 
 -- the view of a comparison of the program
 abbrev pub check_view : Check → CheckView
@@ -43,6 +47,7 @@ check_view c = record {
   naming = naming_view c.naming;
   older_symbols = c.older_symbols;
   lists_unasked = c.lists_unasked;
+  folders = map string_bytes c.folders.now;
 }
 
 -- a library whose definition is asked for
@@ -176,6 +181,7 @@ check_of (Some library) (Some definition) None r = Some (record {
   naming = r.naming;
   older_symbols = r.older_symbols;
   lists_unasked = r.lists_unasked;
+  folders = [];
 })
 check_of _ _ _ r = None
 
@@ -190,6 +196,27 @@ said_by_all words = fold said_by (Some unread_call) words
 -- the comparison that words ask for
 abbrev pub check_called : List (List ℕ) → Option CheckView
 check_called words = option_and_then check_in (said_by_all words)
+
+-- whether forwarders are followed
+abbrev pub is_searching : CheckView → Bool
+is_searching c = nat_lt 0 (length c.folders)
+
+-- whether a word says that folders follow, in whose DLLs forwarders are followed
+abbrev pub is_search_word : List ℕ → Bool
+is_search_word word = bytes_eq word (codes "--search")
+
+-- a comparison that looks into folders, of which there is one or more
+abbrev pub searching : List (List ℕ) → Option CheckView → Option CheckView
+searching folders check =
+    if nat_eq (length folders) 0 then None else option_map (λ (c : CheckView). record c { folders = folders }) check
+
+abbrev pub check_at : Option ℕ → List (List ℕ) → Option CheckView
+check_at None words = check_called words
+check_at (Some at) words = searching (drop (at + 1) words) (check_called (take at words))
+
+-- The comparison that words ask for, with the folders behind `--search`.
+abbrev pub check_named : List (List ℕ) → Option CheckView
+check_named words = check_at (position_from is_search_word 0 words) words
 
 -- the definition of a file, with options, none of which lacks its value
 abbrev pub define_of : Option (List ℕ) → Option (List ℕ) → Option Setting → ReadingView → Option DefineView

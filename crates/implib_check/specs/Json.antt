@@ -22,6 +22,8 @@ use Rattle.implib_read.specs.declared.import.ImportKind.{ImportKind}
 use Rattle.implib_read.specs.declared.import.ImportKind.TheVariants.{Code, CodeOrConst, Const, Data as OfData, Delayed}
 use Rattle.serde_json.specs.Data.{Data, Members, no_members, number, object, put, string, unsigned}
 use Rattle.serde_json.specs.Written.{compact_text}
+use Rattle.implib_dll_check.specs.declared.forwarder.Stop.{Stop}
+use Rattle.implib_dll_check.specs.declared.forwarder.Stop.TheVariants as stop
 use Rattle.implib_check.specs.declared.finding.Export.{Export}
 use Rattle.implib_check.specs.declared.finding.Fault.{Fault}
 use Rattle.implib_check.specs.declared.finding.Fault.TheVariants as fault
@@ -77,6 +79,7 @@ pub data FindingView : Type 0 where
   Clash : List ℕ → SideView → SideView → FindingView
   FaultOf : List ℕ → FaultView → FindingView
   Lost : SideView → List ℕ → Loss → FindingView
+  StoppedAt : SideView → List ℕ → List ℕ → Stop → FindingView
   Searched : SiteView → ℕ → FindingView
   Unasked : List ℕ → ExportView → FindingView
   Exported : List ℕ → ExportView → FindingView
@@ -116,6 +119,7 @@ finding_view (finding.Missing here there) = Missing (side_view here) (site_view 
 finding_view (finding.Clash symbol here there) = Clash symbol.now (side_view here) (side_view there)
 finding_view (finding.Fault path fault) = FaultOf path.now (fault_view fault)
 finding_view (finding.Lost side dll loss) = Lost (side_view side) dll.now loss
+finding_view (finding.Stopped side dll text why) = StoppedAt (side_view side) dll.now text.now why
 finding_view (finding.Searched site count) = Searched (site_view site) count
 finding_view (finding.Unasked path export) = Unasked path.now (export_view export)
 finding_view (finding.Exported path export) = Exported path.now (export_view export)
@@ -157,6 +161,17 @@ loss_words OtherMachine = codes "another machine"
 loss_words NotFound = codes "not exported"
 loss_words DataAsFunction = codes "data as a function"
 
+-- why a forwarder leads to nothing
+abbrev pub stop_words : Stop → List ℕ
+stop_words stop.NoFullStop = codes "no DLL named"
+stop_words stop.NoFile = codes "no file"
+stop_words stop.Refused = codes "not read"
+stop_words stop.NoExports = codes "no export"
+stop_words stop.OtherMachine = codes "another machine"
+stop_words stop.NotExported = codes "not exported"
+stop_words stop.DataAsFunction = codes "data as a function"
+stop_words stop.Endless = codes "circle"
+
 -- the word of what is at an address
 abbrev pub address_word : AddressKind → List ℕ
 address_word address.Code = codes "code"
@@ -193,6 +208,7 @@ what_of (Missing here there) = codes "difference"
 what_of (Clash symbol here there) = codes "clash"
 what_of (FaultOf path fault) = fault_word fault
 what_of (Lost side dll loss) = codes "lost"
+what_of (StoppedAt side dll text why) = codes "lost"
 what_of (Searched site count) = codes "searched"
 what_of (Unasked path export) = codes "unasked"
 what_of (Exported path export) = codes "export"
@@ -295,6 +311,13 @@ with_export path e fields =
 abbrev pub with_loss : SideView → List ℕ → Loss → Members → Members
 with_loss side dll loss fields = with_side side (with_word (codes "dll_file") dll (with_word (codes "why") (loss_words loss) fields))
 
+-- an import that the DLL of a file forwards to nothing: the last forwarder, and why
+abbrev pub with_stop : SideView → List ℕ → List ℕ → Stop → Members → Members
+with_stop side dll text why fields =
+    with_side side
+    (with_word (codes "end") (stop_words why)
+    (with_name (codes "forwarder") text (with_word (codes "dll_file") dll (with_word (codes "why") (codes "forwarded to nothing") fields))))
+
 -- what a program asks a DLL for, if that is told
 abbrev pub with_ask_of : Option Asked → Members → Members
 with_ask_of None fields = fields
@@ -320,6 +343,7 @@ with_finding (Missing here there) fields = with_sides here.symbol (side_object h
 with_finding (Clash symbol here there) fields = with_sides symbol (side_object here) (side_object there) fields
 with_finding (FaultOf path fault) fields = with_fault fault (with_word (codes "library") path fields)
 with_finding (Lost side dll loss) fields = with_loss side dll loss fields
+with_finding (StoppedAt side dll text why) fields = with_stop side dll text why fields
 with_finding (Searched site count) fields = with_number (codes "count") count (with_site site fields)
 with_finding (Unasked path export) fields = with_export path export fields
 with_finding (Exported path export) fields = with_export path export fields

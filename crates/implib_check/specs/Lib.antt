@@ -10,6 +10,7 @@ pub mod OwnIndexes
 pub mod OwnTables
 pub mod Tasks
 pub mod Json
+pub mod Through
 pub mod Together
 pub mod Starting
 pub mod Status
@@ -20,5 +21,6 @@ pub mod WorkedDefinitions
 pub mod WorkedExportAs
 pub mod WorkedJson
 pub mod WorkedStarting
+pub mod WorkedThrough
 pub mod WorkedTogether
 pub mod Answers

@@ -3,7 +3,7 @@ use Rattle.std.specs.Prelude.{ℕ, Bool, true, false, ◌&&◌, ◌||◌, not, L
 use Rattle.std.specs.List.{list_any}
 use Rattle.std.specs.Option.{option_and_then, option_map, option_or}
 use Rattle.std.specs.String.{string_bytes}
-use Rattle.implib_check.specs.Calls.{CheckView, DefineView, check_called, check_view, define_called, define_view}
+use Rattle.implib_check.specs.Calls.{CheckView, DefineView, check_named, check_view, define_called, define_view}
 use Rattle.implib_check.specs.declared.task.Task.{Task}
 use Rattle.implib_check.specs.declared.task.Task.TheVariants as task
 
@@ -90,11 +90,11 @@ with_folders (path ∷ option ∷ folder ∷ folders) =
 -- what words ask for that name files and options: behind `--def` a definition, behind `--together` what libraries do to
 -- each other, else a comparison with a definition
 abbrev pub with_files : List (List ℕ) → Option TaskView
-with_files [] = option_map Checks (check_called [])
+with_files [] = option_map Checks (check_named [])
 with_files (first ∷ rest) =
     if bytes_eq first (codes "--def") then option_map Defines (define_called rest)
     else if bytes_eq first (codes "--together") then with_all rest
-    else option_map Checks (check_called (first ∷ rest))
+    else option_map Checks (check_named (first ∷ rest))
 
 -- what the words after the program's name ask for
 abbrev pub task_named : List (List ℕ) → Option TaskView

@@ -53,14 +53,14 @@ pub record WorkedAgainst : Type 0 where
   pub none : against_status (NoImport ∷ []) false ≡ 1
   pub none_unread : against_status [] true ≡ 4
   -- members: one is of another DLL; without it all is found; not by another name; and one is not understood
-  pub other_dll : members_in beside_dll members (Ok (Some worked_exports)) ≡ 1
-  pub as_other : members_in (record beside_dll { dll = Some (codes "v.dll") }) (member_of (AnImport (import_of (codes "v") (Ordinal 5) Code 0x14C)) ∷ []) (Ok (Some worked_exports)) ≡ 0
-  pub all_found : members_against beside_dll worked_exports (member_of Head ∷ member_of (AnImport (import_of (codes "W") (Name (codes "beta") 0) Code 0x14C)) ∷ []) ≡ 0
-  pub not_by_that_name : members_against (record beside_dll { dll = Some (codes "v.dll") }) worked_exports
+  pub other_dll : members_in None beside_dll members (Ok (Some worked_exports)) ≡ 1
+  pub as_other : members_in None (record beside_dll { dll = Some (codes "v.dll") }) (member_of (AnImport (import_of (codes "v") (Ordinal 5) Code 0x14C)) ∷ []) (Ok (Some worked_exports)) ≡ 0
+  pub all_found : members_against None beside_dll worked_exports (member_of Head ∷ member_of (AnImport (import_of (codes "W") (Name (codes "beta") 0) Code 0x14C)) ∷ []) ≡ 0
+  pub not_by_that_name : members_against None (record beside_dll { dll = Some (codes "v.dll") }) worked_exports
       (member_of (AnImport (import_of (codes "W") (Name (codes "beta") 0) Code 0x14C)) ∷ []) ≡ 1
-  pub is_open : members_against beside_dll worked_exports (member_of NotUnderstood ∷ member_of (AnImport (import_of (codes "W") (Name (codes "beta") 0) Code 0x14C)) ∷ []) ≡ 4
-  pub exports_nothing : members_in beside_dll members (Ok None) ≡ 1
-  pub refused : members_in beside_dll members (Err (record { cause = NoDosHeader; offset = 0 })) ≡ 3
+  pub is_open : members_against None beside_dll worked_exports (member_of NotUnderstood ∷ member_of (AnImport (import_of (codes "W") (Name (codes "beta") 0) Code 0x14C)) ∷ []) ≡ 4
+  pub exports_nothing : members_in None beside_dll members (Ok None) ≡ 1
+  pub refused : members_in None beside_dll members (Err (record { cause = NoDosHeader; offset = 0 })) ≡ 3
   pub listed : exported (Ok (Some worked_exports)) ≡ 0
   pub none_listed : exported (Ok None) ≡ 1
   pub none_read : exported (Err (record { cause = NoDosHeader; offset = 0 })) ≡ 3

@@ -25,6 +25,7 @@ plain_check = record {
   naming = record { is_plain = false; kills_at = false; exports_as = false; keeps_decorated = false };
   older_symbols = false;
   lists_unasked = false;
+  folders = [];
 }
 
 -- with each option
@@ -38,6 +39,7 @@ full_check = record {
   naming = record { is_plain = true; kills_at = true; exports_as = false; keeps_decorated = false };
   older_symbols = false;
   lists_unasked = false;
+  folders = [];
 }
 
 -- What calls say, and some that say nothing.

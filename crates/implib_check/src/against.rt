@@ -2,15 +2,18 @@
 //!
 //! A loader knows a DLL by the name of its file. A copy under another name is still told by that of its export directory,
 //! so an import of either is of the DLL, unless the call gives a name. That a loader searches for a name, since its hint is
-//! off, changes nothing but time: it is told, and no fault. An export that no import asks for is told with `--all`.
+//! off, changes nothing but time: it is told, and no fault. An export that no import asks for is told with `--all`, and a
+//! forwarder that leads to nothing with `--search`.
 
-ghost use Rattle.implib_check.specs.Against.{against_status, begins_archive, begins_dll, has_options, is_library, names_of, options_against};
+ghost use Rattle.implib_check.specs.Against.{against_status, begins_archive, begins_dll, has_options, held_status, is_library, names_of, options_against};
 ghost use Rattle.implib.specs.Conversions.{machine_numbered};
 ghost use Rattle.implib.specs.declared.machine.MachineType.TheVariants.{AMD64};
 ghost use Rattle.implib_rules.specs.Options.{library_options_view};
 ghost use Rattle.implib_check.specs.Calls.{check_view};
 ghost use Rattle.implib_compare.specs.Comparison.{has_unread};
 ghost use Rattle.implib_dll.specs.Views.{exports_view};
+ghost use Rattle.implib_dll_check.specs.Forwarding.{is_stop};
+ghost use Rattle.implib_dll_check.specs.ForwardingViews.{end_view};
 ghost use Rattle.implib_dll_check.specs.Imports.{is_import, is_lost, judgements};
 ghost use Rattle.implib_read.specs.ClassViews.{member_read_view};
 ghost use Rattle.std.specs.List.{list_any};
@@ -24,7 +27,7 @@ use crate::report::{Failure, Form, tell};
 use implib::{Flavor, MachineType};
 use implib_compare::compare::has_unread;
 use implib_dll::Exports;
-use implib_dll_check::{Judgement, asks_in, judgements, loader_name, missing};
+use implib_dll_check::{End, Judgement, asks_in, judgements, loader_name, missing};
 use implib_read::MemberRead;
 use implib_rules::additions::Additions;
 use implib_rules::name::last_part;
@@ -194,6 +197,57 @@ fn tell_lost<O: Write>(
     Ok(())
 }
 
+// Whether a forwarder leads to nothing.
+fn is_stop(end: &Option<End>) -> bool
+    ensures { result ≡ is_stop (option_map end_view end.now) }
+{
+    match end {
+        Some(End::Stops(_, _)) => true,
+        _ => false,
+    }
+}
+
+// Whether one of some forwarders does.
+fn stops(ends: &[Option<End>]) -> bool
+    ensures { result ≡ list_any is_stop (map (option_map end_view) ends.now) }
+{
+    for end in ends {
+        if is_stop(end) {
+            return true;
+        }
+    }
+    false
+}
+
+// The exit status of what imports come to, and of where forwarders lead.
+fn held_status(found: &[Judgement], ends: &[Option<End>], unread: bool) -> u8
+    ensures { result ≡ held_status found.now (map (option_map end_view) ends.now) unread }
+{
+    if stops(ends) {
+        1
+    } else {
+        against_status(found, unread)
+    }
+}
+
+// Writes which imports are forwarded to nothing.
+fn tell_stops<O: Write>(
+    form: Form,
+    printer: &mut O,
+    source: Source,
+    members: &[MemberRead],
+    path: &str,
+    ends: &[Option<End>],
+) -> Result<(), Failure> {
+    for (member, end) in members.iter().zip(ends) {
+        if let Some(End::Stops(text, stop)) = end {
+            let side = source.side(member);
+            tell(form, printer, &Finding::Stopped(side, path, text, *stop))?;
+        }
+    }
+    Ok(())
+}
+
 // Writes how many imports a loader searches for, if it does for any.
 fn tell_searched<O: Write>(
     form: Form,
@@ -225,25 +279,29 @@ fn tell_unasked<O: Write>(
     Ok(())
 }
 
-/// Holds imports against a DLL: writes which are lost, how many a loader searches for and, where that is asked for,
-/// which exports no import asks for; and gives the exit status.
+/// Holds imports against a DLL: writes which are lost, which are forwarded to nothing, by where forwarders lead, if they are
+/// followed, how many a loader searches for and, where that is asked for, which exports no import asks for; and gives the exit
+/// status.
 pub fn hold_against<O: Write>(
     form: Form,
     printer: &mut O,
     source: Source,
     members: &[MemberRead],
     dll: &Dll,
+    ends: &[Option<End>],
     lists_unasked: bool,
 ) -> Result<u8, Failure>
-    ensures { IfOk result (λ status. status ≡ against_status
+    ensures { IfOk result (λ status. status ≡ held_status
         (judgements (exports_view dll.now.exports) (map (λ name. name.items) dll.now.names.items) (map member_read_view members.now))
+        (map (option_map end_view) ends.now)
         (has_unread (map member_read_view members.now))) }
 {
     let found = judgements(form.alloc, &dll.exports, &dll.names, members)?;
     tell_lost(form, printer, source, members, dll.path, &found)?;
+    tell_stops(form, printer, source, members, dll.path, ends)?;
     tell_searched(form, printer, source, &found)?;
     if lists_unasked {
         tell_unasked(form, printer, members, dll)?;
     }
-    Ok(against_status(&found, has_unread(members)))
+    Ok(held_status(&found, ends, has_unread(members)))
 }

@@ -1,10 +1,11 @@
 //! What the words of a call say that compares a library with a definition.
 
-ghost use Rattle.std.specs.Prelude.{◌≡◌, map};
+ghost use Rattle.std.specs.List.{position_from};
+ghost use Rattle.std.specs.Prelude.{◌≡◌, ◌<◌, IfSome, length, map};
 ghost use Rattle.std.specs.Option.{option_and_then, option_map};
 ghost use Rattle.std.specs.String.{string_bytes};
-ghost use Rattle.implib_check.specs.Calls.{after_word, check_called, check_in, check_view, define_called, define_in, define_view};
-ghost use Rattle.implib_check.specs.Calls.{reading_view, said_by, said_by_all, are_for_msvc, lacks_older, unread_call, with_file, with_option, with_value};
+ghost use Rattle.implib_check.specs.Calls.{after_word, check_called, check_in, check_named, check_view, define_called, define_in, define_view};
+ghost use Rattle.implib_check.specs.Calls.{is_search_word, is_searching, reading_view, said_by, searching, said_by_all, are_for_msvc, lacks_older, unread_call, with_file, with_option, with_value};
 
 use implib::{Flavor, MachineType};
 use implib_rules::linked::Naming;
@@ -30,6 +31,8 @@ pub struct Check<'a> {
     pub older_symbols: bool,
     /// Whether the exports of a DLL that no import asks for are listed (`--all`).
     pub lists_unasked: bool,
+    /// The folders in whose DLLs forwarders are followed (`--search`).
+    pub folders: &'a [String],
 }
 
 /// A library whose definition is asked for, and what it is for.
@@ -262,6 +265,7 @@ fn check_in<'a>(reading: Reading<'a>) -> Option<Check<'a>>
             naming: reading.naming,
             older_symbols: reading.older_symbols,
             lists_unasked: reading.lists_unasked,
+            folders: &[],
         }),
         _ => None,
     }
@@ -285,6 +289,57 @@ pub fn check_called(words: &[String]) -> Option<Check<'_>>
     match said_by_all(words) {
         Some(reading) => check_in(reading),
         None => None,
+    }
+}
+
+/// Whether forwarders are followed.
+pub fn is_searching(check: &Check) -> bool
+    ensures { result ≡ is_searching (check_view check.now) }
+{
+    !check.folders.is_empty()
+}
+
+// Whether a word says that folders follow.
+fn is_search_word(word: &String) -> bool
+    ensures { result ≡ is_search_word (string_bytes word.now) }
+{
+    word.as_str() == "--search"
+}
+
+// Where the first word is that says so.
+fn search_at(words: &[String]) -> Option<usize>
+    ensures found { result ≡ position_from is_search_word 0 (map string_bytes words.now) }
+    ensures within { IfSome result (λ at. at < length words.now) }
+{
+    for (i, word) in words.iter().enumerate() {
+        if is_search_word(word) {
+            return Some(i);
+        }
+    }
+    None
+}
+
+// A comparison that looks into these folders, of which there is one or more.
+fn searching<'a>(check: Option<Check<'a>>, folders: &'a [String]) -> Option<Check<'a>>
+    ensures { option_map check_view result
+        ≡ searching (map string_bytes folders.now) (option_map check_view check.entry) }
+{
+    if folders.is_empty() {
+        return None;
+    }
+    match check {
+        Some(check) => Some(Check { folders, ..check }),
+        None => None,
+    }
+}
+
+/// The same with the folders behind `--search`, in whose DLLs forwarders are followed.
+pub fn check_named(words: &[String]) -> Option<Check<'_>>
+    ensures { option_map check_view result ≡ check_named (map string_bytes words.now) }
+{
+    match search_at(words) {
+        Some(at) => searching(check_called(&words[..at]), &words[at + 1..]),
+        None => check_called(words),
     }
 }
 

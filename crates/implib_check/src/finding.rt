@@ -1,13 +1,13 @@
 //! What is found in libraries, and the line of text that says it.
 
 ghost use Rattle.std.specs.Prelude.{◌≡◌};
-ghost use Rattle.implib_check.specs.Json.{address_word, loss_words, piece_words};
+ghost use Rattle.implib_check.specs.Json.{address_word, loss_words, piece_words, stop_words};
 
 use crate::positions::Positions;
 use crate::text::{Listed, Place, Said, Shown, Site, symbol_of_member};
 use implib_compare::working::Piece;
 use implib_dll::{AddressKind, Ask, Target};
-use implib_dll_check::Loss;
+use implib_dll_check::{Loss, MOST_FORWARDERS, Stop};
 use implib_read::{CutApart, IndexEntry, MemberRead};
 use std::fmt;
 
@@ -101,6 +101,8 @@ pub enum Finding<'p, 'q, 'm, 'a> {
     Fault(&'p str, Fault<'m, 'a>),
     /// An import that is lost in the DLL of this file.
     Lost(Side<'p, 'm, 'a>, &'q str, Loss),
+    /// An import that the DLL of this file forwards to nothing: the last forwarder, and why.
+    Stopped(Side<'p, 'm, 'a>, &'q str, &'q [u8], Stop),
     /// How many imports from here a loader searches for.
     Searched(Site<'p>, usize),
     /// An export of the DLL of this file that no import asks for.
@@ -154,6 +156,60 @@ fn loss_said(loss: Loss) -> &'static str {
         Loss::OtherMachine => "is for another machine",
         Loss::NotFound => "does not export that",
         Loss::DataAsFunction => "has data there, and a function is imported",
+    }
+}
+
+/// Why a forwarder leads to nothing.
+pub fn stop_words(stop: Stop) -> &'static str
+    ensures { result.now ≡ stop_words stop }
+{
+    match stop {
+        Stop::NoFullStop => "no DLL named",
+        Stop::NoFile => "no file",
+        Stop::Refused => "not read",
+        Stop::NoExports => "no export",
+        Stop::OtherMachine => "another machine",
+        Stop::NotExported => "not exported",
+        Stop::DataAsFunction => "data as a function",
+        Stop::Endless => "circle",
+    }
+}
+
+// The DLL that a forwarder names, with an ending.
+#[derive(Clone, Copy)]
+struct Forwarded<'q>(&'q [u8]);
+
+impl<'q> fmt::Display for Forwarded<'q> {
+    fn fmt<W: fmt::Write>(&self, f: &mut fmt::Formatter<W>) -> fmt::Result {
+        let mut name = self.0;
+        while let [front @ .., last] = name {
+            name = front;
+            if *last == b'.' {
+                break;
+            }
+        }
+        let ending = if name.contains(&b'.') { "" } else { ".dll" };
+        write!(f, "{}{ending}", Shown(name))
+    }
+}
+
+// What is said against the last forwarder of an import.
+#[derive(Clone, Copy)]
+struct Stopped<'q>(&'q [u8], Stop);
+
+impl<'q> fmt::Display for Stopped<'q> {
+    fn fmt<W: fmt::Write>(&self, f: &mut fmt::Formatter<W>) -> fmt::Result {
+        let dll = Forwarded(self.0);
+        match self.1 {
+            Stop::NoFullStop => f.write_str("which names no DLL"),
+            Stop::NoFile => write!(f, "and no folder has {dll}"),
+            Stop::Refused => write!(f, "and {dll} is no DLL that can be read"),
+            Stop::NoExports => write!(f, "and {dll} exports nothing"),
+            Stop::OtherMachine => write!(f, "and {dll} {}", loss_said(Loss::OtherMachine)),
+            Stop::NotExported => write!(f, "and {dll} {}", loss_said(Loss::NotFound)),
+            Stop::DataAsFunction => write!(f, "and {dll} {}", loss_said(Loss::DataAsFunction)),
+            Stop::Endless => write!(f, "in a circle, or through {MOST_FORWARDERS} others"),
+        }
     }
 }
 
@@ -288,6 +344,16 @@ impl<'p, 'q, 'm, 'a> fmt::Display for Finding<'p, 'q, 'm, 'a> {
                 let symbol = Shown(side.symbol);
                 let said = Said(side.member);
                 write!(f, "{side}: {symbol}: {said}; {dll} {}", loss_said(*loss))
+            }
+            Finding::Stopped(side, dll, text, stop) => {
+                let symbol = Shown(side.symbol);
+                let said = Said(side.member);
+                let last = Shown(text);
+                let why = Stopped(text, *stop);
+                write!(
+                    f,
+                    "{side}: {symbol}: {said}; {dll} forwards that to {last}, {why}"
+                )
             }
             Finding::Searched(site, count) => {
                 let path = site.path();

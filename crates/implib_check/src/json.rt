@@ -6,7 +6,7 @@ ghost use Rattle.std.specs.String.{string_bytes};
 ghost use Rattle.implib_check.specs.Json.{class_word, fault_view, finding_view, line_of, object_of, side_object, side_view, site_object, site_view, text_of};
 ghost use Rattle.implib_check.specs.Json.{what_of, with_asked, with_class, with_fault, with_finding, with_member, with_name, with_number, with_position};
 ghost use Rattle.implib_check.specs.Json.{with_side, with_sides, with_site, with_word, CutApart as CutApartView, MisleadingEntry};
-ghost use Rattle.implib_check.specs.Json.{export_view, unmet_view, with_export, with_loss, with_named, with_target};
+ghost use Rattle.implib_check.specs.Json.{export_view, unmet_view, with_export, with_loss, with_named, with_stop, with_target};
 ghost use Rattle.implib_check.specs.Json.{with_ask_of, with_program, with_unmet};
 ghost use Rattle.implib_dll.specs.Views.{ask_view as asked_view, target_view};
 ghost use Rattle.std.specs.Option.{option_map};
@@ -16,11 +16,13 @@ ghost use Rattle.implib_read.specs.ImportViews.{ask_view};
 ghost use Rattle.implib_read.specs.IndexViews.{index_entry_view};
 ghost use Rattle.serde_json.specs.View.{members_view, view};
 
-use crate::finding::{Export, Fault, Finding, Side, Unmet, address_word, loss_words, piece_words};
+use crate::finding::{
+    Export, Fault, Finding, Side, Unmet, address_word, loss_words, piece_words, stop_words,
+};
 use crate::text::{Site, kind_word};
 use implib::def::Position;
 use implib_dll::{Ask, Target};
-use implib_dll_check::Loss;
+use implib_dll_check::{Loss, Stop};
 use implib_read::{AskFound, CutApart, IndexEntry, MemberClass, MemberRead};
 use serde_json::{Map, Value, put};
 use std::alloc::{AllocError, Global};
@@ -318,6 +320,24 @@ fn put_loss(
     put_side(fields, alloc, side)
 }
 
+// Adds an import that the DLL of a file forwards to nothing.
+fn put_stop(
+    fields: &mut Fields,
+    alloc: Global,
+    side: &Side,
+    dll: &str,
+    text: &[u8],
+    stop: Stop,
+) -> Result<(), AllocError>
+    ensures { OnOk result (members_view fields.new.entries ≡ with_stop (side_view side.now) dll.now text.now stop (members_view fields.old.entries)) }
+{
+    put_word(fields, alloc, "why", "forwarded to nothing")?;
+    put_word(fields, alloc, "dll_file", dll)?;
+    put_name(fields, alloc, "forwarder", text)?;
+    put_word(fields, alloc, "end", stop_words(stop))?;
+    put_side(fields, alloc, side)
+}
+
 // Adds what a program asks a DLL for, if that is told.
 fn put_ask_of(fields: &mut Fields, alloc: Global, ask: Option<Ask>) -> Result<(), AllocError>
     ensures { OnOk result (members_view fields.new.entries ≡ with_ask_of (option_map asked_view ask.entry) (members_view fields.old.entries)) }
@@ -381,7 +401,7 @@ fn what_of(finding: &Finding) -> &'static str
         Finding::Clash(_, _, _) => "clash",
         Finding::Fault(_, Fault::SeveralDlls) => "not decided",
         Finding::Fault(_, _) => "broken",
-        Finding::Lost(_, _, _) => "lost",
+        Finding::Lost(_, _, _) | Finding::Stopped(_, _, _, _) => "lost",
         Finding::Searched(_, _) => "searched",
         Finding::Unasked(_, _) => "unasked",
         Finding::Exported(_, _) => "export",
@@ -412,6 +432,9 @@ fn put_finding(fields: &mut Fields, alloc: Global, finding: &Finding) -> Result<
             put_fault(fields, alloc, fault)
         }
         Finding::Lost(side, dll, loss) => put_loss(fields, alloc, side, dll, *loss),
+        Finding::Stopped(side, dll, text, stop) => {
+            put_stop(fields, alloc, side, dll, text, *stop)
+        }
         Finding::Searched(site, count) => {
             put_site(fields, alloc, *site)?;
             put_number(fields, alloc, "count", *count)

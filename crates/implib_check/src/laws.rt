@@ -11,6 +11,7 @@ ghost use Rattle.implib_check.specs.WorkedDefinitions.{WorkedDefines, WorkedDefi
 ghost use Rattle.implib_check.specs.WorkedExportAs.{WorkedExportAs};
 ghost use Rattle.implib_check.specs.WorkedJson.{WorkedJson};
 ghost use Rattle.implib_check.specs.WorkedStarting.{WorkedStarting};
+ghost use Rattle.implib_check.specs.WorkedThrough.{WorkedThrough};
 ghost use Rattle.implib_check.specs.WorkedTogether.{WorkedTogether};
 
 use implib_read::laws::{
@@ -109,6 +110,11 @@ pub fn worked_together()
 /// What JSON objects have, worked by hand.
 pub fn worked_json()
     ensures { WorkedJson }
+{}
+
+/// Libraries beside a DLL whose forwarders are followed, worked by hand: calls, DLLs, statuses and an object.
+pub fn worked_through()
+    ensures { WorkedThrough }
 {}
 
 /// Programs beside folders, worked by hand: calls, files of DLLs, statuses and objects.

@@ -30,6 +30,7 @@ pub mod status;
 pub mod target;
 pub mod task;
 mod text;
+pub mod through;
 pub mod together;
 mod works;
 

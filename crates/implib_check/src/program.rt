@@ -1,8 +1,10 @@
 //! The program: its arguments, its files, what it writes, and its exit status.
 
-ghost use Rattle.std.specs.Prelude.{◌≡◌, false, length, map, IfOk};
-ghost use Rattle.implib_check.specs.Answers.{AnswersBeside, AnswersDefine, AnswersOf, AnswersOfBoth, AnswersTask, CheckedAs, DefinedAs, IsAnswerWith, OrFailed, compared_as, identified, listed};
-ghost use Rattle.implib_check.specs.Calls.{check_view, define_view};
+ghost use Rattle.std.specs.Prelude.{◌≡◌, ℕ, false, length, List, map, true, IfOk};
+ghost use Rattle.implib_check.specs.Answers.{AnswersBeside, AnswersDefine, AnswersOf, AnswersOfBoth, AnswersTask, CheckedAs, DefinedAs, IsAnswerWith, OrFailed, asks_for_dll, compared_as, identified, listed};
+ghost use Rattle.implib_check.specs.Calls.{check_view, define_view, is_searching as IsSearching};
+ghost use Rattle.implib_check.specs.Starting.{AreKnown, folder_view};
+ghost use Rattle.implib_check.specs.Through.{through};
 ghost use Rattle.implib_compare.specs.Comparison.{has_unread, verdict};
 ghost use Rattle.implib_compare.specs.Working.{working_of};
 ghost use Rattle.implib_compare.specs.declared.compare.Verdict.TheVariants.{Same};
@@ -17,7 +19,7 @@ ghost use Rattle.implib_check.specs.Status.{comparison_status, identity_status, 
 
 use crate::against::{begins_dll, is_library};
 use crate::beside::{run_against, run_exports};
-use crate::call::{Check, Define};
+use crate::call::{Check, Define, is_searching};
 use crate::console::{NAME, bytes_of, complain, doubt, library_of, print, refuse, status_of};
 use crate::defining::{Undefined, definition_of};
 use crate::definition::{CheckError, check_definition};
@@ -27,7 +29,7 @@ use crate::joined::run_together;
 use crate::of_dll::library_of_dll;
 use crate::report::{BUFFER, Failure, Form, Lines, flushed, tell};
 use crate::shelf::Shelf;
-use crate::starting::run_program;
+use crate::starting::{Folder, folders_of, run_program};
 use crate::status::{comparison_status, identity_status, list_status, undefined_status};
 use crate::target::{options_for, options_of};
 use crate::task::{CommandLine, Task, call_named};
@@ -45,11 +47,11 @@ use std::{env, fmt};
 
 // What the program prints for `--help`.
 const HELP: &str = "\
-usage: implib_check LIB DLL [--all] [-D DLL] [--json]
+usage: implib_check LIB DLL [--all] [-D DLL] [--json] [--search DIR..]
        implib_check LIB DEF [-m MACHINE] [-k] [--no-leading-underscore]
                     [--export-as] [--lib] [-C] [-D DLL] [--flavor FLAVOR]
                     [--json]
-       implib_check DEF DLL [--all] [and the options of LIB DEF]
+       implib_check DEF DLL [--all] [and the options of LIB DEF] [--search DIR..]
        implib_check --def LIB [-m MACHINE] [--no-leading-underscore] [-C]
                     [--flavor FLAVOR]
        implib_check --def DLL and these options but -C
@@ -83,7 +85,9 @@ it imports; what it does not find.
                      or which member no definition says; of a DLL, a definition
                      of which implib_dlltool makes the library of the DLL
   --search           whether a program, or a DLL, finds what it imports in the
-                     DLLs of these folders; what it does not find
+                     DLLs of these folders; what it does not find. With LIB or
+                     DEF and a DLL: where its forwarders lead in these folders;
+                     the last option
   --all              the exports of the DLL, too, that no import asks for
   --exports          a line for each export of a DLL: ordinal, code, data or
                      forwarder, address or other DLL's export, hint, name
@@ -382,23 +386,36 @@ fn check_library<O: Write, E: Write>(
     }
 }
 
+// Whether a call asks for more of a DLL: its exports, or where its forwarders lead.
+fn asks_for_dll(check: &Check) -> bool
+    ensures { result ≡ asks_for_dll (check_view check.now) }
+{
+    check.lists_unasked || is_searching(check)
+}
+
 // Compares bytes with a definition, or holds them against a DLL, and gives the exit status.
 #[tactic(auto, using(crate::proofs::BesideDlls::beside_dll, crate::proofs::BesideDlls::beside_all, crate::proofs::BesideDlls::beside_definition))]
-fn check_bytes<O: Write, E: Write>(
+fn check_bytes<S: Shelf, O: Write, E: Write>(
     form: Form,
+    shelf: &S,
     printer: &mut O,
     faults: &mut E,
     check: &Check,
     bytes: &[u8],
     definition: &[u8],
+    folders: &[Folder],
 ) -> u8
-    ensures { OrFailed result (IsAnswerWith (check_view check.now) bytes.now definition.now result) }
+    ensures { (file : List ℕ → List ℕ) → (IsSearching (check_view check.now) ≡ true → AreKnown (S.seen shelf.now) file)
+        → OrFailed result (IsAnswerWith (through file (map folder_view folders.now) (check_view check.now))
+        (check_view check.now) bytes.now definition.now result) }
 {
     if begins_dll(definition) {
-        return run_against(form, printer, faults, check, bytes, definition);
+        return run_against(
+            form, shelf, printer, faults, check, bytes, definition, folders,
+        );
     }
-    if check.lists_unasked {
-        let message = "no DLL, and --all asks for its exports";
+    if asks_for_dll(check) {
+        let message = "no DLL, and --all or --search asks for one";
         return complain(faults, check.definition, message, 2);
     }
     check_library(form, printer, faults, check, bytes, definition)
@@ -414,7 +431,7 @@ fn run_check<S: Shelf, O: Write, E: Write>(
     faults: &mut E,
     check: &Check,
 ) -> u8
-    ensures { AnswersBeside (check_view check.now) (S.seen shelf.now check.now.library.now) (S.seen shelf.now check.now.definition.now) result }
+    ensures { AnswersBeside (S.seen shelf.now) (S.listed shelf.now) (check_view check.now) result }
 {
     let bytes = match bytes_of(alloc, shelf, faults, check.library) {
         Ok(bytes) => bytes,
@@ -424,7 +441,20 @@ fn run_check<S: Shelf, O: Write, E: Write>(
         Ok(definition) => definition,
         Err(status) => return status,
     };
-    check_bytes(form, printer, faults, check, &bytes, &definition)
+    let folders = match folders_of(alloc, shelf, faults, check.folders) {
+        Ok(folders) => folders,
+        Err(status) => return status,
+    };
+    check_bytes(
+        form,
+        shelf,
+        printer,
+        faults,
+        check,
+        &bytes,
+        &definition,
+        &folders,
+    )
 }
 
 // What the differences of a library call the definition that is tried.

@@ -52,7 +52,7 @@ fn names_in<S: Shelf, E: Write>(
 }
 
 // The folders of paths, or an exit status.
-fn folders_of<'a, S: Shelf, E: Write>(
+pub(crate) fn folders_of<'a, S: Shelf, E: Write>(
     alloc: Global,
     shelf: &S,
     faults: &mut E,
@@ -115,7 +115,11 @@ fn path_in(alloc: Global, folder: &str, name: &str) -> Result<String, AllocError
 }
 
 // The path of the file that a loader takes for the DLL that it knows by a name, in the first folder that has one.
-fn dll_path(alloc: Global, folders: &[Folder], known: &[u8]) -> Result<Option<String>, AllocError>
+pub(crate) fn dll_path(
+    alloc: Global,
+    folders: &[Folder],
+    known: &[u8],
+) -> Result<Option<String>, AllocError>
     ensures { IfOk result (λ found. option_map string_bytes found ≡ dll_path (map folder_view folders.now) known.now) }
 {
     for folder in folders {

@@ -6,7 +6,7 @@ ghost use Rattle.std.specs.String.{string_bytes};
 ghost use Rattle.implib_check.specs.Tasks.{alone, asks_json, has_json_form, in_form, is_json_word, plain_words, task_by_name, task_named};
 ghost use Rattle.implib_check.specs.Tasks.{task_view, with_all, with_files, with_folders, with_libraries, with_library};
 
-use crate::call::{Check, Define, check_called, define_called};
+use crate::call::{Check, Define, check_named, define_called};
 use std::alloc::{AllocError, Global};
 
 /// What is asked for.
@@ -129,7 +129,7 @@ fn with_files(words: &[String]) -> Option<Task<'_>>
             return with_all(rest);
         }
     }
-    match check_called(words) {
+    match check_named(words) {
         Some(check) => Some(Task::Check(check)),
         None => None,
     }

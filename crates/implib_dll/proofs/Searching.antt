@@ -8,7 +8,7 @@ use Rattle.std.specs.List.{slice_get}
 use Rattle.std.proofs.lemmas.Bool.{le-ltb, lt-ltb}
 use Rattle.implib_dll.specs.declared.name.Name.{Name}
 use Rattle.implib_dll.specs.Exports.{NameEntry}
-use Rattle.implib_dll.specs.Lookup.{is_at, middle, order_at, searched}
+use Rattle.implib_dll.specs.Lookup.{is_at, middle, order_at, position_of, searched}
 use Rattle.implib_dll.specs.Views.{name_view}
 
 pub slice_get-past : {X : Type 0} (xs : List X) (i : ℕ) → length xs ≤ i → slice_get xs i ≡ None
@@ -109,3 +109,12 @@ searches-below names wanted low high position whole some is order s =
 
 pub searches-none : (names : List NameEntry) (wanted : List ℕ) (low high : ℕ) (whole : Option ℕ) → high ≤ low → Searches names wanted low high whole → None ≡ whole
 searches-none names wanted low high whole none s = sym (searched-none names wanted s.steps low high none) ∙ s.same
+
+-- a name is found without a hint where it is with one past all names
+pub found_alone : (names : List Name) (wanted : List ℕ)
+    → position_of (map name_view names) wanted (length names) ≡ searched (map name_view names) wanted (length names) 0 (length names)
+found_alone names wanted =
+    let seen = map name_view names in
+    ap (λ (b : Bool). cond b (Some (length names)) (searched seen wanted (length seen) 0 (length seen)))
+    (not_at names (length names) wanted (omega arith))
+    ∙ ap (λ n. searched seen wanted n 0 n) (length-names names)

@@ -61,6 +61,15 @@ fn searched(names: &[Name], wanted: &[u8]) -> Option<usize>
     None
 }
 
+/// The position at which a loader finds a name for which there is no hint.
+#[tactic(auto, using(crate::proofs::Searching::found_alone))]
+fn position_alone(names: &[Name], wanted: &[u8]) -> Option<usize>
+    ensures found { result ≡ position_of (map name_view names.now) wanted.now (length names.now) }
+    ensures within { IfSome result (λ position. position < length names.now) }
+{
+    searched(names, wanted)
+}
+
 /// Whether names rise strictly by their bytes, from a text on.
 fn rise_from(text: &[u8], names: &[Name]) -> bool
     ensures { result ≡ rise_from text.now (map name_view names.now) }
@@ -110,6 +119,17 @@ impl<'a> Exports<'a> {
     {
         match self.position_of(wanted, hint) {
             Some(position) => self.target_at(self.names[position].index as usize),
+            None => None,
+        }
+    }
+
+    /// What a loader finds by a name for which there is no hint, as that of a forwarder.
+    pub fn by_name_alone(&self, wanted: &[u8]) -> Option<Target<'a>>
+        ensures { option_map target_view result
+            ≡ by_name (exports_view self.now) wanted.now (length self.now.names.items) }
+    {
+        match position_alone(&self.names, wanted) {
+            Some(found) => self.target_at(self.names[found].index as usize),
             None => None,
         }
     }

@@ -1,2 +1,3 @@
+pub mod Forwarders
 pub mod Marks
 pub mod Passing

@@ -1,8 +1,11 @@
 pub mod DllName
+pub mod Forwarding
+pub mod ForwardingViews
 pub mod Imports
 pub mod Laws
 pub mod Verdict
 pub mod Worked
+pub mod WorkedForwarding
 pub mod WorkedImports
 pub mod WorkedPrograms
 pub mod Missing

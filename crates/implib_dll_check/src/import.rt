@@ -43,7 +43,7 @@ pub enum Judgement {
 }
 
 // Whether an import is of data.
-fn is_of_data(kind: ImportKind) -> bool
+pub(crate) fn is_of_data(kind: ImportKind) -> bool
     ensures { result ≡ is_of_data kind }
 {
     match kind {
@@ -53,7 +53,7 @@ fn is_of_data(kind: ImportKind) -> bool
 }
 
 // What an import asks for.
-fn ask_of(ask: AskFound<'_>) -> Ask<'_>
+pub(crate) fn ask_of(ask: AskFound<'_>) -> Ask<'_>
     ensures { ask_view result ≡ asked_view ask.entry }
 {
     match ask {
@@ -63,7 +63,7 @@ fn ask_of(ask: AskFound<'_>) -> Ask<'_>
 }
 
 // Whether a name is one of these.
-fn is_among(names: &[Vec<u8>], name: &[u8]) -> bool
+pub(crate) fn is_among(names: &[Vec<u8>], name: &[u8]) -> bool
     ensures { result ≡ list_any (λ one. bytes_eq name.now one) (map (λ one. one.items) names.now) }
 {
     for one in names {
@@ -75,7 +75,7 @@ fn is_among(names: &[Vec<u8>], name: &[u8]) -> bool
 }
 
 // Whether a loader knows a DLL by one of these names.
-fn is_called(alloc: Global, names: &[Vec<u8>], dll: &[u8]) -> Result<bool, AllocError>
+pub(crate) fn is_called(alloc: Global, names: &[Vec<u8>], dll: &[u8]) -> Result<bool, AllocError>
     ensures { IfOk result (λ called. called ≡ is_called (map (λ one. one.items) names.now) dll.now) }
 {
     let name = loader_name(alloc, dll)?;

@@ -1,14 +1,20 @@
 //! Laws of verdicts, and what is worked by hand. The functions do nothing: their contracts are the
 //! laws.
 
-ghost use Rattle.implib_dll_check.specs.Laws.{OwnAsksPass};
+ghost use Rattle.implib_dll_check.specs.Laws.{KnownDllsDecide, OwnAsksPass};
 ghost use Rattle.implib_dll_check.specs.Worked.{WorkedVerdicts};
+ghost use Rattle.implib_dll_check.specs.WorkedForwarding.{WorkedForwarding};
 ghost use Rattle.implib_dll_check.specs.WorkedImports.{WorkedImports};
 ghost use Rattle.implib_dll_check.specs.WorkedPrograms.{WorkedPrograms};
 
 /// What is asked for by the imports that are made of a DLL is found there, and without a search.
 pub fn own_asks_pass()
     ensures { OwnAsksPass }
+{}
+
+/// Where forwarders lead through some DLLs that are known, they lead whatever is known besides.
+pub fn known_dlls_decide()
+    ensures { KnownDllsDecide }
 {}
 
 /// Imports and names of DLLs worked by hand have these verdicts.
@@ -19,6 +25,12 @@ pub fn worked_verdicts()
 /// Imports of libraries, of each kind, worked by hand come to this in a DLL.
 pub fn worked_imports()
     ensures { WorkedImports }
+{}
+
+/// Forwarders worked by hand lead to this: through two DLLs, by an ordinal, in a circle, and to what
+/// is not there.
+pub fn worked_forwarding()
+    ensures { WorkedForwarding }
 {}
 
 /// What programs ask of DLLs, worked by hand.

@@ -5,12 +5,14 @@
 //! and [`missing`] what a DLL exports and no import asks for.
 //!
 //! [`judgements`] says what the members of a library come to, and [`asks_in`] what they ask for;
-//! [`judge_ask`] what an ask of a program's import directory comes to.
+//! [`judge_ask`] what an ask of a program's import directory comes to. [`follow`] says where a
+//! forwarder leads through other DLLs, and [`ends`] where those of a library's imports lead.
 //!
 //! Each equals a definition in `specs/`, over the lookups of `implib_dll`.
 #![tactic(auto)]
 
 mod dll_name;
+mod forwarder;
 mod import;
 mod lacking;
 pub mod laws;
@@ -18,6 +20,7 @@ mod program;
 mod verdict;
 
 pub use dll_name::loader_name;
+pub use forwarder::{Beside, DllContent, End, MOST_FORWARDERS, NamedDll, Stop, ends, follow};
 pub use import::{Judgement, Loss, asks_in, judgements};
 pub use lacking::missing;
 pub use program::{finds_all, is_asked, judge_ask};

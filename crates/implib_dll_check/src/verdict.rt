@@ -30,7 +30,7 @@ pub struct Verdict<'a> {
 }
 
 // What is found.
-fn found<'a>(exports: &Exports<'a>, ask: Ask<'_>) -> Option<Target<'a>>
+pub(crate) fn found<'a>(exports: &Exports<'a>, ask: Ask<'_>) -> Option<Target<'a>>
     ensures { option_map target_view result ≡ found (exports_view exports.now) (ask_view ask.entry) }
 {
     match ask {

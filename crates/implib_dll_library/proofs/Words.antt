@@ -1,51 +1,52 @@
 -- Exports with nothing but a word, a number and two flags, as those of a DLL are, and what the rules make of them.
-use Rattle.std.proofs.Common.{◌≡◌, ℕ, Bool, true, false, cond, ◌&&◌, ◌||◌, not, List, [], ◌∷◌, ◌++◌, map, refl, ap, ◌∙◌, append-nil}
+use Rattle.std.proofs.Common.{◌≡◌, ℕ, Bool, true, false, cond, ◌&&◌, ◌||◌, not, List, [], ◌∷◌, ◌++◌, map, refl, ap, ◌∙◌, append-nil, None}
 use Rattle.std.specs.Prelude.{bytes_eq}
-use Rattle.std.specs.List.{list_any}
+use Rattle.std.specs.List.{list_all, list_any}
 use Rattle.implib.specs.declared.flavor.Flavor.{Flavor}
 use Rattle.implib.specs.declared.flavor.Flavor.TheVariants.{Msvc, Gnu}
 use Rattle.implib.specs.declared.machine.MachineType.{MachineType}
 use Rattle.implib.specs.Ascii.{at_sign, begins_with, underscore}
 use Rattle.implib.specs.Definition.{ExportView, empty_export}
 use Rattle.implib_rules.specs.Additions.{extended_exports, no_additions, underscored}
-use Rattle.implib_rules.specs.Linked.{NamingView, declares, is_declared, linked_export, linked_exports, linked_import, targets_beside, word_asked}
+use Rattle.implib_rules.specs.Linked.{NamingView, adds_target, declares, has_target, is_among, is_apart, is_asked, is_declared, is_taken, linked_export, linked_exports, linked_import, linked_to, symbol_of, target_import, target_symbol, targets_beside, with_symbol, word_asked}
 use Rattle.implib_rules.specs.Repeats.{left_out, repeats_behind, without_repeated}
 use Rattle.implib_dll_library.specs.Libraries.{are_different}
 
--- a word, a number and two flags
+-- a word, what it asks for if that is another, a number and two flags
 pub record Word : Type 0 where
   pub name : List ℕ
+  pub target : List ℕ
   pub number : ℕ
   pub no_name : Bool
   pub is_data : Bool
 
 -- the export that has them
 abbrev pub of_word : Word → ExportView
-of_word w = record empty_export { name = w.name; ordinal = w.number; no_name = w.no_name; is_data = w.is_data }
+of_word w = record empty_export { name = w.name; alias_target = w.target; ordinal = w.number; no_name = w.no_name; is_data = w.is_data }
 
 -- ---- Bool
 
-and_false : (b : Bool) → (b && false) ≡ false
+pub and_false : (b : Bool) → (b && false) ≡ false
 and_false true = refl
 and_false false = refl
 
-or_false_left : (a b : Bool) → (a || b) ≡ false → a ≡ false
+pub or_false_left : (a b : Bool) → (a || b) ≡ false → a ≡ false
 or_false_left true b is = absurd cc
 or_false_left false b is = refl
 
-or_false_right : (a b : Bool) → (a || b) ≡ false → b ≡ false
+pub or_false_right : (a b : Bool) → (a || b) ≡ false → b ≡ false
 or_false_right true b is = absurd cc
 or_false_right false b is = is
 
-and_true_left : (a b : Bool) → (a && b) ≡ true → a ≡ true
+pub and_true_left : (a b : Bool) → (a && b) ≡ true → a ≡ true
 and_true_left true b is = refl
 and_true_left false b is = absurd cc
 
-and_true_right : (a b : Bool) → (a && b) ≡ true → b ≡ true
+pub and_true_right : (a b : Bool) → (a && b) ≡ true → b ≡ true
 and_true_right true b is = is
 and_true_right false b is = absurd cc
 
-not_true : (a : Bool) → not a ≡ true → a ≡ false
+pub not_true : (a : Bool) → not a ≡ true → a ≡ false
 not_true true is = absurd cc
 not_true false is = refl
 
@@ -56,8 +57,10 @@ both_false a b first second = ap (λ x. x || b) first ∙ second
 
 nothing_under : (machine : MachineType) (naming : NamingView) (w : Word) → underscored machine naming no_additions (of_word w) ≡ of_word w
 nothing_under machine naming w =
-    ap (λ b. cond b (record (of_word w) { alias_target = word_asked machine naming (underscore ∷ w.name) }) (of_word w))
+    ap (λ b. cond (not (has_target (of_word w)) && b) (record (of_word w) { alias_target = word_asked machine naming (underscore ∷ w.name) }) (of_word w))
     (and_false (not (begins_with at_sign w.name)))
+    ∙ ap (λ b. cond b (record (of_word w) { alias_target = word_asked machine naming (underscore ∷ w.name) }) (of_word w))
+    (and_false (not (has_target (of_word w))))
 
 nothing_unders : (machine : MachineType) (naming : NamingView) (ws : List Word) → map (underscored machine naming no_additions) (map of_word ws) ≡ map of_word ws
 nothing_unders machine naming [] = refl
@@ -121,20 +124,43 @@ nothing_left_out ws apart = kept_behind [] ws (none_before ws) apart
 abbrev pub link : MachineType → NamingView → Word → ExportView
 link machine naming w = linked_import machine naming (of_word w)
 
+-- whether Microsoft's linker can import a word as it is linked
+abbrev pub serves : MachineType → NamingView → Word → Bool
+serves machine naming w = not (is_apart machine naming (of_word w))
+
+-- the first word, and the others
+first_serves : (machine : MachineType) (naming : NamingView) (w : Word) (ws : List Word) → list_all (serves machine naming) (w ∷ ws) ≡ true
+    → is_apart machine naming (of_word w) ≡ false
+first_serves machine naming w ws all = not_true _ (and_true_left (serves machine naming w) (list_all (serves machine naming) ws) all)
+
+others_serve : (machine : MachineType) (naming : NamingView) (w : Word) (ws : List Word) → list_all (serves machine naming) (w ∷ ws) ≡ true
+    → list_all (serves machine naming) ws ≡ true
+others_serve machine naming w ws all = and_true_right (serves machine naming w) (list_all (serves machine naming) ws) all
+
 linked_each : (machine : MachineType) (naming : NamingView) (flavor : Flavor) (among : List ExportView) (ws : List Word)
-    → map (linked_export machine naming flavor among) (map of_word ws) ≡ map (link machine naming) ws
-linked_each machine naming flavor among [] = refl
-linked_each machine naming Msvc among (w ∷ ws) = ap (λ xs. link machine naming w ∷ xs) (linked_each machine naming Msvc among ws)
-linked_each machine naming Gnu among (w ∷ ws) = ap (λ xs. link machine naming w ∷ xs) (linked_each machine naming Gnu among ws)
+    → list_all (serves machine naming) ws ≡ true → map (linked_export machine naming flavor among) (map of_word ws) ≡ map (link machine naming) ws
+linked_each machine naming flavor among [] all = refl
+linked_each machine naming Msvc among (w ∷ ws) all =
+    ap (λ b. linked_to machine naming (cond b (target_symbol machine naming among w.target) None) (of_word w)
+    ∷ map (linked_export machine naming Msvc among) (map of_word ws)) (first_serves machine naming w ws all)
+    ∙ ap (λ xs. link machine naming w ∷ xs) (linked_each machine naming Msvc among ws (others_serve machine naming w ws all))
+linked_each machine naming Gnu among (w ∷ ws) all =
+    ap (λ xs. link machine naming w ∷ xs) (linked_each machine naming Gnu among ws (others_serve machine naming w ws all))
 
 no_targets : (machine : MachineType) (naming : NamingView) (among : List ExportView) (symbols : List (List ℕ)) (ws : List Word)
-    → targets_beside machine naming among symbols (map of_word ws) ≡ []
-no_targets machine naming among symbols [] = refl
-no_targets machine naming among symbols (w ∷ ws) = no_targets machine naming among symbols ws
+    → list_all (serves machine naming) ws ≡ true → targets_beside machine naming among symbols (map of_word ws) ≡ []
+no_targets machine naming among symbols [] all = refl
+no_targets machine naming among symbols (w ∷ ws) all =
+    let symbol = symbol_of machine naming w.target in
+    let adds : adds_target machine naming among (of_word w) ≡ false =
+    ap (λ b. b && (not (is_asked machine naming among w.target) && not (is_taken naming among w.target))) (first_serves machine naming w ws all) in
+    ap (λ b. cond (b && not (is_among symbols symbol)) (target_import machine naming (of_word w) ∷ []) []
+    ++ targets_beside machine naming among (cond b (with_symbol symbols symbol) symbols) (map of_word ws)) adds
+    ∙ no_targets machine naming among symbols ws (others_serve machine naming w ws all)
 
-pub linked_words : (machine : MachineType) (naming : NamingView) (flavor : Flavor) (ws : List Word)
+pub linked_words : (machine : MachineType) (naming : NamingView) (flavor : Flavor) (ws : List Word) → list_all (serves machine naming) ws ≡ true
     → linked_exports machine naming flavor (map of_word ws) ≡ map (link machine naming) ws
-linked_words machine naming Gnu ws = append-nil _ ∙ linked_each machine naming Gnu (map of_word ws) ws
-linked_words machine naming Msvc ws =
-    ap (λ more. map (linked_export machine naming Msvc (map of_word ws)) (map of_word ws) ++ more) (no_targets machine naming (map of_word ws) [] ws)
-    ∙ (append-nil _ ∙ linked_each machine naming Msvc (map of_word ws) ws)
+linked_words machine naming Gnu ws all = append-nil _ ∙ linked_each machine naming Gnu (map of_word ws) ws all
+linked_words machine naming Msvc ws all =
+    ap (λ more. map (linked_export machine naming Msvc (map of_word ws)) (map of_word ws) ++ more) (no_targets machine naming (map of_word ws) [] ws all)
+    ∙ (append-nil _ ∙ linked_each machine naming Msvc (map of_word ws) ws all)

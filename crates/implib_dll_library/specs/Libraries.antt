@@ -4,6 +4,7 @@ use Rattle.std.specs.List.{list_any}
 use Rattle.std.specs.Option.{option_and_then}
 use Rattle.implib.specs.declared.flavor.Flavor.{Flavor}
 use Rattle.implib.specs.declared.flavor.Flavor.TheVariants.{Msvc, Gnu}
+use Rattle.implib.specs.declared.machine.MachineType.TheVariants.{I386}
 use Rattle.implib.specs.Formats.File.{AnImport, File, file_in, meaning_in}
 use Rattle.implib.specs.Import.{Import}
 use Rattle.implib.specs.Members.GnuReader.{meaning_with}
@@ -15,7 +16,10 @@ use Rattle.implib_from_dll.specs.Laws.{Fits, IsFoundAtOnce, asks_of}
 use Rattle.implib_rules.specs.Additions.{no_additions}
 use Rattle.implib_rules.specs.Exports.{MembersOfExports}
 use Rattle.implib_rules.specs.Names.{dll_name}
+use Rattle.implib_rules.specs.Linked.{NamingView}
 use Rattle.implib_rules.specs.Options.{LibraryOptionsView}
+use Rattle.implib_dll_library.specs.Decorated.{decorated_exports}
+use Rattle.implib_dll_library.specs.Decorations.{DecorationView}
 
 -- names are asked for whole, by one of the first three name types, and nothing is added
 pub record AsksForWords (options : LibraryOptionsView) : Type 0 where
@@ -60,4 +64,16 @@ abbrev pub LibrariesAskForExports : Type 0
 LibrariesAskForExports =
     (e : Exports) (options : LibraryOptionsView) (members : List MemberView) → Fits e → AsksForWords options
     → words_differ e ≡ true → MembersOfExports (exports_of e) options members
+    → AsksForExports e options members
+
+-- whether the exports of a DLL have different words with the symbols of a file
+abbrev pub decorated_differ : NamingView → List DecorationView → Exports → Bool
+decorated_differ naming decorations e = are_different (map (λ x. x.name) (decorated_exports naming decorations e))
+
+-- With the symbols of a file, on I386, they ask for the same: only the symbols are others.
+abbrev pub DecoratedLibrariesAskForExports : Type 0
+DecoratedLibrariesAskForExports =
+    (e : Exports) (decorations : List DecorationView) (options : LibraryOptionsView) (members : List MemberView) → Fits e → AsksForWords options
+    → options.machine ≡ I386 → decorated_differ options.naming decorations e ≡ true
+    → MembersOfExports (decorated_exports options.naming decorations e) options members
     → AsksForExports e options members

@@ -1,12 +1,15 @@
 //! The members of a DLL's library.
 
+ghost use Rattle.implib.specs.Definition.{export_view};
 ghost use Rattle.implib_dll.specs.Views.{exports_view};
-ghost use Rattle.implib_dll_library.specs.Members.{IsUnmade, MembersOfDll, dll_named};
+ghost use Rattle.implib_dll_library.specs.Members.{IsListUnmade, IsUnmade, MembersOfDll};
+ghost use Rattle.implib_dll_library.specs.Members.{MembersOfList, dll_named};
 ghost use Rattle.implib_dll_library.specs.declared.members.Unmade.TheVariants as unmade;
 ghost use Rattle.implib_rules.specs.Options.{library_options_view};
-ghost use Rattle.std.specs.Prelude.{◌≡◌, IfErr, IfOk, None, option_map};
+ghost use Rattle.std.specs.Prelude.{◌≡◌, IfErr, IfOk, None, map, option_map};
 ghost use Rattle.std.specs.Str.{IsUtf8};
 
+use implib::def::ShortExport;
 use implib_dll::Exports;
 use implib_from_dll::{Unsaid, exports_of};
 use implib_rules::exports::{ExportsRefusal, members_of_exports};
@@ -54,8 +57,39 @@ fn dll_named<'a>(path: &'a str, own: &'a [u8], given: Option<&'a str>) -> Result
     }
 }
 
-/// The members of the library of the DLL of a file: those of its exports, for the DLL's name that
-/// the options give, or else that of its export directory, or that of the file where that is empty.
+/// The members of the library of these exports of the DLL of a file, for the DLL's name that the
+/// options give, or else that of its export directory, or that of the file where that is empty.
+///
+/// # Errors
+///
+/// As the variants say, but for `Unsaid`.
+pub fn members_of_list(
+    alloc: Global,
+    exports: &Exports<'_>,
+    list: Vec<ShortExport>,
+    path: &str,
+    options: &LibraryOptions<'_>,
+) -> Result<LibraryMembers, Unmade>
+    ensures made { IfOk result (λ members. MembersOfList (map export_view list.items)
+        (exports_view exports.now) path.now (library_options_view options.now) members) }
+    ensures refused { IfErr result (IsListUnmade (map export_view list.items)
+        (exports_view exports.now) path.now (library_options_view options.now)) }
+{
+    let dll = dll_named(path, exports.dll, options.dll)?;
+    let named = LibraryOptions {
+        dll: Some(dll),
+        ..*options
+    };
+    match members_of_exports(alloc, list, &named) {
+        Ok(members) => Ok(members),
+        Err(ExportsRefusal::NoName) => Err(Unmade::NoName),
+        Err(ExportsRefusal::Members(fault)) => Err(Unmade::Members(fault)),
+        Err(ExportsRefusal::OutOfMemory) => Err(Unmade::OutOfMemory),
+    }
+}
+
+/// The members of the library of the DLL of a file: those of its exports, for the DLL's name as
+/// above.
 ///
 /// # Errors
 ///
@@ -71,20 +105,9 @@ pub fn members_of_dll(
     ensures refused { IfErr result (IsUnmade (exports_view exports.now) path.now
         (library_options_view options.now)) }
 {
-    let dll = dll_named(path, exports.dll, options.dll)?;
-    let list = match exports_of(alloc, exports) {
-        Ok(list) => list,
-        Err(Unsaid::OutOfMemory) => return Err(Unmade::OutOfMemory),
-        Err(unsaid) => return Err(Unmade::Unsaid(unsaid)),
-    };
-    let named = LibraryOptions {
-        dll: Some(dll),
-        ..*options
-    };
-    match members_of_exports(alloc, list, &named) {
-        Ok(members) => Ok(members),
-        Err(ExportsRefusal::NoName) => Err(Unmade::NoName),
-        Err(ExportsRefusal::Members(fault)) => Err(Unmade::Members(fault)),
-        Err(ExportsRefusal::OutOfMemory) => Err(Unmade::OutOfMemory),
+    match exports_of(alloc, exports) {
+        Ok(list) => members_of_list(alloc, exports, list, path, options),
+        Err(Unsaid::OutOfMemory) => Err(Unmade::OutOfMemory),
+        Err(unsaid) => Err(Unmade::Unsaid(unsaid)),
     }
 }

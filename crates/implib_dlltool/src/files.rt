@@ -92,13 +92,17 @@ fn is_gone<R: Files + AllocGlobal>(rt: &R, process: &str) -> io::Result<bool> {
     Ok(fs::exists(rt, "/proc/self")? && !fs::exists(rt, path.as_str())?)
 }
 
-// Removes the new files beside another, whose names begin so, that killed processes left.
-fn sweep<R: Files + AllocGlobal + Clone + Drop>(rt: &R, path: &str, front: &str) -> io::Result<()> {
-    let folder = match Path::new(path).parent() {
+// The folder of the names beside another: for a name alone, the one that the process works in.
+fn folder_of(path: &str) -> &str {
+    match Path::new(path).parent() {
         Some(parent) if !parent.as_str().is_empty() => parent.as_str(),
         _ => ".",
-    };
-    for entry in fs::read_dir(rt, folder)? {
+    }
+}
+
+// Removes the new files beside another, whose names begin so, that killed processes left.
+fn sweep<R: Files + AllocGlobal + Clone + Drop>(rt: &R, path: &str, front: &str) -> io::Result<()> {
+    for entry in fs::read_dir(rt, folder_of(path))? {
         let entry = entry?;
         if let Some(process) = maker_of(entry.file_name(), front) {
             if is_gone(rt, process)? {
@@ -152,6 +156,26 @@ struct State {
     is_stuck: bool,
 }
 
+// A new file of this name, which gets a mode where one is given. One that cannot have it is removed.
+fn with_mode<R: Files, F: OpenFile + Drop>(
+    rt: &R,
+    name: &str,
+    file: F,
+    mode: Option<Permissions>,
+) -> io::Result<F> {
+    let Some(mode) = mode else {
+        return Ok(file);
+    };
+    match file.set_permissions(mode) {
+        Ok(()) => Ok(file),
+        Err(error) => {
+            drop(file);
+            let _ = fs::remove_file(rt, name);
+            Err(error)
+        }
+    }
+}
+
 // Makes a file beside the one that a path leads to. It gets the mode of the one whose place it
 // takes. Where there is something that is no file, it is an error.
 fn make_file<R: Files + AllocGlobal + Clone + Drop>(
@@ -164,13 +188,7 @@ fn make_file<R: Files + AllocGlobal + Clone + Drop>(
     let own = String::from_str(rt.alloc(), path)?;
     let (target, mode) = followed(rt, path)?;
     let (file, name) = open_beside(rt, target.as_str(), id)?;
-    if let Some(mode) = mode {
-        if let Err(error) = file.set_permissions(mode) {
-            drop(file);
-            let _ = fs::remove_file(rt, name.as_str());
-            return Err(error);
-        }
-    }
+    let file = with_mode(rt, name.as_str(), file, mode)?;
     let made = Made {
         name,
         target,

@@ -1,5 +1,6 @@
 //! Tests of the program.
 
 mod calls;
+mod decorations;
 mod delays;
 mod texts;

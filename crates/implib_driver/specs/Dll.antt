@@ -1,17 +1,20 @@
 -- The library of a DLL (this project's own; docs/DLLTOOL.md, "From a DLL").
-use Rattle.std.specs.Prelude.{◌≡◌, ◌≢◌, ℕ, Bool, true, List, None, Some, Ok, Err, codes, is_some, nat_eq}
+use Rattle.std.specs.Prelude.{◌≡◌, ◌≢◌, ℕ, Bool, false, true, List, Option, None, Some, Ok, Err, codes, is_some, nat_eq}
 use Rattle.std.specs.List.{starts_with}
 use Rattle.implib.specs.declared.machine.MachineType.{MachineType}
 use Rattle.implib.specs.Conversions.{machine_numbered}
+use Rattle.implib.specs.Definition.{ExportView}
+use Rattle.implib.specs.Machine.{has_leading_underscore}
 use Rattle.implib.specs.Members.MemberSpec.{MemberView}
 use Rattle.implib_dll.specs.declared.section.Layout.TheVariants.{File}
 use Rattle.implib_dll.specs.Exports.{Exports, exports_in}
 use Rattle.implib_driver.specs.declared.dll.DllRefusal.{DllRefusal}
-use Rattle.implib_driver.specs.declared.dll.DllRefusal.TheVariants.{Read, NoExports, UnknownMachine, OtherMachine, OlderSymbols, Delayed, NameNotUtf8, Unsaid, NoName, Members, OutOfMemory}
+use Rattle.implib_driver.specs.declared.dll.DllRefusal.TheVariants.{Read, NoExports, UnknownMachine, OtherMachine, OlderSymbols, Delayed, Undecorated, NameNotUtf8, Unsaid, NoName, Members, OutOfMemory}
 use Rattle.implib_driver.specs.declared.dll.DllCallError.{DllCallError}
 use Rattle.implib_driver.specs.declared.dll.DllCallError.TheVariants.{Call, Dll}
 use Rattle.implib_driver.specs.Request.{Asked, CallFaultView, RequestView, call_fault_view}
 use Rattle.implib_dll_library.specs.Members as library
+use Rattle.implib_from_dll.specs.Unsaid.{IsUnsaid}
 use Rattle.implib_dll_library.specs.declared.members.Unmade.TheVariants as unmade
 
 -- whether bytes begin as an image does ("MS-DOS Stub": IMAGE_DOS_SIGNATURE)
@@ -22,9 +25,9 @@ begins_dll bytes = starts_with nat_eq bytes (codes "MZ")
 abbrev pub ReadsDll : List ℕ → Exports → Type 0
 ReadsDll bytes e = exports_in File bytes ≡ Ok (Some e)
 
--- the members of the library of a DLL: those of its exports
-abbrev pub MembersOfDll : Exports → RequestView → List MemberView → Type 0
-MembersOfDll e request members = library.MembersOfDll e request.definition request.library members
+-- the members of the library of these exports of a DLL
+abbrev pub MembersOfDll : Exports → List ExportView → RequestView → List MemberView → Type 0
+MembersOfDll e exports request members = library.MembersOfList exports e request.definition request.library members
 
 -- why bytes have no export directory
 abbrev pub IsRefusalOfReading : List ℕ → DllRefusal → Type 0
@@ -33,16 +36,40 @@ IsRefusalOfReading bytes NoExports = exports_in File bytes ≡ Ok None
 IsRefusalOfReading bytes OutOfMemory = Unit {0}
 IsRefusalOfReading bytes _ = ⊥
 
--- why a DLL has no members
-abbrev pub IsUnmade : Exports → RequestView → DllRefusal → Type 0
-IsUnmade e request OlderSymbols = request.older_symbols ≡ true
-IsUnmade e request Delayed = is_some request.delayed ≡ true
-IsUnmade e request NameNotUtf8 = library.IsUnmade e request.definition request.library unmade.NameNotUtf8
-IsUnmade e request (Unsaid why) = library.IsUnmade e request.definition request.library (unmade.Unsaid why)
-IsUnmade e request NoName = library.IsUnmade e request.definition request.library unmade.NoName
-IsUnmade e request (Members fault) = library.IsUnmade e request.definition request.library (unmade.Members fault)
-IsUnmade e request OutOfMemory = Unit {0}
-IsUnmade e request _ = ⊥
+-- whether a machine has symbols that count bytes of arguments, where a file of them is given: I386
+abbrev pub can_decorate : MachineType → Option (List ℕ) → Bool
+can_decorate machine None = true
+can_decorate machine (Some path) = has_leading_underscore machine
+
+-- neither older symbols nor a library of delayed imports are asked for, and symbols that count on I386 alone
+pub record SuitsDll (request : RequestView) : Type 0 where
+  pub ordinary : request.older_symbols ≡ false
+  pub undelayed : request.delayed ≡ None
+  pub decorable : can_decorate request.library.machine request.decorations ≡ true
+
+-- why what is asked for is not for a DLL
+abbrev pub IsUnsuited : RequestView → DllRefusal → Type 0
+IsUnsuited request OlderSymbols = request.older_symbols ≡ true
+IsUnsuited request Delayed = is_some request.delayed ≡ true
+IsUnsuited request Undecorated = can_decorate request.library.machine request.decorations ≡ false
+IsUnsuited request _ = ⊥
+
+-- why a DLL has no exports as a definition has them, for a request
+abbrev pub IsUnlisted : Exports → RequestView → DllRefusal → Type 0
+IsUnlisted e request OlderSymbols = IsUnsuited request OlderSymbols
+IsUnlisted e request Delayed = IsUnsuited request Delayed
+IsUnlisted e request Undecorated = IsUnsuited request Undecorated
+IsUnlisted e request (Unsaid why) = IsUnsaid e why
+IsUnlisted e request OutOfMemory = Unit {0}
+IsUnlisted e request _ = ⊥
+
+-- why these exports of a DLL have no members
+abbrev pub IsUnmade : Exports → List ExportView → RequestView → DllRefusal → Type 0
+IsUnmade e exports request NameNotUtf8 = library.IsListUnmade exports e request.definition request.library unmade.NameNotUtf8
+IsUnmade e exports request NoName = library.IsListUnmade exports e request.definition request.library unmade.NoName
+IsUnmade e exports request (Members fault) = library.IsListUnmade exports e request.definition request.library (unmade.Members fault)
+IsUnmade e exports request OutOfMemory = Unit {0}
+IsUnmade e exports request _ = ⊥
 
 -- the exit status for a refusal: 1, and 3 for want of memory
 abbrev pub dll_status : DllRefusal → ℕ

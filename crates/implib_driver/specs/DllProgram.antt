@@ -1,18 +1,25 @@
 -- What is done with the bytes of a DLL (this project's own).
-use Rattle.std.specs.Prelude.{◌≡◌, ◌⊎◌, ℕ, Bool, true, false, List, [], ◌∷◌, Option, None}
+use Rattle.std.specs.Prelude.{◌≡◌, ◌⊎◌, ℕ, Bool, true, false, List, [], ◌∷◌, Option, None, Some, IfSome, ◌&&◌, nat_lt}
 use Rattle.implib.specs.declared.machine.MachineType.{MachineType}
+use Rattle.implib.specs.Definition.{ExportView}
 use Rattle.implib.specs.Members.MemberSpec.{MemberView}
 use Rattle.implib_dll.specs.Exports.{Exports}
 use Rattle.implib_driver.specs.declared.dll.DllCallError.{DllCallError}
 use Rattle.implib_driver.specs.declared.dll.DllCallError.TheVariants.{Call, Dll}
 use Rattle.implib_driver.specs.declared.dll.DllRefusal.{DllRefusal}
-use Rattle.implib_driver.specs.Disk.{DiskView}
-use Rattle.implib_driver.specs.Dll.{IsRefusalOfReading, IsRefusalOfRequest, IsRequested, IsUnmade, MembersOfDll, ReadsDll, dll_status}
+use Rattle.implib_driver.specs.Disk.{DiskView, failing}
+use Rattle.implib_driver.specs.Dll.{IsRefusalOfReading, IsRefusalOfRequest, IsRequested, IsUnlisted, IsUnmade, MembersOfDll, ReadsDll, SuitsDll, dll_status}
 use Rattle.implib_driver.specs.Placing.{Answer, AnswersMembers}
-use Rattle.implib_driver.specs.Reports.{ComplaintView, Complains, Line, OfCall, OfDll, OfStub, Says}
+use Rattle.implib_driver.specs.Reports.{ComplaintView, Complains, Line, OfCall, OfDll, OfMissing, OfNoLibrary, OfStub, OfSystem, Refuses, Says}
 use Rattle.implib_driver.specs.Request.{Asked, RequestView, call_fault_view}
 use Rattle.implib_driver.specs.Stubs.{has_failing_stub}
 use Rattle.implib_driver.specs.Verdicts.{answer_status, verdict}
+use Rattle.implib_dll_library.specs.declared.decorations.NotDecorations.{NotDecorations}
+use Rattle.implib_dll_library.specs.declared.decorations.NotDecorations.TheVariants.{NoLibrary, Text}
+use Rattle.implib_dll_library.specs.Decorated.{decorated_exports, missing}
+use Rattle.implib_dll_library.specs.Decorations.{AreDecorations, DecorationView, HasNoDecorations}
+use Rattle.implib_from_dll.specs.Definition.{exports_of}
+use Rattle.implib_rules.specs.Library.{status_of}
 
 -- the library of members was put, and then the answer was said
 pub record PutsMembers (known : Bool) (members : List MemberView) (request : RequestView) (disk put : DiskView) (before after : Option (List Line)) (status : ℕ)
@@ -22,20 +29,19 @@ pub record PutsMembers (known : Bool) (members : List MemberView) (request : Req
   pub says : Says before after (verdict request answer)
   pub is_status : status ≡ answer_status answer
 
--- a DLL has members whose stubs can run, and their library was put
-pub record IsMade (known : Bool) (e : Exports) (request : RequestView) (disk put : DiskView) (before after : Option (List Line)) (status : ℕ) : Type 0 where
-  -- neither older symbols nor a library of delayed imports are asked for
-  pub ordinary : request.older_symbols ≡ false
-  pub undelayed : request.delayed ≡ None
+-- exports of a DLL have members whose stubs can run, and their library was put
+pub record IsMade (known : Bool) (e : Exports) (exports : List ExportView) (request : RequestView) (disk put : DiskView) (before after : Option (List Line))
+    (status : ℕ) : Type 0 where
   pub members : List MemberView
-  pub made : MembersOfDll e request members
+  pub made : MembersOfDll e exports request members
   pub runs : has_failing_stub request.library members ≡ false
   pub puts : PutsMembers known members request disk put before after status
 
--- a DLL has members whose stubs cannot run; that was said, and nothing was put
-pub record HasDllFailingStub (e : Exports) (request : RequestView) (disk put : DiskView) (before after : Option (List Line)) (status : ℕ) : Type 0 where
+-- exports of a DLL have members whose stubs cannot run; that was said, and nothing was put
+pub record HasDllFailingStub (e : Exports) (exports : List ExportView) (request : RequestView) (disk put : DiskView) (before after : Option (List Line))
+    (status : ℕ) : Type 0 where
   pub members : List MemberView
-  pub made : MembersOfDll e request members
+  pub made : MembersOfDll e exports request members
   pub fails : has_failing_stub request.library members ≡ true
   pub same_disk : put ≡ disk
   pub says : Says before after (Complains request.definition OfStub ∷ [])
@@ -59,11 +65,82 @@ abbrev pub call_status : DllCallError → ℕ
 call_status (Call fault) = 2
 call_status (Dll refusal) = dll_status refusal
 
+-- what is done for these exports of a DLL
+abbrev pub FinishesList : Bool → Exports → List ExportView → RequestView → DiskView → DiskView → Option (List Line) → Option (List Line) → ℕ → Type 0
+FinishesList known e exports request disk put before after status =
+    IsMade known e exports request disk put before after status ⊎ HasDllFailingStub e exports request disk put before after status
+    ⊎ IsRefused request.definition (IsUnmade e exports request) disk put before after status
+
+-- the file of symbols could not be read
+pub record HasUnreadFile (path : List ℕ) (disk put : DiskView) (before after : Option (List Line)) (status : ℕ) : Type 0 where
+  pub failed : put ≡ failing disk
+  pub says : Says before after (Complains path OfSystem ∷ [])
+  pub is_status : status ≡ 3
+
+-- what is said of a file that has no symbols, and the exit status then
+abbrev pub undecorated_lines : List ℕ → NotDecorations → List Line
+undecorated_lines path NoLibrary = Complains path OfNoLibrary ∷ []
+undecorated_lines path (Text refusal) = Refuses path refusal ∷ []
+
+abbrev pub undecorated_status : NotDecorations → ℕ
+undecorated_status NoLibrary = 1
+undecorated_status (Text refusal) = status_of refusal
+
+-- whether it is said that a file lacks this many functions
+abbrev pub tells_missing : RequestView → ℕ → Bool
+tells_missing request count = request.is_verbose && nat_lt 0 count
+
+-- that was said, or not
+abbrev pub SaysMissing : Bool → List ℕ → ℕ → Option (List Line) → Option (List Line) → Type 0
+SaysMissing false path count before after = after ≡ before
+SaysMissing true path count before after = Says before after (Complains path (OfMissing count) ∷ [])
+
+-- The file has these symbols. How many functions it lacks was said, if warnings are asked for; then this was done with the
+-- exports that have them.
+pub record HasSymbols (known : Bool) (e : Exports) (bytes path : List ℕ) (request : RequestView) (disk put : DiskView) (before after : Option (List Line)) (status : ℕ)
+    : Type 0 where
+  pub decorations : List DecorationView
+  pub are : AreDecorations bytes decorations
+  pub warned : Option (List Line)
+  pub warns : SaysMissing (tells_missing request (missing decorations e)) path (missing decorations e) before warned
+  pub finishes : FinishesList known e (decorated_exports request.library.naming decorations e) request disk put warned after status
+
+-- the file has none, which was said, and nothing was put
+pub record LacksSymbols (bytes path : List ℕ) (disk put : DiskView) (before after : Option (List Line)) (status : ℕ) : Type 0 where
+  pub why : NotDecorations
+  pub refused : HasNoDecorations bytes why
+  pub same_disk : put ≡ disk
+  pub says : Says before after (undecorated_lines path why)
+  pub is_status : status ≡ undecorated_status why
+
+-- what is done for a DLL with the bytes of a file of symbols
+abbrev pub FinishesBytes : Bool → Exports → List ℕ → List ℕ → RequestView → DiskView → DiskView → Option (List Line) → Option (List Line) → ℕ → Type 0
+FinishesBytes known e bytes path request disk put before after status =
+    HasSymbols known e bytes path request disk put before after status ⊎ LacksSymbols bytes path disk put before after status
+
+-- the file of symbols was read, and this was done with its bytes
+pub record HasFile (known : Bool) (e : Exports) (path : List ℕ) (request : RequestView) (disk put : DiskView) (before after : Option (List Line)) (status : ℕ)
+    : Type 0 where
+  pub bytes : List ℕ
+  pub read : IfSome (disk.seen path) (λ file. bytes ≡ file)
+  pub finishes : FinishesBytes known e bytes path request disk put before after status
+
+-- what is done for a DLL, with the symbols of a file where one is given
+abbrev pub FinishesListed : Bool → Exports → Option (List ℕ) → RequestView → DiskView → DiskView → Option (List Line) → Option (List Line) → ℕ → Type 0
+FinishesListed known e None request disk put before after status = FinishesList known e (exports_of e) request disk put before after status
+FinishesListed known e (Some path) request disk put before after status =
+    HasFile known e path request disk put before after status ⊎ HasUnreadFile path disk put before after status
+
+-- what is asked for suits a DLL, and this was done for it
+pub record IsSuited (known : Bool) (e : Exports) (request : RequestView) (disk put : DiskView) (before after : Option (List Line)) (status : ℕ) : Type 0 where
+  pub suits : SuitsDll request
+  pub finishes : FinishesListed known e request.decorations request disk put before after status
+
 -- what is done for a DLL of these exports and a request that fits its machine
 abbrev pub FinishesExports : Bool → Exports → RequestView → DiskView → DiskView → Option (List Line) → Option (List Line) → ℕ → Type 0
 FinishesExports known e request disk put before after status =
-    IsMade known e request disk put before after status ⊎ HasDllFailingStub e request disk put before after status
-    ⊎ IsRefused request.definition (IsUnmade e request) disk put before after status
+    IsSuited known e request disk put before after status
+    ⊎ IsRefused request.definition (IsUnlisted e request) disk put before after status
 
 -- a DLL was read, there is a request for its machine, and this was done for it
 pub record IsAsked (known : Bool) (machines : MachineType → Asked RequestView) (e : Exports) (disk put : DiskView) (before after : Option (List Line)) (status : ℕ)

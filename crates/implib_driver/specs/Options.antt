@@ -5,8 +5,8 @@ use Rattle.implib_driver.specs.declared.options.Meaning.{Meaning}
 use Rattle.implib_driver.specs.declared.options.Meaning.TheVariants.{Takes, Switches, Unsupported, Unknown}
 use Rattle.implib_driver.specs.declared.options.Setting.{Setting}
 use Rattle.implib_driver.specs.declared.options.Switch.{Switch}
-use Rattle.implib_driver.specs.declared.options.Setting.TheVariants.{Definition, Output, DelayedOutput, Machine, Dll, Flavor, Assembler, AssemblerFlags, TemporaryPrefix, FurtherPrefix, Identify, Input}
-use Rattle.implib_driver.specs.declared.options.Switch.TheVariants.{KillAt, NoLeadingUnderscore, LeadingUnderscore, ExportAs, AddUnderscore, AddStdcallUnderscore, AddStdcallAlias, DeterministicLibraries, NonDeterministicLibraries, NoDelete, IdentifyStrict, KeepsDecorated, CompatImplib, Verbose, Help, Version}
+use Rattle.implib_driver.specs.declared.options.Setting.TheVariants.{Definition, Output, DelayedOutput, Machine, Dll, Flavor, Assembler, AssemblerFlags, TemporaryPrefix, FurtherPrefix, Identify, Input, Decorations}
+use Rattle.implib_driver.specs.declared.options.Switch.TheVariants.{KillAt, NoLeadingUnderscore, LeadingUnderscore, ExportAs, AddUnderscore, AddStdcallUnderscore, AddStdcallAlias, DeterministicLibraries, NonDeterministicLibraries, NoDelete, ListedAlone, IdentifyStrict, KeepsDecorated, CompatImplib, Verbose, Help, Version}
 
 -- the long names, without `--`, of GNU dlltool's options that have no meaning here
 abbrev pub is_unsupported : List ℕ → Bool
@@ -18,7 +18,6 @@ is_unsupported name =
     else if bytes_eq name (codes "no-idata5") then true
     else if bytes_eq name (codes "add-indirect") then true
     else if bytes_eq name (codes "export-all-symbols") then true
-    else if bytes_eq name (codes "no-export-all-symbols") then true
     else if bytes_eq name (codes "exclude-symbols") then true
     else if bytes_eq name (codes "no-default-excludes") then true
     else if bytes_eq name (codes "use-nul-prefixed-import-tables") then true
@@ -40,6 +39,7 @@ option_named name =
     else if bytes_eq name (codes "temp-prefix") then Takes TemporaryPrefix
     else if bytes_eq name (codes "ext-prefix-alias") then Takes FurtherPrefix
     else if bytes_eq name (codes "identify") then Takes Identify
+    else if bytes_eq name (codes "decorations") then Takes Decorations
     else if bytes_eq name (codes "kill-at") then Switches KillAt
     else if bytes_eq name (codes "no-leading-underscore") then Switches NoLeadingUnderscore
     else if bytes_eq name (codes "leading-underscore") then Switches LeadingUnderscore
@@ -51,6 +51,7 @@ option_named name =
     else if bytes_eq name (codes "deterministic-libraries") then Switches DeterministicLibraries
     else if bytes_eq name (codes "non-deterministic-libraries") then Switches NonDeterministicLibraries
     else if bytes_eq name (codes "no-delete") then Switches NoDelete
+    else if bytes_eq name (codes "no-export-all-symbols") then Switches ListedAlone
     else if bytes_eq name (codes "identify-strict") then Switches IdentifyStrict
     else if bytes_eq name (codes "verbose") then Switches Verbose
     else if bytes_eq name (codes "help") then Switches Help
@@ -76,6 +77,7 @@ option_lettered letter =
     else if letter == byte "A" then Switches AddStdcallAlias
     else if letter == byte "C" then Switches CompatImplib
     else if letter == byte "n" then Switches NoDelete
+    else if letter == byte "u" then Switches ListedAlone
     else if letter == byte "v" then Switches Verbose
     else if letter == byte "h" then Switches Help
     else if letter == byte "V" then Switches Version
@@ -101,6 +103,7 @@ setting_number FurtherPrefix = 8
 setting_number Identify = 9
 setting_number Input = 10
 setting_number DelayedOutput = 11
+setting_number Decorations = 12
 
 -- the number of an option without a value
 abbrev pub switch_number : Switch → ℕ
@@ -120,6 +123,7 @@ switch_number AddStdcallAlias = 12
 switch_number IdentifyStrict = 13
 switch_number KeepsDecorated = 14
 switch_number CompatImplib = 15
+switch_number ListedAlone = 16
 
 -- whether two options that take values are one
 abbrev pub is_same_setting : Setting → Setting → Bool

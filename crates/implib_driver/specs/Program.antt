@@ -27,7 +27,7 @@ use Rattle.implib_driver.specs.LibWords.{words_read}
 pub use Rattle.implib_driver.specs.Verdicts.{answer_status, output_or_none, verdict}
 use Rattle.implib_driver.specs.Dll.{begins_dll}
 use Rattle.implib_driver.specs.DllProgram.{FinishesDll}
-use Rattle.implib_driver.specs.Request.{Asked, AsksHelp, AsksIdentity, AsksVersion, Asks, RequestView, TaskView, caller_of, request_for, task_of}
+use Rattle.implib_driver.specs.Request.{Asked, AsksHelp, AsksIdentity, AsksVersion, Asks, DecoratesDefinition, RequestView, TaskView, caller_of, request_for, task_of}
 use Rattle.implib_driver.specs.Stubs.{has_failing_stub}
 use Rattle.implib_driver.specs.Verbose.{warnings_for}
 use Rattle.implib_rules.specs.declared.library.Refusal.{Refusal}
@@ -270,6 +270,17 @@ FinishesText known bytes None request disk put before after status = Finishes kn
 FinishesText known bytes (Some path) request disk put before after status =
     FinishesDelaying known bytes path request disk put before after status
 
+-- that a definition gets no symbols of a file was said, and nothing was put
+pub record IsMisused (request : RequestView) (disk put : DiskView) (before after : Option (List Line)) (status : ℕ) : Type 0 where
+  pub same_disk : put ≡ disk
+  pub says : Says before after (Complains request.definition (OfCall DecoratesDefinition) ∷ [])
+  pub is_status : status ≡ 2
+
+-- what is done with the bytes of a definition, unless a file of symbols is given
+abbrev pub FinishesUnless : Option (List ℕ) → Bool → List ℕ → RequestView → DiskView → DiskView → Option (List Line) → Option (List Line) → ℕ → Type 0
+FinishesUnless None known bytes request disk put before after status = FinishesText known bytes request.delayed request disk put before after status
+FinishesUnless (Some file) known bytes request disk put before after status = IsMisused request disk put before after status
+
 -- the request that options make for a machine, as the one that a DLL is for
 abbrev pub ForMachine : Type 0
 ForMachine = MachineType → Asked RequestView
@@ -278,7 +289,7 @@ ForMachine = MachineType → Asked RequestView
 abbrev pub FinishesRead : Bool → ForMachine → Bool → List ℕ → RequestView → DiskView → DiskView → Option (List Line) → Option (List Line) → ℕ → Type 0
 FinishesRead known machines true bytes request disk put before after status = FinishesDll known machines bytes request.definition disk put before after status
 FinishesRead known machines false bytes request disk put before after status =
-    FinishesText known bytes request.delayed request disk put before after status
+    FinishesUnless request.decorations known bytes request disk put before after status
 
 -- the definition or the DLL was read, and this was done with its bytes
 pub record IsRead (known : Bool) (machines : ForMachine) (request : RequestView) (before after : Devices) (status : ℕ) : Type 0 where

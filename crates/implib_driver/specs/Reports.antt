@@ -34,6 +34,10 @@ pub data ComplaintView : Type 0 where
   OfUndelayed : Undelayed → ComplaintView
   -- a DLL that has no library
   OfDll : DllRefusal → ComplaintView
+  -- a file that begins as an archive does, and is none
+  OfNoLibrary : ComplaintView
+  -- functions of a DLL that a file of symbols lacks
+  OfMissing : ℕ → ComplaintView
 
 -- the view of a complaint of the program
 abbrev pub complaint_view : Complaint → ComplaintView
@@ -48,6 +52,8 @@ complaint_view complaint.FailingStub = OfStub
 complaint_view complaint.Utf16 = OfUtf16
 complaint_view (complaint.Undelayed why) = OfUndelayed why
 complaint_view (complaint.Dll refusal) = OfDll refusal
+complaint_view complaint.NoLibrary = OfNoLibrary
+complaint_view (complaint.Missing count) = OfMissing count
 
 -- what is said at once
 pub data Line : Type 0 where

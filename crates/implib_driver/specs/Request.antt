@@ -8,7 +8,7 @@ use Rattle.implib.specs.declared.flavor.Flavor.{Flavor}
 use Rattle.implib.specs.declared.flavor.Flavor.TheVariants.{Msvc, Gnu}
 use Rattle.implib.specs.declared.machine.MachineType.{MachineType}
 use Rattle.implib.specs.declared.machine.MachineType.TheVariants.{I386, ARMNT, AMD64, ARM64}
-use Rattle.implib_driver.specs.declared.options.Setting.TheVariants.{DelayedOutput, Definition, Input, Output, Machine, Dll, Flavor as FlavorSetting, Assembler, AssemblerFlags, TemporaryPrefix, FurtherPrefix, Identify}
+use Rattle.implib_driver.specs.declared.options.Setting.TheVariants.{DelayedOutput, Definition, Input, Output, Machine, Dll, Flavor as FlavorSetting, Assembler, AssemblerFlags, TemporaryPrefix, FurtherPrefix, Identify, Decorations}
 use Rattle.implib_driver.specs.declared.options.Switch.TheVariants.{Help, IdentifyStrict, KeepsDecorated, KillAt, LeadingUnderscore, NoLeadingUnderscore, Verbose, Version, ExportAs, AddUnderscore, AddStdcallUnderscore, CompatImplib}
 use Rattle.implib_driver.specs.declared.request.CallError.{CallError}
 use Rattle.implib_driver.specs.declared.request.CallError.TheVariants as error
@@ -40,6 +40,8 @@ pub record RequestView : Type 0 where
   pub delayed : Option (List ℕ)
   -- what it is made for
   pub library : LibraryOptionsView
+  -- the file that has the symbols of a DLL's names
+  pub decorations : Option (List ℕ)
   -- whether addresses have their older symbols too
   pub older_symbols : Bool
   -- whether warnings are written
@@ -52,6 +54,7 @@ request_view r = record {
   output = option_map (λ text. text.now) r.output;
   delayed = option_map (λ text. text.now) r.delayed;
   library = library_options_view r.library;
+  decorations = option_map (λ text. text.now) r.decorations;
   older_symbols = r.older_symbols;
   is_verbose = r.is_verbose;
 }
@@ -88,6 +91,7 @@ pub data CallFaultView : Type 0 where
   HasOneOutput : CallFaultView
   HasNoDelay : CallFaultView
   DelaysForMicrosoft : CallFaultView
+  DecoratesDefinition : CallFaultView
 
 -- the view of a fault of the program
 abbrev pub call_fault_view : CallFault → CallFaultView
@@ -106,6 +110,7 @@ call_fault_view fault.OutputIsDefinition = ReplacesDefinition
 call_fault_view fault.OneOutput = HasOneOutput
 call_fault_view fault.NoDelay = HasNoDelay
 call_fault_view fault.DelayForMicrosoft = DelaysForMicrosoft
+call_fault_view fault.DecoratedDefinition = DecoratesDefinition
 
 -- a value that is asked for, or what is wrong
 abbrev pub Asked : Type 0 → Type 0
@@ -378,6 +383,7 @@ request_of caller options given =
       output = output;
       delayed = delayed;
       library = record { machine = machine; flavor = flavor; dll = dll; naming = naming; additions = additions_in options };
+      decorations = last_given Decorations options;
       older_symbols = older_symbols;
       is_verbose = is_switched Verbose options;
     }))))))))))

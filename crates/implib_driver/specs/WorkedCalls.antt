@@ -41,6 +41,7 @@ pub record CallsAnswered : Type 0 where
     output = Some (codes "F.lib");
     delayed = None;
     library = record { machine = I386; flavor = Gnu; dll = Some (codes "zoo.dll"); naming = plain; additions = no_additions };
+    decorations = None;
     older_symbols = false;
     is_verbose = false;
   }))
@@ -49,6 +50,7 @@ pub record CallsAnswered : Type 0 where
     output = Some (codes "X.a");
     delayed = None;
     library = record { machine = AMD64; flavor = Gnu; dll = None; naming = killing; additions = no_additions };
+    decorations = None;
     older_symbols = false;
     is_verbose = false;
   }))
@@ -57,6 +59,7 @@ pub record CallsAnswered : Type 0 where
     output = Some (codes "a.lib");
     delayed = None;
     library = record { machine = AMD64; flavor = Msvc; dll = None; naming = usual; additions = no_additions };
+    decorations = None;
     older_symbols = false;
     is_verbose = false;
   }))
@@ -65,6 +68,7 @@ pub record CallsAnswered : Type 0 where
     output = None;
     delayed = None;
     library = record { machine = ARM64; flavor = Msvc; dll = None; naming = usual; additions = no_additions };
+    decorations = None;
     older_symbols = false;
     is_verbose = false;
   }))
@@ -73,6 +77,7 @@ pub record CallsAnswered : Type 0 where
     output = None;
     delayed = None;
     library = record { machine = AMD64; flavor = Gnu; dll = None; naming = usual; additions = no_additions };
+    decorations = None;
     older_symbols = false;
     is_verbose = true;
   }))
@@ -81,6 +86,7 @@ pub record CallsAnswered : Type 0 where
     output = None;
     delayed = None;
     library = record { machine = AMD64; flavor = Gnu; dll = None; naming = usual; additions = no_additions };
+    decorations = None;
     older_symbols = true;
     is_verbose = false;
   }))
@@ -98,6 +104,7 @@ asked_for output = record {
   output = output;
   delayed = None;
   library = record { machine = AMD64; flavor = Gnu; dll = None; naming = usual; additions = no_additions };
+  decorations = None;
   older_symbols = false;
   is_verbose = false;
 }

@@ -84,6 +84,7 @@ pub record DelaysAsked : Type 0 where
       naming = usual;
       additions = no_additions;
     };
+    decorations = None;
     older_symbols = false;
     is_verbose = false;
   }))
@@ -99,6 +100,7 @@ pub record DelaysAsked : Type 0 where
       naming = killing;
       additions = no_additions;
     };
+    decorations = None;
     older_symbols = false;
     is_verbose = false;
   }))
@@ -118,6 +120,7 @@ pub record DelaysAsked : Type 0 where
           naming = usual;
           additions = no_additions;
         };
+        decorations = None;
         older_symbols = false;
         is_verbose = false;
       }))

@@ -2,11 +2,11 @@
 use Rattle.std.specs.Prelude.{◌≡◌, true, false, [], ◌∷◌, None, Some, Ok, Err, codes}
 use Rattle.implib.specs.declared.flavor.Flavor.TheVariants.{Msvc, Gnu}
 use Rattle.implib.specs.declared.machine.MachineType.TheVariants.{I386, AMD64, ARM64}
-use Rattle.implib_driver.specs.declared.options.Setting.TheVariants.{Definition, Input, Output, Machine}
+use Rattle.implib_driver.specs.declared.options.Setting.TheVariants.{Decorations, Definition, Input, Output, Machine}
 use Rattle.implib_driver.specs.declared.options.Switch.TheVariants.{CompatImplib, LeadingUnderscore}
 use Rattle.implib_driver.specs.Arguments.{Given, Switched}
 use Rattle.implib_dll_library.specs.Members.{dll_named}
-use Rattle.implib_driver.specs.Dll.{begins_dll}
+use Rattle.implib_driver.specs.Dll.{begins_dll, can_decorate}
 use Rattle.implib_driver.specs.Request.{Asks, HasNoOlderSymbols, HasNoUnderscore, HasTwoInputs, LacksDefinition, request_for, task_of}
 use Rattle.implib_driver.specs.WorkedCalls.{for_i386, itself}
 use Rattle.implib_rules.specs.Additions.{no_additions}
@@ -24,6 +24,7 @@ pub record DllsAsked : Type 0 where
     output = Some (codes "a.lib");
     delayed = None;
     library = record { machine = AMD64; flavor = Msvc; dll = None; naming = usual; additions = no_additions };
+    decorations = None;
     older_symbols = false;
     is_verbose = false;
   }))
@@ -36,15 +37,30 @@ pub record DllsAsked : Type 0 where
     output = None;
     delayed = None;
     library = record { machine = ARM64; flavor = Msvc; dll = None; naming = usual; additions = no_additions };
+    decorations = None;
     older_symbols = false;
     is_verbose = false;
   })
+  -- a file of symbols, which is for I386 alone
+  pub decorated : request_for itself (Given Input (codes "a.dll") ∷ Given Decorations (codes "b.a") ∷ []) I386 ≡ Ok (record {
+    definition = codes "a.dll";
+    output = None;
+    delayed = None;
+    library = record { machine = I386; flavor = Gnu; dll = None; naming = usual; additions = no_additions };
+    decorations = Some (codes "b.a");
+    older_symbols = false;
+    is_verbose = false;
+  })
+  pub i386_can : can_decorate I386 (Some (codes "b.a")) ≡ true
+  pub amd64_cannot : can_decorate AMD64 (Some (codes "b.a")) ≡ false
+  pub none_can : can_decorate AMD64 None ≡ true
   -- another machine that is named stays, and is refused later
   pub other_machine : request_for itself (Given Input (codes "a.dll") ∷ Given Machine (codes "i386") ∷ []) AMD64 ≡ Ok (record {
     definition = codes "a.dll";
     output = None;
     delayed = None;
     library = record { machine = I386; flavor = Gnu; dll = None; naming = usual; additions = no_additions };
+    decorations = None;
     older_symbols = false;
     is_verbose = false;
   })

@@ -125,6 +125,7 @@ pub record LibWordsRead : Type 0 where
     output = Some (codes "b.a");
     delayed = None;
     library = record { machine = I386; flavor = Msvc; dll = Some (codes "zoo.dll"); naming = decorated; additions = no_additions };
+    decorations = None;
     older_symbols = false;
     is_verbose = false;
   }))
@@ -134,6 +135,7 @@ pub record LibWordsRead : Type 0 where
     output = Some (codes "b");
     delayed = None;
     library = record { machine = ARM64; flavor = Msvc; dll = None; naming = decorated; additions = no_additions };
+    decorations = None;
     older_symbols = false;
     is_verbose = true;
   }))

@@ -2,9 +2,9 @@
 use Rattle.std.specs.Prelude.{◌≡◌, ℕ, Bool, true, false, List, [], ◌∷◌, None, Some, Ok, Err, codes, map}
 use Rattle.implib.specs.declared.flavor.Flavor.TheVariants.{Msvc, Gnu}
 use Rattle.implib.specs.declared.machine.MachineType.TheVariants.{I386, ARMNT, AMD64, ARM64}
-use Rattle.implib_driver.specs.declared.options.Setting.TheVariants.{Definition, DelayedOutput, Output, Machine, Dll, Flavor, Assembler, AssemblerFlags, TemporaryPrefix, FurtherPrefix, Identify, Input}
+use Rattle.implib_driver.specs.declared.options.Setting.TheVariants.{Definition, DelayedOutput, Output, Machine, Dll, Flavor, Assembler, AssemblerFlags, TemporaryPrefix, FurtherPrefix, Identify, Input, Decorations}
 use Rattle.implib_driver.specs.declared.options.Switch.{Switch}
-use Rattle.implib_driver.specs.declared.options.Switch.TheVariants.{KeepsDecorated, KillAt, NoLeadingUnderscore, LeadingUnderscore, DeterministicLibraries, NonDeterministicLibraries, NoDelete, Verbose, Help, Version, ExportAs, AddUnderscore, AddStdcallUnderscore, AddStdcallAlias, IdentifyStrict, CompatImplib}
+use Rattle.implib_driver.specs.declared.options.Switch.TheVariants.{KeepsDecorated, KillAt, NoLeadingUnderscore, LeadingUnderscore, DeterministicLibraries, NonDeterministicLibraries, NoDelete, Verbose, Help, Version, ExportAs, AddUnderscore, AddStdcallUnderscore, AddStdcallAlias, IdentifyStrict, CompatImplib, ListedAlone}
 use Rattle.implib.specs.Conversions.{flavor_named}
 use Rattle.implib_driver.specs.Arguments.{OccurrenceView, Given, Switched, IsUnsupported, is_switched, last_given, read_words}
 use Rattle.implib_driver.specs.Request.{machine_named}
@@ -18,7 +18,8 @@ words_with_values =
     ∷ codes "--as-flags" ∷ codes "m" ∷ codes "-t" ∷ codes "n" ∷ codes "--temp-prefix" ∷ codes "o"
     ∷ codes "--def" ∷ codes "p" ∷ codes "-p" ∷ codes "q" ∷ codes "--ext-prefix-alias" ∷ codes "r"
     ∷ codes "-I" ∷ codes "s" ∷ codes "--identify" ∷ codes "t" ∷ codes "--dll" ∷ codes "u" ∷ codes "v"
-    ∷ codes "-y" ∷ codes "w" ∷ codes "--output-delaylib" ∷ codes "x" ∷ []
+    ∷ codes "-y" ∷ codes "w" ∷ codes "--output-delaylib" ∷ codes "x"
+    ∷ codes "--decorations" ∷ codes "y" ∷ codes "--decorations=z" ∷ []
 
 -- what they give
 abbrev pub given : List OccurrenceView
@@ -29,7 +30,8 @@ given =
     ∷ Given AssemblerFlags (codes "m") ∷ Given TemporaryPrefix (codes "n") ∷ Given TemporaryPrefix (codes "o")
     ∷ Given Definition (codes "p") ∷ Given FurtherPrefix (codes "q") ∷ Given FurtherPrefix (codes "r")
     ∷ Given Identify (codes "s") ∷ Given Identify (codes "t") ∷ Given Definition (codes "u") ∷ Given Input (codes "v")
-    ∷ Given DelayedOutput (codes "w") ∷ Given DelayedOutput (codes "x") ∷ []
+    ∷ Given DelayedOutput (codes "w") ∷ Given DelayedOutput (codes "x")
+    ∷ Given Decorations (codes "y") ∷ Given Decorations (codes "z") ∷ []
 
 -- each option without a value, by its letter, where it has one, and by its long name
 abbrev pub words_of_switches : List (List ℕ)
@@ -38,7 +40,8 @@ words_of_switches =
     ∷ codes "--verbose" ∷ codes "-h" ∷ codes "--help" ∷ codes "-V" ∷ codes "--version" ∷ codes "--leading-underscore"
     ∷ codes "--non-deterministic-libraries" ∷ codes "-n" ∷ codes "--no-delete" ∷ codes "--export-as"
     ∷ codes "-U" ∷ codes "--add-underscore" ∷ codes "--add-stdcall-underscore" ∷ codes "-A" ∷ codes "--add-stdcall-alias"
-    ∷ codes "--identify-strict" ∷ codes "-C" ∷ codes "--compat-implib" ∷ []
+    ∷ codes "--identify-strict" ∷ codes "-C" ∷ codes "--compat-implib"
+    ∷ codes "-u" ∷ codes "--no-export-all-symbols" ∷ []
 
 -- what they give
 abbrev pub switched : List OccurrenceView
@@ -47,7 +50,8 @@ switched =
     ∷ Switched Verbose ∷ Switched Help ∷ Switched Help ∷ Switched Version ∷ Switched Version ∷ Switched LeadingUnderscore
     ∷ Switched NonDeterministicLibraries ∷ Switched NoDelete ∷ Switched NoDelete ∷ Switched ExportAs
     ∷ Switched AddUnderscore ∷ Switched AddUnderscore ∷ Switched AddStdcallUnderscore ∷ Switched AddStdcallAlias
-    ∷ Switched AddStdcallAlias ∷ Switched IdentifyStrict ∷ Switched CompatImplib ∷ Switched CompatImplib ∷ []
+    ∷ Switched AddStdcallAlias ∷ Switched IdentifyStrict ∷ Switched CompatImplib ∷ Switched CompatImplib
+    ∷ Switched ListedAlone ∷ Switched ListedAlone ∷ []
 
 -- the options of GNU dlltool without a meaning here
 abbrev pub unsupported : List (List ℕ)
@@ -56,7 +60,7 @@ unsupported =
     ∷ codes "--output-exp" ∷ codes "--output-def"
     ∷ codes "--base-file"
     ∷ codes "--no-idata4" ∷ codes "--no-idata5" ∷ codes "--add-indirect"
-    ∷ codes "--export-all-symbols" ∷ codes "--no-export-all-symbols"
+    ∷ codes "--export-all-symbols"
     ∷ codes "--exclude-symbols" ∷ codes "--no-default-excludes" ∷ codes "--use-nul-prefixed-import-tables" ∷ []
 
 -- the options without a value
@@ -64,7 +68,7 @@ abbrev pub switches : List Switch
 switches =
     KillAt ∷ NoLeadingUnderscore ∷ DeterministicLibraries ∷ Verbose ∷ Help ∷ Version ∷ LeadingUnderscore
     ∷ NonDeterministicLibraries ∷ NoDelete ∷ ExportAs ∷ AddUnderscore ∷ AddStdcallUnderscore ∷ AddStdcallAlias
-    ∷ IdentifyStrict ∷ KeepsDecorated ∷ CompatImplib ∷ []
+    ∷ IdentifyStrict ∷ KeepsDecorated ∷ CompatImplib ∷ ListedAlone ∷ []
 
 -- which of them is switched where this one alone stands
 abbrev pub told_of : Switch → List Bool
@@ -87,38 +91,41 @@ pub record OptionsNamed : Type 0 where
   pub prefix : last_given TemporaryPrefix given ≡ Some (codes "o")
   pub further_prefix : last_given FurtherPrefix given ≡ Some (codes "r")
   pub identify : last_given Identify given ≡ Some (codes "t")
+  pub decorations : last_given Decorations given ≡ Some (codes "z")
   pub kill_at : told_of KillAt
-      ≡ true ∷ false ∷ false ∷ false ∷ false ∷ false ∷ false ∷ false ∷ false ∷ false ∷ false ∷ false ∷ false ∷ false ∷ false ∷ false ∷ []
+      ≡ true ∷ false ∷ false ∷ false ∷ false ∷ false ∷ false ∷ false ∷ false ∷ false ∷ false ∷ false ∷ false ∷ false ∷ false ∷ false ∷ false ∷ []
   pub no_leading_underscore : told_of NoLeadingUnderscore
-      ≡ false ∷ true ∷ false ∷ false ∷ false ∷ false ∷ false ∷ false ∷ false ∷ false ∷ false ∷ false ∷ false ∷ false ∷ false ∷ false ∷ []
+      ≡ false ∷ true ∷ false ∷ false ∷ false ∷ false ∷ false ∷ false ∷ false ∷ false ∷ false ∷ false ∷ false ∷ false ∷ false ∷ false ∷ false ∷ []
   pub deterministic : told_of DeterministicLibraries
-      ≡ false ∷ false ∷ true ∷ false ∷ false ∷ false ∷ false ∷ false ∷ false ∷ false ∷ false ∷ false ∷ false ∷ false ∷ false ∷ false ∷ []
+      ≡ false ∷ false ∷ true ∷ false ∷ false ∷ false ∷ false ∷ false ∷ false ∷ false ∷ false ∷ false ∷ false ∷ false ∷ false ∷ false ∷ false ∷ []
   pub verbose : told_of Verbose
-      ≡ false ∷ false ∷ false ∷ true ∷ false ∷ false ∷ false ∷ false ∷ false ∷ false ∷ false ∷ false ∷ false ∷ false ∷ false ∷ false ∷ []
+      ≡ false ∷ false ∷ false ∷ true ∷ false ∷ false ∷ false ∷ false ∷ false ∷ false ∷ false ∷ false ∷ false ∷ false ∷ false ∷ false ∷ false ∷ []
   pub help : told_of Help
-      ≡ false ∷ false ∷ false ∷ false ∷ true ∷ false ∷ false ∷ false ∷ false ∷ false ∷ false ∷ false ∷ false ∷ false ∷ false ∷ false ∷ []
+      ≡ false ∷ false ∷ false ∷ false ∷ true ∷ false ∷ false ∷ false ∷ false ∷ false ∷ false ∷ false ∷ false ∷ false ∷ false ∷ false ∷ false ∷ []
   pub version : told_of Version
-      ≡ false ∷ false ∷ false ∷ false ∷ false ∷ true ∷ false ∷ false ∷ false ∷ false ∷ false ∷ false ∷ false ∷ false ∷ false ∷ false ∷ []
+      ≡ false ∷ false ∷ false ∷ false ∷ false ∷ true ∷ false ∷ false ∷ false ∷ false ∷ false ∷ false ∷ false ∷ false ∷ false ∷ false ∷ false ∷ []
   pub leading_underscore : told_of LeadingUnderscore
-      ≡ false ∷ false ∷ false ∷ false ∷ false ∷ false ∷ true ∷ false ∷ false ∷ false ∷ false ∷ false ∷ false ∷ false ∷ false ∷ false ∷ []
+      ≡ false ∷ false ∷ false ∷ false ∷ false ∷ false ∷ true ∷ false ∷ false ∷ false ∷ false ∷ false ∷ false ∷ false ∷ false ∷ false ∷ false ∷ []
   pub non_deterministic : told_of NonDeterministicLibraries
-      ≡ false ∷ false ∷ false ∷ false ∷ false ∷ false ∷ false ∷ true ∷ false ∷ false ∷ false ∷ false ∷ false ∷ false ∷ false ∷ false ∷ []
+      ≡ false ∷ false ∷ false ∷ false ∷ false ∷ false ∷ false ∷ true ∷ false ∷ false ∷ false ∷ false ∷ false ∷ false ∷ false ∷ false ∷ false ∷ []
   pub no_delete : told_of NoDelete
-      ≡ false ∷ false ∷ false ∷ false ∷ false ∷ false ∷ false ∷ false ∷ true ∷ false ∷ false ∷ false ∷ false ∷ false ∷ false ∷ false ∷ []
+      ≡ false ∷ false ∷ false ∷ false ∷ false ∷ false ∷ false ∷ false ∷ true ∷ false ∷ false ∷ false ∷ false ∷ false ∷ false ∷ false ∷ false ∷ []
   pub export_as : told_of ExportAs
-      ≡ false ∷ false ∷ false ∷ false ∷ false ∷ false ∷ false ∷ false ∷ false ∷ true ∷ false ∷ false ∷ false ∷ false ∷ false ∷ false ∷ []
+      ≡ false ∷ false ∷ false ∷ false ∷ false ∷ false ∷ false ∷ false ∷ false ∷ true ∷ false ∷ false ∷ false ∷ false ∷ false ∷ false ∷ false ∷ []
   pub add_underscore : told_of AddUnderscore
-      ≡ false ∷ false ∷ false ∷ false ∷ false ∷ false ∷ false ∷ false ∷ false ∷ false ∷ true ∷ false ∷ false ∷ false ∷ false ∷ false ∷ []
+      ≡ false ∷ false ∷ false ∷ false ∷ false ∷ false ∷ false ∷ false ∷ false ∷ false ∷ true ∷ false ∷ false ∷ false ∷ false ∷ false ∷ false ∷ []
   pub add_stdcall_underscore : told_of AddStdcallUnderscore
-      ≡ false ∷ false ∷ false ∷ false ∷ false ∷ false ∷ false ∷ false ∷ false ∷ false ∷ false ∷ true ∷ false ∷ false ∷ false ∷ false ∷ []
+      ≡ false ∷ false ∷ false ∷ false ∷ false ∷ false ∷ false ∷ false ∷ false ∷ false ∷ false ∷ true ∷ false ∷ false ∷ false ∷ false ∷ false ∷ []
   pub add_stdcall_alias : told_of AddStdcallAlias
-      ≡ false ∷ false ∷ false ∷ false ∷ false ∷ false ∷ false ∷ false ∷ false ∷ false ∷ false ∷ false ∷ true ∷ false ∷ false ∷ false ∷ []
+      ≡ false ∷ false ∷ false ∷ false ∷ false ∷ false ∷ false ∷ false ∷ false ∷ false ∷ false ∷ false ∷ true ∷ false ∷ false ∷ false ∷ false ∷ []
   pub identify_strict : told_of IdentifyStrict
-      ≡ false ∷ false ∷ false ∷ false ∷ false ∷ false ∷ false ∷ false ∷ false ∷ false ∷ false ∷ false ∷ false ∷ true ∷ false ∷ false ∷ []
+      ≡ false ∷ false ∷ false ∷ false ∷ false ∷ false ∷ false ∷ false ∷ false ∷ false ∷ false ∷ false ∷ false ∷ true ∷ false ∷ false ∷ false ∷ []
   pub keeps_decorated : told_of KeepsDecorated
-      ≡ false ∷ false ∷ false ∷ false ∷ false ∷ false ∷ false ∷ false ∷ false ∷ false ∷ false ∷ false ∷ false ∷ false ∷ true ∷ false ∷ []
+      ≡ false ∷ false ∷ false ∷ false ∷ false ∷ false ∷ false ∷ false ∷ false ∷ false ∷ false ∷ false ∷ false ∷ false ∷ true ∷ false ∷ false ∷ []
   pub compat_implib : told_of CompatImplib
-      ≡ false ∷ false ∷ false ∷ false ∷ false ∷ false ∷ false ∷ false ∷ false ∷ false ∷ false ∷ false ∷ false ∷ false ∷ false ∷ true ∷ []
+      ≡ false ∷ false ∷ false ∷ false ∷ false ∷ false ∷ false ∷ false ∷ false ∷ false ∷ false ∷ false ∷ false ∷ false ∷ false ∷ true ∷ false ∷ []
+  pub listed_alone : told_of ListedAlone
+      ≡ false ∷ false ∷ false ∷ false ∷ false ∷ false ∷ false ∷ false ∷ false ∷ false ∷ false ∷ false ∷ false ∷ false ∷ false ∷ false ∷ true ∷ []
   pub i386 : map machine_named (codes "i386" ∷ codes "I386" ∷ codes "x86" ∷ []) ≡ Some I386 ∷ Some I386 ∷ Some I386 ∷ []
   pub amd64 : map machine_named (codes "i386:x86-64" ∷ codes "AMD64" ∷ codes "x64" ∷ codes "x86_64" ∷ [])
       ≡ Some AMD64 ∷ Some AMD64 ∷ Some AMD64 ∷ Some AMD64 ∷ []

@@ -1,16 +1,18 @@
 //! The members of a DLL's library.
 
-ghost use Rattle.implib.specs.Conversions.{machine_numbered};
+ghost use Rattle.implib.specs.Definition.{export_view};
 ghost use Rattle.implib_dll.specs.Views.{exports_view};
-ghost use Rattle.implib_driver.specs.Dll.{IsRefusalOfReading, IsUnmade, MembersOfDll};
-ghost use Rattle.implib_driver.specs.Dll.{ReadsDll, begins_dll, dll_status};
+ghost use Rattle.implib_driver.specs.Dll.{IsRefusalOfReading, IsUnlisted, IsUnmade, IsUnsuited};
+ghost use Rattle.implib_driver.specs.Dll.{MembersOfDll, ReadsDll, SuitsDll, begins_dll, dll_status};
 ghost use Rattle.implib_driver.specs.Request.{request_view};
-ghost use Rattle.std.specs.Prelude.{◌≡◌, IfErr, IfOk, None, OnOk, Some, false};
+ghost use Rattle.implib_from_dll.specs.Definition.{exports_of};
+ghost use Rattle.std.specs.Prelude.{◌≡◌, IfErr, IfOk, OnOk, map};
 
 use crate::request::{CallFault, Request};
+use implib::def::ShortExport;
 use implib_dll::{Exports, Fault, ReadError};
-use implib_dll_library::Unmade;
-use implib_from_dll::Unsaid;
+use implib_dll_library::{Unmade, members_of_list};
+use implib_from_dll::{Unsaid, exports_of};
 use implib_rules::members::LibraryMembers;
 use std::alloc::Global;
 
@@ -29,6 +31,8 @@ pub enum DllRefusal {
     OlderSymbols,
     /// `--output-delaylib`, which is for definitions.
     Delayed,
+    /// `--decorations` for another machine than I386.
+    Undecorated,
     /// The name of the DLL in its export directory is not UTF-8.
     NameNotUtf8,
     /// An export has no place in a definition.
@@ -74,44 +78,66 @@ pub fn dll_exports(alloc: Global, bytes: &[u8]) -> Result<Exports<'_>, DllRefusa
     }
 }
 
-/// The members of the library of a DLL.
-///
-/// # Errors
-///
-/// `OlderSymbols`; `Delayed`; `NameNotUtf8`; `Unsaid`; `NoName`; `Members`; or an allocation failed.
-pub fn members_of_dll(
-    alloc: Global,
-    exports: &Exports<'_>,
-    request: &Request<'_>,
-) -> Result<LibraryMembers, DllRefusal>
-    ensures made { IfOk result (λ members.
-        MembersOfDll (exports_view exports.now) (request_view request.now) members) }
-    ensures ordinary { OnOk result ((request_view request.now).older_symbols ≡ false) }
-    ensures undelayed { OnOk result ((request_view request.now).delayed ≡ None) }
-    ensures refused { IfErr result
-        (IsUnmade (exports_view exports.now) (request_view request.now)) }
+// Whether a DLL can have what is asked for beside its library.
+fn test_request(request: &Request<'_>) -> Result<(), DllRefusal>
+    ensures suits { OnOk result (SuitsDll (request_view request.now)) }
+    ensures refused { IfErr result (IsUnsuited (request_view request.now)) }
 {
     if request.older_symbols {
         return Err(DllRefusal::OlderSymbols);
     }
-    match request.delayed {
-        Some(_) => Err(DllRefusal::Delayed),
-        None => ordinary_members_of_dll(alloc, exports, request),
+    if request.delayed.is_some() {
+        return Err(DllRefusal::Delayed);
     }
+    if request.decorations.is_some() && !request.library.machine.has_leading_underscore() {
+        return Err(DllRefusal::Undecorated);
+    }
+    Ok(())
 }
 
-// The members of the ordinary library of a DLL.
-fn ordinary_members_of_dll(
+/// The exports of a DLL, as a definition has them.
+///
+/// # Errors
+///
+/// `OlderSymbols`; `Delayed`; `Undecorated`; `Unsaid`; or an allocation failed.
+pub fn list_of_dll(
     alloc: Global,
     exports: &Exports<'_>,
     request: &Request<'_>,
-) -> Result<LibraryMembers, DllRefusal>
-    ensures made { IfOk result (λ members.
-        MembersOfDll (exports_view exports.now) (request_view request.now) members) }
+) -> Result<Vec<ShortExport>, DllRefusal>
+    ensures listed { IfOk result
+        (λ list. map export_view list.items ≡ exports_of (exports_view exports.now)) }
+    ensures suits { OnOk result (SuitsDll (request_view request.now)) }
     ensures refused { IfErr result
-        (IsUnmade (exports_view exports.now) (request_view request.now)) }
+        (IsUnlisted (exports_view exports.now) (request_view request.now)) }
 {
-    match implib_dll_library::members_of_dll(alloc, exports, request.definition, &request.library) {
+    if let Err(refusal) = test_request(request) {
+        return Err(refusal);
+    }
+    match exports_of(alloc, exports) {
+        Ok(list) => Ok(list),
+        Err(Unsaid::OutOfMemory) => Err(DllRefusal::OutOfMemory),
+        Err(unsaid) => Err(DllRefusal::Unsaid(unsaid)),
+    }
+}
+
+/// The members of the library of these exports of a DLL.
+///
+/// # Errors
+///
+/// `NameNotUtf8`; `NoName`; `Members`; or an allocation failed.
+pub fn members_of_dll(
+    alloc: Global,
+    exports: &Exports<'_>,
+    list: Vec<ShortExport>,
+    request: &Request<'_>,
+) -> Result<LibraryMembers, DllRefusal>
+    ensures made { IfOk result (λ members. MembersOfDll (exports_view exports.now)
+        (map export_view list.items) (request_view request.now) members) }
+    ensures refused { IfErr result (IsUnmade (exports_view exports.now)
+        (map export_view list.items) (request_view request.now)) }
+{
+    match members_of_list(alloc, exports, list, request.definition, &request.library) {
         Ok(members) => Ok(members),
         Err(Unmade::NameNotUtf8) => Err(DllRefusal::NameNotUtf8),
         Err(Unmade::Unsaid(unsaid)) => Err(DllRefusal::Unsaid(unsaid)),

@@ -24,13 +24,14 @@ impl fmt::Display for Setting {
             Setting::TemporaryPrefix => "-t",
             Setting::FurtherPrefix => "-p",
             Setting::Identify => "-I",
+            Setting::Decorations => "--decorations",
             Setting::Input => "FILE",
         })
     }
 }
 
 /// The long names of options, one of which a message may tell in full.
-pub const NAMES: [&str; 39] = [
+pub const NAMES: [&str; 40] = [
     "input-def",
     "def",
     "dll",
@@ -57,6 +58,7 @@ pub const NAMES: [&str; 39] = [
     "base-file",
     "identify",
     "identify-strict",
+    "decorations",
     "no-idata4",
     "no-idata5",
     "add-indirect",
@@ -91,10 +93,23 @@ fn whole_name(word: &str) -> Option<&'static str> {
     found
 }
 
+// The tool that has what an option of GNU dlltool asks for, behind a semicolon, where it is known.
+fn other_tool(word: &str) -> &'static str {
+    match word {
+        "-e" | "--output-exp" => "; GNU dlltool writes the exports of objects",
+        "-z" | "--output-def" => {
+            "; implib_check --def writes the definition of a DLL, ld --output-def that of objects"
+        }
+        _ => "",
+    }
+}
+
 impl<'a> fmt::Display for WordFault<'a> {
     fn fmt<W: fmt::Write>(&self, f: &mut fmt::Formatter<W>) -> fmt::Result {
         match self {
-            WordFault::Unsupported(word) => write!(f, "{}: not supported", Shown(word)),
+            WordFault::Unsupported(word) => {
+                write!(f, "{}: not supported{}", Shown(word), other_tool(word))
+            }
             WordFault::Unknown(word) => match whole_name(word) {
                 Some(name) => {
                     write!(f, "{}: no such option; write --{name} in full", Shown(word))
@@ -173,6 +188,9 @@ impl<'a> fmt::Display for CallFault<'a> {
             CallFault::NoUnderscore => {
                 f.write_str("--leading-underscore: C's symbols have one on i386 alone")
             }
+            CallFault::DecoratedDefinition => f.write_str(
+                "--decorations: for a DLL alone, since a definition has its symbols",
+            ),
             CallFault::NoOlderSymbols => f.write_str(
                 "--compat-implib: not supported for Microsoft's linker; --flavor gnu can",
             ),
@@ -196,6 +214,9 @@ impl fmt::Display for DllRefusal {
             DllRefusal::Delayed => f.write_str(
                 "--output-delaylib: not supported for a DLL; for a definition it is",
             ),
+            DllRefusal::Undecorated => {
+                f.write_str("--decorations: C's symbols count bytes of arguments on i386 alone")
+            }
             DllRefusal::NameNotUtf8 => {
                 f.write_str("the name in its export directory is not UTF-8; -D can give one")
             }
@@ -235,6 +256,13 @@ impl<'a> fmt::Display for Complaint<'a> {
                 NotIdentified::SeveralDlls => "it imports from two DLLs or more",
             }),
             Complaint::Dll(refusal) => write!(f, "{refusal}"),
+            Complaint::NoLibrary => f.write_str("no archive"),
+            Complaint::Missing(1) => {
+                f.write_str("warning: one function of the DLL is not in it")
+            }
+            Complaint::Missing(count) => {
+                write!(f, "warning: {count} functions of the DLL are not in it")
+            }
             Complaint::Undelayed(why) => write!(f, "{why}"),
             Complaint::Utf16 => f.write_str("the definition is UTF-16; expected UTF-8"),
             Complaint::FailingStub => f.write_str(

@@ -31,6 +31,8 @@ pub enum Setting {
     Identify,
     /// `-p`, `--ext-prefix-alias`: a further export of each has this in front of its symbol.
     FurtherPrefix,
+    /// `--decorations`: a library or a definition that has the symbols of a DLL's names.
+    Decorations,
     /// No option: the file of a word that is none, a module definition or a DLL.
     Input,
 }
@@ -59,6 +61,8 @@ pub enum Switch {
     NonDeterministicLibraries,
     /// `-n`, `--no-delete`: no temporary file is made that could be kept.
     NoDelete,
+    /// `-u`, `--no-export-all-symbols`: without an effect, as in GNU dlltool where no object is given.
+    ListedAlone,
     /// `--identify-strict`: a library that imports from several DLLs is refused.
     IdentifyStrict,
     /// Of LIB's words, and of no option: on I386 a word with an `@` is a symbol as it is.
@@ -92,6 +96,7 @@ impl Setting {
             Setting::Identify => 9,
             Setting::Input => 10,
             Setting::DelayedOutput => 11,
+            Setting::Decorations => 12,
         }
     }
 
@@ -125,6 +130,7 @@ impl Switch {
             Switch::IdentifyStrict => 13,
             Switch::KeepsDecorated => 14,
             Switch::CompatImplib => 15,
+            Switch::ListedAlone => 16,
         }
     }
 
@@ -156,7 +162,7 @@ fn is_unsupported(name: &str) -> bool
     match name {
         "output-exp" | "output-def" | "base-file" => true,
         "no-idata4" | "no-idata5" | "add-indirect" => true,
-        "export-all-symbols" | "no-export-all-symbols" | "exclude-symbols" => true,
+        "export-all-symbols" | "exclude-symbols" => true,
         "no-default-excludes" | "use-nul-prefixed-import-tables" => true,
         _ => false,
     }
@@ -178,6 +184,7 @@ pub fn option_named(name: &str) -> Meaning
         "temp-prefix" => Meaning::Takes(Setting::TemporaryPrefix),
         "ext-prefix-alias" => Meaning::Takes(Setting::FurtherPrefix),
         "identify" => Meaning::Takes(Setting::Identify),
+        "decorations" => Meaning::Takes(Setting::Decorations),
         "kill-at" => Meaning::Switches(Switch::KillAt),
         "no-leading-underscore" => Meaning::Switches(Switch::NoLeadingUnderscore),
         "leading-underscore" => Meaning::Switches(Switch::LeadingUnderscore),
@@ -189,6 +196,7 @@ pub fn option_named(name: &str) -> Meaning
         "deterministic-libraries" => Meaning::Switches(Switch::DeterministicLibraries),
         "non-deterministic-libraries" => Meaning::Switches(Switch::NonDeterministicLibraries),
         "no-delete" => Meaning::Switches(Switch::NoDelete),
+        "no-export-all-symbols" => Meaning::Switches(Switch::ListedAlone),
         "identify-strict" => Meaning::Switches(Switch::IdentifyStrict),
         "verbose" => Meaning::Switches(Switch::Verbose),
         "help" => Meaning::Switches(Switch::Help),
@@ -218,6 +226,7 @@ pub fn option_lettered(letter: u8) -> Meaning
         b'A' => Meaning::Switches(Switch::AddStdcallAlias),
         b'C' => Meaning::Switches(Switch::CompatImplib),
         b'n' => Meaning::Switches(Switch::NoDelete),
+        b'u' => Meaning::Switches(Switch::ListedAlone),
         b'v' => Meaning::Switches(Switch::Verbose),
         b'h' => Meaning::Switches(Switch::Help),
         b'V' => Meaning::Switches(Switch::Version),

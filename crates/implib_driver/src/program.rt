@@ -1,6 +1,6 @@
 //! The program: its arguments, its run over files, and its exit status.
 
-ghost use Rattle.implib.specs.Definition.{definition_view};
+ghost use Rattle.implib.specs.Definition.{definition_view, export_view};
 ghost use Rattle.implib_driver.specs.Program.{DoesWords, Finishes, FinishesRead, FinishesWith};
 ghost use Rattle.implib_driver.specs.Program.{FinishesFailing, FinishesWithout, members_counted};
 ghost use Rattle.implib_driver.specs.Program.{FinishesDelayed, FinishesDelaying, FinishesText};
@@ -18,32 +18,37 @@ ghost use Rattle.implib_rules.specs.declared.library.Refusal.TheVariants.{OutOfM
 ghost use Rattle.implib_dll.specs.Views.{exports_view};
 ghost use Rattle.implib_driver.specs.Arguments.{occurrence_view};
 ghost use Rattle.implib_driver.specs.Dll.{IsRefusalOfRequest, IsRequested, begins_dll, dll_status};
-ghost use Rattle.implib_driver.specs.DllProgram.{FinishesDll, FinishesExports, PutsMembers, call_status, complaint_of};
+ghost use Rattle.implib_driver.specs.DllProgram.{FinishesBytes, FinishesDll, FinishesExports};
+ghost use Rattle.implib_driver.specs.DllProgram.{FinishesList, FinishesListed, PutsMembers, SaysMissing};
+ghost use Rattle.implib_driver.specs.DllProgram.{call_status, complaint_of, tells_missing};
+ghost use Rattle.implib_driver.specs.DllProgram.{undecorated_lines, undecorated_status};
+ghost use Rattle.implib_from_dll.specs.Definition.{exports_of};
 ghost use Rattle.implib_driver.specs.Request.{request_for, request_view};
 ghost use Rattle.implib_rules.specs.Library.{CountsMembers, status_of};
 ghost use Rattle.implib_rules.specs.Warnings.{warning_view};
 ghost use Rattle.std.specs.IoError.{error_kind};
-ghost use Rattle.std.specs.Prelude.{◌≡◌, ◌⊎◌, [], ◌∷◌, IfErr, IfOk, IfSome, List, None, OnErr, OnOk, Option, false, map, true, ℕ};
+ghost use Rattle.std.specs.Prelude.{◌≡◌, ◌⊎◌, [], ◌∷◌, IfErr, IfOk, IfSome, List, None, OnErr, OnOk, Option, Some, false, map, true, ℕ};
 ghost use Rattle.std.specs.String.{string_bytes};
 ghost use Rattle.std.specs.Vec.Iter.{into_iter_items};
 
 use crate::arguments::{Occurrence, ReadWordsError};
 use crate::delay::{DelayRefusal, delayed_archive, delayed_members_for};
 use crate::disk::Disk;
-use crate::dll::{DllCallError, DllRefusal, begins_dll, dll_exports, members_of_dll};
+use crate::dll::{DllCallError, DllRefusal, begins_dll, dll_exports, list_of_dll, members_of_dll};
 use crate::identity::{IdentifyError, identify};
 use crate::lib_words::words_read;
 use crate::placing::{place, put};
 use crate::reporter::{Complaint, Reporter};
 use crate::request::{
-    CallError, Caller, Identification, Request, Task, caller_of, request_in, task_of,
+    CallError, CallFault, Caller, Identification, Request, Task, caller_of, request_in, task_of,
 };
 use crate::stubs::has_failing_stub;
 use crate::verbose::warnings_for;
-use implib::def::ModuleDef;
+use implib::def::{ModuleDef, ShortExport};
 use implib::{Flavor, MachineType, Member, ParseError};
 use implib_archive::Archive;
 use implib_dll::Exports;
+use implib_dll_library::{NotDecorations, count_missing, decorate, decorations_in};
 use implib_from_dll::machine_of;
 use implib_rules::library::{LibraryError, Refusal, members_asked};
 use implib_rules::members::LibraryMembers;
@@ -93,6 +98,8 @@ Makes the import library of a module definition, or of all that a DLL exports.
                            the same of names with @
       --export-as          for Microsoft's linker, and for lld from 18 on, write a
                            name that is not made of its symbol beside it
+      --decorations FILE   with a DLL for i386, take symbols as _Sleep@4 from FILE, an
+                           import library or a definition
   -C, --compat-implib      for GNU's linker, name each address by ___imp and its
                            symbol too, as in Cygwin's libraries before 2000
   -v, --verbose            write warnings of FILE on standard error
@@ -106,8 +113,8 @@ Options of one letter without a value may share a word, as in -kd FILE; after --
 there is no option.
 
 Taken and ignored: -S --as, -f --as-flags, -t --temp-prefix, each with a value;
--n --no-delete, -A --add-stdcall-alias, --deterministic-libraries,
---non-deterministic-libraries.
+-n --no-delete, -A --add-stdcall-alias, -u --no-export-all-symbols,
+--deterministic-libraries, --non-deterministic-libraries.
 
 Called as LIB is, by a name that is lib or ends in -lib, or with a first word
 --lib:
@@ -659,6 +666,142 @@ fn finish_dll<D: Disk, T: Reporter>(
     conclude(reporter, request, put)
 }
 
+// Puts the library of these exports of a DLL, and gives the exit status.
+fn answer_list<D: Disk, T: Reporter>(
+    alloc: Global,
+    exports: &Exports<'_>,
+    list: Vec<ShortExport>,
+    disk: &mut D,
+    request: &Request<'_>,
+    reporter: &mut T,
+) -> u8
+    requires { (D.view disk.old).left ≡ None }
+    ensures { FinishesList D.is_known (exports_view exports.now) (map export_view list.items)
+        (request_view request.now) (D.view disk.old) (D.view disk.new)
+        (T.said reporter.old) (T.said reporter.new) result }
+{
+    let path = request.definition;
+    match members_of_dll(alloc, exports, list, request) {
+        Ok(members) if !has_failing_stub(&members, &request.library) => {
+            finish_dll(alloc, members, disk, request, reporter)
+        }
+        Ok(_) => {
+            reporter.complain(path, Complaint::FailingStub);
+            1
+        }
+        Err(refusal) => refuse_dll(reporter, path, refusal),
+    }
+}
+
+// Says how many functions of a DLL a file of symbols lacks, if there are some and warnings are asked
+// for.
+fn say_missing<T: Reporter>(reporter: &mut T, path: &str, count: usize, request: &Request<'_>)
+    ensures { SaysMissing (tells_missing (request_view request.now) count) path.now count
+        (T.said reporter.old) (T.said reporter.new) }
+{
+    if request.is_verbose && count > 0 {
+        reporter.complain(path, Complaint::Missing(count));
+    }
+}
+
+// Says why a file has no symbols, and gives the exit status.
+fn refuse_decorations<T: Reporter>(reporter: &mut T, path: &str, why: NotDecorations) -> u8
+    ensures said { Says (T.said reporter.old) (T.said reporter.new)
+        (undecorated_lines path.now why) }
+    ensures status { result ≡ undecorated_status why }
+{
+    match why {
+        NotDecorations::NoLibrary => {
+            reporter.complain(path, Complaint::NoLibrary);
+            1
+        }
+        NotDecorations::Text(refusal) => {
+            reporter.refuse(path, &refusal);
+            refusal_status(&refusal)
+        }
+    }
+}
+
+// The exports of a DLL, and a file with symbols of its functions.
+#[derive(Drop)]
+struct Decorating<'a> {
+    list: Vec<ShortExport>,
+    path: &'a str,
+}
+
+// Puts the library of exports of a DLL with the symbols of a file's bytes, and gives the exit status.
+fn answer_decorated<D: Disk, T: Reporter>(
+    alloc: Global,
+    exports: &Exports<'_>,
+    decorating: Decorating<'_>,
+    bytes: &[u8],
+    disk: &mut D,
+    request: &Request<'_>,
+    reporter: &mut T,
+) -> u8
+    requires room { (D.view disk.old).left ≡ None }
+    requires listed { map export_view decorating.list.items
+        ≡ exports_of (exports_view exports.now) }
+    ensures { FinishesBytes D.is_known (exports_view exports.now) bytes.now
+        decorating.entry.path.now (request_view request.now) (D.view disk.old) (D.view disk.new)
+        (T.said reporter.old) (T.said reporter.new) result }
+{
+    let Decorating { mut list, path } = decorating;
+    let decorations = match decorations_in(alloc, bytes) {
+        Ok(decorations) => decorations,
+        Err(why) => return refuse_decorations(reporter, path, why),
+    };
+    let decorations = decorations.as_slice();
+    let count = count_missing(decorations, list.as_slice());
+    say_missing(reporter, path, count, request);
+    match decorate(
+        alloc,
+        request.library.naming,
+        decorations,
+        exports,
+        &mut list,
+    ) {
+        Ok(()) => answer_list(alloc, exports, list, disk, request, reporter),
+        Err(_) => refuse_dll(reporter, request.definition, DllRefusal::OutOfMemory),
+    }
+}
+
+// Puts the library of exports of a DLL with the symbols of a file, and gives the exit status.
+fn answer_decorating<D: Disk, T: Reporter>(
+    alloc: Global,
+    exports: &Exports<'_>,
+    decorating: Decorating<'_>,
+    disk: &mut D,
+    request: &Request<'_>,
+    reporter: &mut T,
+) -> u8
+    requires room { (D.view disk.old).left ≡ None }
+    requires listed { map export_view decorating.list.items
+        ≡ exports_of (exports_view exports.now) }
+    ensures { FinishesListed D.is_known (exports_view exports.now)
+        (Some decorating.entry.path.now) (request_view request.now)
+        (D.view disk.old) (D.view disk.new) (T.said reporter.old) (T.said reporter.new) result }
+{
+    let path = decorating.path;
+    match disk.read(alloc, path) {
+        Ok(bytes) => {
+            answer_decorated(
+                alloc,
+                exports,
+                decorating,
+                bytes.as_slice(),
+                disk,
+                request,
+                reporter,
+            )
+        }
+        Err(error) => {
+            reporter.complain(path, Complaint::System(error));
+            3
+        }
+    }
+}
+
 // Puts the library of a DLL, and gives the exit status.
 fn answer_exports<D: Disk, T: Reporter>(
     alloc: Global,
@@ -671,16 +814,16 @@ fn answer_exports<D: Disk, T: Reporter>(
     ensures { FinishesExports D.is_known (exports_view exports.now) (request_view request.now)
         (D.view disk.old) (D.view disk.new) (T.said reporter.old) (T.said reporter.new) result }
 {
-    let path = request.definition;
-    match members_of_dll(alloc, exports, request) {
-        Ok(members) if !has_failing_stub(&members, &request.library) => {
-            finish_dll(alloc, members, disk, request, reporter)
+    let list = match list_of_dll(alloc, exports, request) {
+        Ok(list) => list,
+        Err(refusal) => return refuse_dll(reporter, request.definition, refusal),
+    };
+    match request.decorations {
+        Some(path) => {
+            let decorating = Decorating { list, path };
+            answer_decorating(alloc, exports, decorating, disk, request, reporter)
         }
-        Ok(_) => {
-            reporter.complain(path, Complaint::FailingStub);
-            1
-        }
-        Err(refusal) => refuse_dll(reporter, path, refusal),
+        None => answer_list(alloc, exports, list, disk, request, reporter),
     }
 }
 
@@ -726,7 +869,16 @@ fn answer<D: Disk, T: Reporter>(
     if begins_dll(bytes) {
         return answer_dll(alloc, bytes, disk, call, reporter);
     }
-    answer_text(alloc, bytes, disk, &call.request, reporter)
+    let path = call.request.definition;
+    match call.request.decorations {
+        Some(_) => complain(
+            reporter,
+            path,
+            Complaint::Call(CallFault::DecoratedDefinition),
+            2,
+        ),
+        None => answer_text(alloc, bytes, disk, &call.request, reporter),
+    }
 }
 
 // Makes a library, and gives the exit status.

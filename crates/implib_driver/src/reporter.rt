@@ -39,6 +39,10 @@ pub enum Complaint<'a> {
     Undelayed(Undelayed),
     /// A DLL has no library.
     Dll(DllRefusal),
+    /// A file with an archive's signature is no archive.
+    NoLibrary,
+    /// A file for `--decorations` lacks this many functions of a DLL: a warning.
+    Missing(usize),
 }
 
 /// Who says what is wrong, each a line.

@@ -42,6 +42,8 @@ pub struct Request<'a> {
     pub delayed: Option<&'a str>,
     /// What the library is made for.
     pub library: LibraryOptions<'a>,
+    /// The file that has the symbols of a DLL's names, if one is given.
+    pub decorations: Option<&'a str>,
     /// Whether addresses have their older symbols too (`-C`).
     pub older_symbols: bool,
     /// Whether warnings are written (`-v`).
@@ -104,6 +106,8 @@ pub enum CallFault<'a> {
     NoDelay,
     /// `--output-delaylib` for Microsoft's linkers, which delay imports of an ordinary library.
     DelayForMicrosoft,
+    /// `--decorations` for a definition, which has its symbols.
+    DecoratedDefinition,
 }
 
 /// Whose ways a program's name asks for.
@@ -586,6 +590,7 @@ pub(crate) fn request_in<'a>(
             naming,
             additions,
         },
+        decorations: last_given(options, Setting::Decorations),
         older_symbols,
         is_verbose: is_switched(options, Switch::Verbose),
     })

@@ -205,7 +205,7 @@ row_in machine o = option_and_then
     (λ s. if bytes_eq s.bytes (zeros 20) then row_of machine s.relocations else None)
     (only_section Descriptors o)
 
--- whether an entry is a symbol that an object defines at the begin of its section of a group
+-- whether an entry is a symbol that an object defines at the beginning of its section of a group
 abbrev pub leads_to : Group → Object → Option Entry → Bool
 leads_to group o None = false
 leads_to group o (Some (Auxiliary bytes)) = false

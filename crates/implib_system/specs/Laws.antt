@@ -1,13 +1,16 @@
 -- What a linked and loaded program reaches in the DLLs that are in memory with it.
-use Rattle.std.specs.Prelude.{◌≡◌, ℕ, ◌+◌, ◌*◌, ◌^◌, ◌<◌, false, List, ◌++◌, Some, map, slice_get}
+use Rattle.std.specs.Prelude.{◌≡◌, ℕ, ◌+◌, ◌*◌, ◌^◌, ◌<◌, Bool, false, List, ◌++◌, Option, Some, map, slice_get}
 use Rattle.std.specs.List.{Contains}
+use Rattle.std.specs.Option.{option_map}
 use Rattle.implib.specs.Formats.Object.{ObjectSymbol}
 use Rattle.implib.specs.Link.Image.{Range}
 use Rattle.implib.specs.Link.Load.{number_in}
 use Rattle.implib.specs.Members.ImportTables.{thunk_width}
 use Rattle.implib.specs.declared.machine.MachineType.{MachineType}
-use Rattle.implib_dll.specs.Exports.{Address, Target}
+use Rattle.implib_dll.specs.Exports.{Address, Exports, Forwarder, Target}
 use Rattle.implib_dll.specs.declared.section.AddressKind.{AddressKind}
+use Rattle.implib_dll_check.specs.DllName.{loader_name}
+use Rattle.implib_dll_check.specs.Forwarding.{Arrives, Beside, Content, Holds, end_by, end_of, is_stop, is_unknown, known_by, most_forwarders}
 use Rattle.implib_dll_check.specs.Imports.{is_lost, judged}
 use Rattle.implib_from_dll.specs.Laws.{found}
 use Rattle.implib_link.specs.Gnu.Calls.{CanBranch, DirectCallArrives, HasDirectCall, StubAt}
@@ -74,11 +77,30 @@ CallsReachExports = (machine : MachineType) (image_base : ℕ) (t : Tables) (cod
     → HasDirectCall machine (placed_code c) offset s.name → CanBranch machine (c.position + offset) d.position
     → DirectCallArrives machine image_base (written ++ memory) (c.position + offset) (bytes_of (thunk_width machine) place)
 
+-- What is known of DLLs is of those in memory: a DLL that is known to export something is in memory by its name, with these
+-- exports.
+pub record AreOfMemory (dlls : List DllInMemory) (known : List ℕ → Option Content) : Type 0 where
+  pub held : (name : List ℕ) (e : Exports) → known (loader_name name) ≡ Some (Holds e)
+      → option_map (λ (d : DllInMemory). d.exports) (called dlls name) ≡ Some e
+
+-- A forwarder that leads to an address, by what is known of DLLs, leads to one in memory.
+abbrev pub ForwardersAreFollowed : Type 0
+ForwardersAreFollowed = (n : ℕ) (dlls : List DllInMemory) (known : List ℕ → Option Content) (machine : ℕ) (is_data : Bool)
+    (d : DllInMemory) (text : List ℕ) → AreOfMemory dlls known → end_by n known machine is_data text ≡ Arrives
+    → (place : ℕ) × (address_by n dlls d (Forwarder text) ≡ Some place)
+
 -- an import has a target in a DLL
 pub record IsFoundIn (dlls : List DllInMemory) (d : DllInMemory) (i : Imported) : Type 0 where
   pub target : Target
   pub asked : asked_of dlls i.imports.dll i.imports.ask ≡ Some (d, target)
   pub found : found d.exports i.imports.ask ≡ Some target
+
+-- An import that is not lost in a DLL, nor forwarded to nothing or to what is not known, reaches an address in memory.
+abbrev pub FollowedImportsAreReached : Type 0
+FollowedImportsAreReached = (dlls : List DllInMemory) (d : DllInMemory) (b : Beside) (i : Imported)
+    → called dlls i.imports.dll ≡ Some d → b.exports ≡ d.exports → AreOfMemory dlls (known_by b)
+    → is_lost (judged b.exports b.names i) ≡ false → is_stop (end_of b i) ≡ false → is_unknown (end_of b i) ≡ false
+    → (place : ℕ) × (address_of most_forwarders dlls i.imports.dll i.imports.ask ≡ Some place)
 
 -- An import that is not lost in a DLL has a target there, in memory too, where the DLL is the one of its name; and where
 -- the target is no forwarder, the import reaches the address of the export.

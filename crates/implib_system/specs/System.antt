@@ -1,11 +1,11 @@
 -- DLLs in memory, and the addresses that they give for what a program asks (the loader of Wine, `dlls/ntdll/loader.c`:
 -- load_dll, find_ordinal_export, find_named_export, find_forwarded_export).
-use Rattle.std.specs.Prelude.{ℕ, zero, suc, ◌+◌, ◌-◌, ◌*◌, ◌/◌, ◌%◌, ◌==◌, ◌&&◌, Bool, List, [], ◌∷◌, Option, None, Some, bytes_eq, fold, if◌then◌else◌, length, nat_le, replicate, take_while}
+use Rattle.std.specs.Prelude.{ℕ, zero, suc, ◌+◌, ◌/◌, ◌%◌, List, [], ◌∷◌, Option, None, Some, bytes_eq, if◌then◌else◌, replicate}
 use Rattle.std.specs.Option.{option_and_then, option_map, option_map_or}
 use Rattle.implib.specs.Import.{Ask}
 use Rattle.implib_dll.specs.Exports.{Exports, Target, Empty, Address, Forwarder}
-use Rattle.implib_dll.specs.Lookup.{by_name, by_ordinal}
 use Rattle.implib_dll_check.specs.DllName.{loader_name}
+use Rattle.implib_dll_check.specs.Forwarding.{found_behind, split_last}
 use Rattle.implib_from_dll.specs.Laws.{found}
 
 -- a DLL in memory: the name by which a loader knows it, its base, and what it exports
@@ -18,28 +18,6 @@ pub record DllInMemory : Type 0 where
 abbrev pub called : List DllInMemory → List ℕ → Option DllInMemory
 called [] name = None
 called (d ∷ dlls) name = if bytes_eq (loader_name name) d.name then Some d else called dlls name
-
--- what is before the last full stop of a text, and what is behind it
-abbrev pub longer : ℕ → List ℕ × List ℕ → List ℕ × List ℕ
-longer byte parts = (byte ∷ parts.0, parts.1)
-
-unfoldable pub split_last : List ℕ → Option (List ℕ × List ℕ)
-split_last [] = None
-split_last (byte ∷ text) = option_map_or (λ parts. Some (longer byte parts))
-    (split_last text) (if byte == 0x2E then Some ([], text) else None)
-
--- the number that a text begins with, as C's `atoi` has it of digits
-abbrev pub is_digit : ℕ → Bool
-is_digit byte = nat_le 48 byte && nat_le byte 57
-
-abbrev pub number_of : List ℕ → ℕ
-number_of text = fold (λ n digit. 10 * n + (digit - 48)) 0 (take_while is_digit text)
-
--- What a forwarder asks a DLL for: behind `#` by an ordinal, else by a name, for which there is no hint.
-abbrev pub found_behind : Exports → List ℕ → Option Target
-found_behind e [] = by_name e [] (length e.names)
-found_behind e (byte ∷ text) =
-    if byte == 0x23 then by_ordinal e (number_of text) else by_name e (byte ∷ text) (length e.names)
 
 -- a target of a DLL
 abbrev pub in_dll : DllInMemory → Option Target → Option (DllInMemory × Target)

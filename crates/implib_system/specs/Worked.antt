@@ -6,9 +6,10 @@ use Rattle.implib.specs.Link.Load.{number_in}
 use Rattle.implib_dll.specs.Exports.{Address, Empty, Forwarder}
 use Rattle.implib_dll.specs.WorkedFiles.{named, worked_exports}
 use Rattle.implib_dll.specs.declared.section.AddressKind.TheVariants.{Code}
+use Rattle.implib_dll_check.specs.Forwarding.{number_of, split_last}
 use Rattle.implib_link.specs.Tables.{Tables}
 use Rattle.implib_system.specs.Laws.{Reaches}
-use Rattle.implib_system.specs.System.{DllInMemory, address_of, asked_of, bytes_of, called, given, number_of, split_last}
+use Rattle.implib_system.specs.System.{DllInMemory, address_of, asked_of, bytes_of, called, given}
 
 abbrev pub w_dll : DllInMemory
 w_dll = record { name = codes "w.dll"; base = 0x400000; exports = worked_exports }

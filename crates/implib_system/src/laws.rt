@@ -2,6 +2,7 @@
 //! contracts are the laws.
 
 ghost use Rattle.implib_system.specs.Laws.{BytesAreNumbers, CallsReachExports, EntriesHoldExports, FieldsLeadToExports};
+ghost use Rattle.implib_system.specs.Laws.{FollowedImportsAreReached, ForwardersAreFollowed};
 ghost use Rattle.implib_system.specs.Laws.{FoundImportsAreReached, OneAddress};
 ghost use Rattle.implib_system.specs.Worked.{WorkedReach, WorkedSystem};
 
@@ -39,6 +40,18 @@ pub fn calls_reach_exports()
 {
     stubs_of_any_tables_jump();
 }
+
+/// A forwarder that leads to an address by what is known of DLLs (`implib_dll_check`) leads to one in
+/// memory, where these DLLs are, each under its name.
+pub fn forwarders_are_followed()
+    ensures { ForwardersAreFollowed }
+{}
+
+/// An import that is not lost in a DLL, nor forwarded to nothing or to what is not known, reaches an
+/// address in memory.
+pub fn followed_imports_are_reached()
+    ensures { FollowedImportsAreReached }
+{}
 
 /// An import that is not lost in a DLL (`implib_dll_check`), which is in memory under its name, has
 /// a target there; if that is no forwarder, it reaches the address of the export.

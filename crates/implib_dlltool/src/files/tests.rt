@@ -1,6 +1,6 @@
 //! Tests of the system's disk.
 
-use super::{Made, SystemDisk, settle};
+use super::{Made, SystemDisk, folder_of, settle, with_mode};
 use implib_driver::disk::Disk;
 use std::fs::{Metadata, OpenFile, Permissions};
 use std::io::{ErrorKind, Write};
@@ -92,17 +92,20 @@ fn no_file_is_in_no_folder(rt: HostRuntime) -> Result<(), Fail> {
     Ok(())
 }
 
-// A name as long as a system takes, 255 bytes, is in no name of a new file.
+// A name as long as a system takes, 255 bytes, is in no name of a new file; nor is a shorter one, where
+// that would pass these.
 #[test]
-fn a_file_of_the_longest_name_is_made(rt: HostRuntime) -> Result<(), Fail> {
+fn files_of_long_names_are_made(rt: HostRuntime) -> Result<(), Fail> {
     let folder = folder(&rt, "implib_dlltool_long")?;
     let name = [b'z'; 255];
     let name = str::from_utf8(&name).unwrap_or("");
-    let file = folder.join(rt.alloc(), name)?;
-    let mut disk = SystemDisk::new(&rt, 7);
-    let made = disk.begin(file.as_str())?;
-    disk.replace(made)?;
-    assert!(rt; fs::exists(&rt, file.as_path())?);
+    for length in [200, 201, 230, 255] {
+        let file = folder.join(rt.alloc(), name.get(..length).unwrap_or(""))?;
+        let mut disk = SystemDisk::new(&rt, 4194304);
+        let made = disk.begin(file.as_str())?;
+        disk.replace(made)?;
+        assert!(rt; fs::exists(&rt, file.as_path())?);
+    }
     fs::remove_dir_all(&rt, folder.as_path())?;
     Ok(())
 }
@@ -171,7 +174,51 @@ fn a_new_file_has_the_mode_of_the_old_one(rt: HostRuntime) -> Result<(), Fail> {
     Ok(())
 }
 
-// A file whose bytes do not reach the disk.
+// New files are looked for where they are made, also beside a name without a folder.
+#[test]
+fn folders_are_those_of_new_files(rt: HostRuntime) -> Result<(), Fail> {
+    for (path, folder) in [
+        ("zoo.a", "."),
+        ("a/b/zoo.a", "a/b"),
+        ("/zoo.a", "/"),
+        ("./zoo.a", "."),
+    ] {
+        assert_eq!(rt; folder_of(path), folder);
+    }
+    Ok(())
+}
+
+// Whether a new file that takes the place of a path is in the end beside another, by its name.
+fn takes_place_of(rt: &HostRuntime, path: &PathBuf, other: &PathBuf) -> Result<bool, Fail> {
+    let mut disk = SystemDisk::new(rt, 9);
+    let mut made = disk.begin(path.as_str())?;
+    made.write_all(b"new")?;
+    disk.replace(made)?;
+    Ok(fs::read(rt, other.as_path())?.as_slice() == b"new".as_slice())
+}
+
+// Links are followed one after the other, also where nothing is at the end, and by paths from the
+// root; but not around in a circle.
+#[test]
+fn links_are_followed_to_the_end(rt: HostRuntime) -> Result<(), Fail> {
+    let folder = folder(&rt, "implib_dlltool_chain")?;
+    let file = folder.join(rt.alloc(), "zoo.a")?;
+    let first = folder.join(rt.alloc(), "first.a")?;
+    let second = folder.join(rt.alloc(), "second.a")?;
+    symlink(&rt, "second.a", first.as_path())?;
+    symlink(&rt, file.as_str(), second.as_path())?;
+    assert!(rt; takes_place_of(&rt, &first, &file)?);
+    assert!(rt; fs::symlink_metadata(&rt, second.as_path())?.is_symlink());
+    fs::remove_file(&rt, second.as_path())?;
+    symlink(&rt, "first.a", second.as_path())?;
+    let mut disk = SystemDisk::new(&rt, 9);
+    assert!(rt; disk.begin(first.as_str()).is_err());
+    assert!(rt; disk.begin(folder.as_str()).is_err());
+    fs::remove_dir_all(&rt, folder.as_path())?;
+    Ok(())
+}
+
+// A file whose bytes do not reach the disk, and whose mode does not change.
 #[derive(Drop)]
 struct Unsynced;
 
@@ -191,6 +238,21 @@ impl OpenFile for Unsynced {
     fn sync_data(&self) -> io::Result<()> {
         Ok(())
     }
+}
+
+// A new file that cannot have the mode of the old one is removed.
+#[test]
+fn a_file_without_its_mode_is_removed(rt: HostRuntime) -> Result<(), Fail> {
+    let folder = folder(&rt, "implib_dlltool_unmoded")?;
+    let new = folder.join(rt.alloc(), "new")?;
+    fs::write(&rt, new.as_path(), b"new")?;
+    assert!(rt; with_mode(&rt, new.as_str(), Unsynced, None).is_ok());
+    assert!(rt; fs::exists(&rt, new.as_path())?);
+    let mode = Some(Permissions::from_mode(0o604));
+    assert!(rt; with_mode(&rt, new.as_str(), Unsynced, mode).is_err());
+    assert!(rt; !fs::exists(&rt, new.as_path())?);
+    fs::remove_dir_all(&rt, folder.as_path())?;
+    Ok(())
 }
 
 // A file whose bytes do not reach the disk takes no place.

@@ -119,7 +119,7 @@ fn bytes_that_are_not_utf8_are_told(rt: HostRuntime) -> Result<(), Fail> {
 
 // A DLL for I386, w.dll, that exports alpha, beta, gamma and two ordinals without names: the bytes of
 // `worked_pe32` of `implib_dll`.
-const DLL: [u8; 421] = [
+pub(crate) const DLL: [u8; 421] = [
     0x4d, 0x5a, 0x00, 0x00, 0x00, 0x00, 0x00, 0x00, 0x00, 0x00, 0x00, 0x00, 0x00, 0x00, 0x00, 0x00,
     0x00, 0x00, 0x00, 0x00, 0x00, 0x00, 0x00, 0x00, 0x00, 0x00, 0x00, 0x00, 0x00, 0x00, 0x00, 0x00,
     0x00, 0x00, 0x00, 0x00, 0x00, 0x00, 0x00, 0x00, 0x00, 0x00, 0x00, 0x00, 0x00, 0x00, 0x00, 0x00,
@@ -253,7 +253,11 @@ fn wrong_calls_are_told(rt: HostRuntime) -> Result<(), Fail> {
             ["-d", "-", "a.o"].as_slice(),
             "implib_dlltool: expected one definition or DLL; objects are not supported\n",
         ),
-        (["-z"].as_slice(), "implib_dlltool: -z: not supported\n"),
+        (
+            ["-z"].as_slice(),
+            "implib_dlltool: -z: not supported; implib_check --def writes the definition of a DLL, ld \
+             --output-def that of objects\n",
+        ),
         (
             ["--frobnicate"].as_slice(),
             "implib_dlltool: --frobnicate: no such option\n",
@@ -824,14 +828,14 @@ fn malformed_definitions_are_refused(rt: HostRuntime) -> Result<(), Fail> {
 #[test]
 fn lines_begin_with_the_programs_name(rt: HostRuntime) -> Result<(), Fail> {
     for (program, said) in [
-        ("/usr/bin/llvm-dlltool", "llvm-dlltool: -z: not supported\n"),
+        ("/usr/bin/llvm-dlltool", "llvm-dlltool: -x: not supported\n"),
         (
             "i686-w64-mingw32-dlltool",
-            "i686-w64-mingw32-dlltool: -z: not supported\n",
+            "i686-w64-mingw32-dlltool: -x: not supported\n",
         ),
-        ("", "implib_dlltool: -z: not supported\n"),
+        ("", "implib_dlltool: -x: not supported\n"),
     ] {
-        let (got, wrote) = ran_as(&rt, program, ["-z"].as_slice(), b"")?;
+        let (got, wrote) = ran_as(&rt, program, ["-x"].as_slice(), b"")?;
         assert_eq!(rt; wrote.as_str(), said);
         assert_eq!(rt; got, 2);
     }
