@@ -1,5 +1,0 @@
-use Rattle.implib_check.proofs.SameLibraries.{own_libraries_are_the_same}
-use Rattle.implib_check.proofs.laws.own_libraries_are_the_same.Goals as goal
-
-pub returns : goal.returns
-returns c = own_libraries_are_the_same c.meant_is_defined.ensures

@@ -1,5 +1,0 @@
-use Rattle.implib_check.proofs.SameLibraries.{same_says_the_defined}
-use Rattle.implib_check.proofs.laws.same_says_the_defined.Goals as goal
-
-pub returns : goal.returns
-returns c = same_says_the_defined c.meant_is_defined.ensures

@@ -1,0 +1,105 @@
+-- What is known of the DLLs that were loaded is what there is of them in the folders.
+use Rattle.std.proofs.Common.{◌≡◌, ◌∙◌, ℕ, All, Bool, true, false, List, [], ◌∷◌, ◌++◌, Err, IfErr, IfOk, None, Ok, Option, Result, Some, ap, cond, inl, inr, map, refl, subst, sym}
+use Rattle.std.specs.List.{list_any}
+use Rattle.std.specs.Prelude.{bytes_eq}
+use Rattle.std.proofs.lemmas.List.Elements.{All-cons, All-head, All-nil, All-tail}
+use Rattle.std.proofs.lemmas.Slice.Eq.{bytes_eq-Decides}
+use Rattle.implib_dll.specs.Exports.{Exports}
+use Rattle.implib_dll.specs.Outcome.{Read}
+use Rattle.implib_dll_check.specs.Forwarding.{Content, End, Holds, Known, ends, is_unknown, known_in}
+use Rattle.implib_dll_check.specs.Laws.{Extends, KnownDllsDecide}
+use Rattle.implib_read.specs.Classes.{MemberRead}
+use Rattle.implib_dll_check.specs.declared.import.Judgement.{Judgement}
+use Rattle.implib_compare.specs.Comparison.{has_unread}
+use Rattle.implib_dll_check.specs.Imports.{judgements}
+use Rattle.implib_check_driver.specs.Against.{held_status, members_against, names_of}
+use Rattle.implib_check_driver.specs.Answers.{OrFailed}
+use Rattle.implib_check_driver.specs.Calls.{CheckView, is_searching}
+use Rattle.implib_check_driver.specs.Starting.{Listing}
+use Rattle.implib_check_driver.specs.Through.{IsRight, content_at, content_of, ends_through, loaded_view, through}
+use Rattle.implib_check_driver.specs.declared.report.Failure.{Failure}
+use Rattle.implib_check_driver.specs.declared.through.Loaded.{Loaded}
+
+same_names : (name other : List ℕ) → bytes_eq name other ≡ true → name ≡ other
+same_names name other same = (bytes_eq-Decides name other).0 same
+
+extends_right : (file : List ℕ → List ℕ) (folders : List Listing) (dlls : List Known) → All (IsRight file folders) dlls
+    → Extends (known_in dlls) (λ name. Some (content_at file folders name))
+extends_right file folders [] right name content is = absurd cc
+extends_right file folders (d ∷ dlls) right name content is =
+    by (bytes_eq name d.name) refl
+    (extends_right file folders dlls (All-tail (IsRight file folders) d dlls right) name content) is
+  where
+    by : (same : Bool) → bytes_eq name d.name ≡ same
+        → (known_in dlls name ≡ Some content → Some (content_at file folders name) ≡ Some content)
+        → cond same (Some d.content) (known_in dlls name) ≡ Some content → Some (content_at file folders name) ≡ Some content
+    by true same later here =
+        ap (λ (n : List ℕ). Some (content_at file folders n)) (same_names name d.name same) ∙ (ap Some (sym (All-head (IsRight file folders) d dlls right)) ∙ here)
+    by false other later here = later here
+
+-- where forwarders lead through what was loaded, they lead through the folders
+pub through_right : (file : List ℕ → List ℕ) (folders : List Listing) (dlls : List Known) (e : Exports) (names : List (List ℕ))
+    (members : List MemberRead) (found : List (Option End)) → KnownDllsDecide → All (IsRight file folders) dlls
+    → found ≡ ends (record { exports = e; names = names; others = known_in dlls }) members → list_any is_unknown found ≡ false
+    → found ≡ ends_through (Some (content_at file folders)) e names members
+through_right file folders dlls e names members found decide right is known =
+    is ∙ sym (decide (record { exports = e; names = names; others = known_in dlls }) (λ name. Some (content_at file folders name)) members
+    (extends_right file folders dlls right) (subst (λ (ends : List (Option End)). list_any is_unknown ends ≡ false) is known))
+
+-- one more that was loaded
+pub right_more : (file : List ℕ → List ℕ) (folders : List Listing) (loaded : List Loaded) (next : Loaded)
+    → All (IsRight file folders) (map loaded_view loaded) → IsRight file folders (loaded_view next)
+    → All (IsRight file folders) (map loaded_view (loaded ++ next ∷ []))
+right_more file folders [] next before here =
+    All-cons (IsRight file folders) (loaded_view next) [] here (All-nil (IsRight file folders))
+right_more file folders (l ∷ loaded) next before here =
+    All-cons (IsRight file folders) (loaded_view l) (map loaded_view (loaded ++ next ∷ []))
+    (All-head (IsRight file folders) (loaded_view l) (map loaded_view loaded) before)
+    (right_more file folders loaded next (All-tail (IsRight file folders) (loaded_view l) (map loaded_view loaded) before) here)
+
+-- the exports of a file are those that are known
+pub same_exports : (seen e : Exports) (read : Read (Option Exports)) → Holds seen ≡ content_of read → read ≡ Ok (Some e) → seen ≡ e
+same_exports seen e read held is =
+    let both : Holds seen ≡ Holds e = held ∙ ap content_of is in
+    cc
+
+-- the status that is written, by where forwarders lead
+pub status_through : (file : List ℕ → List ℕ) (folders : List Listing) (loaded dlls : List Known) (seen e : Exports)
+    (names : List (List ℕ)) (members : List MemberRead) (found : List (Option End)) (judged : Exports → List Judgement) (unread : Bool) (status : ℕ)
+    → KnownDllsDecide → seen ≡ e → dlls ≡ loaded → All (IsRight file folders) loaded
+    → found ≡ ends (record { exports = seen; names = names; others = known_in dlls }) members → list_any is_unknown found ≡ false
+    → OrFailed status (status ≡ held_status (judged seen) found unread)
+    → OrFailed status (status ≡ held_status (judged e) (ends_through (Some (content_at file folders)) e names members) unread)
+status_through file folders loaded dlls seen e names members found judged unread status decide same read right is known (inl failed) = inl failed
+status_through file folders loaded dlls seen e names members found judged unread status decide same read right is known (inr written) =
+    let here : found ≡ ends_through (Some (content_at file folders)) seen names members =
+    through_right file folders dlls seen names members found decide (subst (λ (l : List Known). All (IsRight file folders) l) (sym read) right) is known in
+    inr (written ∙ (ap (λ (f : List (Option End)). held_status (judged seen) f unread) here
+    ∙ ap (λ (x : Exports). held_status (judged x) (ends_through (Some (content_at file folders)) x names members) unread) same))
+
+-- the status of what was written, or 3
+pub written : (done : Result ℕ Failure) (status wanted : ℕ) → IfOk done (λ s. s ≡ wanted) → IfOk done (λ s. status ≡ s)
+    → IfErr done (λ failure. status ≡ 3) → OrFailed status (status ≡ wanted)
+written (Ok s) status wanted right is failed = inr (is ∙ right)
+written (Err failure) status wanted right is failed = inl failed
+
+-- folders count only where forwarders are followed
+pub through_same : (file : List ℕ → List ℕ) (here there : List Listing) (check : CheckView) → (is_searching check ≡ true → here ≡ there)
+    → through file here check ≡ through file there check
+through_same file here there check same = by (is_searching check) same
+  where
+    by : (s : Bool) → (s ≡ true → here ≡ there) → cond s (Some (content_at file here)) None ≡ cond s (Some (content_at file there)) None
+    by true same = ap (λ (f : List Listing). Some (content_at file f)) (same refl)
+    by false same = refl
+
+-- the status of members through folders is theirs where forwarders are followed
+pub members_through : (file : List ℕ → List ℕ) (folders : List Listing) (check : CheckView) (e : Exports) (names : List (List ℕ))
+    (members : List MemberRead) (status : ℕ) → is_searching check ≡ true → names ≡ names_of check.dll check.definition e.dll
+    → OrFailed status (status ≡ held_status (judgements e names members) (ends_through (Some (content_at file folders)) e names members) (has_unread members))
+    → OrFailed status (status ≡ members_against (through file folders check) check e members)
+members_through file folders check e names members status searching named written =
+    let own = names_of check.dll check.definition e.dll in
+    subst (λ (s : Bool). OrFailed status (status ≡ held_status (judgements e own members)
+    (ends_through (cond s (Some (content_at file folders)) None) e own members) (has_unread members))) (sym searching)
+    (subst (λ (n : List (List ℕ)). OrFailed status (status ≡ held_status (judgements e n members)
+    (ends_through (Some (content_at file folders)) e n members) (has_unread members))) named written)

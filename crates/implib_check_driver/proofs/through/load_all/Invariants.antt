@@ -1,0 +1,11 @@
+use Rattle.std.proofs.Common.{ℕ, All, List, map}
+use Rattle.implib_check_driver.specs.Starting.{AreKnown, folder_view}
+use Rattle.implib_check_driver.specs.Through.{IsRight, loaded_view}
+use Rattle.implib_check_driver.proofs.through.load_all.Given as goal
+
+-- what was loaded so far is right, where what was loaded before is
+abbrev pub invariant-loop-name : goal.invariant-loop-name
+invariant-loop-name g l =
+    (file : List ℕ → List ℕ) → AreKnown (g.S.Shelf.seen l.shelf) file
+    → All (IsRight file (map folder_view l.folders)) (map loaded_view l.fn.loaded.items)
+    → All (IsRight file (map folder_view l.folders)) (map loaded_view l.loaded.items)

@@ -1,0 +1,101 @@
+-- The library of a DLL, of which `--def` writes a definition (this project's choice): the one that implib_dlltool makes of
+-- the DLL. What is no DLL with exports has its status here, too.
+use Rattle.std.specs.Prelude.{◌≡◌, ◌⊎◌, ℕ, Bool, false, true, List, Err, Ok, Option, None, Some, IfSome, unwrap_or}
+use Rattle.implib.specs.Conversions.{machine_numbered}
+use Rattle.implib.specs.Members.MemberSpec.{MemberView}
+use Rattle.implib.specs.declared.flavor.Flavor.{Flavor}
+use Rattle.implib.specs.declared.flavor.Flavor.TheVariants.{Msvc}
+use Rattle.implib.specs.declared.machine.MachineType.{MachineType}
+use Rattle.implib_archive.specs.Archive.{archive_of}
+use Rattle.implib_archive.specs.Refusal.{refusal_of}
+use Rattle.implib_archive.specs.declared.error.Fault.{Fault}
+use Rattle.implib_dll.specs.Exports.{Exports, exports_in}
+use Rattle.implib_dll.specs.Outcome.{Read}
+use Rattle.implib_dll.specs.declared.section.Layout.TheVariants.{File}
+use Rattle.implib_dll_library.specs.Members.{IsUnmade, MembersOfDll}
+use Rattle.implib_dll_library.specs.declared.members.Unmade.{Unmade}
+use Rattle.implib_dll_library.specs.declared.members.Unmade.TheVariants as unmade
+use Rattle.implib_rules.specs.Additions.{no_additions}
+use Rattle.implib_rules.specs.Library.{kind_of}
+use Rattle.implib_rules.specs.Options.{LibraryOptionsView}
+use Rattle.implib_check_driver.specs.Calls.{DefineView}
+
+-- the status of bytes that are no DLL with exports: 3 where they are refused, and 1 where nothing is exported
+abbrev pub IsNoDll : Read (Option Exports) → ℕ → Type 0
+IsNoDll (Ok (Some e)) status = ⊥
+IsNoDll (Ok None) status = status ≡ 1
+IsNoDll (Err fault) status = status ≡ 3
+
+-- what the library is made for: Microsoft's linker, where a call names no flavour
+abbrev pub options_for_dll : DefineView → MachineType → LibraryOptionsView
+options_for_dll define machine = record {
+  machine = machine;
+  flavor = unwrap_or define.flavor Msvc;
+  dll = None;
+  naming = record { is_plain = define.is_plain; kills_at = false; exports_as = false; keeps_decorated = false };
+  additions = no_additions;
+}
+
+-- that the library is for this machine: the DLL's own, for which a call may name no other
+abbrev pub IsMachineFor : DefineView → Exports → MachineType → Type 0
+IsMachineFor define e machine =
+    (machine_numbered e.machine ≡ Some machine) × IfSome define.machine (λ named. named ≡ machine)
+
+-- The library of exports.
+pub record IsLibraryOfExports (define : DefineView) (exports : Exports) (library : List ℕ) : Type 0 where
+  pub machine : MachineType
+  pub members : List MemberView
+  pub suits : IsMachineFor define exports machine
+  pub made : MembersOfDll exports define.library (options_for_dll define machine) members
+  pub accepted : refusal_of (kind_of (options_for_dll define machine).flavor members) members ≡ None
+  pub is : library ≡ archive_of (kind_of (options_for_dll define machine).flavor members) members
+
+-- The library of a DLL. None has older symbols.
+pub record IsLibraryOfDll (define : DefineView) (dll library : List ℕ) : Type 0 where
+  pub exports : Exports
+  pub plain : define.older_symbols ≡ false
+  pub read : exports_in File dll ≡ Ok (Some exports)
+  pub is : IsLibraryOfExports define exports library
+
+-- why a DLL has no members, but for want of memory
+abbrev pub IsCauseOf : DefineView → Exports → MachineType → Unmade → Type 0
+IsCauseOf define e machine unmade.OutOfMemory = ⊥
+IsCauseOf define e machine why = IsUnmade e define.library (options_for_dll define machine) why
+
+-- The exports of a DLL that have no members for a machine.
+pub record HaveNoMembers (define : DefineView) (e : Exports) (machine : MachineType) : Type 0 where
+  pub why : Unmade
+  pub is_cause : IsCauseOf define e machine why
+
+-- Members that no archive for a linker can carry.
+pub record IsUnkept (flavor : Flavor) (members : List MemberView) : Type 0 where
+  pub fault : Fault
+  pub is_refusal : refusal_of (kind_of flavor members) members ≡ Some fault
+
+-- The exports of a DLL whose members no archive can carry.
+pub record HaveNoArchive (define : DefineView) (e : Exports) (machine : MachineType) : Type 0 where
+  pub members : List MemberView
+  pub made : MembersOfDll e define.library (options_for_dll define machine) members
+  pub unkept : IsUnkept (options_for_dll define machine).flavor members
+
+-- Exports that are not made a library for their machine.
+pub record AreUnmade (define : DefineView) (e : Exports) : Type 0 where
+  pub machine : MachineType
+  pub suits : IsMachineFor define e machine
+  pub unmade : HaveNoMembers define e machine ⊎ HaveNoArchive define e machine
+
+-- exports without a library: there is no machine for which it could be, or it is not made
+abbrev pub HaveNoLibrary : DefineView → Exports → Type 0
+HaveNoLibrary define e = ((machine : MachineType) → ¬ (IsMachineFor define e machine)) ⊎ AreUnmade define e
+
+-- A DLL whose exports have none.
+pub record IsDllUnmade (define : DefineView) (dll : List ℕ) : Type 0 where
+  pub exports : Exports
+  pub read : exports_in File dll ≡ Ok (Some exports)
+  pub unmade : HaveNoLibrary define exports
+
+-- the status of a DLL without a library: 2 where older symbols are asked for, that of what is no DLL, and else 1
+abbrev pub HasNoLibrary : DefineView → List ℕ → ℕ → Type 0
+HasNoLibrary define dll status =
+    (define.older_symbols ≡ true → status ≡ 2)
+    × (define.older_symbols ≡ false → IsNoDll (exports_in File dll) status ⊎ ((status ≡ 1) × IsDllUnmade define dll))

@@ -1,0 +1,307 @@
+//! What the imports of a library, or of a definition, come to in a DLL.
+//!
+//! A loader knows a DLL by the name of its file. A copy under another name is still told by that of its export directory,
+//! so an import of either is of the DLL, unless the call gives a name. That a loader searches for a name, since its hint is
+//! off, changes nothing but time: it is told, and no fault. An export that no import asks for is told with `--all`, and a
+//! forwarder that leads to nothing with `--search`.
+
+ghost use Rattle.implib_check_driver.specs.Against.{against_status, begins_archive, begins_dll, has_options, held_status, is_library, names_of, options_against};
+ghost use Rattle.implib.specs.Conversions.{machine_numbered};
+ghost use Rattle.implib.specs.declared.machine.MachineType.TheVariants.{AMD64};
+ghost use Rattle.implib_rules.specs.Options.{library_options_view};
+ghost use Rattle.implib_check_driver.specs.Calls.{check_view};
+ghost use Rattle.implib_compare.specs.Comparison.{has_unread};
+ghost use Rattle.implib_dll.specs.Views.{exports_view};
+ghost use Rattle.implib_dll_check.specs.Forwarding.{is_stop};
+ghost use Rattle.implib_dll_check.specs.ForwardingViews.{end_view};
+ghost use Rattle.implib_dll_check.specs.Imports.{is_import, is_lost, judgements};
+ghost use Rattle.implib_read.specs.ClassViews.{member_read_view};
+ghost use Rattle.std.specs.List.{list_any};
+ghost use Rattle.std.specs.Option.{option_map};
+ghost use Rattle.std.specs.Prelude.{◌≡◌, IfOk, map, unwrap_or};
+
+use crate::call::Check;
+use crate::exported::{export_at, first_positions};
+use crate::finding::{Finding, Source};
+use crate::report::{Failure, Form, tell};
+use implib::{Flavor, MachineType};
+use implib_compare::compare::has_unread;
+use implib_dll::Exports;
+use implib_dll_check::{End, Judgement, asks_in, judgements, loader_name, missing};
+use implib_read::MemberRead;
+use implib_rules::additions::Additions;
+use implib_rules::name::last_part;
+use implib_rules::options::LibraryOptions;
+use std::alloc::{AllocError, Global};
+use std::io::Write;
+
+/// Whether bytes begin as an image does.
+pub fn begins_dll(bytes: &[u8]) -> bool
+    ensures { result ≡ begins_dll bytes.now }
+{
+    bytes.starts_with(b"MZ")
+}
+
+/// Whether bytes begin as an archive does.
+pub fn is_library(bytes: &[u8]) -> bool
+    ensures { result ≡ is_library bytes.now }
+{
+    bytes.starts_with(b"!<arch>\n")
+}
+
+/// Whether bytes begin as an archive does, or as a thin one.
+pub fn begins_archive(bytes: &[u8]) -> bool
+    ensures { result ≡ begins_archive bytes.now }
+{
+    is_library(bytes) || bytes.starts_with(b"!<thin>\n")
+}
+
+/// Whether a call has an option that a definition alone is read by.
+pub fn has_options(check: &Check) -> bool
+    ensures { result ≡ has_options (check_view check.now) }
+{
+    let naming = check.naming;
+    check.machine.is_some()
+        || check.flavor.is_some()
+        || check.older_symbols
+        || naming.is_plain
+        || naming.kills_at
+        || naming.exports_as
+        || naming.keeps_decorated
+}
+
+/// The names by which loaders know the DLL of a file: the one that is given, or else its own and that of the file.
+pub fn names_of(
+    alloc: Global,
+    given: Option<&str>,
+    path: &str,
+    own: &[u8],
+) -> Result<Vec<Vec<u8>>, AllocError>
+    ensures { IfOk result (λ names. map (λ name. name.items) names.items
+        ≡ names_of (option_map (λ text. text.now) given.entry) path.now own.now) }
+{
+    let mut names = Vec::new(alloc);
+    match given {
+        Some(dll) => names.push(loader_name(alloc, last_part(dll).as_bytes())?)?,
+        None => {
+            names.push(loader_name(alloc, own)?)?;
+            names.push(loader_name(alloc, last_part(path).as_bytes())?)?;
+        }
+    }
+    Ok(names)
+}
+
+// The machine of a DLL, or AMD64 where no libraries are made for it.
+fn machine_of(exports: &Exports) -> MachineType
+    ensures { result ≡ unwrap_or (machine_numbered exports.now.machine) AMD64 }
+{
+    match MachineType::try_from(exports.machine) {
+        Ok(machine) => machine,
+        Err(_) => MachineType::AMD64,
+    }
+}
+
+/// What the library of a definition is made for that is held against a DLL: what a call names, and else the machine of the
+/// DLL and Microsoft's flavour, or GNU's for older symbols.
+pub fn options_against<'a>(check: &Check<'a>, exports: &Exports) -> LibraryOptions<'a>
+    ensures { library_options_view result ≡ options_against (check_view check.now) (exports_view exports.now) }
+{
+    let machine = match check.machine {
+        Some(machine) => machine,
+        None => machine_of(exports),
+    };
+    let flavor = match check.flavor {
+        Some(flavor) => flavor,
+        None => if check.older_symbols {
+            Flavor::Gnu
+        } else {
+            Flavor::Msvc
+        },
+    };
+    LibraryOptions {
+        machine,
+        flavor,
+        dll: check.dll,
+        naming: check.naming,
+        additions: Additions::none(),
+    }
+}
+
+/// A DLL that imports are held against.
+#[derive(Drop)]
+pub struct Dll<'p, 'd> {
+    /// The file.
+    pub path: &'p str,
+    pub exports: Exports<'d>,
+    /// By which loaders know it.
+    pub names: Vec<Vec<u8>>,
+}
+
+// Whether an import is lost.
+fn loses(found: &[Judgement]) -> bool
+    ensures { result ≡ list_any is_lost found.now }
+{
+    for one in found {
+        if one.is_lost() {
+            return true;
+        }
+    }
+    false
+}
+
+// Whether there is an import.
+fn imports(found: &[Judgement]) -> bool
+    ensures { result ≡ list_any is_import found.now }
+{
+    for one in found {
+        if one.is_import() {
+            return true;
+        }
+    }
+    false
+}
+
+// The exit status of what imports come to.
+fn against_status(found: &[Judgement], unread: bool) -> u8
+    ensures { result ≡ against_status found.now unread }
+{
+    if loses(found) {
+        1
+    } else if unread {
+        4
+    } else if imports(found) {
+        0
+    } else {
+        1
+    }
+}
+
+// Writes which imports are lost.
+fn tell_lost<O: Write>(
+    form: Form,
+    printer: &mut O,
+    source: Source,
+    members: &[MemberRead],
+    path: &str,
+    found: &[Judgement],
+) -> Result<(), Failure> {
+    for (member, one) in members.iter().zip(found) {
+        if let Judgement::Lost(loss) = *one {
+            tell(
+                form,
+                printer,
+                &Finding::Lost(source.side(member), path, loss),
+            )?;
+        }
+    }
+    Ok(())
+}
+
+// Whether a forwarder leads to nothing.
+fn is_stop(end: &Option<End>) -> bool
+    ensures { result ≡ is_stop (option_map end_view end.now) }
+{
+    match end {
+        Some(End::Stops(_, _)) => true,
+        _ => false,
+    }
+}
+
+// Whether one of some forwarders does.
+fn stops(ends: &[Option<End>]) -> bool
+    ensures { result ≡ list_any is_stop (map (option_map end_view) ends.now) }
+{
+    for end in ends {
+        if is_stop(end) {
+            return true;
+        }
+    }
+    false
+}
+
+// The exit status of what imports come to, and of where forwarders lead.
+fn held_status(found: &[Judgement], ends: &[Option<End>], unread: bool) -> u8
+    ensures { result ≡ held_status found.now (map (option_map end_view) ends.now) unread }
+{
+    if stops(ends) {
+        1
+    } else {
+        against_status(found, unread)
+    }
+}
+
+// Writes which imports are forwarded to nothing.
+fn tell_stops<O: Write>(
+    form: Form,
+    printer: &mut O,
+    source: Source,
+    members: &[MemberRead],
+    path: &str,
+    ends: &[Option<End>],
+) -> Result<(), Failure> {
+    for (member, end) in members.iter().zip(ends) {
+        if let Some(End::Stops(text, stop)) = end {
+            let side = source.side(member);
+            tell(form, printer, &Finding::Stopped(side, path, text, *stop))?;
+        }
+    }
+    Ok(())
+}
+
+// Writes how many imports a loader searches for, if it does for any.
+fn tell_searched<O: Write>(
+    form: Form,
+    printer: &mut O,
+    source: Source,
+    found: &[Judgement],
+) -> Result<(), Failure> {
+    let count = found.iter().filter(|one| one.is_searched()).count();
+    if count > 0 {
+        tell(form, printer, &Finding::Searched(source.file(), count))?;
+    }
+    Ok(())
+}
+
+// Writes which exports no import asks for.
+fn tell_unasked<O: Write>(
+    form: Form,
+    printer: &mut O,
+    members: &[MemberRead],
+    dll: &Dll,
+) -> Result<(), Failure> {
+    let exports = &dll.exports;
+    let asks = asks_in(form.alloc, &dll.names, members)?;
+    let positions = first_positions(form.alloc, exports)?;
+    for index in missing(form.alloc, exports, &asks)? {
+        let export = export_at(exports, &positions, index);
+        tell(form, printer, &Finding::Unasked(dll.path, export))?;
+    }
+    Ok(())
+}
+
+/// Holds imports against a DLL: writes which are lost, which are forwarded to nothing, by where forwarders lead, if they are
+/// followed, how many a loader searches for and, where that is asked for, which exports no import asks for; and gives the exit
+/// status.
+pub fn hold_against<O: Write>(
+    form: Form,
+    printer: &mut O,
+    source: Source,
+    members: &[MemberRead],
+    dll: &Dll,
+    ends: &[Option<End>],
+    lists_unasked: bool,
+) -> Result<u8, Failure>
+    ensures { IfOk result (λ status. status ≡ held_status
+        (judgements (exports_view dll.now.exports) (map (λ name. name.items) dll.now.names.items) (map member_read_view members.now))
+        (map (option_map end_view) ends.now)
+        (has_unread (map member_read_view members.now))) }
+{
+    let found = judgements(form.alloc, &dll.exports, &dll.names, members)?;
+    tell_lost(form, printer, source, members, dll.path, &found)?;
+    tell_stops(form, printer, source, members, dll.path, ends)?;
+    tell_searched(form, printer, source, &found)?;
+    if lists_unasked {
+        tell_unasked(form, printer, members, dll)?;
+    }
+    Ok(held_status(&found, ends, has_unread(members)))
+}

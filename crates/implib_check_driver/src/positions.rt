@@ -1,0 +1,150 @@
+//! Where the exports of a definition are in its text.
+
+ghost use Rattle.std.specs.HashMap.{get_by_text};
+ghost use Rattle.std.specs.Option.{option_or};
+ghost use Rattle.std.specs.Prelude.{◌≡◌, ◌⊎◌, ℕ, IfNone, IfOk, IfSome, List, None, OnOk, Some, bytes_eq, if◌then◌else◌, map};
+ghost use Rattle.std.specs.Str.{IsUtf8};
+ghost use Rattle.std.specs.String.{string_bytes};
+ghost use Rattle.implib.specs.Definition.{export_view};
+ghost use Rattle.implib_check_driver.specs.Positions.{ArePositionsOf, HasNoPositions, position_from, position_if, symbol_behind};
+ghost use Rattle.implib_rules.specs.Library.{definition_text};
+ghost use Rattle.implib_rules.specs.Options.{library_options_view};
+ghost use Rattle.implib_rules.specs.Places.{export_positions};
+
+use implib::ParseError;
+use implib::def::{Position, ShortExport};
+use implib_rules::library::{Refusal, definition_for};
+use implib_rules::options::LibraryOptions;
+use implib_rules::places::{Place, Site, read_with_places};
+use implib_rules::text::DefinitionText;
+use std::alloc::{AllocError, Global};
+use std::collections::HashMap;
+
+/// Where the export of each symbol is.
+#[derive(Drop)]
+pub struct Positions {
+    by_symbol: HashMap<String, Position>,
+}
+
+// Notes the position of a symbol, unless it has one.
+fn note_symbol(
+    by_symbol: &mut HashMap<String, Position>,
+    symbol: &String,
+    position: Position,
+) -> Result<(), AllocError>
+    ensures { OnOk result ((other : List ℕ) → get_by_text by_symbol.new other
+        ≡ option_or (get_by_text by_symbol.old other)
+        (if bytes_eq (string_bytes symbol.now) other then Some position else None)) }
+{
+    if !by_symbol.contains_key(symbol.as_str()) {
+        by_symbol.insert(symbol.clone()?, position)?;
+    }
+    Ok(())
+}
+
+// Notes the position of an export, unless it declares nothing, or its symbol has one.
+fn note(
+    by_symbol: &mut HashMap<String, Position>,
+    export: &ShortExport,
+    position: Position,
+) -> Result<(), AllocError>
+    ensures { OnOk result ((symbol : List ℕ) → get_by_text by_symbol.new symbol
+        ≡ option_or (get_by_text by_symbol.old symbol) (position_if (export_view export.now) symbol position)) }
+{
+    if export.private {
+        return Ok(());
+    }
+    note_symbol(by_symbol, &export.name, position)
+}
+
+// The positions of exports, of which these are in order.
+fn positions_by_symbol(
+    alloc: Global,
+    exports: &[ShortExport],
+    positions: &[Position],
+) -> Result<HashMap<String, Position>, AllocError>
+    ensures { IfOk result (λ by_symbol. (symbol : List ℕ) → get_by_text by_symbol symbol
+        ≡ position_from 0 (map export_view exports.now) positions.now symbol) }
+{
+    let mut by_symbol = HashMap::new(alloc);
+    for i in 0..exports.len() {
+        if i < positions.len() {
+            note(&mut by_symbol, &exports[i], positions[i])?;
+        }
+    }
+    Ok(by_symbol)
+}
+
+// The positions of exports among places.
+fn export_positions(alloc: Global, places: &[Place]) -> Result<Vec<Position>, AllocError>
+    ensures { IfOk result (λ positions. positions.items ≡ export_positions places.now) }
+{
+    let mut positions = Vec::new(alloc);
+    for place in places {
+        match place.site {
+            Site::Export => positions.push(place.position)?,
+            Site::Attribute(_) | Site::Heading => {}
+        }
+    }
+    Ok(positions)
+}
+
+// The symbol of code, of which another may be the address.
+fn symbol_behind(symbol: &[u8]) -> &[u8]
+    ensures { result.now ≡ symbol_behind symbol.now }
+{
+    if symbol.starts_with(b"__imp_") {
+        return &symbol[6..];
+    }
+    symbol
+}
+
+impl Positions {
+    /// Those of a definition, as it is linked. A definition that is refused has none.
+    ///
+    /// # Errors
+    ///
+    /// An allocation failed.
+    pub fn of(
+        alloc: Global,
+        definition: &[u8],
+        options: &LibraryOptions,
+    ) -> Result<Positions, AllocError>
+        ensures { IfOk result (λ positions.
+            ArePositionsOf definition.now (library_options_view options.now) (get_by_text positions.by_symbol)
+            ⊎ HasNoPositions (definition_text definition.now) (library_options_view options.now)) }
+    {
+        let read = DefinitionText::new(alloc, definition)?;
+        let none = Positions {
+            by_symbol: HashMap::new(alloc),
+        };
+        let Ok(text) = read.text() else {
+            return Ok(none);
+        };
+        let def = match definition_for(alloc, text, options) {
+            Ok(def) => def,
+            Err(Refusal::OutOfMemory) => return Err(AllocError),
+            Err(_) => return Ok(none),
+        };
+        let places = match read_with_places(alloc, text) {
+            Ok((_, places)) => places,
+            Err(ParseError::OutOfMemory(refused)) => return Err(refused),
+            Err(_) => return Ok(none),
+        };
+        let positions = export_positions(alloc, &places)?;
+        Ok(Positions {
+            by_symbol: positions_by_symbol(alloc, &def.exports, &positions)?,
+        })
+    }
+
+    /// Where the export of a symbol is, or of a symbol's address, if it is known.
+    pub fn at(&self, symbol: &[u8]) -> Option<Position>
+        ensures found { IfSome result (λ position. get_by_text self.now.by_symbol (symbol_behind symbol.now) ≡ Some position) }
+        ensures none { IfNone result (IsUtf8 (symbol_behind symbol.now) → get_by_text self.now.by_symbol (symbol_behind symbol.now) ≡ None) }
+    {
+        match str::from_utf8(symbol_behind(symbol)) {
+            Ok(text) => self.by_symbol.get(text).copied(),
+            Err(_) => None,
+        }
+    }
+}

@@ -1,0 +1,217 @@
+//! Where the forwarders of a DLL lead that imports come to, in the DLLs of some folders.
+//!
+//! The folders stand for those that a loader searches, as for a program. A DLL that a forwarder names by a name of the DLL
+//! itself is that one; any other is looked for in the folders, and each is read once, when a forwarder leads there. An import
+//! whose forwarder leads to nothing is told, as one that the DLL does not export, and a file that no forwarder leads to may
+//! be anything. Where forwarders lead that no import comes to is not looked at.
+
+ghost use Rattle.implib_check_driver.specs.Starting.{AreKnown, folder_view};
+ghost use Rattle.implib_check_driver.specs.Through.{IsRight, content_in, loaded_view};
+ghost use Rattle.implib_dll_check.specs.Forwarding.{is_unknown as IsUnknown};
+ghost use Rattle.implib_dll_check.specs.ForwardingViews.{content_view, end_view, known_view};
+ghost use Rattle.std.specs.List.{list_any};
+ghost use Rattle.std.specs.Option.{option_map};
+ghost use Rattle.std.specs.Prelude.{◌≡◌, ℕ, All, IfErr, IfOk, List, Some, map};
+
+use crate::console::{NAME, bytes_of, complain};
+use crate::shelf::Shelf;
+use crate::starting::{Folder, dll_path};
+use implib_dll::{Exports, ReadError};
+use implib_dll_check::{Beside, DllContent, End, NamedDll, ends, loader_name};
+use implib_read::MemberRead;
+use std::alloc::{AllocError, Global};
+use std::io::Write;
+
+/// A DLL of a loader's name, and the bytes of its file, if a folder has one.
+#[derive(Drop)]
+pub struct Loaded {
+    pub name: Vec<u8>,
+    pub bytes: Option<Vec<u8>>,
+}
+
+// How often the DLLs are read that forwarders lead to in those that were read before.
+const MOST_ROUNDS: usize = 1000;
+
+// The DLL of a loader's name, or an exit status.
+fn load<S: Shelf, E: Write>(
+    alloc: Global,
+    shelf: &S,
+    faults: &mut E,
+    folders: &[Folder],
+    name: Vec<u8>,
+) -> Result<Loaded, u8>
+    ensures loaded { IfOk result (λ loaded. (file : List ℕ → List ℕ) → AreKnown (S.seen shelf.now) file
+        → IsRight file (map folder_view folders.now) (loaded_view loaded)) }
+    ensures failed { IfErr result (λ status. status ≡ 3) }
+{
+    let path = match dll_path(alloc, folders, &name) {
+        Ok(Some(path)) => path,
+        Ok(None) => return Ok(Loaded { name, bytes: None }),
+        Err(_) => return Err(complain(faults, NAME, "out of memory", 3)),
+    };
+    match bytes_of(alloc, shelf, faults, &path) {
+        Ok(bytes) => Ok(Loaded {
+            name,
+            bytes: Some(bytes),
+        }),
+        Err(status) => Err(status),
+    }
+}
+
+/// What there is of a DLL by its file.
+pub fn content_of(alloc: Global, bytes: &[u8]) -> Result<DllContent<'_>, AllocError>
+    ensures { IfOk result (λ content. content_view content ≡ content_in (Some bytes.now)) }
+{
+    match Exports::read(alloc, bytes) {
+        Ok(Some(exports)) => Ok(DllContent::Holds(exports)),
+        Ok(None) => Ok(DllContent::NoExports),
+        Err(ReadError::Refused(_)) => Ok(DllContent::Refused),
+        Err(ReadError::OutOfMemory) => Err(AllocError),
+    }
+}
+
+// The DLL that was loaded, as it is read.
+fn named(alloc: Global, loaded: &Loaded) -> Result<NamedDll<'_>, AllocError>
+    ensures { IfOk result (λ dll. known_view dll ≡ loaded_view loaded.now) }
+{
+    let content = match &loaded.bytes {
+        Some(bytes) => content_of(alloc, bytes)?,
+        None => DllContent::NoFile,
+    };
+    Ok(NamedDll {
+        name: loaded.name.clone()?,
+        content,
+    })
+}
+
+/// The DLLs that were loaded, as they are read.
+pub fn named_dlls(alloc: Global, loaded: &[Loaded]) -> Result<Vec<NamedDll<'_>>, AllocError>
+    ensures { IfOk result (λ dlls. map known_view dlls.items ≡ map loaded_view loaded.now) }
+{
+    let mut dlls = Vec::with_capacity(alloc, loaded.len())?;
+    for one in loaded {
+        dlls.push(named(alloc, one)?)?;
+    }
+    Ok(dlls)
+}
+
+// Whether a forwarder leads to a DLL that was not loaded.
+fn is_unknown(end: &Option<End>) -> bool
+    ensures { result ≡ IsUnknown (option_map end_view end.now) }
+{
+    match end {
+        Some(End::Unknown(_)) => true,
+        _ => false,
+    }
+}
+
+/// Whether one of some forwarders leads to a DLL that was not loaded.
+pub fn is_any_unknown(ends: &[Option<End>]) -> bool
+    ensures { result ≡ list_any IsUnknown (map (option_map end_view) ends.now) }
+{
+    for end in ends {
+        if is_unknown(end) {
+            return true;
+        }
+    }
+    false
+}
+
+// Whether a name is one of these.
+fn is_among(names: &[Vec<u8>], name: &[u8]) -> bool {
+    names.iter().any(|one| one.as_slice() == name)
+}
+
+// The loader's names, each once, of the DLLs to which forwarders lead, and which were not loaded.
+fn unknown_names(alloc: Global, ends: &[Option<End>]) -> Result<Vec<Vec<u8>>, AllocError> {
+    let mut names: Vec<Vec<u8>> = Vec::new(alloc);
+    for end in ends {
+        if let Some(End::Unknown(dll)) = end {
+            let name = loader_name(alloc, dll)?;
+            if !is_among(&names, &name) {
+                names.push(name)?;
+            }
+        }
+    }
+    Ok(names)
+}
+
+// The same beside what was loaded.
+fn names_beside<'x>(
+    alloc: Global,
+    bytes: &'x [u8],
+    names: &'x [Vec<u8>],
+    loaded: &'x [Loaded],
+    members: &[MemberRead],
+) -> Result<Vec<Vec<u8>>, AllocError> {
+    let DllContent::Holds(exports) = content_of(alloc, bytes)? else {
+        return Ok(Vec::new(alloc));
+    };
+    let others = named_dlls(alloc, loaded)?;
+    let beside = Beside {
+        exports: &exports,
+        names,
+        others: &others,
+    };
+    let found = ends(alloc, &beside, members)?;
+    unknown_names(alloc, &found)
+}
+
+// Loads further DLLs, or gives an exit status.
+#[tactic(auto, using(crate::proofs::LoadedDlls::right_more))]
+fn load_all<S: Shelf, E: Write>(
+    alloc: Global,
+    shelf: &S,
+    faults: &mut E,
+    folders: &[Folder],
+    loaded: &mut Vec<Loaded>,
+    names: Vec<Vec<u8>>,
+) -> Result<(), u8>
+    ensures loaded { IfOk result (λ done. (file : List ℕ → List ℕ) → AreKnown (S.seen shelf.now) file
+        → All (IsRight file (map folder_view folders.now)) (map loaded_view loaded.old.items)
+        → All (IsRight file (map folder_view folders.now)) (map loaded_view loaded.new.items)) }
+    ensures failed { IfErr result (λ status. status ≡ 3) }
+{
+    for name in names {
+        let next = match load(alloc, shelf, faults, folders, name) {
+            Ok(next) => next,
+            Err(status) => return Err(status),
+        };
+        if loaded.push(next).is_err() {
+            return Err(complain(faults, NAME, "out of memory", 3));
+        }
+    }
+    Ok(())
+}
+
+/// The DLLs of some folders to which forwarders lead that members come to in the DLL of a file's bytes, or an exit status.
+pub(crate) fn dlls_behind<S: Shelf, E: Write>(
+    alloc: Global,
+    shelf: &S,
+    faults: &mut E,
+    folders: &[Folder],
+    bytes: &[u8],
+    names: &[Vec<u8>],
+    members: &[MemberRead],
+) -> Result<Vec<Loaded>, u8>
+    ensures loaded { IfOk result (λ loaded. (file : List ℕ → List ℕ) → AreKnown (S.seen shelf.now) file
+        → All (IsRight file (map folder_view folders.now)) (map loaded_view loaded.items)) }
+    ensures failed { IfErr result (λ status. status ≡ 3) }
+{
+    let mut loaded = Vec::new(alloc);
+    let mut left = MOST_ROUNDS;
+    while left > 0 {
+        left -= 1;
+        let wanted = match names_beside(alloc, bytes, names, &loaded, members) {
+            Ok(wanted) => wanted,
+            Err(_) => return Err(complain(faults, NAME, "out of memory", 3)),
+        };
+        if wanted.is_empty() {
+            break;
+        }
+        if let Err(status) = load_all(alloc, shelf, faults, folders, &mut loaded, wanted) {
+            return Err(status);
+        }
+    }
+    Ok(loaded)
+}
