@@ -6,8 +6,10 @@ ghost use Rattle.std.specs.Prelude.{◌≡◌, ℕ, IfErr, IfOk, List, None, OnO
 ghost use Rattle.std.specs.String.{string_bytes};
 ghost use Rattle.implib_check_driver.specs.Answers.{AnswersJoined, OrFailed};
 ghost use Rattle.implib_check_driver.specs.Starting.{AreKnown};
+ghost use Rattle.implib_check_driver.specs.Status.{no_library_status};
 ghost use Rattle.implib_check_driver.specs.Together.{claim_view, claims_of_all, is_clash, members_of_all, status_of_none};
 ghost use Rattle.implib_compare.specs.Comparison.{has_unread};
+ghost use Rattle.implib_read.specs.Classes.{library_in};
 ghost use Rattle.implib_read.specs.ClassViews.{member_read_view};
 
 use crate::console::{NAME, bytes_of, complain, doubt, library_of, status_of};
@@ -62,6 +64,24 @@ fn all_bytes<S: Shelf, E: Write>(
     Ok(files)
 }
 
+// The library that a file is, or an exit status.
+#[tactic(auto, unfolding(implib_read::specs::Classes::library_in))]
+fn library_at<'a, E: Write>(
+    alloc: Global,
+    faults: &mut E,
+    path: &str,
+    bytes: &'a [u8],
+) -> Result<Library<'a>, u8>
+    ensures read { IfOk result (λ library. library_in bytes.now ≡ Some (map member_read_view library.members.items)) }
+    ensures none { IfErr result (λ status. OrFailed status
+        ((library_in bytes.now ≡ None) × (status ≡ no_library_status bytes.now))) }
+{
+    match library_of(alloc, faults, path, bytes) {
+        Ok(library) => Ok(library),
+        Err(status) => Err(status),
+    }
+}
+
 // The libraries that files are, or an exit status.
 fn all_libraries<'a, E: Write>(
     alloc: Global,
@@ -82,7 +102,7 @@ fn all_libraries<'a, E: Write>(
             Some(path) => path.as_str(),
             None => NAME,
         };
-        let library = match library_of(alloc, faults, path, bytes) {
+        let library = match library_at(alloc, faults, path, bytes) {
             Ok(library) => library,
             Err(status) => return Err(status),
         };
