@@ -1,0 +1,4 @@
+pub mod Read
+pub mod Marks
+pub mod Derived
+pub mod WorkedMarks

@@ -1,0 +1,26 @@
+//! Laws of the marks of names.
+
+ghost use Rattle.implib_arm64ec.specs.Reading.{Derives, DerivesBefore, qualified_name, read};
+ghost use Rattle.implib_arm64ec.specs.WorkedMarks.{WorkedCraftedNames, WorkedMarks, WorkedNames, WorkedRefusals};
+ghost use Rattle.implib_arm64ec.specs.declared.reading.Reading.TheVariants.{Ends, Stops};
+ghost use Rattle.std.specs.Prelude.{length, ◌++◌, ◌≡◌, List, ℕ};
+
+/// What is read as a qualified name is what the grammar derives: where reading ends, the bytes before are
+/// derived; whatever is derived is read whole, so at the beginning of a text there is at most one; and
+/// where reading stops short, nothing at the beginning of the text is derived.
+pub fn readings_are_derived()
+    ensures derived { (text : List ℕ) (place : ℕ) → read qualified_name text ≡ Ends place →
+        DerivesBefore qualified_name text place }
+    ensures whole { (text rest : List ℕ) → Derives qualified_name text →
+        read qualified_name (text ++ rest) ≡ Ends (length text) }
+    ensures none { (text : List ℕ) (place : ℕ) → read qualified_name text ≡ Stops place →
+        (other : ℕ) → DerivesBefore qualified_name text other → ⊥ }
+{}
+
+/// Names have these marks, and lose them; names without a reading are refused at these bytes.
+pub fn worked_marks()
+    ensures marks { WorkedMarks }
+    ensures names { WorkedNames }
+    ensures crafted { WorkedCraftedNames }
+    ensures refusals { WorkedRefusals }
+{}
