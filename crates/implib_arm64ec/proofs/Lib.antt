@@ -2,3 +2,5 @@ pub mod Read
 pub mod Marks
 pub mod Derived
 pub mod WorkedMarks
+pub mod Machine
+pub mod WorkedImports

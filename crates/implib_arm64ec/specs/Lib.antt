@@ -4,3 +4,7 @@ pub mod Reading
 pub mod Marks
 pub mod Refusal
 pub mod WorkedMarks
+pub mod ShortImports
+pub mod Imported
+pub mod Reader
+pub mod WorkedImports

@@ -1,6 +1,7 @@
 //! Laws of the marks of names.
 
 ghost use Rattle.implib_arm64ec.specs.Reading.{Derives, DerivesBefore, qualified_name, read};
+ghost use Rattle.implib_arm64ec.specs.WorkedImports.{WorkedImports, WorkedReadings, WorkedSymbols};
 ghost use Rattle.implib_arm64ec.specs.WorkedMarks.{WorkedCraftedNames, WorkedMarks, WorkedNames, WorkedRefusals};
 ghost use Rattle.implib_arm64ec.specs.declared.reading.Reading.TheVariants.{Ends, Stops};
 ghost use Rattle.std.specs.Prelude.{length, ◌++◌, ◌≡◌, List, ℕ};
@@ -23,4 +24,11 @@ pub fn worked_marks()
     ensures names { WorkedNames }
     ensures crafted { WorkedCraftedNames }
     ensures refusals { WorkedRefusals }
+{}
+
+/// Short imports have these bytes and symbols, and are read as these imports.
+pub fn worked_imports()
+    ensures bytes { WorkedImports }
+    ensures symbols { WorkedSymbols }
+    ensures readings { WorkedReadings }
 {}

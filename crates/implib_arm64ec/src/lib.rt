@@ -5,11 +5,13 @@
 
 mod error;
 mod grammar;
+mod imports;
 pub mod laws;
 mod names;
 mod nonterminal;
 mod production;
 mod reading;
 
-pub use error::MarkError;
+pub use error::{ImportError, MarkError};
+pub use imports::short_import;
 pub use names::{mark, unmark};
