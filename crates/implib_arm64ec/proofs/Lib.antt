@@ -4,3 +4,4 @@ pub mod Derived
 pub mod WorkedMarks
 pub mod Machine
 pub mod WorkedImports
+pub mod ReadBack

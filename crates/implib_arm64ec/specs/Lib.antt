@@ -8,3 +8,4 @@ pub mod ShortImports
 pub mod Imported
 pub mod Reader
 pub mod WorkedImports
+pub mod ReadBack

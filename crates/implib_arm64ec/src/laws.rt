@@ -1,5 +1,7 @@
 //! Laws of the marks of names.
 
+ghost use Rattle.implib.specs.Definition.{ExportView};
+ghost use Rattle.implib_arm64ec.specs.ReadBack.{CanBeRead, ReadsBack};
 ghost use Rattle.implib_arm64ec.specs.Reading.{Derives, DerivesBefore, qualified_name, read};
 ghost use Rattle.implib_arm64ec.specs.WorkedImports.{WorkedImports, WorkedReadings, WorkedSymbols};
 ghost use Rattle.implib_arm64ec.specs.WorkedMarks.{WorkedCraftedNames, WorkedMarks, WorkedNames, WorkedRefusals};
@@ -31,4 +33,10 @@ pub fn worked_imports()
     ensures bytes { WorkedImports }
     ensures symbols { WorkedSymbols }
     ensures readings { WorkedReadings }
+{}
+
+/// The short import of an export is read, by its bytes, as the import that the export means.
+pub fn short_imports_read_back()
+    ensures { (dll : List ℕ) (e : ExportView) (symbol : List ℕ) → CanBeRead dll e symbol →
+        ReadsBack dll e symbol }
 {}
