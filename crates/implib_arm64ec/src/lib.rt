@@ -1,4 +1,4 @@
-//! Import libraries for ARM64EC, for Microsoft's linkers.
+//! The names and the short imports of import libraries for ARM64EC, for Microsoft's linkers.
 //!
 //! The name of a function for ARM64EC has a mark, which tells it from the same function's for x86-64.
 #![tactic(auto)]
