@@ -1,0 +1,11 @@
+pub mod Grammar
+pub mod Views
+pub mod Reading
+pub mod Marks
+pub mod Refusal
+pub mod WorkedMarks
+pub mod ShortImports
+pub mod Imported
+pub mod Reader
+pub mod WorkedImports
+pub mod ReadBack
