@@ -1,12 +1,13 @@
 -- Which exports of a DLL are forwarded to data (this project's choice; docs/DLLTOOL.md, "From a DLL"). A forwarder that is
 -- followed as what a function is imported by stops at data, and at nothing else that is there.
-use Rattle.std.specs.Prelude.{◌≡◌, ℕ, Bool, true, false, List, [], Option, None, Some, count_by, if◌then◌else◌, map}
+use Rattle.std.specs.Prelude.{◌≡◌, ℕ, zero, suc, ◌==◌, Bool, true, false, List, [], Option, None, Some, count_by, if◌then◌else◌, map}
 use Rattle.std.specs.List.{filter_map}
-use Rattle.std.specs.Option.{option_map}
+use Rattle.std.specs.Option.{option_and_then, option_map}
 use Rattle.implib.specs.Definition.{ExportView}
-use Rattle.implib_dll.specs.Exports.{Exports}
+use Rattle.implib_dll.specs.Exports.{Address, Empty, Exports, Forwarder, Target}
+use Rattle.implib_dll.specs.declared.section.AddressKind.TheVariants.{Code, Data, Outside}
 use Rattle.implib_dll_check.specs.DllName.{loader_name}
-use Rattle.implib_dll_check.specs.Forwarding.{Arrives, Beside, Content, End, Stops, Unknown, end_by, forwarder_at, known_by, most_forwarders}
+use Rattle.implib_dll_check.specs.Forwarding.{Arrives, Beside, Content, End, Holds, NoExports, NoFile, Refused, Stops, Unknown, end_by, forwarder_at, found_behind, known_by, most_forwarders, split_last}
 use Rattle.implib_dll_check.specs.Laws.{Extends}
 use Rattle.implib_dll_check.specs.declared.forwarder.Stop.{Stop}
 use Rattle.implib_dll_check.specs.declared.forwarder.Stop.TheVariants as stop
@@ -43,6 +44,44 @@ is_stray_end None = false
 is_stray_end (Some Arrives) = false
 is_stray_end (Some (Stops text why)) = if is_data_stop why then false else true
 is_stray_end (Some (Unknown name)) = false
+
+-- The same said apart: what a forwarder comes to in the DLL that it names, where that is known and for the same machine, and
+-- the target that it leads to in the end, where at most a number are followed.
+abbrev pub target_in : ℕ → List ℕ → Option Content → Option Target
+target_in machine asked None = None
+target_in machine asked (Some NoFile) = None
+target_in machine asked (Some Refused) = None
+target_in machine asked (Some NoExports) = None
+target_in machine asked (Some (Holds e)) = if machine == e.machine then found_behind e asked else None
+
+abbrev pub target_behind : (List ℕ → Option Content) → ℕ → List ℕ → Option Target
+target_behind known machine text =
+    option_and_then (λ parts. target_in machine parts.1 (known (loader_name parts.0))) (split_last text)
+
+abbrev pub unless_forwarded : (List ℕ → Option Target) → Option Target → Option Target
+unless_forwarded go None = None
+unless_forwarded go (Some Empty) = None
+unless_forwarded go (Some (Address address kind)) = Some (Address address kind)
+unless_forwarded go (Some (Forwarder next)) = go next
+
+unfoldable pub last_target : ℕ → (List ℕ → Option Content) → ℕ → List ℕ → Option Target
+last_target zero known machine text = None
+last_target (suc n) known machine text =
+    unless_forwarded (λ next. last_target n known machine next) (target_behind known machine text)
+
+-- whether a target is an address in a section of data
+abbrev pub is_data_target : Option Target → Bool
+is_data_target None = false
+is_data_target (Some Empty) = false
+is_data_target (Some (Address address Code)) = false
+is_data_target (Some (Address address Data)) = true
+is_data_target (Some (Address address Outside)) = false
+is_data_target (Some (Forwarder text)) = false
+
+-- A forwarder stops at data, as what a function is imported by, just where it leads to data.
+abbrev pub DataEndsAreData : Type 0
+DataEndsAreData = (n : ℕ) (known : List ℕ → Option Content) (machine : ℕ) (text : List ℕ)
+    → is_data_end (Some (end_by n known machine false text)) ≡ is_data_target (last_target n known machine text)
 
 -- an export, which is data where it is forwarded to data
 abbrev pub with_kind : Beside → ExportView → ExportView

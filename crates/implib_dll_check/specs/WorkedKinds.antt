@@ -1,11 +1,11 @@
 -- The kinds of exports worked by hand: of `f.dll`, which forwards to a function and to a variable of `deep.name.drv`, to the
--- variable through `g.dll`, to nothing, in a circle, and to itself; and which has a function and a variable of its own.
+-- variable through `g.dll`, to nothing, and to itself; and which has a function and a variable of its own.
 use Rattle.std.specs.Prelude.{◌≡◌, ℕ, Bool, true, false, List, [], ◌∷◌, None, Some, codes, count_by, map}
 use Rattle.implib_dll.specs.Exports.{Address, Exports, Forwarder}
 use Rattle.implib_dll.specs.WorkedFiles.{named, worked_exports}
 use Rattle.implib_dll.specs.declared.section.AddressKind.TheVariants.{Code, Data}
-use Rattle.implib_dll_check.specs.Forwarding.{Beside, Holds, Known, Stops, Unknown, known_in}
-use Rattle.implib_dll_check.specs.Kinds.{is_astray, is_data_end, is_stray_end, kinds_followed, unknown_dlls}
+use Rattle.implib_dll_check.specs.Forwarding.{Beside, Holds, Known, Stops, Unknown, end_by, known_by, known_in}
+use Rattle.implib_dll_check.specs.Kinds.{is_astray, is_data_end, is_data_target, is_stray_end, kinds_followed, last_target, unknown_dlls}
 use Rattle.implib_dll_check.specs.WorkedForwarding.{others}
 use Rattle.implib_dll_check.specs.declared.forwarder.Stop.TheVariants as stop
 use Rattle.implib_from_dll.specs.Definition.{exports_of}
@@ -88,7 +88,15 @@ pub record WorkedKinds : Type 0 where
   pub refused : is_data (codes "bad.f") ≡ false ∷ []
   pub hole : is_data (codes "deep.name.drv.#6") ≡ false ∷ []
   pub to_data : is_data (codes "deep.name.drv.#8") ≡ true ∷ []
-  -- what ends a circle, and nothing else that is no data, is no data
+  -- the last target, through two DLLs, and no further than one; none; and another kind of it
+  pub last : last_target 2 (known_by beside) 0x14C (codes "G.variable") ≡ Some (Address 0x2000 Data)
+  pub one_of_two : last_target 1 (known_by beside) 0x14C (codes "G.variable") ≡ None
+  pub no_last : last_target 9 (known_by beside) 0x14C (codes "gone.variable") ≡ None
+  pub is_data_last : is_data_target (Some (Address 0x2000 Data)) ≡ true
+  pub code_is_none : is_data_target (Some (Address 0x1000 Code)) ≡ false
+  -- a circle, and its end; and ends that are no data
+  pub in_circle : is_data_end (Some (end_by 50 (known_by beside) 0x14C false (codes "round.a"))) ≡ false
+  pub circle_last : last_target 50 (known_by beside) 0x14C (codes "round.a") ≡ None
   pub circle : is_data_end (Some (Stops (codes "round.b") stop.Endless)) ≡ false
   pub circle_astray : is_stray_end (Some (Stops (codes "round.b") stop.Endless)) ≡ true
   pub data_not_astray : is_stray_end (Some (Stops (codes "d.x") stop.DataAsFunction)) ≡ false

@@ -2,7 +2,7 @@
 //! laws.
 
 ghost use Rattle.implib_dll_check.specs.Folders.{RightDllsExtend};
-ghost use Rattle.implib_dll_check.specs.Kinds.{KnownDllsDecideKinds};
+ghost use Rattle.implib_dll_check.specs.Kinds.{DataEndsAreData, KnownDllsDecideKinds};
 ghost use Rattle.implib_dll_check.specs.Laws.{KnownDllsDecide, OwnAsksPass};
 ghost use Rattle.implib_dll_check.specs.Worked.{WorkedVerdicts};
 ghost use Rattle.implib_dll_check.specs.WorkedFolders.{WorkedFolders};
@@ -19,6 +19,12 @@ pub fn own_asks_pass()
 /// Where forwarders lead through some DLLs that are known, they lead whatever is known besides.
 pub fn known_dlls_decide()
     ensures { KnownDllsDecide }
+{}
+
+/// A forwarder that is followed as what a function is imported by stops at data just where its last
+/// target is data.
+pub fn data_ends_are_data()
+    ensures { DataEndsAreData }
 {}
 
 /// Of which kinds exports are through some DLLs that are known, they are whatever is known besides.
