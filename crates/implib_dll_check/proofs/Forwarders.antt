@@ -114,7 +114,7 @@ followed_all zero known machine is_data text whole none whole-is = whole-is
 followed_all (suc n) known machine is_data text whole none whole-is = absurd (omega (arith, none))
 
 -- what is known of all DLLs beside one, where more is known of others
-extends_beside : (b : Beside) (more : List ℕ → Option Content) → Extends b.others more → Extends (known_by b) (known_by (record b { others = more }))
+pub extends_beside : (b : Beside) (more : List ℕ → Option Content) → Extends b.others more → Extends (known_by b) (known_by (record b { others = more }))
 extends_beside b more extends name content = by (list_any (λ one. bytes_eq name one) b.names)
   where
     by : (own : Bool) → cond own (Some (Holds b.exports)) (b.others name) ≡ Some content → cond own (Some (Holds b.exports)) (more name) ≡ Some content

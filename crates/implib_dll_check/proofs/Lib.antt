@@ -1,3 +1,5 @@
+pub mod Folders
+pub mod Following
 pub mod Forwarders
 pub mod Marks
 pub mod Passing

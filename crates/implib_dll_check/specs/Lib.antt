@@ -10,3 +10,7 @@ pub mod WorkedImports
 pub mod WorkedPrograms
 pub mod Missing
 pub mod Programs
+pub mod Kinds
+pub mod WorkedKinds
+pub mod Folders
+pub mod WorkedFolders

@@ -1,7 +1,8 @@
 //! The names of DLLs, as a loader tells them apart.
 
-ghost use Rattle.implib_dll_check.specs.DllName.{has_ending, loader_name};
+ghost use Rattle.implib_dll_check.specs.DllName.{has_ending, loader_name, names_of};
 ghost use Rattle.std.specs.Char.{to_ascii_lowercase};
+ghost use Rattle.std.specs.Option.{option_map};
 ghost use Rattle.std.specs.Prelude.{◌≡◌, ◌++◌, IfOk, OnOk, map};
 
 use std::alloc::{AllocError, Global};
@@ -34,4 +35,26 @@ pub fn loader_name(alloc: Global, name: &[u8]) -> Result<Vec<u8>, AllocError>
         push_lowercase(&mut made, b".dll")?;
     }
     Ok(made)
+}
+
+/// The names by which loaders know a DLL ([`loader_name`]): the one that is given, or else those of
+/// its export directory and of its file, which are without a folder.
+pub fn names_of(
+    alloc: Global,
+    given: Option<&[u8]>,
+    file: &[u8],
+    own: &[u8],
+) -> Result<Vec<Vec<u8>>, AllocError>
+    ensures { IfOk result (λ names. map (λ name. name.items) names.items
+        ≡ names_of (option_map (λ name. name.now) given.entry) file.now own.now) }
+{
+    let mut names = Vec::new(alloc);
+    match given {
+        Some(name) => names.push(loader_name(alloc, name)?)?,
+        None => {
+            names.push(loader_name(alloc, own)?)?;
+            names.push(loader_name(alloc, file)?)?;
+        }
+    }
+    Ok(names)
 }

@@ -253,7 +253,7 @@ pub fn follow<'a>(
 }
 
 // The text of a target that is a forwarder.
-fn forwarder_at(target: Option<Target<'_>>) -> Option<&[u8]>
+pub(crate) fn forwarder_at(target: Option<Target<'_>>) -> Option<&[u8]>
     ensures { option_map (λ text. text.now) result
         ≡ forwarder_at (option_map target_view target.entry) }
 {

@@ -1,10 +1,14 @@
 //! Laws of verdicts, and what is worked by hand. The functions do nothing: their contracts are the
 //! laws.
 
+ghost use Rattle.implib_dll_check.specs.Folders.{RightDllsExtend};
+ghost use Rattle.implib_dll_check.specs.Kinds.{DataEndsAreData, KnownDllsDecideKinds};
 ghost use Rattle.implib_dll_check.specs.Laws.{KnownDllsDecide, OwnAsksPass};
 ghost use Rattle.implib_dll_check.specs.Worked.{WorkedVerdicts};
+ghost use Rattle.implib_dll_check.specs.WorkedFolders.{WorkedFolders};
 ghost use Rattle.implib_dll_check.specs.WorkedForwarding.{WorkedForwarding};
 ghost use Rattle.implib_dll_check.specs.WorkedImports.{WorkedImports};
+ghost use Rattle.implib_dll_check.specs.WorkedKinds.{WorkedKinds};
 ghost use Rattle.implib_dll_check.specs.WorkedPrograms.{WorkedPrograms};
 
 /// What is asked for by the imports that are made of a DLL is found there, and without a search.
@@ -15,6 +19,22 @@ pub fn own_asks_pass()
 /// Where forwarders lead through some DLLs that are known, they lead whatever is known besides.
 pub fn known_dlls_decide()
     ensures { KnownDllsDecide }
+{}
+
+/// A forwarder that is followed as what a function is imported by stops at data just where its last
+/// target is data.
+pub fn data_ends_are_data()
+    ensures { DataEndsAreData }
+{}
+
+/// Of which kinds exports are through some DLLs that are known, they are whatever is known besides.
+pub fn known_dlls_decide_kinds()
+    ensures { KnownDllsDecideKinds }
+{}
+
+/// What is right of some DLLs is part of what there is in the folders.
+pub fn right_dlls_extend()
+    ensures { RightDllsExtend }
 {}
 
 /// Imports and names of DLLs worked by hand have these verdicts.
@@ -36,4 +56,15 @@ pub fn worked_forwarding()
 /// What programs ask of DLLs, worked by hand.
 pub fn worked_programs()
     ensures { WorkedPrograms }
+{}
+
+/// Exports worked by hand are of these kinds: forwarded to data and to code, through two DLLs, and to
+/// nothing.
+pub fn worked_kinds()
+    ensures { WorkedKinds }
+{}
+
+/// DLLs worked by hand have these files in folders.
+pub fn worked_folders()
+    ensures { WorkedFolders }
 {}

@@ -12,16 +12,20 @@
 #![tactic(auto)]
 
 mod dll_name;
+mod folder;
 mod forwarder;
 mod import;
+mod kind;
 mod lacking;
 pub mod laws;
 mod program;
 mod verdict;
 
-pub use dll_name::loader_name;
+pub use dll_name::{loader_name, names_of};
+pub use folder::{Folder, Loaded, content_of, dll_path, named_dlls};
 pub use forwarder::{Beside, DllContent, End, MOST_FORWARDERS, NamedDll, Stop, ends, follow};
 pub use import::{Judgement, Loss, asks_in, judgements};
+pub use kind::{count_astray, mark_followed, unknown_dlls};
 pub use lacking::missing;
 pub use program::{finds_all, is_asked, judge_ask};
 pub use verdict::{Ask, Verdict, judge};

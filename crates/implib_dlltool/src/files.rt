@@ -205,6 +205,24 @@ fn settle<R: Files, F: OpenFile + Drop>(rt: &R, made: &Made, file: F) -> io::Res
     fs::rename(rt, made.name.as_str(), made.target.as_str())
 }
 
+// The names of what is in a folder, without those that are not UTF-8.
+fn names_in<R: Files + AllocGlobal + Clone + Drop>(
+    rt: &R,
+    alloc: Global,
+    folder: &str,
+) -> io::Result<Vec<String>> {
+    let mut names = Vec::new(alloc);
+    for entry in fs::read_dir(rt, folder)? {
+        match entry {
+            Ok(entry) => names.push(String::from_str(alloc, entry.file_name())?)?,
+            // A name that is not UTF-8.
+            Err(error) if error.kind() == ErrorKind::InvalidFilename => {}
+            Err(error) => return Err(error),
+        }
+    }
+    Ok(names)
+}
+
 /// The files of the system.
 ///
 /// A new file is made beside the one that its path leads to, and gets its mode.
@@ -242,6 +260,16 @@ impl<'a, R: Files + AllocGlobal + Clone + Drop> Disk for SystemDisk<'a, R> {
     fn read(&mut self, _alloc: Global, path: &str) -> io::Result<Vec<u8>> {
         match fs::read(self.rt, path) {
             Ok(bytes) => Ok(bytes),
+            Err(error) => {
+                self.state.has_failed = true;
+                Err(error)
+            }
+        }
+    }
+
+    fn names(&mut self, alloc: Global, folder: &str) -> io::Result<Vec<String>> {
+        match names_in(self.rt, alloc, folder) {
+            Ok(names) => Ok(names),
             Err(error) => {
                 self.state.has_failed = true;
                 Err(error)

@@ -3,4 +3,5 @@
 mod calls;
 mod decorations;
 mod delays;
+mod search;
 mod texts;

@@ -5,3 +5,4 @@ pub mod Saying
 pub mod Calls
 pub mod Finishing
 pub mod Delays
+pub mod Searching

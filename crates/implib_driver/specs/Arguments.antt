@@ -268,6 +268,14 @@ last_given setting (option ∷ options) = later (last_given setting options) (va
 abbrev pub all_given : Setting → List OccurrenceView → List (List ℕ)
 all_given setting options = filter_map (value_of setting) options
 
+-- whether an option is given a value
+abbrev pub has_values : List (List ℕ) → Bool
+has_values [] = false
+has_values (value ∷ values) = true
+
+abbrev pub is_given : Setting → List OccurrenceView → Bool
+is_given setting options = has_values (all_given setting options)
+
 -- whether an option without a value stands somewhere
 abbrev pub is_switched : Switch → List OccurrenceView → Bool
 is_switched switch options = list_any (is_switch switch) options

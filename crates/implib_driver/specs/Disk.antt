@@ -5,6 +5,8 @@ use Rattle.std.specs.Prelude.{◌≡◌, ℕ, Bool, true, List, Option, None, So
 pub record DiskView : Type 0 where
   -- the bytes of the file that a path leads to, where they are known
   pub seen : List ℕ → Option (List ℕ)
+  -- the names of what is in the folder that a path leads to, where they are known
+  pub listed : List ℕ → Option (List (List ℕ))
   -- the path whose file a new one is to replace, while the new one is there
   pub left : Option (List ℕ)
   -- whether a call has failed, other than a removal

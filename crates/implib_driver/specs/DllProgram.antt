@@ -1,5 +1,5 @@
 -- What is done with the bytes of a DLL (this project's own).
-use Rattle.std.specs.Prelude.{◌≡◌, ◌⊎◌, ℕ, Bool, true, false, List, [], ◌∷◌, Option, None, Some, IfSome, ◌&&◌, nat_lt}
+use Rattle.std.specs.Prelude.{◌≡◌, ◌⊎◌, ℕ, Bool, true, false, List, [], ◌∷◌, Option, None, Some, IfSome, ◌&&◌, count_by, nat_lt}
 use Rattle.implib.specs.declared.machine.MachineType.{MachineType}
 use Rattle.implib.specs.Definition.{ExportView}
 use Rattle.implib.specs.Members.MemberSpec.{MemberView}
@@ -7,16 +7,19 @@ use Rattle.implib_dll.specs.Exports.{Exports}
 use Rattle.implib_driver.specs.declared.dll.DllCallError.{DllCallError}
 use Rattle.implib_driver.specs.declared.dll.DllCallError.TheVariants.{Call, Dll}
 use Rattle.implib_driver.specs.declared.dll.DllRefusal.{DllRefusal}
+use Rattle.implib_driver.specs.declared.dll.DllRefusal.TheVariants.{OutOfMemory}
+use Rattle.implib_driver.specs.Arguments.{has_values}
 use Rattle.implib_driver.specs.Disk.{DiskView, failing}
 use Rattle.implib_driver.specs.Dll.{IsRefusalOfReading, IsRefusalOfRequest, IsRequested, IsUnlisted, IsUnmade, MembersOfDll, ReadsDll, SuitsDll, dll_status}
 use Rattle.implib_driver.specs.Placing.{Answer, AnswersMembers}
-use Rattle.implib_driver.specs.Reports.{ComplaintView, Complains, Line, OfCall, OfDll, OfMissing, OfNoLibrary, OfStub, OfSystem, Refuses, Says}
+use Rattle.implib_driver.specs.Reports.{ComplaintView, Complains, Line, OfAstray, OfCall, OfDll, OfMissing, OfNoLibrary, OfStub, OfSystem, Refuses, Says}
 use Rattle.implib_driver.specs.Request.{Asked, RequestView, call_fault_view}
+use Rattle.implib_driver.specs.Search.{IsSearched}
 use Rattle.implib_driver.specs.Stubs.{has_failing_stub}
 use Rattle.implib_driver.specs.Verdicts.{answer_status, verdict}
 use Rattle.implib_dll_library.specs.declared.decorations.NotDecorations.{NotDecorations}
 use Rattle.implib_dll_library.specs.declared.decorations.NotDecorations.TheVariants.{NoLibrary, Text}
-use Rattle.implib_dll_library.specs.Decorated.{decorated_exports, missing}
+use Rattle.implib_dll_library.specs.Decorated.{is_missing, with_symbols}
 use Rattle.implib_dll_library.specs.Decorations.{AreDecorations, DecorationView, HasNoDecorations}
 use Rattle.implib_from_dll.specs.Definition.{exports_of}
 use Rattle.implib_rules.specs.Library.{status_of}
@@ -86,24 +89,26 @@ abbrev pub undecorated_status : NotDecorations → ℕ
 undecorated_status NoLibrary = 1
 undecorated_status (Text refusal) = status_of refusal
 
--- whether it is said that a file lacks this many functions
-abbrev pub tells_missing : RequestView → ℕ → Bool
-tells_missing request count = request.is_verbose && nat_lt 0 count
+-- whether a number is said, as of functions that a file lacks, or of forwarders that lead to nothing
+abbrev pub tells : RequestView → ℕ → Bool
+tells request count = request.is_verbose && nat_lt 0 count
 
 -- that was said, or not
-abbrev pub SaysMissing : Bool → List ℕ → ℕ → Option (List Line) → Option (List Line) → Type 0
-SaysMissing false path count before after = after ≡ before
-SaysMissing true path count before after = Says before after (Complains path (OfMissing count) ∷ [])
+abbrev pub SaysIf : Bool → List ℕ → ComplaintView → Option (List Line) → Option (List Line) → Type 0
+SaysIf false path complaint before after = after ≡ before
+SaysIf true path complaint before after = Says before after (Complains path complaint ∷ [])
 
 -- The file has these symbols. How many functions it lacks was said, if warnings are asked for; then this was done with the
 -- exports that have them.
-pub record HasSymbols (known : Bool) (e : Exports) (bytes path : List ℕ) (request : RequestView) (disk put : DiskView) (before after : Option (List Line)) (status : ℕ)
+pub record HasSymbols (known : Bool) (e : Exports) (exports : List ExportView) (bytes path : List ℕ) (request : RequestView) (disk put : DiskView) (before after : Option (List Line)) (status : ℕ)
     : Type 0 where
   pub decorations : List DecorationView
   pub are : AreDecorations bytes decorations
   pub warned : Option (List Line)
-  pub warns : SaysMissing (tells_missing request (missing decorations e)) path (missing decorations e) before warned
-  pub finishes : FinishesList known e (decorated_exports request.library.naming decorations e) request disk put warned after status
+  pub missing : ℕ
+  pub counted : missing ≡ count_by (is_missing decorations) exports
+  pub warns : SaysIf (tells request missing) path (OfMissing missing) before warned
+  pub finishes : FinishesList known e (with_symbols request.library.naming decorations e.names exports) request disk put warned after status
 
 -- the file has none, which was said, and nothing was put
 pub record LacksSymbols (bytes path : List ℕ) (disk put : DiskView) (before after : Option (List Line)) (status : ℕ) : Type 0 where
@@ -113,28 +118,51 @@ pub record LacksSymbols (bytes path : List ℕ) (disk put : DiskView) (before af
   pub says : Says before after (undecorated_lines path why)
   pub is_status : status ≡ undecorated_status why
 
--- what is done for a DLL with the bytes of a file of symbols
-abbrev pub FinishesBytes : Bool → Exports → List ℕ → List ℕ → RequestView → DiskView → DiskView → Option (List Line) → Option (List Line) → ℕ → Type 0
-FinishesBytes known e bytes path request disk put before after status =
-    HasSymbols known e bytes path request disk put before after status ⊎ LacksSymbols bytes path disk put before after status
+-- what is done for exports of a DLL with the bytes of a file of symbols
+abbrev pub FinishesBytes : Bool → Exports → List ExportView → List ℕ → List ℕ → RequestView → DiskView → DiskView → Option (List Line) → Option (List Line) → ℕ → Type 0
+FinishesBytes known e exports bytes path request disk put before after status =
+    HasSymbols known e exports bytes path request disk put before after status ⊎ LacksSymbols bytes path disk put before after status
 
 -- the file of symbols was read, and this was done with its bytes
-pub record HasFile (known : Bool) (e : Exports) (path : List ℕ) (request : RequestView) (disk put : DiskView) (before after : Option (List Line)) (status : ℕ)
+pub record HasFile (known : Bool) (e : Exports) (exports : List ExportView) (path : List ℕ) (request : RequestView) (disk put : DiskView) (before after : Option (List Line)) (status : ℕ)
     : Type 0 where
   pub bytes : List ℕ
   pub read : IfSome (disk.seen path) (λ file. bytes ≡ file)
-  pub finishes : FinishesBytes known e bytes path request disk put before after status
+  pub finishes : FinishesBytes known e exports bytes path request disk put before after status
 
--- what is done for a DLL, with the symbols of a file where one is given
-abbrev pub FinishesListed : Bool → Exports → Option (List ℕ) → RequestView → DiskView → DiskView → Option (List Line) → Option (List Line) → ℕ → Type 0
-FinishesListed known e None request disk put before after status = FinishesList known e (exports_of e) request disk put before after status
-FinishesListed known e (Some path) request disk put before after status =
-    HasFile known e path request disk put before after status ⊎ HasUnreadFile path disk put before after status
+-- what is done for exports of a DLL, with the symbols of a file where one is given
+abbrev pub FinishesListed : Bool → Exports → List ExportView → Option (List ℕ) → RequestView → DiskView → DiskView → Option (List Line) → Option (List Line) → ℕ → Type 0
+FinishesListed known e exports None request disk put before after status = FinishesList known e exports request disk put before after status
+FinishesListed known e exports (Some path) request disk put before after status =
+    HasFile known e exports path request disk put before after status ⊎ HasUnreadFile path disk put before after status
+
+-- The exports of a DLL are of the kinds that they have through those of the folders, and this number of them are forwarded to
+-- nothing there. Then that was said, if warnings are asked for, and this was done with them.
+pub record HasSearched (known : Bool) (e : Exports) (request : RequestView) (disk put : DiskView) (before after : Option (List Line)) (status : ℕ) : Type 0 where
+  pub exports : List ExportView
+  pub astray : ℕ
+  pub searched : IsSearched disk e request (exports_of e) exports astray
+  pub warned : Option (List Line)
+  pub warns : SaysIf (tells request astray) request.definition (OfAstray astray) before warned
+  pub finishes : FinishesListed known e exports request.decorations request disk put warned after status
+
+-- a folder, or the file of a DLL in one, could not be read
+pub record HasUnreadFolder (disk put : DiskView) (before after : Option (List Line)) (status : ℕ) : Type 0 where
+  pub path : List ℕ
+  pub unread : HasUnreadFile path disk put before after status
+
+-- what is done for a DLL, where the DLLs of folders are searched, and where none is
+abbrev pub FinishesKinds : Bool → Bool → Exports → RequestView → DiskView → DiskView → Option (List Line) → Option (List Line) → ℕ → Type 0
+FinishesKinds false known e request disk put before after status =
+    FinishesListed known e (exports_of e) request.decorations request disk put before after status
+FinishesKinds true known e request disk put before after status =
+    HasSearched known e request disk put before after status ⊎ HasUnreadFolder disk put before after status
+    ⊎ IsRefused request.definition (λ refusal. refusal ≡ OutOfMemory) disk put before after status
 
 -- what is asked for suits a DLL, and this was done for it
 pub record IsSuited (known : Bool) (e : Exports) (request : RequestView) (disk put : DiskView) (before after : Option (List Line)) (status : ℕ) : Type 0 where
   pub suits : SuitsDll request
-  pub finishes : FinishesListed known e request.decorations request disk put before after status
+  pub finishes : FinishesKinds (has_values request.search) known e request disk put before after status
 
 -- what is done for a DLL of these exports and a request that fits its machine
 abbrev pub FinishesExports : Bool → Exports → RequestView → DiskView → DiskView → Option (List Line) → Option (List Line) → ℕ → Type 0

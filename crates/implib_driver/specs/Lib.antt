@@ -11,6 +11,7 @@ pub mod Reports
 pub mod Stubs
 pub mod Placing
 pub mod Verdicts
+pub mod Search
 pub mod DllProgram
 pub mod Program
 pub mod Worked

@@ -1,11 +1,12 @@
 -- The names of options and machines on the command line (this project's choice, after GNU dlltool's).
-use Rattle.std.specs.Prelude.{ℕ, Bool, true, false, ◌==◌, List, codes, if◌then◌else◌, ◌||◌}
+use Rattle.std.specs.Prelude.{ℕ, Bool, true, false, ◌==◌, List, None, Option, Some, codes, if◌then◌else◌, ◌||◌}
+use Rattle.std.specs.Option.{option_map_or}
 use Rattle.std.specs.Str.{byte, bytes_eq}
 use Rattle.implib_driver.specs.declared.options.Meaning.{Meaning}
 use Rattle.implib_driver.specs.declared.options.Meaning.TheVariants.{Takes, Switches, Unsupported, Unknown}
 use Rattle.implib_driver.specs.declared.options.Setting.{Setting}
 use Rattle.implib_driver.specs.declared.options.Switch.{Switch}
-use Rattle.implib_driver.specs.declared.options.Setting.TheVariants.{Definition, Output, DelayedOutput, Machine, Dll, Flavor, Assembler, AssemblerFlags, TemporaryPrefix, FurtherPrefix, Identify, Input, Decorations}
+use Rattle.implib_driver.specs.declared.options.Setting.TheVariants.{Definition, Output, DelayedOutput, Machine, Dll, Flavor, Assembler, AssemblerFlags, TemporaryPrefix, FurtherPrefix, Identify, Input, Decorations, Search}
 use Rattle.implib_driver.specs.declared.options.Switch.TheVariants.{KillAt, NoLeadingUnderscore, LeadingUnderscore, ExportAs, AddUnderscore, AddStdcallUnderscore, AddStdcallAlias, DeterministicLibraries, NonDeterministicLibraries, NoDelete, ListedAlone, IdentifyStrict, KeepsDecorated, CompatImplib, Verbose, Help, Version}
 
 -- the long names, without `--`, of GNU dlltool's options that have no meaning here
@@ -23,24 +24,10 @@ is_unsupported name =
     else if bytes_eq name (codes "use-nul-prefixed-import-tables") then true
     else false
 
--- what a long name, without its `--`, stands for
-abbrev pub option_named : List ℕ → Meaning
-option_named name =
-    if bytes_eq name (codes "input-def") then Takes Definition
-    else if bytes_eq name (codes "def") then Takes Definition
-    else if bytes_eq name (codes "dll") then Takes Definition
-    else if bytes_eq name (codes "output-lib") then Takes Output
-    else if bytes_eq name (codes "output-delaylib") then Takes DelayedOutput
-    else if bytes_eq name (codes "machine") then Takes Machine
-    else if bytes_eq name (codes "dllname") then Takes Dll
-    else if bytes_eq name (codes "flavor") || bytes_eq name (codes "flavour") then Takes Flavor
-    else if bytes_eq name (codes "as") then Takes Assembler
-    else if bytes_eq name (codes "as-flags") then Takes AssemblerFlags
-    else if bytes_eq name (codes "temp-prefix") then Takes TemporaryPrefix
-    else if bytes_eq name (codes "ext-prefix-alias") then Takes FurtherPrefix
-    else if bytes_eq name (codes "identify") then Takes Identify
-    else if bytes_eq name (codes "decorations") then Takes Decorations
-    else if bytes_eq name (codes "kill-at") then Switches KillAt
+-- what a long name stands for that takes no value in other tools
+abbrev pub further_named : List ℕ → Meaning
+further_named name =
+    if bytes_eq name (codes "kill-at") then Switches KillAt
     else if bytes_eq name (codes "no-leading-underscore") then Switches NoLeadingUnderscore
     else if bytes_eq name (codes "leading-underscore") then Switches LeadingUnderscore
     else if bytes_eq name (codes "export-as") then Switches ExportAs
@@ -56,8 +43,32 @@ option_named name =
     else if bytes_eq name (codes "verbose") then Switches Verbose
     else if bytes_eq name (codes "help") then Switches Help
     else if bytes_eq name (codes "version") then Switches Version
+    else if bytes_eq name (codes "decorations") then Takes Decorations
+    else if bytes_eq name (codes "search") then Takes Search
     else if is_unsupported name then Unsupported
     else Unknown
+
+-- what option with a value a long name is, in other tools too
+abbrev pub setting_named : List ℕ → Option Setting
+setting_named name =
+    if bytes_eq name (codes "input-def") then Some Definition
+    else if bytes_eq name (codes "def") then Some Definition
+    else if bytes_eq name (codes "dll") then Some Definition
+    else if bytes_eq name (codes "output-lib") then Some Output
+    else if bytes_eq name (codes "output-delaylib") then Some DelayedOutput
+    else if bytes_eq name (codes "machine") then Some Machine
+    else if bytes_eq name (codes "dllname") then Some Dll
+    else if bytes_eq name (codes "flavor") || bytes_eq name (codes "flavour") then Some Flavor
+    else if bytes_eq name (codes "as") then Some Assembler
+    else if bytes_eq name (codes "as-flags") then Some AssemblerFlags
+    else if bytes_eq name (codes "temp-prefix") then Some TemporaryPrefix
+    else if bytes_eq name (codes "ext-prefix-alias") then Some FurtherPrefix
+    else if bytes_eq name (codes "identify") then Some Identify
+    else None
+
+-- what a long name, without its `--`, stands for
+abbrev pub option_named : List ℕ → Meaning
+option_named name = option_map_or Takes (setting_named name) (further_named name)
 
 -- what a letter stands for
 abbrev pub option_lettered : ℕ → Meaning
@@ -104,6 +115,7 @@ setting_number Identify = 9
 setting_number Input = 10
 setting_number DelayedOutput = 11
 setting_number Decorations = 12
+setting_number Search = 13
 
 -- the number of an option without a value
 abbrev pub switch_number : Switch → ℕ

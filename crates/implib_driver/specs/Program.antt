@@ -1,5 +1,5 @@
 -- What a run of the program does (this project's own).
-use Rattle.std.specs.Prelude.{◌≡◌, ◌≢◌, ◌⊎◌, ℕ, Bool, true, false, List, [], ◌∷◌, ◌++◌, Option, None, Some, Result, Ok, Err, IfSome, codes, drop, length, map, nat_eq, nat_lt, ◌||◌, if◌then◌else◌}
+use Rattle.std.specs.Prelude.{◌≡◌, ◌≢◌, ◌⊎◌, ℕ, Bool, true, false, List, [], ◌∷◌, ◌++◌, Option, None, Some, Result, Ok, Err, IfSome, codes, drop, is_some, length, map, nat_eq, nat_lt, ◌||◌, if◌then◌else◌}
 use Rattle.std.specs.List.{starts_with}
 use Rattle.std.specs.Io.KnownBytes.{Appends}
 use Rattle.std.specs.Str.{IsUtf8, bytes_eq}
@@ -14,7 +14,7 @@ use Rattle.implib.specs.Fault.{Cause}
 use Rattle.implib.specs.Import.{is_empty_text}
 use Rattle.implib.specs.Members.MemberSpec.{MemberView}
 use Rattle.implib.specs.Text.Parses.{Parses, RefusesAt}
-use Rattle.implib_driver.specs.Arguments.{OccurrenceView, WordFaultView}
+use Rattle.implib_driver.specs.Arguments.{OccurrenceView, WordFaultView, has_values}
 use Rattle.implib_driver.specs.Disk.{DiskView}
 use Rattle.implib_driver.specs.declared.identity.NotIdentified.{NotIdentified}
 use Rattle.implib_driver.specs.Identity.{identified}
@@ -27,7 +27,7 @@ use Rattle.implib_driver.specs.LibWords.{words_read}
 pub use Rattle.implib_driver.specs.Verdicts.{answer_status, output_or_none, verdict}
 use Rattle.implib_driver.specs.Dll.{begins_dll}
 use Rattle.implib_driver.specs.DllProgram.{FinishesDll}
-use Rattle.implib_driver.specs.Request.{Asked, AsksHelp, AsksIdentity, AsksVersion, Asks, DecoratesDefinition, RequestView, TaskView, caller_of, request_for, task_of}
+use Rattle.implib_driver.specs.Request.{Asked, AsksHelp, AsksIdentity, AsksVersion, Asks, CallFaultView, DecoratesDefinition, RequestView, SearchesForDefinition, TaskView, caller_of, request_for, task_of}
 use Rattle.implib_driver.specs.Stubs.{has_failing_stub}
 use Rattle.implib_driver.specs.Verbose.{warnings_for}
 use Rattle.implib_rules.specs.declared.library.Refusal.{Refusal}
@@ -270,16 +270,23 @@ FinishesText known bytes None request disk put before after status = Finishes kn
 FinishesText known bytes (Some path) request disk put before after status =
     FinishesDelaying known bytes path request disk put before after status
 
--- that a definition gets no symbols of a file was said, and nothing was put
-pub record IsMisused (request : RequestView) (disk put : DiskView) (before after : Option (List Line)) (status : ℕ) : Type 0 where
+-- what is wrong with a request for a definition: that has its symbols, and says which exports are data
+abbrev pub misuse : RequestView → Option CallFaultView
+misuse request =
+    if is_some request.decorations then Some DecoratesDefinition
+    else if has_values request.search then Some SearchesForDefinition
+    else None
+
+-- that was said, and nothing was put
+pub record IsMisused (fault : CallFaultView) (request : RequestView) (disk put : DiskView) (before after : Option (List Line)) (status : ℕ) : Type 0 where
   pub same_disk : put ≡ disk
-  pub says : Says before after (Complains request.definition (OfCall DecoratesDefinition) ∷ [])
+  pub says : Says before after (Complains request.definition (OfCall fault) ∷ [])
   pub is_status : status ≡ 2
 
--- what is done with the bytes of a definition, unless a file of symbols is given
-abbrev pub FinishesUnless : Option (List ℕ) → Bool → List ℕ → RequestView → DiskView → DiskView → Option (List Line) → Option (List Line) → ℕ → Type 0
+-- what is done with the bytes of a definition, unless a request for one is wrong
+abbrev pub FinishesUnless : Option CallFaultView → Bool → List ℕ → RequestView → DiskView → DiskView → Option (List Line) → Option (List Line) → ℕ → Type 0
 FinishesUnless None known bytes request disk put before after status = FinishesText known bytes request.delayed request disk put before after status
-FinishesUnless (Some file) known bytes request disk put before after status = IsMisused request disk put before after status
+FinishesUnless (Some fault) known bytes request disk put before after status = IsMisused fault request disk put before after status
 
 -- the request that options make for a machine, as the one that a DLL is for
 abbrev pub ForMachine : Type 0
@@ -289,7 +296,7 @@ ForMachine = MachineType → Asked RequestView
 abbrev pub FinishesRead : Bool → ForMachine → Bool → List ℕ → RequestView → DiskView → DiskView → Option (List Line) → Option (List Line) → ℕ → Type 0
 FinishesRead known machines true bytes request disk put before after status = FinishesDll known machines bytes request.definition disk put before after status
 FinishesRead known machines false bytes request disk put before after status =
-    FinishesUnless request.decorations known bytes request disk put before after status
+    FinishesUnless (misuse request) known bytes request disk put before after status
 
 -- the definition or the DLL was read, and this was done with its bytes
 pub record IsRead (known : Bool) (machines : ForMachine) (request : RequestView) (before after : Devices) (status : ℕ) : Type 0 where

@@ -38,6 +38,8 @@ pub data ComplaintView : Type 0 where
   OfNoLibrary : ComplaintView
   -- functions of a DLL that a file of symbols lacks
   OfMissing : ℕ → ComplaintView
+  -- forwarders of a DLL that lead to nothing in some folders
+  OfAstray : ℕ → ComplaintView
 
 -- the view of a complaint of the program
 abbrev pub complaint_view : Complaint → ComplaintView
@@ -54,6 +56,7 @@ complaint_view (complaint.Undelayed why) = OfUndelayed why
 complaint_view (complaint.Dll refusal) = OfDll refusal
 complaint_view complaint.NoLibrary = OfNoLibrary
 complaint_view (complaint.Missing count) = OfMissing count
+complaint_view (complaint.Astray count) = OfAstray count
 
 -- what is said at once
 pub data Line : Type 0 where

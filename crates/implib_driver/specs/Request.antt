@@ -8,7 +8,7 @@ use Rattle.implib.specs.declared.flavor.Flavor.{Flavor}
 use Rattle.implib.specs.declared.flavor.Flavor.TheVariants.{Msvc, Gnu}
 use Rattle.implib.specs.declared.machine.MachineType.{MachineType}
 use Rattle.implib.specs.declared.machine.MachineType.TheVariants.{I386, ARMNT, AMD64, ARM64}
-use Rattle.implib_driver.specs.declared.options.Setting.TheVariants.{DelayedOutput, Definition, Input, Output, Machine, Dll, Flavor as FlavorSetting, Assembler, AssemblerFlags, TemporaryPrefix, FurtherPrefix, Identify, Decorations}
+use Rattle.implib_driver.specs.declared.options.Setting.TheVariants.{DelayedOutput, Definition, Input, Output, Machine, Dll, Flavor as FlavorSetting, Assembler, AssemblerFlags, TemporaryPrefix, FurtherPrefix, Identify, Decorations, Search}
 use Rattle.implib_driver.specs.declared.options.Switch.TheVariants.{Help, IdentifyStrict, KeepsDecorated, KillAt, LeadingUnderscore, NoLeadingUnderscore, Verbose, Version, ExportAs, AddUnderscore, AddStdcallUnderscore, CompatImplib}
 use Rattle.implib_driver.specs.declared.request.CallError.{CallError}
 use Rattle.implib_driver.specs.declared.request.CallError.TheVariants as error
@@ -21,7 +21,7 @@ use Rattle.implib_driver.specs.declared.request.CallFault.TheVariants as fault
 use Rattle.implib_driver.specs.declared.request.Request.{Request}
 use Rattle.implib_driver.specs.declared.request.Task.{Task}
 use Rattle.implib_driver.specs.declared.request.Task.TheVariants as task
-use Rattle.implib_driver.specs.Arguments.{OccurrenceView, all_given, is_last, is_switched, last_given}
+use Rattle.implib_driver.specs.Arguments.{OccurrenceView, all_given, is_last, is_switched, last_given, occurrence_view}
 use Rattle.implib.specs.Conversions.{flavor_named}
 use Rattle.implib.specs.Machine.{has_leading_underscore}
 use Rattle.implib_rules.specs.Additions.{AdditionsView}
@@ -42,6 +42,8 @@ pub record RequestView : Type 0 where
   pub library : LibraryOptionsView
   -- the file that has the symbols of a DLL's names
   pub decorations : Option (List ℕ)
+  -- the folders of further DLLs
+  pub search : List (List ℕ)
   -- whether addresses have their older symbols too
   pub older_symbols : Bool
   -- whether warnings are written
@@ -55,6 +57,7 @@ request_view r = record {
   delayed = option_map (λ text. text.now) r.delayed;
   library = library_options_view r.library;
   decorations = option_map (λ text. text.now) r.decorations;
+  search = all_given Search (map occurrence_view r.options.now);
   older_symbols = r.older_symbols;
   is_verbose = r.is_verbose;
 }
@@ -92,6 +95,7 @@ pub data CallFaultView : Type 0 where
   HasNoDelay : CallFaultView
   DelaysForMicrosoft : CallFaultView
   DecoratesDefinition : CallFaultView
+  SearchesForDefinition : CallFaultView
 
 -- the view of a fault of the program
 abbrev pub call_fault_view : CallFault → CallFaultView
@@ -111,6 +115,7 @@ call_fault_view fault.OneOutput = HasOneOutput
 call_fault_view fault.NoDelay = HasNoDelay
 call_fault_view fault.DelayForMicrosoft = DelaysForMicrosoft
 call_fault_view fault.DecoratedDefinition = DecoratesDefinition
+call_fault_view fault.SearchedDefinition = SearchesForDefinition
 
 -- a value that is asked for, or what is wrong
 abbrev pub Asked : Type 0 → Type 0
@@ -384,6 +389,7 @@ request_of caller options given =
       delayed = delayed;
       library = record { machine = machine; flavor = flavor; dll = dll; naming = naming; additions = additions_in options };
       decorations = last_given Decorations options;
+      search = all_given Search options;
       older_symbols = older_symbols;
       is_verbose = is_switched Verbose options;
     }))))))))))

@@ -42,6 +42,7 @@ pub record CallsAnswered : Type 0 where
     delayed = None;
     library = record { machine = I386; flavor = Gnu; dll = Some (codes "zoo.dll"); naming = plain; additions = no_additions };
     decorations = None;
+    search = [];
     older_symbols = false;
     is_verbose = false;
   }))
@@ -51,6 +52,7 @@ pub record CallsAnswered : Type 0 where
     delayed = None;
     library = record { machine = AMD64; flavor = Gnu; dll = None; naming = killing; additions = no_additions };
     decorations = None;
+    search = [];
     older_symbols = false;
     is_verbose = false;
   }))
@@ -60,6 +62,7 @@ pub record CallsAnswered : Type 0 where
     delayed = None;
     library = record { machine = AMD64; flavor = Msvc; dll = None; naming = usual; additions = no_additions };
     decorations = None;
+    search = [];
     older_symbols = false;
     is_verbose = false;
   }))
@@ -69,6 +72,7 @@ pub record CallsAnswered : Type 0 where
     delayed = None;
     library = record { machine = ARM64; flavor = Msvc; dll = None; naming = usual; additions = no_additions };
     decorations = None;
+    search = [];
     older_symbols = false;
     is_verbose = false;
   }))
@@ -78,6 +82,7 @@ pub record CallsAnswered : Type 0 where
     delayed = None;
     library = record { machine = AMD64; flavor = Gnu; dll = None; naming = usual; additions = no_additions };
     decorations = None;
+    search = [];
     older_symbols = false;
     is_verbose = true;
   }))
@@ -87,6 +92,7 @@ pub record CallsAnswered : Type 0 where
     delayed = None;
     library = record { machine = AMD64; flavor = Gnu; dll = None; naming = usual; additions = no_additions };
     decorations = None;
+    search = [];
     older_symbols = true;
     is_verbose = false;
   }))
@@ -105,6 +111,7 @@ asked_for output = record {
   delayed = None;
   library = record { machine = AMD64; flavor = Gnu; dll = None; naming = usual; additions = no_additions };
   decorations = None;
+  search = [];
   older_symbols = false;
   is_verbose = false;
 }

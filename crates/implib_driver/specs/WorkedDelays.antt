@@ -85,6 +85,7 @@ pub record DelaysAsked : Type 0 where
       additions = no_additions;
     };
     decorations = None;
+    search = [];
     older_symbols = false;
     is_verbose = false;
   }))
@@ -101,6 +102,7 @@ pub record DelaysAsked : Type 0 where
       additions = no_additions;
     };
     decorations = None;
+    search = [];
     older_symbols = false;
     is_verbose = false;
   }))
@@ -121,6 +123,7 @@ pub record DelaysAsked : Type 0 where
           additions = no_additions;
         };
         decorations = None;
+        search = [];
         older_symbols = false;
         is_verbose = false;
       }))

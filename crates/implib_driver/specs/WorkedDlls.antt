@@ -25,6 +25,7 @@ pub record DllsAsked : Type 0 where
     delayed = None;
     library = record { machine = AMD64; flavor = Msvc; dll = None; naming = usual; additions = no_additions };
     decorations = None;
+    search = [];
     older_symbols = false;
     is_verbose = false;
   }))
@@ -38,6 +39,7 @@ pub record DllsAsked : Type 0 where
     delayed = None;
     library = record { machine = ARM64; flavor = Msvc; dll = None; naming = usual; additions = no_additions };
     decorations = None;
+    search = [];
     older_symbols = false;
     is_verbose = false;
   })
@@ -48,6 +50,7 @@ pub record DllsAsked : Type 0 where
     delayed = None;
     library = record { machine = I386; flavor = Gnu; dll = None; naming = usual; additions = no_additions };
     decorations = Some (codes "b.a");
+    search = [];
     older_symbols = false;
     is_verbose = false;
   })
@@ -61,6 +64,7 @@ pub record DllsAsked : Type 0 where
     delayed = None;
     library = record { machine = I386; flavor = Gnu; dll = None; naming = usual; additions = no_additions };
     decorations = None;
+    search = [];
     older_symbols = false;
     is_verbose = false;
   })

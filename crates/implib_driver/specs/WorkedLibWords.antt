@@ -126,6 +126,7 @@ pub record LibWordsRead : Type 0 where
     delayed = None;
     library = record { machine = I386; flavor = Msvc; dll = Some (codes "zoo.dll"); naming = decorated; additions = no_additions };
     decorations = None;
+    search = [];
     older_symbols = false;
     is_verbose = false;
   }))
@@ -136,6 +137,7 @@ pub record LibWordsRead : Type 0 where
     delayed = None;
     library = record { machine = ARM64; flavor = Msvc; dll = None; naming = decorated; additions = no_additions };
     decorations = None;
+    search = [];
     older_symbols = false;
     is_verbose = true;
   }))

@@ -2,11 +2,11 @@
 use Rattle.std.specs.Prelude.{◌≡◌, ℕ, Bool, true, false, List, [], ◌∷◌, None, Some, Ok, Err, codes, map}
 use Rattle.implib.specs.declared.flavor.Flavor.TheVariants.{Msvc, Gnu}
 use Rattle.implib.specs.declared.machine.MachineType.TheVariants.{I386, ARMNT, AMD64, ARM64}
-use Rattle.implib_driver.specs.declared.options.Setting.TheVariants.{Definition, DelayedOutput, Output, Machine, Dll, Flavor, Assembler, AssemblerFlags, TemporaryPrefix, FurtherPrefix, Identify, Input, Decorations}
+use Rattle.implib_driver.specs.declared.options.Setting.TheVariants.{Definition, DelayedOutput, Output, Machine, Dll, Flavor, Assembler, AssemblerFlags, TemporaryPrefix, FurtherPrefix, Identify, Input, Decorations, Search}
 use Rattle.implib_driver.specs.declared.options.Switch.{Switch}
 use Rattle.implib_driver.specs.declared.options.Switch.TheVariants.{KeepsDecorated, KillAt, NoLeadingUnderscore, LeadingUnderscore, DeterministicLibraries, NonDeterministicLibraries, NoDelete, Verbose, Help, Version, ExportAs, AddUnderscore, AddStdcallUnderscore, AddStdcallAlias, IdentifyStrict, CompatImplib, ListedAlone}
 use Rattle.implib.specs.Conversions.{flavor_named}
-use Rattle.implib_driver.specs.Arguments.{OccurrenceView, Given, Switched, IsUnsupported, is_switched, last_given, read_words}
+use Rattle.implib_driver.specs.Arguments.{OccurrenceView, Given, Switched, IsUnsupported, all_given, is_switched, last_given, read_words}
 use Rattle.implib_driver.specs.Request.{machine_named}
 
 -- each option with a value, by its letter and by its long name
@@ -19,7 +19,8 @@ words_with_values =
     ∷ codes "--def" ∷ codes "p" ∷ codes "-p" ∷ codes "q" ∷ codes "--ext-prefix-alias" ∷ codes "r"
     ∷ codes "-I" ∷ codes "s" ∷ codes "--identify" ∷ codes "t" ∷ codes "--dll" ∷ codes "u" ∷ codes "v"
     ∷ codes "-y" ∷ codes "w" ∷ codes "--output-delaylib" ∷ codes "x"
-    ∷ codes "--decorations" ∷ codes "y" ∷ codes "--decorations=z" ∷ []
+    ∷ codes "--decorations" ∷ codes "y" ∷ codes "--decorations=z" ∷ codes "--search" ∷ codes "A"
+    ∷ codes "--search=B" ∷ []
 
 -- what they give
 abbrev pub given : List OccurrenceView
@@ -31,7 +32,8 @@ given =
     ∷ Given Definition (codes "p") ∷ Given FurtherPrefix (codes "q") ∷ Given FurtherPrefix (codes "r")
     ∷ Given Identify (codes "s") ∷ Given Identify (codes "t") ∷ Given Definition (codes "u") ∷ Given Input (codes "v")
     ∷ Given DelayedOutput (codes "w") ∷ Given DelayedOutput (codes "x")
-    ∷ Given Decorations (codes "y") ∷ Given Decorations (codes "z") ∷ []
+    ∷ Given Decorations (codes "y") ∷ Given Decorations (codes "z") ∷ Given Search (codes "A")
+    ∷ Given Search (codes "B") ∷ []
 
 -- each option without a value, by its letter, where it has one, and by its long name
 abbrev pub words_of_switches : List (List ℕ)
@@ -92,6 +94,7 @@ pub record OptionsNamed : Type 0 where
   pub further_prefix : last_given FurtherPrefix given ≡ Some (codes "r")
   pub identify : last_given Identify given ≡ Some (codes "t")
   pub decorations : last_given Decorations given ≡ Some (codes "z")
+  pub search : all_given Search given ≡ codes "A" ∷ codes "B" ∷ []
   pub kill_at : told_of KillAt
       ≡ true ∷ false ∷ false ∷ false ∷ false ∷ false ∷ false ∷ false ∷ false ∷ false ∷ false ∷ false ∷ false ∷ false ∷ false ∷ false ∷ false ∷ []
   pub no_leading_underscore : told_of NoLeadingUnderscore

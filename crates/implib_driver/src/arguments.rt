@@ -1,5 +1,6 @@
 //! The words of a command line, as options with their values.
 
+ghost use Rattle.implib_driver.specs.Arguments.{all_given, is_given, value_of};
 ghost use Rattle.implib_driver.specs.Arguments.{IsRefusalOf, front, front_letters, is_last};
 ghost use Rattle.implib_driver.specs.Arguments.{is_switch_letter, is_switched, last_given, letters_word};
 ghost use Rattle.implib_driver.specs.Arguments.{long_word};
@@ -311,6 +312,47 @@ pub fn last_given<'a>(options: &[Occurrence<'a>], setting: Setting) -> Option<&'
         }
     }
     last
+}
+
+// The value of an option, if it is this one and has one.
+fn value_of<'a>(option: &Occurrence<'a>, setting: Setting) -> Option<&'a str>
+    ensures { option_map (λ text. text.now) result
+        ≡ value_of setting (occurrence_view option.now) }
+{
+    match option {
+        Occurrence::Given(given, value) if given.is(setting) => Some(*value),
+        _ => None,
+    }
+}
+
+/// The values that an option is given, in order.
+pub fn all_given<'a>(
+    alloc: Global,
+    options: &[Occurrence<'a>],
+    setting: Setting,
+) -> Result<Vec<&'a str>, AllocError>
+    ensures { IfOk result (λ values. map (λ text. text.now) values.items
+        ≡ all_given setting (map occurrence_view options.now)) }
+{
+    let mut values = Vec::new(alloc);
+    for option in options {
+        if let Some(value) = value_of(option, setting) {
+            values.push(value)?;
+        }
+    }
+    Ok(values)
+}
+
+/// Whether an option is given a value.
+pub fn is_given(options: &[Occurrence<'_>], setting: Setting) -> bool
+    ensures { result ≡ is_given setting (map occurrence_view options.now) }
+{
+    for option in options {
+        if value_of(option, setting).is_some() {
+            return true;
+        }
+    }
+    false
 }
 
 /// Whether an option without a value stands somewhere.

@@ -1,7 +1,8 @@
 //! Where a definition is read from, and where its library goes.
 
 ghost use Rattle.implib_driver.specs.Disk.{DiskView, Replaces, beginning, failing, removed, stuck};
-ghost use Rattle.std.specs.Prelude.{◌≡◌, [], Bool, IfOk, IfSome, None, OnErr, OnOk, Some, true};
+ghost use Rattle.std.specs.Prelude.{◌≡◌, [], Bool, IfOk, IfSome, None, OnErr, OnOk, Some, map, true};
+ghost use Rattle.std.specs.String.{string_bytes};
 
 use std::alloc::Global;
 use std::io;
@@ -21,6 +22,14 @@ pub trait Disk {
     fn read(&mut self, alloc: Global, path: &str) -> io::Result<Vec<u8>>
         ensures bytes { IfOk result (λ bytes. IfSome ((view self.old).seen path.now)
             (λ file. bytes.items ≡ file)) }
+        ensures same { OnOk result (view self.new ≡ view self.old) }
+        ensures fault { OnErr result (view self.new ≡ failing (view self.old)) };
+
+    /// The names of what is in a folder, in the order that the system has them in; without those
+    /// that are not UTF-8.
+    fn names(&mut self, alloc: Global, folder: &str) -> io::Result<Vec<String>>
+        ensures names { IfOk result (λ names. IfSome ((view self.old).listed folder.now)
+            (λ known. map string_bytes names.items ≡ known)) }
         ensures same { OnOk result (view self.new ≡ view self.old) }
         ensures fault { OnErr result (view self.new ≡ failing (view self.old)) };
 

@@ -18,5 +18,6 @@ pub mod placing;
 pub mod program;
 pub mod reporter;
 pub mod request;
+pub mod search;
 pub mod stubs;
 pub mod verbose;

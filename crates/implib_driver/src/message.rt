@@ -25,13 +25,14 @@ impl fmt::Display for Setting {
             Setting::FurtherPrefix => "-p",
             Setting::Identify => "-I",
             Setting::Decorations => "--decorations",
+            Setting::Search => "--search",
             Setting::Input => "FILE",
         })
     }
 }
 
 /// The long names of options, one of which a message may tell in full.
-pub const NAMES: [&str; 40] = [
+pub const NAMES: [&str; 41] = [
     "input-def",
     "def",
     "dll",
@@ -59,6 +60,7 @@ pub const NAMES: [&str; 40] = [
     "identify",
     "identify-strict",
     "decorations",
+    "search",
     "no-idata4",
     "no-idata5",
     "add-indirect",
@@ -191,6 +193,9 @@ impl<'a> fmt::Display for CallFault<'a> {
             CallFault::DecoratedDefinition => f.write_str(
                 "--decorations: for a DLL alone, since a definition has its symbols",
             ),
+            CallFault::SearchedDefinition => f.write_str(
+                "--search: for a DLL alone, since a definition says which exports are data",
+            ),
             CallFault::NoOlderSymbols => f.write_str(
                 "--compat-implib: not supported for Microsoft's linker; --flavor gnu can",
             ),
@@ -263,6 +268,13 @@ impl<'a> fmt::Display for Complaint<'a> {
             Complaint::Missing(count) => {
                 write!(f, "warning: {count} functions of the DLL are not in it")
             }
+            Complaint::Astray(1) => f.write_str(
+                "warning: one forwarder leads to nothing in the folders, and stays code",
+            ),
+            Complaint::Astray(count) => write!(
+                f,
+                "warning: {count} forwarders lead to nothing in the folders, and stay code"
+            ),
             Complaint::Undelayed(why) => write!(f, "{why}"),
             Complaint::Utf16 => f.write_str("the definition is UTF-16; expected UTF-8"),
             Complaint::FailingStub => f.write_str(

@@ -1,6 +1,6 @@
 //! The names of options and machines on the command line.
 
-ghost use Rattle.implib_driver.specs.Options.{is_same_setting, is_same_switch, is_unsupported};
+ghost use Rattle.implib_driver.specs.Options.{further_named, is_same_setting, is_same_switch, is_unsupported, setting_named};
 ghost use Rattle.implib_driver.specs.Options.{option_lettered, option_named, setting_number};
 ghost use Rattle.implib_driver.specs.Options.{switch_number};
 ghost use Rattle.std.specs.Prelude.{◌≡◌};
@@ -33,6 +33,8 @@ pub enum Setting {
     FurtherPrefix,
     /// `--decorations`: a library or a definition that has the symbols of a DLL's names.
     Decorations,
+    /// `--search`: a folder with DLLs that a DLL's forwarders lead to.
+    Search,
     /// No option: the file of a word that is none, a module definition or a DLL.
     Input,
 }
@@ -97,6 +99,7 @@ impl Setting {
             Setting::Input => 10,
             Setting::DelayedOutput => 11,
             Setting::Decorations => 12,
+            Setting::Search => 13,
         }
     }
 
@@ -168,23 +171,11 @@ fn is_unsupported(name: &str) -> bool
     }
 }
 
-/// The option of a long name, which is given without its `--`.
-pub fn option_named(name: &str) -> Meaning
-    ensures { result ≡ option_named name.now }
+// The option of a long name that takes no value in other tools.
+fn further_named(name: &str) -> Meaning
+    ensures { result ≡ further_named name.now }
 {
     match name {
-        "input-def" | "def" | "dll" => Meaning::Takes(Setting::Definition),
-        "output-lib" => Meaning::Takes(Setting::Output),
-        "output-delaylib" => Meaning::Takes(Setting::DelayedOutput),
-        "machine" => Meaning::Takes(Setting::Machine),
-        "dllname" => Meaning::Takes(Setting::Dll),
-        "flavor" | "flavour" => Meaning::Takes(Setting::Flavor),
-        "as" => Meaning::Takes(Setting::Assembler),
-        "as-flags" => Meaning::Takes(Setting::AssemblerFlags),
-        "temp-prefix" => Meaning::Takes(Setting::TemporaryPrefix),
-        "ext-prefix-alias" => Meaning::Takes(Setting::FurtherPrefix),
-        "identify" => Meaning::Takes(Setting::Identify),
-        "decorations" => Meaning::Takes(Setting::Decorations),
         "kill-at" => Meaning::Switches(Switch::KillAt),
         "no-leading-underscore" => Meaning::Switches(Switch::NoLeadingUnderscore),
         "leading-underscore" => Meaning::Switches(Switch::LeadingUnderscore),
@@ -201,8 +192,40 @@ pub fn option_named(name: &str) -> Meaning
         "verbose" => Meaning::Switches(Switch::Verbose),
         "help" => Meaning::Switches(Switch::Help),
         "version" => Meaning::Switches(Switch::Version),
+        "decorations" => Meaning::Takes(Setting::Decorations),
+        "search" => Meaning::Takes(Setting::Search),
         _ if is_unsupported(name) => Meaning::Unsupported,
         _ => Meaning::Unknown,
+    }
+}
+
+// The option of a long name that takes a value, in other tools too.
+fn setting_named(name: &str) -> Option<Setting>
+    ensures { result ≡ setting_named name.now }
+{
+    match name {
+        "input-def" | "def" | "dll" => Some(Setting::Definition),
+        "output-lib" => Some(Setting::Output),
+        "output-delaylib" => Some(Setting::DelayedOutput),
+        "machine" => Some(Setting::Machine),
+        "dllname" => Some(Setting::Dll),
+        "flavor" | "flavour" => Some(Setting::Flavor),
+        "as" => Some(Setting::Assembler),
+        "as-flags" => Some(Setting::AssemblerFlags),
+        "temp-prefix" => Some(Setting::TemporaryPrefix),
+        "ext-prefix-alias" => Some(Setting::FurtherPrefix),
+        "identify" => Some(Setting::Identify),
+        _ => None,
+    }
+}
+
+/// The option of a long name, which is given without its `--`.
+pub fn option_named(name: &str) -> Meaning
+    ensures { result ≡ option_named name.now }
+{
+    match setting_named(name) {
+        Some(setting) => Meaning::Takes(setting),
+        None => further_named(name),
     }
 }
 

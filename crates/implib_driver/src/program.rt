@@ -10,38 +10,41 @@ ghost use Rattle.implib_driver.specs.Identity.{identified};
 ghost use Rattle.implib_driver.specs.Program.{Identifies, IsUncalled, KeepsFiles, Makes, Performs};
 ghost use Rattle.implib_driver.specs.Program.{NamesDlls, OnlyComplains, Prints, Runs};
 ghost use Rattle.implib_driver.specs.Program.{SaysWarnings, Warned, answer_status, definition_in};
-ghost use Rattle.implib_driver.specs.Program.{begins_utf16, is_bare, subject_of};
+ghost use Rattle.implib_driver.specs.Program.{begins_utf16, is_bare, misuse, subject_of};
 ghost use Rattle.implib_driver.specs.Program.{devices, own_name, texts};
 ghost use Rattle.implib_driver.specs.Program.{verdict, warning_lines};
 ghost use Rattle.implib_driver.specs.Reports.{Complains, OfDll, OfMemory, Refuses, Says, complaint_view};
 ghost use Rattle.implib_rules.specs.declared.library.Refusal.TheVariants.{OutOfMemory};
 ghost use Rattle.implib_dll.specs.Views.{exports_view};
 ghost use Rattle.implib_driver.specs.Arguments.{occurrence_view};
-ghost use Rattle.implib_driver.specs.Dll.{IsRefusalOfRequest, IsRequested, begins_dll, dll_status};
+ghost use Rattle.implib_driver.specs.Dll.{IsRefusalOfRequest, IsRequested, ReadsDll, begins_dll, dll_status};
 ghost use Rattle.implib_driver.specs.DllProgram.{FinishesBytes, FinishesDll, FinishesExports};
-ghost use Rattle.implib_driver.specs.DllProgram.{FinishesList, FinishesListed, PutsMembers, SaysMissing};
-ghost use Rattle.implib_driver.specs.DllProgram.{call_status, complaint_of, tells_missing};
+ghost use Rattle.implib_driver.specs.DllProgram.{FinishesList, FinishesListed, PutsMembers, SaysIf};
+ghost use Rattle.implib_driver.specs.DllProgram.{FinishesKinds, call_status, complaint_of, tells};
 ghost use Rattle.implib_driver.specs.DllProgram.{undecorated_lines, undecorated_status};
 ghost use Rattle.implib_from_dll.specs.Definition.{exports_of};
-ghost use Rattle.implib_driver.specs.Request.{request_for, request_view};
+ghost use Rattle.implib_driver.specs.Request.{call_fault_view, request_for, request_view};
 ghost use Rattle.implib_rules.specs.Library.{CountsMembers, status_of};
 ghost use Rattle.implib_rules.specs.Warnings.{warning_view};
 ghost use Rattle.std.specs.IoError.{error_kind};
+ghost use Rattle.std.specs.Option.{option_map};
 ghost use Rattle.std.specs.Prelude.{◌≡◌, ◌⊎◌, [], ◌∷◌, IfErr, IfOk, IfSome, List, None, OnErr, OnOk, Option, Some, false, map, true, ℕ};
 ghost use Rattle.std.specs.String.{string_bytes};
 ghost use Rattle.std.specs.Vec.Iter.{into_iter_items};
 
-use crate::arguments::{Occurrence, ReadWordsError};
+use crate::arguments::{Occurrence, ReadWordsError, is_given};
 use crate::delay::{DelayRefusal, delayed_archive, delayed_members_for};
 use crate::disk::Disk;
 use crate::dll::{DllCallError, DllRefusal, begins_dll, dll_exports, list_of_dll, members_of_dll};
 use crate::identity::{IdentifyError, identify};
 use crate::lib_words::words_read;
+use crate::options::Setting;
 use crate::placing::{place, put};
 use crate::reporter::{Complaint, Reporter};
 use crate::request::{
     CallError, CallFault, Caller, Identification, Request, Task, caller_of, request_in, task_of,
 };
+use crate::search::{Unsearched, search};
 use crate::stubs::has_failing_stub;
 use crate::verbose::warnings_for;
 use implib::def::{ModuleDef, ShortExport};
@@ -65,7 +68,7 @@ use std::{io, mem};
 // What the program prints for `--help`.
 const HELP: &str = "\
 usage: implib_dlltool -d FILE [-l OUT] [-y OUT] [-m MACHINE] [-D DLL] [--flavor FLAVOUR]
-       implib_dlltool -l OUT FOO.dll
+       implib_dlltool -l OUT FOO.dll [--search DIR]..
 
 Makes the import library of a module definition, or of all that a DLL exports.
 
@@ -100,6 +103,8 @@ Makes the import library of a module definition, or of all that a DLL exports.
                            name that is not made of its symbol beside it
       --decorations FILE   with a DLL for i386, take symbols as _Sleep@4 from FILE, an
                            import library or a definition
+      --search DIR         with a DLL, make data of exports that are forwarded to
+                           data, through the DLLs of folders; one at a time
   -C, --compat-implib      for GNU's linker, name each address by ___imp and its
                            symbol too, as in Cygwin's libraries before 2000
   -v, --verbose            write warnings of FILE on standard error
@@ -693,14 +698,19 @@ fn answer_list<D: Disk, T: Reporter>(
     }
 }
 
-// Says how many functions of a DLL a file of symbols lacks, if there are some and warnings are asked
-// for.
-fn say_missing<T: Reporter>(reporter: &mut T, path: &str, count: usize, request: &Request<'_>)
-    ensures { SaysMissing (tells_missing (request_view request.now) count) path.now count
+// Says a warning with a number, if that is not 0 and warnings are asked for.
+fn say_count<T: Reporter>(
+    reporter: &mut T,
+    path: &str,
+    count: usize,
+    warning: Complaint<'_>,
+    request: &Request<'_>,
+)
+    ensures { SaysIf (tells (request_view request.now) count) path.now (complaint_view warning.entry)
         (T.said reporter.old) (T.said reporter.new) }
 {
     if request.is_verbose && count > 0 {
-        reporter.complain(path, Complaint::Missing(count));
+        reporter.complain(path, warning);
     }
 }
 
@@ -739,10 +749,9 @@ fn answer_decorated<D: Disk, T: Reporter>(
     request: &Request<'_>,
     reporter: &mut T,
 ) -> u8
-    requires room { (D.view disk.old).left ≡ None }
-    requires listed { map export_view decorating.list.items
-        ≡ exports_of (exports_view exports.now) }
-    ensures { FinishesBytes D.is_known (exports_view exports.now) bytes.now
+    requires { (D.view disk.old).left ≡ None }
+    ensures { FinishesBytes D.is_known (exports_view exports.now)
+        (map export_view decorating.entry.list.items) bytes.now
         decorating.entry.path.now (request_view request.now) (D.view disk.old) (D.view disk.new)
         (T.said reporter.old) (T.said reporter.new) result }
 {
@@ -753,7 +762,7 @@ fn answer_decorated<D: Disk, T: Reporter>(
     };
     let decorations = decorations.as_slice();
     let count = count_missing(decorations, list.as_slice());
-    say_missing(reporter, path, count, request);
+    say_count(reporter, path, count, Complaint::Missing(count), request);
     match decorate(
         alloc,
         request.library.naming,
@@ -775,11 +784,9 @@ fn answer_decorating<D: Disk, T: Reporter>(
     request: &Request<'_>,
     reporter: &mut T,
 ) -> u8
-    requires room { (D.view disk.old).left ≡ None }
-    requires listed { map export_view decorating.list.items
-        ≡ exports_of (exports_view exports.now) }
+    requires { (D.view disk.old).left ≡ None }
     ensures { FinishesListed D.is_known (exports_view exports.now)
-        (Some decorating.entry.path.now) (request_view request.now)
+        (map export_view decorating.entry.list.items) (Some decorating.entry.path.now) (request_view request.now)
         (D.view disk.old) (D.view disk.new) (T.said reporter.old) (T.said reporter.new) result }
 {
     let path = decorating.path;
@@ -802,22 +809,21 @@ fn answer_decorating<D: Disk, T: Reporter>(
     }
 }
 
-// Puts the library of a DLL, and gives the exit status.
-fn answer_exports<D: Disk, T: Reporter>(
+// Puts the library of exports of a DLL, with the symbols of a file where one is given, and gives the
+// exit status.
+fn answer_listed<D: Disk, T: Reporter>(
     alloc: Global,
     exports: &Exports<'_>,
+    list: Vec<ShortExport>,
     disk: &mut D,
     request: &Request<'_>,
     reporter: &mut T,
 ) -> u8
     requires { (D.view disk.old).left ≡ None }
-    ensures { FinishesExports D.is_known (exports_view exports.now) (request_view request.now)
+    ensures { FinishesListed D.is_known (exports_view exports.now) (map export_view list.items)
+        (request_view request.now).decorations (request_view request.now)
         (D.view disk.old) (D.view disk.new) (T.said reporter.old) (T.said reporter.new) result }
 {
-    let list = match list_of_dll(alloc, exports, request) {
-        Ok(list) => list,
-        Err(refusal) => return refuse_dll(reporter, request.definition, refusal),
-    };
     match request.decorations {
         Some(path) => {
             let decorating = Decorating { list, path };
@@ -825,6 +831,64 @@ fn answer_exports<D: Disk, T: Reporter>(
         }
         None => answer_list(alloc, exports, list, disk, request, reporter),
     }
+}
+
+// Puts the library of exports of a DLL, of which those are data that are forwarded to data, and gives
+// the exit status.
+fn answer_searching<D: Disk, T: Reporter>(
+    alloc: Global,
+    bytes: &[u8],
+    exports: &Exports<'_>,
+    list: Vec<ShortExport>,
+    disk: &mut D,
+    request: &Request<'_>,
+    reporter: &mut T,
+) -> u8
+    requires room { (D.view disk.old).left ≡ None }
+    requires reads { ReadsDll bytes.now (exports_view exports.now) }
+    requires listed { map export_view list.items ≡ exports_of (exports_view exports.now) }
+    ensures { FinishesKinds true D.is_known (exports_view exports.now) (request_view request.now)
+        (D.view disk.old) (D.view disk.new) (T.said reporter.old) (T.said reporter.new) result }
+{
+    let mut list = list;
+    match search(alloc, disk, bytes, exports, &mut list, request) {
+        Ok(astray) => {
+            let path = request.definition;
+            say_count(reporter, path, astray, Complaint::Astray(astray), request);
+            answer_listed(alloc, exports, list, disk, request, reporter)
+        }
+        Err(Unsearched::System(path, error)) => {
+            reporter.complain(path.as_str(), Complaint::System(error));
+            3
+        }
+        Err(Unsearched::OutOfMemory) => {
+            refuse_dll(reporter, request.definition, DllRefusal::OutOfMemory)
+        }
+    }
+}
+
+// Puts the library of a DLL, and gives the exit status.
+fn answer_exports<D: Disk, T: Reporter>(
+    alloc: Global,
+    bytes: &[u8],
+    exports: &Exports<'_>,
+    disk: &mut D,
+    request: &Request<'_>,
+    reporter: &mut T,
+) -> u8
+    requires room { (D.view disk.old).left ≡ None }
+    requires reads { ReadsDll bytes.now (exports_view exports.now) }
+    ensures { FinishesExports D.is_known (exports_view exports.now) (request_view request.now)
+        (D.view disk.old) (D.view disk.new) (T.said reporter.old) (T.said reporter.new) result }
+{
+    let list = match list_of_dll(alloc, exports, request) {
+        Ok(list) => list,
+        Err(refusal) => return refuse_dll(reporter, request.definition, refusal),
+    };
+    if is_given(request.options, Setting::Search) {
+        return answer_searching(alloc, bytes, exports, list, disk, request, reporter);
+    }
+    answer_listed(alloc, exports, list, disk, request, reporter)
 }
 
 // Puts the library of a DLL that is read, and gives the exit status.
@@ -847,9 +911,22 @@ fn answer_dll<D: Disk, T: Reporter>(
         Err(refusal) => return refuse_dll(reporter, path, refusal),
     };
     match request_of_dll(alloc, &exports, call) {
-        Ok(request) => answer_exports(alloc, &exports, disk, &request, reporter),
+        Ok(request) => answer_exports(alloc, bytes, &exports, disk, &request, reporter),
         Err(error) => refuse_call(reporter, path, error),
     }
+}
+
+// What is wrong with a request for a definition.
+fn misuse(request: &Request<'_>) -> Option<CallFault<'static>>
+    ensures { option_map call_fault_view result ≡ misuse (request_view request.now) }
+{
+    if request.decorations.is_some() {
+        return Some(CallFault::DecoratedDefinition);
+    }
+    if is_given(request.options, Setting::Search) {
+        return Some(CallFault::SearchedDefinition);
+    }
+    None
 }
 
 // Puts the library of a file that is read, a DLL or a definition, and gives the exit status.
@@ -870,13 +947,8 @@ fn answer<D: Disk, T: Reporter>(
         return answer_dll(alloc, bytes, disk, call, reporter);
     }
     let path = call.request.definition;
-    match call.request.decorations {
-        Some(_) => complain(
-            reporter,
-            path,
-            Complaint::Call(CallFault::DecoratedDefinition),
-            2,
-        ),
+    match misuse(&call.request) {
+        Some(fault) => complain(reporter, path, Complaint::Call(fault), 2),
         None => answer_text(alloc, bytes, disk, &call.request, reporter),
     }
 }

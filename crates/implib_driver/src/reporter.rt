@@ -43,6 +43,8 @@ pub enum Complaint<'a> {
     NoLibrary,
     /// A file for `--decorations` lacks this many functions of a DLL: a warning.
     Missing(usize),
+    /// So many forwarders of a DLL lead to nothing in the folders of `--search`: a warning.
+    Astray(usize),
 }
 
 /// Who says what is wrong, each a line.

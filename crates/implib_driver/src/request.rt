@@ -44,6 +44,8 @@ pub struct Request<'a> {
     pub library: LibraryOptions<'a>,
     /// The file that has the symbols of a DLL's names, if one is given.
     pub decorations: Option<&'a str>,
+    /// The options, of which `--search` gives the folders of further DLLs.
+    pub options: &'a [Occurrence<'a>],
     /// Whether addresses have their older symbols too (`-C`).
     pub older_symbols: bool,
     /// Whether warnings are written (`-v`).
@@ -108,6 +110,8 @@ pub enum CallFault<'a> {
     DelayForMicrosoft,
     /// `--decorations` for a definition, which has its symbols.
     DecoratedDefinition,
+    /// `--search` for a definition, which says which exports are data.
+    SearchedDefinition,
 }
 
 /// Whose ways a program's name asks for.
@@ -556,7 +560,7 @@ fn input_in<'a>(options: &[Occurrence<'a>]) -> Result<Option<&'a str>, CallFault
 // The library that the options ask for.
 pub(crate) fn request_in<'a>(
     alloc: Global,
-    options: &[Occurrence<'a>],
+    options: &'a [Occurrence<'a>],
     caller: Caller,
 ) -> Result<Request<'a>, CallError<'a>>
     ensures ok { IfOk result (λ request.
@@ -591,6 +595,7 @@ pub(crate) fn request_in<'a>(
             additions,
         },
         decorations: last_given(options, Setting::Decorations),
+        options,
         older_symbols,
         is_verbose: is_switched(options, Switch::Verbose),
     })
@@ -609,7 +614,7 @@ pub(crate) fn request_in<'a>(
 /// older symbols for Microsoft's linker. `OutOfMemory` may come before those that follow the machine.
 pub fn task_of<'a>(
     alloc: Global,
-    options: &[Occurrence<'a>],
+    options: &'a [Occurrence<'a>],
     caller: Caller,
 ) -> Result<Task<'a>, CallError<'a>>
     ensures ok { IfOk result (λ task.

@@ -22,6 +22,7 @@ options = record {
   further_prefix = refl;
   identify = refl;
   decorations = refl;
+  search = refl;
   kill_at = refl;
   no_leading_underscore = refl;
   deterministic = refl;

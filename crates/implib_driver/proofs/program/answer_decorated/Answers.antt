@@ -2,10 +2,10 @@ use Rattle.std.proofs.Common.{◌≡◌, ◌∙◌, ap, inl, inr, map, refl, sub
 use Rattle.std.specs.Prelude.{count_by}
 use Rattle.implib.specs.Definition.{export_view}
 use Rattle.implib_dll.specs.Views.{exports_view}
-use Rattle.implib_dll_library.specs.Decorated.{decorated_exports, is_missing, missing, with_symbols}
+use Rattle.implib_dll_library.specs.Decorated.{is_missing, with_symbols}
 use Rattle.implib_dll_library.specs.Decorations.{decoration_view}
 use Rattle.implib_driver.specs.declared.dll.DllRefusal.TheVariants.{OutOfMemory}
-use Rattle.implib_driver.specs.DllProgram.{FinishesList, SaysMissing, tells_missing}
+use Rattle.implib_driver.specs.DllProgram.{FinishesList}
 use Rattle.implib_driver.specs.Request.{request_view}
 use Rattle.implib_driver.proofs.program.answer_decorated.Goals as goal
 
@@ -15,41 +15,35 @@ returns-in-Ok-decorate g c =
     let request = request_view c.args.request.now in
     let naming = request.library.naming in
     let found = map decoration_view c.in-Ok.decorations.items in
-    let before = g.T.Reporter.said c.args.reporter.now in
-    let warned = g.T.Reporter.said c.say_missing.new.reporter in
-    let counted : c.count_missing-count.result ≡ missing found e =
-    c.count_missing-count.ensures
-    ∙ (ap (λ d. count_by (is_missing (map decoration_view d)) (map export_view c.as_slice.result.now)) c.as_slice-decorations.ensures.value
-    ∙ (ap (λ l. count_by (is_missing found) (map export_view l)) c.as_slice.ensures.value ∙ ap (count_by (is_missing found)) c.requires.listed)) in
-    let made : map export_view c.decorate.new.list.items ≡ decorated_exports naming found e =
-    c.in-Ok-decorate.ensures
-    ∙ (ap (λ d. with_symbols naming (map decoration_view d) e.names (map export_view c.args.decorating.list.items)) c.as_slice-decorations.ensures.value
-    ∙ ap (with_symbols naming found e.names) c.requires.listed) in
+    let list = map export_view c.args.decorating.list.items in
+    let warned = g.T.Reporter.said c.say_count.new.reporter in
+    let made : map export_view c.decorate.new.list.items ≡ with_symbols naming found e.names list =
+    c.in-Ok-decorate.ensures ∙ ap (λ d. with_symbols naming (map decoration_view d) e.names list) c.as_slice-decorations.ensures.value in
     inl (record {
       decorations = found;
       are = c.in-Ok.ensures.are;
       warned = warned;
-      warns = subst (λ n. SaysMissing (tells_missing request n) c.args.decorating.path.now n before warned) counted c.say_missing.ensures;
+      missing = c.count_missing-count.result;
+      counted = c.count_missing-count.ensures
+          ∙ (ap (λ d. count_by (is_missing (map decoration_view d)) (map export_view c.as_slice.result.now)) c.as_slice-decorations.ensures.value
+          ∙ ap (λ l. count_by (is_missing found) (map export_view l)) c.as_slice.ensures.value);
+      warns = c.say_count.ensures;
       finishes = subst (λ xs. FinishesList g.D.Disk.is_known e xs request (g.D.Disk.view c.args.disk.now) (g.D.Disk.view c.answer_list.new.disk) warned
           (g.T.Reporter.said c.answer_list.new.reporter) c.answer_list.result) made c.answer_list.ensures;
     })
 
 pub returns-in-Err-decorate : goal.returns-in-Err-decorate
 returns-in-Err-decorate g c =
-    let e = exports_view c.args.exports.now in
-    let request = request_view c.args.request.now in
     let found = map decoration_view c.in-Ok.decorations.items in
-    let before = g.T.Reporter.said c.args.reporter.now in
-    let warned = g.T.Reporter.said c.say_missing.new.reporter in
-    let counted : c.count_missing-count.result ≡ missing found e =
-    c.count_missing-count.ensures
-    ∙ (ap (λ d. count_by (is_missing (map decoration_view d)) (map export_view c.as_slice.result.now)) c.as_slice-decorations.ensures.value
-    ∙ (ap (λ l. count_by (is_missing found) (map export_view l)) c.as_slice.ensures.value ∙ ap (count_by (is_missing found)) c.requires.listed)) in
     inl (record {
       decorations = found;
       are = c.in-Ok.ensures.are;
-      warned = warned;
-      warns = subst (λ n. SaysMissing (tells_missing request n) c.args.decorating.path.now n before warned) counted c.say_missing.ensures;
+      warned = g.T.Reporter.said c.say_count.new.reporter;
+      missing = c.count_missing-count.result;
+      counted = c.count_missing-count.ensures
+          ∙ (ap (λ d. count_by (is_missing (map decoration_view d)) (map export_view c.as_slice.result.now)) c.as_slice-decorations.ensures.value
+          ∙ ap (λ l. count_by (is_missing found) (map export_view l)) c.as_slice.ensures.value);
+      warns = c.say_count.ensures;
       finishes = inr (inr (record {
         refusal = OutOfMemory;
         is_so = tt;

@@ -1,0 +1,13 @@
+use Rattle.std.proofs.Common.{◌≡◌, ℕ, All, List, map}
+use Rattle.implib_dll_check.specs.Folders.{AreKnown, IsRight, folder_view, loaded_view}
+use Rattle.implib_driver.proofs.search.load_behind.Given as goal
+
+-- what was loaded is right
+abbrev pub invariant-loop-left : goal.invariant-loop-left
+invariant-loop-left g l =
+    (g.D.Disk.view l.disk ≡ g.D.Disk.view l.fn.disk)
+    × ((file : List ℕ → List ℕ) → AreKnown (g.D.Disk.view l.fn.disk).seen file
+    → All (IsRight file (map folder_view l.folders)) (map loaded_view l.loaded.items))
+
+abbrev pub decreases-loop-left : goal.decreases-loop-left
+decreases-loop-left g l = l.left
