@@ -4,7 +4,6 @@
 //! What it does is in the crate `implib_check_driver`, over the system's files.
 #![tactic(auto)]
 
-
 use implib_check_driver::program::perform;
 use implib_check_driver::shelf::SystemFiles;
 use std::process::ExitCode;

@@ -8,10 +8,9 @@ use implib_cases::{Case, push_escaped};
 use implib_check_driver::program::run;
 use implib_check_driver::task::CommandLine;
 use std::alloc::{AllocError, Global};
+use std::io;
 use std::io::{ErrorKind, Write};
 use std::test::Fail;
-use std::io;
-
 
 /// A writer that fails, each time for this reason.
 #[derive(Drop)]

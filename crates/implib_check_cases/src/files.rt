@@ -187,9 +187,7 @@ impl Files {
         while let Some((header, after)) = rest.split_at_checked(60) {
             let length = size_in(header.get(48..58).unwrap_or(&[]))?;
             let whole = length.checked_next_multiple_of(2).unwrap_or(length);
-            let (data, after) = after
-                .split_at_checked(whole)
-                .ok_or("a member is cut off")?;
+            let (data, after) = after.split_at_checked(whole).ok_or("a member is cut off")?;
             if !header.starts_with(b"/ ") && !header.starts_with(b"// ") {
                 kept.extend_from_slice(header)?;
                 kept.extend_from_slice(data)?;

@@ -142,7 +142,13 @@ fn library_of_exports<E: Write>(
         Ok(members) => members,
         Err(status) => return Err(status),
     };
-    archive_or_status(alloc, faults, define.library, &members, flavor_for_dll(define))
+    archive_or_status(
+        alloc,
+        faults,
+        define.library,
+        &members,
+        flavor_for_dll(define),
+    )
 }
 
 /// The library of a DLL, or an exit status: 1 where it has none, and 2 where older symbols are asked for, which none has.

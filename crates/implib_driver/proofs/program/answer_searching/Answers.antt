@@ -10,8 +10,8 @@ pub returns-in-Ok : goal.returns-in-Ok
 returns-in-Ok g c =
     let e = exports_view c.args.exports.now in
     let searched : IsSearched (g.D.Disk.view c.args.disk.now) e (request_view c.args.request.now) (exports_of e) (map export_view c.search.new.list.items) c.in-Ok.astray =
-      subst (λ before. IsSearched (g.D.Disk.view c.args.disk.now) e (request_view c.args.request.now) before (map export_view c.search.new.list.items) c.in-Ok.astray)
-      c.requires.listed c.in-Ok.ensures.searched in
+    subst (λ before. IsSearched (g.D.Disk.view c.args.disk.now) e (request_view c.args.request.now) before (map export_view c.search.new.list.items) c.in-Ok.astray)
+    c.requires.listed c.in-Ok.ensures.searched in
     inl (record {
       exports = map export_view c.search.new.list.items;
       astray = c.in-Ok.astray;

@@ -16,11 +16,11 @@ returns-clause-searched g c = λ file names seen listed.
     let folders : map folder_view c.in_ok-folders.folders.items ≡ listings names request.search = search rules in
     let own : map (λ name. name.items) c.in_ok-names.names.items ≡ own_names request e = search rules in
     let known : AreKnown (g.D.Disk.view c.folders_at.new.disk).seen file =
-      subst (λ v. AreKnown v.seen file) (sym c.in_ok-folders.ensures.same) seen in
+    subst (λ v. AreKnown v.seen file) (sym c.in_ok-folders.ensures.same) seen in
     let right : All (IsRight file (map folder_view c.in_ok-folders.folders.items)) (map loaded_view c.in_ok-loaded.loaded.items) = search rules in
     let through : AreFollowed (beside_folders file (map folder_view c.in_ok-folders.folders.items) (map (λ name. name.items) c.in_ok-names.names.items) e) before after c.in_ok-astray.astray =
-      subst (λ ns. AreFollowed (beside_folders file (map folder_view c.in_ok-folders.folders.items) (map (λ name. name.items) ns) e) before after c.in_ok-astray.astray) c.deref-5.ensures.value (
-        c.in_ok-astray.ensures file (map folder_view c.in_ok-folders.folders.items) e c.requires (
-          subst (λ l. All (IsRight file (map folder_view c.in_ok-folders.folders.items)) (map loaded_view l)) (sym c.deref-6.ensures.value) right)) in
+    subst (λ ns. AreFollowed (beside_folders file (map folder_view c.in_ok-folders.folders.items) (map (λ name. name.items) ns) e) before after c.in_ok-astray.astray) c.deref-5.ensures.value (
+    c.in_ok-astray.ensures file (map folder_view c.in_ok-folders.folders.items) e c.requires (
+    subst (λ l. All (IsRight file (map folder_view c.in_ok-folders.folders.items)) (map loaded_view l)) (sym c.deref-6.ensures.value) right)) in
     subst (λ ns. AreFollowed (beside_folders file (listings names request.search) ns e) before after c.in_ok-astray.astray) own (
-      subst (λ fs. AreFollowed (beside_folders file fs (map (λ name. name.items) c.in_ok-names.names.items) e) before after c.in_ok-astray.astray) folders through)
+    subst (λ fs. AreFollowed (beside_folders file fs (map (λ name. name.items) c.in_ok-names.names.items) e) before after c.in_ok-astray.astray) folders through)
