@@ -8,10 +8,11 @@ use Rattle.implib_read.specs.Classes.{MemberRead, library_in, members_read}
 use Rattle.implib_compare.specs.Meant.{IsVerdictOn}
 use Rattle.implib_compare.specs.Working.{working_of}
 use Rattle.implib_compare.specs.declared.compare.Verdict.{Verdict}
-use Rattle.implib_check_driver.specs.Against.{is_library}
-use Rattle.implib_check_driver.specs.Answers.{AnswersOf, AnswersOfBoth, CheckedAs, DefinedAs, OrFailed, compared, compared_in, status_in}
+use Rattle.implib_check_driver.specs.Against.{begins_dll, is_library}
+use Rattle.implib_check_driver.specs.Answers.{AnswersDefine, AnswersOf, AnswersOfBoth, CheckedAs, DefinedAs, OrFailed, compared, compared_in, status_in}
 use Rattle.implib_check_driver.specs.Calls.{CheckView, DefineView}
 use Rattle.implib_check_driver.specs.Defining.{IsUndefined}
+use Rattle.implib_check_driver.specs.OfDlls.{HasNoLibrary}
 use Rattle.implib_check_driver.specs.declared.defining.Undefined.{Undefined}
 use Rattle.implib_read.specs.Identity.{dlls_of}
 use Rattle.implib_check_driver.specs.Status.{comparison_status, no_library_status, undefined_status}
@@ -125,3 +126,15 @@ undefined_is hints define library a ms why status read same one unlike is =
         is = is;
       })),
     ))
+
+-- a DLL without a library, whose bytes these are
+pub dll_undefined : (define : DefineView) (file : Option (List ℕ)) (bytes : List ℕ) (status : ℕ) → IfSome file (λ f. bytes ≡ f)
+    → begins_dll bytes ≡ true → OrFailed status (HasNoLibrary define bytes status) → AnswersDefine define file status
+dll_undefined define file bytes status is begins (inl failed) = inl failed
+dll_undefined define None bytes status is begins (inr none) = inr tt
+dll_undefined define (Some f) bytes status is begins (inr none) =
+    let same : begins_dll f ≡ true = sym (ap begins_dll is) ∙ begins in
+    inr (
+      (λ other. absurd (true≢false (sym same ∙ other))),
+      (λ _. inr (subst (λ b. HasNoLibrary define b status) is none)),
+    )

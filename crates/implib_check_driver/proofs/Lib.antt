@@ -11,6 +11,7 @@ pub mod MeantLibraries
 pub mod OwnIndexes
 pub mod OwnLibraries
 pub mod OwnTables
+pub mod PositionsBySymbol
 pub mod SameLibraries
 pub mod SecondIndex
 pub mod LaterMeanings

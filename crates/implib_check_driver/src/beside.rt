@@ -37,7 +37,8 @@ use implib_dll_check::laws::known_dlls_decide;
 use implib_dll_check::{Beside, DllContent, End, ends};
 use implib_read::laws::own_members_found;
 use implib_read::{Library, MemberRead};
-use std::alloc::Global;
+use implib_rules::options::LibraryOptions;
+use std::alloc::{AllocError, Global};
 use std::fmt;
 use std::io::{BufWriter, Write};
 
@@ -325,6 +326,15 @@ fn library_against<S: Shelf, O: Write, E: Write>(
         dll,
         folders,
     )
+}
+
+// Where the exports of a definition are: for lines alone.
+fn positions_for_lines(
+    alloc: Global,
+    definition: &[u8],
+    options: &LibraryOptions,
+) -> Result<Positions, AllocError> {
+    Positions::of(alloc, definition, options)
 }
 
 // Holds the library of a definition against a DLL.

@@ -1,18 +1,18 @@
 //! Where the exports of a definition are in its text.
 
 ghost use Rattle.std.specs.HashMap.{get_by_text};
-ghost use Rattle.std.specs.Option.{option_or};
-ghost use Rattle.std.specs.Prelude.{◌≡◌, ◌⊎◌, ℕ, IfNone, IfOk, IfSome, List, None, OnOk, Some, bytes_eq, if◌then◌else◌, map};
+ghost use Rattle.std.specs.Option.{option_and_then, option_or};
+ghost use Rattle.std.specs.Prelude.{◌≡◌, ◌⊎◌, ℕ, IfNone, IfOk, IfSome, List, None, OnOk, Some, bytes_eq, if◌then◌else◌, map, slice_get};
 ghost use Rattle.std.specs.Str.{IsUtf8};
 ghost use Rattle.std.specs.String.{string_bytes};
-ghost use Rattle.implib.specs.Definition.{export_view};
-ghost use Rattle.implib_check_driver.specs.Positions.{ArePositionsOf, HasNoPositions, position_from, position_if, symbol_behind};
-ghost use Rattle.implib_rules.specs.Library.{definition_text};
+ghost use Rattle.implib.specs.Definition.{definition_view, export_view};
+ghost use Rattle.implib_check_driver.specs.Positions.{ArePositionsOf, HasNoPositions, IsMeaningless, IsPlaceless, position_from, position_if, symbol_behind};
+ghost use Rattle.implib_rules.specs.Library.{DefinitionFor, definition_text};
 ghost use Rattle.implib_rules.specs.Options.{library_options_view};
-ghost use Rattle.implib_rules.specs.Places.{export_positions};
+ghost use Rattle.implib_rules.specs.Places.{ArePlacesOf, export_positions};
 
 use implib::ParseError;
-use implib::def::{Position, ShortExport};
+use implib::def::{ModuleDef, Position, ShortExport};
 use implib_rules::library::{Refusal, definition_for};
 use implib_rules::options::LibraryOptions;
 use implib_rules::places::{Place, Site, read_with_places};
@@ -42,19 +42,26 @@ fn note_symbol(
     Ok(())
 }
 
-// Notes the position of an export, unless it declares nothing, or its symbol has one.
+// Notes the position of an export, if there is one, unless it declares nothing, or its symbol has one.
 fn note(
     by_symbol: &mut HashMap<String, Position>,
     export: &ShortExport,
-    position: Position,
+    position: Option<Position>,
 ) -> Result<(), AllocError>
     ensures { OnOk result ((symbol : List ℕ) → get_by_text by_symbol.new symbol
-        ≡ option_or (get_by_text by_symbol.old symbol) (position_if (export_view export.now) symbol position)) }
+        ≡ option_or (get_by_text by_symbol.old symbol) (option_and_then (position_if (export_view export.now) symbol) position)) }
 {
-    if export.private {
-        return Ok(());
+    match position {
+        Some(position) if !export.private => note_symbol(by_symbol, &export.name, position),
+        _ => Ok(()),
     }
-    note_symbol(by_symbol, &export.name, position)
+}
+
+// A position of these, if there are so many.
+fn position_at(positions: &[Position], index: usize) -> Option<Position>
+    ensures { result ≡ slice_get positions.now index }
+{
+    positions.get(index).copied()
 }
 
 // The positions of exports, of which these are in order.
@@ -68,9 +75,7 @@ fn positions_by_symbol(
 {
     let mut by_symbol = HashMap::new(alloc);
     for i in 0..exports.len() {
-        if i < positions.len() {
-            note(&mut by_symbol, &exports[i], positions[i])?;
-        }
+        note(&mut by_symbol, &exports[i], position_at(positions, i))?;
     }
     Ok(by_symbol)
 }
@@ -87,6 +92,35 @@ fn export_positions(alloc: Global, places: &[Place]) -> Result<Vec<Position>, Al
         }
     }
     Ok(positions)
+}
+
+// What a text means, unless it is refused.
+fn meaning_of(
+    alloc: Global,
+    text: &str,
+    options: &LibraryOptions,
+) -> Result<Option<ModuleDef>, AllocError>
+    ensures meant { IfOk result (λ found. IfSome found
+        (λ def. DefinitionFor text.now (library_options_view options.now) (definition_view def))) }
+    ensures refused { IfOk result (λ found. IfNone found (IsMeaningless text.now (library_options_view options.now))) }
+{
+    match definition_for(alloc, text, options) {
+        Ok(def) => Ok(Some(def)),
+        Err(Refusal::OutOfMemory) => Err(AllocError),
+        Err(_) => Ok(None),
+    }
+}
+
+// The places of a text, unless it is refused.
+fn places_of(alloc: Global, text: &str) -> Result<Option<Vec<Place>>, AllocError>
+    ensures read { IfOk result (λ found. IfSome found (λ places. ArePlacesOf text.now places.items)) }
+    ensures refused { IfOk result (λ found. IfNone found (IsPlaceless text.now)) }
+{
+    match read_with_places(alloc, text) {
+        Ok((_, places)) => Ok(Some(places)),
+        Err(ParseError::OutOfMemory(refused)) => Err(refused),
+        Err(_) => Ok(None),
+    }
 }
 
 // The symbol of code, of which another may be the address.
@@ -121,15 +155,11 @@ impl Positions {
         let Ok(text) = read.text() else {
             return Ok(none);
         };
-        let def = match definition_for(alloc, text, options) {
-            Ok(def) => def,
-            Err(Refusal::OutOfMemory) => return Err(AllocError),
-            Err(_) => return Ok(none),
+        let Some(def) = meaning_of(alloc, text, options)? else {
+            return Ok(none);
         };
-        let places = match read_with_places(alloc, text) {
-            Ok((_, places)) => places,
-            Err(ParseError::OutOfMemory(refused)) => return Err(refused),
-            Err(_) => return Ok(none),
+        let Some(places) = places_of(alloc, text)? else {
+            return Ok(none);
         };
         let positions = export_positions(alloc, &places)?;
         Ok(Positions {
