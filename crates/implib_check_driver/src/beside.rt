@@ -361,7 +361,7 @@ fn held<S: Shelf, O: Write, E: Write>(
     let Some(meant) = Library::read(alloc, &file)? else {
         unreachable!();
     };
-    let positions = Positions::of(alloc, definition, &options)?;
+    let positions = positions_for_lines(alloc, definition, &options)?;
     let source = Source::Definition(check.library, &positions);
     Ok(members_against(
         form,

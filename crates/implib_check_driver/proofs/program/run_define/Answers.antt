@@ -10,6 +10,6 @@ returns g c =
     let define = define_view c.args.define.now in
     let status = c.in-Err-library_of_dll.status in
     let none : OrFailed status (HasNoLibrary define c.in-Ok.bytes.items status) =
-      subst (λ b. OrFailed status (HasNoLibrary define b status)) c.deref-2.ensures.value c.in-Err-library_of_dll.ensures.none in
+    subst (λ b. OrFailed status (HasNoLibrary define b status)) c.deref-2.ensures.value c.in-Err-library_of_dll.ensures.none in
     dll_undefined define (g.S.Shelf.seen c.args.shelf.now c.args.define.now.library.now) c.in-Ok.bytes.items status
     c.in-Ok.ensures.read (search rules) none
