@@ -184,7 +184,10 @@ impl Files {
     fn members(&mut self, alloc: Global, name: &str) -> Result<Vec<u8>, Fail> {
         let mut kept = Vec::new(alloc);
         let mut rest = self.bytes(name)?.get(8..).unwrap_or(&[]);
-        while let Some((header, after)) = rest.split_at_checked(60) {
+        for _ in 0..usize::MAX {
+            let Some((header, after)) = rest.split_at_checked(60) else {
+                break;
+            };
             let length = size_in(header.get(48..58).unwrap_or(&[]))?;
             let whole = length.checked_next_multiple_of(2).unwrap_or(length);
             let (data, after) = after.split_at_checked(whole).ok_or("a member is cut off")?;
