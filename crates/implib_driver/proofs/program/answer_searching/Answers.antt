@@ -1,4 +1,4 @@
-use Rattle.std.proofs.Common.{◌≡◌, inl, map, rules, subst, sym}
+use Rattle.std.proofs.Common.{inl, map, rules, subst}
 use Rattle.implib.specs.Definition.{export_view}
 use Rattle.implib_dll.specs.Views.{exports_view}
 use Rattle.implib_from_dll.specs.Definition.{exports_of}

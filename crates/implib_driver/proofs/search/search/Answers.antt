@@ -1,4 +1,4 @@
-use Rattle.std.proofs.Common.{◌≡◌, ◌∙◌, ℕ, List, ap, map, rules, subst, sym}
+use Rattle.std.proofs.Common.{◌≡◌, map, rules, subst, sym}
 use Rattle.std.specs.Prelude.{All}
 use Rattle.implib.specs.Definition.{export_view}
 use Rattle.implib_dll.specs.Views.{exports_view}
