@@ -132,10 +132,10 @@ map_pairs [] = refl
 map_pairs (x ∷ xs) = ap (λ t. x ∷ t) (map_pairs xs)
 
 -- the entries, after the offsets
-abbrev entries_data : List ℕ → List (List ℕ × ℕ)
+abbrev pub entries_data : List ℕ → List (List ℕ × ℕ)
 entries_data rest = let count = from_le_bytes w32 (take 4 rest) in paired (texts_in count (drop (4 + 2 * count) rest)) (numbers_in (from_le_bytes w16) 2 count (drop 4 rest))
 
-entries_read : (sorted : List (List ℕ × ℕ)) (pad : List ℕ) → length sorted < 2 ^ 32 → AllByRecursion (λ (e : List ℕ × ℕ). e.1 < 2 ^ 16) sorted → AreTexts sorted
+pub entries_read : (sorted : List (List ℕ × ℕ)) (pad : List ℕ) → length sorted < 2 ^ 32 → AllByRecursion (λ (e : List ℕ × ℕ). e.1 < 2 ^ 16) sorted → AreTexts sorted
     → entries_data (u32_le (length sorted) ++ (flat_map (λ (e : List ℕ × ℕ). u16_le e.1) sorted ++ (strings_of sorted ++ pad))) ≡ sorted
 entries_read sorted pad few small none =
     let n = length sorted in
@@ -184,7 +184,7 @@ second_read places sorted pad few near few_entries small none =
 
 -- Where the linker members are.
 
-linker_there : (position : ℕ) (bytes : List ℕ) (parts : List Stored) (contents : List ℕ) → stored_in bytes ≡ Some parts → slice_get parts position ≡ Some (stored (codes "/") contents) → linker_in position bytes ≡ Some contents
+pub linker_there : (position : ℕ) (bytes : List ℕ) (parts : List Stored) (contents : List ℕ) → stored_in bytes ≡ Some parts → slice_get parts position ≡ Some (stored (codes "/") contents) → linker_in position bytes ≡ Some contents
 unfolding linker_in linker_data
 linker_there position bytes parts contents found at =
     ap (option_and_then (λ parts. option_and_then (λ s. linker_data (name_in s.field) s.contents) (slice_get parts position))) found

@@ -74,14 +74,14 @@ unfolding long_names_or
 no_names kind data' field' name contents others (inl short) = ap (λ n. long_names_or n contents others) short
 no_names kind data' field' name contents others (inr long) = ap (λ n. long_names_or n contents others) long.at
 
-among_members : (kind : Kind) (data' : List ℕ) (names : List (List ℕ × ℕ)) (members : List MemberView) → HaveNames kind data' names members → members_among kind data' (map (stored_member names) members) ≡ Some (map read_view members)
+pub among_members : (kind : Kind) (data' : List ℕ) (names : List (List ℕ × ℕ)) (members : List MemberView) → HaveNames kind data' names members → members_among kind data' (map (stored_member names) members) ≡ Some (map read_view members)
 unfolding members_among
 among_members kind data' names [] named = refl
 among_members kind data' names (m ∷ members) named =
     ap (before_others kind data' (name_in (field 16 (name_field names m.name))) m.bytes) (among_members kind data' names members named.1)
     ∙ before_named kind data' (field 16 (name_field names m.name)) m.name m.bytes (map read_view members) named.0
 
-none_among : (kind : Kind) (data' : List ℕ) (names : List (List ℕ × ℕ)) (members : List MemberView) → HaveNames kind data' names members → long_names_in (map (stored_member names) members) ≡ []
+pub none_among : (kind : Kind) (data' : List ℕ) (names : List (List ℕ × ℕ)) (members : List MemberView) → HaveNames kind data' names members → long_names_in (map (stored_member names) members) ≡ []
 unfolding long_names_in
 none_among kind data' names [] named = refl
 none_among kind data' names (m ∷ members) named =
@@ -94,7 +94,7 @@ module _ (kind : Kind) (data' : List ℕ) where
   unfolding members_among before_others
   past_linker contents parts = ap (λ n. before_others kind data' n contents (members_among kind data' parts)) linker_named
 
-  past_linkers : (k : Kind) (places : List ℕ) (entries : List (List ℕ × ℕ)) (parts : List Stored) → members_among kind data' (stored_linkers k places entries ++ parts) ≡ members_among kind data' parts
+  pub past_linkers : (k : Kind) (places : List ℕ) (entries : List (List ℕ × ℕ)) (parts : List Stored) → members_among kind data' (stored_linkers k places entries ++ parts) ≡ members_among kind data' parts
   unfolding stored_linkers
   past_linkers Coff places entries parts =
       past_linker (padded 0 (first_linker places entries)) (stored (codes "/") (padded 0 (second_linker places (sorted_entries entries))) ∷ parts)
@@ -105,7 +105,7 @@ module _ (kind : Kind) (data' : List ℕ) where
       by_test true = past_linker (padded 0 (first_linker places entries)) parts
       by_test false = refl
 
-  past_names : (names : List ℕ) (parts : List Stored) → members_among kind data' (stored_names names ++ parts) ≡ members_among kind data' parts
+  pub past_names : (names : List ℕ) (parts : List Stored) → members_among kind data' (stored_names names ++ parts) ≡ members_among kind data' parts
   unfolding stored_names members_among before_others
   past_names names parts = by_test (nat_lt 0 (length names))
     where
@@ -117,7 +117,7 @@ names_past_linker : (contents : List ℕ) (parts : List Stored) → long_names_i
 unfolding long_names_in long_names_or
 names_past_linker contents parts = ap (λ n. long_names_or n contents (long_names_in parts)) linker_named
 
-names_past_linkers : (k : Kind) (places : List ℕ) (entries : List (List ℕ × ℕ)) (parts : List Stored) → long_names_in (stored_linkers k places entries ++ parts) ≡ long_names_in parts
+pub names_past_linkers : (k : Kind) (places : List ℕ) (entries : List (List ℕ × ℕ)) (parts : List Stored) → long_names_in (stored_linkers k places entries ++ parts) ≡ long_names_in parts
 unfolding stored_linkers
 names_past_linkers Coff places entries parts =
     names_past_linker (padded 0 (first_linker places entries)) (stored (codes "/") (padded 0 (second_linker places (sorted_entries entries))) ∷ parts)
@@ -136,7 +136,7 @@ some_found : (contents : List ℕ) (parts : List Stored) → long_names_in (stor
 unfolding long_names_in long_names_or
 some_found contents parts = ap (λ n. long_names_or n contents (long_names_in parts)) long_names_named
 
-names_found : (names : List ℕ) (parts : List Stored) → long_names_in parts ≡ [] → long_names_in (stored_names names ++ parts) ≡ padded 10 names
+pub names_found : (names : List ℕ) (parts : List Stored) → long_names_in parts ≡ [] → long_names_in (stored_names names ++ parts) ≡ padded 10 names
 unfolding stored_names
 names_found [] parts none = none ∙ padded_none
 names_found (c ∷ names) parts none =

@@ -66,7 +66,7 @@ unfolding with_first
 texts_firsts found [] all more = all
 texts_firsts found (e ∷ entries) all more = texts_firsts (with_first found e) entries (texts_first (is_listed found e.0) found e all more.0) more.1
 
-entries_texts : (kind : Kind) (members : List MemberView) → members_refusal kind members ≡ None → AreTexts (entries_of kind members)
+pub entries_texts : (kind : Kind) (members : List MemberView) → members_refusal kind members ≡ None → AreTexts (entries_of kind members)
 unfolding entries_of
 entries_texts Gnu members none = entry_texts Gnu 1 members none
 entries_texts Coff members none = texts_firsts [] (entries_from 1 members) tt (entry_texts Coff 1 members none)
@@ -86,7 +86,7 @@ texts_sorted : (sorted entries : List (List ℕ × ℕ)) → AreTexts sorted →
 texts_sorted sorted [] all more = all
 texts_sorted sorted (e ∷ entries) all more = texts_sorted (insert_entry (slice_cmp nat_cmp) sorted e.0 e.1) entries (texts_inserted e.0 e.1 more.0 sorted all) more.1
 
-sorted_texts : (entries : List (List ℕ × ℕ)) → AreTexts entries → AreTexts (sorted_entries entries)
+pub sorted_texts : (entries : List (List ℕ × ℕ)) → AreTexts entries → AreTexts (sorted_entries entries)
 unfolding sorted_entries
 sorted_texts entries all = texts_sorted [] entries tt all
 
@@ -97,12 +97,12 @@ near_one [] all = tt
 near_one (p ∷ places) all =
     let both = and_parts (nat_lt p (2 ^ 32)) (list_all (λ p. nat_lt p (2 ^ 32)) places) all in (ltb-true p (2 ^ 32) both.0, near_one places both.1)
 
-near_at : (places : List ℕ) (i : ℕ) → AllByRecursion (λ n. n < 2 ^ 32) places → get_or places i 0 < 2 ^ 32
+pub near_at : (places : List ℕ) (i : ℕ) → AllByRecursion (λ n. n < 2 ^ 32) places → get_or places i 0 < 2 ^ 32
 near_at [] i all = omega arith
 near_at (p ∷ places) zero all = all.0
 near_at (p ∷ places) (suc i) all = near_at places i all.1
 
-short_places : (place : ℕ) (members : List MemberView) → places_refusal place members ≡ None → AllByRecursion (λ n. n < 2 ^ 32) (places_from place members)
+pub short_places : (place : ℕ) (members : List MemberView) → places_refusal place members ≡ None → AllByRecursion (λ n. n < 2 ^ 32) (places_from place members)
 unfolding places_refusal has_short_places
 short_places place members none =
     near_one (places_from place members) (and_parts (nat_lt place (2 ^ 32)) (list_all (λ p. nat_lt p (2 ^ 32)) (places_from place members)) (by_test (nat_lt place (2 ^ 32) && list_all (λ p. nat_lt p (2 ^ 32)) (places_from place members)) none)).1
@@ -128,7 +128,7 @@ module _ (byte : ℕ) (contents : List ℕ) where
   length-padded_data : length (padded byte contents) ≡ length contents + length contents % 2
   length-padded_data = length-append contents (padding byte (length contents)) ∙ ap (λ n. length contents + n) (length-padding byte (length contents))
 
-  padded_size : (place : ℕ) → place + (60 + length (padded byte contents) + length (padded byte contents) % 2) ≡ place + part_size (length contents)
+  pub padded_size : (place : ℕ) → place + (60 + length (padded byte contents) + length (padded byte contents) % 2) ≡ place + part_size (length contents)
   padded_size place = omega (arith, length-padded_data)
 
 after_linker : (place : ℕ) (contents : List ℕ) (parts : List Stored) → headers_among place (stored (codes "/") (padded 0 contents) ∷ parts) ≡ headers_among (place + part_size (length contents)) parts
@@ -170,7 +170,7 @@ after_names place text parts = by_test (nat_lt 0 (length text))
         ap (λ n. with_header n place (headers_among next parts)) long_names_named ∙ ap (λ n. headers_among n parts) (padded_size 10 text place)
     by_test false = ap (λ n. headers_among n parts) (omega arith)
 
-member_header : (kind : Kind) (data' field' name : List ℕ) (place : ℕ) (headers : List ℕ) → HasName kind data' field' name → with_header (name_in field') place headers ≡ place ∷ headers
+pub member_header : (kind : Kind) (data' field' name : List ℕ) (place : ℕ) (headers : List ℕ) → HasName kind data' field' name → with_header (name_in field') place headers ≡ place ∷ headers
 unfolding with_header
 member_header kind data' field' name place headers (inl short) = ap (λ n. with_header n place headers) short
 member_header kind data' field' name place headers (inr long) = ap (λ n. with_header n place headers) long.at
@@ -209,7 +209,7 @@ headers_found kind members accepted =
 -- After each header of a member it is read.
 
 module _ (kind : Kind) (bytes : List ℕ) (all : List Stored) (found : stored_in bytes ≡ Some all) where
-  at_header : (place : ℕ) (s : Stored) → stored_at bytes place ≡ Some s → member_at kind bytes place ≡ read_as kind (long_names_in all) (name_in s.field) s.contents
+  pub at_header : (place : ℕ) (s : Stored) → stored_at bytes place ≡ Some s → member_at kind bytes place ≡ read_as kind (long_names_in all) (name_in s.field) s.contents
   unfolding member_at
   at_header place s is =
       ap (option_and_then (λ parts. option_and_then (λ s. read_as kind (long_names_in parts) (name_in s.field) s.contents) (stored_at bytes place))) found
@@ -224,7 +224,7 @@ module _ (kind : Kind) (bytes : List ℕ) (all : List Stored) (found : stored_in
       let same : reads ≡ read ∷ more = cc in
       ap (λ t. t ∷ map (member_at kind bytes) headers) at ∙ (ap (λ t. Some read ∷ t) (rest more refl) ∙ sym (ap (map (λ r. Some r)) same))
 
-  by_name : (place : ℕ) (headers : List ℕ) (n : Name) (contents : List ℕ) (reads : List Read) (others : Option (List Read))
+  pub by_name : (place : ℕ) (headers : List ℕ) (n : Name) (contents : List ℕ) (reads : List Read) (others : Option (List Read))
       → member_at kind bytes place ≡ read_as kind (long_names_in all) n contents
       → ((more : List Read) → others ≡ Some more → map (member_at kind bytes) headers ≡ map (λ r. Some r) more)
       → before_others kind (long_names_in all) n contents others ≡ Some reads → map (member_at kind bytes) (with_header n place headers) ≡ map (λ r. Some r) reads
@@ -243,7 +243,7 @@ module _ (kind : Kind) (bytes : List ℕ) (all : List Stored) (found : stored_in
       let next = place + (60 + length s.contents + length s.contents % 2) in
       by_name place (headers_among next parts) (name_in s.field) s.contents reads (members_among kind (long_names_in all) parts) (at_header place s laid.0) (λ more. headers_read next parts more laid.1) is
 
-map_twice : (members : List MemberView) → map (λ r. Some r) (map read_view members) ≡ map (λ m. Some (read_view m)) members
+pub map_twice : (members : List MemberView) → map (λ r. Some r) (map read_view members) ≡ map (λ m. Some (read_view m)) members
 map_twice [] = refl
 map_twice (m ∷ members) = ap (λ t. Some (read_view m) ∷ t) (map_twice members)
 
@@ -275,7 +275,7 @@ unfolding numbered place_of
 number_leads places zero some within = absurd (omega (arith, some))
 number_leads places (suc n) some within = let k : suc n - 1 ≡ n = omega arith in slice_get-get_or places n 0 (omega (arith, within)) ∙ ap (λ i. Some (get_or places i 0)) (sym k)
 
-numbers_lead : (places : List ℕ) (s : List ℕ) (entries : List (List ℕ × ℕ)) → Each (λ k. (0 < k) × (k ≤ length places)) entries
+pub numbers_lead : (places : List ℕ) (s : List ℕ) (entries : List (List ℕ × ℕ)) → Each (λ k. (0 < k) × (k ≤ length places)) entries
     → option_and_then (numbered places) (lookup (bytes_eq s) entries) ≡ option_map (place_of places) (lookup (bytes_eq s) entries)
 numbers_lead places s [] each = refl
 numbers_lead places s (e ∷ entries) each = by_test (bytes_eq s e.0) (numbers_lead places s entries each.1)
@@ -285,7 +285,7 @@ numbers_lead places s (e ∷ entries) each = by_test (bytes_eq s e.0) (numbers_l
     by_test true rest = number_leads places e.1 each.0.0 each.0.1
     by_test false rest = rest
 
-each_small : (entries : List (List ℕ × ℕ)) → Each (λ k. k < 2 ^ 16) entries → AllByRecursion (λ (e : List ℕ × ℕ). e.1 < 2 ^ 16) entries
+pub each_small : (entries : List (List ℕ × ℕ)) → Each (λ k. k < 2 ^ 16) entries → AllByRecursion (λ (e : List ℕ × ℕ). e.1 < 2 ^ 16) entries
 each_small [] each = tt
 each_small (e ∷ entries) each = (each.0, each_small entries each.1)
 

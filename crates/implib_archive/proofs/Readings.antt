@@ -162,7 +162,7 @@ stored_padded l byte contents rest fits short =
 
 -- The parts of an archive.
 
-stored_members : (names : List (List ℕ × ℕ)) → ((name : List ℕ) → unwrap_or (offset_of names name) 0 < 2 ^ 32) → (members : List MemberView) → AreShort members
+pub stored_members : (names : List (List ℕ × ℕ)) → ((name : List ℕ) → unwrap_or (offset_of names name) 0 < 2 ^ 32) → (members : List MemberView) → AreShort members
     → stored_from 0 (flat_map (member_part names) members) ≡ Some (map (stored_member names) members)
 unfolding member_part stored_from member_label
 stored_members names near [] short = refl
@@ -170,7 +170,7 @@ stored_members names near (m ∷ members) short =
     stored_odd (member_label names m.name) m.bytes (flat_map (member_part names) members) (member_fits names m.name (near m.name)) short.0
     ∙ ap (option_map (λ others. stored_member names m ∷ others)) (stored_members names near members short.1)
 
-named_parts : (names rest : List ℕ) (others : List Stored) → length names < 2 ^ 32 → stored_from 0 rest ≡ Some others → stored_from 0 (names_part names ++ rest) ≡ Some (stored_names names ++ others)
+pub named_parts : (names rest : List ℕ) (others : List Stored) → length names < 2 ^ 32 → stored_from 0 rest ≡ Some others → stored_from 0 (names_part names ++ rest) ≡ Some (stored_names names ++ others)
 unfolding names_part stored_names names_label
 named_parts [] rest others short found = found
 named_parts (c ∷ names) rest others short found =
@@ -179,7 +179,7 @@ named_parts (c ∷ names) rest others short found =
     ∙ (stored_padded names_label 10 (c ∷ names) rest names_fit short ∙ ap (option_map (λ o. stored (codes "//") (padded 10 (c ∷ names)) ∷ o)) found)
     ∙ sym (ap (λ b. Some ((if b then stored (codes "//") (padded 10 (c ∷ names)) ∷ [] else []) ++ others)) some)
 
-linker_parts : (kind : Kind) (places : List ℕ) (entries : List (List ℕ × ℕ)) (rest : List ℕ) (others : List Stored) → FrontFits kind places entries → stored_from 0 rest ≡ Some others
+pub linker_parts : (kind : Kind) (places : List ℕ) (entries : List (List ℕ × ℕ)) (rest : List ℕ) (others : List Stored) → FrontFits kind places entries → stored_from 0 rest ≡ Some others
     → stored_from 0 (linkers kind places entries ++ rest) ≡ Some (stored_linkers kind places entries ++ others)
 unfolding linkers stored_linkers linker_label
 linker_parts Coff places entries rest others fits found =

@@ -267,7 +267,7 @@ pub names_some : (n : ℕ) → 0 < n → names_size n ≡ part_size n
 unfolding names_size
 names_some n some = ap (λ b. if b then part_size n else 0) (lt-ltb 0 n some)
 
-names_of-size : (names : List ℕ) → names_size (length names) < 2 ^ 32 → length (names_part names) ≡ names_size (length names)
+pub names_of-size : (names : List ℕ) → names_size (length names) < 2 ^ 32 → length (names_part names) ≡ names_size (length names)
 unfolding names_part names_size
 names_of-size [] short = refl
 names_of-size (c ∷ names) short =
@@ -285,7 +285,7 @@ first_short Coff entries short = omega (arith, short)
 first_short Gnu [] short = omega arith
 first_short Gnu (e ∷ entries) short = let size = linker_some (length (e ∷ entries)) (length (strings_of (e ∷ entries))) (omega arith) in omega (arith, short, size)
 
-linkers-size : (kind : Kind) (places : List ℕ) (entries : List (List ℕ × ℕ)) → first_linker_size kind (length entries) (length (strings_of entries)) < 2 ^ 32
+pub linkers-size : (kind : Kind) (places : List ℕ) (entries : List (List ℕ × ℕ)) → first_linker_size kind (length entries) (length (strings_of entries)) < 2 ^ 32
     → second_linker_size kind (length places) (length entries) (length (strings_of entries)) < 2 ^ 32
     → (kind ≡ Coff → (length (sorted_entries entries) ≡ length entries) × (length (strings_of (sorted_entries entries)) ≡ length (strings_of entries)))
     → length (linkers kind places entries) ≡ first_linker_size kind (length entries) (length (strings_of entries)) + second_linker_size kind (length places) (length entries) (length (strings_of entries))

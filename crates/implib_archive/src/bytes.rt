@@ -7,20 +7,20 @@ ghost use Rattle.std.specs.Prelude.{◌≡◌, ◌≤◌, ◌++◌, OnOk, length
 use itoa::Buffer;
 use std::alloc::{AllocError, Global};
 
-// What the header of a part says beside its name and its size.
+/// What the header of a part says beside its name and its size.
 #[derive(Clone, Copy)]
-pub(crate) enum Texts {
+pub enum Texts {
     Linker,
     LongNames,
     Member,
 }
 
-// The texts of a header; the name is in two pieces.
+/// The texts of a header; the name is in two pieces.
 #[derive(Clone, Copy)]
-pub(crate) struct Label<'a> {
-    pub(crate) name: &'a [u8],
-    pub(crate) name_end: &'a [u8],
-    pub(crate) texts: Texts,
+pub struct Label<'a> {
+    pub name: &'a [u8],
+    pub name_end: &'a [u8],
+    pub texts: Texts,
 }
 
 // The fields of date, user, group and mode, one after another.
@@ -50,8 +50,8 @@ fn push_field(out: &mut Vec<u8>, width: usize, text: &[u8], end: &[u8]) -> Resul
     out.extend_from_slice(&spaces[..left])
 }
 
-// Appends a header whose data has this size.
-pub(crate) fn push_header(out: &mut Vec<u8>, label: &Label, size: usize) -> Result<(), AllocError>
+/// Appends a header whose data has this size.
+pub fn push_header(out: &mut Vec<u8>, label: &Label, size: usize) -> Result<(), AllocError>
     ensures { OnOk result
         (Pushes out.old.items out.new.items (header_bytes (label_view label.now) size)) }
 {
@@ -62,8 +62,8 @@ pub(crate) fn push_header(out: &mut Vec<u8>, label: &Label, size: usize) -> Resu
     out.extend_from_slice(b"`\n")
 }
 
-// Appends the padding byte after data of an odd size.
-pub(crate) fn push_padding(out: &mut Vec<u8>, byte: u8, size: usize) -> Result<(), AllocError>
+/// Appends the padding byte after data of an odd size.
+pub fn push_padding(out: &mut Vec<u8>, byte: u8, size: usize) -> Result<(), AllocError>
     ensures { OnOk result (Pushes out.old.items out.new.items (padding byte size)) }
 {
     let bytes = [byte; 1];
@@ -78,9 +78,9 @@ pub(crate) fn push_u32_be(out: &mut Vec<u8>, value: u32) -> Result<(), AllocErro
     out.extend_from_slice(&value.to_be_bytes())
 }
 
-// Appends a number in 4 bytes, the low one first.
+/// Appends a number in 4 bytes, the low one first.
 #[tactic(auto, unfolding(crate::specs::Parts::u32_le))]
-pub(crate) fn push_u32_le(out: &mut Vec<u8>, value: u32) -> Result<(), AllocError>
+pub fn push_u32_le(out: &mut Vec<u8>, value: u32) -> Result<(), AllocError>
     ensures { OnOk result (Pushes out.old.items out.new.items (u32_le value)) }
 {
     out.extend_from_slice(&value.to_le_bytes())

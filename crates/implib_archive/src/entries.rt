@@ -14,15 +14,15 @@ use crate::source::{Members, Source};
 use indexmap::IndexMap;
 use std::alloc::{AllocError, Global};
 
-// The entries of the index, and of the COFF kind the same in the order of their symbols' bytes.
+/// The entries of the index, and of the COFF kind the same in the order of their symbols' bytes.
 #[derive(Drop)]
-pub(crate) struct Entries<'a> {
-    pub(crate) listed: Vec<(&'a str, usize)>,
-    pub(crate) sorted: Vec<(&'a str, usize)>,
+pub struct Entries<'a> {
+    pub listed: Vec<(&'a str, usize)>,
+    pub sorted: Vec<(&'a str, usize)>,
 }
 
-// The entries of the index: symbols, and the numbers of their members from 1.
-pub(crate) fn entries_of<'a, S: Source<'a>>(
+/// The entries of the index: symbols, and the numbers of their members from 1.
+pub fn entries_of<'a, S: Source<'a>>(
     alloc: Global,
     source: &S,
     kind: Kind,

@@ -26,8 +26,8 @@ use std::io;
 // How many numbers of 4 bytes go into a piece.
 const NUMBERS: usize = PIECE / 4;
 
-// Appends the front of an archive with these entries, long names and member offsets.
-pub(crate) fn push_front(
+/// Appends the front of an archive with these entries, long names and member offsets.
+pub fn push_front(
     out: &mut Vec<u8>,
     kind: Kind,
     entries: &[(&str, usize)],
@@ -48,8 +48,8 @@ pub(crate) fn push_front(
     push_names(out, kind, names)
 }
 
-// Writes the front of an archive, a piece at a time, through an empty buffer.
-pub(crate) fn write_front<W: io::Write>(
+/// Writes the front of an archive, a piece at a time, through an empty buffer.
+pub fn write_front<W: io::Write>(
     writer: &mut W,
     piece: &mut Vec<u8>,
     kind: Kind,
@@ -261,8 +261,8 @@ fn push_places(out: &mut Vec<u8>, places: &[u32]) -> Result<(), AllocError>
     Ok(())
 }
 
-// Appends the number of each entry's member.
-fn push_numbers(out: &mut Vec<u8>, entries: &[(&str, usize)]) -> Result<(), AllocError>
+/// Appends the number of each entry's member.
+pub fn push_numbers(out: &mut Vec<u8>, entries: &[(&str, usize)]) -> Result<(), AllocError>
     requires { All (λ e. e.1 < 2 ^ 16) (shown entries.now) }
     ensures { OnOk result
         (Pushes out.old.items out.new.items (flat_map (λ e. u16_le e.1) (shown entries.now))) }
@@ -273,8 +273,8 @@ fn push_numbers(out: &mut Vec<u8>, entries: &[(&str, usize)]) -> Result<(), Allo
     Ok(())
 }
 
-// Appends the symbols of entries, each ended by a NUL.
-fn push_strings(out: &mut Vec<u8>, entries: &[(&str, usize)]) -> Result<(), AllocError>
+/// Appends the symbols of entries, each ended by a NUL.
+pub fn push_strings(out: &mut Vec<u8>, entries: &[(&str, usize)]) -> Result<(), AllocError>
     ensures { OnOk result (Pushes out.old.items out.new.items (strings_of (shown entries.now))) }
 {
     for entry in entries {
@@ -323,8 +323,8 @@ fn write_places<W: io::Write>(
     Ok(())
 }
 
-// Writes the number of each entry's member, a piece at a time.
-fn write_numbers<W: io::Write>(
+/// Writes the number of each entry's member, a piece at a time.
+pub fn write_numbers<W: io::Write>(
     writer: &mut W,
     piece: &mut Vec<u8>,
     entries: &[(&str, usize)],
@@ -343,8 +343,8 @@ fn write_numbers<W: io::Write>(
     Ok(())
 }
 
-// Writes the symbols of entries, each ended by a NUL, a piece at a time.
-fn write_strings<W: io::Write>(
+/// Writes the symbols of entries, each ended by a NUL, a piece at a time.
+pub fn write_strings<W: io::Write>(
     writer: &mut W,
     piece: &mut Vec<u8>,
     entries: &[(&str, usize)],

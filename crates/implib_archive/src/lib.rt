@@ -23,6 +23,7 @@ mod error;
 mod front;
 mod kind;
 pub mod laws;
+pub mod layout;
 mod long_names;
 mod offsets;
 mod output;

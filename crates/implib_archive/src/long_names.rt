@@ -17,17 +17,17 @@ use indexmap::IndexMap;
 use itoa::Buffer;
 use std::alloc::{AllocError, Global};
 
-// The long names of an archive, each once, with their offsets, and the size of their data; exact
-// below 2^32.
+/// The long names of an archive, each once, with their offsets, and the size of their data; exact
+/// below 2^32.
 #[derive(Drop)]
-pub(crate) struct LongNames<'a> {
-    pub(crate) offsets: IndexMap<&'a str, u64>,
-    pub(crate) size: u64,
+pub struct LongNames<'a> {
+    pub offsets: IndexMap<&'a str, u64>,
+    pub size: u64,
 }
 
 impl<'a> LongNames<'a> {
-    // The long names of the members.
-    pub(crate) fn of<S: Source<'a>>(
+    /// The long names of the members.
+    pub fn of<S: Source<'a>>(
         alloc: Global,
         source: &S,
         kind: Kind,

@@ -14,13 +14,13 @@ use crate::kind::Kind;
 use crate::source::{Members, Source};
 use std::alloc::Global;
 
-// The offset of the first member's header, those of all headers, and the archive's end, which is
-// `first` where there are no members.
+/// The offset of the first member's header, those of all headers, and the archive's end, which is
+/// `first` where there are no members.
 #[derive(Drop)]
-pub(crate) struct Places {
-    pub(crate) first: u64,
-    pub(crate) offsets: Vec<u32>,
-    pub(crate) end: u64,
+pub struct Places {
+    pub first: u64,
+    pub offsets: Vec<u32>,
+    pub end: u64,
 }
 
 // The cap of sizes: a header is at a smaller offset.
@@ -41,8 +41,8 @@ fn part_size(size: u64) -> u64
     60 + size + size % 2
 }
 
-// The size of the entries' symbols, each with its NUL; it saturates at 2^64 - 1.
-pub(crate) fn strings_size(entries: &[(&str, usize)]) -> u64
+/// The size of the entries' symbols, each with its NUL; it saturates at 2^64 - 1.
+pub fn strings_size(entries: &[(&str, usize)]) -> u64
     ensures { result ≡ min (length (strings_of (shown entries.now))) (2 ^ 64 - 1) }
 {
     let mut size: u64 = 0;
@@ -118,8 +118,8 @@ pub(crate) fn front_size(
     8 + first + second + names_size(capped(names))
 }
 
-// The places of the members, the first of which begins at this offset.
-pub(crate) fn place_members<'a, S: Source<'a>>(
+/// The places of the members, the first of which begins at this offset.
+pub fn place_members<'a, S: Source<'a>>(
     alloc: Global,
     first: u64,
     source: &S,

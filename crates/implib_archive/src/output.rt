@@ -12,11 +12,11 @@ use std::io::ErrorKind;
 // passes them on, and does not copy them.
 pub(crate) const PIECE: usize = 131_072;
 
-// The memory for a piece and for what goes before it: padding, a header and a count.
-pub(crate) const PIECE_MEMORY: u64 = 131_328;
+/// The memory for a piece and for what goes before it: padding, a header and a count.
+pub const PIECE_MEMORY: u64 = 131_328;
 
-// Writes bytes. A call that fails is not repeated.
-pub(crate) fn put<W: io::Write>(writer: &mut W, bytes: &[u8]) -> io::Result<()>
+/// Writes bytes. A call that fails is not repeated.
+pub fn put<W: io::Write>(writer: &mut W, bytes: &[u8]) -> io::Result<()>
     ensures { Writes (W.contents writer.old) (W.contents writer.new) bytes.now result }
 {
     let mut rest = bytes;

@@ -81,8 +81,8 @@ fn member_refusal<'a, S: Source<'a>>(kind: Kind, source: &S, index: usize) -> Op
     None
 }
 
-// What is wrong with the first member of a source that is refused.
-pub(crate) fn source_refusal<'a, S: Source<'a>>(kind: Kind, source: &S) -> Option<Fault>
+/// What is wrong with the first member of a source that is refused.
+pub fn source_refusal<'a, S: Source<'a>>(kind: Kind, source: &S) -> Option<Fault>
     ensures { result ≡ members_refusal kind (S.members source.now) }
 {
     for index in 0..source.count() {

@@ -161,9 +161,9 @@ impl<'a, S: Source<'a>> Archive<'a, S> {
     }
 }
 
-// Whether there are more members than the second linker member numbers.
+/// Whether there are more members than the second linker member numbers.
 #[tactic(auto, unfolding(crate::specs::Refusal::has_too_many))]
-fn has_too_many<'a, S: Source<'a>>(kind: Kind, source: &S) -> bool
+pub fn has_too_many<'a, S: Source<'a>>(kind: Kind, source: &S) -> bool
     ensures { result ≡ has_too_many kind (S.members source.now) }
 {
     match kind {
@@ -172,8 +172,8 @@ fn has_too_many<'a, S: Source<'a>>(kind: Kind, source: &S) -> bool
     }
 }
 
-// The offset of the first member's header; exact below 2^32.
-fn first_place<'a, S: Source<'a>>(
+/// The offset of the first member's header; exact below 2^32.
+pub fn first_place<'a, S: Source<'a>>(
     kind: Kind,
     source: &S,
     entries: &[(&str, usize)],
@@ -193,8 +193,8 @@ fn first_place<'a, S: Source<'a>>(
     )
 }
 
-// Appends the members.
-fn push_members<'a, S: Source<'a>>(
+/// Appends the members.
+pub fn push_members<'a, S: Source<'a>>(
     out: &mut Vec<u8>,
     names: &LongNames,
     source: &S,
@@ -231,8 +231,8 @@ fn renew_header<'a, S: Source<'a>>(
     names.push_member_header(header, name, size)
 }
 
-// Writes the members. One buffer serves all headers, and another the members' bytes.
-fn write_members<'a, W: io::Write, S: Source<'a>>(
+/// Writes the members. One buffer serves all headers, and another the members' bytes.
+pub fn write_members<'a, W: io::Write, S: Source<'a>>(
     alloc: Global,
     writer: &mut W,
     header: &mut Vec<u8>,
