@@ -5,3 +5,13 @@ pub mod WorkedMarks
 pub mod Machine
 pub mod WorkedImports
 pub mod ReadBack
+pub mod Alike
+pub mod Listed
+pub mod Making
+pub mod Accepted
+pub mod FoundParts
+pub mod FoundIndexes
+pub mod WorkedArchives
+pub mod LibraryImports
+pub mod WorkedLibraryImports
+pub mod Unmarked

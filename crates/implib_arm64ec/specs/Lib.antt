@@ -9,3 +9,12 @@ pub mod Imported
 pub mod Reader
 pub mod WorkedImports
 pub mod ReadBack
+pub mod Library
+pub mod Archive
+pub mod Made
+pub mod ArchiveReader
+pub mod ArchiveLaws
+pub mod WorkedArchives
+pub mod LibraryImports
+pub mod WorkedLibraryImports
+pub mod Unmarked
