@@ -1,0 +1,102 @@
+-- The library for ARM64EC of a definition (LLVM, "COFFImportFile.cpp"; docs/DLLTOOL.md, "ARM64EC").
+use Rattle.std.specs.Prelude.{◌≡◌, ℕ, true, List, [], Option, None, Some, drop, take, unwrap_or}
+use Rattle.std.specs.Str.{IsUtf8}
+use Rattle.implib.specs.declared.def.position.Position.{Position}
+use Rattle.implib.specs.declared.flavor.Flavor.TheVariants.{Msvc}
+use Rattle.implib.specs.declared.machine.MachineType.TheVariants.{ARM64}
+use Rattle.implib.specs.Definition.{DefinitionView}
+use Rattle.implib.specs.Fault as cause
+use Rattle.implib.specs.Fault.{Cause, cause_of}
+use Rattle.implib.specs.LibraryName.{names_for}
+use Rattle.implib.specs.Members.MemberSpec.{MemberView}
+use Rattle.implib.specs.Renaming.{renamed}
+use Rattle.implib_arm64ec.specs.Archive.{library_refusal}
+use Rattle.implib_arm64ec.specs.Library.{LibraryView}
+use Rattle.implib_arm64ec.specs.LibraryImports.{imports_fault, imports_of}
+use Rattle.implib_arm64ec.specs.declared.library.ImportsFault.{ImportsFault}
+use Rattle.implib_arm64ec.specs.declared.library.ImportsFault.TheVariants.{MemberTooLong, NulInDllName, NulInExport, Unreadable}
+use Rattle.implib_arm64ec_library.specs.declared.library.Arm64ecRefusal.{Arm64ecRefusal}
+use Rattle.implib_arm64ec_library.specs.declared.library.Arm64ecRefusal.TheVariants as refusal
+use Rattle.implib_arm64ec_library.specs.declared.library.Unimported.{Unimported}
+use Rattle.implib_rules.specs.declared.library.Refusal.{Refusal}
+use Rattle.implib_rules.specs.declared.library.Refusal.TheVariants.{Archive, Members, NoName}
+use Rattle.implib_rules.specs.declared.library.Refusal.TheVariants.{NotUtf8, OutOfMemory, Syntax}
+use Rattle.implib_rules.specs.Library.{DefinitionFor, IsRefusalOfMembers, MembersFor, RefusesText, definition_text}
+use Rattle.implib_rules.specs.Options.{LibraryOptionsView}
+use Rattle.implib_rules.specs.Places.{IsAtFault, IsAtName}
+use Rattle.implib_rules.specs.Utf8.{IsNotUtf8At}
+
+-- The options under which both definitions are read: for ARM64 and Microsoft's linkers, with a third text wherever a
+-- name is asked for that its symbol does not say, as each linker reads it that knows ARM64EC.
+abbrev pub arm64ec_options : LibraryOptionsView → LibraryOptionsView
+arm64ec_options options = record options { machine = ARM64; flavor = Msvc; naming = record options.naming { exports_as = true } }
+
+-- the options of the native definition, which is of the same DLL
+abbrev pub native_options : LibraryOptionsView → List ℕ → LibraryOptionsView
+native_options options dll = record (arm64ec_options options) { dll = Some dll }
+
+-- The headers and the native members: those of an ordinary library for ARM64, of the native definition or of none.
+pub record AreOrdinary (native : Option (List ℕ)) (options : LibraryOptionsView) (dll : List ℕ) (headers natives : List MemberView) : Type 0 where
+  pub ordinary : List MemberView
+  pub of_native : MembersFor (unwrap_or native []) (native_options options dll) ordinary
+  pub headers_are : headers ≡ take 3 ordinary
+  pub natives_are : natives ≡ drop 3 ordinary
+
+-- The library of a definition, and of a native one: headers and native members are those of an ordinary library, and
+-- between them are the short imports of the definition.
+pub record IsLibraryOfTexts (bytes : List ℕ) (native : Option (List ℕ)) (options : LibraryOptionsView) (l : LibraryView) : Type 0 where
+  pub utf8 : IsUtf8 (definition_text bytes)
+  pub definition : DefinitionView
+  pub of_text : DefinitionFor (definition_text bytes) (arm64ec_options options) definition
+  pub ordinary : AreOrdinary native options definition.import_name l.headers l.natives
+  pub imports : l.imports ≡ imports_of (names_for Msvc (renamed definition)) (renamed definition).exports
+  pub accepted : imports_fault (names_for Msvc (renamed definition)) (renamed definition).exports ≡ None
+
+-- the bytes have a definition for this, whose short imports are refused
+pub record RefusesImports (bytes : List ℕ) (options : LibraryOptionsView) (fault : ImportsFault) : Type 0 where
+  pub utf8 : IsUtf8 (definition_text bytes)
+  pub definition : DefinitionView
+  pub of_text : DefinitionFor (definition_text bytes) (arm64ec_options options) definition
+  pub refused : imports_fault (names_for Msvc (renamed definition)) (renamed definition).exports ≡ Some fault
+
+-- the fault of short imports is told so: its export, if it is of one, is at this position of the text
+abbrev pub IsUnimported : List ℕ → ImportsFault → Unimported → Type 0
+IsUnimported text NulInDllName why = why.fault ≡ NulInDllName
+IsUnimported text (NulInExport index) why = (why.fault ≡ NulInExport index) × IsAtName text index why.position
+IsUnimported text (Unreadable index place) why = (why.fault ≡ Unreadable index place) × IsAtName text index why.position
+IsUnimported text (MemberTooLong index) why = (why.fault ≡ MemberTooLong index) × IsAtName text index why.position
+
+-- a definition whose short imports are refused, with the place of that in the text
+pub record HasNoImports (bytes : List ℕ) (options : LibraryOptionsView) (why : Unimported) : Type 0 where
+  pub fault : ImportsFault
+  pub refuses : RefusesImports bytes options fault
+  pub told : IsUnimported (definition_text bytes) fault why
+
+-- the bytes have a definition, and the native one is refused
+pub record RefusesNative (bytes : List ℕ) (native : Option (List ℕ)) (options : LibraryOptionsView) (why : Refusal) : Type 0 where
+  pub utf8 : IsUtf8 (definition_text bytes)
+  pub definition : DefinitionView
+  pub of_text : DefinitionFor (definition_text bytes) (arm64ec_options options) definition
+  pub refused : IsRefusalOfMembers (unwrap_or native []) (native_options options definition.import_name) why
+
+-- why a text has no definition
+abbrev pub IsRefusalOfDefinition : List ℕ → LibraryOptionsView → Refusal → Type 0
+IsRefusalOfDefinition bytes options (NotUtf8 position) = IsNotUtf8At (definition_text bytes) position
+IsRefusalOfDefinition bytes options (Syntax fault position) = RefusesText bytes (arm64ec_options options) (Syntax fault position)
+IsRefusalOfDefinition bytes options NoName = RefusesText bytes (arm64ec_options options) NoName
+IsRefusalOfDefinition bytes options (Members fault position) = ⊥
+IsRefusalOfDefinition bytes options (Archive fault) = ⊥
+IsRefusalOfDefinition bytes options OutOfMemory = Unit {0}
+
+-- why there is no library
+abbrev pub IsRefusalOfTexts : List ℕ → Option (List ℕ) → LibraryOptionsView → Arm64ecRefusal → Type 0
+IsRefusalOfTexts bytes native options (refusal.OfDefinition why) = IsRefusalOfDefinition bytes options why
+IsRefusalOfTexts bytes native options (refusal.OfNative why) = RefusesNative bytes native options why
+IsRefusalOfTexts bytes native options (refusal.OfImports why) = HasNoImports bytes options why
+IsRefusalOfTexts bytes native options refusal.OutOfMemory = Unit {0}
+
+-- why members have no archive
+abbrev pub IsRefusalOfArchive : LibraryView → Refusal → Type 0
+IsRefusalOfArchive l (Archive fault) = library_refusal l ≡ Some fault
+IsRefusalOfArchive l OutOfMemory = Unit {0}
+IsRefusalOfArchive l _ = ⊥
