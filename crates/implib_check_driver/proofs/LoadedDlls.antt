@@ -1,13 +1,11 @@
 -- What is known of the DLLs that were loaded is what there is of them in the folders.
 use Rattle.std.proofs.Common.{◌≡◌, ◌∙◌, ℕ, All, Bool, true, false, List, [], ◌∷◌, ◌++◌, Err, IfErr, IfOk, None, Ok, Option, Result, Some, ap, cond, inl, inr, map, refl, subst, sym}
 use Rattle.std.specs.List.{list_any}
-use Rattle.std.specs.Prelude.{bytes_eq}
 use Rattle.std.proofs.lemmas.List.Elements.{All-cons, All-head, All-nil, All-tail}
-use Rattle.std.proofs.lemmas.Slice.Eq.{bytes_eq-Decides}
 use Rattle.implib_dll.specs.Exports.{Exports}
 use Rattle.implib_dll.specs.Outcome.{Read}
 use Rattle.implib_dll_check.specs.Forwarding.{Content, End, Holds, Known, ends, is_unknown, known_in}
-use Rattle.implib_dll_check.specs.Laws.{Extends, KnownDllsDecide}
+use Rattle.implib_dll_check.specs.Laws.{KnownDllsDecide}
 use Rattle.implib_read.specs.Classes.{MemberRead}
 use Rattle.implib_dll_check.specs.declared.import.Judgement.{Judgement}
 use Rattle.implib_compare.specs.Comparison.{has_unread}
@@ -15,36 +13,19 @@ use Rattle.implib_dll_check.specs.Imports.{judgements}
 use Rattle.implib_check_driver.specs.Against.{held_status, members_against, names_of}
 use Rattle.implib_check_driver.specs.Answers.{OrFailed}
 use Rattle.implib_check_driver.specs.Calls.{CheckView, is_searching}
-use Rattle.implib_check_driver.specs.Starting.{Listing}
-use Rattle.implib_check_driver.specs.Through.{IsRight, content_at, content_of, ends_through, loaded_view, through}
+use Rattle.implib_dll_check.specs.Folders.{IsRight, Listing, RightDllsExtend, content_at, content_of, loaded_view}
+use Rattle.implib_check_driver.specs.Through.{ends_through, through}
 use Rattle.implib_check_driver.specs.declared.report.Failure.{Failure}
-use Rattle.implib_check_driver.specs.declared.through.Loaded.{Loaded}
-
-same_names : (name other : List ℕ) → bytes_eq name other ≡ true → name ≡ other
-same_names name other same = (bytes_eq-Decides name other).0 same
-
-extends_right : (file : List ℕ → List ℕ) (folders : List Listing) (dlls : List Known) → All (IsRight file folders) dlls
-    → Extends (known_in dlls) (λ name. Some (content_at file folders name))
-extends_right file folders [] right name content is = absurd cc
-extends_right file folders (d ∷ dlls) right name content is =
-    by (bytes_eq name d.name) refl
-    (extends_right file folders dlls (All-tail (IsRight file folders) d dlls right) name content) is
-  where
-    by : (same : Bool) → bytes_eq name d.name ≡ same
-        → (known_in dlls name ≡ Some content → Some (content_at file folders name) ≡ Some content)
-        → cond same (Some d.content) (known_in dlls name) ≡ Some content → Some (content_at file folders name) ≡ Some content
-    by true same later here =
-        ap (λ (n : List ℕ). Some (content_at file folders n)) (same_names name d.name same) ∙ (ap Some (sym (All-head (IsRight file folders) d dlls right)) ∙ here)
-    by false other later here = later here
+use Rattle.implib_dll_check.specs.declared.folder.Loaded.{Loaded}
 
 -- where forwarders lead through what was loaded, they lead through the folders
 pub through_right : (file : List ℕ → List ℕ) (folders : List Listing) (dlls : List Known) (e : Exports) (names : List (List ℕ))
-    (members : List MemberRead) (found : List (Option End)) → KnownDllsDecide → All (IsRight file folders) dlls
+    (members : List MemberRead) (found : List (Option End)) → KnownDllsDecide → RightDllsExtend → All (IsRight file folders) dlls
     → found ≡ ends (record { exports = e; names = names; others = known_in dlls }) members → list_any is_unknown found ≡ false
     → found ≡ ends_through (Some (content_at file folders)) e names members
-through_right file folders dlls e names members found decide right is known =
+through_right file folders dlls e names members found decide extend right is known =
     is ∙ sym (decide (record { exports = e; names = names; others = known_in dlls }) (λ name. Some (content_at file folders name)) members
-    (extends_right file folders dlls right) (subst (λ (ends : List (Option End)). list_any is_unknown ends ≡ false) is known))
+    (extend file folders dlls right) (subst (λ (ends : List (Option End)). list_any is_unknown ends ≡ false) is known))
 
 -- one more that was loaded
 pub right_more : (file : List ℕ → List ℕ) (folders : List Listing) (loaded : List Loaded) (next : Loaded)
@@ -66,14 +47,14 @@ same_exports seen e read held is =
 -- the status that is written, by where forwarders lead
 pub status_through : (file : List ℕ → List ℕ) (folders : List Listing) (loaded dlls : List Known) (seen e : Exports)
     (names : List (List ℕ)) (members : List MemberRead) (found : List (Option End)) (judged : Exports → List Judgement) (unread : Bool) (status : ℕ)
-    → KnownDllsDecide → seen ≡ e → dlls ≡ loaded → All (IsRight file folders) loaded
+    → KnownDllsDecide → RightDllsExtend → seen ≡ e → dlls ≡ loaded → All (IsRight file folders) loaded
     → found ≡ ends (record { exports = seen; names = names; others = known_in dlls }) members → list_any is_unknown found ≡ false
     → OrFailed status (status ≡ held_status (judged seen) found unread)
     → OrFailed status (status ≡ held_status (judged e) (ends_through (Some (content_at file folders)) e names members) unread)
-status_through file folders loaded dlls seen e names members found judged unread status decide same read right is known (inl failed) = inl failed
-status_through file folders loaded dlls seen e names members found judged unread status decide same read right is known (inr written) =
+status_through file folders loaded dlls seen e names members found judged unread status decide extend same read right is known (inl failed) = inl failed
+status_through file folders loaded dlls seen e names members found judged unread status decide extend same read right is known (inr written) =
     let here : found ≡ ends_through (Some (content_at file folders)) seen names members =
-    through_right file folders dlls seen names members found decide (subst (λ (l : List Known). All (IsRight file folders) l) (sym read) right) is known in
+    through_right file folders dlls seen names members found decide extend (subst (λ (l : List Known). All (IsRight file folders) l) (sym read) right) is known in
     inr (written ∙ (ap (λ (f : List (Option End)). held_status (judged seen) f unread) here
     ∙ ap (λ (x : Exports). held_status (judged x) (ends_through (Some (content_at file folders)) x names members) unread) same))
 

@@ -24,7 +24,8 @@ use Rattle.implib_dll.specs.Exports.{Exports, exports_in}
 use Rattle.implib_dll.specs.Imports.{imports_in}
 use Rattle.implib_dll.specs.Outcome.{Read}
 use Rattle.implib_dll.specs.declared.section.Layout.TheVariants.{File}
-use Rattle.implib_check_driver.specs.Starting.{AreKnown, listings, program_status}
+use Rattle.implib_check_driver.specs.Starting.{program_status}
+use Rattle.implib_dll_check.specs.Folders.{AreKnown, listings}
 use Rattle.implib_check_driver.specs.Through.{AreKnownFor, Through, through}
 use Rattle.implib_check_driver.specs.Together.{joined_status}
 use Rattle.implib_check_driver.specs.Status.{comparison_status, identity_status, list_status, no_library_status, refusal_status, undefined_status}

@@ -7,7 +7,8 @@ use Rattle.implib_dll.specs.declared.fault.Cause.TheVariants.{NoDosHeader}
 use Rattle.implib_dll_check.specs.declared.import.Loss.TheVariants.{NotFound, OtherMachine}
 use Rattle.serde_json.specs.Data.{no_members, object}
 use Rattle.implib_check_driver.specs.Json.{LostIn, NoFile, UnmetBy, object_of}
-use Rattle.implib_check_driver.specs.Starting.{Listing, dll_path, dlls_status, program_status, status_in}
+use Rattle.implib_check_driver.specs.Starting.{dlls_status, program_status, status_in}
+use Rattle.implib_dll_check.specs.Folders.{Listing, dll_path}
 use Rattle.implib_check_driver.specs.Tasks.{Searches, call_named, task_named}
 use Rattle.implib_check_driver.specs.WorkedJson.{numeral, word}
 

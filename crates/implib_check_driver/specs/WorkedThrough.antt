@@ -17,7 +17,7 @@ use Rattle.implib_check_driver.specs.Answers.{asks_for_dll}
 use Rattle.implib_check_driver.specs.Calls.{CheckView, check_named}
 use Rattle.implib_check_driver.specs.Json.{StoppedAt, object_of}
 use Rattle.implib_check_driver.specs.Tasks.{Checks, Searches, call_named, task_named}
-use Rattle.implib_check_driver.specs.Through.{content_at, content_in, content_of}
+use Rattle.implib_dll_check.specs.Folders.{content_at, content_in, content_of}
 use Rattle.implib_check_driver.specs.WorkedAgainst.{beside_dll}
 use Rattle.implib_check_driver.specs.WorkedJson.{by_name, in_library, numeral, word}
 use Rattle.implib_check_driver.specs.WorkedStarting.{empty_files, folders}

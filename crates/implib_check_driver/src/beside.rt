@@ -11,8 +11,8 @@ ghost use Rattle.implib_check_driver.specs.Answers.{AnswersExports, IsAnswerBesi
 ghost use Rattle.implib_check_driver.specs.OfDlls.{IsNoDll};
 ghost use Rattle.implib_check_driver.specs.Refused.{IsRefusalOfCheck};
 ghost use Rattle.implib_check_driver.specs.Calls.{check_view, is_searching as IsSearching};
-ghost use Rattle.implib_check_driver.specs.Starting.{AreKnown, Listing, folder_view};
-ghost use Rattle.implib_check_driver.specs.Through.{IsRight, content_at, ends_through, loaded_view, through};
+ghost use Rattle.implib_dll_check.specs.Folders.{AreKnown, IsRight, Listing, content_at, folder_view, loaded_view};
+ghost use Rattle.implib_check_driver.specs.Through.{ends_through, through};
 ghost use Rattle.implib_dll.specs.Exports.{Exports as SeenExports, exports_in};
 ghost use Rattle.implib_dll.specs.Views.{exports_view};
 ghost use Rattle.implib_dll.specs.declared.section.Layout.TheVariants.{File};
@@ -29,12 +29,11 @@ use crate::finding::Source;
 use crate::positions::Positions;
 use crate::report::{BUFFER, Failure, Form, flushed};
 use crate::shelf::Shelf;
-use crate::starting::Folder;
-use crate::through::{Loaded, content_of, dlls_behind, is_any_unknown, named_dlls};
+use crate::through::{dlls_behind, is_any_unknown};
 use implib_compare::meant::library_for;
 use implib_dll::{Exports, Fault, ReadError};
-use implib_dll_check::laws::known_dlls_decide;
-use implib_dll_check::{Beside, DllContent, End, ends};
+use implib_dll_check::laws::{known_dlls_decide, right_dlls_extend};
+use implib_dll_check::{Beside, DllContent, End, Folder, Loaded, content_of, ends, named_dlls};
 use implib_read::laws::own_members_found;
 use implib_read::{Library, MemberRead};
 use implib_rules::options::LibraryOptions;
@@ -146,6 +145,7 @@ fn through_loaded<'x, O: Write, E: Write>(
         (has_unread (map member_read_view members.now))) }
 {
     known_dlls_decide();
+    right_dlls_extend();
     let alloc = form.alloc;
     let Ok(DllContent::Holds(exports)) = content_of(alloc, bytes) else {
         return complain(faults, NAME, "out of memory", 3);

@@ -5,7 +5,7 @@ ghost use Rattle.std.specs.Option.{is_some};
 ghost use Rattle.std.specs.Prelude.{◌≡◌, ℕ, IfErr, IfOk, List, None, OnOk, Some, map};
 ghost use Rattle.std.specs.String.{string_bytes};
 ghost use Rattle.implib_check_driver.specs.Answers.{AnswersJoined, OrFailed};
-ghost use Rattle.implib_check_driver.specs.Starting.{AreKnown};
+ghost use Rattle.implib_dll_check.specs.Folders.{AreKnown};
 ghost use Rattle.implib_check_driver.specs.Status.{no_library_status};
 ghost use Rattle.implib_check_driver.specs.Together.{claim_view, claims_of_all, is_clash, members_of_all, status_of_none};
 ghost use Rattle.implib_compare.specs.Comparison.{has_unread};

@@ -5,11 +5,11 @@
 //! none. What DLLs import themselves, and where forwarders lead, is not looked at.
 
 ghost use Rattle.std.specs.Option.{option_map};
-ghost use Rattle.std.specs.Prelude.{◌≡◌, ℕ, IfErr, IfOk, List, find, if◌then◌else◌, map};
+ghost use Rattle.std.specs.Prelude.{◌≡◌, ℕ, IfErr, IfOk, List, if◌then◌else◌, map};
 ghost use Rattle.std.specs.String.{string_bytes};
 ghost use Rattle.implib_check_driver.specs.Answers.{AnswersProgram, OrFailed};
-ghost use Rattle.implib_check_driver.specs.Starting.{AreKnown, dll_path, dll_status, dlls_status, folder_view};
-ghost use Rattle.implib_check_driver.specs.Starting.{is_file_of, listings, path_in, program_status, status_in};
+ghost use Rattle.implib_check_driver.specs.Starting.{dll_status, dlls_status, program_status, status_in};
+ghost use Rattle.implib_dll_check.specs.Folders.{AreKnown, dll_path, folder_view, listings};
 ghost use Rattle.implib_dll.specs.Exports.{exports_in};
 ghost use Rattle.implib_dll.specs.Imports.{imports_in};
 ghost use Rattle.implib_dll.specs.Views.{ask_view, exports_view, imported_view, imports_view};
@@ -23,16 +23,9 @@ use crate::finding::{Finding, Unmet};
 use crate::report::{Failure, Form, tell};
 use crate::shelf::Shelf;
 use implib_dll::{Ask, Exports, ImportedDll, Imports, ReadError};
-use implib_dll_check::{Loss, finds_all, is_asked, judge_ask, loader_name};
+use implib_dll_check::{Folder, Loss, dll_path, finds_all, is_asked, judge_ask, loader_name};
 use std::alloc::{AllocError, Global};
 use std::io::Write;
-
-/// A folder, and the names of its files.
-#[derive(Drop)]
-pub struct Folder<'a> {
-    pub path: &'a str,
-    pub names: Vec<String>,
-}
 
 // The names of the files in a folder, or an exit status.
 fn names_in<S: Shelf, E: Write>(
@@ -76,62 +69,7 @@ pub(crate) fn folders_of<'a, S: Shelf, E: Write>(
     Ok(folders)
 }
 
-// Whether a loader takes a file for the DLL that it knows by a name.
-fn is_file_of(alloc: Global, known: &[u8], name: &str) -> Result<bool, AllocError>
-    ensures { IfOk result (λ found. found ≡ is_file_of known.now name.now) }
-{
-    if !name.as_bytes().contains(&b'.') {
-        return Ok(false);
-    }
-    let own = loader_name(alloc, name.as_bytes())?;
-    Ok(own.as_slice() == known)
-}
-
-// The name of that file among those of a folder.
-fn named_in<'a>(
-    alloc: Global,
-    names: &'a [String],
-    known: &[u8],
-) -> Result<Option<&'a str>, AllocError>
-    ensures { IfOk result (λ found. option_map (λ name. name.now) found
-        ≡ find (is_file_of known.now) (map string_bytes names.now)) }
-{
-    for name in names {
-        if is_file_of(alloc, known, name)? {
-            return Ok(Some(name));
-        }
-    }
-    Ok(None)
-}
-
-// The path of a file in a folder.
-fn path_in(alloc: Global, folder: &str, name: &str) -> Result<String, AllocError>
-    ensures { IfOk result (λ path. string_bytes path ≡ path_in folder.now name.now) }
-{
-    let mut path = String::from_str(alloc, folder)?;
-    path.push_str("/")?;
-    path.push_str(name)?;
-    Ok(path)
-}
-
-// The path of the file that a loader takes for the DLL that it knows by a name, in the first folder that has one.
-pub(crate) fn dll_path(
-    alloc: Global,
-    folders: &[Folder],
-    known: &[u8],
-) -> Result<Option<String>, AllocError>
-    ensures { IfOk result (λ found. option_map string_bytes found ≡ dll_path (map folder_view folders.now) known.now) }
-{
-    for folder in folders {
-        let Some(name) = named_in(alloc, &folder.names, known)? else {
-            continue;
-        };
-        return Ok(Some(path_in(alloc, folder.path, name)?));
-    }
-    Ok(None)
-}
-
-// The same of a DLL that an image names.
+// The path of the file of a DLL that an image names, in the first folder that has one.
 fn file_of(alloc: Global, folders: &[Folder], dll: &[u8]) -> Result<Option<String>, AllocError>
     ensures { IfOk result (λ found. option_map string_bytes found
         ≡ dll_path (map folder_view folders.now) (loader_name dll.now)) }

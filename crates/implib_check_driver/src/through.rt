@@ -5,29 +5,21 @@
 //! whose forwarder leads to nothing is told, as one that the DLL does not export, and a file that no forwarder leads to may
 //! be anything. Where forwarders lead that no import comes to is not looked at.
 
-ghost use Rattle.implib_check_driver.specs.Starting.{AreKnown, folder_view};
-ghost use Rattle.implib_check_driver.specs.Through.{IsRight, content_in, loaded_view};
+ghost use Rattle.implib_dll_check.specs.Folders.{AreKnown, IsRight, folder_view, loaded_view};
 ghost use Rattle.implib_dll_check.specs.Forwarding.{is_unknown as IsUnknown};
-ghost use Rattle.implib_dll_check.specs.ForwardingViews.{content_view, end_view, known_view};
+ghost use Rattle.implib_dll_check.specs.ForwardingViews.{end_view};
 ghost use Rattle.std.specs.List.{list_any};
 ghost use Rattle.std.specs.Option.{option_map};
-ghost use Rattle.std.specs.Prelude.{◌≡◌, ℕ, All, IfErr, IfOk, List, Some, map};
+ghost use Rattle.std.specs.Prelude.{◌≡◌, ℕ, All, IfErr, IfOk, List, map};
 
 use crate::console::{NAME, bytes_of, complain};
 use crate::shelf::Shelf;
-use crate::starting::{Folder, dll_path};
-use implib_dll::{Exports, ReadError};
-use implib_dll_check::{Beside, DllContent, End, NamedDll, ends, loader_name};
+use implib_dll_check::{
+    Beside, DllContent, End, Folder, Loaded, content_of, dll_path, ends, loader_name, named_dlls,
+};
 use implib_read::MemberRead;
 use std::alloc::{AllocError, Global};
 use std::io::Write;
-
-/// A DLL of a loader's name, and the bytes of its file, if a folder has one.
-#[derive(Drop)]
-pub struct Loaded {
-    pub name: Vec<u8>,
-    pub bytes: Option<Vec<u8>>,
-}
 
 // How often the DLLs are read that forwarders lead to in those that were read before.
 const MOST_ROUNDS: usize = 1000;
@@ -56,43 +48,6 @@ fn load<S: Shelf, E: Write>(
         }),
         Err(status) => Err(status),
     }
-}
-
-/// What there is of a DLL by its file.
-pub fn content_of(alloc: Global, bytes: &[u8]) -> Result<DllContent<'_>, AllocError>
-    ensures { IfOk result (λ content. content_view content ≡ content_in (Some bytes.now)) }
-{
-    match Exports::read(alloc, bytes) {
-        Ok(Some(exports)) => Ok(DllContent::Holds(exports)),
-        Ok(None) => Ok(DllContent::NoExports),
-        Err(ReadError::Refused(_)) => Ok(DllContent::Refused),
-        Err(ReadError::OutOfMemory) => Err(AllocError),
-    }
-}
-
-// The DLL that was loaded, as it is read.
-fn named(alloc: Global, loaded: &Loaded) -> Result<NamedDll<'_>, AllocError>
-    ensures { IfOk result (λ dll. known_view dll ≡ loaded_view loaded.now) }
-{
-    let content = match &loaded.bytes {
-        Some(bytes) => content_of(alloc, bytes)?,
-        None => DllContent::NoFile,
-    };
-    Ok(NamedDll {
-        name: loaded.name.clone()?,
-        content,
-    })
-}
-
-/// The DLLs that were loaded, as they are read.
-pub fn named_dlls(alloc: Global, loaded: &[Loaded]) -> Result<Vec<NamedDll<'_>>, AllocError>
-    ensures { IfOk result (λ dlls. map known_view dlls.items ≡ map loaded_view loaded.now) }
-{
-    let mut dlls = Vec::with_capacity(alloc, loaded.len())?;
-    for one in loaded {
-        dlls.push(named(alloc, one)?)?;
-    }
-    Ok(dlls)
 }
 
 // Whether a forwarder leads to a DLL that was not loaded.

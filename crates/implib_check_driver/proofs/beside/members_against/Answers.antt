@@ -2,7 +2,7 @@ use Rattle.std.proofs.Common.{◌∙◌, map, sym}
 use Rattle.implib_dll.specs.Views.{exports_view}
 use Rattle.implib_read.specs.ClassViews.{member_read_view}
 use Rattle.implib_check_driver.specs.Calls.{check_view}
-use Rattle.implib_check_driver.specs.Starting.{folder_view}
+use Rattle.implib_dll_check.specs.Folders.{folder_view}
 use Rattle.implib_check_driver.proofs.LoadedDlls.{members_through}
 use Rattle.implib_check_driver.proofs.beside.members_against.Goals as goal
 

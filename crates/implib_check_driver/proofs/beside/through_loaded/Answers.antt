@@ -4,7 +4,7 @@ use Rattle.implib_dll.specs.Views.{exports_view}
 use Rattle.implib_dll_check.specs.ForwardingViews.{known_view}
 use Rattle.implib_dll_check.specs.Imports.{judgements}
 use Rattle.implib_read.specs.ClassViews.{member_read_view}
-use Rattle.implib_check_driver.specs.Through.{loaded_view}
+use Rattle.implib_dll_check.specs.Folders.{loaded_view}
 use Rattle.implib_check_driver.proofs.LoadedDlls.{same_exports, status_through, written}
 use Rattle.implib_check_driver.proofs.beside.through_loaded.Goals as goal
 
@@ -14,7 +14,7 @@ returns g c = λ file folders e is right.
     let members = map member_read_view c.args.members.now in
     status_through file folders (map loaded_view c.args.loaded.now) (map known_view c.in-Ok.others.items)
     (exports_view c.in-Ok-Holds.exports) e names members _ (λ x. judgements x names members) (has_unread members) c.status_written.result
-    c.known_dlls_decide.ensures
+    c.known_dlls_decide.ensures c.right_dlls_extend.ensures
     (same_exports _ e _ (rw c.in-Ok-Holds.field-0-is at c.in-Ok-Holds.ensures) is)
     c.in-Ok.ensures right
     (rw (c.deref.ensures.value, c.deref-2.ensures.value) at c.in-Ok-ends.ensures)

@@ -1,6 +1,6 @@
 use Rattle.std.proofs.Common.{◌∙◌, map, sym}
 use Rattle.implib_check_driver.specs.Calls.{check_view}
-use Rattle.implib_check_driver.specs.Starting.{folder_view}
+use Rattle.implib_dll_check.specs.Folders.{folder_view}
 use Rattle.implib_check_driver.specs.Through.{through}
 use Rattle.implib_check_driver.proofs.BesideDlls.{beside_all, beside_definition, beside_dll}
 use Rattle.implib_check_driver.proofs.program.check_bytes.Goals as goal

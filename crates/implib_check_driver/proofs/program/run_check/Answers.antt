@@ -2,7 +2,7 @@ use Rattle.std.proofs.Common.{map, subst}
 use Rattle.std.specs.String.{string_bytes}
 use Rattle.implib_check_driver.specs.Answers.{IsAnswerWith, OrFailed}
 use Rattle.implib_check_driver.specs.Calls.{check_view}
-use Rattle.implib_check_driver.specs.Starting.{folder_view, listings}
+use Rattle.implib_dll_check.specs.Folders.{folder_view, listings}
 use Rattle.implib_check_driver.specs.Through.{Through, through}
 use Rattle.implib_check_driver.proofs.BesideDlls.{beside_files}
 use Rattle.implib_check_driver.proofs.LoadedDlls.{through_same}

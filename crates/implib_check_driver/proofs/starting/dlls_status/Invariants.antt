@@ -1,6 +1,7 @@
 use Rattle.std.proofs.Common.{◌≡◌, ℕ, List, drop, fold, map, max}
 use Rattle.implib_dll.specs.Views.{imported_view}
-use Rattle.implib_check_driver.specs.Starting.{AreKnown, dll_status, dlls_status, folder_view}
+use Rattle.implib_check_driver.specs.Starting.{dll_status, dlls_status}
+use Rattle.implib_dll_check.specs.Folders.{AreKnown, folder_view}
 use Rattle.implib_check_driver.proofs.starting.dlls_status.Given as goal
 
 -- the status so far, with the DLLs that are left, is that of all

@@ -1,6 +1,5 @@
 use Rattle.std.proofs.Common.{ℕ, All, List, map}
-use Rattle.implib_check_driver.specs.Starting.{AreKnown, folder_view}
-use Rattle.implib_check_driver.specs.Through.{IsRight, loaded_view}
+use Rattle.implib_dll_check.specs.Folders.{AreKnown, IsRight, folder_view, loaded_view}
 use Rattle.implib_check_driver.proofs.through.load_all.Given as goal
 
 -- what was loaded so far is right, where what was loaded before is
