@@ -3,6 +3,7 @@
 ghost use Rattle.std.specs.Prelude.{None};
 
 use implib::def::Position;
+use implib_driver::message::undelayed_text;
 use implib_driver::reporter::{Complaint, Reporter};
 use implib_rules::library::Refusal;
 use implib_rules::warnings::{Notice, NoticeMessage, Warning};
@@ -42,9 +43,12 @@ impl<'a> fmt::Display for Message<'a> {
             Message::Refusal(path, refusal) => {
                 write!(f, "{} {refusal}", ShownPlace(path, position_of(refusal)))
             }
-            Message::Complaint(path, Complaint::Undelayed(why)) => {
-                write!(f, "{} {why}", ShownPlace(path, why.position()))
-            }
+            Message::Complaint(path, Complaint::Undelayed(why)) => write!(
+                f,
+                "{} {}",
+                ShownPlace(path, why.position()),
+                undelayed_text(why),
+            ),
             Message::Complaint(subject, complaint) => {
                 write!(f, "{}: {complaint}", ShownPath(subject))
             }

@@ -160,6 +160,12 @@ pub data WordFaultView : Type 0 where
   WantsDefinition : WordFaultView
   -- there is no file for the library
   WantsOutput : WordFaultView
+  -- there is no library whose members are listed
+  WantsLibrary : WordFaultView
+  -- the word is the file of a further one
+  IsFurther : List ℕ → WordFaultView
+  -- members are listed, and there is a definition
+  ListsDefinition : WordFaultView
 
 -- the view of a fault of the program
 abbrev pub word_fault_view : WordFault → WordFaultView
@@ -171,6 +177,9 @@ word_fault_view (fault.NoValueIn word) = LacksValueIn word.now
 word_fault_view (fault.NoMachine word) = NamesNoMachine word.now
 word_fault_view fault.NoDefinition = WantsDefinition
 word_fault_view fault.NoOutput = WantsOutput
+word_fault_view fault.NoLibrary = WantsLibrary
+word_fault_view (fault.Further word) = IsFurther word.now
+word_fault_view fault.ListedDefinition = ListsDefinition
 
 -- what a word is for
 pub data StepView : Type 0 where

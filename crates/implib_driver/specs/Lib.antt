@@ -3,9 +3,7 @@ pub mod Arguments
 pub mod Identity
 pub mod Request
 pub mod Dll
-pub mod Delay
 pub mod LibWords
-pub mod Verbose
 pub mod Disk
 pub mod Reports
 pub mod Stubs

@@ -11,17 +11,16 @@ use Rattle.implib_driver.specs.declared.lib_words.LibMeaning.{LibMeaning}
 use Rattle.implib_driver.specs.declared.lib_words.LibMeaning.TheVariants as meaning
 use Rattle.implib_driver.specs.declared.lib_words.LibWord.{LibWord}
 use Rattle.implib_driver.specs.declared.lib_words.LibWord.TheVariants as word
-use Rattle.implib_driver.specs.declared.options.Setting.TheVariants.{Definition, Output, Machine, Dll, Flavor}
-use Rattle.implib_driver.specs.declared.options.Switch.TheVariants.{ExportAs, Help, KeepsDecorated, Verbose}
-use Rattle.implib_driver.specs.Arguments.{Given, IsFile, IsUnknown, IsUnsupported, LacksValueIn, NamesNoMachine, OccurrenceView, Reading, Switched, WantsDefinition, WantsOutput, WordFaultView, is_switched, last_given, occurrence_view, read_words, with_front, word_fault_view}
+use Rattle.implib_driver.specs.declared.options.Setting.TheVariants.{Definition, Identify, Output, Machine, Dll, Flavor}
+use Rattle.implib_driver.specs.declared.options.Switch.TheVariants.{ExportAs, Help, KeepsDecorated, ListsMembers, Verbose}
+use Rattle.implib_driver.specs.Arguments.{Given, IsFile, IsFurther, IsUnknown, IsUnsupported, LacksValueIn, ListsDefinition, NamesNoMachine, OccurrenceView, Reading, Switched, WantsDefinition, WantsLibrary, WantsOutput, WordFaultView, all_given, is_switched, last_given, occurrence_view, read_words, with_front, word_fault_view}
 use Rattle.implib_driver.specs.Request.{holds_text}
 use Rattle.implib_rules.specs.Names.{last_part}
 
 -- the names of LIB's and llvm-lib's options that have no meaning here
 abbrev pub is_lib_unsupported : List ℕ → Bool
 is_lib_unsupported name =
-    if bytes_eq name (codes "list") then true
-    else if bytes_eq name (codes "extract") then true
+    if bytes_eq name (codes "extract") then true
     else if bytes_eq name (codes "remove") then true
     else if bytes_eq name (codes "libpath") then true
     else if bytes_eq name (codes "export") then true
@@ -47,6 +46,7 @@ lib_option_named name =
     else if bytes_eq name (codes "name") then meaning.Takes Dll
     else if bytes_eq name (codes "machine") then meaning.Machine
     else if bytes_eq name (codes "verbose") then meaning.Switches Verbose
+    else if bytes_eq name (codes "list") then meaning.Switches ListsMembers
     else if bytes_eq name (codes "help") then meaning.Switches Help
     else if bytes_eq name (codes "?") then meaning.Switches Help
     else if bytes_eq name (codes "nologo") then meaning.Ignored
@@ -125,9 +125,14 @@ abbrev pub is_path : List ℕ → Bool
 is_path [] = false
 is_path (b ∷ rest) = b == 47 && not (list_any (λ x. x == 61) rest) && (list_any (λ x. x == 47) rest || list_any (λ x. x == 46) rest)
 
--- Why a word is refused that has no meaning. For example, `/home/a.obj` is a file, and `/foo` no option.
-abbrev pub unknown_fault : List ℕ → WordFaultView
-unknown_fault word = if is_path word then IsFile word else IsUnknown word
+-- A file, whose members are listed where that is asked for; `@` (64) begins the name of a file of words.
+abbrev pub lib_file : List ℕ → LibWordView
+lib_file [] = Adds (Given Identify [])
+lib_file (b ∷ rest) = if b == 64 then Refuses (IsFile (b ∷ rest)) else Adds (Given Identify (b ∷ rest))
+
+-- What a word without a meaning says. For example, `/home/a.lib` is a file, and `/foo` no option.
+abbrev pub lib_unknown : List ℕ → LibWordView
+lib_unknown word = if is_path word then lib_file word else Refuses (IsUnknown word)
 
 -- an option that is given with a colon and a value, which is not empty
 abbrev pub lib_valued : LibMeaning → List ℕ → List ℕ → LibWordView
@@ -147,7 +152,7 @@ lib_bare meaning.Machine word = Refuses (LacksValueIn word)
 lib_bare (meaning.Switches switch) word = Adds (Switched switch)
 lib_bare meaning.Ignored word = Nothing
 lib_bare meaning.Unsupported word = Refuses (IsUnsupported word)
-lib_bare meaning.Unknown word = Refuses (unknown_fault word)
+lib_bare meaning.Unknown word = lib_unknown word
 
 -- the byte is `:`
 abbrev pub is_colon : ℕ → Bool
@@ -173,7 +178,7 @@ lib_text word =
 
 -- what a word says, by the text of its option
 abbrev pub lib_said : List ℕ → Option (List ℕ) → LibWordView
-lib_said word None = Refuses (IsFile word)
+lib_said word None = lib_file word
 lib_said word (Some text) = lib_option word text
 
 -- what a word says
@@ -200,13 +205,26 @@ lib_ways = Given Flavor (codes "msvc") ∷ Switched ExportAs ∷ Switched KeepsD
 abbrev pub options_of_lib : List (List ℕ) → Reading
 options_of_lib words = with_front lib_ways (read_each words)
 
--- what options lack: a definition, or a file for the library, unless they ask for the help
+-- what options for a library lack, or have too much, by their files: a definition and a file for the library, and no other
+abbrev pub lack_for_making : List OccurrenceView → List (List ℕ) → Option WordFaultView
+lack_for_making options (file ∷ files) = Some (IsFile file)
+lack_for_making options [] =
+    if not (is_some (last_given Definition options)) then Some WantsDefinition
+    else if not (is_some (last_given Output options)) then Some WantsOutput
+    else None
+
+-- the same of options for a list of members: one library, and no definition
+abbrev pub lack_for_listing : List OccurrenceView → List (List ℕ) → Option WordFaultView
+lack_for_listing options [] = Some WantsLibrary
+lack_for_listing options (file ∷ further ∷ files) = Some (IsFurther further)
+lack_for_listing options (file ∷ []) = if is_some (last_given Definition options) then Some ListsDefinition else None
+
+-- what options lack, or have too much, unless they ask for the help
 abbrev pub lack_of : List OccurrenceView → Option WordFaultView
 lack_of options =
     if is_switched Help options then None
-    else if not (is_some (last_given Definition options)) then Some WantsDefinition
-    else if not (is_some (last_given Output options)) then Some WantsOutput
-    else None
+    else if is_switched ListsMembers options then lack_for_listing options (all_given Identify options)
+    else lack_for_making options (all_given Identify options)
 
 -- the options, if they lack nothing
 abbrev pub unless_lacking : List OccurrenceView → Option WordFaultView → Reading

@@ -7,7 +7,7 @@ use Rattle.implib_driver.specs.declared.options.Meaning.TheVariants.{Takes, Swit
 use Rattle.implib_driver.specs.declared.options.Setting.{Setting}
 use Rattle.implib_driver.specs.declared.options.Switch.{Switch}
 use Rattle.implib_driver.specs.declared.options.Setting.TheVariants.{Definition, Output, DelayedOutput, Machine, Dll, Flavor, Assembler, AssemblerFlags, TemporaryPrefix, FurtherPrefix, Identify, Input, Decorations, Search}
-use Rattle.implib_driver.specs.declared.options.Switch.TheVariants.{KillAt, NoLeadingUnderscore, LeadingUnderscore, ExportAs, AddUnderscore, AddStdcallUnderscore, AddStdcallAlias, DeterministicLibraries, NonDeterministicLibraries, NoDelete, ListedAlone, IdentifyStrict, KeepsDecorated, CompatImplib, Verbose, Help, Version}
+use Rattle.implib_driver.specs.declared.options.Switch.TheVariants.{KillAt, NoLeadingUnderscore, LeadingUnderscore, ExportAs, AddUnderscore, AddStdcallUnderscore, AddStdcallAlias, DeterministicLibraries, NonDeterministicLibraries, NoDelete, ListedAlone, ListsMembers, IdentifyStrict, KeepsDecorated, CompatImplib, Verbose, Help, Version}
 
 -- the long names, without `--`, of GNU dlltool's options that have no meaning here
 abbrev pub is_unsupported : List ℕ → Bool
@@ -136,6 +136,7 @@ switch_number IdentifyStrict = 13
 switch_number KeepsDecorated = 14
 switch_number CompatImplib = 15
 switch_number ListedAlone = 16
+switch_number ListsMembers = 17
 
 -- whether two options that take values are one
 abbrev pub is_same_setting : Setting → Setting → Bool

@@ -9,7 +9,7 @@ use Rattle.implib.specs.declared.flavor.Flavor.{Flavor}
 use Rattle.implib.specs.declared.flavor.Flavor.TheVariants.{Gnu, Msvc}
 use Rattle.implib.specs.declared.machine.MachineType.{MachineType}
 use Rattle.implib.specs.declared.machine.MachineType.TheVariants.{AMD64}
-use Rattle.implib.specs.Definition.{DefinitionView}
+use Rattle.implib.specs.Definition.{DefinitionView, ExportView}
 use Rattle.implib.specs.Fault.{Cause}
 use Rattle.implib.specs.Import.{is_empty_text}
 use Rattle.implib.specs.Members.MemberSpec.{MemberView}
@@ -17,10 +17,11 @@ use Rattle.implib.specs.Text.Parses.{Parses, RefusesAt}
 use Rattle.implib_driver.specs.Arguments.{OccurrenceView, WordFaultView, has_values}
 use Rattle.implib_driver.specs.Disk.{DiskView}
 use Rattle.implib_driver.specs.declared.identity.NotIdentified.{NotIdentified}
+use Rattle.implib_driver.specs.declared.identity.Wanted.{Wanted}
 use Rattle.implib_driver.specs.Identity.{identified}
-use Rattle.implib_driver.specs.declared.delay.DelayRefusal.{DelayRefusal}
-use Rattle.implib_driver.specs.declared.delay.DelayRefusal.TheVariants.{Refused, Undelayed as CannotDelay}
-use Rattle.implib_driver.specs.Delay.{IsDelayedLibrary, IsRefusalOfDelayed}
+use Rattle.implib_delay_library.specs.declared.library.DelayRefusal.{DelayRefusal}
+use Rattle.implib_delay_library.specs.declared.library.DelayRefusal.TheVariants.{Refused, Undelayed as CannotDelay}
+use Rattle.implib_delay_library.specs.Libraries.{IsDelayedLibrary, IsRefusalOfDelayed}
 use Rattle.implib_driver.specs.Placing.{Answer, Answers, IsPlaced, IsUnplaced}
 use Rattle.implib_driver.specs.Reports.{ComplaintView, Complains, Line, OfArgument, OfCall, OfIdentity, OfMemory, OfStub, OfSystem, OfUndelayed, OfUtf16, OfWord, OfWriting, Refuses, Says, Warns}
 use Rattle.implib_driver.specs.LibWords.{words_read}
@@ -29,7 +30,6 @@ use Rattle.implib_driver.specs.Dll.{begins_dll}
 use Rattle.implib_driver.specs.DllProgram.{FinishesDll}
 use Rattle.implib_driver.specs.Request.{Asked, AsksHelp, AsksIdentity, AsksVersion, Asks, CallFaultView, DecoratesDefinition, RequestView, SearchesForDefinition, TaskView, caller_of, request_for, task_of}
 use Rattle.implib_driver.specs.Stubs.{has_failing_stub}
-use Rattle.implib_driver.specs.Verbose.{warnings_for}
 use Rattle.implib_rules.specs.declared.library.Refusal.{Refusal}
 use Rattle.implib_rules.specs.declared.library.Refusal.TheVariants.{OutOfMemory}
 use Rattle.implib_rules.specs.declared.places.Place.{Place}
@@ -38,7 +38,7 @@ use Rattle.implib_rules.specs.Names.{last_part}
 use Rattle.implib_rules.specs.Older.{IsRefusalOfAsked, MembersAsked}
 use Rattle.implib_rules.specs.Places.{ArePlacesOf, export_lines}
 use Rattle.implib_rules.specs.TextWarnings.{none_warnings, text_warnings}
-use Rattle.implib_rules.specs.Warnings.{WarningView}
+use Rattle.implib_rules.specs.Warnings.{WarningView, warnings_of}
 
 -- what is known of all that a run uses but standard output: the bytes that standard input has left, the disk, and
 -- what was said
@@ -67,6 +67,10 @@ warning_lines path lines warnings = map (λ w. Warns path w lines) warnings
 abbrev pub members_counted : Flavor → ℕ → ℕ
 members_counted Msvc count = count
 members_counted Gnu count = 0
+
+-- the warnings of a definition of these exports and places and this number of members, where they are asked for
+abbrev pub warnings_for : RequestView → List ExportView → List Place → ℕ → List WarningView
+warnings_for request exports places count = if request.is_verbose then warnings_of request.library exports places count else []
 
 -- the warnings of a definition with these places were said
 pub record SaysWarnings (bytes : List ℕ) (definition : DefinitionView) (places : List Place) (request : RequestView)
@@ -375,13 +379,13 @@ NamesDlls name path (Err fault) before after printed prints status =
     OnlyComplains path (OfIdentity fault) 1 before after printed prints status
 
 -- a library was read, and its DLLs named, unless memory was refused
-pub record IsIdentified (name path : List ℕ) (is_strict : Bool) (before after : Devices) (printed prints : Option (List ℕ))
+pub record IsIdentified (name path : List ℕ) (wanted : Wanted) (before after : Devices) (printed prints : Option (List ℕ))
     (status : ℕ) : Type 0 where
   pub bytes : List ℕ
   pub read : IfSome (before.disk.seen path) (λ file. bytes ≡ file)
   pub same_disk : after.disk ≡ before.disk
   pub outcome :
-      NamesDlls name path (identified is_strict bytes) before.said after.said printed prints status
+      NamesDlls name path (identified wanted bytes) before.said after.said printed prints status
       ⊎ OnlyComplains name OfMemory 3 before.said after.said printed prints status
 
 -- a library could not be read
@@ -391,11 +395,11 @@ pub record IsUnidentified (path : List ℕ) (before after : Devices) (printed pr
   pub complains : OnlyComplains path OfSystem 3 before.said after.said printed prints status
 
 -- what is done for a library whose DLLs are asked for
-pub record Identifies (name path : List ℕ) (is_strict : Bool) (before after : Devices) (printed prints : Option (List ℕ))
+pub record Identifies (name path : List ℕ) (wanted : Wanted) (before after : Devices) (printed prints : Option (List ℕ))
     (status : ℕ) : Type 0 where
   pub same_input : after.input ≡ before.input
   pub outcome :
-      IsIdentified name path is_strict before after printed prints status
+      IsIdentified name path wanted before after printed prints status
       ⊎ IsUnidentified path before after printed prints status
 
 -- the texts of the help and of the version
@@ -411,8 +415,8 @@ abbrev pub DoesTask : Bool → Texts → List ℕ → ForMachine → Asked TaskV
 DoesTask known texts name machines (Ok AsksHelp) before after printed prints status = OnlyPrints name texts.help before after printed prints status
 DoesTask known texts name machines (Ok AsksVersion) before after printed prints status =
     OnlyPrints name texts.version before after printed prints status
-DoesTask known texts name machines (Ok (AsksIdentity path is_strict)) before after printed prints status =
-    Identifies name path is_strict before after printed prints status
+DoesTask known texts name machines (Ok (AsksIdentity path wanted)) before after printed prints status =
+    Identifies name path wanted before after printed prints status
 DoesTask known texts name machines (Ok (Asks request)) before after printed prints status =
     OnlyMakes known machines request before after printed prints status
 DoesTask known texts name machines (Err fault) before after printed prints status =

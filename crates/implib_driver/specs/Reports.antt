@@ -1,6 +1,6 @@
 -- What the program says on standard error, as what it says and of what; the words of a line are not stated.
 use Rattle.std.specs.Prelude.{◌≡◌, ℕ, List, ◌++◌, Option, None, Some}
-use Rattle.implib_driver.specs.declared.delay.Undelayed.{Undelayed}
+use Rattle.implib_delay_library.specs.declared.library.Undelayed.{Undelayed}
 use Rattle.implib_driver.specs.declared.dll.DllRefusal.{DllRefusal}
 use Rattle.implib_driver.specs.declared.identity.NotIdentified.{NotIdentified}
 use Rattle.implib_driver.specs.declared.reporter.Complaint.{Complaint}

@@ -9,7 +9,9 @@ use Rattle.implib.specs.declared.flavor.Flavor.TheVariants.{Msvc, Gnu}
 use Rattle.implib.specs.declared.machine.MachineType.{MachineType}
 use Rattle.implib.specs.declared.machine.MachineType.TheVariants.{I386, ARMNT, AMD64, ARM64}
 use Rattle.implib_driver.specs.declared.options.Setting.TheVariants.{DelayedOutput, Definition, Input, Output, Machine, Dll, Flavor as FlavorSetting, Assembler, AssemblerFlags, TemporaryPrefix, FurtherPrefix, Identify, Decorations, Search}
-use Rattle.implib_driver.specs.declared.options.Switch.TheVariants.{Help, IdentifyStrict, KeepsDecorated, KillAt, LeadingUnderscore, NoLeadingUnderscore, Verbose, Version, ExportAs, AddUnderscore, AddStdcallUnderscore, CompatImplib}
+use Rattle.implib_driver.specs.declared.identity.Wanted.{Wanted}
+use Rattle.implib_driver.specs.declared.identity.Wanted.TheVariants.{Dlls, Members, OneDll}
+use Rattle.implib_driver.specs.declared.options.Switch.TheVariants.{Help, IdentifyStrict, KeepsDecorated, KillAt, ListsMembers, LeadingUnderscore, NoLeadingUnderscore, Verbose, Version, ExportAs, AddUnderscore, AddStdcallUnderscore, CompatImplib}
 use Rattle.implib_driver.specs.declared.request.CallError.{CallError}
 use Rattle.implib_driver.specs.declared.request.CallError.TheVariants as error
 use Rattle.implib_driver.specs.declared.request.CalledAs.{CalledAs}
@@ -67,14 +69,14 @@ pub data TaskView : Type 0 where
   AsksHelp : TaskView
   AsksVersion : TaskView
   -- the DLLs of the library in a file, which have to be one where that is strict
-  AsksIdentity : List ℕ → Bool → TaskView
+  AsksIdentity : List ℕ → Wanted → TaskView
   Asks : RequestView → TaskView
 
 -- the view of a task of the program
 abbrev pub task_view : Task → TaskView
 task_view task.Help = AsksHelp
 task_view task.Version = AsksVersion
-task_view (task.Identify wish) = AsksIdentity wish.library.now wish.is_strict
+task_view (task.Identify wish) = AsksIdentity wish.library.now wish.wanted
 task_view (task.Make request) = Asks (request_view request)
 
 -- why options ask for nothing that can be done
@@ -419,13 +421,20 @@ made (Ok request) = Ok (Asks request)
 made (Err fault) = Err fault
 
 -- the DLLs of a library, where one is given
-abbrev pub identity_or : Asked TaskView → Bool → Option (List ℕ) → Asked TaskView
-identity_or task is_strict None = task
-identity_or task is_strict (Some library) = Ok (AsksIdentity library is_strict)
+abbrev pub identity_or : Asked TaskView → Wanted → Option (List ℕ) → Asked TaskView
+identity_or task wanted None = task
+identity_or task wanted (Some library) = Ok (AsksIdentity library wanted)
+
+-- what is printed of a library
+abbrev pub wanted_of : List OccurrenceView → Wanted
+wanted_of options =
+    if is_switched ListsMembers options then Members
+    else if is_switched IdentifyStrict options then OneDll
+    else Dlls
 
 -- what options ask for, where the program is called so
 abbrev pub task_of : Caller → List OccurrenceView → Asked TaskView
 task_of caller options =
     if is_switched Help options then Ok AsksHelp
     else if is_switched Version options then Ok AsksVersion
-    else identity_or (made (request_in caller options)) (is_switched IdentifyStrict options) (last_given Identify options)
+    else identity_or (made (request_in caller options)) (wanted_of options) (last_given Identify options)

@@ -5,6 +5,7 @@ use Rattle.implib.specs.declared.flavor.Flavor.TheVariants.{Msvc, Gnu}
 use Rattle.implib.specs.declared.machine.MachineType.{MachineType}
 use Rattle.implib.specs.declared.machine.MachineType.TheVariants.{I386, ARMNT, AMD64, ARM64}
 use Rattle.implib_driver.specs.declared.options.Setting.TheVariants.{Assembler, AssemblerFlags, Definition, Dll, Flavor as FlavorSetting, Machine, Output, TemporaryPrefix, FurtherPrefix, Identify}
+use Rattle.implib_driver.specs.declared.identity.Wanted.TheVariants.{Dlls, OneDll}
 use Rattle.implib_driver.specs.declared.options.Switch.TheVariants.{Help, IdentifyStrict, LeadingUnderscore, NoLeadingUnderscore, Version, ExportAs, KillAt, AddUnderscore, AddStdcallUnderscore, AddStdcallAlias, CompatImplib}
 use Rattle.implib_driver.specs.declared.request.CalledAs.{CalledAs}
 use Rattle.implib_driver.specs.declared.request.CalledAs.TheVariants as called
@@ -87,9 +88,9 @@ pub record FaultsOrdered : Type 0 where
   pub help_first : task_of itself (Switched Version ∷ Switched Help ∷ []) ≡ Ok AsksHelp
   pub version_before_faults : task_of itself (Switched Version ∷ []) ≡ Ok AsksVersion
   pub version_before_identity : task_of itself (Given Identify (codes "a") ∷ Switched Version ∷ []) ≡ Ok AsksVersion
-  pub identity_asked : task_of itself (Given Identify (codes "a") ∷ Given Identify (codes "b") ∷ []) ≡ Ok (AsksIdentity (codes "b") false)
-  pub identity_strict : task_of itself (Switched IdentifyStrict ∷ Given Identify (codes "b") ∷ []) ≡ Ok (AsksIdentity (codes "b") true)
-  pub identity_before_a_library : task_of itself (given ∷ Given Identify (codes "b") ∷ []) ≡ Ok (AsksIdentity (codes "b") false)
+  pub identity_asked : task_of itself (Given Identify (codes "a") ∷ Given Identify (codes "b") ∷ []) ≡ Ok (AsksIdentity (codes "b") Dlls)
+  pub identity_strict : task_of itself (Switched IdentifyStrict ∷ Given Identify (codes "b") ∷ []) ≡ Ok (AsksIdentity (codes "b") OneDll)
+  pub identity_before_a_library : task_of itself (given ∷ Given Identify (codes "b") ∷ []) ≡ Ok (AsksIdentity (codes "b") Dlls)
   pub strict_alone : task_of itself (Switched IdentifyStrict ∷ []) ≡ Err LacksDefinition
   pub two_dlls : lines_unless (codes "a.dll" ∷ codes "b.dll" ∷ []) (fault_of false 2)
       ≡ Ok (0x61 ∷ 0x2E ∷ 0x64 ∷ 0x6C ∷ 0x6C ∷ 0x0A ∷ 0x62 ∷ 0x2E ∷ 0x64 ∷ 0x6C ∷ 0x6C ∷ 0x0A ∷ [])

@@ -4,19 +4,20 @@ use Rattle.std.specs.Prelude.{codes, map}
 use Rattle.implib.specs.declared.def.position.Position.{Position}
 use Rattle.implib.specs.declared.flavor.Flavor.TheVariants.{Gnu, Msvc}
 use Rattle.implib.specs.declared.machine.MachineType.TheVariants.{I386, ARMNT, AMD64, ARM64}
-use Rattle.implib_driver.specs.declared.delay.DelayRefusal.TheVariants.{Refused}
-use Rattle.implib_driver.specs.declared.delay.DelayRefusal.TheVariants.{Undelayed as CannotDelay}
-use Rattle.implib_driver.specs.declared.delay.Undelayed.TheVariants.{Alias, Data}
-use Rattle.implib_driver.specs.declared.delay.Undelayed.TheVariants.{Machine as OfMachine}
+use Rattle.implib_delay_library.specs.declared.library.DelayRefusal.TheVariants.{Refused}
+use Rattle.implib_delay_library.specs.declared.library.DelayRefusal.TheVariants.{Undelayed as CannotDelay}
+use Rattle.implib_delay_library.specs.declared.library.Undelayed.TheVariants.{Alias, Data}
+use Rattle.implib_delay_library.specs.declared.library.Undelayed.TheVariants.{Machine as OfMachine}
 use Rattle.implib_driver.specs.declared.options.Setting.TheVariants.{AssemblerFlags, Definition}
 use Rattle.implib_driver.specs.declared.options.Setting.TheVariants.{DelayedOutput, Dll}
 use Rattle.implib_driver.specs.declared.options.Setting.TheVariants.{Flavor as FlavorSetting}
+use Rattle.implib_driver.specs.declared.identity.Wanted.TheVariants.{Dlls}
 use Rattle.implib_driver.specs.declared.options.Setting.TheVariants.{Identify, Machine, Output}
 use Rattle.implib_driver.specs.declared.options.Switch.TheVariants.{CompatImplib, KillAt}
 use Rattle.implib_driver.specs.declared.options.Switch.TheVariants.{LeadingUnderscore}
 use Rattle.implib_driver.specs.declared.request.CalledAs.TheVariants.{Llvm}
 use Rattle.implib_driver.specs.Arguments.{Given, LacksValue, OccurrenceView, Switched, read_words}
-use Rattle.implib_driver.specs.Delay.{delayed_options, position_of_undelayed}
+use Rattle.implib_delay_library.specs.Libraries.{delayed_options, position_of_undelayed}
 use Rattle.implib_driver.specs.Program.{delay_lines, delay_status}
 use Rattle.implib_driver.specs.Reports.{Complains, OfUndelayed, Refuses}
 use Rattle.implib_driver.specs.Request.{AsksIdentity, Asks, DelaysForMicrosoft, GoesToStandard}
@@ -170,7 +171,7 @@ pub record DelaysAsked : Type 0 where
   pub before_older_symbols : task_of itself (given ∷ delayed ∷ Given FlavorSetting (codes "msvc")
       ∷ Switched CompatImplib ∷ []) ≡ Err DelaysForMicrosoft
   pub identity_before : task_of itself (delayed ∷ Given Identify (codes "b") ∷ [])
-      ≡ Ok (AsksIdentity (codes "b") false)
+      ≡ Ok (AsksIdentity (codes "b") Dlls)
   -- names are asked for as under `-k`, and all else is as for the other library
   pub kills : delayed_options (named_so usual) ≡ named_so killing
   pub kills_as_before : delayed_options (named_so killing) ≡ named_so killing

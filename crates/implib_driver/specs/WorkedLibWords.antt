@@ -4,11 +4,12 @@ use Rattle.std.specs.Str.{bytes_eq}
 use Rattle.implib.specs.declared.flavor.Flavor.TheVariants.{Msvc}
 use Rattle.implib.specs.declared.machine.MachineType.{MachineType}
 use Rattle.implib.specs.declared.machine.MachineType.TheVariants.{I386, ARM64}
-use Rattle.implib_driver.specs.declared.options.Setting.TheVariants.{Definition, Output, Machine, Dll, Flavor as FlavorSetting}
-use Rattle.implib_driver.specs.declared.options.Switch.TheVariants.{ExportAs, Help, KeepsDecorated, Verbose}
-use Rattle.implib_driver.specs.Arguments.{Given, IsFile, IsUnknown, IsUnsupported, LacksValueIn, NamesNoMachine, OccurrenceView, Reading, Switched, WantsDefinition, WantsOutput, read_words}
+use Rattle.implib_driver.specs.declared.options.Setting.TheVariants.{Definition, Identify, Output, Machine, Dll, Flavor as FlavorSetting}
+use Rattle.implib_driver.specs.declared.options.Switch.TheVariants.{ExportAs, Help, KeepsDecorated, ListsMembers, Verbose}
+use Rattle.implib_driver.specs.declared.identity.Wanted.TheVariants.{Members}
+use Rattle.implib_driver.specs.Arguments.{Given, IsFile, IsFurther, IsUnknown, IsUnsupported, LacksValueIn, ListsDefinition, NamesNoMachine, OccurrenceView, Reading, Switched, WantsDefinition, WantsLibrary, WantsOutput, read_words}
 use Rattle.implib_driver.specs.LibWords.{Adds, Nothing, Refuses, is_lib_name, lib_word_of, machine_text, read_lib_words, words_read}
-use Rattle.implib_driver.specs.Request.{Asked, Asks, AsksHelp, TaskView, caller_of, machine_named, task_of}
+use Rattle.implib_driver.specs.Request.{Asked, Asks, AsksHelp, AsksIdentity, TaskView, caller_of, machine_named, task_of}
 use Rattle.implib_rules.specs.Additions.{no_additions}
 use Rattle.implib_rules.specs.WorkedNames.{decorated}
 
@@ -16,14 +17,14 @@ use Rattle.implib_rules.specs.WorkedNames.{decorated}
 abbrev pub said : List (List ℕ)
 said =
     codes "/def:a.def" ∷ codes "-DEF:A.Def" ∷ codes "/Def:-" ∷ codes "/out:a.lib" ∷ codes "-Out:c:\\a.lib" ∷ codes "/NAME:zoo.dll"
-    ∷ codes "-name:Zoo" ∷ codes "/verbose" ∷ codes "-VERBOSE" ∷ codes "/help" ∷ codes "-Help" ∷ codes "/?" ∷ codes "-?" ∷ []
+    ∷ codes "-name:Zoo" ∷ codes "/verbose" ∷ codes "-VERBOSE" ∷ codes "/list" ∷ codes "-List" ∷ codes "/help" ∷ codes "-Help" ∷ codes "/?" ∷ codes "-?" ∷ []
 
 -- what they add
 abbrev pub added : List OccurrenceView
 added =
     Given Definition (codes "a.def") ∷ Given Definition (codes "A.Def") ∷ Given Definition (codes "-") ∷ Given Output (codes "a.lib")
     ∷ Given Output (codes "c:\\a.lib") ∷ Given Dll (codes "zoo.dll") ∷ Given Dll (codes "Zoo") ∷ Switched Verbose ∷ Switched Verbose
-    ∷ Switched Help ∷ Switched Help ∷ Switched Help ∷ Switched Help ∷ []
+    ∷ Switched ListsMembers ∷ Switched ListsMembers ∷ Switched Help ∷ Switched Help ∷ Switched Help ∷ Switched Help ∷ []
 
 -- each machine
 abbrev pub machine_words : List (List ℕ)
@@ -41,7 +42,7 @@ machines_added =
 -- what LIB or llvm-lib knows and is not done here, and machines that are not supported
 abbrev pub unsupported : List (List ℕ)
 unsupported =
-    codes "/list" ∷ codes "/LIST" ∷ codes "/extract:a.obj" ∷ codes "/remove:a.obj" ∷ codes "/libpath:d" ∷ codes "/export:f" ∷ codes "/include:f"
+    codes "/extract:a.obj" ∷ codes "/remove:a.obj" ∷ codes "/libpath:d" ∷ codes "/export:f" ∷ codes "/include:f"
     ∷ codes "/subsystem:console" ∷ codes "/ltcg" ∷ codes "/wx" ∷ codes "/WX:NO" ∷ codes "/errorreport:none" ∷ codes "/nodefaultlib"
     ∷ codes "/linkrepro:d" ∷ codes "/linkreprotarget:f" ∷ codes "-defArm64Native:b.def" ∷ codes "/ignore:4197" ∷ codes "/llvmlibempty"
     ∷ codes "/llvmlibthin"
@@ -53,7 +54,7 @@ unsupported =
 -- near misses of options: other names, a value where none is taken, and the words of dlltool
 abbrev pub unknown : List (List ℕ)
 unknown =
-    codes "/outx:a.lib" ∷ codes "/de:a.def" ∷ codes "/" ∷ codes "-" ∷ codes "/:a" ∷ codes "/verbose:a" ∷ codes "/nologo:" ∷ codes "/help:" ∷ codes "--def:a.def"
+    codes "/outx:a.lib" ∷ codes "/de:a.def" ∷ codes "/" ∷ codes "-" ∷ codes "/:a" ∷ codes "/verbose:a" ∷ codes "/list:a" ∷ codes "/nologo:" ∷ codes "/help:" ∷ codes "--def:a.def"
     ∷ codes "-d" ∷ codes "--lib" ∷ codes "/out=a.lib" ∷ codes "/out=d/a.lib" ∷ codes "-home/a.obj" ∷ []
 
 -- paths that begin as an option does
@@ -71,7 +72,7 @@ no_machines = codes "/machine:i386:x86-64" ∷ codes "/machine:x86_64" ∷ codes
 
 -- what begins with neither mark
 abbrev pub files : List (List ℕ)
-files = codes "a.obj" ∷ codes "@words" ∷ codes "def:a.def" ∷ [] ∷ []
+files = codes "a.lib" ∷ codes "a@b" ∷ codes "def:a.def" ∷ [] ∷ []
 
 -- words for a library of a definition
 abbrev pub usual_words : List (List ℕ)
@@ -110,14 +111,25 @@ pub record LibWordsRead : Type 0 where
   pub near_misses : map lib_word_of unknown ≡ map (λ word. Refuses (IsUnknown word)) unknown
   pub without_values : map lib_word_of lacking ≡ map (λ word. Refuses (LacksValueIn word)) lacking
   pub without_machines : map lib_word_of no_machines ≡ map (λ word. Refuses (NamesNoMachine word)) no_machines
-  pub no_options : map lib_word_of files ≡ map (λ word. Refuses (IsFile word)) files
-  pub paths_are_files : map lib_word_of paths ≡ map (λ word. Refuses (IsFile word)) paths
+  pub no_options : map lib_word_of files ≡ map (λ word. Adds (Given Identify word)) files
+  pub paths_are_files : map lib_word_of paths ≡ map (λ word. Adds (Given Identify word)) paths
+  pub file_of_words : lib_word_of (codes "@words") ≡ Refuses (IsFile (codes "@words"))
   pub usual : read_lib_words usual_words ≡ Ok usual_options
-  pub first_fault : read_lib_words (codes "/def:a" ∷ codes "/list" ∷ codes "b.obj" ∷ []) ≡ Err (IsUnsupported (codes "/list"))
+  pub first_fault : read_lib_words (codes "/def:a" ∷ codes "/wx" ∷ codes "@b" ∷ []) ≡ Err (IsUnsupported (codes "/wx"))
+  pub fault_before_file : read_lib_words (codes "a.obj" ∷ codes "/wx" ∷ []) ≡ Err (IsUnsupported (codes "/wx"))
+  pub first_file : read_lib_words (codes "/def:a" ∷ codes "/b.obj" ∷ codes "c.obj" ∷ codes "/out:d" ∷ []) ≡ Err (IsFile (codes "/b.obj"))
+  pub file_before_lack : read_lib_words (codes "b.obj" ∷ []) ≡ Err (IsFile (codes "b.obj"))
   pub fault_before_help : read_lib_words (codes "/help" ∷ codes "/x" ∷ []) ≡ Err (IsUnknown (codes "/x"))
   pub no_words : read_lib_words [] ≡ Err WantsDefinition
   pub no_definition : read_lib_words (codes "/out:a.lib" ∷ []) ≡ Err WantsDefinition
   pub no_output : read_lib_words (codes "/def:a" ∷ codes "/machine:x64" ∷ []) ≡ Err WantsOutput
+  pub listed : read_lib_words (codes "a.lib" ∷ codes "/out:b" ∷ codes "/LIST" ∷ [])
+      ≡ Ok (Given FlavorSetting (codes "msvc") ∷ Switched ExportAs ∷ Switched KeepsDecorated ∷ Given Identify (codes "a.lib") ∷ Given Output (codes "b") ∷ Switched ListsMembers ∷ [])
+  pub no_library : read_lib_words (codes "/list" ∷ codes "/out:b" ∷ []) ≡ Err WantsLibrary
+  pub further_library : read_lib_words (codes "a" ∷ codes "/list" ∷ codes "b" ∷ codes "c" ∷ []) ≡ Err (IsFurther (codes "b"))
+  pub definition_listed : read_lib_words (codes "/def:a" ∷ codes "/list" ∷ codes "b" ∷ codes "/out:c" ∷ []) ≡ Err ListsDefinition
+  pub list_asked : asked_by (codes "lib") (read_lib_words (codes "/nologo" ∷ codes "/list" ∷ codes "/d/a.lib" ∷ [])) ≡ Ok (AsksIdentity (codes "/d/a.lib") Members)
+  pub help_before_list : asked_by (codes "lib") (read_lib_words (codes "/list" ∷ codes "-?" ∷ [])) ≡ Ok AsksHelp
   pub help_lacks_nothing : asked_by (codes "lib") (read_lib_words (codes "/?" ∷ [])) ≡ Ok AsksHelp
   -- the flavour is Microsoft's, whatever the ending
   pub asked : asked_by (codes "implib_dlltool") (read_lib_words usual_words) ≡ Ok (Asks (record {

@@ -163,6 +163,12 @@ pub enum WordFault<'a> {
     NoDefinition,
     /// There is no file for the library.
     NoOutput,
+    /// There is no library whose members are listed.
+    NoLibrary,
+    /// The word is the file of a further one.
+    Further(&'a str),
+    /// Members are listed, and there is a definition.
+    ListedDefinition,
 }
 
 /// Why words are not read.

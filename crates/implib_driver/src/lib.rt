@@ -6,7 +6,6 @@
 #![tactic(auto)]
 
 pub mod arguments;
-pub mod delay;
 pub mod disk;
 pub mod dll;
 pub mod identity;
@@ -20,4 +19,3 @@ pub mod reporter;
 pub mod request;
 pub mod search;
 pub mod stubs;
-pub mod verbose;

@@ -2,7 +2,8 @@
 
 ghost use Rattle.implib_driver.specs.Arguments.{IsRefusalOf, occurrence_view, word_fault_view};
 ghost use Rattle.implib_driver.specs.LibWords.{is_lib_called, is_lib_machine_unsupported};
-ghost use Rattle.implib_driver.specs.LibWords.{is_path, unknown_fault};
+ghost use Rattle.implib_driver.specs.LibWords.{is_path, lack_for_listing, lack_for_making};
+ghost use Rattle.implib_driver.specs.LibWords.{lib_file, lib_unknown};
 ghost use Rattle.implib_driver.specs.LibWords.{is_lib_name, is_lib_unsupported, is_mark, lack_of};
 ghost use Rattle.implib_driver.specs.LibWords.{lib_bare, lib_machine_named, lib_machine_word};
 ghost use Rattle.implib_driver.specs.LibWords.{lib_option_named, lib_text, lib_valued};
@@ -15,7 +16,7 @@ ghost use Rattle.std.specs.Prelude.{◌≡◌, ◌<◌, IfErr, IfOk, Ok, map};
 ghost use Rattle.std.specs.String.{string_bytes};
 
 use crate::arguments::{
-    Occurrence, ReadWordsError, WordFault, is_switched, last_given, read_words,
+    Occurrence, ReadWordsError, WordFault, all_given, is_switched, last_given, read_words,
 };
 use crate::options::{Setting, Switch};
 use crate::request::holds_text;
@@ -45,7 +46,7 @@ fn is_lib_unsupported(name: &str) -> bool
     ensures { result ≡ is_lib_unsupported name.now }
 {
     match name {
-        "list" | "extract" | "remove" | "libpath" | "export" | "include" => true,
+        "extract" | "remove" | "libpath" | "export" | "include" => true,
         "subsystem" | "ltcg" | "wx" | "errorreport" | "nodefaultlib" => true,
         "linkrepro" | "linkreprotarget" | "defarm64native" | "ignore" => true,
         "llvmlibempty" | "llvmlibthin" => true,
@@ -63,6 +64,7 @@ pub fn lib_option_named(name: &str) -> LibMeaning
         "name" => LibMeaning::Takes(Setting::Dll),
         "machine" => LibMeaning::Machine,
         "verbose" => LibMeaning::Switches(Switch::Verbose),
+        "list" => LibMeaning::Switches(Switch::ListsMembers),
         "help" | "?" => LibMeaning::Switches(Switch::Help),
         "nologo" => LibMeaning::Ignored,
         _ if is_lib_unsupported(name) => LibMeaning::Unsupported,
@@ -156,14 +158,25 @@ fn is_path(word: &str) -> bool
     }
 }
 
-// Why a word is refused that has no meaning: it is a file, or no option.
-fn unknown_fault(word: &str) -> WordFault<'_>
-    ensures { word_fault_view result ≡ unknown_fault word.now }
+// What the name of a file says: members of it are listed where that is asked for. `@` begins the name
+// of a file of words.
+fn lib_file(word: &str) -> LibWord<'_>
+    ensures { lib_word_view result ≡ lib_file word.now }
+{
+    match word.as_bytes() {
+        [b'@', ..] => LibWord::Refuses(WordFault::File(word)),
+        _ => LibWord::Adds(Occurrence::Given(Setting::Identify, word)),
+    }
+}
+
+// What a word without a meaning says: it is a file, or no option.
+fn lib_unknown(word: &str) -> LibWord<'_>
+    ensures { lib_word_view result ≡ lib_unknown word.now }
 {
     if is_path(word) {
-        WordFault::File(word)
+        lib_file(word)
     } else {
-        WordFault::Unknown(word)
+        LibWord::Refuses(WordFault::Unknown(word))
     }
 }
 
@@ -203,7 +216,7 @@ fn lib_bare(meaning: LibMeaning, word: &str) -> LibWord<'_>
         LibMeaning::Switches(switch) => LibWord::Adds(Occurrence::Switched(switch)),
         LibMeaning::Ignored => LibWord::Nothing,
         LibMeaning::Unsupported => LibWord::Refuses(WordFault::Unsupported(word)),
-        LibMeaning::Unknown => LibWord::Refuses(unknown_fault(word)),
+        LibMeaning::Unknown => lib_unknown(word),
     }
 }
 
@@ -235,7 +248,7 @@ pub fn lib_word_of<'a>(alloc: Global, word: &'a str) -> Result<LibWord<'a>, Allo
     ensures { IfOk result (λ said. lib_word_view said ≡ lib_word_of word.now) }
 {
     let Some(text) = lib_text(word) else {
-        return Ok(LibWord::Refuses(WordFault::File(word)));
+        return Ok(lib_file(word));
     };
     match text.split_once(':') {
         Some((name, value)) => {
@@ -249,12 +262,13 @@ pub fn lib_word_of<'a>(alloc: Global, word: &'a str) -> Result<LibWord<'a>, Allo
     }
 }
 
-// What options lack, unless they ask for the help.
-fn lack_of(options: &[Occurrence<'_>]) -> Option<WordFault<'static>>
-    ensures { option_map word_fault_view result ≡ lack_of (map occurrence_view options.now) }
+// What options for a library lack, or have too much, by their files.
+fn lack_for_making<'a>(options: &[Occurrence<'a>], files: &[&'a str]) -> Option<WordFault<'a>>
+    ensures { option_map word_fault_view result ≡ lack_for_making (map occurrence_view options.now)
+        (map (λ file. file.now) files.now) }
 {
-    if is_switched(options, Switch::Help) {
-        return None;
+    if let [file, ..] = files {
+        return Some(WordFault::File(file));
     }
     if last_given(options, Setting::Definition).is_none() {
         return Some(WordFault::NoDefinition);
@@ -263,6 +277,43 @@ fn lack_of(options: &[Occurrence<'_>]) -> Option<WordFault<'static>>
         return Some(WordFault::NoOutput);
     }
     None
+}
+
+// The same of options for a list of members.
+fn lack_for_listing<'a>(options: &[Occurrence<'a>], files: &[&'a str]) -> Option<WordFault<'a>>
+    ensures { option_map word_fault_view result ≡ lack_for_listing (map occurrence_view options.now)
+        (map (λ file. file.now) files.now) }
+{
+    match files {
+        [] => Some(WordFault::NoLibrary),
+        [_, further, ..] => Some(WordFault::Further(further)),
+        [_] => {
+            if last_given(options, Setting::Definition).is_some() {
+                Some(WordFault::ListedDefinition)
+            } else {
+                None
+            }
+        }
+    }
+}
+
+// What options lack, or have too much, unless they ask for the help.
+fn lack_of<'a>(
+    alloc: Global,
+    options: &[Occurrence<'a>],
+) -> Result<Option<WordFault<'a>>, AllocError>
+    ensures { IfOk result (λ lack. option_map word_fault_view lack
+        ≡ lack_of (map occurrence_view options.now)) }
+{
+    if is_switched(options, Switch::Help) {
+        return Ok(None);
+    }
+    let files = all_given(alloc, options, Setting::Identify)?;
+    if is_switched(options, Switch::ListsMembers) {
+        Ok(lack_for_listing(options, &files))
+    } else {
+        Ok(lack_for_making(options, &files))
+    }
 }
 
 // What each library in LIB's words is made with, Microsoft's flavour, third texts and decorated words,
@@ -295,8 +346,9 @@ fn options_of_lib<'a>(
 ///
 /// # Errors
 ///
-/// The first word that is refused; where none is and the help is not asked for, that there is no
-/// definition, or no file for the library. Before these, perhaps, `OutOfMemory`.
+/// The first word that is refused; where none is and the help is not asked for, for a list of members
+/// that there is no library, a further one, or a definition; else a file that is no option, that there
+/// is no definition, or no file for the library. Before these, perhaps, `OutOfMemory`.
 pub fn read_lib_words<'a>(
     alloc: Global,
     words: &'a [String],
@@ -306,7 +358,7 @@ pub fn read_lib_words<'a>(
     ensures refused { IfErr result (IsRefusalOf (read_lib_words (map string_bytes words.now))) }
 {
     let read = options_of_lib(alloc, words)?;
-    match lack_of(read.as_slice()) {
+    match lack_of(alloc, read.as_slice())? {
         None => Ok(read),
         Some(fault) => Err(ReadWordsError::Refused(fault)),
     }

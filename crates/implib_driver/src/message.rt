@@ -1,12 +1,12 @@
 //! What the program says of a call that it refuses, or that failed.
 
 use crate::arguments::WordFault;
-use crate::delay::Undelayed;
 use crate::dll::DllRefusal;
 use crate::identity::NotIdentified;
 use crate::options::Setting;
 use crate::reporter::Complaint;
 use crate::request::CallFault;
+use implib_delay_library::Undelayed;
 use implib_rules::Shown;
 use std::fmt;
 
@@ -122,7 +122,11 @@ impl<'a> fmt::Display for WordFault<'a> {
                 write!(f, "{}: files of options are not supported", Shown(word))
             }
             WordFault::File(word) => {
-                write!(f, "{}: no option; objects are not supported", Shown(word))
+                write!(
+                    f,
+                    "{}: no option; objects are not supported; llvm-lib makes libraries of them",
+                    Shown(word)
+                )
             }
             WordFault::NoValue(setting) => write!(f, "the option {setting} lacks its value"),
             WordFault::NoValueIn(word) => {
@@ -140,6 +144,11 @@ impl<'a> fmt::Display for WordFault<'a> {
             WordFault::NoOutput => f.write_str(
                 "no name for the library's file: expected the option /out",
             ),
+            WordFault::NoLibrary => f.write_str("no library: expected its file beside /list"),
+            WordFault::Further(word) => {
+                write!(f, "{}: expected one library beside /list", Shown(word))
+            }
+            WordFault::ListedDefinition => f.write_str("/list: not together with /def"),
         }
     }
 }
@@ -148,7 +157,10 @@ impl<'a> fmt::Display for CallFault<'a> {
     fn fmt<W: fmt::Write>(&self, f: &mut fmt::Formatter<W>) -> fmt::Result {
         match self {
             CallFault::TwoInputs => {
-                f.write_str("expected one definition or DLL; objects are not supported")
+                f.write_str(
+                    "expected one definition or DLL; objects are not supported; \
+                     ld --output-def writes the definition of objects",
+                )
             }
             CallFault::NoDefinition => f.write_str(
                 "no definition: expected the option -d\n\
@@ -233,15 +245,14 @@ impl fmt::Display for DllRefusal {
     }
 }
 
-impl fmt::Display for Undelayed {
-    fn fmt<W: fmt::Write>(&self, f: &mut fmt::Formatter<W>) -> fmt::Result {
-        f.write_str(match self {
-            Undelayed::Data(_) => {
-                "data cannot be delayed, since only a call loads the DLL; leave it out for -y"
-            }
-            Undelayed::Alias(_) => "an alias cannot be delayed; leave it out for -y",
-            Undelayed::Machine => "this machine has no code for delayed imports",
-        })
+/// Why imports cannot be delayed.
+pub fn undelayed_text(why: &Undelayed) -> &'static str {
+    match why {
+        Undelayed::Data(_) => {
+            "data cannot be delayed, since only a call loads the DLL; leave it out for -y"
+        }
+        Undelayed::Alias(_) => "an alias cannot be delayed; leave it out for -y",
+        Undelayed::Machine => "this machine has no code for delayed imports",
     }
 }
 
@@ -275,7 +286,7 @@ impl<'a> fmt::Display for Complaint<'a> {
                 f,
                 "warning: {count} forwarders lead to nothing in the folders, and stay code"
             ),
-            Complaint::Undelayed(why) => write!(f, "{why}"),
+            Complaint::Undelayed(why) => f.write_str(undelayed_text(why)),
             Complaint::Utf16 => f.write_str("the definition is UTF-16; expected UTF-8"),
             Complaint::FailingStub => f.write_str(
                 "functions for GNU's linker cannot run on arm, by the stubs that they have there; \

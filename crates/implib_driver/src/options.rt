@@ -69,6 +69,8 @@ pub enum Switch {
     IdentifyStrict,
     /// Of LIB's words, and of no option: on I386 a word with an `@` is a symbol as it is.
     KeepsDecorated,
+    /// `/list` of LIB's words, and of no option: the names of a library's members are printed.
+    ListsMembers,
     /// `-C`, `--compat-implib`: for GNU's linker each export's object has the older symbol of its
     /// address too.
     CompatImplib,
@@ -134,6 +136,7 @@ impl Switch {
             Switch::KeepsDecorated => 14,
             Switch::CompatImplib => 15,
             Switch::ListedAlone => 16,
+            Switch::ListsMembers => 17,
         }
     }
 

@@ -12,7 +12,7 @@ ghost use Rattle.implib_driver.specs.Program.{NamesDlls, OnlyComplains, Prints, 
 ghost use Rattle.implib_driver.specs.Program.{SaysWarnings, Warned, answer_status, definition_in};
 ghost use Rattle.implib_driver.specs.Program.{begins_utf16, is_bare, misuse, subject_of};
 ghost use Rattle.implib_driver.specs.Program.{devices, own_name, texts};
-ghost use Rattle.implib_driver.specs.Program.{verdict, warning_lines};
+ghost use Rattle.implib_driver.specs.Program.{verdict, warning_lines, warnings_for};
 ghost use Rattle.implib_driver.specs.Reports.{Complains, OfDll, OfMemory, Refuses, Says, complaint_view};
 ghost use Rattle.implib_rules.specs.declared.library.Refusal.TheVariants.{OutOfMemory};
 ghost use Rattle.implib_dll.specs.Views.{exports_view};
@@ -33,7 +33,6 @@ ghost use Rattle.std.specs.String.{string_bytes};
 ghost use Rattle.std.specs.Vec.Iter.{into_iter_items};
 
 use crate::arguments::{Occurrence, ReadWordsError, is_given};
-use crate::delay::{DelayRefusal, delayed_archive, delayed_members_for};
 use crate::disk::Disk;
 use crate::dll::{DllCallError, DllRefusal, begins_dll, dll_exports, list_of_dll, members_of_dll};
 use crate::identity::{IdentifyError, identify};
@@ -46,10 +45,10 @@ use crate::request::{
 };
 use crate::search::{Unsearched, search};
 use crate::stubs::has_failing_stub;
-use crate::verbose::warnings_for;
 use implib::def::{ModuleDef, ShortExport};
 use implib::{Flavor, MachineType, Member, ParseError};
 use implib_archive::Archive;
+use implib_delay_library::{DelayRefusal, delayed_archive, delayed_members_for};
 use implib_dll::Exports;
 use implib_dll_library::{NotDecorations, count_missing, decorate, decorations_in};
 use implib_from_dll::machine_of;
@@ -59,7 +58,7 @@ use implib_rules::name::last_part;
 use implib_rules::places::{Place, export_lines, read_with_places};
 use implib_rules::text::DefinitionText;
 use implib_rules::text_warnings::{none_warnings, text_warnings};
-use implib_rules::warnings::Warning;
+use implib_rules::warnings::{Warning, warnings_of};
 use std::alloc::{AllocError, Global};
 use std::env::Args;
 use std::io::{ErrorKind, Read, Write};
@@ -128,6 +127,7 @@ Called as LIB is, by a name that is lib or ends in -lib, or with a first word
   /machine:MACHINE         x86, x64, arm or arm64
   /name:DLL                the name of the DLL, before that of FILE
   /verbose                 as -v
+  /list LIB                print the names of LIB's members, and make nothing
   /nologo                  taken and ignored
   /help, /?
 
@@ -246,6 +246,24 @@ fn warn_of_none<T: Reporter>(
         Err(ParseError::Invalid(..)) => Ok(()),
         Err(ParseError::OutOfMemory(refused)) => Err(refused),
     }
+}
+
+// The warnings that are asked for, of a definition of these exports and places and this number of
+// members; none without `-v`.
+fn warnings_for<'a>(
+    alloc: Global,
+    exports: &'a [ShortExport],
+    places: &[Place],
+    request: &Request<'_>,
+    count: usize,
+) -> Result<Vec<Warning<'a>>, AllocError>
+    ensures { IfOk result (λ warnings. map warning_view warnings.items
+        ≡ warnings_for (request_view request.now) (map export_view exports.now) places.now count) }
+{
+    if request.is_verbose {
+        return warnings_of(alloc, exports, places, &request.library, count);
+    }
+    Ok(Vec::new(alloc))
 }
 
 // Says the warnings of a definition, of which these are the places.
@@ -1006,12 +1024,12 @@ fn name_dlls<O: Write, T: Reporter>(
     printer: &mut O,
     reporter: &mut T,
 ) -> u8
-    ensures { NamesDlls name.now wish.entry.library.now (identified wish.entry.is_strict bytes.now)
+    ensures { NamesDlls name.now wish.entry.library.now (identified wish.entry.wanted bytes.now)
         (T.said reporter.old) (T.said reporter.new) (O.contents printer.old) (O.contents printer.new) result
         ⊎ OnlyComplains name.now OfMemory 3 (T.said reporter.old) (T.said reporter.new)
         (O.contents printer.old) (O.contents printer.new) result }
 {
-    match identify(alloc, bytes, wish.is_strict) {
+    match identify(alloc, bytes, wish.wanted) {
         Ok(lines) => print_bytes(printer, reporter, name, lines.as_slice()),
         Err(IdentifyError::Refused(fault)) => {
             reporter.complain(wish.library, Complaint::Identity(fault));
@@ -1030,7 +1048,7 @@ fn identify_library<D: Disk, O: Write, T: Reporter>(
     printer: &mut O,
     reporter: &mut T,
 ) -> u8
-    ensures { (input : Option (List ℕ)) → Identifies name.now wish.entry.library.now wish.entry.is_strict
+    ensures { (input : Option (List ℕ)) → Identifies name.now wish.entry.library.now wish.entry.wanted
         (devices input (D.view disk.old) (T.said reporter.old))
         (devices input (D.view disk.new) (T.said reporter.new))
         (O.contents printer.old) (O.contents printer.new) result }

@@ -5,11 +5,11 @@ ghost use Rattle.implib_rules.specs.Warnings.{warning_view};
 ghost use Rattle.std.specs.Prelude.{[], ◌∷◌, List, Option};
 
 use crate::arguments::WordFault;
-use crate::delay::Undelayed;
 use crate::dll::DllRefusal;
 use crate::identity::NotIdentified;
 use crate::request::CallFault;
 use implib_archive::WriteError;
+use implib_delay_library::Undelayed;
 use implib_rules::library::Refusal;
 use implib_rules::warnings::Warning;
 use std::io;

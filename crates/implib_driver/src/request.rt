@@ -16,11 +16,12 @@ ghost use Rattle.implib_driver.specs.Request.{machine_of_name};
 ghost use Rattle.implib_driver.specs.Request.{delay_for, delayed_apart, delayed_in, output_or};
 ghost use Rattle.implib_driver.specs.Request.{naming_in, older_symbols_in, output_in, request_in};
 ghost use Rattle.implib_driver.specs.Request.{request_view};
-ghost use Rattle.implib_driver.specs.Request.{task_of, task_view};
+ghost use Rattle.implib_driver.specs.Request.{task_of, task_view, wanted_of};
 ghost use Rattle.std.specs.Option.{option_map, option_to_list};
 ghost use Rattle.std.specs.Prelude.{◌≡◌, ◌<◌, Err, IfErr, IfOk, Ok, OnOk, length, map};
 
 use crate::arguments::{Occurrence, is_last, is_switched, last_given};
+use crate::identity::Wanted;
 use crate::options::{Setting, Switch};
 use implib::{Flavor, MachineType};
 use implib_rules::additions::Additions;
@@ -52,13 +53,13 @@ pub struct Request<'a> {
     pub is_verbose: bool,
 }
 
-/// The library whose DLLs are to be named.
+/// The library whose DLLs or members are to be named.
 #[derive(Clone, Copy, Debug)]
 pub struct Identification<'a> {
     /// Its file.
     pub library: &'a str,
-    /// Whether it has to import from one DLL alone.
-    pub is_strict: bool,
+    /// What is printed of it.
+    pub wanted: Wanted,
 }
 
 /// What a command line asks for.
@@ -68,7 +69,7 @@ pub enum Task<'a> {
     Help,
     /// The version.
     Version,
-    /// The DLLs of a library.
+    /// The DLLs of a library, or its members.
     Identify(Identification<'a>),
     /// A library.
     Make(Request<'a>),
@@ -601,8 +602,21 @@ pub(crate) fn request_in<'a>(
     })
 }
 
-/// What the options ask for: the help or the version where one of them does, else the DLLs of a
-/// library, else a library.
+// What is printed of a library.
+fn wanted_of(options: &[Occurrence<'_>]) -> Wanted
+    ensures { result ≡ wanted_of (map occurrence_view options.now) }
+{
+    if is_switched(options, Switch::ListsMembers) {
+        Wanted::Members
+    } else if is_switched(options, Switch::IdentifyStrict) {
+        Wanted::OneDll
+    } else {
+        Wanted::Dlls
+    }
+}
+
+/// What the options ask for: the help or the version where one of them does, else the DLLs or the
+/// members of a library, else a library.
 ///
 /// # Errors
 ///
@@ -631,7 +645,7 @@ pub fn task_of<'a>(
     if let Some(library) = last_given(options, Setting::Identify) {
         return Ok(Task::Identify(Identification {
             library,
-            is_strict: is_switched(options, Switch::IdentifyStrict),
+            wanted: wanted_of(options),
         }));
     }
     Ok(Task::Make(request_in(alloc, options, caller)?))

@@ -206,7 +206,8 @@ fn wrong_calls_are_told(rt: HostRuntime) -> Result<(), Fail> {
         ),
         (
             ["-kvd", "-", "--", "-k"].as_slice(),
-            "implib_dlltool: -k: no option; objects are not supported\n",
+            "implib_dlltool: -k: no option; objects are not supported; llvm-lib makes libraries of \
+             them\n",
         ),
         (
             ["@words"].as_slice(),
@@ -230,7 +231,8 @@ fn wrong_calls_are_told(rt: HostRuntime) -> Result<(), Fail> {
         ),
         (
             ["--lib", "/out:a.lib", "/home/x.obj"].as_slice(),
-            "implib_dlltool: /home/x.obj: no option; objects are not supported\n",
+            "implib_dlltool: /home/x.obj: no option; objects are not supported; llvm-lib makes \
+             libraries of them\n",
         ),
         (
             ["--lib", "/frobnicate"].as_slice(),
@@ -251,7 +253,8 @@ fn wrong_calls_are_told(rt: HostRuntime) -> Result<(), Fail> {
         ),
         (
             ["-d", "-", "a.o"].as_slice(),
-            "implib_dlltool: expected one definition or DLL; objects are not supported\n",
+            "implib_dlltool: expected one definition or DLL; objects are not supported; ld \
+             --output-def writes the definition of objects\n",
         ),
         (
             ["-z"].as_slice(),
@@ -300,8 +303,20 @@ fn wrong_calls_are_told(rt: HostRuntime) -> Result<(), Fail> {
             "implib_dlltool: /machine:x: no such machine: expected x86, x64, arm or arm64\n",
         ),
         (
+            ["--lib", "/WX"].as_slice(),
+            "implib_dlltool: /WX: not supported\n",
+        ),
+        (
             ["--lib", "/LIST"].as_slice(),
-            "implib_dlltool: /LIST: not supported\n",
+            "implib_dlltool: no library: expected its file beside /list\n",
+        ),
+        (
+            ["--lib", "a.lib", "/list", "/b.lib"].as_slice(),
+            "implib_dlltool: /b.lib: expected one library beside /list\n",
+        ),
+        (
+            ["--lib", "/list", "a.lib", "/def:-"].as_slice(),
+            "implib_dlltool: /list: not together with /def\n",
         ),
         (
             ["--lib", "/outx:a"].as_slice(),
@@ -584,6 +599,9 @@ fn libraries_are_written(rt: HostRuntime) -> Result<(), Fail> {
     );
     assert_eq!(rt; library.len(), 1412);
     let (got, wrote) = ran(&rt, ["-I", file.as_str()].as_slice(), b"")?;
+    assert_eq!(rt; wrote.as_str(), "");
+    assert_eq!(rt; got, 0);
+    let (got, wrote) = ran(&rt, ["--lib", "/list", file.as_str()].as_slice(), b"")?;
     assert_eq!(rt; wrote.as_str(), "");
     assert_eq!(rt; got, 0);
     fs::write(&rt, file.as_path(), b"!<arch>\n")?;

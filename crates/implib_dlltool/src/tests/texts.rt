@@ -103,6 +103,7 @@ fn the_help_has_options_and_statuses(rt: HostRuntime) -> Result<(), Fail> {
         "\n      --identify-strict    refuse a LIB that imports from two DLLs or more\n",
         "\n  /def:FILE /out:OUT       the definition and the library\n",
         "\n  /machine:MACHINE         x86, x64, arm or arm64\n",
+        "\n  /list LIB                print the names of LIB's members, and make nothing\n",
         "\nStatus: 0 made; 1 FILE or LIB is refused; 2 wrong call; 3 a file or memory failed.\n",
     ] {
         assert!(rt; help.contains(part), "{part}");

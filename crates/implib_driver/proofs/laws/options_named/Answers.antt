@@ -40,6 +40,7 @@ options = record {
   keeps_decorated = refl;
   compat_implib = refl;
   listed_alone = refl;
+  lists_members = refl;
   i386 = refl;
   amd64 = refl;
   armnt = refl;

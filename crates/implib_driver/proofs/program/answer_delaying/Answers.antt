@@ -1,9 +1,9 @@
 use Rattle.std.proofs.Common.{inl, inr, map, refl, subst}
 use Rattle.implib.specs.Library.{member_view}
 use Rattle.implib_rules.specs.Options.{library_options_view}
-use Rattle.implib_driver.specs.declared.delay.DelayRefusal.TheVariants.{Refused}
-use Rattle.implib_driver.specs.Delay.{IsRefusalOfDelayedArchive}
-use Rattle.implib_driver.proofs.Delays.{no_archive}
+use Rattle.implib_delay_library.specs.declared.library.DelayRefusal.TheVariants.{Refused}
+use Rattle.implib_delay_library.specs.Libraries.{IsRefusalOfDelayedArchive}
+use Rattle.implib_delay_library.proofs.Refusals.{no_archive}
 use Rattle.implib_driver.proofs.program.answer_delaying.Goals as goal
 
 pub returns : goal.returns

@@ -3,8 +3,8 @@ use Rattle.implib.specs.Definition.{definition_view}
 use Rattle.implib_delay.specs.Refusal.{delay_cause}
 use Rattle.implib_rules.specs.Options.{library_options_view}
 use Rattle.implib_rules.proofs.Made.{found_in}
-use Rattle.implib_driver.proofs.Delays.{refuses, undelayed}
-use Rattle.implib_driver.proofs.delay.delayed_members_for.Goals as goal
+use Rattle.implib_delay_library.proofs.Refusals.{refuses, undelayed}
+use Rattle.implib_delay_library.proofs.library.delayed_members_for.Goals as goal
 
 pub returns-in-Err-Invalid-clause-refused : goal.returns-in-Err-Invalid-clause-refused
 returns-in-Err-Invalid-clause-refused c =

@@ -3,9 +3,9 @@
 ghost use Rattle.implib.specs.Library.{member_view};
 ghost use Rattle.implib_archive.specs.declared.kind.Kind.TheVariants as kind;
 ghost use Rattle.implib_archive.specs.Refusal.{refusal_of};
-ghost use Rattle.implib_driver.specs.Delay.{DelayedMembersFor, IsRefusalOfDelayedArchive};
-ghost use Rattle.implib_driver.specs.Delay.{IsRefusalOfDelayedMembers, IsRefusalPlaced};
-ghost use Rattle.implib_driver.specs.Delay.{delayed_options, position_of_undelayed};
+ghost use Rattle.implib_delay_library.specs.Libraries.{DelayedMembersFor, IsRefusalOfDelayedArchive};
+ghost use Rattle.implib_delay_library.specs.Libraries.{IsRefusalOfDelayedMembers, IsRefusalPlaced};
+ghost use Rattle.implib_delay_library.specs.Libraries.{delayed_options, position_of_undelayed};
 ghost use Rattle.implib_delay.specs.Refusal.{delay_cause};
 ghost use Rattle.implib_rules.specs.Options.{library_options_view};
 ghost use Rattle.std.specs.Prelude.{◌≡◌, IfErr, IfOk, None, OnOk, map};
@@ -54,7 +54,7 @@ pub enum DelayRefusal {
 }
 
 impl From<AllocError> for DelayRefusal {
-    ghost use Rattle.implib_driver.specs.declared.delay.DelayRefusal.TheVariants.{Refused};
+    ghost use Rattle.implib_delay_library.specs.declared.library.DelayRefusal.TheVariants.{Refused};
     ghost use Rattle.implib_rules.specs.declared.library.Refusal.TheVariants.{OutOfMemory};
     ghost use Rattle.std.specs.Prelude.{◌≡◌};
 
@@ -66,7 +66,7 @@ impl From<AllocError> for DelayRefusal {
 }
 
 impl From<Refusal> for DelayRefusal {
-    ghost use Rattle.implib_driver.specs.declared.delay.DelayRefusal.TheVariants.{Refused};
+    ghost use Rattle.implib_delay_library.specs.declared.library.DelayRefusal.TheVariants.{Refused};
     ghost use Rattle.std.specs.Prelude.{◌≡◌};
 
     ghost from_gives = { λ refusal error. error ≡ Refused refusal };

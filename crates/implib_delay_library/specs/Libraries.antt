@@ -13,11 +13,11 @@ use Rattle.implib_archive.specs.Refusal.{refusal_of}
 use Rattle.implib_delay.specs.Members.{AreDelayedMembersOf, delay_refusal}
 use Rattle.implib_delay.specs.Reader.{DelayedReadBack}
 use Rattle.implib_delay.specs.Refusal.{DelayCause, IsAlias, IsData, NoMachine, OfNames}
-use Rattle.implib_driver.specs.declared.delay.DelayRefusal.{DelayRefusal}
-use Rattle.implib_driver.specs.declared.delay.DelayRefusal.TheVariants.{Refused}
-use Rattle.implib_driver.specs.declared.delay.DelayRefusal.TheVariants.{Undelayed as CannotDelay}
-use Rattle.implib_driver.specs.declared.delay.Undelayed.{Undelayed}
-use Rattle.implib_driver.specs.declared.delay.Undelayed.TheVariants.{Alias, Data, Machine}
+use Rattle.implib_delay_library.specs.declared.library.DelayRefusal.{DelayRefusal}
+use Rattle.implib_delay_library.specs.declared.library.DelayRefusal.TheVariants.{Refused}
+use Rattle.implib_delay_library.specs.declared.library.DelayRefusal.TheVariants.{Undelayed as CannotDelay}
+use Rattle.implib_delay_library.specs.declared.library.Undelayed.{Undelayed}
+use Rattle.implib_delay_library.specs.declared.library.Undelayed.TheVariants.{Alias, Data, Machine}
 use Rattle.implib_rules.specs.declared.library.Refusal.{Refusal}
 use Rattle.implib_rules.specs.declared.library.Refusal.TheVariants.{Archive, Members, NoName}
 use Rattle.implib_rules.specs.declared.library.Refusal.TheVariants.{NotUtf8, OutOfMemory, Syntax}
