@@ -65,6 +65,19 @@ uint32_t implib_library_with_nonnull(const uint8_t *text, size_t text_length, co
     return pass(text, text_length, machine, flavor, buffer, buffer_length, length, place) + 2;
 }
 
+/* Whether the last call was for delayed imports. */
+static int passed_delayed;
+
+uint32_t implib_delayed_library_nonnull(const uint8_t *text, size_t text_length, const uint8_t *dll,
+                                        size_t dll_length, uint32_t has_dll, uint16_t machine, uint32_t flavor,
+                                        uint32_t flags, uint8_t *buffer, size_t buffer_length, size_t *length,
+                                        size_t *place)
+{
+    passed_delayed = 1;
+    return implib_library_with_nonnull(text, text_length, dll, dll_length, has_dll, machine, flavor, flags, buffer,
+                                       buffer_length, length, place);
+}
+
 /* What a call with exports passed on beside. */
 static const struct implib_export *passed_exports;
 
@@ -175,6 +188,7 @@ static void hold_options(callee_with *own, const uint8_t *text, size_t text_leng
                                              given == 0 ? NULL : name, given == 0 ? 2 : given - 1};
             int is_known = size >= 16 && size <= 40, has_name = size == 40 && given != 0;
             passed_text = NULL;
+            passed_delayed = 0;
             if (first != NULL)
                 *first = 5;
             if (second != NULL)
@@ -191,10 +205,23 @@ static void hold_options(callee_with *own, const uint8_t *text, size_t text_leng
             hold(first == NULL || (passed_first == first && *first == 11), "another length is given with options");
             hold(second == NULL || (passed_second == second && *second == 12), "another place is given with options");
             hold(passed_flags == (size < 20 ? 0 : 0x80000003), "other flags are passed on");
+            hold(!passed_delayed, "a call without the flag is for delayed imports");
             hold(passed_has_dll == (uint32_t)has_name, "a name is passed on, or is not");
             hold(passed_dll_length == (has_name ? given - 1 : 0), "another length of the name is passed on");
             hold(passed_dll_length == 0 || passed_dll == name, "another name is passed on");
         }
+    }
+    if (own == implib_library_with) {
+        struct implib_options delayed = {sizeof delayed, IMPLIB_MACHINE_ARM64, IMPLIB_FLAVOR_GNU,
+                                         IMPLIB_DELAYED + 0x80000003, name, 2};
+        passed_delayed = 0;
+        uint32_t status = own(&delayed, text, text_length, buffer, buffer_length, first, second);
+        hold(status == IMPLIB_BUFFER_TOO_SMALL + 2 && passed_delayed, "delayed imports are not passed on");
+        hold(text == NULL || passed_text == text, "another text is passed on for delayed imports");
+        hold(passed_flags == 0x80000003 && passed_has_dll == 1, "other options are passed on for delayed imports");
+        hold(passed_dll == name && passed_dll_length == 2, "another name is passed on for delayed imports");
+        hold(first == NULL || (passed_first == first && *first == 11), "another length is given for delayed imports");
+        hold(second == NULL || (passed_second == second && *second == 12), "another place is given for delayed imports");
     }
     hold(own(NULL, text, text_length, buffer, buffer_length, first, second) == IMPLIB_UNKNOWN_OPTIONS,
          "null options are taken");

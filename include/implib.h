@@ -62,7 +62,7 @@ extern "C" {
 
 /* The version of this header, which grows with every change of what it declares or says. implib_version()
  * gives that of the library. */
-#define IMPLIB_VERSION 8
+#define IMPLIB_VERSION 9
 uint32_t implib_version(void);
 
 /* What a call answers. New statuses get new numbers. Those of faults of the input are 16 to 39. */
@@ -130,7 +130,13 @@ enum implib_status {
     /* Of implib_exports and implib_check_dll. */
     IMPLIB_NOT_AN_IMAGE = 48,       /* the bytes are no PE32 or PE32+ image, or a part of it is cut; *place is the
                                      * offset of the field for which they are none */
-    IMPLIB_NO_EXPORT_DIRECTORY = 49 /* the image exports nothing; *place is 0 */
+    IMPLIB_NO_EXPORT_DIRECTORY = 49, /* the image exports nothing; *place is 0 */
+
+    /* Of implib_library_with under IMPLIB_DELAYED. */
+    IMPLIB_DELAY_FLAVOR = 50,  /* Microsoft's linkers delay imports of an ordinary library; *place is 0 */
+    IMPLIB_DELAY_MACHINE = 51, /* the machine has no code for delayed imports; *place is 0 */
+    IMPLIB_DELAY_DATA = 52,    /* of an export: it is data or a constant; *place is the offset of its name */
+    IMPLIB_DELAY_ALIAS = 53    /* of an export: it is a weak name for another; *place is the offset of its name */
 };
 
 /* The flags of the options, and the options of the program that they stand for. */
@@ -138,6 +144,8 @@ enum implib_status {
 #define IMPLIB_NO_LEADING_UNDERSCORE 2u /* --no-leading-underscore: on I386 symbols are as they are written */
 #define IMPLIB_EXPORT_AS 4u             /* --export-as: a name that is not made of its symbol is beside it */
 #define IMPLIB_KEEP_DECORATED 8u        /* --lib: on I386 a name with an `@` is decorated already */
+#define IMPLIB_DELAYED 16u              /* -y: of implib_library_with and implib_write alone, for GNU's linker: the
+                                         * DLL is loaded at the first call of one of its functions */
 
 /*
  * For which machine, linker and DLL a library is made.
@@ -512,6 +520,10 @@ uint32_t implib_library_with_nonnull(const uint8_t *text, size_t text_length, co
                                      size_t dll_length, uint32_t has_dll, uint16_t machine, uint32_t flavor,
                                      uint32_t flags, uint8_t *buffer, size_t buffer_length, size_t *length,
                                      size_t *place);
+uint32_t implib_delayed_library_nonnull(const uint8_t *text, size_t text_length, const uint8_t *dll,
+                                        size_t dll_length, uint32_t has_dll, uint16_t machine, uint32_t flavor,
+                                        uint32_t flags, uint8_t *buffer, size_t buffer_length, size_t *length,
+                                        size_t *place);
 uint32_t implib_library_of_nonnull(const struct implib_export *exports, size_t count, const uint8_t *dll,
                                    size_t dll_length, uint32_t has_dll, uint16_t machine, uint32_t flavor,
                                    uint32_t flags, uint8_t *buffer, size_t buffer_length, size_t *length,
@@ -567,6 +579,12 @@ static inline uint32_t implib_library_with(const struct implib_options *options,
     *own_length = *own_place = 0;
     if (!implib_private_options(options, &all))
         return IMPLIB_UNKNOWN_OPTIONS;
+    if ((all.flags & IMPLIB_DELAYED) != 0)
+        return implib_delayed_library_nonnull(text_length == 0 ? &no_text : text, text_length,
+                                              all.dll_length == 0 ? &no_dll : all.dll, all.dll_length,
+                                              all.dll != NULL, all.machine, all.flavor, all.flags - IMPLIB_DELAYED,
+                                              buffer_length == 0 ? &no_buffer : buffer, buffer_length, own_length,
+                                              own_place);
     return implib_library_with_nonnull(text_length == 0 ? &no_text : text, text_length,
                                        all.dll_length == 0 ? &no_dll : all.dll, all.dll_length, all.dll != NULL,
                                        all.machine, all.flavor, all.flags,

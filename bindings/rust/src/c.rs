@@ -8,7 +8,7 @@ use crate::error::{Error, Fault, Position};
 use crate::{Flavor, MachineType};
 
 /// `IMPLIB_VERSION` of the header that this file was written for.
-pub(crate) const VERSION: u32 = 8;
+pub(crate) const VERSION: u32 = 9;
 
 /// `IMPLIB_STATUS_TEXT_SIZE`: no text of a status is longer, its NUL counted.
 const STATUS_TEXT_SIZE: usize = 32;
@@ -24,6 +24,21 @@ extern "C" {
         text_length: usize,
         machine: u16,
         flavor: u32,
+        buffer: *mut u8,
+        buffer_length: usize,
+        length: *mut usize,
+        place: *mut usize,
+    ) -> u32;
+
+    fn implib_delayed_library_nonnull(
+        text: *const u8,
+        text_length: usize,
+        dll: *const u8,
+        dll_length: usize,
+        has_dll: u32,
+        machine: u16,
+        flavor: u32,
+        flags: u32,
         buffer: *mut u8,
         buffer_length: usize,
         length: *mut usize,
@@ -171,6 +186,34 @@ fn put(
     }
 }
 
+/// Puts the library of delayed imports of a text, for GNU's linker, at the beginning of the buffer: the status, the
+/// length and the place, an offset in the text.
+pub(crate) fn delayed(text: &[u8], machine: u16, dll: Option<&[u8]>, buffer: &mut [u8]) -> (u32, usize, usize) {
+    let (mut length, mut place) = (0, 0);
+    let has_dll = u32::from(dll.is_some());
+    let dll = dll.unwrap_or(&[]);
+    // SAFETY: text, dll and buffer are slices, so each pointer is not null and leads to as many bytes as its length
+    // says. The buffer and the two numbers are borrowed to be written, so they overlap neither each other nor the
+    // rest, and nobody else reads or writes them during the call. The library keeps no pointer.
+    let status = unsafe {
+        implib_delayed_library_nonnull(
+            text.as_ptr(),
+            text.len(),
+            dll.as_ptr(),
+            dll.len(),
+            has_dll,
+            machine,
+            Flavor::Gnu as u32,
+            0,
+            buffer.as_mut_ptr(),
+            buffer.len(),
+            &mut length,
+            &mut place,
+        )
+    };
+    (status, length, place)
+}
+
 /// Puts what the DLL in a file exports at the beginning of the buffer: the status, the length and the place.
 pub(crate) fn exports(file: &[u8], buffer: &mut [u8]) -> (u32, usize, usize) {
     let (mut length, mut place) = (0, 0);
@@ -209,7 +252,7 @@ pub(crate) fn check_dll(library: &[u8], dll: &[u8], name: &[u8], buffer: &mut [u
 }
 
 /// The position of an offset in a text.
-fn position(text: &[u8], offset: usize) -> Position {
+pub(crate) fn position(text: &[u8], offset: usize) -> Position {
     let (mut line, mut column) = (0, 0);
     // SAFETY: the text is a slice, so its pointer is not null and leads to as many bytes as its length says. The two
     // numbers are borrowed to be written, and overlap nothing. Any offset may be passed.

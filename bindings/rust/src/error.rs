@@ -74,6 +74,14 @@ pub enum Fault {
     NulInLibraryName = 37,
     /// The library's own name holds a line feed. No text has this.
     LineEndInLibraryName = 38,
+    /// No name of the DLL is given, of a library of delayed imports.
+    NoDllName = 39,
+    /// The machine has no code for delayed imports.
+    DelayMachine = 51,
+    /// An export is data or a constant, which cannot be delayed.
+    DelayData = 52,
+    /// An export is a weak name for another, which cannot be delayed.
+    DelayAlias = 53,
     /// No text says what a definition made by hand holds, as a name that begins with white space.
     NoText = 0x8000_0000,
     /// The library that is linked has another version of its interface than this crate.
@@ -112,6 +120,10 @@ impl Fault {
         Fault::EmptyLibraryName,
         Fault::NulInLibraryName,
         Fault::LineEndInLibraryName,
+        Fault::NoDllName,
+        Fault::DelayMachine,
+        Fault::DelayData,
+        Fault::DelayAlias,
         Fault::NoText,
         Fault::OtherVersion,
         Fault::UnknownStatus,

@@ -2,7 +2,7 @@
 //!
 //! The interface is that of the crate `implib` 0.4.0. The libraries are made by the library for C of the project
 //! `implib` in Rattle, which is proved to make what its documents say; where that differs from the crate of this
-//! name (`docs/DIFFERENCES.md`), its rule holds. [`dll`], which that crate lacks, reads what a DLL exports. `docs/CALLING.md`, "From Rust", says how it is linked.
+//! name (`docs/DIFFERENCES.md`), its rule holds. [`dll`] and [`delay`], which that crate lacks, read what a DLL exports, and make libraries of delayed imports. `docs/CALLING.md`, "From Rust", says how it is linked.
 //!
 //! ```
 //! use implib::{Flavor, ImportLibrary, MachineType};
@@ -18,6 +18,7 @@
 
 mod c;
 pub mod def;
+pub mod delay;
 pub mod dll;
 mod error;
 mod read;

@@ -74,6 +74,7 @@ module _ (text : List ℕ) (machine flavor : ℕ) (m : MachineType) (f : Flavor)
     fails_by_text failure.NotALibrary h = absurd h
     fails_by_text (failure.NotAnImage offset) h = absurd h
     fails_by_text failure.NoExportDirectory h = absurd h
+    fails_by_text (failure.NotDelayed why offset) h = absurd h
 
     -- the text has members
     pub has_members : (members : List MemberView) → MembersOf text m f members → HasMembers text machine flavor f members
@@ -193,6 +194,7 @@ module _ (text old : List ℕ) (machine flavor : ℕ) (f : Flavor) (members : Li
   answers_put new (Err failure.NotALibrary) puts = absurd puts
   answers_put new (Err (failure.NotAnImage offset)) puts = absurd puts
   answers_put new (Err failure.NoExportDirectory) puts = absurd puts
+  answers_put new (Err (failure.NotDelayed why offset)) puts = absurd puts
 
   -- what their archive is refused for, if anything
   packs : (kind : Kind) → kind ≡ kind_of_flavor f → (cause : _) → refusal_of kind members ≡ cause → MembersOf text has.machine_found has.flavor_found members
@@ -243,6 +245,7 @@ module _ (text old : List ℕ) (machine flavor : ℕ) (f : Flavor) (members : Li
   answers_packed kind kind_is new (Err failure.NotALibrary) puts = absurd puts
   answers_packed kind kind_is new (Err (failure.NotAnImage offset)) puts = absurd puts
   answers_packed kind kind_is new (Err failure.NoExportDirectory) puts = absurd puts
+  answers_packed kind kind_is new (Err (failure.NotDelayed why offset)) puts = absurd puts
   answers_packed kind kind_is new (Err (failure.NoArchive fault)) puts = record {
     ending = Unpacked kind members fault;
     ends = has_with _ (λ made. packs kind kind_is (Some fault) puts.0 made);

@@ -87,6 +87,7 @@ module _ (exports : List GivenExport) (options : LibraryOptionsView) (old : List
     puts_packed new (Err failure.NotALibrary) puts = absurd puts
     puts_packed new (Err (failure.NotAnImage offset)) puts = absurd puts
     puts_packed new (Err failure.NoExportDirectory) puts = absurd puts
+    puts_packed new (Err (failure.NotDelayed why offset)) puts = absurd puts
     puts_packed new (Err (failure.NoArchive fault)) puts = record {
       ending = Unpacked fault;
       ends = with_exports views given (λ es. RefusesArchiveOfExports es options fault) (refuses_archive fault puts.0);

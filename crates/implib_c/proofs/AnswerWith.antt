@@ -78,6 +78,7 @@ module _ (text : List ℕ) (options : LibraryOptionsView) (old : List ℕ) where
   puts_packed members made kind kind_is new (Err failure.NotALibrary) puts = absurd puts
   puts_packed members made kind kind_is new (Err (failure.NotAnImage offset)) puts = absurd puts
   puts_packed members made kind kind_is new (Err failure.NoExportDirectory) puts = absurd puts
+  puts_packed members made kind kind_is new (Err (failure.NotDelayed why offset)) puts = absurd puts
   puts_packed members made kind kind_is new (Err (failure.NoArchive fault)) puts = record {
     ending = Refused (refusal.Archive fault);
     ends = refuses_archive members made kind kind_is fault puts.0;

@@ -162,3 +162,4 @@ module _ (library text : List ℕ) (given : GivenOptions) (old : List ℕ) where
       checks_encoded new (Err failure.NotALibrary) puts = absurd puts
       checks_encoded new (Err (failure.NotAnImage offset)) puts = absurd puts
       checks_encoded new (Err failure.NoExportDirectory) puts = absurd puts
+      checks_encoded new (Err (failure.NotDelayed why offset)) puts = absurd puts

@@ -133,3 +133,4 @@ module _ (text old : List ℕ) (machine : ℕ) (definition : DefinitionView) (ha
     answers_encoded new (Err failure.NotALibrary) puts = absurd puts
     answers_encoded new (Err (failure.NotAnImage offset)) puts = absurd puts
     answers_encoded new (Err failure.NoExportDirectory) puts = absurd puts
+    answers_encoded new (Err (failure.NotDelayed why offset)) puts = absurd puts

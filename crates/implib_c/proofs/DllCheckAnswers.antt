@@ -31,6 +31,7 @@ module _ (library dll name old : List ℕ) where
   dll_check_lacking failure.NotALibrary lacks = record { ending = NoLibrary; ends = lacks; status_is = refl; length_is = refl; place_is = refl; buffer_is = refl; buffer_reads = tt }
   dll_check_lacking (failure.NotAnImage offset) lacks = record { ending = NoImage lacks.fault; ends = (lacks.read, lacks.refused); status_is = refl; length_is = refl; place_is = lacks.place; buffer_is = refl; buffer_reads = tt }
   dll_check_lacking failure.NoExportDirectory lacks = record { ending = NoDirectory; ends = lacks; status_is = refl; length_is = refl; place_is = refl; buffer_is = refl; buffer_reads = tt }
+  dll_check_lacking (failure.NotDelayed why offset) lacks = absurd lacks
 
   module _ (bytes : List ℕ) (encoded : EncodesDllCheck library dll name bytes) where
     -- there is no room
@@ -89,3 +90,4 @@ module _ (library dll name old : List ℕ) where
     dll_check_encoded new (Err failure.NotALibrary) puts = absurd puts
     dll_check_encoded new (Err (failure.NotAnImage offset)) puts = absurd puts
     dll_check_encoded new (Err failure.NoExportDirectory) puts = absurd puts
+    dll_check_encoded new (Err (failure.NotDelayed why offset)) puts = absurd puts

@@ -31,6 +31,7 @@ module _ (file old : List ℕ) where
   answers_lacking failure.NotALibrary lacks = absurd lacks
   answers_lacking (failure.NotAnImage offset) lacks = record { ending = NoImage lacks.fault; ends = lacks.refused; status_is = refl; length_is = refl; place_is = lacks.place; buffer_is = refl; buffer_reads = tt }
   answers_lacking failure.NoExportDirectory lacks = record { ending = NoDirectory; ends = lacks; status_is = refl; length_is = refl; place_is = refl; buffer_is = refl; buffer_reads = tt }
+  answers_lacking (failure.NotDelayed why offset) lacks = absurd lacks
 
   module _ (bytes : List ℕ) (encoded : EncodesExports file bytes) where
     -- there is no room
@@ -89,3 +90,4 @@ module _ (file old : List ℕ) where
     answers_encoded new (Err failure.NotALibrary) puts = absurd puts
     answers_encoded new (Err (failure.NotAnImage offset)) puts = absurd puts
     answers_encoded new (Err failure.NoExportDirectory) puts = absurd puts
+    answers_encoded new (Err (failure.NotDelayed why offset)) puts = absurd puts

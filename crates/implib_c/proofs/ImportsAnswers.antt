@@ -31,6 +31,7 @@ module _ (library old : List ℕ) where
   answers_lacking failure.NotALibrary lacks = record { ending = NoLibrary; ends = lacks; status_is = refl; length_is = refl; buffer_is = refl; buffer_reads = tt }
   answers_lacking (failure.NotAnImage offset) lacks = absurd lacks
   answers_lacking failure.NoExportDirectory lacks = absurd lacks
+  answers_lacking (failure.NotDelayed why offset) lacks = absurd lacks
 
   module _ (bytes : List ℕ) (encoded : EncodesImports library bytes) where
     -- there is no room
@@ -87,3 +88,4 @@ module _ (library old : List ℕ) where
     answers_encoded new (Err failure.NotALibrary) puts = absurd puts
     answers_encoded new (Err (failure.NotAnImage offset)) puts = absurd puts
     answers_encoded new (Err failure.NoExportDirectory) puts = absurd puts
+    answers_encoded new (Err (failure.NotDelayed why offset)) puts = absurd puts

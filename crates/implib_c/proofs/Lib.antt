@@ -35,6 +35,7 @@ pub mod ToldBack
 pub mod CheckAnswers
 pub mod AnswerWith
 pub mod AnswerOf
+pub mod AnswerDelayed
 pub mod GivenExports
 pub mod WrittenAlike
 pub mod PlacesOfRefusals

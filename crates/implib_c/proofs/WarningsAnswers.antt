@@ -122,3 +122,4 @@ module _ (text : List ℕ) (given : GivenOptions) (old : List ℕ) where
       warns_encoded new (Err failure.NotALibrary) puts = absurd puts
       warns_encoded new (Err (failure.NotAnImage offset)) puts = absurd puts
       warns_encoded new (Err failure.NoExportDirectory) puts = absurd puts
+      warns_encoded new (Err (failure.NotDelayed why offset)) puts = absurd puts

@@ -76,7 +76,7 @@ name_begins end (name ∷ names) zero all = all.0
 name_begins end (name ∷ names) (suc index) all = name_begins end names index all.1
 
 -- the position of an export, or of the beginning
-export_within : (text : List ℕ) (index : Option ℕ) (position : Position) → IsAtExport text index position → position.offset ≤ length text
+pub export_within : (text : List ℕ) (index : Option ℕ) (position : Position) → IsAtExport text index position → position.offset ≤ length text
 export_within text None position at = let same = ap (λ (p : Position). p.offset) at in omega (arith, same)
 export_within text (Some index) position at =
     let same = ap (λ (p : Position). p.offset) at.is in
@@ -128,7 +128,7 @@ misplaced_within text cause position at =
     omega (arith, same, within)
 
 -- a syntax error is within its text
-syntax_within : (text : List ℕ) (cause : Cause) (position : Position) → IsSyntaxErrorAt text cause position → position.offset ≤ length text
+pub syntax_within : (text : List ℕ) (cause : Cause) (position : Position) → IsSyntaxErrorAt text cause position → position.offset ≤ length text
 syntax_within text cause position (inl unclosed) = let within = open_within text beginning 0 position.offset unclosed.found in omega (arith, within)
 syntax_within text cause position (inr (inl parsed)) = refused_within text cause position.offset parsed.1.0
 syntax_within text cause position (inr (inr misplaced)) = misplaced_within text cause position misplaced

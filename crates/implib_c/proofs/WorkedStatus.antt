@@ -55,6 +55,20 @@ worked_statuses = record {
     unknown_flags = refl;
     dll_not_utf8 = refl;
   };
+  numbers_delayed = record {
+    made = λ file. refl;
+    too_long = λ file. refl;
+    unknown_flags = refl;
+    for_microsoft = refl;
+    no_machine = refl;
+    of_data = refl;
+    of_alias = refl;
+    no_dll_name = refl;
+    data_at = refl;
+    alias_at = refl;
+    machine_nowhere = refl;
+    not_utf8_at = refl;
+  };
   texts = record {
     text_0 = refl;
     text_1 = refl;
@@ -96,6 +110,10 @@ worked_statuses = record {
     text_47 = refl;
     text_48 = refl;
     text_49 = refl;
+    text_50 = refl;
+    text_51 = refl;
+    text_52 = refl;
+    text_53 = refl;
     text_6 = refl;
     text_15 = refl;
   };

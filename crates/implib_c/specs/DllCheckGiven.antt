@@ -6,7 +6,7 @@ use Rattle.implib_dll.specs.declared.fault.Fault.{Fault}
 use Rattle.implib_dll.specs.declared.section.Layout.TheVariants.{File}
 use Rattle.implib_read.specs.Classes.{library_in}
 use Rattle.implib_c.specs.declared.outcome.Failure.{Failure}
-use Rattle.implib_c.specs.declared.outcome.Failure.TheVariants.{BufferTooSmall, DllNotUtf8, NoArchive, NoDllName, NoExport, NoExportDirectory, NotALibrary, NotAnImage, NotUtf8, OutOfMemory, Refused, RefusedAt, SyntaxError, UnknownFlags, UnknownFlavor, UnknownMachine}
+use Rattle.implib_c.specs.declared.outcome.Failure.TheVariants.{BufferTooSmall, DllNotUtf8, NoArchive, NoDllName, NoExport, NoExportDirectory, NotALibrary, NotAnImage, NotDelayed, NotUtf8, OutOfMemory, Refused, RefusedAt, SyntaxError, UnknownFlags, UnknownFlavor, UnknownMachine}
 use Rattle.implib_c.specs.DllCheck.{DllTold, DllToldFits, encoded_dll_told}
 use Rattle.implib_c.specs.DllCheckAnswer.{IsTold}
 
@@ -46,3 +46,4 @@ LacksDllCheck library dll (NoExport fault index) = ⊥
 LacksDllCheck library dll NotALibrary = library_in library ≡ None
 LacksDllCheck library dll (NotAnImage offset) = HasNoImage library dll offset
 LacksDllCheck library dll NoExportDirectory = IsSome (library_in library) × (exports_in File dll ≡ Ok None)
+LacksDllCheck library dll (NotDelayed why offset) = ⊥

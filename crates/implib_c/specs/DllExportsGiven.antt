@@ -6,7 +6,7 @@ use Rattle.implib_dll.specs.declared.fault.Fault.{Fault}
 use Rattle.implib_dll.specs.declared.rows.Row.{Row}
 use Rattle.implib_dll.specs.declared.section.Layout.TheVariants.{File}
 use Rattle.implib_c.specs.declared.outcome.Failure.{Failure}
-use Rattle.implib_c.specs.declared.outcome.Failure.TheVariants.{BufferTooSmall, DllNotUtf8, NoArchive, NoDllName, NoExport, NoExportDirectory, NotALibrary, NotAnImage, NotUtf8, OutOfMemory, Refused, RefusedAt, SyntaxError, UnknownFlags, UnknownFlavor, UnknownMachine}
+use Rattle.implib_c.specs.declared.outcome.Failure.TheVariants.{BufferTooSmall, DllNotUtf8, NoArchive, NoDllName, NoExport, NoExportDirectory, NotALibrary, NotAnImage, NotDelayed, NotUtf8, OutOfMemory, Refused, RefusedAt, SyntaxError, UnknownFlags, UnknownFlavor, UnknownMachine}
 use Rattle.implib_c.specs.DllExports.{DllFits, DllRows, ExportRow, dll_rows, encoded_dll, export_row}
 
 -- the row of an ordinal that is read
@@ -48,3 +48,4 @@ LacksExports file (NoExport fault index) = ⊥
 LacksExports file NotALibrary = ⊥
 LacksExports file (NotAnImage offset) = IsNoImage file offset
 LacksExports file NoExportDirectory = exports_in File file ≡ Ok None
+LacksExports file (NotDelayed why offset) = ⊥

@@ -13,7 +13,7 @@ use Rattle.implib.specs.Text.Parses.{RefusesAt}
 use Rattle.implib_c.specs.declared.outcome.Failure.{Failure}
 use Rattle.implib_c.specs.declared.outcome.Failure.TheVariants.{BufferTooSmall, OutOfMemory, NotUtf8}
 use Rattle.implib_c.specs.declared.outcome.Failure.TheVariants.{UnknownMachine, UnknownFlavor, SyntaxError, Refused}
-use Rattle.implib_c.specs.declared.outcome.Failure.TheVariants.{NoArchive, UnknownFlags, DllNotUtf8, NoDllName, RefusedAt, NoExport, NotALibrary, NotAnImage, NoExportDirectory}
+use Rattle.implib_c.specs.declared.outcome.Failure.TheVariants.{NoArchive, UnknownFlags, DllNotUtf8, NoDllName, RefusedAt, NoExport, NotALibrary, NotAnImage, NoExportDirectory, NotDelayed}
 use Rattle.implib_archive.specs.declared.error.Error.{Error as ArchiveError}
 use Rattle.implib_archive.specs.declared.error.Error.TheVariants as archive_error
 use Rattle.implib_archive.specs.declared.kind.Kind.{Kind}
@@ -25,6 +25,7 @@ use Rattle.implib.specs.Members.OfText.{HasNoMembers, MembersOf}
 use Rattle.implib_c.specs.Answer.{EndsSo, IsFailure, Outcome, WithInput, place_of, status_of}
 use Rattle.implib_c.specs.Encoding.{encoded_members}
 use Rattle.implib_c.specs.Fill.{Fills}
+use Rattle.implib_c.specs.Delayed.{delay_status}
 use Rattle.implib_c.specs.LibraryOf.{export_status}
 use Rattle.implib_c.specs.Status.{archive_status, cause_status}
 
@@ -61,6 +62,7 @@ failure_status (NoExport fault index) = export_status fault
 failure_status NotALibrary = status.NotALibrary
 failure_status (NotAnImage offset) = status.NotAnImage
 failure_status NoExportDirectory = status.NoExportDirectory
+failure_status (NotDelayed why offset) = delay_status why
 
 -- the status of an answer
 abbrev pub status_given : Result ℕ Failure → Status
@@ -86,6 +88,7 @@ length_given (Err (NoExport fault index)) = 0
 length_given (Err NotALibrary) = 0
 length_given (Err (NotAnImage offset)) = 0
 length_given (Err NoExportDirectory) = 0
+length_given (Err (NotDelayed why offset)) = 0
 
 -- the place in an answer
 abbrev pub place_given : Result ℕ Failure → ℕ
@@ -106,6 +109,7 @@ place_given (Err (NoExport fault index)) = index
 place_given (Err NotALibrary) = 0
 place_given (Err (NotAnImage offset)) = offset
 place_given (Err NoExportDirectory) = 0
+place_given (Err (NotDelayed why offset)) = offset
 
 -- the text is refused, or memory was
 abbrev pub OnTextFault : List ℕ → MachineType → Flavor → Failure → Type 0
@@ -125,6 +129,7 @@ OnTextFault text machine flavor (NoExport fault index) = ⊥
 OnTextFault text machine flavor NotALibrary = ⊥
 OnTextFault text machine flavor (NotAnImage offset) = ⊥
 OnTextFault text machine flavor NoExportDirectory = ⊥
+OnTextFault text machine flavor (NotDelayed why offset) = ⊥
 
 -- the text has these members for this flavour, by the numbers of a machine and of the flavour
 abbrev pub HasMembers : List ℕ → ℕ → ℕ → Flavor → List MemberView → Type 0
@@ -162,6 +167,7 @@ PutsInto members old new (Err (NoExport fault index)) = ⊥
 PutsInto members old new (Err NotALibrary) = ⊥
 PutsInto members old new (Err (NotAnImage offset)) = ⊥
 PutsInto members old new (Err NoExportDirectory) = ⊥
+PutsInto members old new (Err (NotDelayed why offset)) = ⊥
 
 -- an encoding is put at the beginning of the buffer, where there is room; else nothing is
 abbrev pub PutsEncoding : List ℕ → List ℕ → List ℕ → Result ℕ Failure → Type 0
@@ -182,6 +188,7 @@ PutsEncoding bytes old new (Err (NoExport fault index)) = ⊥
 PutsEncoding bytes old new (Err NotALibrary) = ⊥
 PutsEncoding bytes old new (Err (NotAnImage offset)) = ⊥
 PutsEncoding bytes old new (Err NoExportDirectory) = ⊥
+PutsEncoding bytes old new (Err (NotDelayed why offset)) = ⊥
 
 -- the members' archive is put at the beginning of the buffer, where there is one and room for it; else nothing
 -- is
@@ -207,3 +214,4 @@ PacksInto kind members old new (Err (NoExport fault index)) = ⊥
 PacksInto kind members old new (Err NotALibrary) = ⊥
 PacksInto kind members old new (Err (NotAnImage offset)) = ⊥
 PacksInto kind members old new (Err NoExportDirectory) = ⊥
+PacksInto kind members old new (Err (NotDelayed why offset)) = ⊥

@@ -2,7 +2,7 @@
 use Rattle.std.specs.Prelude.{◌≡◌, ℕ, All, List, None, Some}
 use Rattle.implib_c.specs.declared.imports.Row.{Row as FoundRow}
 use Rattle.implib_c.specs.declared.outcome.Failure.{Failure}
-use Rattle.implib_c.specs.declared.outcome.Failure.TheVariants.{BufferTooSmall, DllNotUtf8, NoArchive, NoDllName, NoExport, NoExportDirectory, NotALibrary, NotAnImage, NotUtf8, OutOfMemory, Refused, RefusedAt, SyntaxError, UnknownFlags, UnknownFlavor, UnknownMachine}
+use Rattle.implib_c.specs.declared.outcome.Failure.TheVariants.{BufferTooSmall, DllNotUtf8, NoArchive, NoDllName, NoExport, NoExportDirectory, NotALibrary, NotAnImage, NotDelayed, NotUtf8, OutOfMemory, Refused, RefusedAt, SyntaxError, UnknownFlags, UnknownFlavor, UnknownMachine}
 use Rattle.implib_c.specs.Imports.{Fits, Row, encoded_rows, row_of, rows_of}
 use Rattle.implib_read.specs.ClassViews.{member_read_view}
 use Rattle.implib_read.specs.declared.class.MemberRead.{MemberRead}
@@ -53,3 +53,4 @@ LacksImports library (NoExport fault index) = ⊥
 LacksImports library NotALibrary = rows_of library ≡ None
 LacksImports library (NotAnImage offset) = ⊥
 LacksImports library NoExportDirectory = ⊥
+LacksImports library (NotDelayed why offset) = ⊥

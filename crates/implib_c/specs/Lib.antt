@@ -5,6 +5,7 @@ pub mod Answer
 pub mod Library
 pub mod LibraryWith
 pub mod LibraryOf
+pub mod Delayed
 pub mod Definition
 pub mod DefinitionAnswer
 pub mod Warnings
@@ -23,6 +24,7 @@ pub mod Flags
 pub mod Given
 pub mod GivenWith
 pub mod GivenOf
+pub mod DelayedGiven
 pub mod DefinitionGiven
 pub mod WarningsGiven
 pub mod ImportsGiven

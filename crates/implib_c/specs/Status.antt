@@ -20,6 +20,7 @@ use Rattle.implib_c.specs.declared.status.Status.TheVariants.{EmptyLibraryName, 
 use Rattle.implib_c.specs.declared.status.Status.TheVariants.{NoDllName, UnknownOptions, UnknownFlags, DllNotUtf8}
 use Rattle.implib_c.specs.declared.status.Status.TheVariants.{UnknownExportFlags, ExportNotUtf8, NullInExport}
 use Rattle.implib_c.specs.declared.status.Status.TheVariants.{NoExportDirectory, NotALibrary, NotAnImage, WriteFailed}
+use Rattle.implib_c.specs.declared.status.Status.TheVariants.{DelayAlias, DelayData, DelayFlavor, DelayMachine}
 
 -- the number of a status: those of a call first, from 16 to 39 those of the input's faults, then those of options, of
 -- exports and of bytes that are read
@@ -64,6 +65,10 @@ status_number NotALibrary = 46
 status_number WriteFailed = 47
 status_number NotAnImage = 48
 status_number NoExportDirectory = 49
+status_number DelayFlavor = 50
+status_number DelayMachine = 51
+status_number DelayData = 52
+status_number DelayAlias = 53
 
 -- the status with a number
 abbrev pub status_numbered : ℕ → Option Status
@@ -108,6 +113,10 @@ status_numbered number =
     else if number == 47 then Some WriteFailed
     else if number == 48 then Some NotAnImage
     else if number == 49 then Some NoExportDirectory
+    else if number == 50 then Some DelayFlavor
+    else if number == 51 then Some DelayMachine
+    else if number == 52 then Some DelayData
+    else if number == 53 then Some DelayAlias
     else None
 
 -- the text of a status
@@ -152,6 +161,10 @@ status_text NotALibrary = codes "not a library"
 status_text WriteFailed = codes "writing failed"
 status_text NotAnImage = codes "not an image"
 status_text NoExportDirectory = codes "no export directory"
+status_text DelayFlavor = codes "no delay for Microsoft's linker"
+status_text DelayMachine = codes "no delayed imports on machine"
+status_text DelayData = codes "data cannot be delayed"
+status_text DelayAlias = codes "alias cannot be delayed"
 
 -- the status of a fault of the input
 abbrev pub cause_status : Cause → Status

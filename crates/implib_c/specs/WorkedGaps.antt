@@ -22,8 +22,8 @@ pub record WorkedGaps : Type 0 where
   pub status_13 : IsUnknown 13
   pub status_14 : IsUnknown 14
   pub status_15 : IsUnknown 15
-  pub status_50 : IsUnknown 50
-  pub status_51 : IsUnknown 51
+  pub status_54 : IsUnknown 54
+  pub status_55 : IsUnknown 55
   pub status_100 : IsUnknown 100
   pub status_256 : IsUnknown 256
   pub status_0x10000 : IsUnknown 0x10000

@@ -1,7 +1,7 @@
 -- Statuses, machines, flavours and the version by their numbers, worked by hand: the numbers and texts are those of
 -- include/implib.h, written out once more (this project's choice; machines: PE/COFF specification, "Machine
 -- Types").
-use Rattle.std.specs.Prelude.{◌≡◌, ℕ, List, None, Some, codes, true, false}
+use Rattle.std.specs.Prelude.{◌≡◌, ℕ, List, [], ◌∷◌, None, Some, codes, true, false}
 use Rattle.implib.specs.declared.flavor.Flavor.TheVariants.{Msvc, Gnu}
 use Rattle.implib.specs.declared.machine.MachineType.TheVariants.{I386, ARMNT, AMD64, ARM64}
 use Rattle.implib.specs.declared.def.lexer.TokenKind.{TokenKind}
@@ -19,6 +19,10 @@ use Rattle.implib_c.specs.Library as library
 use Rattle.implib_c.specs.LibraryWith.{EndingWith, naming_numbered, status_with}
 use Rattle.implib_c.specs.LibraryWith as options
 use Rattle.implib_c.specs.Status.{status_number, text_for}
+use Rattle.implib_c.specs.Delayed.{EndingDelayed, place_delayed, status_delayed}
+use Rattle.implib_c.specs.Delayed as delayed
+use Rattle.implib_delay_library.specs.declared.library.DelayRefusal.TheVariants as delay
+use Rattle.implib_delay_library.specs.declared.library.Undelayed.TheVariants as undelayed
 use Rattle.implib_rules.specs.declared.library.Refusal.TheVariants as refusal
 use Rattle.implib_c.specs.Version.{version}
 
@@ -130,6 +134,10 @@ pub record WorkedTexts : Type 0 where
   pub text_47 : text_for 47 ≡ codes "writing failed"
   pub text_48 : text_for 48 ≡ codes "not an image"
   pub text_49 : text_for 49 ≡ codes "no export directory"
+  pub text_50 : text_for 50 ≡ codes "no delay for Microsoft's linker"
+  pub text_51 : text_for 51 ≡ codes "no delayed imports on machine"
+  pub text_52 : text_for 52 ≡ codes "data cannot be delayed"
+  pub text_53 : text_for 53 ≡ codes "alias cannot be delayed"
   pub text_6 : text_for 6 ≡ codes "unknown status"
   pub text_15 : text_for 15 ≡ codes "unknown status"
 
@@ -159,12 +167,39 @@ pub record WorkedArguments : Type 0 where
   pub export_as_keep_decorated : naming_numbered 12 ≡ Some (record { is_plain = false; kills_at = false; exports_as = true; keeps_decorated = true })
   pub each_flag : naming_numbered 15 ≡ Some (record { is_plain = true; kills_at = true; exports_as = true; keeps_decorated = true })
   pub unknown_flag : naming_numbered 16 ≡ None
-  pub version_is : version ≡ 8
+  pub version_is : version ≡ 9
+
+-- the number with which a call for delayed imports ends so, and the place that it gives in a text with a byte order mark
+abbrev pub number_delayed : EndingDelayed → ℕ
+number_delayed ending = status_number (status_delayed ending)
+
+abbrev pub marked_place : EndingDelayed → ℕ
+marked_place ending = place_delayed (0xEF ∷ 0xBB ∷ 0xBF ∷ []) ending
+
+-- a position at this offset
+abbrev pub at_offset : ℕ → Position
+at_offset offset = record { offset = offset; line = 1; column = 1 }
+
+-- what the numbers and places of these calls are
+pub record WorkedNumbersDelayed : Type 0 where
+  pub made : (file : List ℕ) → number_delayed (delayed.Made file) ≡ 0
+  pub too_long : (file : List ℕ) → number_delayed (delayed.TooLong file) ≡ 1
+  pub unknown_flags : number_delayed (delayed.NoOptions options.UnknownFlags) ≡ 41
+  pub for_microsoft : number_delayed delayed.ForMicrosoft ≡ 50
+  pub no_machine : number_delayed (delayed.Refused (delay.Undelayed undelayed.Machine)) ≡ 51
+  pub of_data : number_delayed (delayed.Refused (delay.Undelayed (undelayed.Data (at_offset 7)))) ≡ 52
+  pub of_alias : number_delayed (delayed.Refused (delay.Undelayed (undelayed.Alias (at_offset 7)))) ≡ 53
+  pub no_dll_name : number_delayed (delayed.Refused (delay.Refused refusal.NoName)) ≡ 39
+  pub data_at : marked_place (delayed.Refused (delay.Undelayed (undelayed.Data (at_offset 7)))) ≡ 10
+  pub alias_at : marked_place (delayed.Refused (delay.Undelayed (undelayed.Alias (at_offset 8)))) ≡ 11
+  pub machine_nowhere : marked_place (delayed.Refused (delay.Undelayed undelayed.Machine)) ≡ 0
+  pub not_utf8_at : marked_place (delayed.Refused (delay.Refused (refusal.NotUtf8 (at_offset 9)))) ≡ 12
 
 -- all of them
 pub record WorkedStatuses : Type 0 where
   pub numbers : WorkedNumbers
   pub library_numbers : WorkedLibraryNumbers
   pub numbers_with : WorkedNumbersWith
+  pub numbers_delayed : WorkedNumbersDelayed
   pub texts : WorkedTexts
   pub arguments : WorkedArguments

@@ -8,6 +8,7 @@ ghost use Rattle.implib.specs.Text.Position.{line_and_column};
 ghost use Rattle.implib_c.specs.Answer.{Answers};
 ghost use Rattle.implib_c.specs.CheckAnswer.{CheckAnswers};
 ghost use Rattle.implib_c.specs.DefinitionAnswer.{DefinitionAnswers};
+ghost use Rattle.implib_c.specs.Delayed.{DelayedAnswers};
 ghost use Rattle.implib_c.specs.DllCheckAnswer.{DllCheckAnswers};
 ghost use Rattle.implib_c.specs.DllExportsAnswer.{ExportsAnswers};
 ghost use Rattle.implib_c.specs.Given.{length_given, place_given, status_given};
@@ -23,6 +24,7 @@ ghost use Rattle.std.specs.Prelude.{◌<◌, ◌≡◌, length, map};
 
 use crate::check::check_into;
 use crate::definition::definition_into;
+use crate::delayed::delayed_into;
 use crate::dll_check::check_dll_into;
 use crate::dll_exports::exports_into;
 use crate::export::Export;
@@ -36,7 +38,7 @@ use crate::warnings::warnings_into;
 use std::alloc::Global;
 
 // `IMPLIB_VERSION` of the header.
-const VERSION: u32 = 8;
+const VERSION: u32 = 9;
 
 // Writes the length and the place of an answer. Gives its status.
 fn tell(answer: &Result<usize, Failure>, length: &mut usize, place: &mut usize) -> u32
@@ -137,6 +139,40 @@ pub extern "C" fn implib_library_with_nonnull(
         dll,
     };
     let answer = library_with_into(alloc, text, arguments, buffer);
+    tell(&answer, length, place)
+}
+
+/// Puts the library of delayed imports that the program `implib_dlltool` makes of a text under these
+/// options, by `-y`, at the beginning of `buffer`. Gives a status: 0 where it is done.
+///
+/// The arguments and what is given are as for `implib_library_with_nonnull`; names are asked for as under
+/// `-k` in any case. Status 50 is given for Microsoft's linkers, 51 for a machine without code for
+/// delayed imports, and 52 and 53 for data and for a weak name for another export.
+#[unsafe(no_mangle)]
+pub extern "C" fn implib_delayed_library_nonnull(
+    alloc: Global,
+    text: &[u8],
+    dll: &[u8],
+    has_dll: u32,
+    machine: u16,
+    flavor: u32,
+    flags: u32,
+    buffer: &mut [u8],
+    length: &mut usize,
+    place: &mut usize,
+) -> u32
+    ensures { DelayedAnswers text.now
+        (record { machine = machine; flavor = flavor; flags = flags; has_dll = has_dll; dll = dll.now })
+        buffer.old buffer.new length.new place.new result }
+{
+    let arguments = OptionsArguments {
+        machine,
+        flavor,
+        flags,
+        has_dll,
+        dll,
+    };
+    let answer = delayed_into(alloc, text, arguments, buffer);
     tell(&answer, length, place)
 }
 

@@ -5,6 +5,7 @@
 
 mod check;
 mod definition;
+mod delayed;
 mod dll_check;
 mod dll_exports;
 mod encoding;

@@ -17,6 +17,19 @@ use implib::{Error, Fault, Flavor, ImportLibrary, MachineType, Member, ParseErro
 use implib_archive::{Archive, Kind, Source};
 use std::alloc::{AllocError, Global};
 
+/// Why imports are not delayed.
+#[derive(Clone, Copy, Debug)]
+pub enum NoDelay {
+    /// Microsoft's linkers delay the imports of an ordinary library.
+    Flavor,
+    /// The machine has no code for delayed imports.
+    Machine,
+    /// An export is data or a constant.
+    Data,
+    /// An export is a weak name for another.
+    Alias,
+}
+
 /// Why nothing is put into the buffer.
 #[derive(Debug, Drop)]
 pub enum Failure {
@@ -52,6 +65,8 @@ pub enum Failure {
     NotAnImage(usize),
     /// The image has no export directory.
     NoExportDirectory,
+    /// The imports are not delayed: why, and the offset of the export's name in bytes, or 0.
+    NotDelayed(NoDelay, usize),
 }
 
 impl From<ParseError> for Failure {
@@ -125,6 +140,7 @@ impl Failure {
             Failure::NotALibrary => Status::NotALibrary,
             Failure::NotAnImage(_) => Status::NotAnImage,
             Failure::NoExportDirectory => Status::NoExportDirectory,
+            Failure::NotDelayed(why, _) => Status::of_delay(*why),
         }
     }
 }
@@ -159,7 +175,8 @@ pub fn place_of(answer: &Result<usize, Failure>) -> usize
             | Failure::SyntaxError(_, offset)
             | Failure::RefusedAt(_, offset)
             | Failure::NoExport(_, offset)
-            | Failure::NotAnImage(offset),
+            | Failure::NotAnImage(offset)
+            | Failure::NotDelayed(_, offset),
         ) => *offset,
         Err(Failure::Refused(fault)) => fault.export_index().unwrap_or(0),
         _ => 0,

@@ -1,11 +1,13 @@
 //! The statuses that C gets.
 
 ghost use Rattle.implib.specs.Fault.{cause_of};
+ghost use Rattle.implib_c.specs.Delayed.{delay_status};
 ghost use Rattle.implib_c.specs.LibraryOf.{export_status};
 ghost use Rattle.implib_c.specs.Status.{archive_status, cause_status, status_number, status_numbered, status_text, text_for};
 ghost use Rattle.std.specs.Prelude.{◌<◌, ◌≡◌, length};
 
 use crate::export::ExportFault;
+use crate::outcome::NoDelay;
 use implib::Fault;
 
 /// How a call ended.
@@ -91,6 +93,14 @@ pub enum Status {
     NoExportDirectory,
     /// A function of the header's caller did not take a piece of a library.
     WriteFailed,
+    /// Delayed imports for Microsoft's linkers, and each further one: [`NoDelay`].
+    DelayFlavor,
+    /// The machine has no code for delayed imports.
+    DelayMachine,
+    /// An export that is data is not delayed.
+    DelayData,
+    /// An export that is a weak name for another is not delayed.
+    DelayAlias,
 }
 
 impl Status {
@@ -139,6 +149,10 @@ impl Status {
             Status::WriteFailed => 47,
             Status::NotAnImage => 48,
             Status::NoExportDirectory => 49,
+            Status::DelayFlavor => 50,
+            Status::DelayMachine => 51,
+            Status::DelayData => 52,
+            Status::DelayAlias => 53,
         }
     }
 
@@ -187,6 +201,10 @@ impl Status {
             47 => Some(Status::WriteFailed),
             48 => Some(Status::NotAnImage),
             49 => Some(Status::NoExportDirectory),
+            50 => Some(Status::DelayFlavor),
+            51 => Some(Status::DelayMachine),
+            52 => Some(Status::DelayData),
+            53 => Some(Status::DelayAlias),
             _ => None,
         }
     }
@@ -238,6 +256,10 @@ impl Status {
             Status::WriteFailed => "writing failed",
             Status::NotAnImage => "not an image",
             Status::NoExportDirectory => "no export directory",
+            Status::DelayFlavor => "no delay for Microsoft's linker",
+            Status::DelayMachine => "no delayed imports on machine",
+            Status::DelayData => "data cannot be delayed",
+            Status::DelayAlias => "alias cannot be delayed",
         }
     }
 
@@ -272,6 +294,18 @@ impl Status {
         match fault {
             ExportFault::UnknownFlags => Status::UnknownExportFlags,
             ExportFault::NotUtf8 => Status::ExportNotUtf8,
+        }
+    }
+
+    /// The status of imports that are not delayed.
+    pub fn of_delay(why: NoDelay) -> Status
+        ensures { result ≡ delay_status why }
+    {
+        match why {
+            NoDelay::Flavor => Status::DelayFlavor,
+            NoDelay::Machine => Status::DelayMachine,
+            NoDelay::Data => Status::DelayData,
+            NoDelay::Alias => Status::DelayAlias,
         }
     }
 

@@ -4,9 +4,10 @@
 use crate::export::Export;
 use crate::exports::{
     implib_check_dll_nonnull, implib_check_library_nonnull, implib_definition_nonnull,
-    implib_exports_nonnull, implib_imports_nonnull, implib_library_nonnull,
-    implib_library_of_nonnull, implib_library_with_nonnull, implib_members_nonnull,
-    implib_position_nonnull, implib_status_text_nonnull, implib_version, implib_warnings_nonnull,
+    implib_delayed_library_nonnull, implib_exports_nonnull, implib_imports_nonnull,
+    implib_library_nonnull, implib_library_of_nonnull, implib_library_with_nonnull,
+    implib_members_nonnull, implib_position_nonnull, implib_status_text_nonnull, implib_version,
+    implib_warnings_nonnull,
 };
 use implib::{Flavor, ImportLibrary, MachineType};
 use implib_archive::{Archive, Kind};
@@ -591,14 +592,83 @@ fn offsets_have_lines_and_columns(rt: HostRuntime) -> Result<(), Fail> {
     Ok(())
 }
 
+// The status, the length and the place of a call for delayed imports, without a name of the DLL.
+fn delayed(
+    alloc: Global,
+    text: &[u8],
+    machine: u16,
+    flavor: u32,
+    buffer: &mut [u8],
+) -> (u32, usize, usize) {
+    let mut answer = (12_345, 67_890);
+    let status = implib_delayed_library_nonnull(
+        alloc,
+        text,
+        b"",
+        0,
+        machine,
+        flavor,
+        0,
+        buffer,
+        &mut answer.0,
+        &mut answer.1,
+    );
+    (status, answer.0, answer.1)
+}
+
+// Texts with the machine, the flavour, and the status and the place that a call for delayed imports gives.
+const DELAYED: [(&str, u16, u32, u32, usize); 6] = [
+    ("LIBRARY zoo.dll\nEXPORTS\nfeed", 0x8665, 1, 4, 0),
+    ("LIBRARY zoo.dll\nEXPORTS\nfeed", 0x8664, 0, 50, 0),
+    ("LIBRARY zoo.dll\nEXPORTS\nfeed", 0x01C4, 1, 51, 0),
+    (
+        "\u{FEFF}LIBRARY zoo.dll\nEXPORTS\nfeed\ncount DATA",
+        0x014C,
+        1,
+        52,
+        32,
+    ),
+    ("LIBRARY zoo.dll\nOTHER", 0x8664, 1, 16, 16),
+    ("EXPORTS\nfeed", 0x8664, 1, 39, 0),
+];
+
+// A library of delayed imports is put where there is room; each refusal leaves the buffer as it was.
+#[test]
+fn delayed_imports_have_a_library(rt: HostRuntime) -> Result<(), Fail> {
+    let text = b"LIBRARY zoo.dll\nEXPORTS\nfeed @7";
+    let (status, length, place) = delayed(rt.alloc(), text, 0x8664, 1, &mut []);
+    assert_eq!(rt; (status, place), (1, 0));
+    let mut buffer = room(rt.alloc(), length)?;
+    let answer = delayed(rt.alloc(), text, 0x8664, 1, buffer.as_mut_slice());
+    assert_eq!(rt; answer, (0, length, 0));
+    assert!(rt;
+        buffer
+            .as_slice()
+            .starts_with(b"!<arch>\n/               0 ")
+    );
+    for (text, machine, flavor, status, place) in DELAYED {
+        let mut buffer = room(rt.alloc(), 9)?;
+        let answer = delayed(
+            rt.alloc(),
+            text.as_bytes(),
+            machine,
+            flavor,
+            buffer.as_mut_slice(),
+        );
+        assert_eq!(rt; answer, (status, 0, place));
+        assert!(rt; is_untouched(buffer.as_slice()));
+    }
+    Ok(())
+}
+
 #[test]
 fn the_version_is_that_of_the_header(rt: HostRuntime) -> Result<(), Fail> {
-    assert_eq!(rt; implib_version(), 8);
+    assert_eq!(rt; implib_version(), 9);
     Ok(())
 }
 
 // The statuses with their texts, and numbers that are none.
-const TEXTS: [(u32, &str); 44] = [
+const TEXTS: [(u32, &str); 48] = [
     (0, "success"),
     (1, "buffer too small"),
     (2, "out of memory"),
@@ -641,7 +711,11 @@ const TEXTS: [(u32, &str); 44] = [
     (47, "writing failed"),
     (48, "not an image"),
     (49, "no export directory"),
-    (50, "unknown status"),
+    (50, "no delay for Microsoft's linker"),
+    (51, "no delayed imports on machine"),
+    (52, "data cannot be delayed"),
+    (53, "alias cannot be delayed"),
+    (54, "unknown status"),
     (0xFFFF_FFFF, "unknown status"),
 ];
 
