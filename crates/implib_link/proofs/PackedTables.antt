@@ -37,13 +37,13 @@ module _ (width : ℕ) where
   past_null : (address n : ℕ) → address + width * n ≤ address + width * (n + 1)
   past_null address n = (let split : width * (n + 1) ≡ width * n + width * 1 = mul-add width n 1 in omega arith)
 
-  packed_rise : (blocks : List Block) (low address : ℕ) → low ≤ address → RiseFrom width low (packed_tables width address blocks)
+  pub packed_rise : (blocks : List Block) (low address : ℕ) → low ≤ address → RiseFrom width low (packed_tables width address blocks)
   unfolding RiseFrom
   packed_rise [] low address above = tt
   packed_rise (b ∷ blocks) low address above =
       (above, packed_rise blocks (address + width * length b.entries) (address + width * (length b.entries + 1)) (past_null address (length b.entries)))
 
-  next_sum : (address n m : ℕ) → address + width * n + width * m ≡ address + width * (n + m)
+  pub next_sum : (address n m : ℕ) → address + width * n + width * m ≡ address + width * (n + m)
   next_sum address n m = (let split : width * (n + m) ≡ width * n + width * m = mul-add width n m in omega arith)
 
   -- the table of a block

@@ -13,12 +13,12 @@ use Rattle.implib.specs.Link.Load.{BytesAt}
 use Rattle.implib.specs.Link.Resolution.{definitions_of, first_address}
 use Rattle.implib.specs.Members.ImportTables.{thunk_width}
 use Rattle.implib_link.specs.Flavors.LldThunks.{BranchArrivesByThunk, IsThunk, ThunkArrives}
-use Rattle.implib_link.specs.Gnu.Aliases.{ResolvesAliases, weak_target}
+use Rattle.implib_link.specs.Gnu.Aliases.{ResolvesAliases, StandsFor, weak_target}
 use Rattle.implib_link.specs.Gnu.Calls.{CanBranch, DirectCallArrives, HasDirectCall, StubAt}
 use Rattle.implib_link.specs.Gnu.Fields.{AreLinkedBeside, DefinesIn, LinkedCode, placed_code, field_at, ranges_of_codes}
 use Rattle.implib_link.specs.Gnu.Loaded.{Writes}
 use Rattle.implib_link.specs.Gnu.Moves.{AreInMemory}
-use Rattle.implib_link.specs.Gnu.Operands.{AllLead, AllLeadTo, AreKept, BranchArrives, HasBranch, BranchStays}
+use Rattle.implib_link.specs.Gnu.Operands.{AllLead, AllLeadTo, AreKept, BranchArrives, HasBranch, BranchStays, Names}
 use Rattle.implib_link.specs.Gnu.Reading.{ReadsAndWrites}
 use Rattle.implib_link.specs.Tables.{AreSteady, AreTables, AreTablesLoaded, CanReadFrom, Table, TableEntry, Tables, imported_by_table}
 use Rattle.implib_link.proofs.Flavors.LldThunks.{bare_symbol, thunk_arrives, thunk_defines, thunk_is}
@@ -28,7 +28,7 @@ use Rattle.implib_link.proofs.Gnu.CallsByName.{direct_arrives}
 use Rattle.implib_link.proofs.Gnu.UsualCode.{AreReached, usual_reached}
 use Rattle.implib_link.proofs.Gnu.Keeps.{bytes_kept, keeps_written, memory_can_be_read, memory_read, memory_reads}
 use Rattle.implib_link.proofs.Gnu.Memory.{Covers, byte_first, loaded_below, written_covers}
-use Rattle.implib_link.proofs.Gnu.Operands.{all_lead, all_lead_to, branch_arrives, branch_stays}
+use Rattle.implib_link.proofs.Gnu.Operands.{all_lead, all_lead_to, branch_reaches, branch_stays, where_defined}
 use Rattle.implib_link.proofs.Gnu.Reading.{directory_read}
 use Rattle.implib_link.proofs.Gnu.Stubs.{same_address, wide_thunk}
 use Rattle.implib_link.proofs.Gnu.OperandStubs.{stub_arrives}
@@ -136,7 +136,9 @@ module _ (machine : MachineType) (image_base : ℕ) (t : Tables) (codes : List L
     pub tables_branch_in_memory : (c d : LinkedCode) (offset after : ℕ) (name : List ℕ) (s : ObjectSymbol) → Contains codes c → HasBranch machine c offset after name → Contains codes d → DefinesIn d s → s.name ≡ name →
         d.position + s.value < 2 ^ 31 → CanBranch machine (c.position + offset) (d.position + s.value) →
         BranchArrives machine image_base (written ++ memory) (c.position + offset) after (d.position + s.value)
-    tables_branch_in_memory = branch_arrives machine image_base t.image t.linked codes targets memory resting written covering
+    tables_branch_in_memory c d offset after name s held has d_held defines named small can =
+        branch_reaches machine image_base t.image t.linked codes targets memory resting written covering c offset after (d.position + s.value) name held has
+        (where_defined machine image_base t.image t.linked codes targets memory resting written covering c d name s held d_held defines named) small can
 
     pub tables_stay_in_memory : (c d : LinkedCode) (offset after : ℕ) (name : List ℕ) (s : ObjectSymbol) → Contains codes c → HasBranch machine c offset after name → Contains codes d → DefinesIn d s → s.name ≡ name →
         CanBranch machine (c.position + offset) (d.position + s.value) → BranchStays machine (written ++ memory) (c.position + offset) (field_at c.code.bytes offset 4)
@@ -161,15 +163,43 @@ module _ (machine : MachineType) (image_base : ℕ) (t : Tables) (codes : List L
         stub_arrives machine image_base t.image t.linked codes targets memory resting written covering name (gives x.dll e.ask) (x.address + thunk_width machine * j) known.once known.small
         (entry_reached machine image_base x.address j can) known.located d s held stub
 
-    -- and a call by the name that it stands for
+    end_below : (d : LinkedCode) → Contains codes d → d.position + 16 ≤ 2 ^ 31
+    end_below d held =
+        let end : d.position + length d.code.bytes + 16 ≤ 2 ^ 31 = all_among (λ (k : LinkedCode). k.position + length k.code.bytes + 16 ≤ 2 ^ 31) d codes (contains_among d codes held) resting.beside.ends in
+        omega arith
+
+    -- where linked code begins with the definition of a name, symbols are that stand for it, be it the name itself or another
+    abbrev pub AreAt : LinkedCode → List ℕ → ℕ → Type 0
+    AreAt c name address = (index : ℕ) → Names c.from index name → targets c index ≡ address
+
+    -- and a call by a name that stands for it
+    pub stub_called_by : (i j : ℕ) (x : Table) (e : TableEntry) (name : List ℕ) → slice_get t.tables i ≡ Some x → slice_get x.entries j ≡ Some e → e.symbol ≡ Some name → CanReadFrom machine image_base x.address →
+        (d : LinkedCode) (s : ObjectSymbol) → Contains codes d → StubAt machine t.linked (placed_code d) s (x.address + thunk_width machine * j) → (c : LinkedCode) (offset : ℕ) (called : List ℕ) → Contains codes c →
+        AreAt c called d.position → HasDirectCall machine (placed_code c) offset called → CanBranch machine (c.position + offset) d.position →
+        DirectCallArrives machine image_base (written ++ memory) (c.position + offset) (gives x.dll e.ask)
+    stub_called_by i j x e name is asked symbol can d s d_held stub c offset called held taken has near =
+        let below : d.position + 16 ≤ 2 ^ 31 = end_below d d_held in
+        direct_arrives machine image_base t.image t.linked codes targets memory resting written covering c offset d.position called (gives x.dll e.ask) held has taken (omega arith) near
+        (stub_in_memory i j x e name is asked symbol can d s d_held stub)
+
+    plain_sum : (a n : ℕ) → n ≡ 0 → a + n ≡ a
+    plain_sum a n none = omega arith
+
     pub stub_called_in_memory : (i j : ℕ) (x : Table) (e : TableEntry) (name : List ℕ) → slice_get t.tables i ≡ Some x → slice_get x.entries j ≡ Some e → e.symbol ≡ Some name → CanReadFrom machine image_base x.address →
         (d : LinkedCode) (s : ObjectSymbol) → Contains codes d → StubAt machine t.linked (placed_code d) s (x.address + thunk_width machine * j) → (c : LinkedCode) (offset : ℕ) → Contains codes c → DefinesIn d s →
         HasDirectCall machine (placed_code c) offset s.name → CanBranch machine (c.position + offset) d.position →
         DirectCallArrives machine image_base (written ++ memory) (c.position + offset) (gives x.dll e.ask)
-    stub_called_in_memory i j x e name is asked symbol can d s d_held stub c offset held defines has near =
-        let end : d.position + length d.code.bytes + 16 ≤ 2 ^ 31 = all_among (λ (k : LinkedCode). k.position + length k.code.bytes + 16 ≤ 2 ^ 31) d codes (contains_among d codes d_held) resting.beside.ends in
-        direct_arrives machine image_base t.image t.linked codes targets memory resting written covering c d offset s.name (gives x.dll e.ask) s held has d_held defines refl stub.begins (omega arith) near
-        (stub_in_memory i j x e name is asked symbol can d s d_held stub)
+    stub_called_in_memory i j x e name is asked symbol can d s d_held stub c offset held defines =
+        stub_called_by i j x e name is asked symbol can d s d_held stub c offset s.name held
+        (λ index names. where_defined machine image_base t.image t.linked codes targets memory resting written covering c d s.name s held d_held defines refl index names ∙ plain_sum d.position s.value stub.begins)
+
+    pub stub_called_otherwise : (i j : ℕ) (x : Table) (e : TableEntry) (name : List ℕ) → slice_get t.tables i ≡ Some x → slice_get x.entries j ≡ Some e → e.symbol ≡ Some name → CanReadFrom machine image_base x.address →
+        (d : LinkedCode) (s : ObjectSymbol) → Contains codes d → StubAt machine t.linked (placed_code d) s (x.address + thunk_width machine * j) → (c : LinkedCode) (offset : ℕ) (alias : List ℕ) → Contains codes c → DefinesIn d s →
+        StandsFor t.linked codes targets alias s.name → HasDirectCall machine (placed_code c) offset alias → CanBranch machine (c.position + offset) d.position →
+        DirectCallArrives machine image_base (written ++ memory) (c.position + offset) (gives x.dll e.ask)
+    stub_called_otherwise i j x e name is asked symbol can d s d_held stub c offset alias held defines stands =
+        stub_called_by i j x e name is asked symbol can d s d_held stub c offset alias held
+        (λ index names. stands.code c d index s held d_held names defines refl ∙ plain_sum d.position s.value stub.begins)
 
     -- lld's thunk of a short import, whose symbol the entry has
     pub thunk_in_memory : (i j : ℕ) (x : Table) (e : TableEntry) → slice_get t.tables i ≡ Some x → slice_get x.entries j ≡ Some e → CanReadFrom machine image_base x.address →
@@ -179,40 +209,69 @@ module _ (machine : MachineType) (image_base : ℕ) (t : Tables) (codes : List L
         thunk_arrives image_base t.linked codes (written ++ memory) r (gives x.dll e.ask) d held machine x.address can thunk
         (thunk_is machine d r thunk (code_section d held)) (tables_lead_in_memory i j x e (imp_symbol r.symbol) is asked symbol can) tables_keep_in_memory
 
-    -- and a branch to its bare name
+    -- and a branch to its bare name, or to one that stands for it
+    thunk_called_by : (i j : ℕ) (x : Table) (e : TableEntry) → slice_get t.tables i ≡ Some x → slice_get x.entries j ≡ Some e → CanReadFrom machine image_base x.address →
+        (r : ShortImport) (d : LinkedCode) → e.symbol ≡ Some (imp_symbol r.symbol) → Contains codes d → IsThunk machine d r → (c : LinkedCode) (offset after : ℕ) (called : List ℕ) → Contains codes c →
+        AreAt c called (d.position + 0) → HasBranch machine c offset after called → CanBranch machine (c.position + offset) d.position →
+        BranchArrivesByThunk machine image_base (written ++ memory) (c.position + offset) after (gives x.dll e.ask)
+    thunk_called_by i j x e is asked can r d symbol d_held thunk c offset after called held taken has near =
+        let below : d.position + 16 ≤ 2 ^ 31 = end_below d d_held in
+        let plain : d.position + 0 ≡ d.position = omega arith in
+        record {
+          thunk = d.position;
+          leads = branch_reaches machine image_base t.image t.linked codes targets memory resting written covering c offset after d.position called held has (λ index names. taken index names ∙ plain) (omega arith) near;
+          jumps = thunk_in_memory i j x e is asked can r d symbol d_held thunk;
+        }
+
     pub thunk_called_in_memory : (i j : ℕ) (x : Table) (e : TableEntry) → slice_get t.tables i ≡ Some x → slice_get x.entries j ≡ Some e → CanReadFrom machine image_base x.address →
         (r : ShortImport) (d : LinkedCode) → e.symbol ≡ Some (imp_symbol r.symbol) → Contains codes d → IsThunk machine d r → (c : LinkedCode) (offset after : ℕ) → Contains codes c →
         HasBranch machine c offset after r.symbol → CanBranch machine (c.position + offset) d.position →
         BranchArrivesByThunk machine image_base (written ++ memory) (c.position + offset) after (gives x.dll e.ask)
-    thunk_called_in_memory i j x e is asked can r d symbol d_held thunk c offset after held has near =
-        let end : d.position + length d.code.bytes + 16 ≤ 2 ^ 31 = all_among (λ (k : LinkedCode). k.position + length k.code.bytes + 16 ≤ 2 ^ 31) d codes (contains_among d codes d_held) resting.beside.ends in
-        let plain : d.position + 0 ≡ d.position = omega arith in
-        record {
-          thunk = d.position;
-          leads = subst (BranchArrives machine image_base (written ++ memory) (c.position + offset) after) plain
-              (tables_branch_in_memory c d offset after r.symbol (bare_symbol r) held has d_held (thunk_defines machine d r thunk) refl (omega arith)
-              (subst (CanBranch machine (c.position + offset)) (sym plain) near));
-          jumps = thunk_in_memory i j x e is asked can r d symbol d_held thunk;
-        }
+    thunk_called_in_memory i j x e is asked can r d symbol d_held thunk c offset after held =
+        thunk_called_by i j x e is asked can r d symbol d_held thunk c offset after r.symbol held
+        (where_defined machine image_base t.image t.linked codes targets memory resting written covering c d r.symbol (bare_symbol r) held d_held (thunk_defines machine d r thunk) refl)
+
+    pub thunk_called_otherwise : (i j : ℕ) (x : Table) (e : TableEntry) → slice_get t.tables i ≡ Some x → slice_get x.entries j ≡ Some e → CanReadFrom machine image_base x.address →
+        (r : ShortImport) (d : LinkedCode) → e.symbol ≡ Some (imp_symbol r.symbol) → Contains codes d → IsThunk machine d r → (c : LinkedCode) (offset after : ℕ) (alias : List ℕ) → Contains codes c →
+        StandsFor t.linked codes targets alias r.symbol → HasBranch machine c offset after alias → CanBranch machine (c.position + offset) d.position →
+        BranchArrivesByThunk machine image_base (written ++ memory) (c.position + offset) after (gives x.dll e.ask)
+    thunk_called_otherwise i j x e is asked can r d symbol d_held thunk c offset after alias held stands =
+        thunk_called_by i j x e is asked can r d symbol d_held thunk c offset after alias held
+        (λ index names. stands.code c d index (bare_symbol r) held d_held names (thunk_defines machine d r thunk) refl)
 
 -- Linked at a base, by names.
 module _ (machine : MachineType) (image_base : ℕ) (t : Tables) (codes : List LinkedCode) (targets : LinkedCode → ℕ → ℕ) (gives : List ℕ → Ask → List ℕ)
     (tables : AreTables machine t) (steady : AreSteady machine t.linked) (beside : AreLinkedBeside machine image_base t.image t.linked codes targets) where
-  -- fields against an alias of an entry's symbol lead to the entry
+  -- fields against a name that has the address of an entry's symbol lead to the entry
+  called_leads : (n : ℕ) (written : List Range) → ((dll : List ℕ) (ask : Ask) → length (gives dll ask) ≡ thunk_width machine) →
+      ReadsAndWrites (t.image ++ ranges_of_codes codes) (thunk_width machine) gives n t.directory written → (i j : ℕ) (x : Table) (e : TableEntry) (name called : List ℕ) → slice_get t.tables i ≡ Some x →
+      slice_get x.entries j ≡ Some e → e.symbol ≡ Some name → CanReadFrom machine image_base x.address →
+      ((c : LinkedCode) (index address : ℕ) → Contains codes c → Names c.from index called → first_address (definitions_of name t.linked) ≡ Some address → targets c index ≡ address) →
+      AllLeadTo machine image_base t.linked codes (written ++ (t.image ++ ranges_of_codes codes)) called name (gives x.dll e.ask)
+  called_leads n written wide reads i j x e name called is asked symbol can taken =
+      let memory : List Range = t.image ++ ranges_of_codes codes in
+      let entry : ℕ = x.address + thunk_width machine * j in
+      let known = entry_in machine image_base t codes targets memory gives tables steady (inl (beside, refl)) n written wide reads i j x e name is asked symbol in
+      all_lead_to machine image_base t.image t.linked codes targets memory (linked_rests machine image_base t.image t.linked codes targets beside) written
+      (covering machine image_base t codes targets memory gives tables steady (inl (beside, refl)) n written wide reads) name (gives x.dll e.ask) entry known.once known.small (entry_reached machine image_base x.address j can) known.located called
+      (λ c index held names. settled_linked machine image_base t.image t.linked codes targets beside c index entry (taken c index entry held names (ap first_address known.once)))
+
+  -- an alias of the symbol does, and any that stands for it
   pub alias_leads : ResolvesAliases t.linked codes targets → (n : ℕ) (written : List Range) → ((dll : List ℕ) (ask : Ask) → length (gives dll ask) ≡ thunk_width machine) →
       ReadsAndWrites (t.image ++ ranges_of_codes codes) (thunk_width machine) gives n t.directory written → (i j : ℕ) (x : Table) (e : TableEntry) (name alias : List ℕ) → slice_get t.tables i ≡ Some x →
       slice_get x.entries j ≡ Some e → e.symbol ≡ Some name → CanReadFrom machine image_base x.address → definitions_of alias t.linked ≡ [] → weak_target alias t.linked ≡ Some name →
       AllLeadTo machine image_base t.linked codes (written ++ (t.image ++ ranges_of_codes codes)) alias name (gives x.dll e.ask)
   alias_leads resolves n written wide reads i j x e name alias is asked symbol can none weak =
-      let memory : List Range = t.image ++ ranges_of_codes codes in
-      let entry : ℕ = x.address + thunk_width machine * j in
-      let known = entry_in machine image_base t codes targets memory gives tables steady (inl (beside, refl)) n written wide reads i j x e name is asked symbol in
-      all_lead_to machine image_base t.image t.linked codes targets memory (linked_rests machine image_base t.image t.linked codes targets beside) written
-      (covering machine image_base t codes targets memory gives tables steady (inl (beside, refl)) n written wide reads) name (gives x.dll e.ask) entry known.once known.small (entry_reached machine image_base x.address j can) known.located alias
-      (λ c index held names.
-      settled_linked machine image_base t.image t.linked codes targets beside c index entry
-      (resolves c index entry names.symbol name held names.target names.undefined (subst (λ k. definitions_of k t.linked ≡ []) (sym names.named) none)
-      (subst (λ k. weak_target k t.linked ≡ Some name) (sym names.named) weak) (ap first_address known.once)))
+      called_leads n written wide reads i j x e name alias is asked symbol can
+      (λ c index address held names found.
+      resolves c index address names.symbol name held names.target names.undefined (subst (λ k. definitions_of k t.linked ≡ []) (sym names.named) none)
+      (subst (λ k. weak_target k t.linked ≡ Some name) (sym names.named) weak) found)
+
+  pub other_leads : (n : ℕ) (written : List Range) → ((dll : List ℕ) (ask : Ask) → length (gives dll ask) ≡ thunk_width machine) →
+      ReadsAndWrites (t.image ++ ranges_of_codes codes) (thunk_width machine) gives n t.directory written → (i j : ℕ) (x : Table) (e : TableEntry) (name alias : List ℕ) → slice_get t.tables i ≡ Some x →
+      slice_get x.entries j ≡ Some e → e.symbol ≡ Some name → CanReadFrom machine image_base x.address → StandsFor t.linked codes targets alias name →
+      AllLeadTo machine image_base t.linked codes (written ++ (t.image ++ ranges_of_codes codes)) alias name (gives x.dll e.ask)
+  other_leads n written wide reads i j x e name alias is asked symbol can stands = called_leads n written wide reads i j x e name alias is asked symbol can stands.tables
 
   -- a loader that reads the image alone, and knows nothing of code, leaves calls that arrive
   pub calls_beside : (n : ℕ) (written : List Range) → ((dll : List ℕ) (ask : Ask) → length (gives dll ask) ≡ thunk_width machine) → ReadsAndWrites t.image (thunk_width machine) gives n t.directory written →

@@ -1,5 +1,5 @@
 -- Programs of members, and of lld, have import tables.
-use Rattle.std.proofs.Common.{◌≡◌, ℕ, zero, suc, ◌+◌, ◌*◌, List, [], ◌∷◌, ◌++◌, length, map, Some, refl, ap, sym, ◌∙◌, subst}
+use Rattle.std.proofs.Common.{◌≡◌, ℕ, zero, suc, ◌+◌, ◌*◌, ◌^◌, ◌<◌, List, [], ◌∷◌, ◌++◌, length, map, Some, refl, ap, sym, ◌∙◌, subst, arith}
 use Rattle.std.specs.Prelude.{slice_get}
 use Rattle.std.specs.List.{AllByRecursion, Contains}
 use Rattle.std.proofs.lemmas.List.{length-map}
@@ -9,24 +9,25 @@ use Rattle.implib.specs.Definition.{ExportView}
 use Rattle.implib.specs.Formats.Object.{Object}
 use Rattle.implib.specs.Formats.ShortImport.{ShortImport, ask_of_short_import}
 use Rattle.implib.specs.Import.{imp_symbol}
-use Rattle.implib.specs.Link.Image.{Range, image_of}
+use Rattle.implib.specs.Link.Image.{Range, image_of, range_end}
 use Rattle.implib.specs.Link.Load.{NumberAt}
 use Rattle.implib.specs.Link.Placement.{Bases, Placed, placed_from}
 use Rattle.implib.specs.Link.Resolution.{definitions_of}
 use Rattle.implib.specs.Members.ImportTables.{thunk_width}
 use Rattle.implib.proofs.Link.LinkedBlocks.{ends, starts}
-use Rattle.implib_link.specs.Directory.{DirectoryAt}
+use Rattle.implib_link.specs.Directory.{DirectoryAt, Imported}
 use Rattle.implib_link.specs.Flavors.LldImports.{IsLldProgram, dll_of_group, grouped, imported_by, imports_of_lld, placed_by_lld}
-use Rattle.implib_link.specs.Flavors.LldTables.{thunks_until}
+use Rattle.implib_link.specs.Flavors.LldTables.{ArePiecesAt, IsImportable, thunks_until}
 use Rattle.implib_link.specs.Flavors.Program.{Ending, FlavorInput, IsMadeFor, ask_in, dll_of, exports_chosen, imported_in, symbol_in, thunks_of, IsProgramOf}
 use Rattle.implib_link.specs.Gnu.Rebased.{table_places, table_places_in}
 use Rattle.implib_link.specs.Stub.{CanJump}
-use Rattle.implib_link.specs.Tables.{AreSteady, AreTables, Block, CanReadFrom, TableEntry, block_of_flavor, block_of_group, entry_of_short, tables_at, tables_of_lld}
+use Rattle.implib_link.specs.Tables.{AreSteady, AreTables, Block, CanReadFrom, DefineEntries, Table, TableEntry, block_of_flavor, block_of_group, entry_of_short, imported_by_table, packed_tables, tables_at, tables_of_lld}
 use Rattle.implib_link.proofs.Flavors.LldImports.{all_at, all_define, defined_once, get_map, lld_links, nth_stands, only, stand}
+use Rattle.implib_link.proofs.Flavors.LldTables.{pieces_directory, pieces_stand}
 use Rattle.implib_link.proofs.Flavors.Loaded.{entry_of}
 use Rattle.implib_link.proofs.Flavors.Program.{program_links}
 use Rattle.implib_link.proofs.Gnu.Loaded.{mapped_at}
-use Rattle.implib_link.proofs.PackedTables.{HasEntry, are_packed, asks_again, block_entry, entries_until, imported_by_block, packed_count, reads_further}
+use Rattle.implib_link.proofs.PackedTables.{HasEntry, are_packed, asks_again, block_entry, entries_until, imported_by_block, next_sum, packed_count, packed_rise, reads_further}
 use Rattle.implib_link.proofs.Search.Lists.{contains_among}
 
 -- The blocks of programs.
@@ -80,6 +81,43 @@ program_entry machine bases inputs objects i j p e input chosen =
     (block_entry machine (image_of machine bases (placed_from bases objects)) (placed_from bases objects) bases.descriptors bases.addresses (map (block_of_flavor machine) inputs) i j
     (block_of_flavor machine p) (record { ask = ask_in p.flavor machine e; symbol = Some (imp_symbol (symbol_in p.flavor e)) }) (imp_symbol (symbol_in p.flavor e)) (get_map (block_of_flavor machine) inputs i p input)
     (get_map (λ (x : ExportView). record { ask = ask_in p.flavor machine x; symbol = Some (imp_symbol (symbol_in p.flavor x)) }) (exports_chosen p) j e chosen) refl)
+
+-- Tables that lld made, of whatever asks.
+
+no_table : (address width : ℕ) → address + width * 0 ≡ address
+no_table address width = omega arith
+
+packed_until : (width : ℕ) (blocks : List Block) (address i : ℕ) (x : Table) → slice_get (packed_tables width address blocks) i ≡ Some x →
+    address + width * thunks_until i (map imported_by_table (packed_tables width address blocks)) ≡ x.address
+packed_until width [] address i x is = cc
+packed_until width (b ∷ blocks) address zero x is =
+    let same : record { dll = b.dll; address = address; entries = b.entries } ≡ x = cc in
+    no_table address width ∙ ap (λ (y : Table). y.address) same
+packed_until width (b ∷ blocks) address (suc i) x is =
+    let behind = map imported_by_table (packed_tables width (address + width * (length b.entries + 1)) blocks) in
+    ap (λ n. address + width * (n + 1 + thunks_until i behind)) (length-map b.entries (λ (e : TableEntry). e.ask))
+    ∙ sym (next_sum width address (length b.entries + 1) (thunks_until i behind))
+    ∙ packed_until width blocks (address + width * (length b.entries + 1)) i x is
+
+pub pieces_tables : (machine : MachineType) (image : List Range) (linked : List Placed) (descriptors lookups addresses hints names : ℕ) (blocks : List Block) →
+    AllByRecursion (λ r. 0 < r.start) image → AllByRecursion (λ r. range_end r < 2 ^ 31) image → AllByRecursion IsImportable (map imported_by_table (packed_tables (thunk_width machine) addresses blocks)) →
+    ArePiecesAt machine image descriptors lookups addresses hints names (map imported_by_table (packed_tables (thunk_width machine) addresses blocks)) →
+    DefineEntries machine linked (packed_tables (thunk_width machine) addresses blocks) →
+    AreTables machine (record { image = image; linked = linked; directory = descriptors; tables = packed_tables (thunk_width machine) addresses blocks })
+pieces_tables machine image linked descriptors lookups addresses hints names blocks starts ends importable pieces symbols =
+    let tables : List Table = packed_tables (thunk_width machine) addresses blocks in
+    let imports : List Imported = map imported_by_table tables in
+    record {
+      starts = starts;
+      ends = ends;
+      directory = pieces_directory machine image descriptors lookups addresses hints names imports starts ends importable pieces;
+      addresses = λ i x is.
+          let from = nth_stands image (thunk_width machine) imports descriptors addresses i (imported_by_table x)
+          (pieces_stand machine image starts ends descriptors lookups addresses hints names imports importable pieces) (get_map imported_by_table tables i x is) in
+          subst (NumberAt image 4 (descriptors + 20 * i + 16)) (from.table_located ∙ packed_until (thunk_width machine) blocks addresses i x is) from.loads.plain.addresses_field;
+      rise = packed_rise (thunk_width machine) blocks 0 addresses (omega arith);
+      symbols = symbols;
+    }
 
 -- The blocks of lld's tables.
 

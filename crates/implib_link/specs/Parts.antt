@@ -1,22 +1,29 @@
 -- Parts of the import tables of a program, each the objects of one DLL's import library, of whatever maker, and the
 -- table that is read of them: a head with the descriptor, objects with an entry each, and a tail that ends both tables,
 -- as GNU dlltool's libraries have them, and those that are made here for GNU's linker.
-use Rattle.std.specs.Prelude.{◌≡◌, ℕ, ◌+◌, ◌*◌, ◌-◌, ◌^◌, Bool, ◌&&◌, ◌||◌, ◌==◌, nat_lt, not, true, false, List, [], ◌∷◌, ◌++◌, bytes_eq, drop, slice_get, take, Option, Some, None, if◌then◌else◌}
-use Rattle.std.specs.List.{AllByRecursion, IsDistinct, filter, filter_map, flat_map, list_all}
+use Rattle.std.specs.Prelude.{◌≡◌, ℕ, ◌+◌, ◌*◌, ◌-◌, ◌^◌, Bool, ◌&&◌, ◌||◌, ◌==◌, nat_lt, not, true, false, List, [], ◌∷◌, ◌++◌, bytes_eq, drop, map, slice_get, take, Option, Some, None, if◌then◌else◌}
+use Rattle.std.specs.List.{AllByRecursion, IsDistinct, filter, filter_map, flat_map, list_all, list_any}
 use Rattle.std.specs.Option.{option_and_then, option_map}
 use Rattle.implib.specs.declared.coff.object.Relocation.{Relocation}
+use Rattle.implib.specs.declared.flavor.Flavor.TheVariants.{Gnu}
 use Rattle.implib.specs.declared.machine.MachineType.{MachineType}
+use Rattle.implib.specs.Definition.{DefinitionView, ExportView}
 use Rattle.implib.specs.Formats.Bytes.{u16_bytes}
 use Rattle.implib.specs.Formats.Constants.{image_relative}
 use Rattle.implib.specs.Formats.File.{is_defined_external}
 use Rattle.implib.specs.Formats.Object.{ASymbol, Auxiliary, Entry, Object, ObjectSection, ObjectSymbol, before_nul, section_numbered}
-use Rattle.implib.specs.Import.{Ask, Name, Ordinal}
+use Rattle.implib.specs.Import.{Ask, Name, Ordinal, expected_ask, imp_symbol, public_exports}
+use Rattle.implib.specs.LibraryName.{linked_name, names_for}
 use Rattle.implib.specs.Link.Image.{IsAdmissible}
-use Rattle.implib.specs.Link.LinkedMembers.{LinkInput, linked_members, objects_in}
+use Rattle.implib.specs.Link.LinkedMembers.{LinkInput, chosen_exports, linked_members, objects_in}
 use Rattle.implib.specs.Link.Load.{number_in}
 use Rattle.implib.specs.Link.Placement.{Addresses, Bases, Descriptors, DirectoryEnds, DllNames, Group, HintNames, Lookups, alignment, group_named, same_group}
 use Rattle.implib.specs.Link.Resolution.{is_undefined_external}
+use Rattle.implib.specs.Members.GnuMembers.{head_spec, tail_spec}
 use Rattle.implib.specs.Members.ImportTables.{thunk_width, zeros}
+use Rattle.implib.specs.Members.MemberSpec.{MemberSpec, MemberView, member_of}
+use Rattle.implib.specs.Members.OlderSymbols.{older_spec, older_symbol}
+use Rattle.implib.specs.Renaming.{renamed}
 use Rattle.implib_link.specs.Flavors.Program.{gnu_input}
 use Rattle.implib_link.specs.Gnu.OtherLibraries.{HoldsFields}
 use Rattle.implib_link.specs.Gnu.Program.{ClaimsNone, claimed_names, has_tables, is_table, null_descriptor}
@@ -149,22 +156,20 @@ entry_name sections (ASymbol s) =
     then Some s.name
     else None
 
-abbrev pub first_of : List (List ℕ) → Option (List ℕ)
-first_of [] = None
-first_of (name ∷ names) = Some name
-
-abbrev pub entry_symbol : Object → Option (List ℕ)
-entry_symbol o = first_of (filter_map (entry_name o.sections) o.entries)
+-- whether a symbol for all objects at the entry has this name; nothing is asked where there is none
+abbrev pub names_entry : Object → Option (List ℕ) → Bool
+names_entry o None = true
+names_entry o (Some name) = list_any (bytes_eq name) (filter_map (entry_name o.sections) o.entries)
 
 -- An object with an entry, after the others:
 -- `descriptors`: it has no descriptor;
 -- `lookup`, `address`: it has one thunk in each table, which asks for this;
--- `symbol`: this is the first symbol for all objects at the entry.
+-- `symbol`: this, if there is one, is a symbol for all objects at the entry.
 pub record IsEntry (machine : MachineType) (o : Object) (e : TableEntry) : Type 0 where
   pub descriptors : sections_of Descriptors o.sections ≡ []
   pub lookup : thunk_ask machine Lookups o ≡ Some e.ask
   pub address : thunk_ask machine Addresses o ≡ Some e.ask
-  pub symbol : entry_symbol o ≡ e.symbol
+  pub symbol : names_entry o e.symbol ≡ true
 
 -- the tail: it has the null thunk of each table, and no descriptor
 pub record IsTail (machine : MachineType) (o : Object) : Type 0 where
@@ -265,6 +270,31 @@ abbrev pub part_of : MachineType → LinkInput → Part
 part_of machine p = record {
   objects = objects_in (linked_members p.definition machine p.chosen);
   table = block_of_flavor machine (gnu_input p);
+}
+
+-- The same of members that have older symbols of addresses beside those of today: what is linked, and the part, whose
+-- entries have the one symbol or the other.
+abbrev pub older_numbered : MachineType → List ℕ → List ExportView → ℕ → Option MemberSpec
+older_numbered machine dll exports number = option_map (older_spec machine dll number) (slice_get exports number)
+
+abbrev pub older_linked : DefinitionView → MachineType → List ℕ → List MemberView
+older_linked d machine chosen = map member_of
+    (head_spec machine (linked_name d)
+    ∷ (filter_map (older_numbered machine (linked_name d) (public_exports (renamed d))) chosen
+    ++ tail_spec machine (names_for Gnu d) ∷ []))
+
+abbrev pub older_part_of : MachineType → (ExportView → Bool) → LinkInput → Part
+older_part_of machine older p = record {
+  objects = objects_in (older_linked p.definition machine p.chosen);
+  table = record {
+    dll = p.definition.import_name;
+    entries = map
+        (λ (e : ExportView). record {
+          ask = expected_ask machine e;
+          symbol = Some (if older e then older_symbol e.name else imp_symbol e.name);
+        })
+        (chosen_exports p.definition p.chosen);
+  };
 }
 
 -- the objects of parts, one after another, and the names that they claim

@@ -47,6 +47,13 @@ unfoldable pub RiseFrom : ℕ → ℕ → List Table → Type 0
 RiseFrom width low [] = Unit {0}
 RiseFrom width low (x ∷ tables) = (low ≤ x.address) × RiseFrom width (x.address + width * length x.entries) tables
 
+-- an entry's symbol has one definition, which is the entry
+abbrev pub DefineEntries : MachineType → List Placed → List Table → Type 0
+DefineEntries machine linked tables =
+    (i j : ℕ) (x : Table) (e : TableEntry) (name : List ℕ) → slice_get tables i ≡ Some x →
+    slice_get x.entries j ≡ Some e → e.symbol ≡ Some name →
+    definitions_of name linked ≡ record { name = name; address = Some (x.address + thunk_width machine * j) } ∷ []
+
 -- What import tables are:
 -- `starts`, `ends`: the image is above 0 and ends below 2^31;
 -- `directory`: at the directory's address a strict loader finds exactly these DLLs, and in both tables of each exactly
@@ -61,10 +68,7 @@ pub record AreTables (machine : MachineType) (t : Tables) : Type 0 where
   pub addresses : (i : ℕ) (x : Table) → slice_get t.tables i ≡ Some x →
       NumberAt t.image 4 (t.directory + 20 * i + 16) x.address
   pub rise : RiseFrom (thunk_width machine) 0 t.tables
-  pub symbols : (i j : ℕ) (x : Table) (e : TableEntry) (name : List ℕ) → slice_get t.tables i ≡ Some x →
-      slice_get x.entries j ≡ Some e → e.symbol ≡ Some name →
-      definitions_of name t.linked
-      ≡ record { name = name; address = Some (x.address + thunk_width machine * j) } ∷ []
+  pub symbols : DefineEntries machine t.linked t.tables
 
 -- the import tables of linked objects store no address whole, so that no base relocation changes them
 abbrev pub AreSteady : MachineType → List Placed → Type 0

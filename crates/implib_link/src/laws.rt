@@ -14,6 +14,7 @@ pub mod named_apart;
 pub mod no_shorts;
 pub mod operands;
 pub mod other_libraries;
+pub mod other_names;
 pub mod packed;
 pub mod parts;
 pub mod program;

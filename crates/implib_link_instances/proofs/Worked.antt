@@ -66,4 +66,7 @@ pub mod BothReversed
 pub mod BothExists
 pub mod NoShorts
 pub mod Parts
+pub mod Older
+pub mod OtherNames
+pub mod ThirdTexts
 pub mod NearParts

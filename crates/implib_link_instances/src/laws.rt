@@ -22,6 +22,7 @@ pub mod near_misses;
 pub mod no_shorts;
 pub mod operands;
 pub mod other_libraries;
+pub mod other_names;
 pub mod parts;
 pub mod program;
 pub mod rebased;

@@ -1,4 +1,5 @@
-//! Eight callers of `implib`, each with what its own caller can conclude from its contract.
+//! Eight callers of `implib`, each with what its own caller can conclude from its contract; and what
+//! links of a library by options.
 //!
 //! `docs/CALLING.md` quotes some, and the contracts that they stand on.
 #![tactic(auto)]
@@ -8,6 +9,7 @@ mod link;
 mod linked;
 mod members;
 mod objects;
+mod options;
 #[cfg(test)]
 mod tests;
 mod tokens;
@@ -17,4 +19,5 @@ pub use link::members_to_link;
 pub use linked::{gnu_members_of_text, msvc_members_of_text};
 pub use members::{members_of_export, members_of_text};
 pub use objects::data_object;
+pub use options::members_by_options_link;
 pub use tokens::first_exports;

@@ -7,20 +7,19 @@ use Rattle.implib.specs.declared.coff.object.Relocation.{Relocation}
 use Rattle.implib.specs.declared.machine.MachineType.{MachineType}
 use Rattle.implib.specs.declared.machine.MachineType.TheVariants.{I386, ARMNT, AMD64, ARM64}
 use Rattle.implib.specs.Formats.Constants.{amd64_rel32}
-use Rattle.implib.specs.Formats.Object.{ObjectSymbol}
 use Rattle.implib.specs.Link.Image.{Range}
 use Rattle.implib.specs.Link.Load.{BytesAt, number_in}
 use Rattle.implib.specs.Link.Placement.{Placed}
 use Rattle.implib_link.specs.Gnu.Calls.{CanBranch, DirectCallArrives, HasDirectCall, HasInstructions, arm64_branch26, direct_bytes, direct_leads, direct_relocations, field_width, i386_rel32}
-use Rattle.implib_link.specs.Gnu.Fields.{DefinesIn, FieldHolds, LinkedCode, MeetsAlone, field_at, meets, placed_code}
-use Rattle.implib_link.specs.Gnu.Operands.{BranchArrives, HasBranch, IsBranch}
+use Rattle.implib_link.specs.Gnu.Fields.{FieldHolds, LinkedCode, MeetsAlone, field_at, meets, placed_code}
+use Rattle.implib_link.specs.Gnu.Operands.{BranchArrives, HasBranch, IsBranch, Names}
 use Rattle.implib_link.specs.Gnu.Rebased.{StubArrives}
 use Rattle.implib_link.specs.Stub.{bits_of, plus_signed, with_bits, word_at}
 use Rattle.implib_link.proofs.Gnu.Fields.{meets_bounds}
 use Rattle.implib_link.proofs.Gnu.FieldsInMemory.{Rests, part_there, steady_there}
 use Rattle.implib_link.proofs.Gnu.MovedCode.{four_of, joined}
 use Rattle.implib_link.proofs.Gnu.Memory.{Covers}
-use Rattle.implib_link.proofs.Gnu.Operands.{branch_arrives, words_lead}
+use Rattle.implib_link.proofs.Gnu.Operands.{branch_reaches, words_lead}
 use Rattle.implib_link.proofs.Gnu.UsualCode.{one_met, own_any, own_code, own_end, own_met, own_names, read_word}
 use Rattle.implib_link.proofs.Search.Lists.{contains_among}
 
@@ -109,27 +108,23 @@ x86_by_name machine image_base memory position offset stub bytes size reads head
     ∙ ap (λ a. Some (plus_signed 32 1 x.number a)) end ∙ leads) arrives
 
 pub direct_arrives : (machine : MachineType) (image_base : ℕ) (image : List Range) (linked : List Placed) (codes : List LinkedCode) (targets : LinkedCode → ℕ → ℕ) (memory : List Range)
-    (at : Rests machine image_base image linked codes targets memory) (written : List Range) (covers_it : AllByRecursion (Covers image) written) (c d : LinkedCode) (offset : ℕ) (name bytes : List ℕ) (t : ObjectSymbol) →
-    Contains codes c → HasDirectCall machine (placed_code c) offset name → Contains codes d → DefinesIn d t → t.name ≡ name → t.value ≡ 0 → d.position < 2 ^ 31 → CanBranch machine (c.position + offset) d.position →
-    StubArrives machine image_base (written ++ memory) d.position bytes → DirectCallArrives machine image_base (written ++ memory) (c.position + offset) bytes
-direct_arrives I386 image_base image linked codes targets memory at written covers_it c d offset name bytes t held has d_held defines named begins small can arrives =
-    let plain : d.position + t.value ≡ d.position = omega arith in
-    let x : BranchArrives I386 image_base (written ++ memory) (c.position + (offset + 1)) 0 d.position =
-    subst (BranchArrives I386 image_base (written ++ memory) (c.position + (offset + 1)) 0) plain
-    (branch_arrives I386 image_base image linked codes targets memory at written covers_it c d (offset + 1) 0 name t held (call_branch I386 c offset i386_rel32 name refl has (refl, refl)) d_held defines named (omega arith) tt) in
-    x86_by_name I386 image_base (written ++ memory) c.position offset d.position bytes refl rel32_call
+    (at : Rests machine image_base image linked codes targets memory) (written : List Range) (covers_it : AllByRecursion (Covers image) written) (c : LinkedCode) (offset stub : ℕ) (name bytes : List ℕ) →
+    Contains codes c → HasDirectCall machine (placed_code c) offset name → ((index : ℕ) → Names c.from index name → targets c index ≡ stub) → stub < 2 ^ 31 → CanBranch machine (c.position + offset) stub →
+    StubArrives machine image_base (written ++ memory) stub bytes → DirectCallArrives machine image_base (written ++ memory) (c.position + offset) bytes
+direct_arrives I386 image_base image linked codes targets memory at written covers_it c offset stub name bytes held has taken small can arrives =
+    let x : BranchArrives I386 image_base (written ++ memory) (c.position + (offset + 1)) 0 stub =
+    branch_reaches I386 image_base image linked codes targets memory at written covers_it c (offset + 1) 0 stub name held (call_branch I386 c offset i386_rel32 name refl has (refl, refl)) taken small tt in
+    x86_by_name I386 image_base (written ++ memory) c.position offset stub bytes refl rel32_call
     (subst (BytesAt (written ++ memory) (c.position + offset)) (call_head I386 c offset i386_rel32 name refl has)
     (part_there I386 image_base image linked codes targets memory at written covers_it c (contains_among c codes held) offset 1 (call_clear I386 c offset i386_rel32 name refl has))) x x.leads arrives
-direct_arrives ARMNT image_base image linked codes targets memory at written covers_it c d offset name bytes t held has d_held defines named begins small can arrives = absurd can
-direct_arrives AMD64 image_base image linked codes targets memory at written covers_it c d offset name bytes t held has d_held defines named begins small can arrives =
-    let plain : d.position + t.value ≡ d.position = omega arith in
-    let x : BranchArrives AMD64 image_base (written ++ memory) (c.position + (offset + 1)) 0 d.position =
-    subst (BranchArrives AMD64 image_base (written ++ memory) (c.position + (offset + 1)) 0) plain
-    (branch_arrives AMD64 image_base image linked codes targets memory at written covers_it c d (offset + 1) 0 name t held (call_branch AMD64 c offset amd64_rel32 name refl has (0, (omega arith, (refl, refl)))) d_held defines named (omega arith) tt) in
-    x86_by_name AMD64 image_base (written ++ memory) c.position offset d.position bytes refl rel32_call
+direct_arrives ARMNT image_base image linked codes targets memory at written covers_it c offset stub name bytes held has taken small can arrives = absurd can
+direct_arrives AMD64 image_base image linked codes targets memory at written covers_it c offset stub name bytes held has taken small can arrives =
+    let x : BranchArrives AMD64 image_base (written ++ memory) (c.position + (offset + 1)) 0 stub =
+    branch_reaches AMD64 image_base image linked codes targets memory at written covers_it c (offset + 1) 0 stub name held (call_branch AMD64 c offset amd64_rel32 name refl has (0, (omega arith, (refl, refl)))) taken small tt in
+    x86_by_name AMD64 image_base (written ++ memory) c.position offset stub bytes refl rel32_call
     (subst (BytesAt (written ++ memory) (c.position + offset)) (call_head AMD64 c offset amd64_rel32 name refl has)
     (part_there AMD64 image_base image linked codes targets memory at written covers_it c (contains_among c codes held) offset 1 (call_clear AMD64 c offset amd64_rel32 name refl has))) x x.leads arrives
-direct_arrives ARM64 image_base image linked codes targets memory at written covers_it c d offset name bytes t held has d_held defines named begins small can arrives =
+direct_arrives ARM64 image_base image linked codes targets memory at written covers_it c offset stub name bytes held has taken small can arrives =
     let own : ℕ → List Relocation = direct_relocations ARM64 in
     let code : List ℕ = direct_bytes ARM64 in
     let r : Relocation = record { offset = offset + 0; symbol = has.index; kind = arm64_branch26 } in
@@ -139,12 +134,11 @@ direct_arrives ARM64 image_base image linked codes targets memory at written cov
     let end : offset + 4 ≤ length c.code.bytes = own_end ARM64 c offset name code own has in
     let old : field_at c.code.bytes offset 4 ≡ 0x9400_0000 = ap (λ xs. number_in (take 4 xs)) (own_code ARM64 c offset name code own has) in
     let found = steady_there ARM64 image_base image linked codes targets memory at written covers_it c (contains_among c codes held) offset arm64_branch26 has.index alone (omega arith) refl in
-    let plain : d.position + t.value ≡ d.position = omega arith in
-    let target : targets c has.index ≡ d.position = at.beside.resolved.code c d has.index has.symbol t held d_held has.target has.undefined defines (named ∙ sym has.named) ∙ plain in
-    let holds : FieldHolds ARM64 arm64_branch26 image_base (c.position + offset) d.position (field_at c.code.bytes offset) found.0 =
+    let target : targets c has.index ≡ stub = taken has.index (own_names ARM64 c offset name code own has) in
+    let holds : FieldHolds ARM64 arm64_branch26 image_base (c.position + offset) stub (field_at c.code.bytes offset) found.0 =
     subst (λ n. FieldHolds ARM64 arm64_branch26 image_base (c.position + offset) n (field_at c.code.bytes offset) found.0) target found.1.1 in
     let both = holds.branch refl (ap (bits_of 0 26) old) can.2 can.3 in
     let word : word_at found.1.0.bytes 0 ≡ found.0 4 = read_word found.1.0.bytes found.1.0.count ∙ found.1.0.value in
-    by_stub ARM64 image_base (written ++ memory) (c.position + offset) d.position found.1.0.bytes bytes found.1.0.located found.1.0.count
+    by_stub ARM64 image_base (written ++ memory) (c.position + offset) stub found.1.0.bytes bytes found.1.0.located found.1.0.count
     (arm64_leads (image_base + (c.position + offset)) found.1.0.bytes (found.0 4) word (still_branch (found.0 4) (both.0 ∙ ap (with_bits 0 26 0) old))
-    ∙ ap Some (words_lead image_base (c.position + offset) d.position can.0 can.1 can.2 can.3 (bits_of 0 26 (found.0 4)) both.1)) arrives
+    ∙ ap Some (words_lead image_base (c.position + offset) stub can.0 can.1 can.2 can.3 (bits_of 0 26 (found.0 4)) both.1)) arrives

@@ -171,15 +171,16 @@ parts_of c offset count head field tail is =
 
 module _ (machine : MachineType) (image_base : ℕ) (image : List Range) (linked : List Placed) (codes : List LinkedCode) (targets : LinkedCode → ℕ → ℕ) (memory : List Range)
     (at : Rests machine image_base image linked codes targets memory) (written : List Range) (covers_it : AllByRecursion (Covers image) written) where
-  -- a branch leads to where linked code defines its name
-  pub branch_arrives : (c d : LinkedCode) (offset after : ℕ) (name : List ℕ) (t : ObjectSymbol) → Contains codes c → HasBranch machine c offset after name → Contains codes d → DefinesIn d t → t.name ≡ name →
-      d.position + t.value < 2 ^ 31 → CanBranch machine (c.position + offset) (d.position + t.value) →
-      BranchArrives machine image_base (written ++ memory) (c.position + offset) after (d.position + t.value)
-  branch_arrives c d offset after name t held has d_held defines named small can =
+  -- where linked code defines a name, symbols of it are
+  pub where_defined : (c d : LinkedCode) (name : List ℕ) (t : ObjectSymbol) → Contains codes c → Contains codes d → DefinesIn d t → t.name ≡ name → (index : ℕ) → Names c.from index name → targets c index ≡ d.position + t.value
+  where_defined c d name t held d_held defines named index names = at.beside.resolved.code c d index names.symbol t held d_held names.target names.undefined defines (named ∙ sym names.named)
+
+  -- a branch leads to where symbols of its name are
+  pub branch_reaches : (c : LinkedCode) (offset after address : ℕ) (name : List ℕ) → Contains codes c → HasBranch machine c offset after name → ((index : ℕ) → Names c.from index name → targets c index ≡ address) →
+      address < 2 ^ 31 → CanBranch machine (c.position + offset) address → BranchArrives machine image_base (written ++ memory) (c.position + offset) after address
+  branch_reaches c offset after address name held has taken small can =
       let m : Among c codes = contains_among c codes held in
-      let names = has.field.names in
       let wide : field_width machine has.type ≡ 4 = branch_width machine has.type after (field_at c.code.bytes offset 4) has.counts in
-      let target : targets c has.field.symbol ≡ d.position + t.value = at.beside.resolved.code c d has.field.symbol names.symbol t held d_held names.target names.undefined defines (named ∙ sym names.named) in
       let found = steady_there machine image_base image linked codes targets memory at written covers_it c m offset has.type has.field.symbol has.field.alone has.field.inside
       (branch_steady machine has.type after (field_at c.code.bytes offset 4) has.counts) in
       let end : c.position + length c.code.bytes + 16 ≤ 2 ^ 31 = own_end machine image_base image linked codes targets memory at written covers_it c m in
@@ -187,8 +188,8 @@ module _ (machine : MachineType) (image_base : ℕ) (image : List Range) (linked
       record {
         number = found.0 4;
         there = subst (λ w. NumberAt (written ++ memory) w (c.position + offset) (found.0 w)) wide found.1.0;
-        leads = branch_by machine has.type image_base (c.position + offset) (d.position + t.value) after (field_at c.code.bytes offset) found.0 has.counts
-            (subst (λ n. FieldHolds machine has.type image_base (c.position + offset) n (field_at c.code.bytes offset) found.0) target found.1.1) can (omega arith) small;
+        leads = branch_by machine has.type image_base (c.position + offset) address after (field_at c.code.bytes offset) found.0 has.counts
+            (subst (λ n. FieldHolds machine has.type image_base (c.position + offset) n (field_at c.code.bytes offset) found.0) (taken has.field.symbol has.field.names) found.1.1) can (omega arith) small;
       }
 
   -- and is, but for its distance, as it was
@@ -196,8 +197,7 @@ module _ (machine : MachineType) (image_base : ℕ) (image : List Range) (linked
       CanBranch machine (c.position + offset) (d.position + t.value) → BranchStays machine (written ++ memory) (c.position + offset) (field_at c.code.bytes offset 4)
   branch_stays c d offset after name t held has d_held defines named can =
       let m : Among c codes = contains_among c codes held in
-      let names = has.field.names in
-      let target : targets c has.field.symbol ≡ d.position + t.value = at.beside.resolved.code c d has.field.symbol names.symbol t held d_held names.target names.undefined defines (named ∙ sym names.named) in
+      let target : targets c has.field.symbol ≡ d.position + t.value = where_defined c d name t held d_held defines named has.field.symbol has.field.names in
       let found = steady_there machine image_base image linked codes targets memory at written covers_it c m offset has.type has.field.symbol has.field.alone has.field.inside
       (branch_steady machine has.type after (field_at c.code.bytes offset 4) has.counts) in
       record {

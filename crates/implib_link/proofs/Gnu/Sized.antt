@@ -81,7 +81,7 @@ pub tail_sized : (machine : MachineType) (dll : NamesOfDll) → IsSized (tail ma
 unfolding tail_object
 tail_sized machine dll = (tt, (tt, (tt, (tt, (tt, (tt, tt))))))
 
-export_sized : (machine : MachineType) (dll : NamesOfDll) (e : ExportView) → IsSized (export machine dll e)
+pub export_sized : (machine : MachineType) (dll : NamesOfDll) (e : ExportView) → IsSized (export machine dll e)
 unfolding export_object
 export_sized machine dll e = (stub_within machine e, (tt, (tt, ((omega arith, tt), (thunk_within machine e, (thunk_within machine e, (tt, tt)))))))
 

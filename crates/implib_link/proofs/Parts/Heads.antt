@@ -1,7 +1,7 @@
 -- What the objects of a part give in an image: a descriptor that a strict loader takes, and its tables.
 use Rattle.std.proofs.Common.{◌≡◌, ℕ, zero, suc, ◌+◌, ◌*◌, ◌%◌, ◌^◌, ◌<◌, true, false, List, [], ◌∷◌, ◌++◌, length, map, Option, Some, None, refl, ap, sym, ◌∙◌, subst, inl, inr, arith, ◌⊎◌, if◌then◌else◌}
-use Rattle.std.specs.Prelude.{◌&&◌, ◌==◌, bytes_eq, not, slice_get}
-use Rattle.std.specs.List.{AllByRecursion, filter_map}
+use Rattle.std.specs.Prelude.{◌&&◌, ◌||◌, ◌==◌, bytes_eq, not, slice_get}
+use Rattle.std.specs.List.{AllByRecursion, filter_map, list_any}
 use Rattle.std.specs.Option.{option_and_then}
 use Rattle.std.proofs.lemmas.Bool.{and_parts, cases_Bool, eqb-true}
 use Rattle.std.proofs.Math.Nat.{mul-suc}
@@ -26,7 +26,7 @@ use Rattle.implib.proofs.Link.Ranges.{Among, among_back, among_first, among_fron
 use Rattle.implib.proofs.Link.Thunks.{StrictTableAt, zeros_number}
 use Rattle.implib_link.specs.Gnu.OtherLibraries.{ends_behind}
 use Rattle.implib_link.specs.Gnu.Packed.{sections_end}
-use Rattle.implib_link.specs.Parts.{AreEntries, IsHead, Row, ask_of, begins, dll_text, entry_name, first_of, has_none, is_empty, is_field, is_in_group, leads_to, named_bytes, only_section, row_in, row_of, sections_of}
+use Rattle.implib_link.specs.Parts.{AreEntries, IsHead, Row, ask_of, begins, dll_text, entry_name, has_none, is_empty, is_field, is_in_group, leads_to, named_bytes, names_entry, only_section, row_in, row_of, sections_of}
 use Rattle.implib_link.specs.Tables.{TableEntry}
 use Rattle.implib_link.proofs.Gnu.Packed.{end_of_sections}
 use Rattle.implib_link.proofs.Gnu.Runs.{located_behind}
@@ -43,35 +43,39 @@ module _ (group : Group) (o : Object) (b : Bases) (s : ObjectSection) (is : only
       let one = one_is (sections_of group o.sections) s is in
       one_address group o.sections b s k x value one.0 one.1 even at own
 
-  group_address : (number value : ℕ) → is_in_group group (section_numbered o.sections number) ≡ true → address_in (section_addresses_of b o.sections) number value ≡ Some (base_of group b + value)
+  pub group_address : (number value : ℕ) → is_in_group group (section_numbered o.sections number) ≡ true → address_in (section_addresses_of b o.sections) number value ≡ Some (base_of group b + value)
   group_address zero value own = cc
   group_address (suc k) value own = in_section k value (slice_get o.sections k) refl own
 
 -- an entry's symbol is defined there
-entry_defined : (o : Object) (b : Bases) (s : ObjectSection) → only_section Addresses o ≡ Some s → b.addresses % 4 ≡ 0 → (name : List ℕ) (entries : List Entry) → first_of (filter_map (entry_name o.sections) entries) ≡ Some name →
+entry_defined : (o : Object) (b : Bases) (s : ObjectSection) → only_section Addresses o ≡ Some s → b.addresses % 4 ≡ 0 → (name : List ℕ) (entries : List Entry) → list_any (bytes_eq name) (filter_map (entry_name o.sections) entries) ≡ true →
     Among (record { name = name; address = Some b.addresses }) (filter_map (defined_by_entry (section_addresses_of b o.sections)) entries)
-entry_defined o b s is even name [] first = cc
-entry_defined o b s is even name (Auxiliary bytes ∷ entries) first = entry_defined o b s is even name entries first
-entry_defined o b s is even name (ASymbol x ∷ entries) first =
+entry_defined o b s is even name [] held = cc
+entry_defined o b s is even name (Auxiliary bytes ∷ entries) held = entry_defined o b s is even name entries held
+entry_defined o b s is even name (ASymbol x ∷ entries) held =
     let addresses = section_addresses_of b o.sections in
+    let names : List (List ℕ) = filter_map (entry_name o.sections) entries in
     elim (cases_Bool (is_defined_external x && ((x.value == 0) && is_in_group Addresses (section_numbered o.sections x.section)))) [
       | inl all ↦
           let parts = and_parts (is_defined_external x) ((x.value == 0) && is_in_group Addresses (section_numbered o.sections x.section)) all in
           let at = and_parts (x.value == 0) (is_in_group Addresses (section_numbered o.sections x.section)) parts.1 in
-          let found : Some x.name ≡ Some name = rw all at first in
-          let same : x.name ≡ name = cc in
+          let found : (bytes_eq name x.name || list_any (bytes_eq name) names) ≡ true = rw all at held in
           let place : address_in addresses x.section x.value ≡ Some b.addresses =
           group_address Addresses o b s is even x.section x.value at.1 ∙ ap (λ n. Some (b.addresses + n)) (eqb-true x.value 0 at.0) ∙ ap Some (plus_none b.addresses) in
-          let definition : record { name = x.name; address = address_in addresses x.section x.value } ≡ record { name = name; address = Some b.addresses } =
-          ap (λ n. record { name = n; address = address_in addresses x.section x.value }) same ∙ ap (λ (a : Option ℕ). record { name = name; address = a }) place in
-          let here : Among (record { name = x.name; address = address_in addresses x.section x.value }) (filter_map (defined_by_entry addresses) (ASymbol x ∷ entries)) = rw parts.0 (among_first _ _) in
-          subst (λ (d : SymbolDefinition). Among d (filter_map (defined_by_entry addresses) (ASymbol x ∷ entries))) definition here
+          elim (cases_Bool (bytes_eq name x.name)) [
+            | inl same ↦
+                let definition : record { name = x.name; address = address_in addresses x.section x.value } ≡ record { name = name; address = Some b.addresses } =
+                ap (λ n. record { name = n; address = address_in addresses x.section x.value }) (sym ((bytes_eq-Decides name x.name).0 same)) ∙ ap (λ (a : Option ℕ). record { name = name; address = a }) place in
+                let here : Among (record { name = x.name; address = address_in addresses x.section x.value }) (filter_map (defined_by_entry addresses) (ASymbol x ∷ entries)) = rw parts.0 (among_first _ _) in
+                subst (λ (d : SymbolDefinition). Among d (filter_map (defined_by_entry addresses) (ASymbol x ∷ entries))) definition here
+            | inr other ↦ rw parts.0 (among_later _ _ _ (entry_defined o b s is even name entries (rw other at found)))
+          ]
       | inr other ↦
-          let later = entry_defined o b s is even name entries (rw other at first) in
+          let later = entry_defined o b s is even name entries (rw other at held) in
           elim (cases_Bool (is_defined_external x)) [ inl is_defined ↦ rw is_defined (among_later _ _ _ later) | inr none ↦ rw none later ]
     ]
 
-has_section : (machine : MachineType) (o : Object) (ask : Ask) (found : Option ObjectSection) → option_and_then (λ (s : ObjectSection). ask_of machine o s.bytes s.relocations) found ≡ Some ask →
+pub has_section : (machine : MachineType) (o : Object) (ask : Ask) (found : Option ObjectSection) → option_and_then (λ (s : ObjectSection). ask_of machine o s.bytes s.relocations) found ≡ Some ask →
     (s : ObjectSection) × (found ≡ Some s)
 has_section machine o ask None is = cc
 has_section machine o ask (Some s) is = (s, refl)
@@ -106,12 +110,22 @@ module _ (machine : MachineType) (linked : List Placed) (image : List Range) (st
         (among_back _ (filter_map (defined_by_entry (section_addresses_of b o.sections)) o.entries) (definitions (placed_from (ends_after b o.sections) (q ∷ objects ++ later))) found.1.0, found.1.1),
       )
 
+  -- an object with an entry, placed among others that are placed from bases on
+  pub record IsEntryPlaced (b : Bases) (all : List Object) (o : Object) (address : ℕ) : Type 0 where
+    pub bases : Bases
+    pub held : Among (record { object = o; section_addresses = section_addresses_of bases o.sections }) (placed_from b all)
+    pub aligned : AreAligned bases
+    pub addresses : bases.addresses ≡ address
+    pub section : ObjectSection
+    pub only : only_section Addresses o ≡ Some section
+
   -- Entries and the tail.
   record TablesFrom (b : Bases) (objects later : List Object) (entries : List TableEntry) : Type 0 where
     lookups : StrictTableAt image (thunk_width machine) b.lookups (map (λ (e : TableEntry). e.ask) entries)
     addresses : StrictTableAt image (thunk_width machine) b.addresses (map (λ (e : TableEntry). e.ask) entries)
     symbols : (j : ℕ) (e : TableEntry) (name : List ℕ) → slice_get entries j ≡ Some e → e.symbol ≡ Some name →
         Among (record { name = name; address = Some (b.addresses + thunk_width machine * j) }) (definitions (placed_from b (objects ++ later)))
+    at : (j : ℕ) (o : Object) (e : TableEntry) → slice_get objects j ≡ Some o → slice_get entries j ≡ Some e → IsEntryPlaced b (objects ++ later) o (b.addresses + thunk_width machine * j)
     aligned : AreAligned (ends_behind b objects)
     descriptors_end : (ends_behind b objects).descriptors ≡ b.descriptors
     addresses_end : (ends_behind b objects).addresses ≡ b.addresses + thunk_width machine * (length entries + 1)
@@ -143,6 +157,7 @@ module _ (machine : MachineType) (linked : List Placed) (image : List Range) (st
         lookups = null_table b.lookups lookup.0;
         addresses = null_table b.addresses address.0;
         symbols = λ j e name is named. cc;
+        at = λ j q e is asked. cc;
         aligned = aligned_one o b even are.descriptors lookup.1 address.1;
         descriptors_end = end_of_sections Descriptors b o.sections ∙ none_ends Descriptors o.sections b.descriptors are.descriptors;
         addresses_end = end_of_sections Addresses b o.sections ∙ address.1 ∙ one_null b.addresses (thunk_width machine);
@@ -160,6 +175,7 @@ module _ (machine : MachineType) (linked : List Placed) (image : List Range) (st
         lookups = record { plain = (lookup.0.plain, lookups.plain); whole = (lookup.0.whole, lookups.whole) };
         addresses = record { plain = (address.0.plain, addresses.plain); whole = (address.0.whole, addresses.whole) };
         symbols = symbols addresses_are rest.symbols;
+        at = at addresses_are rest.at;
         aligned = rest.aligned;
         descriptors_end = rest.descriptors_end ∙ end_of_sections Descriptors b o.sections ∙ none_ends Descriptors o.sections b.descriptors entry.descriptors;
         addresses_end = rest.addresses_end ∙ ap (λ n. n + thunk_width machine * (length entries + 1)) addresses_are ∙ next_table b.addresses (thunk_width machine) (length entries);
@@ -173,12 +189,38 @@ module _ (machine : MachineType) (linked : List Placed) (image : List Range) (st
       symbols same rest zero x name is named =
           let own_entry : e ≡ x = cc in
           let section = has_section machine o e.ask (only_section Addresses o) entry.address in
-          let here = entry_defined o b section.0 section.1 even.addresses name o.entries (entry.symbol ∙ ap (λ (y : TableEntry). y.symbol) own_entry ∙ named) in
+          let here = entry_defined o b section.0 section.1 even.addresses name o.entries (subst (λ found. names_entry o found ≡ true) (ap (λ (y : TableEntry). y.symbol) own_entry ∙ named) entry.symbol) in
           subst (λ n. Among (record { name = name; address = Some n }) ((filter_map (defined_by_entry (section_addresses_of b o.sections)) o.entries) ++ (definitions (placed_from (ends_after b o.sections) (objects ++ later))))) (no_entry b.addresses (thunk_width machine)) (among_front _ (filter_map (defined_by_entry (section_addresses_of b o.sections)) o.entries) (definitions (placed_from (ends_after b o.sections) (objects ++ later))) here)
       symbols same rest (suc j) x name is named =
           among_back _ (filter_map (defined_by_entry (section_addresses_of b o.sections)) o.entries) (definitions (placed_from (ends_after b o.sections) (objects ++ later)))
           (subst (λ n. Among (record { name = name; address = Some n }) (definitions (placed_from (ends_after b o.sections) (objects ++ later))))
           (ap (λ n. n + thunk_width machine * j) same ∙ next_entry b.addresses (thunk_width machine) j) (rest j x name is named))
+
+      at : (ends_after b o.sections).addresses ≡ b.addresses + thunk_width machine →
+          ((j : ℕ) (q : Object) (e : TableEntry) → slice_get objects j ≡ Some q → slice_get entries j ≡ Some e →
+          IsEntryPlaced (ends_after b o.sections) (objects ++ later) q ((ends_after b o.sections).addresses + thunk_width machine * j)) →
+          (j : ℕ) (q : Object) (x : TableEntry) → slice_get (o ∷ objects) j ≡ Some q → slice_get (e ∷ entries) j ≡ Some x → IsEntryPlaced b (o ∷ (objects ++ later)) q (b.addresses + thunk_width machine * j)
+      at same rest zero q x is asked =
+          let own : o ≡ q = cc in
+          let section = has_section machine o e.ask (only_section Addresses o) entry.address in
+          subst (λ (p : Object). IsEntryPlaced b (o ∷ (objects ++ later)) p (b.addresses + thunk_width machine * 0)) own (record {
+            bases = b;
+            held = among_first _ _;
+            aligned = even;
+            addresses = no_entry b.addresses (thunk_width machine);
+            section = section.0;
+            only = section.1;
+          })
+      at same rest (suc j) q x is asked =
+          let found = rest j q x is asked in
+          record {
+            bases = found.bases;
+            held = among_later _ _ _ found.held;
+            aligned = found.aligned;
+            addresses = found.addresses ∙ ap (λ n. n + thunk_width machine * j) same ∙ next_entry b.addresses (thunk_width machine) j;
+            section = found.section;
+            only = found.only;
+          }
 
   -- The head.
   module _ (o : Object) (b : Bases) (rest : List Object) (sized : IsSized o) (even : AreAligned b) (located : LocatedFrom machine linked image b (o ∷ rest)) where
@@ -317,17 +359,18 @@ module _ (machine : MachineType) (linked : List Placed) (image : List Range) (st
             (text.0, (rw left (ap (λ ds. address_or_zero (first_address ds)) once), record { no_nul = ended.1.1; located = (located_parts image (dll ++ 0 ∷ []) ended.0 text.0 (subst (BytesAt image text.0) whole text.1.1)).0 }))
 
   -- a head, entries and a tail
-  pub record PartLinks (b : Bases) (objects : List Object) (dll : List ℕ) (entries : List TableEntry) : Type 0 where
+  pub record PartLinks (b : Bases) (objects later : List Object) (dll : List ℕ) (entries : List TableEntry) : Type 0 where
     pub loads : LoadsFrom image (thunk_width machine) b.descriptors b.addresses dll (map (λ (e : TableEntry). e.ask) entries)
     pub symbols : (j : ℕ) (e : TableEntry) (name : List ℕ) → slice_get entries j ≡ Some e → e.symbol ≡ Some name →
         definitions_of name linked ≡ record { name = name; address = Some (b.addresses + thunk_width machine * j) } ∷ []
+    pub at : (j : ℕ) (o : Object) (e : TableEntry) → slice_get objects (suc j) ≡ Some o → slice_get entries j ≡ Some e → IsEntryPlaced b (objects ++ later) o (b.addresses + thunk_width machine * j)
     pub aligned : AreAligned (ends_behind b objects)
     pub descriptors_end : (ends_behind b objects).descriptors ≡ b.descriptors + 20
     pub addresses_end : (ends_behind b objects).addresses ≡ b.addresses + thunk_width machine * (length entries + 1)
 
   pub part_links : (head : Object) (others later : List Object) (dll : List ℕ) (entries : List TableEntry) (b : Bases) → AreAligned b → AllByRecursion IsSized (head ∷ others) →
       LocatedFrom machine linked image b (head ∷ (others ++ later)) → IsHead machine head others dll → AreEntries machine others entries →
-      ((d : SymbolDefinition) → Among d (definitions (placed_from b (head ∷ (others ++ later)))) → definitions_of d.name linked ≡ d ∷ []) → PartLinks b (head ∷ others) dll entries
+      ((d : SymbolDefinition) → Among d (definitions (placed_from b (head ∷ (others ++ later)))) → definitions_of d.name linked ≡ d ∷ []) → PartLinks b (head ∷ others) later dll entries
   unfolding ends_behind
   part_links head others later dll entries b even sized located begin are only =
       let rest : List Object = others ++ later in
@@ -363,6 +406,16 @@ module _ (machine : MachineType) (linked : List Placed) (image : List Range) (st
             only (record { name = name; address = Some (b.addresses + thunk_width machine * j) })
             (among_back (record { name = name; address = Some (b.addresses + thunk_width machine * j) }) own behind
             (subst (λ n. Among (record { name = name; address = Some (n + thunk_width machine * j) }) behind) addresses_are (tables.symbols j e name is named)));
+        at = λ j o e is asked.
+            let found = tables.at j o e is asked in
+            record {
+              bases = found.bases;
+              held = among_later _ _ _ found.held;
+              aligned = found.aligned;
+              addresses = found.addresses ∙ ap (λ n. n + thunk_width machine * j) addresses_are;
+              section = found.section;
+              only = found.only;
+            };
         aligned = tables.aligned;
         descriptors_end = tables.descriptors_end ∙ descriptors_are;
         addresses_end = tables.addresses_end ∙ ap (λ n. n + thunk_width machine * (length entries + 1)) addresses_are;

@@ -1,39 +1,52 @@
 -- What is linked of a definition for GNU's linker is a part, and parts that store no address whole are steady.
-use Rattle.std.proofs.Common.{◌≡◌, ℕ, ◌+◌, ◌*◌, ◌-◌, ◌%◌, ◌/◌, ◌^◌, ◌<◌, true, false, List, [], ◌∷◌, ◌++◌, map, Option, Some, None, refl, ap, sym, ◌∙◌, subst, inl, inr, arith}
-use Rattle.std.specs.Prelude.{◌||◌, bytes_eq, not, slice_get, take}
-use Rattle.std.specs.List.{AllByRecursion, list_all}
+use Rattle.std.proofs.Common.{◌≡◌, ℕ, ◌+◌, ◌*◌, ◌-◌, ◌%◌, ◌/◌, ◌^◌, ◌<◌, true, false, List, [], ◌∷◌, ◌++◌, codes, map, Option, Some, None, refl, ap, sym, ◌∙◌, subst, inl, inr, arith}
+use Rattle.std.specs.Prelude.{◌||◌, Bool, bytes_eq, not, slice_get, take}
+use Rattle.std.specs.List.{AllByRecursion, filter_map, list_all, list_any}
 use Rattle.std.proofs.lemmas.List.{append_assoc}
 use Rattle.std.proofs.lemmas.Bool.{and_from, and_parts, cases_Bool, lt-ltb}
+use Rattle.implib.specs.declared.coff.object.Place.TheVariants.{Section, Undefined}
 use Rattle.implib.specs.declared.coff.object.Relocation.{Relocation}
 use Rattle.implib.specs.declared.machine.MachineType.{MachineType}
 use Rattle.implib.specs.declared.machine.MachineType.TheVariants.{I386, ARMNT, AMD64, ARM64}
 use Rattle.implib.specs.Definition.{ExportView}
 use Rattle.implib.specs.Formats.Bytes.{u16_bytes}
-use Rattle.implib.specs.Formats.Constants.{image_relative}
+use Rattle.implib.specs.Formats.Constants.{class_external, class_static, image_relative}
 use Rattle.implib.specs.Formats.Layout.{HasNoNul}
-use Rattle.implib.specs.Formats.Object.{Object, ObjectSection}
+use Rattle.implib.specs.Formats.Object.{Entry, Object, ObjectSection}
+use Rattle.implib.specs.Formats.Writer.{AddedSymbol, all_entries, written_object}
 use Rattle.implib.specs.Import.{Name, Ordinal, expected_ask, imp_symbol, name_asked}
 use Rattle.implib.specs.LibraryName.{NamesOfDll, names_for}
 use Rattle.implib.specs.declared.flavor.Flavor.TheVariants.{Gnu}
 use Rattle.implib.specs.Link.LinkedMembers.{IsMade, LinkInput, chosen_exports}
 use Rattle.implib.specs.Link.Load.{number_in}
 use Rattle.implib.specs.Link.Placement.{Addresses, Bases, Lookups, placed_from}
-use Rattle.implib.specs.Members.Gnu.{export_object, head_object, hint_name, hint_name_symbol, iname_symbol, relocations_of_thunk, tail_object, thunk}
+use Rattle.implib.specs.Members.Gnu.{added, code_symbol, export_object, head_object, head_symbol, hint_name, hint_name_symbol, iname_symbol, relocations_of_thunk, tail_object, thunk}
 use Rattle.implib.specs.Members.ImportTables.{relocation, thunk_width, zeros}
+use Rattle.implib.specs.Members.OlderSymbols.{object_with}
 use Rattle.implib.proofs.Formats.Symbols.{before_nul-ended}
 use Rattle.implib.proofs.Link.Definitions.{same_text}
 use Rattle.implib.proofs.Link.Linked.{all_append}
 use Rattle.implib.proofs.Link.LinkedMembers.{dll_free, exports_fit, objects_are}
-use Rattle.implib.proofs.Link.Placement.{after_head, export, head, tail}
+use Rattle.implib.proofs.Link.Placement.{after_head, head, tail}
 use Rattle.implib.proofs.Link.Tables.{CanBeAsked}
 use Rattle.implib_link.specs.Gnu.OtherLibraries.{HoldsFields}
 use Rattle.implib_link.specs.Gnu.Program.{is_table, null_descriptor}
 use Rattle.implib_link.specs.Gnu.Rebased.{absolute_width}
-use Rattle.implib_link.specs.Parts.{AreEntries, BeginWithHead, IsEntry, IsPart, IsProgramOfParts, IsTail, Part, ask_of, begins, dll_text, entry_symbol, hint_and_name, is_field, is_whole, named_bytes, objects_of_parts, ordinal_with, own_bytes, part_of, row_in, stores_none}
-use Rattle.implib_link.specs.Tables.{AreSteady, Block, TableEntry}
+use Rattle.implib_link.specs.Parts.{AreEntries, BeginWithHead, IsEntry, IsPart, IsProgramOfParts, IsTail, Part, ask_of, begins, dll_text, entry_name, hint_and_name, is_field, is_whole, named_bytes, names_entry, objects_of_parts, ordinal_with, own_bytes, part_of, row_in, stores_none}
+use Rattle.implib_link.specs.Tables.{AreSteady, TableEntry}
 use Rattle.implib_link.proofs.Gnu.Others.{no_group}
 use Rattle.implib_link.proofs.Gnu.Steady.{AllSteady, IsSteady, NoneAbsolute, all_steady, tables_none}
-use Rattle.implib_link.proofs.Gnu.Sized.{exports_sized, head_sized, tail_sized}
+use Rattle.implib_link.proofs.Gnu.Sized.{export_sized, head_sized, tail_sized}
+
+-- The object of an export, whose last symbols are these, and such objects with the tail.
+
+abbrev pub exported : MachineType → NamesOfDll → List AddedSymbol → ExportView → Object
+exported machine dll more e = written_object (object_with machine e
+    (added (head_symbol machine dll.linked) Undefined class_external
+    ∷ (code_symbol e ++ added (imp_symbol e.name) (Section 5) class_external ∷ added (codes ".idata$6") (Section 7) class_static ∷ more)))
+
+abbrev pub after_by : MachineType → NamesOfDll → (ExportView → List AddedSymbol) → List ExportView → List Object
+after_by machine dll more es = map (λ e. exported machine dll (more e) e) es ++ tail machine dll ∷ []
 
 -- The head.
 
@@ -52,21 +65,33 @@ head_addresses : (machine : MachineType) (dll : NamesOfDll) → begins Addresses
 unfolding head_object
 head_addresses machine dll = refl
 
-last_named : (machine : MachineType) (dll : NamesOfDll) (name : List ℕ) (es : List ExportView) → named_bytes name (after_head machine dll es []) ≡ named_bytes name (tail machine dll ∷ [])
-last_named machine dll name [] = refl
-last_named machine dll name (e ∷ []) = refl
-last_named machine dll name (e ∷ f ∷ es) = last_named machine dll name (f ∷ es)
+last_named : (machine : MachineType) (dll : NamesOfDll) (more : ExportView → List AddedSymbol) (name : List ℕ) (es : List ExportView) → named_bytes name (after_by machine dll more es) ≡ named_bytes name (tail machine dll ∷ [])
+last_named machine dll more name [] = refl
+last_named machine dll more name (e ∷ []) = refl
+last_named machine dll more name (e ∷ f ∷ es) = last_named machine dll more name (f ∷ es)
 
 tail_named : (machine : MachineType) (dll : NamesOfDll) → named_bytes (iname_symbol machine dll.linked) (tail machine dll ∷ []) ≡ Some (dll.text ++ 0 ∷ [])
 unfolding tail_object
 tail_named machine dll = rw (same_text (iname_symbol machine dll.linked)) refl
 
-head_name : (machine : MachineType) (dll : NamesOfDll) (es : List ExportView) → HasNoNul dll.text → dll_text (after_head machine dll es []) (slice_get (head machine dll).entries 5) ≡ Some dll.text
+head_name : (machine : MachineType) (dll : NamesOfDll) (more : ExportView → List AddedSymbol) (es : List ExportView) → HasNoNul dll.text → dll_text (after_by machine dll more es) (slice_get (head machine dll).entries 5) ≡ Some dll.text
 unfolding head_object
-head_name machine dll es free =
-    rw (last_named machine dll (iname_symbol machine dll.linked) es, tail_named machine dll) (before_nul-ended dll.text [] free)
+head_name machine dll more es free =
+    rw (last_named machine dll more (iname_symbol machine dll.linked) es, tail_named machine dll) (before_nul-ended dll.text [] free)
 
 -- An export.
+
+-- the names at its entry, by whether it is of data
+abbrev names_at : MachineType → NamesOfDll → List AddedSymbol → ExportView → List Entry → List (List ℕ)
+names_at machine dll more e entries = filter_map (entry_name (exported machine dll more e).sections) entries
+
+names_by : (machine : MachineType) (dll : NamesOfDll) (more : List AddedSymbol) (e : ExportView) (is_data : Bool) →
+    (let x : ExportView = record e { is_data = is_data } in names_at machine dll more x (exported machine dll more x).entries ≡ imp_symbol e.name ∷ names_at machine dll more x (all_entries more))
+names_by machine dll more e true = refl
+names_by machine dll more e false = refl
+
+pub names_are : (machine : MachineType) (dll : NamesOfDll) (more : List AddedSymbol) (e : ExportView) → names_at machine dll more e (exported machine dll more e).entries ≡ imp_symbol e.name ∷ names_at machine dll more e (all_entries more)
+names_are machine dll more e = names_by machine dll more e e.is_data
 
 low_byte : (n : ℕ) → n % 256 < 256
 low_byte n = omega arith
@@ -102,9 +127,9 @@ asks_name : (machine : MachineType) (o : Object) (index : ℕ) (bytes : List ℕ
     ask_of machine o (zeros (thunk_width machine)) (relocation machine 0 index ∷ []) ≡ hint_and_name bytes
 asks_name machine o index bytes is = rw (same_kind machine, same_zeros machine, is) refl
 
-module _ (machine : MachineType) (dll : NamesOfDll) (e : ExportView) (fits : CanBeAsked machine e) where
-  own_hint : e.no_name ≡ false → own_bytes (export machine dll e) (slice_get (export machine dll e).entries (hint_name_symbol e)) ≡ Some (u16_bytes e.ordinal ++ (name_asked machine e ++ 0 ∷ []))
-  unfolding export_object hint_name
+module _ (machine : MachineType) (dll : NamesOfDll) (more : List AddedSymbol) (e : ExportView) (fits : CanBeAsked machine e) where
+  own_hint : e.no_name ≡ false → own_bytes (exported machine dll more e) (slice_get (exported machine dll more e).entries (hint_name_symbol e)) ≡ Some (u16_bytes e.ordinal ++ (name_asked machine e ++ 0 ∷ []))
+  unfolding hint_name
   own_hint is = elim (cases_Bool e.is_data) [ inl of_data ↦ rw (of_data, is) refl | inr of_code ↦ rw (of_code, is) refl ]
 
   named_thunk : e.no_name ≡ false → thunk machine e ≡ zeros (thunk_width machine)
@@ -129,65 +154,86 @@ module _ (machine : MachineType) (dll : NamesOfDll) (e : ExportView) (fits : Can
   by_ordinal : e.no_name ≡ true → expected_ask machine e ≡ Ordinal e.ordinal
   by_ordinal is = rw is refl
 
-  asks : ask_of machine (export machine dll e) (thunk machine e) (relocations_of_thunk machine e) ≡ Some (expected_ask machine e)
+  asks : ask_of machine (exported machine dll more e) (thunk machine e) (relocations_of_thunk machine e) ≡ Some (expected_ask machine e)
   asks = elim (cases_Bool e.no_name) [
     | inl is ↦
         let bytes : List ℕ = u16_bytes e.ordinal ++ (zeros (thunk_width machine - 3) ++ 0x80 ∷ []) in
-        ap (ask_of machine (export machine dll e) (thunk machine e)) (no_field is)
-        ∙ ap (λ bs. ask_of machine (export machine dll e) bs []) (ordinal_thunk_is is)
+        ap (ask_of machine (exported machine dll more e) (thunk machine e)) (no_field is)
+        ∙ ap (λ bs. ask_of machine (exported machine dll more e) bs []) (ordinal_thunk_is is)
         ∙ ap (ordinal_with machine bytes) (number_read e.ordinal (zeros (thunk_width machine - 3) ++ 0x80 ∷ []) fits.ordinal)
         ∙ ordinal_read machine e.ordinal fits.ordinal ∙ ap Some (sym (by_ordinal is))
     | inr is ↦
-        ap (ask_of machine (export machine dll e) (thunk machine e)) (named_field is)
-        ∙ ap (λ bs. ask_of machine (export machine dll e) bs (relocation machine 0 (hint_name_symbol e) ∷ [])) (named_thunk is)
-        ∙ asks_name machine (export machine dll e) (hint_name_symbol e) (u16_bytes e.ordinal ++ (name_asked machine e ++ 0 ∷ [])) (own_hint is)
+        ap (ask_of machine (exported machine dll more e) (thunk machine e)) (named_field is)
+        ∙ ap (λ bs. ask_of machine (exported machine dll more e) bs (relocation machine 0 (hint_name_symbol e) ∷ [])) (named_thunk is)
+        ∙ asks_name machine (exported machine dll more e) (hint_name_symbol e) (u16_bytes e.ordinal ++ (name_asked machine e ++ 0 ∷ [])) (own_hint is)
         ∙ hint_read e.ordinal (name_asked machine e) fits.ordinal fits.name ∙ ap Some (sym (by_name is))
   ]
 
-  symbol_read : entry_symbol (export machine dll e) ≡ Some (imp_symbol e.name)
-  unfolding export_object
-  symbol_read = elim (cases_Bool e.is_data) [ inl is ↦ rw is refl | inr is ↦ rw is refl ]
-
-  export_entry : IsEntry machine (export machine dll e) (record { ask = expected_ask machine e; symbol = Some (imp_symbol e.name) })
-  unfolding export_object
-  export_entry = record { descriptors = refl; lookup = asks; address = asks; symbol = symbol_read }
+  export_entry : (name : List ℕ) → names_entry (exported machine dll more e) (Some name) ≡ true → IsEntry machine (exported machine dll more e) (record { ask = expected_ask machine e; symbol = Some name })
+  export_entry name named = record { descriptors = refl; lookup = asks; address = asks; symbol = named }
 
 tail_is : (machine : MachineType) (dll : NamesOfDll) → IsTail machine (tail machine dll)
 unfolding tail_object
 tail_is machine dll = record { descriptors = refl; lookup = rw (same_zeros machine) refl; address = rw (same_zeros machine) refl }
 
-abbrev entry_for : MachineType → ExportView → TableEntry
-entry_for machine e = record { ask = expected_ask machine e; symbol = Some (imp_symbol e.name) }
+-- Exports whose objects have these further symbols, and whose entries have these names.
+module _ (machine : MachineType) (dll : NamesOfDll) (more : ExportView → List AddedSymbol) (name : ExportView → List ℕ)
+    (named : (e : ExportView) → names_entry (exported machine dll (more e) e) (Some (name e)) ≡ true) where
+  abbrev entry_for : ExportView → TableEntry
+  entry_for e = record { ask = expected_ask machine e; symbol = Some (name e) }
 
-entries_are : (machine : MachineType) (dll : NamesOfDll) (es : List ExportView) → AllByRecursion (CanBeAsked machine) es → AreEntries machine (after_head machine dll es []) (map (entry_for machine) es)
-unfolding AreEntries
-entries_are machine dll [] fit = tail_is machine dll
-entries_are machine dll (e ∷ es) fit = (export_entry machine dll e fit.0, entries_are machine dll es fit.1)
+  entries_are : (es : List ExportView) → AllByRecursion (CanBeAsked machine) es → AreEntries machine (after_by machine dll more es) (map entry_for es)
+  unfolding AreEntries
+  entries_are [] fit = tail_is machine dll
+  entries_are (e ∷ es) fit = (export_entry machine dll (more e) e fit.0 (name e) (named e), entries_are es fit.1)
 
-head_first : (machine : MachineType) (dll : NamesOfDll) (es : List ExportView) (text : List ℕ) → HasNoNul dll.text → dll.text ≡ text → AllByRecursion (CanBeAsked machine) es →
-    BeginWithHead machine (head machine dll ∷ after_head machine dll es []) (record { dll = text; entries = map (entry_for machine) es })
-unfolding BeginWithHead
-head_first machine dll es text free same fit = (
-  record {
-    row = record { lookups = 3; name = 5; addresses = 2 };
-    fields = head_row machine dll;
-    lookups = head_lookups machine dll;
-    addresses = head_addresses machine dll;
-    name = head_name machine dll es free ∙ ap Some same;
-  },
-  entries_are machine dll es fit,
-)
+  begin_with_head : (es : List ExportView) → HasNoNul dll.text → AllByRecursion (CanBeAsked machine) es →
+      BeginWithHead machine (head machine dll ∷ after_by machine dll more es) (record { dll = dll.text; entries = map entry_for es })
+  unfolding BeginWithHead
+  begin_with_head es free fit = (
+    record {
+      row = record { lookups = 3; name = 5; addresses = 2 };
+      fields = head_row machine dll;
+      lookups = head_lookups machine dll;
+      addresses = head_addresses machine dll;
+      name = head_name machine dll more es free;
+    },
+    entries_are es fit,
+  )
+
+  sized : (es : List ExportView) → AllByRecursion HoldsFields (after_by machine dll more es)
+  unfolding export_object
+  sized [] = (tail_sized machine dll, tt)
+  sized (e ∷ es) = (export_sized machine dll e, sized es)
+
+  pub part_is : (objects : List Object) (es : List ExportView) → objects ≡ head machine dll ∷ after_by machine dll more es → HasNoNul dll.text → AllByRecursion (CanBeAsked machine) es →
+      IsPart machine (record { objects = objects; table = record { dll = dll.text; entries = map entry_for es } })
+  part_is objects es are free fit = record {
+    objects = subst (λ os. BeginWithHead machine os (record { dll = dll.text; entries = map entry_for es })) (sym are) (begin_with_head es free fit);
+    sized = subst (AllByRecursion HoldsFields) (sym are) (head_sized machine dll, sized es);
+  }
+
+-- Today's members.
+
+today_named : (machine : MachineType) (dll : NamesOfDll) (e : ExportView) → names_entry (exported machine dll [] e) (Some (imp_symbol e.name)) ≡ true
+today_named machine dll e = ap (list_any (bytes_eq (imp_symbol e.name))) (names_are machine dll [] e) ∙ rw (same_text (imp_symbol e.name)) refl
+
+same_objects : (machine : MachineType) (dll : NamesOfDll) (es : List ExportView) → after_head machine dll es [] ≡ after_by machine dll (λ e. []) es
+unfolding export_object
+same_objects machine dll es = refl
+
+pub members_objects : (machine : MachineType) (p : LinkInput) → IsMade machine p →
+    (part_of machine p).objects ≡ head machine (names_for Gnu p.definition) ∷ after_by machine (names_for Gnu p.definition) (λ e. []) (chosen_exports p.definition p.chosen)
+members_objects machine p made =
+    let dll : NamesOfDll = names_for Gnu p.definition in
+    objects_are p.definition machine p.members p.chosen made ∙ ap (λ os. head machine dll ∷ os) (same_objects machine dll (chosen_exports p.definition p.chosen))
 
 pub members_are_part : (machine : MachineType) (p : LinkInput) → IsMade machine p → IsPart machine (part_of machine p)
 members_are_part machine p made =
     let dll : NamesOfDll = names_for Gnu p.definition in
     let es : List ExportView = chosen_exports p.definition p.chosen in
-    let are = objects_are p.definition machine p.members p.chosen made in
-    let table : Block = (part_of machine p).table in
-    record {
-      objects = subst (λ os. BeginWithHead machine os table) (sym are) (head_first machine dll es table.dll (dll_free p.definition machine p.members p.chosen made) refl (exports_fit p.definition machine p.members p.chosen made));
-      sized = subst (AllByRecursion HoldsFields) (sym are) (head_sized machine dll, exports_sized machine dll es (tail machine dll ∷ []) (tail_sized machine dll, tt));
-    }
+    part_is machine dll (λ e. []) (λ e. imp_symbol e.name) (today_named machine dll) (part_of machine p).objects es
+    (members_objects machine p made) (dll_free p.definition machine p.members p.chosen made) (exports_fit p.definition machine p.members p.chosen made)
 
 -- Parts that store no address whole.
 
@@ -242,22 +288,25 @@ thunk_none : (machine : MachineType) (e : ExportView) → list_all (λ (r : Relo
 unfolding relocations_of_thunk
 thunk_none machine e = elim (cases_Bool e.no_name) [ inl is ↦ rw is refl | inr is ↦ rw (is, relative_none machine) refl ]
 
-export_none : (machine : MachineType) (dll : NamesOfDll) (e : ExportView) → stores_none machine (export machine dll e) ≡ true
-unfolding export_object
-export_none machine dll e = rw (relative_none machine, thunk_none machine e) refl
+module _ (machine : MachineType) (dll : NamesOfDll) (more : ExportView → List AddedSymbol) where
+  exports_none : (es : List ExportView) → list_all (stores_none machine) (after_by machine dll more es) ≡ true
+  unfolding tail_object
+  exports_none [] = refl
+  exports_none (e ∷ es) =
+      let own : stores_none machine (exported machine dll (more e) e) ≡ true = rw (relative_none machine, thunk_none machine e) refl in
+      and_from (stores_none machine (exported machine dll (more e) e)) (list_all (stores_none machine) (after_by machine dll more es)) own (exports_none es)
 
-exports_none : (machine : MachineType) (dll : NamesOfDll) (es : List ExportView) → list_all (stores_none machine) (after_head machine dll es []) ≡ true
-unfolding tail_object
-exports_none machine dll [] = refl
-exports_none machine dll (e ∷ es) = and_from (stores_none machine (export machine dll e)) (list_all (stores_none machine) (after_head machine dll es [])) (export_none machine dll e) (exports_none machine dll es)
+  head_none : stores_none machine (head machine dll) ≡ true
+  unfolding head_object
+  head_none = rw (relative_none machine) refl
 
-head_none : (machine : MachineType) (dll : NamesOfDll) → stores_none machine (head machine dll) ≡ true
-unfolding head_object
-head_none machine dll = rw (relative_none machine) refl
+  pub part_stores_none : (objects : List Object) (es : List ExportView) → objects ≡ head machine dll ∷ after_by machine dll more es → list_all (stores_none machine) objects ≡ true
+  part_stores_none objects es are =
+      ap (list_all (stores_none machine)) are
+      ∙ and_from (stores_none machine (head machine dll)) (list_all (stores_none machine) (after_by machine dll more es)) head_none (exports_none es)
 
 pub members_store_none : (machine : MachineType) (p : LinkInput) → IsMade machine p → list_all (stores_none machine) (part_of machine p).objects ≡ true
 members_store_none machine p made =
     let dll : NamesOfDll = names_for Gnu p.definition in
     let es : List ExportView = chosen_exports p.definition p.chosen in
-    ap (list_all (stores_none machine)) (objects_are p.definition machine p.members p.chosen made)
-    ∙ and_from (stores_none machine (head machine dll)) (list_all (stores_none machine) (after_head machine dll es [])) (head_none machine dll) (exports_none machine dll es)
+    part_stores_none machine dll (λ e. []) (part_of machine p).objects es (members_objects machine p made)

@@ -32,7 +32,7 @@ use Rattle.implib_link.proofs.Gnu.Program.{all_claim}
 use Rattle.implib_link.proofs.Gnu.Runs.{located_behind, placed_parts}
 use Rattle.implib_link.proofs.PackedTables.{are_packed, entries_until, imported_by_block}
 use Rattle.implib_link.proofs.Search.Lists.{among_filter}
-use Rattle.implib_link.proofs.Parts.Heads.{PartLinks, part_links}
+use Rattle.implib_link.proofs.Parts.Heads.{IsEntryPlaced, PartLinks, part_links}
 
 -- Names of definitions are among those that objects claim, in their order.
 
@@ -109,28 +109,21 @@ module _ (machine : MachineType) (linked : List Placed) (image : List Range) (lo
   abbrev blocks_of : List Part → List Block
   blocks_of parts = map (λ (p : Part). p.table) parts
 
-  -- where a part is placed
-  pub record IsPlaced (b : Bases) (address : ℕ) (objects all : List Object) : Type 0 where
-    pub bases : Bases
-    pub rest : List Object
-    pub aligned : AreAligned bases
-    pub addresses : bases.addresses ≡ address
-    pub held : (q : Placed) → Among q (placed_from bases (objects ++ rest)) → Among q (placed_from b all)
-
   -- what is known of parts that are placed from bases on, with other objects after them
   record PartsLink (b : Bases) (parts : List Part) (later : List Object) : Type 0 where
     pub behind : Bases
     pub aligned : AreAligned behind
     pub located : LocatedFrom machine linked image behind later
     pub directory : BytesAt image behind.descriptors (zeros 20) → DirectoryAt image (thunk_width machine) b.descriptors (map imported_by_block (blocks_of parts))
-    pub at : (i : ℕ) (p : Part) → slice_get parts i ≡ Some p → IsPlaced b (b.addresses + thunk_width machine * entries_until i (blocks_of parts)) p.objects (objects_of_parts parts ++ later)
+    pub at : (i j : ℕ) (p : Part) (o : Object) (e : TableEntry) → slice_get parts i ≡ Some p → slice_get p.objects (suc j) ≡ Some o → slice_get p.table.entries j ≡ Some e →
+        IsEntryPlaced machine linked image low high b (objects_of_parts parts ++ later) o (b.addresses + thunk_width machine * entries_until i (blocks_of parts) + thunk_width machine * j)
     pub fields : (i : ℕ) (x : Block) → slice_get (blocks_of parts) i ≡ Some x → NumberAt image 4 (b.descriptors + 20 * i + 16) (b.addresses + thunk_width machine * entries_until i (blocks_of parts))
     pub symbols : (i j : ℕ) (x : Block) (e : TableEntry) (name : List ℕ) → slice_get (blocks_of parts) i ≡ Some x → slice_get x.entries j ≡ Some e → e.symbol ≡ Some name →
         definitions_of name linked ≡ record { name = name; address = Some (b.addresses + thunk_width machine * entries_until i (blocks_of parts) + thunk_width machine * j) } ∷ []
 
   one_part : (objects : List Object) (table : Block) (b : Bases) (later : List Object) → BeginWithHead machine objects table → AllByRecursion HoldsFields objects → AreAligned b →
       LocatedFrom machine linked image b (objects ++ later) → ((d : SymbolDefinition) → Among d (definitions (placed_from b (objects ++ later))) → definitions_of d.name linked ≡ d ∷ []) →
-      PartLinks machine linked image low high b objects table.dll table.entries
+      PartLinks machine linked image low high b objects later table.dll table.entries
   unfolding BeginWithHead
   one_part [] table b later is sized level located only = absurd is
   one_part (o ∷ objects) table b later is sized level located only = part_links machine linked image low high o objects later table.dll table.entries b level sized located is.0 is.1 only
@@ -143,7 +136,7 @@ module _ (machine : MachineType) (linked : List Placed) (image : List Range) (lo
     aligned = level;
     located = located;
     directory = λ null. null;
-    at = λ i p is. cc;
+    at = λ i j p o e is held asked. cc;
     fields = λ i x is. cc;
     symbols = λ i j x e name is asked named. cc;
   }
@@ -165,40 +158,45 @@ module _ (machine : MachineType) (linked : List Placed) (image : List Range) (lo
         aligned = others.aligned;
         located = others.located;
         directory = λ null. (one.loads.loads, subst (λ n. DirectoryAt image (thunk_width machine) n (map imported_by_block (blocks_of parts))) one.descriptors_end (others.directory null));
-        at = places one.addresses_end level others.at;
+        at = places one others.at;
         fields = fields one others.fields;
         symbols = symbols one others.symbols;
       }
     where
-      places : (ends_behind b p.objects).addresses ≡ b.addresses + thunk_width machine * (length p.table.entries + 1) → AreAligned b →
-          ((i : ℕ) (x : Part) → slice_get parts i ≡ Some x →
-          IsPlaced (ends_behind b p.objects) ((ends_behind b p.objects).addresses + thunk_width machine * entries_until i (blocks_of parts)) x.objects (objects_of_parts parts ++ later)) →
-          (i : ℕ) (x : Part) → slice_get (p ∷ parts) i ≡ Some x →
-          IsPlaced b (b.addresses + thunk_width machine * entries_until i (p.table ∷ blocks_of parts)) x.objects ((p.objects ++ objects_of_parts parts) ++ later)
-      places end level rest zero x is =
+      places : PartLinks machine linked image low high b p.objects (objects_of_parts parts ++ later) p.table.dll p.table.entries →
+          ((i j : ℕ) (x : Part) (o : Object) (e : TableEntry) → slice_get parts i ≡ Some x → slice_get x.objects (suc j) ≡ Some o → slice_get x.table.entries j ≡ Some e →
+          IsEntryPlaced machine linked image low high (ends_behind b p.objects) (objects_of_parts parts ++ later) o ((ends_behind b p.objects).addresses + thunk_width machine * entries_until i (blocks_of parts) + thunk_width machine * j)) →
+          (i j : ℕ) (x : Part) (o : Object) (e : TableEntry) → slice_get (p ∷ parts) i ≡ Some x → slice_get x.objects (suc j) ≡ Some o → slice_get x.table.entries j ≡ Some e →
+          IsEntryPlaced machine linked image low high b ((p.objects ++ objects_of_parts parts) ++ later) o (b.addresses + thunk_width machine * entries_until i (p.table ∷ blocks_of parts) + thunk_width machine * j)
+      places one rest zero j x o e is held asked =
           let same : p ≡ x = cc in
-          subst (λ (y : Part). IsPlaced b (b.addresses + thunk_width machine * 0) y.objects ((p.objects ++ objects_of_parts parts) ++ later)) same (record {
-            bases = b;
-            rest = objects_of_parts parts ++ later;
-            aligned = level;
-            addresses = plus_zero b.addresses (thunk_width machine);
-            held = λ q m. subst (λ os. Among q (placed_from b os)) (sym (append_assoc p.objects (objects_of_parts parts) later)) m;
-          })
-      places end level rest (suc i) x is =
-          let found = rest i x is in
+          let found = one.at j o e (subst (λ (y : Part). slice_get y.objects (suc j) ≡ Some o) (sym same) held) (subst (λ (y : Part). slice_get y.table.entries j ≡ Some e) (sym same) asked) in
           record {
             bases = found.bases;
-            rest = found.rest;
+            held = subst (λ os. Among (record { object = o; section_addresses = section_addresses_of found.bases o.sections }) (placed_from b os)) (sym (append_assoc p.objects (objects_of_parts parts) later)) found.held;
             aligned = found.aligned;
-            addresses = found.addresses ∙ ap (λ n. n + thunk_width machine * entries_until i (blocks_of parts)) end
-                ∙ table_sum b.addresses (thunk_width machine) (length p.table.entries + 1) (entries_until i (blocks_of parts));
-            held = λ q m.
-                subst (λ os. Among q (placed_from b os)) (sym (append_assoc p.objects (objects_of_parts parts) later))
-                (subst (Among q) (sym (placed_parts b p.objects (objects_of_parts parts ++ later)))
-                (among_back q (placed_from b p.objects) (placed_from (ends_behind b p.objects) (objects_of_parts parts ++ later)) (found.held q m)));
+            addresses = found.addresses ∙ ap (λ n. n + thunk_width machine * j) (plus_zero b.addresses (thunk_width machine));
+            section = found.section;
+            only = found.only;
+          }
+      places one rest (suc i) j x o e is held asked =
+          let found = rest i j x o e is held asked in
+          let own : Placed = record { object = o; section_addresses = section_addresses_of found.bases o.sections } in
+          record {
+            bases = found.bases;
+            held = subst (λ os. Among own (placed_from b os)) (sym (append_assoc p.objects (objects_of_parts parts) later))
+                (subst (Among own) (sym (placed_parts b p.objects (objects_of_parts parts ++ later)))
+                (among_back own (placed_from b p.objects) (placed_from (ends_behind b p.objects) (objects_of_parts parts ++ later)) found.held));
+            aligned = found.aligned;
+            addresses = found.addresses
+                ∙ ap (λ n. n + thunk_width machine * j)
+                (ap (λ n. n + thunk_width machine * entries_until i (blocks_of parts)) one.addresses_end
+                ∙ table_sum b.addresses (thunk_width machine) (length p.table.entries + 1) (entries_until i (blocks_of parts)));
+            section = found.section;
+            only = found.only;
           }
 
-      fields : PartLinks machine linked image low high b p.objects p.table.dll p.table.entries →
+      fields : PartLinks machine linked image low high b p.objects (objects_of_parts parts ++ later) p.table.dll p.table.entries →
           ((i : ℕ) (x : Block) → slice_get (blocks_of parts) i ≡ Some x →
           NumberAt image 4 ((ends_behind b p.objects).descriptors + 20 * i + 16) ((ends_behind b p.objects).addresses + thunk_width machine * entries_until i (blocks_of parts))) →
           (i : ℕ) (x : Block) → slice_get (p.table ∷ blocks_of parts) i ≡ Some x → NumberAt image 4 (b.descriptors + 20 * i + 16) (b.addresses + thunk_width machine * entries_until i (p.table ∷ blocks_of parts))
@@ -215,7 +213,7 @@ module _ (machine : MachineType) (linked : List Placed) (image : List Range) (lo
           subst (λ n. NumberAt image 4 n (b.addresses + thunk_width machine * (length p.table.entries + 1 + entries_until i (blocks_of parts)))) row
           (subst (NumberAt image 4 ((ends_behind b p.objects).descriptors + 20 * i + 16)) table (rest i x is))
 
-      symbols : PartLinks machine linked image low high b p.objects p.table.dll p.table.entries →
+      symbols : PartLinks machine linked image low high b p.objects (objects_of_parts parts ++ later) p.table.dll p.table.entries →
           ((i j : ℕ) (x : Block) (e : TableEntry) (name : List ℕ) → slice_get (blocks_of parts) i ≡ Some x → slice_get x.entries j ≡ Some e → e.symbol ≡ Some name →
           definitions_of name linked ≡ record { name = name; address = Some ((ends_behind b p.objects).addresses + thunk_width machine * entries_until i (blocks_of parts) + thunk_width machine * j) } ∷ []) →
           (i j : ℕ) (x : Block) (e : TableEntry) (name : List ℕ) → slice_get (p.table ∷ blocks_of parts) i ≡ Some x → slice_get x.entries j ≡ Some e → e.symbol ≡ Some name →
@@ -285,9 +283,10 @@ module _ (machine : MachineType) (b : Bases) (parts : List Part) (objects : List
       (links.directory (null_located machine linked image links.behind links.aligned links.located)) links.fields links.symbols
 
   -- an object of a part that is placed, and what it defines
-  pub part_placed : (i : ℕ) (p : Part) → slice_get parts i ≡ Some p →
-      IsPlaced machine linked image (starts machine b objects program.admissible) (ends machine b objects program.admissible) b (b.addresses + thunk_width machine * entries_until i (map (λ (x : Part). x.table) parts)) p.objects (objects_of_parts parts ++ null_descriptor ∷ [])
-  part_placed = links.at
+  pub entry_placed : (i j : ℕ) (p : Part) (o : Object) (e : TableEntry) → slice_get parts i ≡ Some p → slice_get p.objects (suc j) ≡ Some o → slice_get p.table.entries j ≡ Some e →
+      IsEntryPlaced machine linked image (starts machine b objects program.admissible) (ends machine b objects program.admissible) b (objects_of_parts parts ++ null_descriptor ∷ []) o
+      (b.addresses + thunk_width machine * entries_until i (map (λ (x : Part). x.table) parts) + thunk_width machine * j)
+  entry_placed = links.at
 
   pub kept_is_linked : (q : Placed) → Among q (placed_from b (objects_of_parts parts ++ null_descriptor ∷ [])) → Among q (placed_from b objects)
   kept_is_linked q m =

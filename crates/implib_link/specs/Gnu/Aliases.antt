@@ -1,13 +1,14 @@
 -- Weak externals in a link: what an undefined name is resolved to that nothing defines, but that is weak for
 -- another (PE/COFF specification, "Auxiliary Format 3: Weak Externals").
-use Rattle.std.specs.Prelude.{◌≡◌, ℕ, ◌&&◌, ◌==◌, true, List, [], ◌∷◌, bytes_eq, slice_get, Option, Some, None, if◌then◌else◌}
+use Rattle.std.specs.Prelude.{◌≡◌, ℕ, ◌+◌, ◌&&◌, ◌==◌, true, List, [], ◌∷◌, bytes_eq, slice_get, Option, Some, None, if◌then◌else◌}
 use Rattle.std.specs.List.{Contains}
 use Rattle.std.specs.Option.{option_and_then}
 use Rattle.implib.specs.Formats.Constants.{class_weak_external}
 use Rattle.implib.specs.Formats.Object.{ASymbol, Auxiliary, Entry, ObjectSymbol, u32_at}
 use Rattle.implib.specs.Link.Placement.{Placed}
 use Rattle.implib.specs.Link.Resolution.{definitions_of, first_address, is_undefined_external}
-use Rattle.implib_link.specs.Gnu.Fields.{LinkedCode}
+use Rattle.implib_link.specs.Gnu.Fields.{DefinesIn, LinkedCode}
+use Rattle.implib_link.specs.Gnu.Operands.{Names}
 
 -- the name of a symbol
 abbrev pub name_of : Entry → Option (List ℕ)
@@ -48,3 +49,14 @@ ResolvesAliases linked codes targets =
     slice_get c.from.object.entries index ≡ Some (ASymbol s) → is_undefined_external s ≡ true →
     definitions_of s.name linked ≡ [] → weak_target s.name linked ≡ Some target →
     first_address (definitions_of target linked) ≡ Some address → targets c index ≡ address
+
+-- A linker takes a name to stand for another, as `/alternatename:a=b` and `--defsym=a=b` tell it. An undefined symbol
+-- of the name is
+-- `tables`: where the import tables have the other;
+-- `code`: where linked code defines the other.
+pub record StandsFor (linked : List Placed) (codes : List LinkedCode) (targets : LinkedCode → ℕ → ℕ)
+    (name other : List ℕ) : Type 0 where
+  pub tables : (c : LinkedCode) (index address : ℕ) → Contains codes c → Names c.from index name →
+      first_address (definitions_of other linked) ≡ Some address → targets c index ≡ address
+  pub code : (c d : LinkedCode) (index : ℕ) (t : ObjectSymbol) → Contains codes c → Contains codes d →
+      Names c.from index name → DefinesIn d t → t.name ≡ other → targets c index ≡ d.position + t.value

@@ -7,8 +7,9 @@ ghost use Rattle.implib_link.specs.Gnu.Fields.{LinkedCode};
 ghost use Rattle.implib_link.specs.Gnu.Moves.{AreInMemory};
 ghost use Rattle.implib_link.specs.Gnu.Operands.{HasBranch};
 ghost use Rattle.implib_link.specs.Gnu.Reading.{ReadsAndWrites};
-ghost use Rattle.implib_link.specs.Tables.{AreSteady, AreTables, CanReadFrom, Table, TableEntry, Tables};
-ghost use Rattle.std.specs.Prelude.{Some, length, slice_get, ◌++◌, ◌+◌, ◌≡◌};
+ghost use Rattle.implib_link.specs.Tables.{AreSteady, AreTables, Block, CanReadFrom, DefineEntries};
+ghost use Rattle.implib_link.specs.Tables.{Table, TableEntry, Tables, imported_by_table, packed_tables};
+ghost use Rattle.std.specs.Prelude.{Some, length, map, slice_get, ◌++◌, ◌+◌, ◌≡◌};
 ghost use Rattle.implib.specs.Formats.ShortImport.{ShortImport};
 ghost use Rattle.implib.specs.Link.Image.{AllApart, Range, range_end};
 ghost use Rattle.implib.specs.Link.Placement.{Placed};
@@ -23,6 +24,9 @@ ghost use Rattle.std.specs.Prelude.{◌<◌, ◌^◌, ℕ, List};
 /// The five pieces that lld makes of DLLs and what is asked of them are a directory of exactly
 /// these imports, wherever each piece stands. What lld writes where nothing else has import tables,
 /// one piece that is apart from all else, has the five at their addresses.
+///
+/// They are import tables where each entry's symbol has one definition, the entry; whatever files lld
+/// took the imports from: short imports with the DLL's own name as a third text, too.
 pub fn pieces_are_a_directory()
     ensures directory { (machine : MachineType) (image : List Range)
         (descriptors lookups addresses hints names : ℕ) (imports : List Imported) →
@@ -38,6 +42,21 @@ pub fn pieces_are_a_directory()
         ArePiecesAt machine image base (lookups_at machine base imports)
         (addresses_at machine base imports) (hints_at machine base imports)
         (names_at machine base imports) imports }
+    ensures tables { (machine : MachineType) (image : List Range) (linked : List Placed)
+        (descriptors lookups addresses hints names : ℕ) (blocks : List Block) →
+        AllByRecursion (λ r. 0 < r.start) image →
+        AllByRecursion (λ r. range_end r < 2 ^ 31) image →
+        AllByRecursion IsImportable
+        (map imported_by_table (packed_tables (thunk_width machine) addresses blocks)) →
+        ArePiecesAt machine image descriptors lookups addresses hints names
+        (map imported_by_table (packed_tables (thunk_width machine) addresses blocks)) →
+        DefineEntries machine linked (packed_tables (thunk_width machine) addresses blocks) →
+        AreTables machine (record {
+          image = image;
+          linked = linked;
+          directory = descriptors;
+          tables = packed_tables (thunk_width machine) addresses blocks;
+        }) }
 {}
 
 /// Of the short imports that lld took, its tables are a directory of exactly these, by DLL and

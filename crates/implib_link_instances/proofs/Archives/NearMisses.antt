@@ -21,7 +21,7 @@ use Rattle.implib_archive.specs.declared.kind.Kind.TheVariants.{Gnu}
 use Rattle.implib_archive_link.specs.InBytes.{Asks, AreTakenAt, First, Second, TakesAt, asks_for, asks_on, asks_with, asks_with_on, header_by}
 use Rattle.implib_archive_link.specs.LldWay.{IsWantedBy, short_of_export}
 use Rattle.implib_archive_link.specs.Results.{AreHeadersOf}
-use Rattle.implib_link_instances.specs.Archives.NearMisses.{NearAreSearched, NearCallsArrive, NearHaveArchive, NearIsBuiltByLld, NearIsHeaderOf, NearIsWantedBy, NearLeadsToFirst, NearLldArrives, NearPullsInAt, WorkedIndexes, WorkedReads, asking_stack, stack}
+use Rattle.implib_link_instances.specs.Archives.NearMisses.{NearAreMembersAt, NearAreSearched, NearCallsArrive, NearHaveArchive, NearIsBuiltByLld, NearIsHeaderOf, NearIsWantedBy, NearLeadsToFirst, NearLldArrives, NearPullsInAt, WorkedIndexes, WorkedReads, asking_stack, stack}
 use Rattle.implib_link.specs.Flavors.LldImports.{imports_of_lld}
 use Rattle.implib_link.specs.Flavors.LldTables.{addresses_at, directory_built}
 use Rattle.implib_link.specs.Search.Archives.{exports_of}
@@ -78,6 +78,9 @@ worked_reads = record {
   taken = λ taken takes. let x = (are_searched Gnu First (members_of three) three_gnu).wanted wanted taken takes in (x.found, (x.holds, x.read));
   led = refl;
 }
+
+pub near_are_members_at : NearAreMembersAt
+near_are_members_at = record { holds = λ x. x.holds }
 
 pub near_have_archive : NearHaveArchive
 unfolding refusal_of member_refusal members_refusal name_refusal

@@ -58,7 +58,7 @@ disjoint r s (inr behind) a first second =
 
 -- Symbols: those that the tables define are there, others are outside of them.
 
-meets_up : (List ℕ → ℕ) → List Placed → LinkedCode → Entry → Placed → Entry → Bool
+unfoldable pub meets_up : (List ℕ → ℕ) → List Placed → LinkedCode → Entry → Placed → Entry → Bool
 meets_up outside linked d (Auxiliary bytes) p x = true
 meets_up outside linked d (ASymbol t) p (Auxiliary bytes) = true
 meets_up outside linked d (ASymbol t) p (ASymbol s) =
@@ -238,7 +238,7 @@ amd64_written : built_bytes AMD64 0x2000 (imports_of_lld (shorts_on AMD64)) ≡ 
 unfolding lld_opened
 amd64_written = refl
 
-amd64_pieces : ArePiecesAt AMD64 (lld_image_on AMD64) 0x2000 0x2040 0x2068 0x2090 0x209E (imports_of_lld (shorts_on AMD64))
+pub amd64_pieces : ArePiecesAt AMD64 (lld_image_on AMD64) 0x2000 0x2040 0x2068 0x2090 0x209E (imports_of_lld (shorts_on AMD64))
 unfolding lld_opened Among
 amd64_pieces =
     built_pieces AMD64 0x2000 (imports_of_lld (shorts_on AMD64)) (lld_image_on AMD64) (tt, tt)
@@ -509,7 +509,7 @@ in_neither r not_first not_second has =
     elim fits [ inl both ↦ not_first both.0 both.1 | inr both ↦ not_second both.0 both.1 ]
 
 pub refused_tables : RefusedTables
-unfolding lld_opened RiseFrom DirectoryAt first_table second_table
+unfolding lld_opened RiseFrom DirectoryAt first_table second_table Among
 refused_tables = record {
   stand = own_stand;
   starts = λ t. let low : 0 < 0 = t.starts.0 in omega arith;
@@ -528,6 +528,7 @@ refused_tables = record {
       cc;
   in_table = record { table = first_table; held = (0, omega arith, refl); from = omega arith; to = omega arith };
   before_table = in_neither (record { start = 0x2060; bytes = eight_bytes 0 }) (λ from to. omega arith) (λ from to. omega arith);
+  of_no_table = λ x. let held = contains_among x.table [] x.held in held;
   behind_table = in_neither (record { start = 0x2078; bytes = eight_bytes 0 }) (λ from to. omega arith) (λ from to. omega arith);
   arm64_table = λ can. differ 0 4 (sym can.1) (omega arith);
   arm64_base = λ can. differ 0 4 (sym can.0) (omega arith);

@@ -11,7 +11,8 @@ use Rattle.implib.proofs.Link.Ranges.{Among}
 use Rattle.implib_link.proofs.Gnu.Memory.{holder, not_in_both}
 use Rattle.implib.specs.Link.Image.{Range, image_of}
 use Rattle.implib_link.specs.Gnu.Choices.{AreSections, plain_range}
-use Rattle.std.proofs.Common.{◌≡◌, ℕ, ◌+◌, ◌<◌, ◌≤◌, ◌^◌, List, [], ◌∷◌, ◌++◌, codes, length, Some, None, refl, ap, sym, ◌∙◌, subst, arith, inl, inr}
+use Rattle.std.proofs.Common.{◌≡◌, ℕ, suc, ◌+◌, ◌<◌, ◌≤◌, ◌^◌, List, [], ◌∷◌, ◌++◌, codes, length, Some, None, refl, ap, sym, ◌∙◌, subst, arith, inl, inr}
+use Rattle.std.proofs.lemmas.List.{length-append}
 use Rattle.std.proofs.lemmas.Bool.{true≢false}
 use Rattle.implib.specs.declared.machine.MachineType.TheVariants.{I386, AMD64}
 use Rattle.implib.specs.Formats.Bytes.{u32_bytes}
@@ -225,11 +226,18 @@ near_has_branch = record {
   counts = λ x. let type : 6 ≡ x.type = kind_of (field 11 1 i386_dir32) (field 11 x.field.symbol x.type) x.field.alone in differ 6 0x14 (type ∙ x.counts.0) (omega arith);
 }
 
+three_bytes : (bytes : List ℕ) → length bytes ≡ 4 → 0xFF ∷ 0x15 ∷ 0 ∷ 0 ∷ 0 ∷ [] ≡ 0xFF ∷ 0x15 ∷ (bytes ++ []) → ⊥
+three_bytes bytes four same =
+    let long : 5 ≡ suc (suc (length (bytes ++ []))) = ap length same in
+    let plain : length (bytes ++ []) ≡ length bytes + 0 = length-append bytes [] in
+    omega arith
+
 pub near_has_instruction : NearHasInstruction
 near_has_instruction = record {
   alone = λ x. let two : field 5 2 i386_dir32 ∷ field 11 1 i386_dir32 ∷ [] ≡ field 5 x.symbol x.type ∷ [] = x.alone in cc;
   code = λ x. let other : 0x15 ≡ 0x25 = second_of (0x15 ∷ 0 ∷ 0 ∷ 0 ∷ 0 ∷ []) (0x25 ∷ (x.field ++ [])) x.code in differ 0x15 0x25 other (omega arith);
   counts = λ x. let type : 0x14 ≡ x.type = kind_of (field 37 3 i386_rel32) (field 37 x.symbol x.type) x.alone in differ 6 0x14 (sym x.counts.0 ∙ sym type) (omega arith);
+  four = λ x. three_bytes x.field x.four x.code;
 }
 
 directory_long : 0 < length (directory_built AMD64 0x2040 0x209E 0x2068 two_dlls)

@@ -30,7 +30,9 @@ near_is_entry = record {
   descriptors = λ x. not_empty _ _ x.descriptors;
   lookup = λ x. none_some _ x.lookup;
   address = λ x. none_some _ x.address;
-  symbol = λ x. true≢false (ap (finds (codes "__imp_aone")) x.symbol);
+  symbol = λ x. true≢false (sym x.symbol);
+  symbol_of_code = λ x. true≢false (sym x.symbol);
+  symbol_older = λ x. true≢false (sym x.symbol);
 }
 
 pub near_is_tail : NearIsTail

@@ -226,6 +226,10 @@ near_instruction_arrives = record {
       let led : Some 0x1_4000_0081 ≡ Some (0x1_4000_0000 + x.entry) = sym (ap (λ f. operand_leads AMD64 0x1_4000_100D 0 (number_in f)) field) ∙ x.leads in
       let at : x.entry ≡ 0x81 = entry_is 0x1_4000_0000 x.entry 0x81 led in
       differ 0x80 0x81 (sym (open_entry x.entry x.own) ∙ at) (omega arith);
+  four = λ x.
+      let four : length x.field ≡ 4 = x.four in
+      let long : length (x.field ++ []) ≡ length x.field + 0 = length-append x.field [] in
+      missing (two_ranges 0x100B (0xFF ∷ 0x15 ∷ 0x80 ∷ 0 ∷ 1 ∷ []) open_address) (0xFF ∷ 0x15 ∷ (x.field ++ [])) 0x100B 0x1010 x.there (omega arith) (omega arith) refl;
 }
 
 -- Pages.

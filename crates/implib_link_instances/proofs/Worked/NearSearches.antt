@@ -125,6 +125,7 @@ near_is_weak_short = record {
   alias = weak_short two_msvc (codes "queue" ∷ []) listing refl;
   held_and_among = weak_short [] (codes "bar" ∷ []) (weak_named (codes "bar") (codes "baz")) refl;
   listed = weak_short two_msvc (codes "bar" ∷ codes "queue" ∷ []) listing refl;
+  is = weak_short two_msvc (codes "bars" ∷ []) (weak_named (codes "bars") (codes "baz")) refl;
 }
 
 -- What is used, and what is taken.

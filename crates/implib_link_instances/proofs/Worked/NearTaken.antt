@@ -19,7 +19,7 @@ use Rattle.implib_link.specs.Gnu.Program.{linked_symbols}
 use Rattle.implib_link.specs.Flavors.Program.{LinksAmong, members_linked, null_member, objects_taken}
 use Rattle.implib_link.specs.Flavors.Expansion.{expanded_in}
 use Rattle.implib_link_instances.specs.Worked.Flavors.{foo_input as foo_flavor}
-use Rattle.implib_link_instances.specs.Worked.NearPrograms.{lld_range, mid_alone}
+use Rattle.implib_link_instances.specs.Worked.NearPrograms.{lld_range, mid_alone, short_of}
 use Rattle.implib_link_instances.specs.Worked.Programs.{touching_8, zed_input}
 use Rattle.implib_link_instances.specs.Worked.NearTaken.{NearAreBounded, NearImportsWanted, NearIsArranged, NearIsImportedBy, NearIsLinkedOfWanted, NearIsTaken, NearRunLinks, NearTakesOfLibraries, bare_tables, nul_within}
 use Rattle.implib_link_instances.specs.Worked.Search.{members_of, three}
@@ -112,6 +112,20 @@ unfolding lld_opened
 first_group zero group is = refl
 first_group (suc i) group is = let none : None ≡ Some group = is in cc
 
+abbrev other_time : ShortImport
+other_time = record (short_of (codes "beta.dll") (codes "mid") 7) { time = 1 }
+
+not_alone : (j : ℕ) → slice_get mid_alone j ≡ Some other_time → ⊥
+not_alone zero held =
+    let same : short_of (codes "beta.dll") (codes "mid") 7 ≡ other_time = cc in
+    differ 0 1 (ap (λ (r : ShortImport). r.time) same) (omega arith)
+not_alone (suc j) held = cc
+
+no_other_time : (i j : ℕ) (group : List ShortImport) → slice_get (grouped mid_alone) i ≡ Some group → slice_get group j ≡ Some other_time → ⊥
+unfolding lld_opened
+no_other_time zero j group is held = (let alone : mid_alone ≡ group = cc in not_alone j (subst (λ g. slice_get g j ≡ Some other_time) (sym alone) held))
+no_other_time (suc i) j group is held = let none : None ≡ Some group = is in cc
+
 mid_table : NumberAt (lld_range mid_alone ∷ []) 4 0x2010 0x2038
 unfolding lld_opened
 mid_table = number (lld_range mid_alone ∷ []) 4 0x2010 0x2038 (0x38 ∷ 0x20 ∷ 0 ∷ 0 ∷ []) refl refl refl
@@ -124,6 +138,7 @@ near_is_imported_by = record {
       let found : NumberAt (lld_range mid_alone ∷ []) 4 0x2010 x.loads.plain.addresses = subst (λ n. NumberAt (lld_range mid_alone ∷ []) 4 (0x2000 + 20 * n + 16) x.loads.plain.addresses) first x.loads.plain.addresses_field in
       let table : x.loads.plain.addresses ≡ 0x2040 = subst (λ n. x.loads.plain.addresses ≡ 0x2040 + 8 * thunks_until n (imports_of_lld mid_alone)) first x.its_table in
       differ 0x2038 0x2040 (sym (number_once (lld_range mid_alone ∷ []) 4 0x2010 x.loads.plain.addresses 0x2038 found mid_table) ∙ table) (omega arith);
+  its_group_and_its_place = λ x. no_other_time x.i x.j x.group x.its_group x.its_place;
 }
 
 -- a range of a size at an address

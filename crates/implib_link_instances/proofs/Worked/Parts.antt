@@ -32,7 +32,7 @@ use Rattle.implib_link_instances.proofs.Worked.LldPrograms.{disjoint, meet_test,
 use Rattle.implib_link_instances.proofs.Worked.OtherLibraries.{all_claim_none, all_hold_fields, worked_beside}
 use Rattle.implib_link_instances.proofs.Worked.Programs.{admissible_by, distinct_by, instruction_by, opened}
 
-written_by : (machine : MachineType) (bases : Bases) (parts : List Part) (objects : List Object) (written : List Range) (tables : List Table) → AllByRecursion (IsPart machine) parts →
+pub written_by : (machine : MachineType) (bases : Bases) (parts : List Part) (objects : List Object) (written : List Range) (tables : List Table) → AllByRecursion (IsPart machine) parts →
     IsProgramOfParts machine bases parts objects → AllByRecursion (λ (p : Part). list_all (stores_none machine) p.objects ≡ true) parts → image_of machine bases (placed_from bases objects) ≡ written →
     packed_tables (thunk_width machine) bases.addresses (map (λ (p : Part). p.table) parts) ≡ tables → IsWritten machine bases parts objects written tables
 written_by machine bases parts objects written tables are program stores image same = record {
@@ -86,7 +86,7 @@ zzz_is = record {
   sized = all_hold_fields zzz_objects refl;
 }
 
-kernel_is : IsPart AMD64 kernel
+pub kernel_is : IsPart AMD64 kernel
 unfolding opened BeginWithHead AreEntries
 kernel_is = record {
   objects = (
@@ -96,7 +96,7 @@ kernel_is = record {
   sized = all_hold_fields kernel.objects refl;
 }
 
-i386_kernel_is : IsPart I386 i386_kernel
+pub i386_kernel_is : IsPart I386 i386_kernel
 unfolding opened BeginWithHead AreEntries
 i386_kernel_is = record {
   objects = (
@@ -114,11 +114,11 @@ zzz_stores : list_all (stores_none AMD64) zzz_part.objects ≡ true
 unfolding opened
 zzz_stores = refl
 
-kernel_stores : list_all (stores_none AMD64) kernel.objects ≡ true
+pub kernel_stores : list_all (stores_none AMD64) kernel.objects ≡ true
 unfolding opened
 kernel_stores = refl
 
-i386_kernel_stores : list_all (stores_none I386) i386_kernel.objects ≡ true
+pub i386_kernel_stores : list_all (stores_none I386) i386_kernel.objects ≡ true
 unfolding opened
 i386_kernel_stores = refl
 
@@ -175,10 +175,10 @@ i386_lld_image_is : image_of I386 i386_lld_bases (placed_from i386_lld_bases i38
 unfolding opened refusal renamed_refusal alias_specs encoded_size weak_object has_tables
 i386_lld_image_is = refl
 
-zoo_are : AllByRecursion (IsPart AMD64) zoo_parts
+pub zoo_are : AllByRecursion (IsPart AMD64) zoo_parts
 zoo_are = (kernel_is, (members_are_part AMD64 zoo zoo_made, tt))
 
-zoo_stores : AllByRecursion (λ (p : Part). list_all (stores_none AMD64) p.objects ≡ true) zoo_parts
+pub zoo_stores : AllByRecursion (λ (p : Part). list_all (stores_none AMD64) p.objects ≡ true) zoo_parts
 zoo_stores = (kernel_stores, (members_store_none AMD64 zoo zoo_made, tt))
 
 i386_zoo_are : AllByRecursion (IsPart I386) i386_zoo_parts
@@ -199,7 +199,7 @@ worked_parts = record {
 
 -- The code.
 
-is_apart : Range → Range → Bool
+unfoldable pub is_apart : Range → Range → Bool
 is_apart r s = nat_le (range_end r) s.start || nat_le (range_end s) r.start
 
 apart_by_test : (r s : Range) → is_apart r s ≡ true → AreApart r s
@@ -214,11 +214,11 @@ each_apart : (r : Range) (rs : List Range) → list_all (is_apart r) rs ≡ true
 each_apart r [] test = tt
 each_apart r (s ∷ rs) test = let parts = and_parts (is_apart r s) (list_all (is_apart r) rs) test in (apart_by_test r s parts.0, each_apart r rs parts.1)
 
-all_apart_test : List Range → Bool
+unfoldable pub all_apart_test : List Range → Bool
 all_apart_test [] = true
 all_apart_test (r ∷ rs) = list_all (is_apart r) rs && all_apart_test rs
 
-all_apart : (rs : List Range) → all_apart_test rs ≡ true → AllApart rs
+pub all_apart : (rs : List Range) → all_apart_test rs ≡ true → AllApart rs
 unfolding all_apart_test
 all_apart [] test = tt
 all_apart (r ∷ rs) test = let parts = and_parts (list_all (is_apart r) rs) (all_apart_test rs) test in (each_apart r rs parts.0, all_apart rs parts.1)

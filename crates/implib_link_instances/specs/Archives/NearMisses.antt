@@ -17,7 +17,7 @@ use Rattle.implib_archive.specs.declared.kind.Kind.TheVariants.{Gnu}
 use Rattle.implib_archive_link.specs.InBytes.{First, PullsInAt, Second, TakesAt, asks_for, header_by}
 use Rattle.implib_archive_link.specs.LldWay.{IsBuiltByLld, IsWantedBy, LldArrives}
 use Rattle.implib_archive_link.specs.Way.{CallsArrive}
-use Rattle.implib_archive_link.specs.Results.{AreSearched, HaveArchive, IsHeaderOf, LeadsToFirst}
+use Rattle.implib_archive_link.specs.Results.{AreMembersAt, AreSearched, HaveArchive, IsHeaderOf, LeadsToFirst}
 use Rattle.implib_link.specs.Flavors.LldImports.{imports_of_lld}
 use Rattle.implib_link.specs.Flavors.LldTables.{addresses_at}
 use Rattle.implib_link.specs.Search.Search.{Takes}
@@ -62,6 +62,10 @@ pub record WorkedReads : Type 0 where
 pub record NearHaveArchive : Type 0 where
   pub accepted : HaveArchive Gnu First (record { name = []; bytes = []; symbols = [] } ∷ []) → ⊥
   pub has : HaveArchive Gnu Second worked_members → ⊥
+
+-- the first member, of which nothing holds
+pub record NearAreMembersAt : Type 0 where
+  pub holds : AreMembersAt Gnu worked_members (182 ∷ []) (λ found. ⊥) → ⊥
 
 -- the second linker member of GNU's kind, which has none
 pub record NearLeadsToFirst : Type 0 where

@@ -318,6 +318,7 @@ pub record RefusedTables : Type 0 where
   pub in_table : IsInTable 8 own_tables.tables (record { start = 0x2070; bytes = eight_bytes 0 })
   pub before_table : IsInTable 8 own_tables.tables (record { start = 0x2060; bytes = eight_bytes 0 }) → ⊥
   pub behind_table : IsInTable 8 own_tables.tables (record { start = 0x2078; bytes = eight_bytes 0 }) → ⊥
+  pub of_no_table : IsInTable 8 [] (record { start = 0x2070; bytes = eight_bytes 0 }) → ⊥
   -- ARM64 loads at multiples of 8, I386 below 2^32, ARMNT's thunks are not claimed
   pub arm64_table : CanReadFrom ARM64 0x1_4000_0000 0x206C → ⊥
   pub arm64_base : CanReadFrom ARM64 0x1_4000_0004 0x2068 → ⊥

@@ -132,11 +132,18 @@ pub record NearHasBranch : Type 0 where
   pub within : HasBranch AMD64 (passing_at AMD64) 52 5 (imp_open AMD64) → ⊥
   pub counts : HasBranch I386 (passing_at I386) 11 0 (imp_open I386) → ⊥
 
--- `push` with a part of the call behind it; other bytes than the call's; and the field of a jump
+-- a call without its last byte
+abbrev pub short_call : LinkedCode
+short_call = record (passing_at I386) {
+  code = section text_name 0 (0xFF ∷ 0x15 ∷ 0 ∷ 0 ∷ 0 ∷ []) (record { offset = 2; symbol = 1; kind = i386_dir32 } ∷ []);
+}
+
+-- `push` with a part of the call behind it; other bytes than the call's; the field of a jump; and such a call
 pub record NearHasInstruction : Type 0 where
   pub alone : HasInstruction I386 (passing_at I386) 4 (0x68 ∷ []) (0xFF ∷ 0x15 ∷ 0 ∷ []) (codes "hello") → ⊥
   pub code : HasInstruction I386 (passing_at I386) 9 (0xFF ∷ 0x25 ∷ []) [] (imp_open I386) → ⊥
   pub counts : HasInstruction I386 (passing_at I386) 36 (0xE9 ∷ []) [] (open_on I386) → ⊥
+  pub four : HasInstruction I386 short_call 0 (0xFF ∷ 0x15 ∷ []) [] (imp_open I386) → ⊥
 
 -- no image
 pub record NearArePiecesAt : Type 0 where

@@ -45,7 +45,8 @@ one_descriptor = section (codes ".idata$2") table_flags (zeros 20) []
 abbrev pub no_table : ObjectSection
 no_table = section (codes ".idata$9") table_flags [] []
 
--- a descriptor; no lookup; an entry in a section that is aligned at 8; and another symbol
+-- a descriptor; no lookup; an entry in a section that is aligned at 8; and another symbol, that of the code, and an
+-- older one, which the object has not
 pub record NearIsEntry : Type 0 where
   pub descriptors : IsEntry AMD64 (with_more one_descriptor aone_object) aone → ⊥
   pub lookup : IsEntry AMD64 (with_instead (codes ".idata$4") no_table aone_object) aone → ⊥
@@ -53,6 +54,8 @@ pub record NearIsEntry : Type 0 where
       (with_instead (codes ".idata$5") (section (codes ".idata$5") 0xC040_0000 (zeros 8) (relocation AMD64 0 6 ∷ [])) aone_object)
       aone → ⊥
   pub symbol : IsEntry AMD64 aone_object (asking (codes "aone") 1 (codes "__imp_atwo")) → ⊥
+  pub symbol_of_code : IsEntry AMD64 aone_object (asking (codes "aone") 1 (codes "aone")) → ⊥
+  pub symbol_older : IsEntry AMD64 aone_object (asking (codes "aone") 1 (codes "___impaone")) → ⊥
 
 -- a descriptor; and no null thunk in one of the tables
 pub record NearIsTail : Type 0 where

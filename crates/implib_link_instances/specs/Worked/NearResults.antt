@@ -149,11 +149,13 @@ pub record NearHasPointer : Type 0 where
       52 (imp_open AMD64) → ⊥
   pub stores : HasPointer I386 (passing_at I386) 37 (open_on I386) → ⊥
 
--- the call at 0x100B to the next byte
+-- the call at 0x100B to the next byte; and by I386's rule one without its last byte, in an image at 0x10000
 pub record NearInstructionArrives : Type 0 where
   pub leads : InstructionArrives AMD64 0x1_4000_0000 linked_on_amd64
       (two_ranges 0x100B (0xFF ∷ 0x15 ∷ 0x70 ∷ 0xF0 ∷ 0xFF ∷ 0xFF ∷ []) open_address) 0x100B (0xFF ∷ 0x15 ∷ []) []
       (imp_open AMD64) open_address → ⊥
+  pub four : InstructionArrives I386 0x1_0000 linked_on_amd64 (two_ranges 0x100B (0xFF ∷ 0x15 ∷ 0x80 ∷ 0 ∷ 1 ∷ []) open_address)
+      0x100B (0xFF ∷ 0x15 ∷ []) [] (imp_open AMD64) open_address → ⊥
 
 -- ARM64's `adrp x8` at 0x100C and `ldr x8, [x8]` at 0x1010
 abbrev pub Paged : List Range → Type 0

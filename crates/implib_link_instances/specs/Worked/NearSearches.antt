@@ -65,6 +65,7 @@ pub record NearIsWeakShort : Type 0 where
   pub alias : IsWeakShort two_msvc (codes "queue" ∷ []) listing → ⊥
   pub held_and_among : IsWeakShort [] (codes "bar" ∷ []) (weak_named (codes "bar") (codes "baz")) → ⊥
   pub listed : IsWeakShort two_msvc (codes "bar" ∷ codes "queue" ∷ []) listing → ⊥
+  pub is : IsWeakShort two_msvc (codes "bars" ∷ []) (weak_named (codes "bars") (codes "baz")) → ⊥
 
 -- an import that nothing names, and data by its bare name
 pub record NearIsUsed : Type 0 where

@@ -71,10 +71,12 @@ pub record NearRunLinks : Type 0 where
   pub targets : RunLinks AMD64 (program_image AMD64 touching_8) [] touching_8 foo_run → ⊥
   pub defined : RunLinks AMD64 (program_image AMD64 touching_8) [] touching_8 foo_run → ⊥
 
--- the address tables 8 bytes on
+-- the address tables 8 bytes on; and a short import of another time, which was not taken
 pub record NearIsImportedBy : Type 0 where
   pub its_table : IsImportedBy AMD64 0x2000 0x2040 mid_alone (lld_range mid_alone ∷ []) (lld_defines mid_alone ∷ [])
       (short_of (codes "beta.dll") (codes "mid") 7) → ⊥
+  pub its_group_and_its_place : IsImportedBy AMD64 0x2000 0x2038 mid_alone (lld_range mid_alone ∷ [])
+      (lld_defines mid_alone ∷ []) (record (short_of (codes "beta.dll") (codes "mid") 7) { time = 1 }) → ⊥
 
 -- a DLL of which nothing is chosen, and tables of some bytes, an address table and another one
 abbrev pub nothing_chosen : List LinkInput

@@ -2,7 +2,7 @@
 
 ghost use Rattle.implib_link_instances.specs.Archives.NearMisses.{NearAreSearched, NearCallsArrive, NearIsBuiltByLld};
 ghost use Rattle.implib_link_instances.specs.Archives.NearMisses.{NearIsWantedBy, NearLeadsToFirst, NearLldArrives};
-ghost use Rattle.implib_link_instances.specs.Archives.NearMisses.{NearHaveArchive, NearIsHeaderOf};
+ghost use Rattle.implib_link_instances.specs.Archives.NearMisses.{NearAreMembersAt, NearHaveArchive, NearIsHeaderOf};
 ghost use Rattle.implib_link_instances.specs.Archives.NearMisses.{NearPullsInAt, WorkedIndexes, WorkedReads};
 ghost use Rattle.implib_link_instances.specs.Archives.NearBothWay.{NearAreLinkedForBoth, NearBothArrive};
 ghost use Rattle.implib_link_instances.specs.Archives.Worked.{WorkedLibraries, WorkedSearches};
@@ -44,6 +44,7 @@ pub fn near_misses_in_bytes()
     ensures indexes { WorkedIndexes }
     ensures reads { WorkedReads }
     ensures leads { NearLeadsToFirst }
+    ensures members { NearAreMembersAt }
     ensures searched { NearAreSearched }
 {}
 
