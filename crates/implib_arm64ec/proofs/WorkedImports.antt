@@ -38,6 +38,9 @@ worked_symbols = record {
   variable = refl;
   variable_never_marked = refl;
   constant = refl;
+  marked_variable = refl;
+  marked_constant = refl;
+  marked_cplusplus_constant = refl;
 }
 
 pub worked_readings : WorkedReadings

@@ -1,7 +1,7 @@
 -- The short imports of ARM64EC, and the symbols that an archive lists for each (LLVM, "COFFImportFile.cpp").
 -- They are those of other machines, but for the marks of functions, and for a third text, which every function
 -- by name has.
-use Rattle.std.specs.Prelude.{ℕ, Bool, not, ◌&&◌, List, [], ◌∷◌, ◌++◌, codes, unwrap_or}
+use Rattle.std.specs.Prelude.{ℕ, Bool, not, ◌&&◌, List, [], ◌∷◌, ◌++◌, bytes_eq, codes, unwrap_or}
 use Rattle.std.specs.Prelude.{Option, Some, None, Result, Ok, Err, if◌then◌else◌}
 use Rattle.implib.specs.Definition.{ExportView}
 use Rattle.implib.specs.Formats.ShortImport.{ShortImport}
@@ -59,12 +59,20 @@ import_of dll e symbol = record {
 abbrev pub auxiliary_symbol : List ℕ → List ℕ
 auxiliary_symbol name = codes "__imp_aux_" ++ name
 
--- The symbols. For example, of the function `#f`: `__imp_f`, `f`, `__imp_aux_f` and `#f`.
+-- the symbol, where it has a mark and so is not the name
+abbrev pub symbol_apart : List ℕ → List ℕ → List (List ℕ)
+symbol_apart symbol plain = if bytes_eq symbol plain then [] else symbol ∷ []
+
+-- the symbols of an import with this symbol, and with this name without a mark
+abbrev pub symbols_with : Bool → List ℕ → List ℕ → List (List ℕ)
+symbols_with is_data symbol plain =
+    if is_data then imp_symbol plain ∷ []
+    else imp_symbol plain ∷ plain ∷ auxiliary_symbol plain ∷ symbol_apart symbol plain
+
+-- The symbols: a name in them never has the mark, whatever the import is. For example, of the function or the
+-- constant `#f`: `__imp_f`, `f`, `__imp_aux_f` and `#f`; of the constant `c` those of `c` alone; of data `#d`: `__imp_d`.
 abbrev pub import_symbols : ExportView → List ℕ → List (List ℕ)
-import_symbols e symbol =
-    if e.is_data then imp_symbol symbol ∷ []
-    else if e.constant then imp_symbol symbol ∷ symbol ∷ auxiliary_symbol symbol ∷ []
-    else imp_symbol (plain_symbol symbol) ∷ plain_symbol symbol ∷ auxiliary_symbol (plain_symbol symbol) ∷ symbol ∷ []
+import_symbols e symbol = symbols_with e.is_data symbol (plain_symbol symbol)
 
 -- the specification of the member of an export with this symbol
 abbrev pub import_spec : NamesOfDll → ExportView → List ℕ → MemberSpec

@@ -115,6 +115,15 @@ pub record WorkedSymbols : Type 0 where
       ≡ Ok (codes "__imp_?v@@3HA" ∷ [])
   pub constant : symbols_made (record empty_export { name = codes "c"; constant = true })
       ≡ Ok (codes "__imp_c" ∷ codes "c" ∷ codes "__imp_aux_c" ∷ [])
+  -- a mark that the definition writes, where none is made: it is off in the names
+  pub marked_variable : symbols_made (record empty_export { name = codes "#d"; is_data = true })
+      ≡ Ok (codes "__imp_d" ∷ [])
+  pub marked_constant : symbols_made (record empty_export { name = codes "#c"; constant = true })
+      ≡ Ok (codes "__imp_c" ∷ codes "c" ∷ codes "__imp_aux_c" ∷ codes "#c" ∷ [])
+  pub marked_cplusplus_constant : symbols_made
+      (record empty_export { name = codes "?cpq@@$$hYAHPEAX@Z"; constant = true })
+      ≡ Ok (codes "__imp_?cpq@@YAHPEAX@Z" ∷ codes "?cpq@@YAHPEAX@Z" ∷ codes "__imp_aux_?cpq@@YAHPEAX@Z"
+      ∷ codes "?cpq@@$$hYAHPEAX@Z" ∷ [])
 
 -- what is read of them, and bytes that are none: of another machine, and with a text too many
 pub record WorkedReadings : Type 0 where

@@ -177,15 +177,13 @@ fn symbols_of(
     ensures { IfOk result (λ symbols. map string_bytes symbols.items
         ≡ import_symbols (export_view export.now) symbol.now) }
 {
+    let address = prefixed(alloc, "__imp_", plain)?;
     if export.is_data {
-        let address = prefixed(alloc, "__imp_", symbol)?;
         return Ok(vec![in alloc; address]?);
     }
-    let name = if export.constant { symbol } else { plain };
-    let address = prefixed(alloc, "__imp_", name)?;
-    let auxiliary = prefixed(alloc, "__imp_aux_", name)?;
-    let own = String::from_str(alloc, name)?;
-    if export.constant {
+    let auxiliary = prefixed(alloc, "__imp_aux_", plain)?;
+    let own = String::from_str(alloc, plain)?;
+    if symbol == plain {
         return Ok(vec![in alloc; address, own, auxiliary]?);
     }
     let marked = String::from_str(alloc, symbol)?;
