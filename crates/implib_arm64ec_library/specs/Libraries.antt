@@ -1,8 +1,9 @@
 -- The library for ARM64EC of a definition (LLVM, "COFFImportFile.cpp"; docs/DLLTOOL.md, "ARM64EC").
-use Rattle.std.specs.Prelude.{◌≡◌, ℕ, true, List, [], Option, None, Some, drop, take, unwrap_or}
+use Rattle.std.specs.Prelude.{◌≡◌, ◌⊎◌, ℕ, true, List, [], Option, None, Some, drop, take, unwrap_or}
+use Rattle.std.specs.List.{AllByRecursion}
 use Rattle.std.specs.Str.{IsUtf8}
 use Rattle.implib.specs.declared.def.position.Position.{Position}
-use Rattle.implib.specs.declared.flavor.Flavor.TheVariants.{Msvc}
+use Rattle.implib.specs.declared.flavor.Flavor.TheVariants.{Gnu, Msvc}
 use Rattle.implib.specs.declared.machine.MachineType.TheVariants.{ARM64}
 use Rattle.implib.specs.Definition.{DefinitionView}
 use Rattle.implib.specs.Fault as cause
@@ -21,19 +22,36 @@ use Rattle.implib_arm64ec_library.specs.declared.library.Unimported.{Unimported}
 use Rattle.implib_rules.specs.declared.library.Refusal.{Refusal}
 use Rattle.implib_rules.specs.declared.library.Refusal.TheVariants.{Archive, Members, NoName}
 use Rattle.implib_rules.specs.declared.library.Refusal.TheVariants.{NotUtf8, OutOfMemory, Syntax}
+use Rattle.implib_rules.specs.LibraryName.{with_library_name}
 use Rattle.implib_rules.specs.Library.{DefinitionFor, IsRefusalOfMembers, MembersFor, RefusesText, definition_text}
 use Rattle.implib_rules.specs.Options.{LibraryOptionsView}
 use Rattle.implib_rules.specs.Places.{IsAtFault, IsAtName}
 use Rattle.implib_rules.specs.Utf8.{IsNotUtf8At}
 
--- The options under which both definitions are read: for ARM64 and Microsoft's linkers, with a third text wherever a
--- name is asked for that its symbol does not say, as each linker reads it that knows ARM64EC.
+-- The options under which the definition is read: for ARM64, and as for GNU's linker, so that each export asks for its
+-- name itself. None is weak for another, since each linker that knows ARM64EC reads a third text.
 abbrev pub arm64ec_options : LibraryOptionsView → LibraryOptionsView
-arm64ec_options options = record options { machine = ARM64; flavor = Msvc; naming = record options.naming { exports_as = true } }
+arm64ec_options options = record options { machine = ARM64; flavor = Gnu }
 
--- the options of the native definition, which is of the same DLL
+-- The options of the native definition, which is of the same DLL: those of an ordinary library for ARM64 and Microsoft's
+-- linkers, with third texts.
 abbrev pub native_options : LibraryOptionsView → List ℕ → LibraryOptionsView
-native_options options dll = record (arm64ec_options options) { dll = Some dll }
+native_options options dll = record options {
+  machine = ARM64;
+  flavor = Msvc;
+  dll = Some dll;
+  naming = record options.naming { exports_as = true };
+}
+
+-- the definition with the library's name for Microsoft's linkers, each export under the name to link by
+abbrev pub for_linkers : DefinitionView → DefinitionView
+for_linkers d = renamed (with_library_name Msvc d)
+
+-- Each export of a definition that is read so asks for its own name: none is an alias, which is weak for the symbol of
+-- another, and asks for nothing.
+abbrev pub NoneIsWeak : Type 0
+NoneIsWeak = (text : List ℕ) (options : LibraryOptionsView) (d : DefinitionView)
+    → DefinitionFor text (arm64ec_options options) d → AllByRecursion (λ e. e.alias_target ≡ []) d.exports
 
 -- The headers and the native members: those of an ordinary library for ARM64, of the native definition or of none.
 pub record AreOrdinary (native : Option (List ℕ)) (options : LibraryOptionsView) (dll : List ℕ) (headers natives : List MemberView) : Type 0 where
@@ -42,22 +60,22 @@ pub record AreOrdinary (native : Option (List ℕ)) (options : LibraryOptionsVie
   pub headers_are : headers ≡ take 3 ordinary
   pub natives_are : natives ≡ drop 3 ordinary
 
--- The library of a definition, and of a native one: headers and native members are those of an ordinary library, and
--- between them are the short imports of the definition.
-pub record IsLibraryOfTexts (bytes : List ℕ) (native : Option (List ℕ)) (options : LibraryOptionsView) (l : LibraryView) : Type 0 where
+-- The library of a definition, and of a native one, where the name of the DLL is the one given, or the definition's:
+-- headers and native members are those of an ordinary library, and between them are the short imports of the definition.
+pub record IsLibraryNamed (bytes : List ℕ) (native : Option (List ℕ)) (options : LibraryOptionsView) (l : LibraryView) : Type 0 where
   pub utf8 : IsUtf8 (definition_text bytes)
   pub definition : DefinitionView
   pub of_text : DefinitionFor (definition_text bytes) (arm64ec_options options) definition
   pub ordinary : AreOrdinary native options definition.import_name l.headers l.natives
-  pub imports : l.imports ≡ imports_of (names_for Msvc (renamed definition)) (renamed definition).exports
-  pub accepted : imports_fault (names_for Msvc (renamed definition)) (renamed definition).exports ≡ None
+  pub imports : l.imports ≡ imports_of (names_for Msvc (for_linkers definition)) (for_linkers definition).exports
+  pub accepted : imports_fault (names_for Msvc (for_linkers definition)) (for_linkers definition).exports ≡ None
 
 -- the bytes have a definition for this, whose short imports are refused
 pub record RefusesImports (bytes : List ℕ) (options : LibraryOptionsView) (fault : ImportsFault) : Type 0 where
   pub utf8 : IsUtf8 (definition_text bytes)
   pub definition : DefinitionView
   pub of_text : DefinitionFor (definition_text bytes) (arm64ec_options options) definition
-  pub refused : imports_fault (names_for Msvc (renamed definition)) (renamed definition).exports ≡ Some fault
+  pub refused : imports_fault (names_for Msvc (for_linkers definition)) (for_linkers definition).exports ≡ Some fault
 
 -- the fault of short imports is told so: its export, if it is of one, is at this position of the text
 abbrev pub IsUnimported : List ℕ → ImportsFault → Unimported → Type 0
@@ -88,11 +106,69 @@ IsRefusalOfDefinition bytes options (Members fault position) = ⊥
 IsRefusalOfDefinition bytes options (Archive fault) = ⊥
 IsRefusalOfDefinition bytes options OutOfMemory = Unit {0}
 
+-- why there is no library under the name that is given, or the definition's
+abbrev pub IsRefusalNamed : List ℕ → Option (List ℕ) → LibraryOptionsView → Arm64ecRefusal → Type 0
+IsRefusalNamed bytes native options (refusal.OfDefinition why) = IsRefusalOfDefinition bytes options why
+IsRefusalNamed bytes native options (refusal.OfNative why) = RefusesNative bytes native options why
+IsRefusalNamed bytes native options (refusal.OfImports why) = HasNoImports bytes options why
+IsRefusalNamed bytes native options refusal.OutOfMemory = Unit {0}
+
+-- the bytes have a definition, and by it the DLL has this name
+pub record NamesDll (bytes : List ℕ) (options : LibraryOptionsView) (name : List ℕ) : Type 0 where
+  pub utf8 : IsUtf8 (definition_text bytes)
+  pub definition : DefinitionView
+  pub of_text : DefinitionFor (definition_text bytes) (arm64ec_options options) definition
+  pub is : name ≡ definition.import_name
+
+-- the bytes give this name, or are a definition without one
+abbrev pub GivesName : List ℕ → LibraryOptionsView → Option (List ℕ) → Type 0
+GivesName bytes options (Some name) = NamesDll bytes options name
+GivesName bytes options None = IsRefusalOfDefinition bytes options NoName
+
+-- The name that the native definition gives, if there is one, and no other name is given.
+abbrev pub NativeNameBy : Option (List ℕ) → LibraryOptionsView → Option (List ℕ) → Option (List ℕ) → Type 0
+NativeNameBy None options dll name = name ≡ None
+NativeNameBy (Some bytes) options (Some given) name = name ≡ None
+NativeNameBy (Some bytes) options None name = GivesName bytes options name
+
+abbrev pub IsNativeName : Option (List ℕ) → LibraryOptionsView → Option (List ℕ) → Type 0
+IsNativeName native options name = NativeNameBy native options options.dll name
+
+-- The options with the name of the DLL: the one given; else that of the native definition; else none is given, and it
+-- is the definition's (LLVM, "LibDriver.cpp" and "DlltoolDriver.cpp").
+abbrev pub named : LibraryOptionsView → Option (List ℕ) → LibraryOptionsView
+named options None = options
+named options (Some name) = record options { dll = Some name }
+
+-- The library of a definition, and of a native one.
+pub record IsLibraryOfTexts (bytes : List ℕ) (native : Option (List ℕ)) (options : LibraryOptionsView) (l : LibraryView) : Type 0 where
+  pub own : Option (List ℕ)
+  pub is_own : IsNativeName native options own
+  pub library : IsLibraryNamed bytes native (named options own) l
+
+-- the native definition has no meaning, so that it can give no name
+pub record RefusesName (native : Option (List ℕ)) (options : LibraryOptionsView) (why : Refusal) : Type 0 where
+  pub bytes : List ℕ
+  pub given : native ≡ Some bytes
+  pub none : options.dll ≡ None
+  pub refused : IsRefusalOfDefinition bytes options why
+
+-- the texts have no library under the name of the DLL
+pub record RefusesTexts (bytes : List ℕ) (native : Option (List ℕ)) (options : LibraryOptionsView) (why : Arm64ecRefusal) : Type 0 where
+  pub own : Option (List ℕ)
+  pub is_own : IsNativeName native options own
+  pub refused : IsRefusalNamed bytes native (named options own) why
+
+-- a native definition is refused before the other is read, where it could give the name, or after it
+abbrev pub IsRefusalOfNative : List ℕ → Option (List ℕ) → LibraryOptionsView → Refusal → Type 0
+IsRefusalOfNative bytes native options why =
+    RefusesName native options why ⊎ RefusesTexts bytes native options (refusal.OfNative why)
+
 -- why there is no library
 abbrev pub IsRefusalOfTexts : List ℕ → Option (List ℕ) → LibraryOptionsView → Arm64ecRefusal → Type 0
-IsRefusalOfTexts bytes native options (refusal.OfDefinition why) = IsRefusalOfDefinition bytes options why
-IsRefusalOfTexts bytes native options (refusal.OfNative why) = RefusesNative bytes native options why
-IsRefusalOfTexts bytes native options (refusal.OfImports why) = HasNoImports bytes options why
+IsRefusalOfTexts bytes native options (refusal.OfDefinition why) = RefusesTexts bytes native options (refusal.OfDefinition why)
+IsRefusalOfTexts bytes native options (refusal.OfNative why) = IsRefusalOfNative bytes native options why
+IsRefusalOfTexts bytes native options (refusal.OfImports why) = RefusesTexts bytes native options (refusal.OfImports why)
 IsRefusalOfTexts bytes native options refusal.OutOfMemory = Unit {0}
 
 -- why members have no archive

@@ -6,6 +6,7 @@
 #![tactic(auto)]
 
 mod held;
+pub mod laws;
 mod library;
 #[cfg(test)]
 mod tests;

@@ -6,13 +6,15 @@ ghost use Rattle.implib_arm64ec.specs.Archive.{library_refusal};
 ghost use Rattle.implib_arm64ec.specs.LibraryImports.{IsFault, imports_fault, imports_of};
 ghost use Rattle.implib_arm64ec_library.specs.Libraries.{AreOrdinary, IsLibraryOfTexts, IsRefusalOfArchive};
 ghost use Rattle.implib_arm64ec_library.specs.Libraries.{IsRefusalOfTexts, IsUnimported};
-ghost use Rattle.implib_arm64ec_library.specs.Libraries.{arm64ec_options, native_options};
+ghost use Rattle.implib_arm64ec_library.specs.Libraries.{GivesName, IsLibraryNamed, IsNativeName, IsRefusalNamed};
+ghost use Rattle.implib_arm64ec_library.specs.Libraries.{IsRefusalOfDefinition, RefusesName};
+ghost use Rattle.implib_arm64ec_library.specs.Libraries.{arm64ec_options, for_linkers, native_options};
 ghost use Rattle.implib.specs.LibraryName.{names_for};
-ghost use Rattle.implib.specs.Renaming.{renamed};
 ghost use Rattle.implib.specs.declared.flavor.Flavor.TheVariants.{Msvc};
 ghost use Rattle.implib_rules.specs.Library.{IsRefusalOfMembers};
 ghost use Rattle.implib_rules.specs.Options.{library_options_view};
 ghost use Rattle.std.specs.Option.{option_map};
+ghost use Rattle.std.specs.String.{string_bytes};
 ghost use Rattle.std.specs.Prelude.{◌≡◌, [], IfErr, IfOk, None, OnOk, map, unwrap_or};
 
 use crate::held::held;
@@ -21,6 +23,7 @@ use implib::msvc::linked_dll;
 use implib::{Fault, Flavor, ImportLibrary, MachineType, Member};
 use implib_arm64ec::{Archive, ImportsError, ImportsFault, short_imports};
 use implib_rules::library::{Refusal, definition_for, members_for};
+use implib_rules::library_name::library_name_for;
 use implib_rules::linked::Naming;
 use implib_rules::options::LibraryOptions;
 use implib_rules::places::position_of_fault;
@@ -71,17 +74,13 @@ impl From<AllocError> for Arm64ecRefusal {
     }
 }
 
-// The options under which both definitions are read.
+// The options under which the definition is read.
 fn arm64ec_options<'a>(options: &LibraryOptions<'a>) -> LibraryOptions<'a>
     ensures { library_options_view result ≡ arm64ec_options (library_options_view options.now) }
 {
     LibraryOptions {
         machine: MachineType::ARM64,
-        flavor: Flavor::Msvc,
-        naming: Naming {
-            exports_as: true,
-            ..options.naming
-        },
+        flavor: Flavor::Gnu,
         ..*options
     }
 }
@@ -91,8 +90,14 @@ fn native_options<'a>(options: &LibraryOptions<'a>, dll: &'a str) -> LibraryOpti
     ensures { library_options_view result ≡ native_options (library_options_view options.now) dll.now }
 {
     LibraryOptions {
+        machine: MachineType::ARM64,
+        flavor: Flavor::Msvc,
         dll: Some(dll),
-        ..arm64ec_options(options)
+        naming: Naming {
+            exports_as: true,
+            ..options.naming
+        },
+        ..*options
     }
 }
 
@@ -113,11 +118,13 @@ fn told(alloc: Global, text: &str, fault: ImportsFault) -> Result<Unimported, Al
     Ok(Unimported { fault, position })
 }
 
-// A definition, each export under the name to link by.
-fn renamed(def: ModuleDef) -> ModuleDef
-    ensures { definition_view result ≡ renamed (definition_view def) }
+// A definition with its library's name for Microsoft's linkers, each export under the name to link by.
+fn for_linkers(alloc: Global, def: ModuleDef) -> Result<ModuleDef, AllocError>
+    ensures { IfOk result (λ linked. definition_view linked ≡ for_linkers (definition_view def)) }
 {
-    ImportLibrary::from_def(def, MachineType::ARM64, Flavor::Msvc).into_def()
+    let mut def = def;
+    def.library_name = library_name_for(alloc, Flavor::Msvc, &def)?;
+    Ok(ImportLibrary::from_def(def, MachineType::ARM64, Flavor::Msvc).into_def())
 }
 
 // The short imports of a definition.
@@ -168,27 +175,20 @@ fn ordinary_for(
     Ok((headers, natives))
 }
 
-/// The members of the library for ARM64EC of a definition's bytes, and of a native definition's, under the
-/// DLL's name that is given, or that of the definition. The machine and the flavour of the options are of
-/// no effect, nor is a name of a DLL that the native definition has.
-///
-/// # Errors
-///
-/// `OfDefinition`: bytes that are not UTF-8, or what `definition_for` refuses. `OfImports`: a name that a short
-/// import of ARM64EC cannot have. `OfNative`: what `members_for` refuses of the native definition.
-pub fn arm64ec_library_for(
+// The library under the name of the DLL that is given, or that of the definition.
+fn library_named(
     alloc: Global,
     bytes: &[u8],
     native: Option<&[u8]>,
     options: &LibraryOptions<'_>,
 ) -> Result<Arm64ecLibrary, Arm64ecRefusal>
-    ensures made { IfOk result (λ library. IsLibraryOfTexts bytes.now
+    ensures made { IfOk result (λ library. IsLibraryNamed bytes.now
         (option_map (λ text. text.now) native.entry) (library_options_view options.now) (record {
           headers = map member_view library.headers.items;
           imports = map member_view library.imports.items;
           natives = map member_view library.natives.items;
         })) }
-    ensures refused { IfErr result (IsRefusalOfTexts bytes.now
+    ensures refused { IfErr result (IsRefusalNamed bytes.now
         (option_map (λ text. text.now) native.entry) (library_options_view options.now)) }
 {
     let read = DefinitionText::new(alloc, bytes)?;
@@ -202,7 +202,7 @@ pub fn arm64ec_library_for(
         Ok(def) => def,
         Err(refusal) => return Err(Arm64ecRefusal::OfDefinition(refusal)),
     };
-    let def = renamed(def);
+    let def = for_linkers(alloc, def)?;
     let imports = match imports_for(alloc, &def) {
         Ok(imports) => imports,
         Err(ImportsError::Invalid(fault)) => {
@@ -218,6 +218,84 @@ pub fn arm64ec_library_for(
         }),
         Err(refusal) => Err(Arm64ecRefusal::OfNative(refusal)),
     }
+}
+
+// The name of the DLL by a definition's bytes, if it has one.
+fn name_by(
+    alloc: Global,
+    bytes: &[u8],
+    options: &LibraryOptions<'_>,
+) -> Result<Option<String>, Refusal>
+    ensures given { IfOk result (λ name. GivesName bytes.now
+        (library_options_view options.now) (option_map string_bytes name)) }
+    ensures refused { IfErr result (IsRefusalOfDefinition bytes.now
+        (library_options_view options.now)) }
+{
+    let read = DefinitionText::new(alloc, bytes)?;
+    let text = match read.text() {
+        Ok(text) => text,
+        Err(position) => return Err(Refusal::NotUtf8(position)),
+    };
+    match definition_for(alloc, text, &arm64ec_options(options)) {
+        Ok(def) => Ok(Some(def.import_name)),
+        Err(Refusal::NoName) => Ok(None),
+        Err(refusal) => Err(refusal),
+    }
+}
+
+// The name that the native definition gives the DLL, where none is given.
+fn native_name(
+    alloc: Global,
+    native: Option<&[u8]>,
+    options: &LibraryOptions<'_>,
+) -> Result<Option<String>, Refusal>
+    ensures given { IfOk result (λ name. IsNativeName (option_map (λ text. text.now) native.entry)
+        (library_options_view options.now) (option_map string_bytes name)) }
+    ensures refused { IfErr result (RefusesName (option_map (λ text. text.now) native.entry)
+        (library_options_view options.now)) }
+{
+    match native {
+        Some(bytes) if options.dll.is_none() => name_by(alloc, bytes, options),
+        _ => Ok(None),
+    }
+}
+
+/// The members of the library for ARM64EC of a definition's bytes, and of a native definition's. The DLL has
+/// the name that is given, or else that of the native definition, or else the definition's. The machine and
+/// the flavour of the options are of no effect.
+///
+/// # Errors
+///
+/// `OfDefinition`: bytes that are not UTF-8, or what `definition_for` refuses. `OfImports`: a name that a short
+/// import of ARM64EC cannot have. `OfNative`: what `members_for` refuses of the native definition, first what is
+/// no definition, where it could name the DLL.
+pub fn arm64ec_library_for(
+    alloc: Global,
+    bytes: &[u8],
+    native: Option<&[u8]>,
+    options: &LibraryOptions<'_>,
+) -> Result<Arm64ecLibrary, Arm64ecRefusal>
+    ensures made { IfOk result (λ library. IsLibraryOfTexts bytes.now
+        (option_map (λ text. text.now) native.entry) (library_options_view options.now) (record {
+          headers = map member_view library.headers.items;
+          imports = map member_view library.imports.items;
+          natives = map member_view library.natives.items;
+        })) }
+    ensures refused { IfErr result (IsRefusalOfTexts bytes.now
+        (option_map (λ text. text.now) native.entry) (library_options_view options.now)) }
+{
+    let own = match native_name(alloc, native, options) {
+        Ok(own) => own,
+        Err(refusal) => return Err(Arm64ecRefusal::OfNative(refusal)),
+    };
+    let named = match &own {
+        Some(name) => LibraryOptions {
+            dll: Some(name.as_str()),
+            ..*options
+        },
+        None => *options,
+    };
+    library_named(alloc, bytes, native, &named)
 }
 
 /// The archive of the members of a library for ARM64EC.

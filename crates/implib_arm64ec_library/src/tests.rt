@@ -13,6 +13,10 @@ use std::test::Fail;
 const DEFINITION: &[u8] = b"LIBRARY t.dll\nEXPORTS\nfunc\n?cpp@@YAHPEAX@Z\nbyord @7 NONAME\n\
     alias == target\ndat DATA\ncon CONSTANT\nhidden PRIVATE\n";
 
+// Names of the DLL that have a symbol of their own and others beside it; marks that the text has already.
+const NAMES: &[u8] =
+    b"LIBRARY t.dll\nEXPORTS\np EXPORTAS v\nv\nq == v\nw @5 NONAME\nr == w\n#con CONSTANT\n#dat DATA\n";
+
 const NATIVE: &[u8] = b"LIBRARY t.dll\nEXPORTS\nnative\n#odd\nndata DATA\n";
 
 fn options<'a>(dll: Option<&'a str>) -> LibraryOptions<'a> {
@@ -40,9 +44,9 @@ fn sum(bytes: &[u8]) -> u64 {
 }
 
 // The length and the sum of a library.
-fn made(rt: &HostRuntime, native: Option<&[u8]>) -> Result<(usize, u64), Fail> {
+fn made(rt: &HostRuntime, text: &[u8], native: Option<&[u8]>) -> Result<(usize, u64), Fail> {
     let alloc = rt.alloc();
-    let Ok(library) = arm64ec_library_for(alloc, DEFINITION, native, &options(None)) else {
+    let Ok(library) = arm64ec_library_for(alloc, text, native, &options(None)) else {
         return Ok((0, 0));
     };
     let Ok(archive) = arm64ec_archive(&library, alloc) else {
@@ -54,8 +58,16 @@ fn made(rt: &HostRuntime, native: Option<&[u8]>) -> Result<(usize, u64), Fail> {
 
 #[test]
 fn libraries_are_those_of_llvm_dlltool(rt: HostRuntime) -> Result<(), Fail> {
-    assert_eq!(rt; made(&rt, None)?, (2154, 0x6f284ba862b93335));
-    assert_eq!(rt; made(&rt, Some(NATIVE))?, (2570, 0x28426a21a56baf8d));
+    assert_eq!(rt; made(&rt, DEFINITION, None)?, (2154, 0x6f284ba862b93335));
+    assert_eq!(rt;
+        made(&rt, DEFINITION, Some(NATIVE))?,
+        (2570, 0x28426a21a56baf8d)
+    );
+    assert_eq!(rt; made(&rt, NAMES, None)?, (2144, 0x74e3b2d516e1491b));
+    // The native definition names the DLL.
+    let native = b"LIBRARY u.dll\nEXPORTS\ng\n";
+    let made = made(&rt, b"LIBRARY t.dll\nEXPORTS\nf\n", Some(native))?;
+    assert_eq!(rt; made, (1510, 0x79c41c308caa22c9));
     Ok(())
 }
 

@@ -9,7 +9,7 @@ use Rattle.implib_arm64ec_library.specs.Libraries.{AreOrdinary, arm64ec_options,
 use Rattle.implib_rules.specs.Library.{DefinitionFor, IsRefusalOfMembers}
 use Rattle.implib_rules.specs.Options.{library_options_view}
 use Rattle.implib_rules.proofs.Made.{found_in}
-use Rattle.implib_arm64ec_library.proofs.library.arm64ec_library_for.Goals as goal
+use Rattle.implib_arm64ec_library.proofs.library.library_named.Goals as goal
 
 pub returns-in-Ok-ordinary_for-clause-made : goal.returns-in-Ok-ordinary_for-clause-made
 returns-in-Ok-ordinary_for-clause-made c =
@@ -25,10 +25,10 @@ returns-in-Ok-ordinary_for-clause-made c =
       utf8 = found.1;
       definition = d;
       of_text = subst (λ t. DefinitionFor t (arm64ec_options options) d) found.0 read;
-      ordinary = subst (λ dll. AreOrdinary native options dll (map member_view c.in-Ok-ordinary_for.headers.items) (map member_view c.in-Ok-ordinary_for.natives.items)) (c.as_str.ensures.value ∙ ap (λ (v : DefinitionView). v.import_name) c.renamed-def.ensures)
+      ordinary = subst (λ dll. AreOrdinary native options dll (map member_view c.in-Ok-ordinary_for.headers.items) (map member_view c.in-Ok-ordinary_for.natives.items)) (c.as_str.ensures.value ∙ ap (λ (v : DefinitionView). v.import_name) c.in_ok-def.ensures)
           c.in-Ok-ordinary_for.ensures.made;
-      imports = subst (λ (v : DefinitionView). imports ≡ imports_of (names_for Msvc v) v.exports) c.renamed-def.ensures c.in-Ok-imports_for.ensures.made;
-      accepted = subst (λ (v : DefinitionView). imports_fault (names_for Msvc v) v.exports ≡ None) c.renamed-def.ensures c.in-Ok-imports_for.ensures.accepted;
+      imports = subst (λ (v : DefinitionView). imports ≡ imports_of (names_for Msvc v) v.exports) c.in_ok-def.ensures c.in-Ok-imports_for.ensures.made;
+      accepted = subst (λ (v : DefinitionView). imports_fault (names_for Msvc v) v.exports ≡ None) c.in_ok-def.ensures c.in-Ok-imports_for.ensures.accepted;
     }
 
 pub returns-clause-refused : goal.returns-clause-refused
@@ -45,5 +45,5 @@ returns-clause-refused c =
       definition = d;
       of_text = subst (λ t. DefinitionFor t (arm64ec_options options) d) found.0 read;
       refused = subst (λ dll. IsRefusalOfMembers (unwrap_or native []) (native_options options dll) c.in-Err-ordinary_for.refusal)
-          (c.as_str.ensures.value ∙ ap (λ (v : DefinitionView). v.import_name) c.renamed-def.ensures) c.in-Err-ordinary_for.ensures.refused;
+          (c.as_str.ensures.value ∙ ap (λ (v : DefinitionView). v.import_name) c.in_ok-def.ensures) c.in-Err-ordinary_for.ensures.refused;
     }
