@@ -3,7 +3,7 @@
 ghost use Rattle.std.specs.Prelude.{None};
 
 use implib::def::Position;
-use implib_driver::message::undelayed_text;
+use implib_driver::message::{UnimportedMessage, position_of_unimported, undelayed_text};
 use implib_driver::reporter::{Complaint, Reporter};
 use implib_rules::library::Refusal;
 use implib_rules::warnings::{Notice, NoticeMessage, Warning};
@@ -48,6 +48,12 @@ impl<'a> fmt::Display for Message<'a> {
                 "{} {}",
                 ShownPlace(path, why.position()),
                 undelayed_text(why),
+            ),
+            Message::Complaint(path, Complaint::Unimported(why)) => write!(
+                f,
+                "{} {}",
+                ShownPlace(path, position_of_unimported(why)),
+                UnimportedMessage(why),
             ),
             Message::Complaint(subject, complaint) => {
                 write!(f, "{}: {complaint}", ShownPath(subject))

@@ -1,5 +1,6 @@
 //! Tests of the program.
 
+mod arm64ec;
 mod calls;
 mod decorations;
 mod delays;

@@ -1,5 +1,6 @@
 -- What is known of where definitions are read from and libraries go (this project's own).
-use Rattle.std.specs.Prelude.{◌≡◌, ℕ, Bool, true, List, Option, None, Some, IfSome}
+use Rattle.std.specs.Prelude.{◌≡◌, ℕ, Bool, true, List, Option, None, Some, IfSome, codes, if◌then◌else◌}
+use Rattle.std.specs.Str.{bytes_eq}
 
 -- what is known of a disk
 pub record DiskView : Type 0 where
@@ -37,3 +38,12 @@ pub record Replaces (known : Bool) (before after : DiskView) (file : Option (Lis
   pub none_left : after.left ≡ None
   pub same_failures : after.has_failed ≡ before.has_failed
   pub same_removals : after.is_stuck ≡ before.is_stuck
+
+-- the bytes of the definition: for `-` those that standard input has left, else those of the file
+abbrev pub definition_in : Option (List ℕ) → DiskView → List ℕ → Option (List ℕ)
+definition_in input disk path = if bytes_eq path (codes "-") then input else disk.seen path
+
+-- all files are as they were, and nothing new is left
+pub record KeepsFiles (before after : DiskView) : Type 0 where
+  pub seen : after.seen ≡ before.seen
+  pub left : after.left ≡ before.left

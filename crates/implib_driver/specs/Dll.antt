@@ -9,7 +9,7 @@ use Rattle.implib.specs.Members.MemberSpec.{MemberView}
 use Rattle.implib_dll.specs.declared.section.Layout.TheVariants.{File}
 use Rattle.implib_dll.specs.Exports.{Exports, exports_in}
 use Rattle.implib_driver.specs.declared.dll.DllRefusal.{DllRefusal}
-use Rattle.implib_driver.specs.declared.dll.DllRefusal.TheVariants.{Read, NoExports, UnknownMachine, OtherMachine, OlderSymbols, Delayed, Undecorated, NameNotUtf8, Unsaid, NoName, Members, OutOfMemory}
+use Rattle.implib_driver.specs.declared.dll.DllRefusal.TheVariants.{Arm64ec, Read, NoExports, UnknownMachine, OtherMachine, OlderSymbols, Delayed, Undecorated, NameNotUtf8, Unsaid, NoName, Members, OutOfMemory}
 use Rattle.implib_driver.specs.declared.dll.DllCallError.{DllCallError}
 use Rattle.implib_driver.specs.declared.dll.DllCallError.TheVariants.{Call, Dll}
 use Rattle.implib_driver.specs.Request.{Asked, CallFaultView, RequestView, call_fault_view}
@@ -82,8 +82,9 @@ pub record IsRequested (machines : MachineType → Asked RequestView) (e : Expor
   pub machine : MachineType
   pub numbered : machine_numbered e.machine ≡ Some machine
   pub asked : machines machine ≡ Ok request
-  -- the options name no other machine
+  -- the options name no other machine, and not ARM64EC
   pub same : request.library.machine ≡ machine
+  pub ordinary : request.arm64ec ≡ None
 
 -- the options name another machine
 pub record NamesAnother (machines : MachineType → Asked RequestView) (e : Exports) : Type 0 where
@@ -93,10 +94,19 @@ pub record NamesAnother (machines : MachineType → Asked RequestView) (e : Expo
   pub asked : machines machine ≡ Ok request
   pub other : request.library.machine ≢ machine
 
--- why there is no such request: the number is of no machine, or the options name another
+-- the options name ARM64EC
+pub record NamesArm64ec (machines : MachineType → Asked RequestView) (e : Exports) : Type 0 where
+  pub machine : MachineType
+  pub numbered : machine_numbered e.machine ≡ Some machine
+  pub request : RequestView
+  pub asked : machines machine ≡ Ok request
+  pub is : is_some request.arm64ec ≡ true
+
+-- why there is no such request: the number is of no machine, or the options name another, or ARM64EC
 abbrev pub IsUnrequested : (MachineType → Asked RequestView) → Exports → DllRefusal → Type 0
 IsUnrequested machines e (UnknownMachine number) = (number ≡ e.machine) × (machine_numbered e.machine ≡ None)
 IsUnrequested machines e OtherMachine = NamesAnother machines e
+IsUnrequested machines e Arm64ec = NamesArm64ec machines e
 IsUnrequested machines e OutOfMemory = Unit {0}
 IsUnrequested machines e _ = ⊥
 

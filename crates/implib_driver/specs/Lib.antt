@@ -1,6 +1,7 @@
 pub mod Options
 pub mod Arguments
 pub mod Identity
+pub mod Machines
 pub mod Request
 pub mod Dll
 pub mod LibWords
@@ -9,6 +10,8 @@ pub mod Reports
 pub mod Stubs
 pub mod Placing
 pub mod Verdicts
+pub mod Warned
+pub mod Arm64ecProgram
 pub mod Search
 pub mod DllProgram
 pub mod Program
@@ -19,3 +22,4 @@ pub mod WorkedCalls
 pub mod WorkedLibWords
 pub mod WorkedDlls
 pub mod WorkedDelays
+pub mod WorkedArm64ec

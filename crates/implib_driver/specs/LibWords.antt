@@ -3,7 +3,6 @@ use Rattle.std.specs.Prelude.{ℕ, Bool, true, false, not, ◌&&◌, ◌||◌, �
 use Rattle.std.specs.Char.{to_ascii_lowercase}
 use Rattle.std.specs.List.{after_first, before_first, ends_with, list_any, position_or_len}
 use Rattle.std.specs.Str.{byte, bytes_eq}
-use Rattle.implib.specs.declared.machine.MachineType.{MachineType}
 use Rattle.implib.specs.declared.machine.MachineType.TheVariants.{I386, ARMNT, AMD64, ARM64}
 use Rattle.implib_driver.specs.declared.lib_words.LibMachine.{LibMachine}
 use Rattle.implib_driver.specs.declared.lib_words.LibMachine.TheVariants as named
@@ -11,7 +10,9 @@ use Rattle.implib_driver.specs.declared.lib_words.LibMeaning.{LibMeaning}
 use Rattle.implib_driver.specs.declared.lib_words.LibMeaning.TheVariants as meaning
 use Rattle.implib_driver.specs.declared.lib_words.LibWord.{LibWord}
 use Rattle.implib_driver.specs.declared.lib_words.LibWord.TheVariants as word
-use Rattle.implib_driver.specs.declared.options.Setting.TheVariants.{Definition, Identify, Output, Machine, Dll, Flavor}
+use Rattle.implib_driver.specs.declared.machine.LibraryMachine.{LibraryMachine}
+use Rattle.implib_driver.specs.declared.machine.LibraryMachine.TheVariants.{Arm64ec, Ordinary}
+use Rattle.implib_driver.specs.declared.options.Setting.TheVariants.{Definition, Identify, NativeDefinition, Output, Machine, Dll, Flavor}
 use Rattle.implib_driver.specs.declared.options.Switch.TheVariants.{ExportAs, Help, KeepsDecorated, ListsMembers, Verbose}
 use Rattle.implib_driver.specs.Arguments.{Given, IsFile, IsFurther, IsUnknown, IsUnsupported, LacksValueIn, ListsDefinition, NamesNoMachine, OccurrenceView, Reading, Switched, WantsDefinition, WantsLibrary, WantsOutput, WordFaultView, all_given, is_switched, last_given, occurrence_view, read_words, with_front, word_fault_view}
 use Rattle.implib_driver.specs.Request.{holds_text}
@@ -32,7 +33,6 @@ is_lib_unsupported name =
     else if bytes_eq name (codes "nodefaultlib") then true
     else if bytes_eq name (codes "linkrepro") then true
     else if bytes_eq name (codes "linkreprotarget") then true
-    else if bytes_eq name (codes "defarm64native") then true
     else if bytes_eq name (codes "ignore") then true
     else if bytes_eq name (codes "llvmlibempty") then true
     else if bytes_eq name (codes "llvmlibthin") then true
@@ -42,6 +42,7 @@ is_lib_unsupported name =
 abbrev pub lib_option_named : List ℕ → LibMeaning
 lib_option_named name =
     if bytes_eq name (codes "def") then meaning.Takes Definition
+    else if bytes_eq name (codes "defarm64native") then meaning.Takes NativeDefinition
     else if bytes_eq name (codes "out") then meaning.Takes Output
     else if bytes_eq name (codes "name") then meaning.Takes Dll
     else if bytes_eq name (codes "machine") then meaning.Machine
@@ -56,9 +57,7 @@ lib_option_named name =
 -- the machines that LIB has or had, and that are not supported
 abbrev pub is_lib_machine_unsupported : List ℕ → Bool
 is_lib_machine_unsupported name =
-    if bytes_eq name (codes "arm64ec") then true
-    else if bytes_eq name (codes "arm64x") then true
-    else if bytes_eq name (codes "ebc") then true
+    if bytes_eq name (codes "ebc") then true
     else if bytes_eq name (codes "ia64") then true
     else if bytes_eq name (codes "thumb") then true
     else if bytes_eq name (codes "am33") then true
@@ -75,24 +74,27 @@ is_lib_machine_unsupported name =
     else if bytes_eq name (codes "sh5") then true
     else false
 
--- what a name of a machine in small letters stands for
+-- what a name of a machine in small letters stands for; a library for ARM64X is one for ARM64EC, as llvm-lib makes it
 abbrev pub lib_machine_named : List ℕ → LibMachine
 lib_machine_named name =
-    if bytes_eq name (codes "x86") then named.Known I386
-    else if bytes_eq name (codes "i386") then named.Known I386
-    else if bytes_eq name (codes "x64") then named.Known AMD64
-    else if bytes_eq name (codes "amd64") then named.Known AMD64
-    else if bytes_eq name (codes "arm") then named.Known ARMNT
-    else if bytes_eq name (codes "arm64") then named.Known ARM64
+    if bytes_eq name (codes "x86") then named.Known (Ordinary I386)
+    else if bytes_eq name (codes "i386") then named.Known (Ordinary I386)
+    else if bytes_eq name (codes "x64") then named.Known (Ordinary AMD64)
+    else if bytes_eq name (codes "amd64") then named.Known (Ordinary AMD64)
+    else if bytes_eq name (codes "arm") then named.Known (Ordinary ARMNT)
+    else if bytes_eq name (codes "arm64") then named.Known (Ordinary ARM64)
+    else if bytes_eq name (codes "arm64ec") then named.Known Arm64ec
+    else if bytes_eq name (codes "arm64x") then named.Known Arm64ec
     else if is_lib_machine_unsupported name then named.Unsupported
     else named.Unknown
 
 -- the name of a machine for `-m`
-abbrev pub machine_text : MachineType → List ℕ
-machine_text I386 = codes "i386"
-machine_text ARMNT = codes "arm"
-machine_text AMD64 = codes "i386:x86-64"
-machine_text ARM64 = codes "arm64"
+abbrev pub machine_text : LibraryMachine → List ℕ
+machine_text (Ordinary I386) = codes "i386"
+machine_text (Ordinary ARMNT) = codes "arm"
+machine_text (Ordinary AMD64) = codes "i386:x86-64"
+machine_text (Ordinary ARM64) = codes "arm64"
+machine_text Arm64ec = codes "arm64ec"
 
 -- what one word says
 pub data LibWordView : Type 0 where

@@ -6,7 +6,7 @@ use Rattle.implib_driver.specs.declared.options.Meaning.{Meaning}
 use Rattle.implib_driver.specs.declared.options.Meaning.TheVariants.{Takes, Switches, Unsupported, Unknown}
 use Rattle.implib_driver.specs.declared.options.Setting.{Setting}
 use Rattle.implib_driver.specs.declared.options.Switch.{Switch}
-use Rattle.implib_driver.specs.declared.options.Setting.TheVariants.{Definition, Output, DelayedOutput, Machine, Dll, Flavor, Assembler, AssemblerFlags, TemporaryPrefix, FurtherPrefix, Identify, Input, Decorations, Search}
+use Rattle.implib_driver.specs.declared.options.Setting.TheVariants.{Definition, Output, DelayedOutput, Machine, Dll, Flavor, Assembler, AssemblerFlags, TemporaryPrefix, FurtherPrefix, Identify, Input, Decorations, Search, NativeDefinition}
 use Rattle.implib_driver.specs.declared.options.Switch.TheVariants.{KillAt, NoLeadingUnderscore, LeadingUnderscore, ExportAs, AddUnderscore, AddStdcallUnderscore, AddStdcallAlias, DeterministicLibraries, NonDeterministicLibraries, NoDelete, ListedAlone, ListsMembers, IdentifyStrict, KeepsDecorated, CompatImplib, Verbose, Help, Version}
 
 -- the long names, without `--`, of GNU dlltool's options that have no meaning here
@@ -54,6 +54,7 @@ setting_named name =
     if bytes_eq name (codes "input-def") then Some Definition
     else if bytes_eq name (codes "def") then Some Definition
     else if bytes_eq name (codes "dll") then Some Definition
+    else if bytes_eq name (codes "input-native-def") then Some NativeDefinition
     else if bytes_eq name (codes "output-lib") then Some Output
     else if bytes_eq name (codes "output-delaylib") then Some DelayedOutput
     else if bytes_eq name (codes "machine") then Some Machine
@@ -74,6 +75,7 @@ option_named name = option_map_or Takes (setting_named name) (further_named name
 abbrev pub option_lettered : ℕ → Meaning
 option_lettered letter =
     if letter == byte "d" then Takes Definition
+    else if letter == byte "N" then Takes NativeDefinition
     else if letter == byte "l" then Takes Output
     else if letter == byte "y" then Takes DelayedOutput
     else if letter == byte "m" then Takes Machine
@@ -116,6 +118,7 @@ setting_number Input = 10
 setting_number DelayedOutput = 11
 setting_number Decorations = 12
 setting_number Search = 13
+setting_number NativeDefinition = 14
 
 -- the number of an option without a value
 abbrev pub switch_number : Switch → ℕ

@@ -1,19 +1,14 @@
 -- What a run of the program does (this project's own).
-use Rattle.std.specs.Prelude.{◌≡◌, ◌≢◌, ◌⊎◌, ℕ, Bool, true, false, List, [], ◌∷◌, ◌++◌, Option, None, Some, Result, Ok, Err, IfSome, codes, drop, is_some, length, map, nat_eq, nat_lt, ◌||◌, if◌then◌else◌}
-use Rattle.std.specs.List.{starts_with}
+use Rattle.std.specs.Prelude.{◌≡◌, ◌≢◌, ◌⊎◌, ℕ, Bool, true, false, List, [], ◌∷◌, Option, None, Some, Result, Ok, Err, IfSome, codes, drop, is_some, length, if◌then◌else◌}
 use Rattle.std.specs.Io.KnownBytes.{Appends}
-use Rattle.std.specs.Str.{IsUtf8, bytes_eq}
+use Rattle.std.specs.Str.{bytes_eq}
 use Rattle.std.specs.declared.io.ErrorKind.{ErrorKind}
 use Rattle.std.specs.declared.io.ErrorKind.TheVariants.{InvalidData}
 use Rattle.implib.specs.declared.flavor.Flavor.{Flavor}
 use Rattle.implib.specs.declared.flavor.Flavor.TheVariants.{Gnu, Msvc}
 use Rattle.implib.specs.declared.machine.MachineType.{MachineType}
-use Rattle.implib.specs.declared.machine.MachineType.TheVariants.{AMD64}
-use Rattle.implib.specs.Definition.{DefinitionView, ExportView}
-use Rattle.implib.specs.Fault.{Cause}
 use Rattle.implib.specs.Import.{is_empty_text}
 use Rattle.implib.specs.Members.MemberSpec.{MemberView}
-use Rattle.implib.specs.Text.Parses.{Parses, RefusesAt}
 use Rattle.implib_driver.specs.Arguments.{OccurrenceView, WordFaultView, has_values}
 use Rattle.implib_driver.specs.Disk.{DiskView}
 use Rattle.implib_driver.specs.declared.identity.NotIdentified.{NotIdentified}
@@ -23,22 +18,20 @@ use Rattle.implib_delay_library.specs.declared.library.DelayRefusal.{DelayRefusa
 use Rattle.implib_delay_library.specs.declared.library.DelayRefusal.TheVariants.{Refused, Undelayed as CannotDelay}
 use Rattle.implib_delay_library.specs.Libraries.{IsDelayedLibrary, IsRefusalOfDelayed}
 use Rattle.implib_driver.specs.Placing.{Answer, Answers, IsPlaced, IsUnplaced}
-use Rattle.implib_driver.specs.Reports.{ComplaintView, Complains, Line, OfArgument, OfCall, OfIdentity, OfMemory, OfStub, OfSystem, OfUndelayed, OfUtf16, OfWord, OfWriting, Refuses, Says, Warns}
+use Rattle.implib_driver.specs.Reports.{ComplaintView, Complains, Line, OfArgument, OfCall, OfIdentity, OfMemory, OfStub, OfSystem, OfUndelayed, OfWord, OfWriting, Refuses, Says}
 use Rattle.implib_driver.specs.LibWords.{words_read}
+pub use Rattle.implib_driver.specs.Disk.{KeepsFiles, definition_in}
 pub use Rattle.implib_driver.specs.Verdicts.{answer_status, output_or_none, verdict}
+pub use Rattle.implib_driver.specs.Warned.{IsInUtf16, IsUnwarned, Warned, begins_utf16, is_bare, warning_lines}
+use Rattle.implib_driver.specs.Arm64ecProgram.{FinishesArm64ec}
 use Rattle.implib_driver.specs.Dll.{begins_dll}
 use Rattle.implib_driver.specs.DllProgram.{FinishesDll}
 use Rattle.implib_driver.specs.Request.{Asked, AsksHelp, AsksIdentity, AsksVersion, Asks, CallFaultView, DecoratesDefinition, RequestView, SearchesForDefinition, TaskView, caller_of, request_for, task_of}
 use Rattle.implib_driver.specs.Stubs.{has_failing_stub}
 use Rattle.implib_rules.specs.declared.library.Refusal.{Refusal}
-use Rattle.implib_rules.specs.declared.library.Refusal.TheVariants.{OutOfMemory}
-use Rattle.implib_rules.specs.declared.places.Place.{Place}
-use Rattle.implib_rules.specs.Library.{CountsMembers, definition_text, is_out_of_memory, status_of}
+use Rattle.implib_rules.specs.Library.{CountsMembers, is_out_of_memory, status_of}
 use Rattle.implib_rules.specs.Names.{last_part}
 use Rattle.implib_rules.specs.Older.{IsRefusalOfAsked, MembersAsked}
-use Rattle.implib_rules.specs.Places.{ArePlacesOf, export_lines}
-use Rattle.implib_rules.specs.TextWarnings.{none_warnings, text_warnings}
-use Rattle.implib_rules.specs.Warnings.{WarningView, warnings_of}
 
 -- what is known of all that a run uses but standard output: the bytes that standard input has left, the disk, and
 -- what was said
@@ -50,73 +43,10 @@ pub record Devices : Type 0 where
 abbrev pub devices : Option (List ℕ) → DiskView → Option (List Line) → Devices
 devices input disk said = record { input = input; disk = disk; said = said }
 
--- the bytes of the definition: for `-` those that standard input has left, else those of the file
-abbrev pub definition_in : Option (List ℕ) → DiskView → List ℕ → Option (List ℕ)
-definition_in input disk path = if bytes_eq path (codes "-") then input else disk.seen path
-
--- all files are as they were, and nothing new is left
-pub record KeepsFiles (before after : DiskView) : Type 0 where
-  pub seen : after.seen ≡ before.seen
-  pub left : after.left ≡ before.left
-
--- warnings of the definition of a path, as they are said
-abbrev pub warning_lines : List ℕ → List ℕ → List WarningView → List Line
-warning_lines path lines warnings = map (λ w. Warns path w lines) warnings
-
 -- how many of its members the warnings of a library are of: all, and for GNU's linker none
 abbrev pub members_counted : Flavor → ℕ → ℕ
 members_counted Msvc count = count
 members_counted Gnu count = 0
-
--- the warnings of a definition of these exports and places and this number of members, where they are asked for
-abbrev pub warnings_for : RequestView → List ExportView → List Place → ℕ → List WarningView
-warnings_for request exports places count = if request.is_verbose then warnings_of request.library exports places count else []
-
--- the warnings of a definition with these places were said
-pub record SaysWarnings (bytes : List ℕ) (definition : DefinitionView) (places : List Place) (request : RequestView)
-    (before after : Option (List Line)) : Type 0 where
-  pub count : ℕ
-  pub counts : CountsMembers bytes request.library request.library.flavor count
-  pub says : Says before after
-      (warning_lines request.definition (export_lines places) (text_warnings bytes ++ warnings_for request definition.exports places count))
-
--- the bytes are a definition, and its warnings were said
-pub record WarnsOf (bytes : List ℕ) (request : RequestView) (before after : Option (List Line)) : Type 0 where
-  pub utf8 : IsUtf8 (definition_text bytes)
-  pub definition : DefinitionView
-  pub parses : Parses (definition_text bytes) AMD64 definition
-  pub places : List Place
-  pub are_places : ArePlacesOf (definition_text bytes) places
-  pub warns : SaysWarnings bytes definition places request before after
-
--- the text is no definition
-pub record HasSyntaxError (text : List ℕ) : Type 0 where
-  pub cause : Cause
-  pub offset : ℕ
-  pub refused : RefusesAt text cause offset
-
--- the bytes are no definition, and nothing was said
-pub record IsNoDefinition (bytes : List ℕ) (before after : Option (List Line)) : Type 0 where
-  pub refused : (¬ (IsUtf8 (definition_text bytes))) ⊎ HasSyntaxError (definition_text bytes)
-  pub silent : after ≡ before
-
--- the bytes are a definition, and it was said if it has no export though something follows EXPORTS
-pub record WarnsOfNone (bytes : List ℕ) (request : RequestView) (before after : Option (List Line)) : Type 0 where
-  pub utf8 : IsUtf8 (definition_text bytes)
-  pub definition : DefinitionView
-  pub parses : Parses (definition_text bytes) AMD64 definition
-  pub says : Says before after (warning_lines request.definition [] (none_warnings (definition_text bytes) definition.exports))
-
--- the warnings of bytes were said, if they are asked for; of a library that has the members of its DLL alone, that its
--- definition has no export is said without that
-abbrev pub Warned : Bool → Bool → List ℕ → RequestView → Option (List Line) → Option (List Line) → Type 0
-Warned false false bytes request before after = after ≡ before
-Warned false true bytes request before after = WarnsOfNone bytes request before after ⊎ IsNoDefinition bytes before after
-Warned true bare bytes request before after = WarnsOf bytes request before after ⊎ IsNoDefinition bytes before after
-
--- whether a library of this many members has no more than those of its DLL, of which each flavour has at most three
-abbrev pub is_bare : ℕ → Bool
-is_bare count = nat_lt count 4
 
 -- a library was made, which is bare or not by the number of its members
 pub record CountsMade (bytes : List ℕ) (request : RequestView) (bare : Bool) : Type 0 where
@@ -135,42 +65,28 @@ pub record CountsNone (bytes : List ℕ) (request : RequestView) (bare : Bool) :
 abbrev pub CountsBare : List ℕ → RequestView → Bool → Type 0
 CountsBare bytes request bare = CountsMade bytes request bare ⊎ CountsNone bytes request bare
 
--- whether bytes begin as a text in UTF-16 with a byte order mark (the Unicode Standard, "Byte Order Mark")
-abbrev pub begins_utf16 : List ℕ → Bool
-begins_utf16 bytes = starts_with nat_eq bytes (0xFF ∷ 0xFE ∷ []) || starts_with nat_eq bytes (0xFE ∷ 0xFF ∷ [])
-
--- that the definition is in UTF-16 was said, and nothing else was done
-pub record IsInUtf16 (bytes : List ℕ) (request : RequestView) (disk put : DiskView) (before after : Option (List Line)) (status : ℕ)
-    : Type 0 where
-  pub begins : begins_utf16 bytes ≡ true
-  pub same_disk : put ≡ disk
-  pub says : Says before after (Complains request.definition OfUtf16 ∷ [])
-  pub is_status : status ≡ 1
-
 -- the warnings that are asked for were said, the library was put, and then the answer was said
 pub record IsAnswered (known : Bool) (bytes : List ℕ) (request : RequestView) (disk put : DiskView)
     (before after : Option (List Line)) (status : ℕ) : Type 0 where
   pub no_utf16 : begins_utf16 bytes ≡ false
   pub bare : Bool
   pub counts : CountsBare bytes request bare
+  pub count : ℕ
+  pub counted : CountsMembers bytes request.library request.library.flavor count
   pub warned : Option (List Line)
-  pub warns : Warned request.is_verbose bare bytes request before warned
+  pub warns : Warned request.is_verbose bare count bytes request before warned
   pub answer : Answer
   pub answers : Answers known disk put bytes request answer
   pub says : Says warned after (verdict request answer)
   pub is_status : status ≡ answer_status answer
 
--- memory was refused before a warning was said
-pub record IsUnwarned (request : RequestView) (disk put : DiskView) (before after : Option (List Line)) (status : ℕ) : Type 0 where
-  pub same_disk : put ≡ disk
-  pub says : Says before after (Refuses request.definition OutOfMemory ∷ [])
-  pub is_status : status ≡ 3
-
 -- the warnings that are asked for were said, and then that the library would have stubs that cannot run; nothing was put
 pub record HasFailingStub (bytes : List ℕ) (request : RequestView) (disk put : DiskView) (before after : Option (List Line)) (status : ℕ)
     : Type 0 where
+  pub count : ℕ
+  pub counted : CountsMembers bytes request.library request.library.flavor count
   pub warned : Option (List Line)
-  pub warns : Warned request.is_verbose false bytes request before warned
+  pub warns : Warned request.is_verbose false count bytes request before warned
   pub members : List MemberView
   pub members_asked : MembersAsked request.older_symbols bytes request.library members
   pub fails : has_failing_stub request.library members ≡ true
@@ -274,6 +190,13 @@ FinishesText known bytes None request disk put before after status = Finishes kn
 FinishesText known bytes (Some path) request disk put before after status =
     FinishesDelaying known bytes path request disk put before after status
 
+-- what is done with the bytes of a definition, where a library for ARM64EC is asked for, and where none is; the bytes that
+-- standard input has left are these
+abbrev pub FinishesFor : Bool → Option (List ℕ) → List ℕ → Option (Option (List ℕ)) → RequestView → DiskView → DiskView → Option (List Line) → Option (List Line) → ℕ → Type 0
+FinishesFor known input bytes None request disk put before after status = FinishesText known bytes request.delayed request disk put before after status
+FinishesFor known input bytes (Some native) request disk put before after status =
+    FinishesArm64ec known input bytes native request disk put before after status
+
 -- what is wrong with a request for a definition: that has its symbols, and says which exports are data
 abbrev pub misuse : RequestView → Option CallFaultView
 misuse request =
@@ -288,25 +211,29 @@ pub record IsMisused (fault : CallFaultView) (request : RequestView) (disk put :
   pub is_status : status ≡ 2
 
 -- what is done with the bytes of a definition, unless a request for one is wrong
-abbrev pub FinishesUnless : Option CallFaultView → Bool → List ℕ → RequestView → DiskView → DiskView → Option (List Line) → Option (List Line) → ℕ → Type 0
-FinishesUnless None known bytes request disk put before after status = FinishesText known bytes request.delayed request disk put before after status
-FinishesUnless (Some fault) known bytes request disk put before after status = IsMisused fault request disk put before after status
+abbrev pub FinishesUnless : Option CallFaultView → Bool → Option (List ℕ) → List ℕ → RequestView → DiskView → DiskView → Option (List Line) → Option (List Line) → ℕ → Type 0
+FinishesUnless None known input bytes request disk put before after status = FinishesFor known input bytes request.arm64ec request disk put before after status
+FinishesUnless (Some fault) known input bytes request disk put before after status = IsMisused fault request disk put before after status
 
 -- the request that options make for a machine, as the one that a DLL is for
 abbrev pub ForMachine : Type 0
 ForMachine = MachineType → Asked RequestView
 
--- what is done with bytes: those of a DLL where they begin so, and else of a definition
-abbrev pub FinishesRead : Bool → ForMachine → Bool → List ℕ → RequestView → DiskView → DiskView → Option (List Line) → Option (List Line) → ℕ → Type 0
-FinishesRead known machines true bytes request disk put before after status = FinishesDll known machines bytes request.definition disk put before after status
-FinishesRead known machines false bytes request disk put before after status =
-    FinishesUnless (misuse request) known bytes request disk put before after status
+-- what is done with bytes: those of a DLL where they begin so, and else of a definition; the bytes that standard input has
+-- left are these
+abbrev pub FinishesRead : Bool → ForMachine → Bool → Option (List ℕ) → List ℕ → RequestView → DiskView → DiskView → Option (List Line) → Option (List Line) → ℕ → Type 0
+FinishesRead known machines true input bytes request disk put before after status = FinishesDll known machines bytes request.definition disk put before after status
+FinishesRead known machines false input bytes request disk put before after status =
+    FinishesUnless (misuse request) known input bytes request disk put before after status
 
 -- the definition or the DLL was read, and this was done with its bytes
 pub record IsRead (known : Bool) (machines : ForMachine) (request : RequestView) (before after : Devices) (status : ℕ) : Type 0 where
   pub bytes : List ℕ
   pub read : IfSome (definition_in before.input before.disk request.definition) (λ file. bytes ≡ file)
-  pub finishes : FinishesRead known machines (begins_dll bytes) bytes request before.disk after.disk before.said after.said status
+  -- what standard input has left then: all, if the definition is a file
+  pub left : Option (List ℕ)
+  pub untouched : bytes_eq request.definition (codes "-") ≡ false → left ≡ before.input
+  pub finishes : FinishesRead known machines (begins_dll bytes) left bytes request before.disk after.disk before.said after.said status
 
 -- the definition or the DLL could not be read
 pub record IsUnread (request : RequestView) (before after : Devices) (status : ℕ) : Type 0 where

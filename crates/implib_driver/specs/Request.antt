@@ -8,10 +8,13 @@ use Rattle.implib.specs.declared.flavor.Flavor.{Flavor}
 use Rattle.implib.specs.declared.flavor.Flavor.TheVariants.{Msvc, Gnu}
 use Rattle.implib.specs.declared.machine.MachineType.{MachineType}
 use Rattle.implib.specs.declared.machine.MachineType.TheVariants.{I386, ARMNT, AMD64, ARM64}
-use Rattle.implib_driver.specs.declared.options.Setting.TheVariants.{DelayedOutput, Definition, Input, Output, Machine, Dll, Flavor as FlavorSetting, Assembler, AssemblerFlags, TemporaryPrefix, FurtherPrefix, Identify, Decorations, Search}
+use Rattle.implib_driver.specs.declared.options.Setting.TheVariants.{NativeDefinition, DelayedOutput, Definition, Input, Output, Machine, Dll, Flavor as FlavorSetting, Assembler, AssemblerFlags, TemporaryPrefix, FurtherPrefix, Identify, Decorations, Search}
 use Rattle.implib_driver.specs.declared.identity.Wanted.{Wanted}
 use Rattle.implib_driver.specs.declared.identity.Wanted.TheVariants.{Dlls, Members, OneDll}
 use Rattle.implib_driver.specs.declared.options.Switch.TheVariants.{Help, IdentifyStrict, KeepsDecorated, KillAt, ListsMembers, LeadingUnderscore, NoLeadingUnderscore, Verbose, Version, ExportAs, AddUnderscore, AddStdcallUnderscore, CompatImplib}
+use Rattle.implib_driver.specs.declared.machine.LibraryMachine.{LibraryMachine}
+use Rattle.implib_driver.specs.declared.machine.LibraryMachine.TheVariants.{Arm64ec, Ordinary}
+use Rattle.implib_driver.specs.declared.request.Arm64ecWish.{Arm64ecWish}
 use Rattle.implib_driver.specs.declared.request.CallError.{CallError}
 use Rattle.implib_driver.specs.declared.request.CallError.TheVariants as error
 use Rattle.implib_driver.specs.declared.request.CalledAs.{CalledAs}
@@ -30,7 +33,7 @@ use Rattle.implib_rules.specs.Additions.{AdditionsView}
 use Rattle.implib_rules.specs.Linked.{NamingView}
 use Rattle.implib_rules.specs.Names.{last_part}
 use Rattle.implib_rules.specs.Options.{LibraryOptionsView, library_options_view}
-use Rattle.implib_rules.specs.Machines.{machine_called}
+use Rattle.implib_driver.specs.Machines.{library_machine_called, machine_type}
 
 -- the library that is asked for
 pub record RequestView : Type 0 where
@@ -40,8 +43,10 @@ pub record RequestView : Type 0 where
   pub output : Option (List ℕ)
   -- the file of the library of delayed imports
   pub delayed : Option (List ℕ)
-  -- what it is made for
+  -- what it is made for; for ARM64EC, ARM64 and Microsoft's linkers
   pub library : LibraryOptionsView
+  -- where the library is for ARM64EC, the file of the native definition, if there is one
+  pub arm64ec : Option (Option (List ℕ))
   -- the file that has the symbols of a DLL's names
   pub decorations : Option (List ℕ)
   -- the folders of further DLLs
@@ -51,6 +56,10 @@ pub record RequestView : Type 0 where
   -- whether warnings are written
   pub is_verbose : Bool
 
+-- the view of what is asked for beside a library for ARM64EC
+abbrev pub wish_view : Arm64ecWish → Option (List ℕ)
+wish_view wish = option_map (λ text. text.now) wish.native
+
 -- the view of a request of the program
 abbrev pub request_view : Request → RequestView
 request_view r = record {
@@ -58,6 +67,7 @@ request_view r = record {
   output = option_map (λ text. text.now) r.output;
   delayed = option_map (λ text. text.now) r.delayed;
   library = library_options_view r.library;
+  arm64ec = option_map wish_view r.arm64ec;
   decorations = option_map (λ text. text.now) r.decorations;
   search = all_given Search (map occurrence_view r.options.now);
   older_symbols = r.older_symbols;
@@ -98,6 +108,11 @@ pub data CallFaultView : Type 0 where
   DelaysForMicrosoft : CallFaultView
   DecoratesDefinition : CallFaultView
   SearchesForDefinition : CallFaultView
+  IsArm64ecForGnu : CallFaultView
+  HasNativeElsewhere : CallFaultView
+  HasEmptyNative : CallFaultView
+  ReplacesNative : CallFaultView
+  HasOneInput : CallFaultView
 
 -- the view of a fault of the program
 abbrev pub call_fault_view : CallFault → CallFaultView
@@ -118,6 +133,11 @@ call_fault_view fault.NoDelay = HasNoDelay
 call_fault_view fault.DelayForMicrosoft = DelaysForMicrosoft
 call_fault_view fault.DecoratedDefinition = DecoratesDefinition
 call_fault_view fault.SearchedDefinition = SearchesForDefinition
+call_fault_view fault.Arm64ecForGnu = IsArm64ecForGnu
+call_fault_view fault.NativeElsewhere = HasNativeElsewhere
+call_fault_view fault.EmptyNative = HasEmptyNative
+call_fault_view fault.OutputIsNative = ReplacesNative
+call_fault_view fault.OneInput = HasOneInput
 
 -- a value that is asked for, or what is wrong
 abbrev pub Asked : Type 0 → Type 0
@@ -134,8 +154,8 @@ with (Ok value) more = more value
 with (Err fault) more = Err fault
 
 -- the machine of a name, in letters of any case
-abbrev pub machine_named : List ℕ → Option MachineType
-machine_named name = machine_called (map to_ascii_lowercase name)
+abbrev pub machine_named : List ℕ → Option LibraryMachine
+machine_named name = library_machine_called (map to_ascii_lowercase name)
 
 -- whether a text begins with this one
 abbrev pub begins_with : List ℕ → List ℕ → Bool
@@ -144,8 +164,7 @@ begins_with text front = starts_with nat_eq text front
 -- the architectures that are not supported, as targets and programs for them are named
 abbrev pub is_other_architecture : List ℕ → Bool
 is_other_architecture name =
-    if bytes_eq name (codes "arm64ec") then true
-    else if bytes_eq name (codes "arm64e") then true
+    if bytes_eq name (codes "arm64e") then true
     else if bytes_eq name (codes "aarch64_be") then true
     else if bytes_eq name (codes "armeb") then true
     else if bytes_eq name (codes "thumb") then true
@@ -177,28 +196,29 @@ is_other_architecture name =
     else false
 
 -- the machine of an architecture that has this name
-abbrev pub architecture_named : List ℕ → Option MachineType
+abbrev pub architecture_named : List ℕ → Option LibraryMachine
 architecture_named name =
-    if bytes_eq name (codes "i386") then Some I386
-    else if bytes_eq name (codes "i486") then Some I386
-    else if bytes_eq name (codes "i586") then Some I386
-    else if bytes_eq name (codes "i686") then Some I386
-    else if bytes_eq name (codes "i786") then Some I386
-    else if bytes_eq name (codes "i886") then Some I386
-    else if bytes_eq name (codes "i986") then Some I386
-    else if bytes_eq name (codes "arm") then Some ARMNT
-    else if bytes_eq name (codes "aarch64") then Some ARM64
-    else if bytes_eq name (codes "arm64") then Some ARM64
+    if bytes_eq name (codes "i386") then Some (Ordinary I386)
+    else if bytes_eq name (codes "i486") then Some (Ordinary I386)
+    else if bytes_eq name (codes "i586") then Some (Ordinary I386)
+    else if bytes_eq name (codes "i686") then Some (Ordinary I386)
+    else if bytes_eq name (codes "i786") then Some (Ordinary I386)
+    else if bytes_eq name (codes "i886") then Some (Ordinary I386)
+    else if bytes_eq name (codes "i986") then Some (Ordinary I386)
+    else if bytes_eq name (codes "arm") then Some (Ordinary ARMNT)
+    else if bytes_eq name (codes "aarch64") then Some (Ordinary ARM64)
+    else if bytes_eq name (codes "arm64") then Some (Ordinary ARM64)
+    else if bytes_eq name (codes "arm64ec") then Some Arm64ec
     else None
 
 -- the machine of an architecture, as the first part of a target's name: by the name, or ARMNT for the forms of armv7;
 -- AMD64 for what is none, and none for an architecture that is not supported
-abbrev pub machine_of_architecture : List ℕ → Option MachineType
+abbrev pub machine_of_architecture : List ℕ → Option LibraryMachine
 machine_of_architecture name =
     if is_some (architecture_named name) then architecture_named name
-    else if begins_with name (codes "armv7") then Some ARMNT
+    else if begins_with name (codes "armv7") then Some (Ordinary ARMNT)
     else if is_other_architecture name then None
-    else Some AMD64
+    else Some (Ordinary AMD64)
 
 -- the byte is `-`
 abbrev pub is_minus : ℕ → Bool
@@ -206,10 +226,10 @@ is_minus b = b == 45
 
 -- the machine of a program's name: that of the architecture before its first `-`, as in aarch64-w64-mingw32-dlltool;
 -- AMD64 without a `-`
-abbrev pub machine_of_name : List ℕ → Option MachineType
+abbrev pub machine_of_name : List ℕ → Option LibraryMachine
 machine_of_name name =
     if nat_lt (position_or_len is_minus name) (length name) then machine_of_architecture (before_first is_minus name)
-    else Some AMD64
+    else Some (Ordinary AMD64)
 
 -- whether a text, which is not empty, is within another
 abbrev pub holds_text : List ℕ → List ℕ → Bool
@@ -257,22 +277,22 @@ default_flavor called I386 habits output = usual_flavor called habits output
 default_flavor called AMD64 habits output = usual_flavor called habits output
 
 -- the machine, if its name is one
-abbrev pub known_machine : List ℕ → Option MachineType → Asked MachineType
+abbrev pub known_machine : List ℕ → Option LibraryMachine → Asked LibraryMachine
 known_machine name (Some machine) = Ok machine
 known_machine name None = Err (IsUnknownMachine name)
 
 -- the machine without a name, if the program's name is not of another architecture
-abbrev pub unnamed_machine : Option MachineType → Asked MachineType
+abbrev pub unnamed_machine : Option LibraryMachine → Asked LibraryMachine
 unnamed_machine (Some machine) = Ok machine
 unnamed_machine None = Err IsOtherArchitecture
 
 -- the machine that is named, or the one without a name
-abbrev pub machine_or : Option MachineType → Option (List ℕ) → Asked MachineType
+abbrev pub machine_or : Option LibraryMachine → Option (List ℕ) → Asked LibraryMachine
 machine_or unnamed None = unnamed_machine unnamed
 machine_or unnamed (Some name) = known_machine name (machine_named name)
 
 -- the machine that options name, or the one without a name
-abbrev pub machine_in : Option MachineType → List OccurrenceView → Asked MachineType
+abbrev pub machine_in : Option LibraryMachine → List OccurrenceView → Asked LibraryMachine
 machine_in unnamed options = machine_or unnamed (last_given Machine options)
 
 -- the flavour, if its name is one
@@ -322,6 +342,32 @@ delayed_apart (Some path) (Some other) = if bytes_eq other path then Err HasOneO
 abbrev pub delayed_in : List ℕ → Option (List ℕ) → List OccurrenceView → Asked (Option (List ℕ))
 delayed_in definition output options =
     with (output_or definition (last_given DelayedOutput options)) (λ delayed. delayed_apart output delayed)
+
+-- whether this is the file of the library
+abbrev pub is_output : Option (List ℕ) → List ℕ → Bool
+is_output None path = false
+is_output (Some output) path = bytes_eq path output
+
+-- the file of the native definition, which has a name, is not standard input if the definition is, and not the library's
+abbrev pub native_or : List ℕ → Option (List ℕ) → Option (List ℕ) → Asked (Option (List ℕ))
+native_or definition output None = Ok None
+native_or definition output (Some path) =
+    if bytes_eq path [] then Err HasEmptyNative
+    else if bytes_eq path (codes "-") && bytes_eq definition (codes "-") then Err HasOneInput
+    else if is_output output path then Err ReplacesNative
+    else Ok (Some path)
+
+-- what is asked for beside a library for ARM64EC, which is for Microsoft's linkers; for other machines there is no
+-- native definition
+abbrev pub arm64ec_or : LibraryMachine → Flavor → List ℕ → Option (List ℕ) → Option (List ℕ) → Asked (Option (Option (List ℕ)))
+arm64ec_or (Ordinary machine) flavor definition output None = Ok None
+arm64ec_or (Ordinary machine) flavor definition output (Some path) = Err HasNativeElsewhere
+arm64ec_or Arm64ec Gnu definition output given = Err IsArm64ecForGnu
+arm64ec_or Arm64ec Msvc definition output given = with (native_or definition output given) (λ native. Ok (Some native))
+
+-- what options ask for beside a library for ARM64EC, if the machine is that
+abbrev pub arm64ec_in : LibraryMachine → Flavor → List ℕ → Option (List ℕ) → List OccurrenceView → Asked (Option (Option (List ℕ)))
+arm64ec_in machine flavor definition output options = arm64ec_or machine flavor definition output (last_given NativeDefinition options)
 
 -- Whether imports can be delayed: I386 and AMD64 have the code, and Microsoft's linkers delay the imports of an ordinary
 -- library by their option `/delayload`.
@@ -380,21 +426,23 @@ request_of caller options given =
     with (output_in definition options) (λ output.
     with (delayed_in definition output options) (λ delayed.
     with (machine_in caller.machine options) (λ machine.
-    with (flavor_in caller.called_as machine output options) (λ flavor.
+    with (flavor_in caller.called_as (machine_type machine) output options) (λ flavor.
+    with (arm64ec_in machine flavor definition output options) (λ arm64ec.
     with (dll_in options) (λ dll.
-    with (naming_in machine options) (λ naming.
-    with (delay_for machine flavor delayed) (λ delays.
+    with (naming_in (machine_type machine) options) (λ naming.
+    with (delay_for (machine_type machine) flavor delayed) (λ delays.
     with (older_symbols_in flavor options) (λ older_symbols.
     Ok (record {
       definition = definition;
       output = output;
       delayed = delayed;
-      library = record { machine = machine; flavor = flavor; dll = dll; naming = naming; additions = additions_in options };
+      library = record { machine = machine_type machine; flavor = flavor; dll = dll; naming = naming; additions = additions_in options };
+      arm64ec = arm64ec;
       decorations = last_given Decorations options;
       search = all_given Search options;
       older_symbols = older_symbols;
       is_verbose = is_switched Verbose options;
-    }))))))))))
+    })))))))))))
 
 -- the file to make a library of: the definition's, or the one that is given without an option, but not both
 abbrev pub input_of : Option (List ℕ) → List (List ℕ) → Asked (Option (List ℕ))
@@ -413,7 +461,7 @@ request_in caller options = with (input_in options) (request_of caller options)
 
 -- the library that options ask for where it is one of a DLL for this machine
 abbrev pub request_for : Caller → List OccurrenceView → MachineType → Asked RequestView
-request_for caller options machine = request_in (record caller { machine = Some machine }) options
+request_for caller options machine = request_in (record caller { machine = Some (Ordinary machine) }) options
 
 -- a library, as what is asked for
 abbrev pub made : Asked RequestView → Asked TaskView

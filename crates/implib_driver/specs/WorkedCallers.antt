@@ -2,8 +2,9 @@
 use Rattle.std.specs.Prelude.{◌≡◌, ℕ, List, [], ◌∷◌, Option, true, false, None, Some, Ok, Err, codes, map}
 use Rattle.implib.specs.declared.flavor.Flavor.{Flavor}
 use Rattle.implib.specs.declared.flavor.Flavor.TheVariants.{Msvc, Gnu}
-use Rattle.implib.specs.declared.machine.MachineType.{MachineType}
 use Rattle.implib.specs.declared.machine.MachineType.TheVariants.{I386, ARMNT, AMD64, ARM64}
+use Rattle.implib_driver.specs.declared.machine.LibraryMachine.{LibraryMachine}
+use Rattle.implib_driver.specs.declared.machine.LibraryMachine.TheVariants.{Arm64ec, Ordinary}
 use Rattle.implib_driver.specs.declared.options.Setting.TheVariants.{Assembler, AssemblerFlags, Definition, Dll, Flavor as FlavorSetting, Machine, Output, TemporaryPrefix, FurtherPrefix, Identify}
 use Rattle.implib_driver.specs.declared.identity.Wanted.TheVariants.{Dlls, OneDll}
 use Rattle.implib_driver.specs.declared.options.Switch.TheVariants.{Help, IdentifyStrict, LeadingUnderscore, NoLeadingUnderscore, Version, ExportAs, KillAt, AddUnderscore, AddStdcallUnderscore, AddStdcallAlias, CompatImplib}
@@ -19,7 +20,7 @@ use Rattle.implib_rules.specs.Additions.{no_additions}
 use Rattle.implib_rules.specs.WorkedExportAs.{exporting, killing_and_exporting}
 
 -- the machine of a program's name
-abbrev pub machine_for : List ℕ → Option MachineType
+abbrev pub machine_for : List ℕ → Option LibraryMachine
 machine_for program = (caller_of program).machine
 
 -- whose ways a program's name asks for
@@ -30,20 +31,24 @@ ways_for program = (caller_of program).called_as
 pub record CallersNamed : Type 0 where
   pub i386 : map machine_for (codes "/bin/i386-pc-mingw32-dlltool" ∷ codes "i486-x-dlltool" ∷ codes "i586-x-dlltool"
       ∷ codes "i686-w64-mingw32-dlltool" ∷ codes "i786-x-dlltool" ∷ codes "i886-x-dlltool" ∷ codes "i986-x-dlltool" ∷ [])
-      ≡ Some I386 ∷ Some I386 ∷ Some I386 ∷ Some I386 ∷ Some I386 ∷ Some I386 ∷ Some I386 ∷ []
+      ≡ Some (Ordinary I386) ∷ Some (Ordinary I386) ∷ Some (Ordinary I386) ∷ Some (Ordinary I386)
+      ∷ Some (Ordinary I386) ∷ Some (Ordinary I386) ∷ Some (Ordinary I386) ∷ []
   pub armnt : map machine_for (codes "arm-x-dlltool" ∷ codes "armv7-w64-mingw32-dlltool" ∷ codes "armv7a-dlltool" ∷ [])
-      ≡ Some ARMNT ∷ Some ARMNT ∷ Some ARMNT ∷ []
-  pub arm64 : map machine_for (codes "aarch64-w64-mingw32-dlltool" ∷ codes "arm64-x-dlltool" ∷ []) ≡ Some ARM64 ∷ Some ARM64 ∷ []
+      ≡ Some (Ordinary ARMNT) ∷ Some (Ordinary ARMNT) ∷ Some (Ordinary ARMNT) ∷ []
+  pub arm64 : map machine_for (codes "aarch64-w64-mingw32-dlltool" ∷ codes "arm64-x-dlltool" ∷ [])
+      ≡ Some (Ordinary ARM64) ∷ Some (Ordinary ARM64) ∷ []
+  pub arm64ec : map machine_for (codes "/bin/arm64ec-w64-mingw32-dlltool" ∷ codes "arm64ec-x" ∷ []) ≡ Some Arm64ec ∷ Some Arm64ec ∷ []
   pub amd64 : map machine_for (codes "x86_64-w64-mingw32-dlltool" ∷ codes "amd64-x-dlltool" ∷ codes "llvm-dlltool"
       ∷ codes "dlltool" ∷ codes "i686-/dlltool" ∷ codes "i686x-dlltool" ∷ codes "i68-dlltool" ∷ codes "i686" ∷ [])
-      ≡ Some AMD64 ∷ Some AMD64 ∷ Some AMD64 ∷ Some AMD64 ∷ Some AMD64 ∷ Some AMD64 ∷ Some AMD64 ∷ Some AMD64 ∷ []
-  pub others : map machine_for (codes "arm64ec-w64-mingw32-dlltool" ∷ codes "arm64e-x" ∷ codes "aarch64_be-x" ∷ codes "armeb-x"
+      ≡ Some (Ordinary AMD64) ∷ Some (Ordinary AMD64) ∷ Some (Ordinary AMD64) ∷ Some (Ordinary AMD64)
+      ∷ Some (Ordinary AMD64) ∷ Some (Ordinary AMD64) ∷ Some (Ordinary AMD64) ∷ Some (Ordinary AMD64) ∷ []
+  pub others : map machine_for (codes "arm64e-x" ∷ codes "aarch64_be-x" ∷ codes "armeb-x"
       ∷ codes "thumb-x" ∷ codes "thumbeb-x" ∷ codes "riscv32-x" ∷ codes "riscv64-x" ∷ codes "loongarch32-x" ∷ codes "loongarch64-x"
       ∷ codes "ia64-x" ∷ codes "alpha-x" ∷ codes "mips-x" ∷ codes "mipsel-x" ∷ codes "mips64-x" ∷ codes "mips64el-x"
       ∷ codes "sh3-x" ∷ codes "sh4-x" ∷ codes "sparc-x" ∷ codes "sparc64-x" ∷ codes "powerpc-x" ∷ codes "powerpc64-x"
       ∷ codes "powerpc64le-x" ∷ codes "ppc-x" ∷ codes "ppc64-x" ∷ codes "ppc64le-x" ∷ codes "s390x-x" ∷ codes "wasm32-x"
       ∷ codes "wasm64-x" ∷ codes "mcore-x" ∷ [])
-      ≡ None ∷ None ∷ None ∷ None ∷ None ∷ None ∷ None ∷ None ∷ None ∷ None ∷ None ∷ None ∷ None ∷ None ∷ None
+      ≡ None ∷ None ∷ None ∷ None ∷ None ∷ None ∷ None ∷ None ∷ None ∷ None ∷ None ∷ None ∷ None ∷ None
       ∷ None ∷ None ∷ None ∷ None ∷ None ∷ None ∷ None ∷ None ∷ None ∷ None ∷ None ∷ None ∷ None ∷ None ∷ None ∷ []
   pub llvm : map ways_for (codes "llvm-dlltool" ∷ codes "/usr/bin/llvm-dlltool-19" ∷ codes "i686-w64-mingw32-llvm-dlltool.exe" ∷ [])
       ≡ called.Llvm ∷ called.Llvm ∷ called.Llvm ∷ []
@@ -113,7 +118,7 @@ pub record FaultsOrdered : Type 0 where
   pub no_older_symbols_by_ending : task_of itself (Switched CompatImplib ∷ given ∷ Given Output (codes "b.lib") ∷ []) ≡ Err HasNoOlderSymbols
   pub no_older_symbols_by_machine : task_of itself (given ∷ Switched CompatImplib ∷ Given Machine (codes "arm64") ∷ []) ≡ Err HasNoOlderSymbols
   pub other_architecture : machine_in None [] ≡ Err IsOtherArchitecture
-  pub named_machine : machine_in None (Given Machine (codes "arm64") ∷ []) ≡ Ok ARM64
+  pub named_machine : machine_in None (Given Machine (codes "arm64") ∷ []) ≡ Ok (Ordinary ARM64)
   pub plain_by_the_last : naming_in I386 (Switched LeadingUnderscore ∷ Switched NoLeadingUnderscore ∷ []) ≡ Ok plain
   pub usual_by_the_last : naming_in I386 (Switched NoLeadingUnderscore ∷ Switched LeadingUnderscore ∷ []) ≡ Ok usual
   pub plain_elsewhere : naming_in AMD64 (Switched LeadingUnderscore ∷ Switched NoLeadingUnderscore ∷ []) ≡ Ok plain

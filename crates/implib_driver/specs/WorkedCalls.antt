@@ -3,6 +3,7 @@ use Rattle.std.specs.Prelude.{◌≡◌, ℕ, List, [], ◌∷◌, Option, true,
 use Rattle.implib.specs.declared.def.position.Position.{Position}
 use Rattle.implib.specs.declared.flavor.Flavor.TheVariants.{Msvc, Gnu}
 use Rattle.implib.specs.declared.machine.MachineType.TheVariants.{I386, AMD64, ARM64}
+use Rattle.implib_driver.specs.declared.machine.LibraryMachine.TheVariants.{Ordinary}
 use Rattle.implib_driver.specs.declared.options.Setting.TheVariants.{Definition, Output, Machine, Dll}
 use Rattle.implib_driver.specs.declared.options.Setting.TheVariants.{Flavor as FlavorSetting}
 use Rattle.implib_driver.specs.declared.options.Switch.TheVariants.{CompatImplib, Help, Verbose}
@@ -29,10 +30,10 @@ use Rattle.implib_rules.specs.WorkedNames.{killing, plain, usual}
 
 -- the program called by its own name, and by one of I386 whose ways are the same
 abbrev pub itself : Caller
-itself = record { machine = Some AMD64; called_as = Itself }
+itself = record { machine = Some (Ordinary AMD64); called_as = Itself }
 
 abbrev pub for_i386 : Caller
-for_i386 = record { machine = Some I386; called_as = Itself }
+for_i386 = record { machine = Some (Ordinary I386); called_as = Itself }
 
 -- what command lines ask for
 pub record CallsAnswered : Type 0 where
@@ -41,6 +42,7 @@ pub record CallsAnswered : Type 0 where
     output = Some (codes "F.lib");
     delayed = None;
     library = record { machine = I386; flavor = Gnu; dll = Some (codes "zoo.dll"); naming = plain; additions = no_additions };
+    arm64ec = None;
     decorations = None;
     search = [];
     older_symbols = false;
@@ -51,6 +53,7 @@ pub record CallsAnswered : Type 0 where
     output = Some (codes "X.a");
     delayed = None;
     library = record { machine = AMD64; flavor = Gnu; dll = None; naming = killing; additions = no_additions };
+    arm64ec = None;
     decorations = None;
     search = [];
     older_symbols = false;
@@ -61,6 +64,7 @@ pub record CallsAnswered : Type 0 where
     output = Some (codes "a.lib");
     delayed = None;
     library = record { machine = AMD64; flavor = Msvc; dll = None; naming = usual; additions = no_additions };
+    arm64ec = None;
     decorations = None;
     search = [];
     older_symbols = false;
@@ -71,6 +75,7 @@ pub record CallsAnswered : Type 0 where
     output = None;
     delayed = None;
     library = record { machine = ARM64; flavor = Msvc; dll = None; naming = usual; additions = no_additions };
+    arm64ec = None;
     decorations = None;
     search = [];
     older_symbols = false;
@@ -81,6 +86,7 @@ pub record CallsAnswered : Type 0 where
     output = None;
     delayed = None;
     library = record { machine = AMD64; flavor = Gnu; dll = None; naming = usual; additions = no_additions };
+    arm64ec = None;
     decorations = None;
     search = [];
     older_symbols = false;
@@ -91,6 +97,7 @@ pub record CallsAnswered : Type 0 where
     output = None;
     delayed = None;
     library = record { machine = AMD64; flavor = Gnu; dll = None; naming = usual; additions = no_additions };
+    arm64ec = None;
     decorations = None;
     search = [];
     older_symbols = true;
@@ -110,6 +117,7 @@ asked_for output = record {
   output = output;
   delayed = None;
   library = record { machine = AMD64; flavor = Gnu; dll = None; naming = usual; additions = no_additions };
+  arm64ec = None;
   decorations = None;
   search = [];
   older_symbols = false;

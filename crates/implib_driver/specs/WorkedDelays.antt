@@ -8,6 +8,7 @@ use Rattle.implib_delay_library.specs.declared.library.DelayRefusal.TheVariants.
 use Rattle.implib_delay_library.specs.declared.library.DelayRefusal.TheVariants.{Undelayed as CannotDelay}
 use Rattle.implib_delay_library.specs.declared.library.Undelayed.TheVariants.{Alias, Data}
 use Rattle.implib_delay_library.specs.declared.library.Undelayed.TheVariants.{Machine as OfMachine}
+use Rattle.implib_driver.specs.declared.machine.LibraryMachine.TheVariants.{Ordinary}
 use Rattle.implib_driver.specs.declared.options.Setting.TheVariants.{AssemblerFlags, Definition}
 use Rattle.implib_driver.specs.declared.options.Setting.TheVariants.{DelayedOutput, Dll}
 use Rattle.implib_driver.specs.declared.options.Setting.TheVariants.{Flavor as FlavorSetting}
@@ -85,6 +86,7 @@ pub record DelaysAsked : Type 0 where
       naming = usual;
       additions = no_additions;
     };
+    arm64ec = None;
     decorations = None;
     search = [];
     older_symbols = false;
@@ -102,6 +104,7 @@ pub record DelaysAsked : Type 0 where
       naming = killing;
       additions = no_additions;
     };
+    arm64ec = None;
     decorations = None;
     search = [];
     older_symbols = false;
@@ -123,6 +126,7 @@ pub record DelaysAsked : Type 0 where
           naming = usual;
           additions = no_additions;
         };
+        arm64ec = None;
         decorations = None;
         search = [];
         older_symbols = false;
@@ -153,7 +157,7 @@ pub record DelaysAsked : Type 0 where
       ≡ Ok tt ∷ Ok tt ∷ Ok tt ∷ Ok tt ∷ []
   pub microsofts_named : task_of itself (given ∷ delayed ∷ Given FlavorSetting (codes "msvc")
       ∷ []) ≡ Err DelaysForMicrosoft
-  pub microsofts_called : task_of (record { machine = Some AMD64; called_as = Llvm })
+  pub microsofts_called : task_of (record { machine = Some (Ordinary AMD64); called_as = Llvm })
       (given ∷ delayed ∷ []) ≡ Err DelaysForMicrosoft
   pub arm : task_of itself (given ∷ delayed ∷ Given Machine (codes "arm") ∷ []) ≡ Err HasNoDelay
   pub arm64_for_gnu : task_of itself (given ∷ delayed ∷ Given Machine (codes "arm64")

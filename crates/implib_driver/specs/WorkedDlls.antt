@@ -24,6 +24,7 @@ pub record DllsAsked : Type 0 where
     output = Some (codes "a.lib");
     delayed = None;
     library = record { machine = AMD64; flavor = Msvc; dll = None; naming = usual; additions = no_additions };
+    arm64ec = None;
     decorations = None;
     search = [];
     older_symbols = false;
@@ -38,6 +39,7 @@ pub record DllsAsked : Type 0 where
     output = None;
     delayed = None;
     library = record { machine = ARM64; flavor = Msvc; dll = None; naming = usual; additions = no_additions };
+    arm64ec = None;
     decorations = None;
     search = [];
     older_symbols = false;
@@ -49,6 +51,7 @@ pub record DllsAsked : Type 0 where
     output = None;
     delayed = None;
     library = record { machine = I386; flavor = Gnu; dll = None; naming = usual; additions = no_additions };
+    arm64ec = None;
     decorations = Some (codes "b.a");
     search = [];
     older_symbols = false;
@@ -63,6 +66,7 @@ pub record DllsAsked : Type 0 where
     output = None;
     delayed = None;
     library = record { machine = I386; flavor = Gnu; dll = None; naming = usual; additions = no_additions };
+    arm64ec = None;
     decorations = None;
     search = [];
     older_symbols = false;

@@ -2,9 +2,9 @@
 use Rattle.std.specs.Prelude.{◌≡◌, ℕ, List, [], ◌∷◌, true, false, None, Some, Ok, Err, codes, map}
 use Rattle.std.specs.Str.{bytes_eq}
 use Rattle.implib.specs.declared.flavor.Flavor.TheVariants.{Msvc}
-use Rattle.implib.specs.declared.machine.MachineType.{MachineType}
+use Rattle.implib_driver.specs.declared.machine.LibraryMachine.{LibraryMachine}
 use Rattle.implib.specs.declared.machine.MachineType.TheVariants.{I386, ARM64}
-use Rattle.implib_driver.specs.declared.options.Setting.TheVariants.{Definition, Identify, Output, Machine, Dll, Flavor as FlavorSetting}
+use Rattle.implib_driver.specs.declared.options.Setting.TheVariants.{Definition, Identify, NativeDefinition, Output, Machine, Dll, Flavor as FlavorSetting}
 use Rattle.implib_driver.specs.declared.options.Switch.TheVariants.{ExportAs, Help, KeepsDecorated, ListsMembers, Verbose}
 use Rattle.implib_driver.specs.declared.identity.Wanted.TheVariants.{Members}
 use Rattle.implib_driver.specs.Arguments.{Given, IsFile, IsFurther, IsUnknown, IsUnsupported, LacksValueIn, ListsDefinition, NamesNoMachine, OccurrenceView, Reading, Switched, WantsDefinition, WantsLibrary, WantsOutput, read_words}
@@ -16,13 +16,15 @@ use Rattle.implib_rules.specs.WorkedNames.{decorated}
 -- each option, with either mark and in letters of any case
 abbrev pub said : List (List ℕ)
 said =
-    codes "/def:a.def" ∷ codes "-DEF:A.Def" ∷ codes "/Def:-" ∷ codes "/out:a.lib" ∷ codes "-Out:c:\\a.lib" ∷ codes "/NAME:zoo.dll"
+    codes "/def:a.def" ∷ codes "-DEF:A.Def" ∷ codes "/Def:-" ∷ codes "/defArm64Native:b.def" ∷ codes "-DEFARM64NATIVE:-"
+    ∷ codes "/out:a.lib" ∷ codes "-Out:c:\\a.lib" ∷ codes "/NAME:zoo.dll"
     ∷ codes "-name:Zoo" ∷ codes "/verbose" ∷ codes "-VERBOSE" ∷ codes "/list" ∷ codes "-List" ∷ codes "/help" ∷ codes "-Help" ∷ codes "/?" ∷ codes "-?" ∷ []
 
 -- what they add
 abbrev pub added : List OccurrenceView
 added =
-    Given Definition (codes "a.def") ∷ Given Definition (codes "A.Def") ∷ Given Definition (codes "-") ∷ Given Output (codes "a.lib")
+    Given Definition (codes "a.def") ∷ Given Definition (codes "A.Def") ∷ Given Definition (codes "-")
+    ∷ Given NativeDefinition (codes "b.def") ∷ Given NativeDefinition (codes "-") ∷ Given Output (codes "a.lib")
     ∷ Given Output (codes "c:\\a.lib") ∷ Given Dll (codes "zoo.dll") ∷ Given Dll (codes "Zoo") ∷ Switched Verbose ∷ Switched Verbose
     ∷ Switched ListsMembers ∷ Switched ListsMembers ∷ Switched Help ∷ Switched Help ∷ Switched Help ∷ Switched Help ∷ []
 
@@ -30,23 +32,25 @@ added =
 abbrev pub machine_words : List (List ℕ)
 machine_words =
     codes "/machine:x64" ∷ codes "-MACHINE:X64" ∷ codes "/Machine:AMD64" ∷ codes "/machine:x86" ∷ codes "/machine:X86" ∷ codes "/machine:I386"
-    ∷ codes "/machine:arm" ∷ codes "-machine:ARM" ∷ codes "/machine:arm64" ∷ codes "/MACHINE:Arm64" ∷ []
+    ∷ codes "/machine:arm" ∷ codes "-machine:ARM" ∷ codes "/machine:arm64" ∷ codes "/MACHINE:Arm64"
+    ∷ codes "/machine:arm64ec" ∷ codes "-Machine:ARM64EC" ∷ codes "/machine:Arm64X" ∷ []
 
 -- what they add
 abbrev pub machines_added : List OccurrenceView
 machines_added =
     Given Machine (codes "i386:x86-64") ∷ Given Machine (codes "i386:x86-64") ∷ Given Machine (codes "i386:x86-64") ∷ Given Machine (codes "i386")
     ∷ Given Machine (codes "i386") ∷ Given Machine (codes "i386") ∷ Given Machine (codes "arm") ∷ Given Machine (codes "arm")
-    ∷ Given Machine (codes "arm64") ∷ Given Machine (codes "arm64") ∷ []
+    ∷ Given Machine (codes "arm64") ∷ Given Machine (codes "arm64") ∷ Given Machine (codes "arm64ec") ∷ Given Machine (codes "arm64ec")
+    ∷ Given Machine (codes "arm64ec") ∷ []
 
 -- what LIB or llvm-lib knows and is not done here, and machines that are not supported
 abbrev pub unsupported : List (List ℕ)
 unsupported =
     codes "/extract:a.obj" ∷ codes "/remove:a.obj" ∷ codes "/libpath:d" ∷ codes "/export:f" ∷ codes "/include:f"
     ∷ codes "/subsystem:console" ∷ codes "/ltcg" ∷ codes "/wx" ∷ codes "/WX:NO" ∷ codes "/errorreport:none" ∷ codes "/nodefaultlib"
-    ∷ codes "/linkrepro:d" ∷ codes "/linkreprotarget:f" ∷ codes "-defArm64Native:b.def" ∷ codes "/ignore:4197" ∷ codes "/llvmlibempty"
+    ∷ codes "/linkrepro:d" ∷ codes "/linkreprotarget:f" ∷ codes "/ignore:4197" ∷ codes "/llvmlibempty"
     ∷ codes "/llvmlibthin"
-    ∷ codes "/machine:ARM64EC" ∷ codes "/machine:arm64x" ∷ codes "/machine:ebc" ∷ codes "/machine:ia64" ∷ codes "/machine:thumb"
+    ∷ codes "/machine:ebc" ∷ codes "/machine:ia64" ∷ codes "/machine:thumb"
     ∷ codes "/machine:am33" ∷ codes "/machine:m32r" ∷ codes "/machine:ppc" ∷ codes "/machine:mips" ∷ codes "/machine:mips16"
     ∷ codes "/machine:mipsfpu" ∷ codes "/machine:mipsfpu16" ∷ codes "/machine:mipsr41xx" ∷ codes "/machine:sh3" ∷ codes "/machine:sh3dsp"
     ∷ codes "/machine:sh4" ∷ codes "/machine:sh5" ∷ []
@@ -55,7 +59,8 @@ unsupported =
 abbrev pub unknown : List (List ℕ)
 unknown =
     codes "/outx:a.lib" ∷ codes "/de:a.def" ∷ codes "/" ∷ codes "-" ∷ codes "/:a" ∷ codes "/verbose:a" ∷ codes "/list:a" ∷ codes "/nologo:" ∷ codes "/help:" ∷ codes "--def:a.def"
-    ∷ codes "-d" ∷ codes "--lib" ∷ codes "/out=a.lib" ∷ codes "/out=d/a.lib" ∷ codes "-home/a.obj" ∷ []
+    ∷ codes "-d" ∷ codes "--lib" ∷ codes "/out=a.lib" ∷ codes "/out=d/a.lib" ∷ codes "-home/a.obj"
+    ∷ codes "/defArm64Natives:b.def" ∷ codes "/defArm64" ∷ []
 
 -- paths that begin as an option does
 abbrev pub paths : List (List ℕ)
@@ -64,11 +69,12 @@ paths = codes "/home/a.obj" ∷ codes "/a.obj" ∷ codes "//a" ∷ []
 -- options that lack their colon or their value
 abbrev pub lacking : List (List ℕ)
 lacking =
-    codes "/def" ∷ codes "/def:" ∷ codes "-OUT" ∷ codes "-out:" ∷ codes "/name" ∷ codes "/name:" ∷ codes "/machine" ∷ codes "/MACHINE:" ∷ []
+    codes "/def" ∷ codes "/def:" ∷ codes "-OUT" ∷ codes "-out:" ∷ codes "/name" ∷ codes "/name:" ∷ codes "/machine" ∷ codes "/MACHINE:"
+    ∷ codes "/defArm64Native" ∷ codes "/defarm64native:" ∷ []
 
 -- words that name no machine of LIB's
 abbrev pub no_machines : List (List ℕ)
-no_machines = codes "/machine:i386:x86-64" ∷ codes "/machine:x86_64" ∷ codes "/machine:armnt" ∷ codes "/machine:aarch64" ∷ codes "/machine:x" ∷ []
+no_machines = codes "/machine:i386:x86-64" ∷ codes "/machine:x86_64" ∷ codes "/machine:armnt" ∷ codes "/machine:aarch64" ∷ codes "/machine:x" ∷ codes "/machine:arm64xx" ∷ []
 
 -- what begins with neither mark
 abbrev pub files : List (List ℕ)
@@ -105,7 +111,7 @@ other_names =
 pub record LibWordsRead : Type 0 where
   pub options : map lib_word_of said ≡ map Adds added
   pub machines : map lib_word_of machine_words ≡ map Adds machines_added
-  pub machines_are_named : (machine : MachineType) → machine_named (machine_text machine) ≡ Some machine
+  pub machines_are_named : (machine : LibraryMachine) → machine_named (machine_text machine) ≡ Some machine
   pub ignored : map lib_word_of (codes "/nologo" ∷ codes "-NoLogo" ∷ []) ≡ Nothing ∷ Nothing ∷ []
   pub refused : map lib_word_of unsupported ≡ map (λ word. Refuses (IsUnsupported word)) unsupported
   pub near_misses : map lib_word_of unknown ≡ map (λ word. Refuses (IsUnknown word)) unknown
@@ -137,6 +143,7 @@ pub record LibWordsRead : Type 0 where
     output = Some (codes "b.a");
     delayed = None;
     library = record { machine = I386; flavor = Msvc; dll = Some (codes "zoo.dll"); naming = decorated; additions = no_additions };
+    arm64ec = None;
     decorations = None;
     search = [];
     older_symbols = false;
@@ -148,6 +155,7 @@ pub record LibWordsRead : Type 0 where
     output = Some (codes "b");
     delayed = None;
     library = record { machine = ARM64; flavor = Msvc; dll = None; naming = decorated; additions = no_additions };
+    arm64ec = None;
     decorations = None;
     search = [];
     older_symbols = false;

@@ -2,7 +2,8 @@
 use Rattle.std.specs.Prelude.{◌≡◌, ℕ, Bool, true, false, List, [], ◌∷◌, None, Some, Ok, Err, codes, map}
 use Rattle.implib.specs.declared.flavor.Flavor.TheVariants.{Msvc, Gnu}
 use Rattle.implib.specs.declared.machine.MachineType.TheVariants.{I386, ARMNT, AMD64, ARM64}
-use Rattle.implib_driver.specs.declared.options.Setting.TheVariants.{Definition, DelayedOutput, Output, Machine, Dll, Flavor, Assembler, AssemblerFlags, TemporaryPrefix, FurtherPrefix, Identify, Input, Decorations, Search}
+use Rattle.implib_driver.specs.declared.machine.LibraryMachine.TheVariants.{Arm64ec, Ordinary}
+use Rattle.implib_driver.specs.declared.options.Setting.TheVariants.{Definition, DelayedOutput, Output, Machine, Dll, Flavor, Assembler, AssemblerFlags, TemporaryPrefix, FurtherPrefix, Identify, Input, Decorations, Search, NativeDefinition}
 use Rattle.implib_driver.specs.declared.options.Switch.{Switch}
 use Rattle.implib_driver.specs.declared.options.Switch.TheVariants.{KeepsDecorated, KillAt, NoLeadingUnderscore, LeadingUnderscore, DeterministicLibraries, NonDeterministicLibraries, NoDelete, Verbose, Help, Version, ExportAs, AddUnderscore, AddStdcallUnderscore, AddStdcallAlias, IdentifyStrict, CompatImplib, ListedAlone, ListsMembers}
 use Rattle.implib.specs.Conversions.{flavor_named}
@@ -20,7 +21,8 @@ words_with_values =
     ∷ codes "-I" ∷ codes "s" ∷ codes "--identify" ∷ codes "t" ∷ codes "--dll" ∷ codes "u" ∷ codes "v"
     ∷ codes "-y" ∷ codes "w" ∷ codes "--output-delaylib" ∷ codes "x"
     ∷ codes "--decorations" ∷ codes "y" ∷ codes "--decorations=z" ∷ codes "--search" ∷ codes "A"
-    ∷ codes "--search=B" ∷ []
+    ∷ codes "--search=B" ∷ codes "-N" ∷ codes "C" ∷ codes "-ND" ∷ codes "--input-native-def" ∷ codes "E"
+    ∷ codes "--input-native-def=F" ∷ []
 
 -- what they give
 abbrev pub given : List OccurrenceView
@@ -33,7 +35,8 @@ given =
     ∷ Given Identify (codes "s") ∷ Given Identify (codes "t") ∷ Given Definition (codes "u") ∷ Given Input (codes "v")
     ∷ Given DelayedOutput (codes "w") ∷ Given DelayedOutput (codes "x")
     ∷ Given Decorations (codes "y") ∷ Given Decorations (codes "z") ∷ Given Search (codes "A")
-    ∷ Given Search (codes "B") ∷ []
+    ∷ Given Search (codes "B") ∷ Given NativeDefinition (codes "C") ∷ Given NativeDefinition (codes "D")
+    ∷ Given NativeDefinition (codes "E") ∷ Given NativeDefinition (codes "F") ∷ []
 
 -- each option without a value, by its letter, where it has one, and by its long name
 abbrev pub words_of_switches : List (List ℕ)
@@ -95,6 +98,7 @@ pub record OptionsNamed : Type 0 where
   pub identify : last_given Identify given ≡ Some (codes "t")
   pub decorations : last_given Decorations given ≡ Some (codes "z")
   pub search : all_given Search given ≡ codes "A" ∷ codes "B" ∷ []
+  pub native_definition : last_given NativeDefinition given ≡ Some (codes "F")
   pub kill_at : told_of KillAt
       ≡ true ∷ false ∷ false ∷ false ∷ false ∷ false ∷ false ∷ false ∷ false ∷ false ∷ false ∷ false ∷ false ∷ false ∷ false ∷ false ∷ false ∷ false ∷ []
   pub no_leading_underscore : told_of NoLeadingUnderscore
@@ -131,10 +135,12 @@ pub record OptionsNamed : Type 0 where
       ≡ false ∷ false ∷ false ∷ false ∷ false ∷ false ∷ false ∷ false ∷ false ∷ false ∷ false ∷ false ∷ false ∷ false ∷ false ∷ false ∷ true ∷ false ∷ []
   pub lists_members : told_of ListsMembers
       ≡ false ∷ false ∷ false ∷ false ∷ false ∷ false ∷ false ∷ false ∷ false ∷ false ∷ false ∷ false ∷ false ∷ false ∷ false ∷ false ∷ false ∷ true ∷ []
-  pub i386 : map machine_named (codes "i386" ∷ codes "I386" ∷ codes "x86" ∷ []) ≡ Some I386 ∷ Some I386 ∷ Some I386 ∷ []
+  pub i386 : map machine_named (codes "i386" ∷ codes "I386" ∷ codes "x86" ∷ [])
+      ≡ Some (Ordinary I386) ∷ Some (Ordinary I386) ∷ Some (Ordinary I386) ∷ []
   pub amd64 : map machine_named (codes "i386:x86-64" ∷ codes "AMD64" ∷ codes "x64" ∷ codes "x86_64" ∷ [])
-      ≡ Some AMD64 ∷ Some AMD64 ∷ Some AMD64 ∷ Some AMD64 ∷ []
-  pub armnt : map machine_named (codes "arm" ∷ codes "ArmNT" ∷ []) ≡ Some ARMNT ∷ Some ARMNT ∷ []
-  pub arm64 : map machine_named (codes "arm64" ∷ codes "AArch64" ∷ []) ≡ Some ARM64 ∷ Some ARM64 ∷ []
-  pub no_machine : map machine_named (codes "i686" ∷ codes "arm64ec" ∷ []) ≡ None ∷ None ∷ []
+      ≡ Some (Ordinary AMD64) ∷ Some (Ordinary AMD64) ∷ Some (Ordinary AMD64) ∷ Some (Ordinary AMD64) ∷ []
+  pub armnt : map machine_named (codes "arm" ∷ codes "ArmNT" ∷ []) ≡ Some (Ordinary ARMNT) ∷ Some (Ordinary ARMNT) ∷ []
+  pub arm64 : map machine_named (codes "arm64" ∷ codes "AArch64" ∷ []) ≡ Some (Ordinary ARM64) ∷ Some (Ordinary ARM64) ∷ []
+  pub arm64ec : map machine_named (codes "arm64ec" ∷ codes "Arm64EC" ∷ []) ≡ Some Arm64ec ∷ Some Arm64ec ∷ []
+  pub no_machine : map machine_named (codes "i686" ∷ codes "arm64x" ∷ codes "arm64ecx" ∷ []) ≡ None ∷ None ∷ None ∷ []
   pub flavors : map flavor_named (codes "msvc" ∷ codes "gnu" ∷ codes "GNU" ∷ []) ≡ Some Msvc ∷ Some Gnu ∷ None ∷ []

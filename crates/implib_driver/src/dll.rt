@@ -27,6 +27,8 @@ pub enum DllRefusal {
     UnknownMachine(u16),
     /// The options name another machine.
     OtherMachine,
+    /// The options name ARM64EC, for which only definitions have libraries.
+    Arm64ec,
     /// `--compat-implib`, which is for definitions.
     OlderSymbols,
     /// `--output-delaylib`, which is for definitions.

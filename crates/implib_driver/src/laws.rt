@@ -1,6 +1,7 @@
 //! Laws: what is proved of the definitions.
 
 ghost use Rattle.implib_driver.specs.Worked.{CallsRead};
+ghost use Rattle.implib_driver.specs.WorkedArm64ec.{Arm64ecAsked};
 ghost use Rattle.implib_driver.specs.WorkedCallers.{CallersNamed, FaultsOrdered, FlavorsChosen};
 ghost use Rattle.implib_driver.specs.WorkedCalls.{AnswersTold, CallsAnswered};
 ghost use Rattle.implib_driver.specs.WorkedDelays.{DelaysAsked};
@@ -69,4 +70,11 @@ pub fn dlls_asked()
 /// said.
 pub fn delays_asked()
     ensures { DelaysAsked }
+{}
+
+/// Calls for libraries for ARM64EC, as mingw-w64, winebuild and users of LIB write them, ask for what was
+/// worked by hand, or are refused, and of two faults the right one comes first; of a refusal the right
+/// thing is said, of the right file.
+pub fn arm64ec_asked()
+    ensures { Arm64ecAsked }
 {}

@@ -6,11 +6,13 @@
 #![tactic(auto)]
 
 pub mod arguments;
+mod arm64ec;
 pub mod disk;
 pub mod dll;
 pub mod identity;
 pub mod laws;
 pub mod lib_words;
+pub mod machine;
 pub mod message;
 pub mod options;
 pub mod placing;

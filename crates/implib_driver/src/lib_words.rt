@@ -18,6 +18,7 @@ ghost use Rattle.std.specs.String.{string_bytes};
 use crate::arguments::{
     Occurrence, ReadWordsError, WordFault, all_given, is_switched, last_given, read_words,
 };
+use crate::machine::LibraryMachine;
 use crate::options::{Setting, Switch};
 use crate::request::holds_text;
 use implib::MachineType;
@@ -48,7 +49,7 @@ fn is_lib_unsupported(name: &str) -> bool
     match name {
         "extract" | "remove" | "libpath" | "export" | "include" => true,
         "subsystem" | "ltcg" | "wx" | "errorreport" | "nodefaultlib" => true,
-        "linkrepro" | "linkreprotarget" | "defarm64native" | "ignore" => true,
+        "linkrepro" | "linkreprotarget" | "ignore" => true,
         "llvmlibempty" | "llvmlibthin" => true,
         _ => false,
     }
@@ -60,6 +61,7 @@ pub fn lib_option_named(name: &str) -> LibMeaning
 {
     match name {
         "def" => LibMeaning::Takes(Setting::Definition),
+        "defarm64native" => LibMeaning::Takes(Setting::NativeDefinition),
         "out" => LibMeaning::Takes(Setting::Output),
         "name" => LibMeaning::Takes(Setting::Dll),
         "machine" => LibMeaning::Machine,
@@ -76,7 +78,7 @@ pub fn lib_option_named(name: &str) -> LibMeaning
 #[derive(Clone, Copy, Debug, PartialEq, Eq)]
 pub enum LibMachine {
     /// This machine.
-    Known(MachineType),
+    Known(LibraryMachine),
     /// A machine that LIB has or had, and that is not supported.
     Unsupported,
     /// No machine.
@@ -88,36 +90,40 @@ fn is_lib_machine_unsupported(name: &str) -> bool
     ensures { result ≡ is_lib_machine_unsupported name.now }
 {
     match name {
-        "arm64ec" | "arm64x" | "ebc" | "ia64" | "thumb" | "am33" | "m32r" | "ppc" => true,
+        "ebc" | "ia64" | "thumb" | "am33" | "m32r" | "ppc" => true,
         "mips" | "mips16" | "mipsfpu" | "mipsfpu16" | "mipsr41xx" => true,
         "sh3" | "sh3dsp" | "sh4" | "sh5" => true,
         _ => false,
     }
 }
 
-/// The machine of a name in small letters, as LIB and llvm-lib name them.
+/// The machine of a name in small letters, as LIB and llvm-lib name them. ARM64X is ARM64EC, whose
+/// library it has.
 pub fn lib_machine_named(name: &str) -> LibMachine
     ensures { result ≡ lib_machine_named name.now }
 {
-    match name {
-        "x86" | "i386" => LibMachine::Known(MachineType::I386),
-        "x64" | "amd64" => LibMachine::Known(MachineType::AMD64),
-        "arm" => LibMachine::Known(MachineType::ARMNT),
-        "arm64" => LibMachine::Known(MachineType::ARM64),
-        _ if is_lib_machine_unsupported(name) => LibMachine::Unsupported,
-        _ => LibMachine::Unknown,
-    }
+    let machine = match name {
+        "x86" | "i386" => MachineType::I386,
+        "x64" | "amd64" => MachineType::AMD64,
+        "arm" => MachineType::ARMNT,
+        "arm64" => MachineType::ARM64,
+        "arm64ec" | "arm64x" => return LibMachine::Known(LibraryMachine::Arm64ec),
+        _ if is_lib_machine_unsupported(name) => return LibMachine::Unsupported,
+        _ => return LibMachine::Unknown,
+    };
+    LibMachine::Known(LibraryMachine::Ordinary(machine))
 }
 
 // The name of a machine for `-m`.
-fn machine_text(machine: MachineType) -> &'static str
+fn machine_text(machine: LibraryMachine) -> &'static str
     ensures { result.now ≡ machine_text machine }
 {
     match machine {
-        MachineType::I386 => "i386",
-        MachineType::ARMNT => "arm",
-        MachineType::AMD64 => "i386:x86-64",
-        MachineType::ARM64 => "arm64",
+        LibraryMachine::Ordinary(MachineType::I386) => "i386",
+        LibraryMachine::Ordinary(MachineType::ARMNT) => "arm",
+        LibraryMachine::Ordinary(MachineType::AMD64) => "i386:x86-64",
+        LibraryMachine::Ordinary(MachineType::ARM64) => "arm64",
+        LibraryMachine::Arm64ec => "arm64ec",
     }
 }
 

@@ -6,14 +6,19 @@ use crate::identity::NotIdentified;
 use crate::options::Setting;
 use crate::reporter::Complaint;
 use crate::request::CallFault;
+use implib::Fault;
+use implib::def::Position;
+use implib_arm64ec::ImportsFault;
+use implib_arm64ec_library::Unimported;
 use implib_delay_library::Undelayed;
-use implib_rules::Shown;
+use implib_rules::{FaultMessage, Shown};
 use std::fmt;
 
 impl fmt::Display for Setting {
     fn fmt<W: fmt::Write>(&self, f: &mut fmt::Formatter<W>) -> fmt::Result {
         f.write_str(match self {
             Setting::Definition => "-d",
+            Setting::NativeDefinition => "-N",
             Setting::Output => "-l",
             Setting::DelayedOutput => "-y",
             Setting::Machine => "-m",
@@ -31,7 +36,8 @@ impl fmt::Display for Setting {
     }
 }
 
-/// The long names of options, one of which a message may tell in full.
+/// The long names of options, one of which a message may tell in full. `input-native-def` is none of
+/// them, so that `--input`, which GNU dlltool takes, is told as `--input-def`.
 pub const NAMES: [&str; 41] = [
     "input-def",
     "def",
@@ -134,7 +140,7 @@ impl<'a> fmt::Display for WordFault<'a> {
             }
             WordFault::NoMachine(word) => write!(
                 f,
-                "{}: no such machine: expected x86, x64, arm or arm64",
+                "{}: no such machine: expected x86, x64, arm, arm64 or arm64ec",
                 Shown(word)
             ),
             WordFault::NoDefinition => f.write_str(
@@ -168,7 +174,7 @@ impl<'a> fmt::Display for CallFault<'a> {
             ),
             CallFault::UnknownMachine(name) => write!(
                 f,
-                "{}: no such machine: expected i386, i386:x86-64, arm or arm64",
+                "{}: no such machine: expected i386, i386:x86-64, arm, arm64 or arm64ec",
                 Shown(name)
             ),
             CallFault::UnknownFlavor(name) => {
@@ -193,7 +199,8 @@ impl<'a> fmt::Display for CallFault<'a> {
                 f.write_str("-l and -y name one file; expected a file for each library")
             }
             CallFault::NoDelay => f.write_str(
-                "--output-delaylib: not supported on arm and arm64; -m i386 and i386:x86-64 can",
+                "--output-delaylib: not supported on arm, arm64 and arm64ec; -m i386 and \
+                 i386:x86-64 can",
             ),
             CallFault::DelayForMicrosoft => f.write_str(
                 "--output-delaylib: not for Microsoft's linkers, which delay the imports of an \
@@ -208,8 +215,25 @@ impl<'a> fmt::Display for CallFault<'a> {
             CallFault::SearchedDefinition => f.write_str(
                 "--search: for a DLL alone, since a definition says which exports are data",
             ),
+            CallFault::Arm64ecForGnu => f.write_str(
+                "arm64ec: not supported for GNU's linker; leave out --flavor, or make it msvc",
+            ),
+            CallFault::NativeElsewhere => f.write_str(
+                "--input-native-def: for arm64ec alone; add -m arm64ec, or /machine:arm64ec after \
+                 --lib",
+            ),
+            CallFault::EmptyNative => {
+                f.write_str("the name of the native definition's file is empty")
+            }
+            CallFault::OutputIsNative => {
+                f.write_str("the library would take the place of the native definition")
+            }
+            CallFault::OneInput => f.write_str(
+                "-d and -N are both standard input; expected a file for one of them",
+            ),
             CallFault::NoOlderSymbols => f.write_str(
-                "--compat-implib: not supported for Microsoft's linker; --flavor gnu can",
+                "--compat-implib: not supported for Microsoft's linker; --flavor gnu can, but on \
+                 arm64ec",
             ),
         }
     }
@@ -225,6 +249,10 @@ impl fmt::Display for DllRefusal {
                 "it is for machine {number:#06x}: expected i386, i386:x86-64, arm or arm64"
             ),
             DllRefusal::OtherMachine => f.write_str("it is for another machine than -m names"),
+            DllRefusal::Arm64ec => f.write_str(
+                "arm64ec: not supported for a DLL; for a definition it is, as implib_check --def \
+                 writes one",
+            ),
             DllRefusal::OlderSymbols => {
                 f.write_str("--compat-implib: not supported for a DLL; for a definition it is")
             }
@@ -253,6 +281,37 @@ pub fn undelayed_text(why: &Undelayed) -> &'static str {
         }
         Undelayed::Alias(_) => "an alias cannot be delayed; leave it out for -y",
         Undelayed::Machine => "this machine has no code for delayed imports",
+    }
+}
+
+/// Why a definition has no short imports for ARM64EC, in a user's words.
+#[derive(Drop)]
+pub struct UnimportedMessage<'a>(pub &'a Unimported);
+
+impl<'a> fmt::Display for UnimportedMessage<'a> {
+    fn fmt<W: fmt::Write>(&self, f: &mut fmt::Formatter<W>) -> fmt::Result {
+        match self.0.fault {
+            ImportsFault::NulInDllName => { write!(f, "{}", FaultMessage(&Fault::NulInImportName)) }
+            ImportsFault::NulInExport(index) => {
+                write!(f, "{}", FaultMessage(&Fault::NulInExport(index)))
+            }
+            ImportsFault::Unreadable(_, place) => write!(
+                f,
+                "a name of C++ for arm64ec that is not understood after {place} bytes; with $$h in \
+                 it a name is taken as it is"
+            ),
+            ImportsFault::MemberTooLong(_) => {
+                write!(f, "{}", FaultMessage(&Fault::MemberTooLong))
+            }
+        }
+    }
+}
+
+/// Where that is; none where it is of the DLL's name.
+pub fn position_of_unimported(why: &Unimported) -> Option<Position> {
+    match why.fault {
+        ImportsFault::NulInDllName => None,
+        _ => Some(why.position),
     }
 }
 
@@ -287,6 +346,7 @@ impl<'a> fmt::Display for Complaint<'a> {
                 "warning: {count} forwarders lead to nothing in the folders, and stay code"
             ),
             Complaint::Undelayed(why) => f.write_str(undelayed_text(why)),
+            Complaint::Unimported(why) => write!(f, "{}", UnimportedMessage(why)),
             Complaint::Utf16 => f.write_str("the definition is UTF-16; expected UTF-8"),
             Complaint::FailingStub => f.write_str(
                 "functions for GNU's linker cannot run on arm, by the stubs that they have there; \

@@ -15,6 +15,8 @@ pub enum Setting {
     Output,
     /// `-y`, `--output-delaylib`: the library of delayed imports.
     DelayedOutput,
+    /// `-N`, `--input-native-def`: the native definition of a library for ARM64EC.
+    NativeDefinition,
     /// `-m`, `--machine`
     Machine,
     /// `-D`, `--dllname`: the DLL's name, before the definition's own.
@@ -102,6 +104,7 @@ impl Setting {
             Setting::DelayedOutput => 11,
             Setting::Decorations => 12,
             Setting::Search => 13,
+            Setting::NativeDefinition => 14,
         }
     }
 
@@ -208,6 +211,7 @@ fn setting_named(name: &str) -> Option<Setting>
 {
     match name {
         "input-def" | "def" | "dll" => Some(Setting::Definition),
+        "input-native-def" => Some(Setting::NativeDefinition),
         "output-lib" => Some(Setting::Output),
         "output-delaylib" => Some(Setting::DelayedOutput),
         "machine" => Some(Setting::Machine),
@@ -238,6 +242,7 @@ pub fn option_lettered(letter: u8) -> Meaning
 {
     match letter {
         b'd' => Meaning::Takes(Setting::Definition),
+        b'N' => Meaning::Takes(Setting::NativeDefinition),
         b'l' => Meaning::Takes(Setting::Output),
         b'y' => Meaning::Takes(Setting::DelayedOutput),
         b'm' => Meaning::Takes(Setting::Machine),

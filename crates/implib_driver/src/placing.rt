@@ -1,15 +1,18 @@
 //! The library of a definition, and its way to its place.
 
 ghost use Rattle.implib_archive.specs.Archive.{archive_of};
+ghost use Rattle.implib_archive.specs.Written.{Writes};
+ghost use Rattle.implib_arm64ec.specs.Archive.{ec_archive};
 ghost use Rattle.implib_driver.specs.Placing.{AnswersMembers, AnswersWith, IsPlaced, IsPut, IsUnplaced};
 ghost use Rattle.implib_driver.specs.Request.{request_view};
 ghost use Rattle.std.specs.Io.KnownBytes.{Appends};
 ghost use Rattle.std.specs.Option.{option_map};
-ghost use Rattle.std.specs.Prelude.{◌≡◌, IfOk, None, OnErr, OnOk};
+ghost use Rattle.std.specs.Prelude.{◌≡◌, IfOk, List, None, OnErr, OnOk, ℕ};
 
 use crate::disk::Disk;
 use crate::request::Request;
 use implib_archive::{Archive, Members, Source, WriteError};
+use implib_arm64ec::Archive as Arm64ecArchive;
 use implib_rules::library::{LibraryError, archive_for};
 use implib_rules::members::LibraryMembers;
 use std::alloc::Global;
@@ -18,17 +21,43 @@ use std::io::{BufWriter, Write};
 // How many bytes are written to a file at once.
 const BUFFER: usize = 1 << 16;
 
+/// An archive that can be written.
+pub(crate) trait Written {
+    // Its bytes.
+    ghost bytes: { Self → List ℕ };
+
+    /// Writes it. It does not flush.
+    ///
+    /// # Errors
+    ///
+    /// The writer answered an error or took no byte, or an allocation failed.
+    fn write<W: Write>(&self, alloc: Global, writer: &mut W) -> Result<(), WriteError>
+        ensures { Writes (W.contents writer.old) (W.contents writer.new) (bytes self.now) result };
+}
+
+impl<'a, S: Source<'a>> Written for Archive<'a, S> {
+    ghost bytes = { λ archive. archive_of archive.kind archive.members };
+
+    fn write<W: Write>(&self, alloc: Global, writer: &mut W) -> Result<(), WriteError> {
+        self.write_to(alloc, writer)
+    }
+}
+
+impl<'a> Written for Arm64ecArchive<'a> {
+    ghost bytes = { λ library. ec_archive library };
+
+    fn write<W: Write>(&self, alloc: Global, writer: &mut W) -> Result<(), WriteError> {
+        self.write_to(alloc, writer)
+    }
+}
+
 // Writes an archive to a file that is empty, and gives the file.
-fn fill<'a, W: Write + Drop, S: Source<'a>>(
-    alloc: Global,
-    file: W,
-    archive: &Archive<'a, S>,
-) -> Result<W, WriteError>
+fn fill<W: Write + Drop, A: Written>(alloc: Global, file: W, archive: &A) -> Result<W, WriteError>
     ensures { IfOk result (λ filled. Appends (W.contents file) (W.contents filled)
-        (archive_of archive.now.kind archive.now.members)) }
+        (A.bytes archive.now)) }
 {
     let mut writer = BufWriter::with_capacity(alloc, BUFFER, file)?;
-    let written = match archive.write_to(alloc, &mut writer) {
+    let written = match archive.write(alloc, &mut writer) {
         Ok(()) => writer.flush().map_err(WriteError::from),
         failed => failed,
     };
@@ -45,15 +74,15 @@ fn fill<'a, W: Write + Drop, S: Source<'a>>(
 /// # Errors
 ///
 /// It was not written, and no file is in another's place.
-pub(crate) fn place<'a, D: Disk, S: Source<'a>>(
+pub(crate) fn place<D: Disk, A: Written>(
     alloc: Global,
     disk: &mut D,
     path: &str,
-    archive: &Archive<'a, S>,
+    archive: &A,
 ) -> Result<(), WriteError>
     requires { (D.view disk.old).left ≡ None }
     ensures placed { OnOk result (IsPlaced D.is_known (D.view disk.old) (D.view disk.new) path.now
-        (archive_of archive.now.kind archive.now.members)) }
+        (A.bytes archive.now)) }
     ensures unplaced { OnErr result (IsUnplaced (D.view disk.old) (D.view disk.new)) }
 {
     let file = disk.begin(path)?;
@@ -67,17 +96,20 @@ pub(crate) fn place<'a, D: Disk, S: Source<'a>>(
     placed
 }
 
-// Puts an archive into the place that is asked for, if one is.
-fn place_if<D: Disk>(
+/// Puts an archive into the place that is asked for, if one is.
+///
+/// # Errors
+///
+/// It was not written, and no file is in another's place.
+pub(crate) fn place_if<D: Disk, A: Written>(
     alloc: Global,
     disk: &mut D,
     output: Option<&str>,
-    archive: &Archive<'_, &LibraryMembers>,
+    archive: &A,
 ) -> Result<(), WriteError>
     requires { (D.view disk.old).left ≡ None }
     ensures put { OnOk result (IsPut D.is_known (D.view disk.old) (D.view disk.new)
-        (option_map (λ path. path.now) output.entry)
-        (archive_of archive.now.kind archive.now.members)) }
+        (option_map (λ path. path.now) output.entry) (A.bytes archive.now)) }
     ensures unplaced { OnErr result (IsUnplaced (D.view disk.old) (D.view disk.new)) }
 {
     match output {

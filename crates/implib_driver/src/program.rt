@@ -9,10 +9,12 @@ ghost use Rattle.implib_archive.specs.Archive.{archive_of};
 ghost use Rattle.implib_driver.specs.Identity.{identified};
 ghost use Rattle.implib_driver.specs.Program.{Identifies, IsUncalled, KeepsFiles, Makes, Performs};
 ghost use Rattle.implib_driver.specs.Program.{NamesDlls, OnlyComplains, Prints, Runs};
-ghost use Rattle.implib_driver.specs.Program.{SaysWarnings, Warned, answer_status, definition_in};
+ghost use Rattle.implib_driver.specs.Program.{FinishesFor, Warned, answer_status, definition_in};
+ghost use Rattle.implib_driver.specs.Warned.{IsNoDefinition, SaysWarnings, WarnsOfNone};
 ghost use Rattle.implib_driver.specs.Program.{begins_utf16, is_bare, misuse, subject_of};
 ghost use Rattle.implib_driver.specs.Program.{devices, own_name, texts};
-ghost use Rattle.implib_driver.specs.Program.{verdict, warning_lines, warnings_for};
+ghost use Rattle.implib_driver.specs.Program.{verdict, warning_lines};
+ghost use Rattle.implib_driver.specs.Warned.{warnings_for};
 ghost use Rattle.implib_driver.specs.Reports.{Complains, OfDll, OfMemory, Refuses, Says, complaint_view};
 ghost use Rattle.implib_rules.specs.declared.library.Refusal.TheVariants.{OutOfMemory};
 ghost use Rattle.implib_dll.specs.Views.{exports_view};
@@ -24,19 +26,22 @@ ghost use Rattle.implib_driver.specs.DllProgram.{FinishesKinds, call_status, com
 ghost use Rattle.implib_driver.specs.DllProgram.{undecorated_lines, undecorated_status};
 ghost use Rattle.implib_from_dll.specs.Definition.{exports_of};
 ghost use Rattle.implib_driver.specs.Request.{call_fault_view, request_for, request_view};
-ghost use Rattle.implib_rules.specs.Library.{CountsMembers, status_of};
+ghost use Rattle.implib_rules.specs.Library.{status_of};
 ghost use Rattle.implib_rules.specs.Warnings.{warning_view};
 ghost use Rattle.std.specs.IoError.{error_kind};
 ghost use Rattle.std.specs.Option.{option_map};
-ghost use Rattle.std.specs.Prelude.{◌≡◌, ◌⊎◌, [], ◌∷◌, IfErr, IfOk, IfSome, List, None, OnErr, OnOk, Option, Some, false, map, true, ℕ};
+ghost use Rattle.std.specs.Prelude.{◌≡◌, ◌⊎◌, [], ◌∷◌, IfErr, IfOk, IfSome, List, None, OnErr, OnOk, Option, Some, codes, false, map, true, ℕ};
+ghost use Rattle.std.specs.Str.{bytes_eq};
 ghost use Rattle.std.specs.String.{string_bytes};
 ghost use Rattle.std.specs.Vec.Iter.{into_iter_items};
 
 use crate::arguments::{Occurrence, ReadWordsError, is_given};
+use crate::arm64ec::answer_arm64ec;
 use crate::disk::Disk;
 use crate::dll::{DllCallError, DllRefusal, begins_dll, dll_exports, list_of_dll, members_of_dll};
 use crate::identity::{IdentifyError, identify};
 use crate::lib_words::words_read;
+use crate::machine::LibraryMachine;
 use crate::options::Setting;
 use crate::placing::{place, put};
 use crate::reporter::{Complaint, Reporter};
@@ -67,6 +72,7 @@ use std::{io, mem};
 // What the program prints for `--help`.
 const HELP: &str = "\
 usage: implib_dlltool -d FILE [-l OUT] [-y OUT] [-m MACHINE] [-D DLL] [--flavor FLAVOUR]
+       implib_dlltool -m arm64ec -d FILE [-N FILE] [-l OUT] [-D DLL]
        implib_dlltool -l OUT FOO.dll [--search DIR]..
 
 Makes the import library of a module definition, or of all that a DLL exports.
@@ -81,15 +87,18 @@ Makes the import library of a module definition, or of all that a DLL exports.
                            i386 and i386:x86-64, of functions alone; names are
                            asked for as under -k
   -m, --machine MACHINE    i386 or x86; i386:x86-64, amd64, x64 or x86_64; arm or
-                           armnt; arm64 or aarch64; by default the one that the
-                           program's name begins with, as i686-w64-mingw32-dlltool,
-                           and else i386:x86-64
+                           armnt; arm64 or aarch64; arm64ec; by default the one that
+                           the program's name begins with, as
+                           i686-w64-mingw32-dlltool, and else i386:x86-64
+  -N, --input-native-def FILE
+                           with -m arm64ec, the definition of what the DLL exports
+                           to programs for arm64
   -D, --dllname DLL        the name of the DLL, before that of FILE
       --flavor FLAVOUR     msvc or gnu: whose linker the library is for; by
-                           default msvc for arm and arm64 and for OUT in .lib,
-                           unless -S, -f, -t or -y is given, and else gnu; called
-                           as llvm-dlltool msvc, and called as another dlltool
-                           gnu but for arm and arm64
+                           default msvc for arm, arm64 and arm64ec and for OUT in
+                           .lib, unless -S, -f, -t or -y is given, and else gnu;
+                           called as llvm-dlltool msvc, and called as another
+                           dlltool gnu but for arm, arm64 and arm64ec
   -k, --kill-at            on I386 ask for names without @ and what follows it
       --no-leading-underscore
                            on I386 take symbols as they are written
@@ -124,7 +133,8 @@ Called as LIB is, by a name that is lib or ends in -lib, or with a first word
 --lib:
 
   /def:FILE /out:OUT       the definition and the library
-  /machine:MACHINE         x86, x64, arm or arm64
+  /machine:MACHINE         x86, x64, arm, arm64, arm64ec, or arm64x, which is the same
+  /defArm64Native:FILE     as -N
   /name:DLL                the name of the DLL, before that of FILE
   /verbose                 as -v
   /list LIB                print the names of LIB's members, and make nothing
@@ -182,7 +192,7 @@ fn print<O: Write, T: Reporter>(printer: &mut O, reporter: &mut T, name: &str, t
 }
 
 // The exit status for a refusal.
-fn refusal_status(refusal: &Refusal) -> u8
+pub(crate) fn refusal_status(refusal: &Refusal) -> u8
     ensures { result ≡ status_of refusal.now }
 {
     match refusal {
@@ -209,10 +219,10 @@ fn say_warnings<T: Reporter>(
 // The bytes of a definition, how many members its warnings are of, and whether its library has no
 // more members than those of its DLL.
 #[derive(Clone, Copy, Debug)]
-struct Counted<'a> {
-    bytes: &'a [u8],
-    members: usize,
-    is_bare: bool,
+pub(crate) struct Counted<'a> {
+    pub(crate) bytes: &'a [u8],
+    pub(crate) members: usize,
+    pub(crate) is_bare: bool,
 }
 
 // Whether a library of this many members has no more than those of its DLL.
@@ -229,8 +239,9 @@ fn warn_of_none<T: Reporter>(
     request: &Request<'_>,
     reporter: &mut T,
 ) -> Result<(), AllocError>
-    ensures warned { OnOk result (Warned false true bytes.now (request_view request.now)
-        (T.said reporter.old) (T.said reporter.new)) }
+    ensures warned { OnOk result (WarnsOfNone bytes.now (request_view request.now)
+        (T.said reporter.old) (T.said reporter.new)
+        ⊎ IsNoDefinition bytes.now (T.said reporter.old) (T.said reporter.new)) }
     ensures silent { OnErr result (T.said reporter.new ≡ T.said reporter.old) }
 {
     let read = DefinitionText::new(alloc, bytes)?;
@@ -275,10 +286,9 @@ fn warn_of<T: Reporter>(
     request: &Request<'_>,
     reporter: &mut T,
 ) -> Result<(), AllocError>
-    ensures warned { CountsMembers counted.entry.bytes.now (request_view request.now).library
-        (request_view request.now).library.flavor counted.entry.members
-        → OnOk result (SaysWarnings counted.entry.bytes.now (definition_view def.now) places.now
-        (request_view request.now) (T.said reporter.old) (T.said reporter.new)) }
+    ensures warned { OnOk result (SaysWarnings counted.entry.members counted.entry.bytes.now
+        (definition_view def.now) places.now (request_view request.now)
+        (T.said reporter.old) (T.said reporter.new)) }
     ensures silent { OnErr result (T.said reporter.new ≡ T.said reporter.old) }
 {
     let exports = def.exports.as_slice();
@@ -297,16 +307,15 @@ fn warn_of<T: Reporter>(
 
 // Says the warnings of a definition, where they are asked for, and of a bare library that there is no
 // export. What is no definition has none.
-fn warn<T: Reporter>(
+pub(crate) fn warn<T: Reporter>(
     alloc: Global,
     counted: Counted<'_>,
     request: &Request<'_>,
     reporter: &mut T,
 ) -> Result<(), AllocError>
-    ensures warned { CountsMembers counted.entry.bytes.now (request_view request.now).library
-        (request_view request.now).library.flavor counted.entry.members
-        → OnOk result (Warned request.now.is_verbose counted.entry.is_bare counted.entry.bytes.now
-        (request_view request.now) (T.said reporter.old) (T.said reporter.new)) }
+    ensures warned { OnOk result (Warned request.now.is_verbose counted.entry.is_bare
+        counted.entry.members counted.entry.bytes.now (request_view request.now)
+        (T.said reporter.old) (T.said reporter.new)) }
     ensures silent { OnErr result (T.said reporter.new ≡ T.said reporter.old) }
 {
     if !request.is_verbose && counted.is_bare {
@@ -326,8 +335,8 @@ fn warn<T: Reporter>(
     }
 }
 
-// The bytes of the definition.
-fn bytes_of<D: Disk, I: Read>(
+// The bytes of a definition.
+pub(crate) fn bytes_of<D: Disk, I: Read>(
     alloc: Global,
     disk: &mut D,
     input: &mut I,
@@ -338,6 +347,8 @@ fn bytes_of<D: Disk, I: Read>(
         (λ file. bytes.items ≡ file)) }
     ensures same { OnOk result (D.view disk.new ≡ D.view disk.old) }
     ensures failed { OnErr result (KeepsFiles (D.view disk.old) (D.view disk.new)) }
+    ensures unread { bytes_eq path.now (codes "-") ≡ false
+        → I.remaining input.new ≡ I.remaining input.old }
 {
     if path != "-" {
         return disk.read(alloc, path);
@@ -372,7 +383,7 @@ fn conclude<T: Reporter>(
 }
 
 // Says that memory was refused before a warning was said, and gives the exit status.
-fn give_up<T: Reporter>(reporter: &mut T, request: &Request<'_>) -> u8
+pub(crate) fn give_up<T: Reporter>(reporter: &mut T, request: &Request<'_>) -> u8
     ensures said { Says (T.said reporter.old) (T.said reporter.new)
         (Refuses (request_view request.now).definition OutOfMemory ∷ []) }
     ensures status { result ≡ 3 }
@@ -481,7 +492,7 @@ struct Delayed<'a> {
 }
 
 // Whether bytes begin as a text in UTF-16.
-fn begins_utf16(bytes: &[u8]) -> bool
+pub(crate) fn begins_utf16(bytes: &[u8]) -> bool
     ensures { result ≡ begins_utf16 bytes.now }
 {
     bytes.starts_with(&[0xFF, 0xFE]) || bytes.starts_with(&[0xFE, 0xFF])
@@ -661,10 +672,11 @@ fn request_of_dll<'a>(
         return Err(DllCallError::Dll(DllRefusal::UnknownMachine(exports.machine)));
     };
     let caller = Caller {
-        machine: Some(machine),
+        machine: Some(LibraryMachine::Ordinary(machine)),
         ..call.caller
     };
     match request_in(alloc, call.options, caller) {
+        Ok(request) if request.arm64ec.is_some() => { Err(DllCallError::Dll(DllRefusal::Arm64ec)) }
         Ok(request) if request.library.machine == machine => Ok(request),
         Ok(_) => Err(DllCallError::Dll(DllRefusal::OtherMachine)),
         Err(CallError::Refused(fault)) => Err(DllCallError::Call(fault)),
@@ -947,19 +959,41 @@ fn misuse(request: &Request<'_>) -> Option<CallFault<'static>>
     None
 }
 
+// Puts the library of a definition that is read, for ARM64EC or another machine, and gives the exit
+// status.
+fn answer_for<D: Disk, I: Read, T: Reporter>(
+    alloc: Global,
+    bytes: &[u8],
+    disk: &mut D,
+    request: &Request<'_>,
+    input: &mut I,
+    reporter: &mut T,
+) -> u8
+    requires { (D.view disk.old).left ≡ None }
+    ensures { FinishesFor D.is_known (I.remaining input.old) bytes.now
+        (request_view request.now).arm64ec (request_view request.now) (D.view disk.old)
+        (D.view disk.new) (T.said reporter.old) (T.said reporter.new) result }
+{
+    match request.arm64ec {
+        None => answer_text(alloc, bytes, disk, request, reporter),
+        Some(wish) => answer_arm64ec(alloc, bytes, wish.native, disk, request, input, reporter),
+    }
+}
+
 // Puts the library of a file that is read, a DLL or a definition, and gives the exit status.
-fn answer<D: Disk, T: Reporter>(
+fn answer<D: Disk, I: Read, T: Reporter>(
     alloc: Global,
     bytes: &[u8],
     disk: &mut D,
     call: &LibraryCall<'_>,
+    input: &mut I,
     reporter: &mut T,
 ) -> u8
     requires { (D.view disk.old).left ≡ None }
     ensures { FinishesRead D.is_known
         (request_for call.now.caller (map occurrence_view call.now.options.now)) (begins_dll bytes.now)
-        bytes.now (request_view call.now.request) (D.view disk.old) (D.view disk.new)
-        (T.said reporter.old) (T.said reporter.new) result }
+        (I.remaining input.old) bytes.now (request_view call.now.request) (D.view disk.old)
+        (D.view disk.new) (T.said reporter.old) (T.said reporter.new) result }
 {
     if begins_dll(bytes) {
         return answer_dll(alloc, bytes, disk, call, reporter);
@@ -967,7 +1001,7 @@ fn answer<D: Disk, T: Reporter>(
     let path = call.request.definition;
     match misuse(&call.request) {
         Some(fault) => complain(reporter, path, Complaint::Call(fault), 2),
-        None => answer_text(alloc, bytes, disk, &call.request, reporter),
+        None => answer_for(alloc, bytes, disk, &call.request, input, reporter),
     }
 }
 
@@ -987,7 +1021,7 @@ fn make<D: Disk, I: Read, T: Reporter>(
         (devices (I.remaining input.new) (D.view disk.new) (T.said reporter.new)) result }
 {
     match bytes_of(alloc, disk, input, call.request.definition) {
-        Ok(bytes) => answer(alloc, bytes.as_slice(), disk, call, reporter),
+        Ok(bytes) => answer(alloc, bytes.as_slice(), disk, call, input, reporter),
         Err(error) => {
             reporter.complain(call.request.definition, Complaint::System(error));
             3

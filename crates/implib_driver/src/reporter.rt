@@ -9,6 +9,7 @@ use crate::dll::DllRefusal;
 use crate::identity::NotIdentified;
 use crate::request::CallFault;
 use implib_archive::WriteError;
+use implib_arm64ec_library::Unimported;
 use implib_delay_library::Undelayed;
 use implib_rules::library::Refusal;
 use implib_rules::warnings::Warning;
@@ -37,6 +38,8 @@ pub enum Complaint<'a> {
     Utf16,
     /// A definition has no library of delayed imports.
     Undelayed(Undelayed),
+    /// A definition has no short imports for ARM64EC.
+    Unimported(Unimported),
     /// A DLL has no library.
     Dll(DllRefusal),
     /// A file with an archive's signature is no archive.

@@ -1,11 +1,12 @@
 //! What the options of a command line ask for.
 
 ghost use Rattle.implib_driver.specs.Arguments.{all_given, occurrence_view};
+ghost use Rattle.implib_driver.specs.Machines.{machine_type};
 ghost use Rattle.implib_driver.specs.declared.options.Setting.TheVariants.{Input};
 ghost use Rattle.implib_driver.specs.declared.request.CallFault.TheVariants.{TwoInputs};
 ghost use Rattle.implib_rules.specs.Additions.{additions_view};
 ghost use Rattle.implib_rules.specs.Linked.{naming_view};
-ghost use Rattle.implib_driver.specs.Request.{additions_in};
+ghost use Rattle.implib_driver.specs.Request.{additions_in, arm64ec_in, is_output, native_or};
 ghost use Rattle.implib_driver.specs.Request.{IsCallRefusal, architecture_named, call_fault_view, called_as};
 ghost use Rattle.implib_driver.specs.Request.{caller_of};
 ghost use Rattle.implib_driver.specs.Request.{default_flavor, dll_in, flavor_by_ending};
@@ -15,22 +16,29 @@ ghost use Rattle.implib_driver.specs.Request.{machine_in, machine_named, machine
 ghost use Rattle.implib_driver.specs.Request.{machine_of_name};
 ghost use Rattle.implib_driver.specs.Request.{delay_for, delayed_apart, delayed_in, output_or};
 ghost use Rattle.implib_driver.specs.Request.{naming_in, older_symbols_in, output_in, request_in};
-ghost use Rattle.implib_driver.specs.Request.{request_view};
+ghost use Rattle.implib_driver.specs.Request.{request_view, wish_view};
 ghost use Rattle.implib_driver.specs.Request.{task_of, task_view, wanted_of};
 ghost use Rattle.std.specs.Option.{option_map, option_to_list};
 ghost use Rattle.std.specs.Prelude.{◌≡◌, ◌<◌, Err, IfErr, IfOk, Ok, OnOk, length, map};
 
 use crate::arguments::{Occurrence, is_last, is_switched, last_given};
 use crate::identity::Wanted;
+use crate::machine::{LibraryMachine, library_machine_called};
 use crate::options::{Setting, Switch};
 use implib::{Flavor, MachineType};
 use implib_rules::additions::Additions;
 use implib_rules::linked::Naming;
-use implib_rules::machine::machine_called;
 use implib_rules::name::last_part;
 use implib_rules::options::LibraryOptions;
 use std::alloc::{AllocError, Global};
 use std::str::FromStr;
+
+/// What is asked for beside a library for ARM64EC.
+#[derive(Clone, Copy, Debug)]
+pub struct Arm64ecWish<'a> {
+    /// The file of the native definition, if one is given; `-` is standard input.
+    pub native: Option<&'a str>,
+}
 
 /// What is to be made.
 #[derive(Clone, Copy, Debug)]
@@ -41,8 +49,10 @@ pub struct Request<'a> {
     pub output: Option<&'a str>,
     /// The file of the library of delayed imports; none is written without it.
     pub delayed: Option<&'a str>,
-    /// What the library is made for.
+    /// What the library is made for; one for ARM64EC for ARM64.
     pub library: LibraryOptions<'a>,
+    /// Whether the library is for ARM64EC.
+    pub arm64ec: Option<Arm64ecWish<'a>>,
     /// The file that has the symbols of a DLL's names, if one is given.
     pub decorations: Option<&'a str>,
     /// The options, of which `--search` gives the folders of further DLLs.
@@ -113,6 +123,16 @@ pub enum CallFault<'a> {
     DecoratedDefinition,
     /// `--search` for a definition, which says which exports are data.
     SearchedDefinition,
+    /// A library for ARM64EC and GNU's linker, which has none.
+    Arm64ecForGnu,
+    /// A native definition for another machine than ARM64EC.
+    NativeElsewhere,
+    /// The name of the native definition's file is empty.
+    EmptyNative,
+    /// The library would take the native definition's place.
+    OutputIsNative,
+    /// Both definitions are standard input.
+    OneInput,
 }
 
 /// Whose ways a program's name asks for.
@@ -130,7 +150,7 @@ pub enum CalledAs {
 #[derive(Clone, Copy, Debug, PartialEq, Eq)]
 pub struct Caller {
     /// The machine where none is named; none where the name is of another architecture.
-    pub machine: Option<MachineType>,
+    pub machine: Option<LibraryMachine>,
     /// Whose ways it asks for.
     pub called_as: CalledAs,
 }
@@ -171,10 +191,10 @@ impl<'a> From<CallFault<'a>> for CallError<'a> {
 /// # Errors
 ///
 /// An allocation failed.
-pub fn machine_named(alloc: Global, name: &str) -> Result<Option<MachineType>, AllocError>
+pub fn machine_named(alloc: Global, name: &str) -> Result<Option<LibraryMachine>, AllocError>
     ensures { IfOk result (λ machine. machine ≡ machine_named name.now) }
 {
-    Ok(machine_called(name.to_ascii_lowercase(alloc)?.as_str()))
+    Ok(library_machine_called(name.to_ascii_lowercase(alloc)?.as_str()))
 }
 
 // Whether a text is the name of an architecture that is not supported.
@@ -182,7 +202,7 @@ fn is_other_architecture(name: &str) -> bool
     ensures { result ≡ is_other_architecture name.now }
 {
     match name {
-        "arm64ec" | "arm64e" | "aarch64_be" | "armeb" | "thumb" | "thumbeb" => true,
+        "arm64e" | "aarch64_be" | "armeb" | "thumb" | "thumbeb" => true,
         "riscv32" | "riscv64" | "loongarch32" | "loongarch64" | "ia64" | "alpha" => true,
         "mips" | "mipsel" | "mips64" | "mips64el" | "sh3" | "sh4" | "sparc" | "sparc64" => true,
         "powerpc" | "powerpc64" | "powerpc64le" | "ppc" | "ppc64" | "ppc64le" => true,
@@ -192,20 +212,22 @@ fn is_other_architecture(name: &str) -> bool
 }
 
 // The machine of an architecture that has this name.
-fn architecture_named(name: &str) -> Option<MachineType>
+fn architecture_named(name: &str) -> Option<LibraryMachine>
     ensures { result ≡ architecture_named name.now }
 {
-    match name {
-        "i386" | "i486" | "i586" | "i686" | "i786" | "i886" | "i986" => Some(MachineType::I386),
-        "arm" => Some(MachineType::ARMNT),
-        "aarch64" | "arm64" => Some(MachineType::ARM64),
-        _ => None,
-    }
+    let machine = match name {
+        "i386" | "i486" | "i586" | "i686" | "i786" | "i886" | "i986" => MachineType::I386,
+        "arm" => MachineType::ARMNT,
+        "aarch64" | "arm64" => MachineType::ARM64,
+        "arm64ec" => return Some(LibraryMachine::Arm64ec),
+        _ => return None,
+    };
+    Some(LibraryMachine::Ordinary(machine))
 }
 
 // The machine of an architecture, as the first part of a target's name; AMD64 for what is none, and
 // none for an architecture that is not supported.
-fn machine_of_architecture(name: &str) -> Option<MachineType>
+fn machine_of_architecture(name: &str) -> Option<LibraryMachine>
     ensures { result ≡ machine_of_architecture name.now }
 {
     let named = architecture_named(name);
@@ -213,21 +235,21 @@ fn machine_of_architecture(name: &str) -> Option<MachineType>
         return named;
     }
     if name.as_bytes().starts_with(b"armv7") {
-        return Some(MachineType::ARMNT);
+        return Some(LibraryMachine::Ordinary(MachineType::ARMNT));
     }
     if is_other_architecture(name) {
         return None;
     }
-    Some(MachineType::AMD64)
+    Some(LibraryMachine::Ordinary(MachineType::AMD64))
 }
 
 // The machine of a program's name, by what is before its first `-`; AMD64 without one.
-fn machine_of_name(name: &str) -> Option<MachineType>
+fn machine_of_name(name: &str) -> Option<LibraryMachine>
     ensures { result ≡ machine_of_name name.now }
 {
     match name.split_once('-') {
         Some((architecture, _)) => machine_of_architecture(architecture),
-        None => Some(MachineType::AMD64),
+        None => Some(LibraryMachine::Ordinary(MachineType::AMD64)),
     }
 }
 
@@ -315,8 +337,8 @@ fn default_flavor(
 fn machine_in<'a>(
     alloc: Global,
     options: &[Occurrence<'a>],
-    unnamed: Option<MachineType>,
-) -> Result<MachineType, CallError<'a>>
+    unnamed: Option<LibraryMachine>,
+) -> Result<LibraryMachine, CallError<'a>>
     ensures ok { IfOk result
         (λ machine. machine_in unnamed (map occurrence_view options.now) ≡ Ok machine) }
     ensures refused { IfErr result
@@ -441,6 +463,67 @@ fn delayed_in<'a>(
 {
     let delayed = file_given(last_given(options, Setting::DelayedOutput), definition)?;
     delayed_apart(output, delayed)
+}
+
+// Whether this is the file of the library.
+fn is_output(output: Option<&str>, path: &str) -> bool
+    ensures { result ≡ is_output (option_map (λ text. text.now) output.entry) path.now }
+{
+    match output {
+        Some(output) => path == output,
+        None => false,
+    }
+}
+
+// The file of the native definition, which is not the library's, and not standard input if the
+// definition is.
+fn native_given<'a>(
+    given: Option<&'a str>,
+    definition: &str,
+    output: Option<&str>,
+) -> Result<Option<&'a str>, CallFault<'a>>
+    ensures ok { IfOk result (λ native. native_or definition.now
+        (option_map (λ text. text.now) output.entry) (option_map (λ text. text.now) given.entry)
+        ≡ Ok (option_map (λ text. text.now) native)) }
+    ensures refused { IfErr result (λ fault. native_or definition.now
+        (option_map (λ text. text.now) output.entry) (option_map (λ text. text.now) given.entry)
+        ≡ Err (call_fault_view fault)) }
+{
+    match given {
+        Some("") => Err(CallFault::EmptyNative),
+        Some("-") if definition == "-" => Err(CallFault::OneInput),
+        Some(path) if is_output(output, path) => Err(CallFault::OutputIsNative),
+        native => Ok(native),
+    }
+}
+
+// What the options ask for beside a library for ARM64EC, if the machine is that.
+fn arm64ec_in<'a>(
+    options: &[Occurrence<'a>],
+    machine: LibraryMachine,
+    flavor: Flavor,
+    definition: &str,
+    output: Option<&str>,
+) -> Result<Option<Arm64ecWish<'a>>, CallFault<'a>>
+    ensures ok { IfOk result (λ wish. arm64ec_in machine flavor definition.now
+        (option_map (λ text. text.now) output.entry) (map occurrence_view options.now)
+        ≡ Ok (option_map wish_view wish)) }
+    ensures refused { IfErr result (λ fault. arm64ec_in machine flavor definition.now
+        (option_map (λ text. text.now) output.entry) (map occurrence_view options.now)
+        ≡ Err (call_fault_view fault)) }
+{
+    let given = last_given(options, Setting::NativeDefinition);
+    match machine {
+        LibraryMachine::Ordinary(_) if given.is_some() => Err(CallFault::NativeElsewhere),
+        LibraryMachine::Ordinary(_) => Ok(None),
+        LibraryMachine::Arm64ec => match flavor {
+            Flavor::Gnu => Err(CallFault::Arm64ecForGnu),
+            Flavor::Msvc => {
+                let native = native_given(given, definition, output)?;
+                Ok(Some(Arm64ecWish { native }))
+            }
+        },
+    }
 }
 
 // Whether imports can be delayed so: on machines that have the code, by GNU's linker.
@@ -577,8 +660,10 @@ pub(crate) fn request_in<'a>(
     }
     let output = output_in(options, definition)?;
     let delayed = delayed_in(options, definition, output)?;
-    let machine = machine_in(alloc, options, caller.machine)?;
+    let named = machine_in(alloc, options, caller.machine)?;
+    let machine = named.machine_type();
     let flavor = flavor_in(options, caller.called_as, machine, output)?;
+    let arm64ec = arm64ec_in(options, named, flavor, definition, output)?;
     let dll = dll_in(options)?;
     let naming = naming_in(options, machine)?;
     test_delay(delayed, machine, flavor)?;
@@ -595,6 +680,7 @@ pub(crate) fn request_in<'a>(
             naming,
             additions,
         },
+        arm64ec,
         decorations: last_given(options, Setting::Decorations),
         options,
         older_symbols,
@@ -623,8 +709,9 @@ fn wanted_of(options: &[Occurrence<'_>]) -> Wanted
 /// What is wrong first: two files to make a library of; no definition, or one in a file without a
 /// name; the library, and then that of delayed imports, to standard output, to a file without a name
 /// or to the definition's; both to one file; an unknown machine, or none where the program's name is
-/// of another architecture; an unknown flavour; an empty name of the DLL; an underscore where C's
-/// symbols have none; delayed imports for a machine without their code, or for Microsoft's linkers;
+/// of another architecture; an unknown flavour; ARM64EC for GNU's linker, or a native definition for
+/// another machine, in a file without a name, twice from standard input, or in the library's file; an
+/// empty name of the DLL; an underscore where C's symbols have none; delayed imports for a machine without their code, or for Microsoft's linkers;
 /// older symbols for Microsoft's linker. `OutOfMemory` may come before those that follow the machine.
 pub fn task_of<'a>(
     alloc: Global,

@@ -249,7 +249,7 @@ fn wrong_calls_are_told(rt: HostRuntime) -> Result<(), Fail> {
         (
             ["-Cd", "-", "--flavor", "msvc"].as_slice(),
             "implib_dlltool: --compat-implib: not supported for Microsoft's linker; --flavor gnu \
-             can\n",
+             can, but on arm64ec\n",
         ),
         (
             ["-d", "-", "a.o"].as_slice(),
@@ -271,7 +271,8 @@ fn wrong_calls_are_told(rt: HostRuntime) -> Result<(), Fail> {
         ),
         (
             ["-d", "-", "-m", "mips"].as_slice(),
-            "implib_dlltool: mips: no such machine: expected i386, i386:x86-64, arm or arm64\n",
+            "implib_dlltool: mips: no such machine: expected i386, i386:x86-64, arm, arm64 or \
+             arm64ec\n",
         ),
         (
             ["-d", "-", "--flavor=x"].as_slice(),
@@ -300,7 +301,7 @@ fn wrong_calls_are_told(rt: HostRuntime) -> Result<(), Fail> {
         ),
         (
             ["--lib", "/machine:x"].as_slice(),
-            "implib_dlltool: /machine:x: no such machine: expected x86, x64, arm or arm64\n",
+            "implib_dlltool: /machine:x: no such machine: expected x86, x64, arm, arm64 or arm64ec\n",
         ),
         (
             ["--lib", "/WX"].as_slice(),

@@ -52,7 +52,7 @@ fn undelayed_definitions_are_told(rt: HostRuntime) -> Result<(), Fail> {
         (
             "--machine=arm64",
             "LIBRARY zoo",
-            "implib_dlltool: --output-delaylib: not supported on arm and arm64; -m i386 and \
+            "implib_dlltool: --output-delaylib: not supported on arm, arm64 and arm64ec; -m i386 and \
              i386:x86-64 can\n",
             2,
         ),

@@ -12,6 +12,7 @@ use std::test::Fail;
 fn options_are_told_by_their_names(rt: HostRuntime) -> Result<(), Fail> {
     for (setting, name) in [
         (Setting::Definition, "-d"),
+        (Setting::NativeDefinition, "-N"),
         (Setting::Output, "-l"),
         (Setting::Machine, "-m"),
         (Setting::Dll, "-D"),
@@ -80,10 +81,11 @@ fn the_help_has_options_and_statuses(rt: HostRuntime) -> Result<(), Fail> {
         "\n  -y, --output-delaylib OUT\n",
         "\n                           i386 and i386:x86-64, of functions alone; names are\n",
         "\n  -m, --machine MACHINE    i386 or x86; i386:x86-64, amd64, x64 or x86_64; arm or\n",
-        "\n                           armnt; arm64 or aarch64; by default the one that the\n",
+        "\n                           armnt; arm64 or aarch64; arm64ec; by default the one that\n",
+        "\n  -N, --input-native-def FILE\n",
         "\n  -D, --dllname DLL        the name of the DLL, before that of FILE\n",
         "\n      --flavor FLAVOUR     msvc or gnu: whose linker the library is for; by\n",
-        "\n                           default msvc for arm and arm64 and for OUT in .lib,\n",
+        "\n                           default msvc for arm, arm64 and arm64ec and for OUT in\n",
         "\n  -k, --kill-at            on I386 ask for names without @ and what follows it\n",
         "\n      --no-leading-underscore\n",
         "\n                           on I386 take symbols as they are written\n",
@@ -102,7 +104,8 @@ fn the_help_has_options_and_statuses(rt: HostRuntime) -> Result<(), Fail> {
         "\n  -I, --identify LIB       print the names of the DLLs that LIB imports from, and\n",
         "\n      --identify-strict    refuse a LIB that imports from two DLLs or more\n",
         "\n  /def:FILE /out:OUT       the definition and the library\n",
-        "\n  /machine:MACHINE         x86, x64, arm or arm64\n",
+        "\n  /machine:MACHINE         x86, x64, arm, arm64, arm64ec, or arm64x, which is the same\n",
+        "\n  /defArm64Native:FILE     as -N\n",
         "\n  /list LIB                print the names of LIB's members, and make nothing\n",
         "\nStatus: 0 made; 1 FILE or LIB is refused; 2 wrong call; 3 a file or memory failed.\n",
     ] {

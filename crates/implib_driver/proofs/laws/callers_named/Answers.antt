@@ -9,6 +9,7 @@ worked = record {
   i386 = refl;
   armnt = refl;
   arm64 = refl;
+  arm64ec = refl;
   amd64 = refl;
   others = refl;
   llvm = refl;

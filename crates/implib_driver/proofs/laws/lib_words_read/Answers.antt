@@ -1,6 +1,7 @@
 use Rattle.std.proofs.Common.{[], ◌∷◌, ◌∙◌, ap, refl, if◌then◌else◌}
-use Rattle.implib.specs.declared.machine.MachineType.{MachineType}
 use Rattle.implib.specs.declared.machine.MachineType.TheVariants.{I386, ARMNT, AMD64, ARM64}
+use Rattle.implib_driver.specs.declared.machine.LibraryMachine.{LibraryMachine}
+use Rattle.implib_driver.specs.declared.machine.LibraryMachine.TheVariants.{Arm64ec, Ordinary}
 use Rattle.implib_rules.specs.Names.{part_after_last}
 use Rattle.implib_driver.specs.Arguments.{read_after, read_words, switches_in}
 use Rattle.implib_driver.specs.LibWords.{machine_text, read_by_name, read_each, read_lib_words}
@@ -9,11 +10,12 @@ use Rattle.implib_driver.specs.WorkedLibWords.{LibWordsRead}
 use Rattle.implib_driver.proofs.laws.lib_words_read.Goals as goal
 use Rattle.std.specs.Prelude.{◌≡◌, Some}
 
-named : (machine : MachineType) → machine_named (machine_text machine) ≡ Some machine
-named I386 = refl
-named ARMNT = refl
-named AMD64 = refl
-named ARM64 = refl
+named : (machine : LibraryMachine) → machine_named (machine_text machine) ≡ Some machine
+named (Ordinary I386) = refl
+named (Ordinary ARMNT) = refl
+named (Ordinary AMD64) = refl
+named (Ordinary ARM64) = refl
+named Arm64ec = refl
 
 worked : LibWordsRead
 unfolding part_after_last read_after read_each switches_in

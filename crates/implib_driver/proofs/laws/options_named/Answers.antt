@@ -23,6 +23,7 @@ options = record {
   identify = refl;
   decorations = refl;
   search = refl;
+  native_definition = refl;
   kill_at = refl;
   no_leading_underscore = refl;
   deterministic = refl;
@@ -45,6 +46,7 @@ options = record {
   amd64 = refl;
   armnt = refl;
   arm64 = refl;
+  arm64ec = refl;
   no_machine = refl;
   flavors = refl;
 }

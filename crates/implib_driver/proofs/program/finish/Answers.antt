@@ -17,8 +17,10 @@ returns-in-Ok g c = λ other made runs.
       no_utf16 = other;
       bare = c.is_bare.result;
       counts = inl (record { members = members; members_asked = made; is = c.is_bare.ensures ∙ ap is_bare c.len-2.ensures });
+      count = c.members_counted.result;
+      counted = counts;
       warned = g.T.Reporter.said c.warn.new.reporter;
-      warns = c.in-Ok.ensures.warned counts;
+      warns = c.in-Ok.ensures.warned;
       answer = c.put-put.result;
       answers = c.put-put.ensures.answers bytes made runs;
       says = c.conclude.ensures.said;

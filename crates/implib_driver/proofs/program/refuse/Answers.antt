@@ -14,8 +14,10 @@ returns-in-Ok g c = λ other refused known disk.
       no_utf16 = other;
       bare = false;
       counts = inr (record { refusal = c.args.refusal; refused = refused; has_memory = memory; is = refl });
+      count = 0;
+      counted = counts_without asked bytes library library.flavor c.args.refusal refl refused memory;
       warned = g.T.Reporter.said c.warn.new.reporter;
-      warns = c.in-Ok.ensures.warned (counts_without asked bytes library library.flavor c.args.refusal refl refused memory);
+      warns = c.in-Ok.ensures.warned;
       answer = Err (Refused c.args.refusal);
       answers = record { refused = without_members asked bytes library c.args.refusal refused; same = refl };
       says = c.conclude.ensures.said;

@@ -7,8 +7,10 @@ pub returns-in-Ok : goal.returns-in-Ok
 returns-in-Ok g c = λ made fails known disk.
     let library = library_options_view c.args.request.now.library in
     inr (inr (inl (record {
+      count = 0;
+      counted = counts_failing c.args.bytes.now library library.flavor library.machine c.args.members.now fails;
       warned = g.T.Reporter.said c.warn.new.reporter;
-      warns = c.in-Ok.ensures.warned (counts_failing c.args.bytes.now library library.flavor library.machine c.args.members.now fails);
+      warns = c.in-Ok.ensures.warned;
       members = c.args.members.now;
       members_asked = made;
       fails = fails;
