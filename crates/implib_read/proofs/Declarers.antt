@@ -16,19 +16,6 @@ use Rattle.implib_read.proofs.Gathering.{kept-more}
 abbrev if_same : ℕ → List ℕ → List ℕ → Option ℕ
 if_same offset s symbol = if bytes_eq s symbol then Some offset else None
 
-pub noted-one : (offset : ℕ) (s symbol : List ℕ) (old new : Option ℕ) → new ≡ option_or old (if bytes_eq s symbol then Some offset else None)
-    → new ≡ option_or old (offset_if_listed offset (s ∷ []) symbol)
-noted-one offset s symbol old new is = is ∙ ap (option_or old) (sym (option_or-none (if_same offset s symbol)))
-
-pub noted-two : (offset : ℕ) (s t symbol : List ℕ) (old between new : Option ℕ) → between ≡ option_or old (if bytes_eq s symbol then Some offset else None)
-    → new ≡ option_or between (if bytes_eq t symbol then Some offset else None) → new ≡ option_or old (offset_if_listed offset (s ∷ t ∷ []) symbol)
-noted-two offset s t symbol old between new first second =
-    second ∙ (ap (λ o. option_or o (if_same offset t symbol)) first
-    ∙ (option_or-assoc old (if_same offset s symbol) (if_same offset t symbol)
-    ∙ ap (λ o. option_or old (option_or (if_same offset s symbol) o)) (sym (option_or-none (if_same offset t symbol)))))
-
-pub ruleset noted = (noted-one, noted-two)
-
 listed-more : (offset : ℕ) (ss : List (List ℕ)) (s symbol : List ℕ) → offset_if_listed offset (ss ++ s ∷ []) symbol ≡ option_or (offset_if_listed offset ss symbol) (if_same offset s symbol)
 listed-more offset [] s symbol = option_or-none (if_same offset s symbol)
 listed-more offset (t ∷ ss) s symbol =
@@ -54,6 +41,19 @@ noted-name view f items i d offset s symbol old so_far after within some is was 
     ∙ (option_or-assoc old (offset_if_listed offset names symbol) (if_same offset s symbol)
     ∙ (ap (option_or old) (sym (listed-more offset names s symbol))
     ∙ ap (λ ns. option_or old (offset_if_listed offset ns symbol)) (kept-more view f items i d names (Some s) within some refl))))
+
+-- the loop over names goes on
+pub noted-listed : {A : Type 0} (view : A → List ℕ) (items : List A) (i : ℕ) (d : A) (offset : ℕ) (symbol : List ℕ) (old so_far after : Option ℕ) → i < length items
+    → after ≡ option_or so_far (if bytes_eq (view (get_or items i d)) symbol then Some offset else None)
+    → so_far ≡ option_or old (offset_if_listed offset (map view (take i items)) symbol)
+    → after ≡ option_or old (offset_if_listed offset (map view (take (i + 1) items)) symbol)
+noted-listed view items i d offset symbol old so_far after within is was =
+    let names = map view (take i items) in
+    let s = view (get_or items i d) in
+    is ∙ (ap (λ o. option_or o (if_same offset s symbol)) was
+    ∙ (option_or-assoc old (offset_if_listed offset names symbol) (if_same offset s symbol)
+    ∙ (ap (option_or old) (sym (listed-more offset names s symbol))
+    ∙ ap (λ ns. option_or old (offset_if_listed offset ns symbol)) (sym (ap (map view) (take_more items i d within) ∙ map-append view (take i items) (get_or items i d ∷ []))))))
 
 -- items that have the same beside each other
 pub beside : {A B M C : Type 0} (f : A → C) (h : M → C) (v : B → M) (xs : List A) (ys : List B) (i : ℕ) (x : A) (y : B) → i < length ys

@@ -32,7 +32,8 @@ use Rattle.implib_read.specs.Delayed.{delayed_import}
 use Rattle.implib_read.specs.Following.{Place, pointed}
 use Rattle.implib_read.specs.Imports.{dll_of_object, import_of_object}
 use Rattle.implib_read.specs.Objects.{SameObjects, object_found, room_in}
-use Rattle.implib_read.specs.ShortImports.{SameShortImports, arm64ec, found_from, short_import_found}
+use Rattle.implib_read.specs.Arm64ec.{arm64ec_symbols}
+use Rattle.implib_read.specs.ShortImports.{SameShortImports, arm64ec, declared_by_short_import, found_from, short_import_found}
 use Rattle.implib_read.specs.OwnLibraries.{expected_kind, import_of_class, meaning_of_class}
 use Rattle.implib_read.specs.declared.import.ImportKind.TheVariants.{Code, Const, Data}
 use Rattle.implib_read.proofs.Room.{few-have_room}
@@ -47,11 +48,11 @@ unfoldable pub is_plain : File → Bool
 is_plain (ShortImportFile r) = not (r.machine == arm64ec) && not (r.name_type == 4)
 is_plain (ObjectFile o) = nat_le (length o.entries) 16 && not (o.machine == 0)
 
-not_true : (b : Bool) → not b ≡ true → b ≡ false
+pub not_true : (b : Bool) → not b ≡ true → b ≡ false
 not_true false is = refl
 not_true true is = absurd (true≢false (sym is))
 
-both_true : (a b : Bool) → (a && b) ≡ true → (a ≡ true) × (b ≡ true)
+pub both_true : (a b : Bool) → (a && b) ≡ true → (a ≡ true) × (b ≡ true)
 both_true true b is = (refl, is)
 both_true false b is = absurd (true≢false (sym is))
 
@@ -125,14 +126,21 @@ files_as imports objects (b ∷ bs) (f ∷ fs) same plain =
     ap (λ x. x ∷ map file_found bs) (file_as imports objects b f first tests.0) ∙ ap (λ xs. found_of f ∷ xs) (files_as imports objects bs fs rest tests.1)
 
 -- what a short import means, by the tests of its types
-import_by : (type name ec : Bool) (i : Import) (ask : Ask) (make : Ask → Import) (kind : Import → Imported) (m : Meaning)
-    → make ask ≡ i → ((x : Import) → (kind x).imports ≡ x) → ec ≡ false
+import_by : (type name : Bool) (i : Import) (ask : Ask) (make : Ask → Import) (kind : Import → Imported) (m : Meaning)
+    → make ask ≡ i → ((x : Import) → (kind x).imports ≡ x)
     → option_map MeansImport (if type && name then Some i else None) ≡ Some m
-    → meaning_of_class (class_of_import (option_map kind (option_map make (if type && not ec then (if name then Some ask else None) else None)))) ≡ Some m
-import_by true true false i ask make kind m made kept plain is = ap (λ x. Some (MeansImport x)) (kept (make ask)) ∙ ap (λ x. Some (MeansImport x)) made ∙ is
-import_by true false false i ask make kind m made kept plain is = cc
-import_by false name false i ask make kind m made kept plain is = cc
-import_by type name true i ask make kind m made kept plain is = absurd (true≢false plain)
+    → meaning_of_class (class_of_import (option_map kind (option_map make (if type then (if name then Some ask else None) else None)))) ≡ Some m
+import_by true true i ask make kind m made kept is = ap (λ x. Some (MeansImport x)) (kept (make ask)) ∙ ap (λ x. Some (MeansImport x)) made ∙ is
+import_by true false i ask make kind m made kept is = cc
+import_by false name i ask make kind m made kept is = cc
+
+-- an import of these fields and symbols
+with_symbols : ShortImport → List (List ℕ) → Import
+with_symbols r symbols = record { dll = r.dll; declared = symbols; ask = ask_of_short_import r }
+
+-- a short import of another machine than ARM64EC declares what `implib`'s reader says
+pub declares_plainly : (r : ShortImport) → (r.machine == arm64ec) ≡ false → declared_by_short_import r ≡ import_symbols (r.import_type == import_data) r.symbol
+declares_plainly r other = ap (λ b. if b then arm64ec_symbols r.import_type r.symbol else import_symbols (r.import_type == import_data) r.symbol) other
 
 alias_by : (o : Object) (a : Option Alias) (i delayed : Option Imported) (m : Meaning) → option_map MeansAlias a ≡ Some m → meaning_of_class (class_with o a i delayed) ≡ Some m
 alias_by o None i delayed m is = cc
@@ -140,15 +148,15 @@ alias_by o (Some a) i delayed m is = is
 
 -- a member that means something to `implib`'s reader means it to this one
 meaning_as : (defined : List ℕ → Option Place) (f : File) (m : Meaning) → is_plain f ≡ true → meaning_of f ≡ Some m → meaning_of_class (class_of_file defined (found_of f)) ≡ Some m
-unfolding found_of is_plain
+unfolding found_of is_plain with_symbols
 meaning_as defined (ShortImportFile r) m plain is =
     let tests = both_true (not (r.machine == arm64ec)) (not (r.name_type == 4)) plain in
-    import_by (nat_le r.import_type 2) (nat_le r.name_type 3) (r.machine == arm64ec)
-    (record { dll = r.dll; declared = import_symbols (r.import_type == import_data) r.symbol; ask = ask_of_short_import r })
+    import_by (nat_le r.import_type 2) (nat_le r.name_type 3)
+    (with_symbols r (import_symbols (r.import_type == import_data) r.symbol))
     (ask_of_short_import r)
-    (λ ask. record { dll = r.dll; declared = import_symbols (r.import_type == import_data) r.symbol; ask = ask })
+    (λ ask. record { dll = r.dll; declared = declared_by_short_import r; ask = ask })
     (λ i. record { imports = i; kind = kind_of_type r.import_type; machine = r.machine })
-    m refl (λ x. refl) (not_true (r.machine == arm64ec) tests.0) is
+    m (ap (with_symbols r) (declares_plainly r (not_true (r.machine == arm64ec) tests.0))) (λ x. refl) is
 meaning_as defined (ObjectFile o) m plain is = alias_by o (alias_of_object o) (imported_by_object defined o) (delayed_by_object defined o) m is
 
 pub meanings_as : (defined : List ℕ → Option Place) (fs : List File) (ms : List Meaning) → list_all is_plain fs ≡ true → map meaning_of fs ≡ map Some ms
@@ -309,12 +317,11 @@ imported_for machine dll e =
       machine = machine_number machine;
     }
 
-import_with : (type name ec : Bool) (ask : Ask) (make : Ask → Import) (kind : Import → Imported) → type ≡ true → name ≡ true → ec ≡ false
-    → class_of_import (option_map kind (option_map make (if type && not ec then (if name then Some ask else None) else None))) ≡ AnImport (kind (make ask))
-import_with true true false ask make kind a b c = refl
-import_with true true true ask make kind a b c = absurd (true≢false c)
-import_with true false ec ask make kind a b c = absurd (true≢false (sym b))
-import_with false name ec ask make kind a b c = absurd (true≢false (sym a))
+import_with : (type name : Bool) (ask : Ask) (make : Ask → Import) (kind : Import → Imported) → type ≡ true → name ≡ true
+    → class_of_import (option_map kind (option_map make (if type then (if name then Some ask else None) else None))) ≡ AnImport (kind (make ask))
+import_with true true ask make kind a b = refl
+import_with true false ask make kind a b = absurd (true≢false (sym b))
+import_with false name ask make kind a b = absurd (true≢false (sym a))
 
 -- each of two numbers is at most 3 or 2
 either_at_most : (b : Bool) (x y n : ℕ) → nat_le x n ≡ true → nat_le y n ≡ true → nat_le (if b then x else y) n ≡ true
@@ -348,13 +355,15 @@ name_type_low machine e =
 
 short_class : (defined : List ℕ → Option Place) (machine : MachineType) (dll : List ℕ) (e : ExportView)
     → class_of_file defined (found_of (ShortImportFile (short_import_of machine dll e))) ≡ AnImport (imported_for machine dll e)
-unfolding found_of imported_for
+unfolding found_of imported_for with_symbols
 short_class defined machine dll e =
     let r = short_import_of machine dll e in
-    import_with (nat_le r.import_type 2) (nat_le r.name_type 3) (r.machine == arm64ec) (ask_of_short_import r)
-    (λ ask. record { dll = r.dll; declared = import_symbols (r.import_type == import_data) r.symbol; ask = ask })
+    import_with (nat_le r.import_type 2) (nat_le r.name_type 3) (ask_of_short_import r)
+    (λ ask. record { dll = r.dll; declared = declared_by_short_import r; ask = ask })
     (λ i. record { imports = i; kind = kind_of_type r.import_type; machine = r.machine })
-    (import_type_low e) (name_type_low machine e) (not_true (machine_number machine == arm64ec) (machine_plain machine).0)
+    (import_type_low e) (name_type_low machine e)
+    ∙ ap (λ symbols. AnImport (record { imports = with_symbols r symbols; kind = kind_of_type r.import_type; machine = r.machine }))
+    (declares_plainly r (not_true (machine_number machine == arm64ec) (machine_plain machine).0))
 
 -- the imports of the members of an export, and of those after it
 export_imports : (defined : List ℕ → Option Place) (machine : MachineType) (dll : NamesOfDll) (e : ExportView) (others : List MemberSpec)

@@ -8,11 +8,12 @@ use Rattle.implib_read.specs.Classes.{library_in, members_read}
 use Rattle.implib_read.specs.Delayed.{delayed_import}
 use Rattle.implib_read.specs.Following.{pointed, pointed_by}
 use Rattle.implib_read.specs.Imports.{ask_of_object, dll_of_object, import_of_object}
-use Rattle.implib_read.specs.Indexes.{entries_from, first_index_in, second_index_in}
+use Rattle.implib_read.specs.Indexes.{ec_entries_in, entries_from, first_index_in, second_index_in}
 use Rattle.implib_read.specs.MemberNames.{long_name_of, member_name, without_slash}
 use Rattle.implib_read.specs.Objects.{entries_found, entry_at, object_found, object_of_found, records_in}
 use Rattle.implib_read.specs.ShortImports.{short_import_found}
 use Rattle.implib_read.specs.Symbols.{WorkedSymbols}
+use Rattle.implib_read.specs.WorkedArm64ec.{WorkedArm64ecImports, WorkedEcIndexes, WorkedUnmarked, worked_constant, worked_cplusplus, worked_data, worked_function, worked_ordinal}
 use Rattle.implib_read.specs.WorkedCutting.{WorkedCuts}
 use Rattle.implib_read.specs.WorkedFiles.{WorkedChanges, WorkedIndexes, WorkedLeads, WorkedNames, WorkedParts, WorkedRoom, WorkedShortImports, worked_by_name, worked_exported, worked_first_index, worked_indexed, worked_no_slash, worked_second_index, worked_unpadded}
 use Rattle.implib_read.specs.WorkedLibraries.{WorkedLibraries, worked_dlltool, worked_ld, worked_llvm}
@@ -35,6 +36,59 @@ worked_short_imports = record {
   import_type = refl;
   name_type = refl;
   arm64ec = refl;
+}
+
+pub worked_unmarked : WorkedUnmarked
+worked_unmarked = record {
+  plain = refl;
+  cplusplus = refl;
+  no_mark = refl;
+  cplusplus_without = refl;
+  sign_once = refl;
+  sign_alone = refl;
+  first_inside = refl;
+  at_the_end = refl;
+  not_of_cplusplus = refl;
+  two_letters = refl;
+  none = refl;
+}
+
+pub worked_arm64ec_imports : WorkedArm64ecImports
+unfolding before_nul bytes_of_digits short_import_found u16_at u32_at worked_constant worked_cplusplus worked_data worked_function worked_ordinal
+worked_arm64ec_imports = record {
+  function = refl;
+  cplusplus = refl;
+  ordinal = refl;
+  variable = refl;
+  constant = refl;
+  no_mark = refl;
+  arm64 = refl;
+  marked_constant = refl;
+  import_type = refl;
+}
+
+pub worked_ec_indexes : WorkedEcIndexes
+unfolding bytes_at bytes_of_digits ec_entries_in entries_from u16_at u32_at
+worked_ec_indexes = record {
+  one = refl;
+  padded = refl;
+  none = refl;
+  two = refl;
+  no_nul = refl;
+  no_count = refl;
+  there = refl;
+  other_part = refl;
+  descriptor = refl;
+  null_descriptor = refl;
+  null_thunk = refl;
+  function = refl;
+  longer = refl;
+  no_front = refl;
+  no_end = refl;
+  table = refl;
+  other_table = refl;
+  import = refl;
+  of_arm64_alone = refl;
 }
 
 pub worked_cuts : WorkedCuts
@@ -128,5 +182,6 @@ worked_symbols = record {
   older_alone = refl;
   prefix_alone = refl;
   prefix_once = refl;
+  arm64ec = refl;
   none = refl;
 }

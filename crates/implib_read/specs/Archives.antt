@@ -1,6 +1,6 @@
 -- Archives of any maker: the common archive format, with a second linker member or without, and with or without
 -- the byte that pads its last member to an even size.
-use Rattle.std.specs.Prelude.{◌≡◌, ℕ, zero, suc, ◌+◌, ◌%◌, ◌==◌, List, [], ◌∷◌, Option, None, Some, bytes_eq, codes, drop, if◌then◌else◌, length, map, option_and_then, take}
+use Rattle.std.specs.Prelude.{◌≡◌, ℕ, zero, suc, ◌+◌, ◌%◌, ◌==◌, Bool, false, List, [], ◌∷◌, Option, None, Some, bytes_eq, codes, drop, if◌then◌else◌, length, map, option_and_then, take}
 use Rattle.std.specs.List.{filter_map}
 use Rattle.std.specs.Option.{option_map}
 use Rattle.implib_archive.specs.Reader.{Stored, stored_at, stored_in}
@@ -103,6 +103,19 @@ archive_of parts = record { parts = parts; members = filter_map (member_of (long
 -- The archive that these bytes are. For example, the 8 bytes of the signature are the archive of no parts.
 unfoldable pub archive_in : List ℕ → Option Archive
 archive_in bytes = option_map archive_of (parts_in bytes)
+
+-- whether a name is that of the EC index, which has the symbols of ARM64EC's members
+abbrev pub is_ec_name : MemberName → Bool
+is_ec_name LinkerMember = false
+is_ec_name LongNamesMember = false
+is_ec_name (NameAt offset) = false
+is_ec_name (Named text) = false
+is_ec_name (Special text) = bytes_eq text (codes "/<ECSYMBOLS>/")
+
+-- the data of the first part that is an EC index, if there is one
+abbrev pub ec_index_in : List Part → Option (List ℕ)
+ec_index_in [] = None
+ec_index_in (p ∷ parts) = if is_ec_name p.name then Some p.contents else ec_index_in parts
 
 -- Where `implib_archive`'s reader has the parts of an archive, this one has them too, with the same data, and
 -- names that their fields say.

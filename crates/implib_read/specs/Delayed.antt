@@ -1,7 +1,7 @@
 -- What an object imports at the first call, for GNU's linker with mingw-w64's helper (`delayimp.h`, "ImgDelayDescr"):
 -- found by where its fields lead, whoever made it. GNU dlltool up to 2.44, and winebuild, write the tables into
 -- `.idata$4` and `.idata$5`, later dlltools and `implib_delay` into `.didat$4` and `.didat$5`.
-use Rattle.std.specs.Prelude.{ℕ, ◌==◌, Bool, true, false, ◌&&◌, ◌||◌, List, [], ◌∷◌, ◌++◌, Option, None, Some, bytes_eq, codes, is_some, take, if◌then◌else◌}
+use Rattle.std.specs.Prelude.{ℕ, ◌==◌, Bool, false, ◌&&◌, ◌||◌, List, [], ◌∷◌, ◌++◌, Option, None, Some, bytes_eq, codes, is_some, take, if◌then◌else◌}
 use Rattle.std.specs.List.{list_any}
 use Rattle.std.specs.Option.{option_and_then, option_map, option_or}
 use Rattle.implib.specs.Formats.Object.{Entry, ASymbol, Auxiliary, Object}

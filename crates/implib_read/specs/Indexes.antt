@@ -6,8 +6,8 @@ use Rattle.std.specs.Option.{option_and_then, option_map}
 use Rattle.implib.specs.Formats.Object.{bytes_at, u16_at, u32_at}
 use Rattle.implib.specs.Formats.ShortImport.{text_in}
 
--- an entry: a symbol, and in the first index the offset of the header of its member, in the second the number of
--- that among the offsets there, from 1
+-- an entry: a symbol, and in the first index the offset of the header of its member, in the second and in that of
+-- ARM64EC the number of that among the second's offsets, from 1
 pub record IndexEntry : Type 0 where
   pub symbol : List ℕ
   pub place : ℕ
@@ -68,3 +68,9 @@ second_index_in contents = option_and_then
 abbrev pub offset_numbered : List ℕ → ℕ → Option ℕ
 offset_numbered offsets zero = None
 offset_numbered offsets (suc n) = option_map (λ offset. u32_at offset 0) (bytes_at offsets (4 * n) 4)
+
+-- The entries of the EC index: symbols of ARM64EC's members, with numbers among the offsets of the second linker member.
+-- For example, `01 00 00 00 04 00 23 66 00` gives `#f` the number 4.
+unfoldable pub ec_entries_in : List ℕ → Option (List IndexEntry)
+ec_entries_in contents =
+    option_and_then (λ count. entries_behind true (u32_at count 0) 4 contents) (bytes_at contents 0 4)

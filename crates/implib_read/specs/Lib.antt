@@ -2,6 +2,7 @@ pub mod Aliases
 pub mod AliasViews
 pub mod Archives
 pub mod ArchiveViews
+pub mod Arm64ec
 pub mod Classes
 pub mod ClassViews
 pub mod Cutting
@@ -24,6 +25,7 @@ pub mod Objects
 pub mod ObjectViews
 pub mod ShortImports
 pub mod Symbols
+pub mod WorkedArm64ec
 pub mod WorkedCutting
 pub mod WorkedFiles
 pub mod WorkedLibraries

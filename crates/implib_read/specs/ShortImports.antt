@@ -1,11 +1,12 @@
 -- A short import with the third text that name type 4 has. The PE/COFF specification knows name types 0 to 3
 -- and two texts ("Import Library Format"); IMPORT_NAME_EXPORTAS of Microsoft's headers is the fourth, and gives
 -- after the DLL the name that is asked for. `implib`'s reader has no value where a third text stands.
-use Rattle.std.specs.Prelude.{◌≡◌, ℕ, ◌/◌, ◌%◌, ◌==◌, false, nat_le, ◌&&◌, not, List, [], ◌∷◌, drop, Option, Some, None, if◌then◌else◌}
+use Rattle.std.specs.Prelude.{◌≡◌, ℕ, ◌/◌, ◌%◌, ◌==◌, false, nat_le, List, [], ◌∷◌, drop, Option, Some, None, if◌then◌else◌}
 use Rattle.std.specs.Option.{option_map}
 use Rattle.implib.specs.Formats.Object.{u16_at, u32_at}
 use Rattle.implib.specs.Formats.ShortImport.{ShortImport, ask_of_short_import, import_const, import_data, import_name_undecorate, is_short_import, short_import_header_size, short_import_in, text_in}
 use Rattle.implib.specs.Import.{Ask, Name, Import, import_symbols}
+use Rattle.implib_read.specs.Arm64ec.{arm64ec_symbols}
 use Rattle.implib_read.specs.declared.short_import.ShortImport.{ShortImport as Found}
 
 -- what is read of a short import: its fields, and by name type 4 the name that it asks for
@@ -87,18 +88,21 @@ ask_with r None = if nat_le r.name_type import_name_undecorate then Some (ask_of
 abbrev pub arm64ec : ℕ
 arm64ec = 0xA641
 
--- What a short import asks for, where its types have a meaning. One of ARM64EC declares other symbols than this
--- reader knows, so it has no meaning here.
+-- what a short import asks for, where its types have a meaning
 abbrev pub ask_of_found : WithExported → Option Ask
-ask_of_found r =
-    if nat_le r.fields.import_type import_const && not (r.fields.machine == arm64ec) then ask_with r.fields r.exported
-    else None
+ask_of_found r = if nat_le r.fields.import_type import_const then ask_with r.fields r.exported else None
+
+-- the symbols that a short import declares, in order
+abbrev pub declared_by_short_import : ShortImport → List (List ℕ)
+declared_by_short_import r =
+    if r.machine == arm64ec then arm64ec_symbols r.import_type r.symbol
+    else import_symbols (r.import_type == import_data) r.symbol
 
 -- The import that a short import is, where its types have a meaning. For example, name type 4 with the third text
 -- `bar` asks for bar, whatever the symbol is.
 abbrev pub import_of_found : WithExported → Option Import
 import_of_found r = option_map
-    (λ ask. record { dll = r.fields.dll; declared = import_symbols (r.fields.import_type == import_data) r.fields.symbol; ask = ask })
+    (λ ask. record { dll = r.fields.dll; declared = declared_by_short_import r.fields; ask = ask })
     (ask_of_found r)
 
 -- What `implib`'s reader has of a short import, this one has, with no exported name; only name type 4 without

@@ -31,4 +31,5 @@ pub record WorkedSymbols : Type 0 where
   pub prefix_once : linked_symbol (codes "__imp___imp_bar" ∷ []) ≡ codes "__imp_bar"
   pub older_first : linked_symbol (codes "___impplain" ∷ codes "__imp_plain" ∷ codes "plain" ∷ []) ≡ codes "plain"
   pub older_alone : linked_symbol (codes "___impplain" ∷ codes "plain" ∷ []) ≡ codes "___impplain"
+  pub arm64ec : linked_symbol (codes "__imp_f" ∷ codes "f" ∷ codes "__imp_aux_f" ∷ codes "#f" ∷ []) ≡ codes "f"
   pub none : linked_symbol [] ≡ []

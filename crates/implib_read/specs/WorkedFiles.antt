@@ -55,8 +55,12 @@ pub record WorkedShortImports : Type 0 where
   -- import type 3 and name type 5 have no meaning
   pub import_type : imported (changed 18 7 worked_by_name) ≡ None
   pub name_type : imported (changed 18 20 worked_by_name) ≡ None
-  -- nor has a short import of ARM64EC
-  pub arm64ec : imported (changed 6 0x41 (changed 7 0xA6 worked_by_name)) ≡ None
+  -- on ARM64EC code has two symbols more
+  pub arm64ec : imported (changed 6 0x41 (changed 7 0xA6 worked_by_name)) ≡ Some (record {
+    dll = codes "foo.dll";
+    declared = codes "__imp_bar" ∷ codes "bar" ∷ codes "__imp_aux_bar" ∷ codes "bar" ∷ [];
+    ask = Name (codes "bar") 0;
+  })
 
 -- a symbol of this name
 abbrev pub symbol_named : List ℕ → Entry

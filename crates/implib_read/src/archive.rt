@@ -5,7 +5,7 @@ ghost use Rattle.std.specs.List.{filter_map};
 ghost use Rattle.std.specs.Option.{option_map};
 ghost use Rattle.implib_archive.specs.Reader.{data_at, stored_at};
 ghost use Rattle.implib_read.specs.Archives.{cut_from, cut_in};
-ghost use Rattle.implib_read.specs.Archives.{archive_in, long_names_in, member_of, parts_from, parts_in, said};
+ghost use Rattle.implib_read.specs.Archives.{archive_in, ec_index_in, is_ec_name, long_names_in, member_of, parts_from, parts_in, said};
 ghost use Rattle.implib_read.specs.ArchiveViews.{archive_view, member_view, part_view};
 ghost use Rattle.implib_read.specs.MemberNames.{ends_from};
 ghost use Rattle.implib_read.specs.NameViews.{name_view};
@@ -165,6 +165,28 @@ fn long_names<'a>(parts: &[Part<'a>]) -> &'a [u8]
         }
     }
     &[]
+}
+
+/// Whether a name is that of the EC index.
+fn is_ec_name(name: &MemberName) -> bool
+    ensures { result ≡ is_ec_name (name_view name.now) }
+{
+    match name {
+        MemberName::Special(text) => is_text(text, b"/<ECSYMBOLS>/"),
+        _ => false,
+    }
+}
+
+/// The contents of the first part that is an EC index, which has the symbols of ARM64EC's members.
+pub fn ec_index<'a>(parts: &[Part<'a>]) -> Option<&'a [u8]>
+    ensures { option_map (λ contents. contents.now) result ≡ ec_index_in (map part_view parts.now) }
+{
+    for part in parts {
+        if is_ec_name(&part.name) {
+            return Some(part.contents);
+        }
+    }
+    None
 }
 
 /// The member that a part is, given the long names and the ends of their lines.

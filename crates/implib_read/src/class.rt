@@ -204,7 +204,9 @@ pub(crate) fn class_of_file<'o, 'a>(
     ensures { IfOk result (λ class. class_view class ≡ class_of_file (places_of definers.now) (file_view file.now)) }
 {
     match file {
-        FileFound::ShortImport(import) => Ok(class_of_import(imported_by_short_import(import))),
+        FileFound::ShortImport(import) => {
+            Ok(class_of_import(imported_by_short_import(alloc, import)?))
+        }
         FileFound::Object(object) => class_of_object(alloc, definers, object),
         FileFound::NotRead => Ok(MemberClass::NotUnderstood),
     }

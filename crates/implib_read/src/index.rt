@@ -3,7 +3,7 @@
 ghost use Rattle.std.specs.Prelude.{◌≡◌, ℕ, ◌+◌, ◌*◌, ◌<◌, ◌≤◌, ◌^◌, length, map, take, IfOk};
 ghost use Rattle.std.specs.Int.{from_be_bytes, w32};
 ghost use Rattle.std.specs.Option.{option_map};
-ghost use Rattle.implib_read.specs.Indexes.{entries_behind, entries_from, first_index_in, place_in, place_size};
+ghost use Rattle.implib_read.specs.Indexes.{ec_entries_in, entries_behind, entries_from, first_index_in, place_in, place_size};
 ghost use Rattle.implib_read.specs.Indexes.{offset_numbered, second_index_in, second_index_with};
 ghost use Rattle.implib_read.specs.IndexViews.{index_entry_view, second_index_view};
 
@@ -14,8 +14,8 @@ use std::alloc::{AllocError, Global};
 #[derive(Clone, Copy)]
 pub struct IndexEntry<'a> {
     pub symbol: &'a [u8],
-    /// In the first linker member the offset of the header of the symbol's member; in the second the number of that
-    /// among its offsets, from 1.
+    /// In the first linker member the offset of the header of the symbol's member; in the second, and in an EC index,
+    /// the number of that among the second's offsets, from 1.
     pub place: u32,
 }
 
@@ -119,6 +119,21 @@ impl<'a> IndexEntry<'a> {
     {
         match bytes_at(contents, 0, 4) {
             Some(count) => entries_behind(alloc, false, u32_be(count), 4, contents),
+            None => Ok(None),
+        }
+    }
+
+    /// The entries of an EC index, or `None` where its count leads out of it. Their places are numbers among the offsets
+    /// of the second linker member, from 1.
+    #[tactic(auto, unfolding(crate::specs::Indexes::ec_entries_in))]
+    pub fn read_ec(
+        alloc: Global,
+        contents: &'a [u8],
+    ) -> Result<Option<Vec<IndexEntry<'a>>>, AllocError>
+        ensures { IfOk result (λ found. option_map (λ v. map index_entry_view v.items) found ≡ ec_entries_in contents.now) }
+    {
+        match bytes_at(contents, 0, 4) {
+            Some(count) => entries_behind(alloc, true, u32_at(count, 0), 4, contents),
             None => Ok(None),
         }
     }

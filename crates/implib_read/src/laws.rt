@@ -5,6 +5,7 @@ ghost use Rattle.implib_read.specs.Objects.{SameObjects};
 ghost use Rattle.implib_read.specs.OwnLibraries.{OwnGnuLibraries, OwnMembersFound, OwnMsvcLibraries};
 ghost use Rattle.implib_read.specs.ShortImports.{SameShortImports};
 ghost use Rattle.implib_read.specs.Symbols.{WorkedSymbols};
+ghost use Rattle.implib_read.specs.WorkedArm64ec.{WorkedArm64ecImports, WorkedEcIndexes, WorkedUnmarked};
 ghost use Rattle.implib_read.specs.WorkedCutting.{WorkedCuts};
 ghost use Rattle.implib_read.specs.WorkedFiles.{WorkedChanges, WorkedIndexes, WorkedLeads, WorkedNames, WorkedParts, WorkedRoom, WorkedShortImports};
 ghost use Rattle.implib_read.specs.WorkedLibraries.{WorkedLibraries};
@@ -34,6 +35,13 @@ pub fn worked_libraries()
 /// Short imports, byte by byte: what they mean, and bytes that are none.
 pub fn worked_short_imports()
     ensures { WorkedShortImports }
+{}
+
+/// Texts of ARM64EC without their marks, what its short imports mean, byte by byte, and what EC indexes say.
+pub fn worked_arm64ec()
+    ensures unmarked { WorkedUnmarked }
+    ensures imports { WorkedArm64ecImports }
+    ensures indexes { WorkedEcIndexes }
 {}
 
 /// By which short imports linkers ask for different names, byte by byte.

@@ -4,28 +4,27 @@ ghost use Rattle.std.specs.Prelude.{◌≡◌, ℕ, ◌==◌, List, [], ◌∷�
 ghost use Rattle.std.specs.List.{filter_map};
 ghost use Rattle.std.specs.Option.{option_map, option_or};
 ghost use Rattle.implib.specs.Formats.File.{declared_by_entry};
-ghost use Rattle.implib.specs.Import.{imp_symbol, import_symbols};
 ghost use Rattle.implib_read.specs.ArchiveViews.{member_view};
 ghost use Rattle.implib_read.specs.Classes.{files_of};
 ghost use Rattle.implib_read.specs.FileViews.{file_view};
 ghost use Rattle.implib_read.specs.IndexViews.{index_entry_view};
-ghost use Rattle.implib_read.specs.Leads.{address_name, declared_by_found, first_declarer, offset_if_listed, unless_at};
+ghost use Rattle.implib_read.specs.Leads.{declared_by_found, first_declarer, import_names, offset_if_listed, unless_at};
 ghost use Rattle.implib_read.specs.Leads.{wrong_entries, wrong_entry};
 ghost use Rattle.implib_read.specs.LeadViews.{offset_of};
 ghost use Rattle.implib_read.specs.ObjectViews.{entry_view};
 
 use crate::archive::StoredMember;
+use crate::arm64ec::declared_by_short_import;
 use crate::file::FileFound;
 use crate::follow::is_defined_external;
 use crate::index::IndexEntry;
 use crate::library::files_of;
 use crate::object::Entry;
-use crate::short_import::ShortImport;
 use std::alloc::{AllocError, Global};
 use std::collections::HashMap;
 
 /// The offsets of the first members that declare symbols.
-type Declarers<'n> = HashMap<&'n [u8], usize>;
+pub(crate) type Declarers<'n> = HashMap<&'n [u8], usize>;
 
 /// Notes the offset of a symbol, unless one is noted.
 fn note_symbol<'n>(
@@ -74,93 +73,63 @@ fn note_entries<'n, 'a: 'n>(
     Ok(())
 }
 
-/// Notes the symbol of an address.
-#[tactic(auto, using(crate::proofs::Declarers::noted))]
-fn note_address<'n>(
+/// Notes names.
+fn note_names<'n>(
     declarers: &mut Declarers<'n>,
-    address: &'n [u8],
+    names: &'n [Vec<u8>],
     offset: usize,
 ) -> Result<(), AllocError>
-    ensures { OnOk result ((other : List ℕ) → offset_of declarers.new other ≡ option_or (offset_of declarers.old other) (offset_if_listed offset (address.now ∷ []) other)) }
+    ensures { OnOk result ((other : List ℕ) → offset_of declarers.new other ≡ option_or (offset_of declarers.old other) (offset_if_listed offset (map (λ name. name.items) names.now) other)) }
 {
-    note_symbol(declarers, address, offset)?;
-    Ok(())
-}
-
-/// Notes the symbol of an address, and a name.
-#[tactic(auto, using(crate::proofs::Declarers::noted))]
-fn note_both<'n>(
-    declarers: &mut Declarers<'n>,
-    address: &'n [u8],
-    name: &'n [u8],
-    offset: usize,
-) -> Result<(), AllocError>
-    ensures { OnOk result ((other : List ℕ) → offset_of declarers.new other ≡ option_or (offset_of declarers.old other) (offset_if_listed offset (address.now ∷ name.now ∷ []) other)) }
-{
-    note_symbol(declarers, address, offset)?;
-    note_symbol(declarers, name, offset)?;
-    Ok(())
-}
-
-/// Notes the symbols that a short import declares, given that of its address.
-fn note_import<'n, 'a: 'n>(
-    declarers: &mut Declarers<'n>,
-    import: &ShortImport<'a>,
-    address: &'n [u8],
-    offset: usize,
-) -> Result<(), AllocError>
-    requires { address.now ≡ imp_symbol import.now.symbol.now }
-    ensures { OnOk result ((other : List ℕ) → offset_of declarers.new other ≡ option_or (offset_of declarers.old other) (offset_if_listed offset (import_symbols (import.now.import_type == 1) import.now.symbol.now) other)) }
-{
-    if import.import_type == 1 {
-        note_address(declarers, address, offset)
-    } else {
-        note_both(declarers, address, import.symbol, offset)
+    for name in names {
+        note_symbol(declarers, name, offset)?;
     }
+    Ok(())
 }
 
-/// Notes the symbols that a file declares, given that of its address.
+/// Notes the symbols that a file declares, given those of a short import.
 fn note_file<'n, 'a: 'n>(
     declarers: &mut Declarers<'n>,
     file: &FileFound<'a>,
-    address: &'n [u8],
+    names: &'n [Vec<u8>],
     offset: usize,
 ) -> Result<(), AllocError>
-    requires { address.now ≡ address_name (file_view file.now) }
+    requires { map (λ name. name.items) names.now ≡ import_names (file_view file.now) }
     ensures { OnOk result ((other : List ℕ) → offset_of declarers.new other ≡ option_or (offset_of declarers.old other) (offset_if_listed offset (declared_by_found (file_view file.now)) other)) }
 {
     match file {
-        FileFound::ShortImport(import) => note_import(declarers, import, address, offset),
+        FileFound::ShortImport(_) => note_names(declarers, names, offset),
         FileFound::Object(object) => note_entries(declarers, &object.entries, offset),
         FileFound::NotRead => Ok(()),
     }
 }
 
-/// The symbol of the address that a short import declares.
-fn address_name(alloc: Global, file: &FileFound) -> Result<Vec<u8>, AllocError>
-    ensures { IfOk result (λ v. v.items ≡ address_name (file_view file.now)) }
+/// The symbols that a short import declares, or none of another file.
+fn import_names(alloc: Global, file: &FileFound) -> Result<Vec<Vec<u8>>, AllocError>
+    ensures { IfOk result (λ v. map (λ name. name.items) v.items ≡ import_names (file_view file.now)) }
 {
-    let mut name = Vec::new(alloc);
-    if let FileFound::ShortImport(import) = file {
-        name.extend_from_slice(b"__imp_")?;
-        name.extend_from_slice(import.symbol)?;
+    match file {
+        FileFound::ShortImport(import) => declared_by_short_import(alloc, import),
+        FileFound::Object(_) | FileFound::NotRead => Ok(Vec::new(alloc)),
     }
-    Ok(name)
 }
 
-/// The symbols of addresses that files declare.
-fn address_names(alloc: Global, files: &[FileFound]) -> Result<Vec<Vec<u8>>, AllocError>
-    ensures { IfOk result (λ v. map (λ name. name.items) v.items ≡ map address_name (map file_view files.now)) }
+/// The symbols that the short imports among files declare.
+pub(crate) fn names_of_files(
+    alloc: Global,
+    files: &[FileFound],
+) -> Result<Vec<Vec<Vec<u8>>>, AllocError>
+    ensures { IfOk result (λ v. map (λ names. map (λ name. name.items) names.items) v.items ≡ map import_names (map file_view files.now)) }
 {
     let mut names = Vec::new(alloc);
     for file in files {
-        names.push(address_name(alloc, file)?)?;
+        names.push(import_names(alloc, file)?)?;
     }
     Ok(names)
 }
 
 /// The entry, unless it leads to this offset.
-fn unless_at<'a>(offset: Option<usize>, entry: &IndexEntry<'a>) -> Option<IndexEntry<'a>>
+pub(crate) fn unless_at<'a>(offset: Option<usize>, entry: &IndexEntry<'a>) -> Option<IndexEntry<'a>>
     ensures { option_map index_entry_view result ≡ unless_at offset (index_entry_view entry.now) }
 {
     let Some(offset) = offset else {
@@ -173,41 +142,41 @@ fn unless_at<'a>(offset: Option<usize>, entry: &IndexEntry<'a>) -> Option<IndexE
     }
 }
 
-/// Notes the symbols that members declare, given their files and the symbols of addresses.
+/// Notes the symbols that members declare, given their files and the symbols of short imports.
 fn note_members<'n, 'a: 'n>(
     declarers: &mut Declarers<'n>,
     members: &[StoredMember<'a>],
     files: &[FileFound<'a>],
-    addresses: &'n [Vec<u8>],
+    names: &'n [Vec<Vec<u8>>],
 ) -> Result<(), AllocError>
     requires files { map file_view files.now ≡ files_of (map member_view members.now) }
-    requires addresses { map (λ name. name.items) addresses.now ≡ map address_name (map file_view files.now) }
+    requires names { map (λ names. map (λ name. name.items) names.items) names.now ≡ map import_names (map file_view files.now) }
     ensures { OnOk result ((other : List ℕ) → offset_of declarers.new other ≡ option_or (offset_of declarers.old other) (first_declarer (map member_view members.now) other)) }
 {
     for i in 0..members.len() {
-        note_file(declarers, &files[i], &addresses[i], members[i].offset)?;
+        note_file(declarers, &files[i], &names[i], members[i].offset)?;
     }
     Ok(())
 }
 
 /// The offsets of the first members that declare symbols.
-fn declarers_of<'n, 'a: 'n>(
+pub(crate) fn declarers_of<'n, 'a: 'n>(
     alloc: Global,
     members: &[StoredMember<'a>],
     files: &[FileFound<'a>],
-    addresses: &'n [Vec<u8>],
+    names: &'n [Vec<Vec<u8>>],
 ) -> Result<Declarers<'n>, AllocError>
     requires files { map file_view files.now ≡ files_of (map member_view members.now) }
-    requires addresses { map (λ name. name.items) addresses.now ≡ map address_name (map file_view files.now) }
+    requires names { map (λ names. map (λ name. name.items) names.items) names.now ≡ map import_names (map file_view files.now) }
     ensures { IfOk result (λ declarers. (other : List ℕ) → offset_of declarers other ≡ first_declarer (map member_view members.now) other) }
 {
     let mut declarers = HashMap::new(alloc);
-    note_members(&mut declarers, members, files, addresses)?;
+    note_members(&mut declarers, members, files, names)?;
     Ok(declarers)
 }
 
 /// The offset of the first member that declares a symbol.
-fn declarer_of(declarers: &Declarers, symbol: &[u8]) -> Option<usize>
+pub(crate) fn declarer_of(declarers: &Declarers, symbol: &[u8]) -> Option<usize>
     ensures { result ≡ offset_of declarers.now symbol.now }
 {
     declarers.get(&symbol).copied()
@@ -247,7 +216,7 @@ pub fn wrong_entries<'a>(
     ensures { IfOk result (λ v. map index_entry_view v.items ≡ wrong_entries (first_declarer (map member_view members.now)) (map index_entry_view entries.now)) }
 {
     let files = files_of(alloc, members)?;
-    let addresses = address_names(alloc, &files)?;
-    let declarers = declarers_of(alloc, members, &files, &addresses)?;
+    let names = names_of_files(alloc, &files)?;
+    let declarers = declarers_of(alloc, members, &files, &names)?;
     wrong_among(alloc, &declarers, entries)
 }

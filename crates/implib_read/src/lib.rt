@@ -19,10 +19,12 @@
 
 mod alias;
 mod archive;
+mod arm64ec;
 mod class;
 mod cutting;
 mod definers;
 mod delayed;
+mod ec_leads;
 mod fields;
 mod file;
 mod follow;
@@ -41,9 +43,10 @@ mod short_meaning;
 mod symbol;
 
 pub use alias::AliasFound;
-pub use archive::{Archive, Part, StoredMember, cut_at};
+pub use archive::{Archive, Part, StoredMember, cut_at, ec_index};
 pub use class::{MemberClass, MemberRead};
 pub use cutting::{Cut, CutApart, cut_apart};
+pub use ec_leads::{arm64_members, wrong_ec_entries};
 pub use file::FileFound;
 pub use identity::{dll_of, dlls_of};
 pub use import::{AskFound, DeclaredFound, ImportFound, ImportKind};

@@ -85,7 +85,7 @@ pub(crate) fn is_text(text: &[u8], other: &[u8]) -> bool
 }
 
 /// Whether a text begins with a byte.
-fn begins_with_byte(byte: u8, text: &[u8]) -> bool
+pub(crate) fn begins_with_byte(byte: u8, text: &[u8]) -> bool
     ensures { result ≡ begins_with_byte byte text.now }
 {
     match text {

@@ -1,24 +1,23 @@
 //! What a short import imports.
 
-ghost use Rattle.std.specs.Prelude.{◌≡◌};
+ghost use Rattle.std.specs.Prelude.{◌≡◌, IfOk};
 ghost use Rattle.std.specs.Option.{option_map};
 ghost use Rattle.implib_read.specs.Classes.{imported_by_short_import, kind_of_type};
 ghost use Rattle.implib_read.specs.ClassViews.{imported_view};
-ghost use Rattle.implib_read.specs.ImportViews.{ask_view};
-ghost use Rattle.implib_read.specs.ShortImports.{ask_of_found, short_import_view};
+ghost use Rattle.implib_read.specs.ImportViews.{ask_view, declared_view};
+ghost use Rattle.implib_read.specs.ShortImports.{ask_of_found, declared_by_short_import, short_import_view};
 
+use crate::arm64ec::{ARM64EC, arm64ec_symbols};
 use crate::import::{AskFound, DeclaredFound, ImportFound, ImportKind};
 use crate::short_import::ShortImport;
 use implib::msvc::name_type::asked_by_name_type;
-
-/// The machine of code for ARM64 that calls code for AMD64. Its short imports declare symbols that are not read here.
-const ARM64EC: u16 = 0xA641;
+use std::alloc::{AllocError, Global};
 
 /// What a short import asks for.
 pub(crate) fn ask_of_found<'a>(import: &ShortImport<'a>) -> Option<AskFound<'a>>
     ensures { option_map ask_view result ≡ ask_of_found (short_import_view import.now) }
 {
-    if import.import_type > 2 || import.machine == ARM64EC {
+    if import.import_type > 2 {
         return None;
     }
     if let Some(name) = import.exported {
@@ -49,18 +48,34 @@ fn kind_of_type(import_type: u16) -> ImportKind
     }
 }
 
+/// The symbols that a short import declares.
+fn declared_by<'a>(alloc: Global, import: &ShortImport<'a>) -> Result<DeclaredFound<'a>, AllocError>
+    ensures { IfOk result (λ declared. declared_view declared
+        ≡ declared_by_short_import (short_import_view import.now).fields) }
+{
+    if import.machine == ARM64EC {
+        let symbols = arm64ec_symbols(alloc, import.import_type, import.symbol)?;
+        return Ok(DeclaredFound::OfArm64ec(symbols));
+    }
+    Ok(DeclaredFound::OfName(import.symbol, import.import_type == 1))
+}
+
 /// The import that a short import is, where its types have a meaning.
-pub(crate) fn imported_by_short_import<'a>(import: &ShortImport<'a>) -> Option<ImportFound<'a>>
-    ensures { option_map imported_view result ≡ imported_by_short_import (short_import_view import.now) }
+pub(crate) fn imported_by_short_import<'a>(
+    alloc: Global,
+    import: &ShortImport<'a>,
+) -> Result<Option<ImportFound<'a>>, AllocError>
+    ensures { IfOk result (λ found. option_map imported_view found ≡ imported_by_short_import (short_import_view import.now)) }
 {
     let Some(ask) = ask_of_found(import) else {
-        return None;
+        return Ok(None);
     };
-    Some(ImportFound {
+    let declared = declared_by(alloc, import)?;
+    Ok(Some(ImportFound {
         dll: import.dll,
-        declared: DeclaredFound::OfName(import.symbol, import.import_type == 1),
+        declared,
         ask,
         kind: kind_of_type(import.import_type),
         machine: import.machine,
-    })
+    }))
 }

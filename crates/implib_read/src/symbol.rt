@@ -53,14 +53,42 @@ fn first_of<'a>(symbols: &[&'a [u8]], others: &[&'a [u8]]) -> &'a [u8]
     }
 }
 
+/// The first of some symbols that begins with `__imp_`, of symbols that are held.
+fn first_held(symbols: &[Vec<u8>]) -> Option<&[u8]>
+    ensures found { option_map (λ symbol. symbol.now) result
+        ≡ find begins_imp (map (λ symbol. symbol.items) symbols.now) }
+    ensures begins { IfSome result (λ symbol. begins_imp symbol.now ≡ true) }
+{
+    for symbol in symbols {
+        if begins_imp(symbol) {
+            return Some(symbol.as_slice());
+        }
+    }
+    None
+}
+
+/// The symbol of an address without its prefix; where none is one, the first of some symbols that are held.
+fn linked_held(symbols: &[Vec<u8>]) -> &[u8]
+    ensures { result.now ≡ linked_symbol (map (λ symbol. symbol.items) symbols.now) }
+{
+    match first_held(symbols) {
+        Some(address) => without_imp(address),
+        None => match symbols.first() {
+            Some(symbol) => symbol.as_slice(),
+            None => b"",
+        },
+    }
+}
+
 /// The symbol by which an import is linked: the first with `__imp_`, which is that of its address, without that; where
 /// none has it, the first.
 #[tactic(auto, using(crate::proofs::Symbols::find_both, crate::proofs::Symbols::named))]
-pub fn linked_symbol<'a>(declared: &DeclaredFound<'a>) -> &'a [u8]
+pub fn linked_symbol<'d, 'a: 'd>(declared: &'d DeclaredFound<'a>) -> &'d [u8]
     ensures { result.now ≡ linked_symbol (declared_view declared.now) }
 {
     match declared {
         DeclaredFound::OfName(name, _) => name,
+        DeclaredFound::OfArm64ec(symbols) => linked_held(symbols),
         DeclaredFound::OfObject(addresses, code) => match first_address(addresses) {
             Some(address) => without_imp(address),
             None => match first_address(code) {

@@ -1,0 +1,44 @@
+-- The symbols that a short import of ARM64EC declares (LLVM, "COFFImportFile.cpp" and "Mangler.cpp"). Its first text, of
+-- a function, has a mark, by which ARM64EC's own code calls it; the other symbols are those of code for AMD64.
+use Rattle.std.specs.Prelude.{ℕ, suc, ◌+◌, ◌==◌, List, [], ◌∷◌, ◌++◌, Option, None, Some, codes, drop, eqb, if◌then◌else◌, take}
+use Rattle.std.specs.List.{starts_with}
+use Rattle.std.specs.Option.{option_map}
+use Rattle.implib.specs.Formats.ShortImport.{import_const, import_data}
+use Rattle.implib.specs.Import.{imp_symbol}
+use Rattle.implib_read.specs.MemberNames.{begins_with_byte}
+
+-- where the first `$$h` of a text begins
+abbrev pub inner_mark_in : List ℕ → Option ℕ
+inner_mark_in [] = None
+inner_mark_in (c ∷ text) =
+    if starts_with eqb (c ∷ text) (codes "$$h") then Some 0 else option_map suc (inner_mark_in text)
+
+-- a name of C++ around its mark; where nothing follows `$$h`, that is no mark
+abbrev pub around_mark : List ℕ → ℕ → List ℕ → List ℕ
+around_mark name place [] = name
+around_mark name place (c ∷ behind) = take place name ++ c ∷ behind
+
+-- a name of C++ without the mark at a place
+abbrev pub without_inner : List ℕ → Option ℕ → List ℕ
+without_inner name None = name
+without_inner name (Some place) = around_mark name place (drop (place + 3) name)
+
+-- A text without its mark: `#` at its front or, in a name of C++, which begins with `?`, the first `$$h`. One that has
+-- no mark is as it is. For example, func of `#func`, and `?cpp@@YAHPEAX@Z` of `?cpp@@$$hYAHPEAX@Z`.
+abbrev pub unmarked : List ℕ → List ℕ
+unmarked text =
+    if begins_with_byte 0x23 text then drop 1 text
+    else if begins_with_byte 0x3F text then without_inner text (inner_mark_in text)
+    else text
+
+-- the symbol of the address in the auxiliary table, which ARM64EC's own code calls
+abbrev pub auxiliary_symbol : List ℕ → List ℕ
+auxiliary_symbol name = codes "__imp_aux_" ++ name
+
+-- The symbols of a short import of a type, with this first text. For example, of the function `#f`: `__imp_f`, `f`,
+-- `__imp_aux_f` and `#f`. A constant has no mark, and of data the address alone is declared.
+abbrev pub arm64ec_symbols : ℕ → List ℕ → List (List ℕ)
+arm64ec_symbols import_type text =
+    if import_type == import_data then imp_symbol text ∷ []
+    else if import_type == import_const then imp_symbol text ∷ text ∷ auxiliary_symbol text ∷ []
+    else imp_symbol (unmarked text) ∷ unmarked text ∷ auxiliary_symbol (unmarked text) ∷ text ∷ []
