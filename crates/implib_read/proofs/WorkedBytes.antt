@@ -64,6 +64,7 @@ worked_arm64ec_imports = record {
   no_mark = refl;
   arm64 = refl;
   marked_constant = refl;
+  marked_data = refl;
   import_type = refl;
 }
 

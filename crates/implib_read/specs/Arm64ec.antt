@@ -1,9 +1,9 @@
--- The symbols that a short import of ARM64EC declares (LLVM, "COFFImportFile.cpp" and "Mangler.cpp"). Its first text, of
--- a function, has a mark, by which ARM64EC's own code calls it; the other symbols are those of code for AMD64.
-use Rattle.std.specs.Prelude.{ℕ, suc, ◌+◌, ◌==◌, List, [], ◌∷◌, ◌++◌, Option, None, Some, codes, drop, eqb, if◌then◌else◌, take}
+-- The symbols that a short import of ARM64EC declares (LLVM, "COFFImportFile.cpp" and "Mangler.cpp"). Its first text has
+-- a mark if it is a function's, by which ARM64EC's own code calls it; the other symbols are those of code for AMD64.
+use Rattle.std.specs.Prelude.{ℕ, suc, ◌+◌, ◌==◌, List, [], ◌∷◌, ◌++◌, Option, None, Some, codes, drop, eqb, if◌then◌else◌, length, take}
 use Rattle.std.specs.List.{starts_with}
 use Rattle.std.specs.Option.{option_map}
-use Rattle.implib.specs.Formats.ShortImport.{import_const, import_data}
+use Rattle.implib.specs.Formats.ShortImport.{import_data}
 use Rattle.implib.specs.Import.{imp_symbol}
 use Rattle.implib_read.specs.MemberNames.{begins_with_byte}
 
@@ -35,10 +35,13 @@ unmarked text =
 abbrev pub auxiliary_symbol : List ℕ → List ℕ
 auxiliary_symbol name = codes "__imp_aux_" ++ name
 
--- The symbols of a short import of a type, with this first text. For example, of the function `#f`: `__imp_f`, `f`,
--- `__imp_aux_f` and `#f`. A constant has no mark, and of data the address alone is declared.
+-- the first text, where it has a mark and so is longer than the name
+abbrev pub text_apart : List ℕ → List ℕ → List (List ℕ)
+text_apart text name = if length name == length text then [] else text ∷ []
+
+-- The symbols of a short import of a type, with this first text. For example, of the function or the constant `#f`:
+-- `__imp_f`, `f`, `__imp_aux_f` and `#f`; of the constant `c` those of `c` alone; of data `#d` the address `__imp_d`.
 abbrev pub arm64ec_symbols : ℕ → List ℕ → List (List ℕ)
 arm64ec_symbols import_type text =
-    if import_type == import_data then imp_symbol text ∷ []
-    else if import_type == import_const then imp_symbol text ∷ text ∷ auxiliary_symbol text ∷ []
-    else imp_symbol (unmarked text) ∷ unmarked text ∷ auxiliary_symbol (unmarked text) ∷ text ∷ []
+    if import_type == import_data then imp_symbol (unmarked text) ∷ []
+    else imp_symbol (unmarked text) ∷ unmarked text ∷ auxiliary_symbol (unmarked text) ∷ text_apart text (unmarked text)

@@ -76,12 +76,13 @@ pub record WorkedArm64ecImports : Type 0 where
   pub variable : imported worked_data ≡ Some (of_t 0xA641 Data (codes "__imp_dat" ∷ []) (Name (codes "dat") 0))
   pub constant : imported worked_constant
       ≡ Some (of_t 0xA641 Const (codes "__imp_con" ∷ codes "con" ∷ codes "__imp_aux_con" ∷ []) (Name (codes "con") 0))
-  -- a text without its mark; the machine ARM64; and a constant whose text would have a mark, were it a function's
+  -- a text without its mark; the machine ARM64; and marks that a definition writes for a constant and for data
   pub no_mark : imported (changed 20 0x67 worked_function)
-      ≡ Some (of_t 0xA641 Code (codes "__imp_gf" ∷ codes "gf" ∷ codes "__imp_aux_gf" ∷ codes "gf" ∷ []) (Name (codes "f") 0))
+      ≡ Some (of_t 0xA641 Code (codes "__imp_gf" ∷ codes "gf" ∷ codes "__imp_aux_gf" ∷ []) (Name (codes "f") 0))
   pub arm64 : imported (changed 6 0x64 (changed 7 0xAA worked_function))
       ≡ Some (of_t 0xAA64 Code (codes "__imp_#f" ∷ codes "#f" ∷ []) (Name (codes "f") 0))
-  pub marked_constant : arm64ec_symbols 2 (codes "#c") ≡ codes "__imp_#c" ∷ codes "#c" ∷ codes "__imp_aux_#c" ∷ []
+  pub marked_constant : arm64ec_symbols 2 (codes "#c") ≡ codes "__imp_c" ∷ codes "c" ∷ codes "__imp_aux_c" ∷ codes "#c" ∷ []
+  pub marked_data : arm64ec_symbols 1 (codes "#d") ≡ codes "__imp_d" ∷ []
   pub import_type : imported (changed 18 7 worked_constant) ≡ None
 
 -- What EC indexes say, and what is none; which part is one; and to which members their symbols ought to lead.

@@ -102,15 +102,15 @@ pub(crate) fn arm64ec_symbols(
     ensures { IfOk result (λ v. map (λ s. s.items) v.items ≡ arm64ec_symbols import_type text.now) }
 {
     let mut symbols = Vec::new(alloc);
+    let name = unmarked(text);
     if import_type == 1 {
-        push_symbol(alloc, &mut symbols, b"__imp_", (text, b""))?;
+        push_symbol(alloc, &mut symbols, b"__imp_", name)?;
         return Ok(symbols);
     }
-    if import_type == 2 {
-        push_three(alloc, &mut symbols, (text, b""))?;
+    push_three(alloc, &mut symbols, name)?;
+    if name.0.len() + name.1.len() == text.len() {
         return Ok(symbols);
     }
-    push_three(alloc, &mut symbols, unmarked(text))?;
     push_symbol(alloc, &mut symbols, b"", (text, b""))?;
     Ok(symbols)
 }
