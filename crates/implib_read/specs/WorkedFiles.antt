@@ -58,7 +58,7 @@ pub record WorkedShortImports : Type 0 where
   -- on ARM64EC code has two symbols more
   pub arm64ec : imported (changed 6 0x41 (changed 7 0xA6 worked_by_name)) ≡ Some (record {
     dll = codes "foo.dll";
-    declared = codes "__imp_bar" ∷ codes "bar" ∷ codes "__imp_aux_bar" ∷ codes "bar" ∷ [];
+    declared = codes "__imp_bar" ∷ codes "bar" ∷ codes "__imp_aux_bar" ∷ [];
     ask = Name (codes "bar") 0;
   })
 
