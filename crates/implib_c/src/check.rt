@@ -59,10 +59,10 @@ fn flag_at(flags: &[bool], index: usize) -> bool
 }
 
 // Appends the row of a member, if its flag is set.
-fn push_flagged<'a>(
-    rows: &mut Vec<Row<'a>>,
+fn push_flagged<'m, 'a: 'm>(
+    rows: &mut Vec<Row<'m>>,
     flag: bool,
-    member: &MemberRead<'a>,
+    member: &'m MemberRead<'a>,
 ) -> Result<(), AllocError>
     ensures { OnOk result (map row_view rows.new.items ≡ map row_view rows.old.items ++ flagged (flag ∷ []) (row_of_found member.now ∷ [])) }
 {
@@ -74,11 +74,11 @@ fn push_flagged<'a>(
 }
 
 // The rows of the members whose flag is set, in order.
-fn flagged_rows<'a>(
+fn flagged_rows<'m, 'a: 'm>(
     alloc: Global,
     flags: &[bool],
-    members: &[MemberRead<'a>],
-) -> Result<Vec<Row<'a>>, AllocError>
+    members: &'m [MemberRead<'a>],
+) -> Result<Vec<Row<'m>>, AllocError>
     ensures { IfOk result (λ rows. map row_view rows.items ≡ flagged flags.now (map row_of_found members.now)) }
 {
     let mut rows = Vec::new(alloc);

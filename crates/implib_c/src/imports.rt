@@ -45,7 +45,7 @@ fn kind_number(kind: ImportKind) -> u64
 }
 
 // The row of an import.
-fn import_row<'a>(offset: usize, import: &ImportFound<'a>) -> Row<'a>
+fn import_row<'m, 'a: 'm>(offset: usize, import: &'m ImportFound<'a>) -> Row<'m>
     ensures { row_view result ≡ import_row offset (imported_view import.now) }
 {
     let (by_name, asked, number) = match import.ask {
@@ -97,7 +97,7 @@ fn other_row<'a>(kind: u64, offset: usize) -> Row<'a>
 }
 
 /// The row of a member.
-pub fn row_of<'a>(member: &MemberRead<'a>) -> Row<'a>
+pub fn row_of<'m, 'a: 'm>(member: &'m MemberRead<'a>) -> Row<'m>
     ensures { row_view result ≡ row_of_found member.now }
 {
     match &member.class {
@@ -143,7 +143,10 @@ pub fn push_rows(bytes: &mut Vec<u8>, rows: &[Row<'_>]) -> Result<(), AllocError
 }
 
 // The rows of members, in order.
-fn rows_of<'a>(alloc: Global, members: &[MemberRead<'a>]) -> Result<Vec<Row<'a>>, AllocError>
+fn rows_of<'m, 'a: 'm>(
+    alloc: Global,
+    members: &'m [MemberRead<'a>],
+) -> Result<Vec<Row<'m>>, AllocError>
     ensures { IfOk result (λ rows. map row_view rows.items ≡ map row_of_found members.now) }
 {
     let mut rows = Vec::with_capacity(alloc, members.len())?;

@@ -1,5 +1,5 @@
 -- The symbols that the members of the library of a definition list: this reader has the same of their files.
-use Rattle.std.proofs.Common.{◌≡◌, ◌∙◌, ℕ, suc, Bool, true, false, List, [], ◌∷◌, ◌++◌, Option, None, Some, ap, arith, length, map, nat_lt, refl, subst, sym}
+use Rattle.std.proofs.Common.{◌≡◌, ◌∙◌, ◌==◌, ℕ, suc, not, Bool, true, false, List, [], ◌∷◌, ◌++◌, Option, None, Some, ap, arith, length, map, nat_lt, refl, subst, sym}
 use Rattle.std.specs.List.{AllByRecursion, flat_map, list_all}
 use Rattle.std.specs.Option.{option_map}
 use Rattle.std.proofs.lemmas.Bool.{lt-ltb}
@@ -27,9 +27,9 @@ use Rattle.implib_archive.specs.declared.kind.Kind.TheVariants.{Gnu as OfGnu}
 use Rattle.implib_read.specs.Files.{file_found}
 use Rattle.implib_read.specs.Leads.{declared_by_found}
 use Rattle.implib_read.specs.Objects.{SameObjects}
-use Rattle.implib_read.specs.ShortImports.{SameShortImports}
+use Rattle.implib_read.specs.ShortImports.{SameShortImports, arm64ec}
 use Rattle.implib_read.proofs.OwnGnuLibrary.{gnu_files_plain, gnu_files_read, own_gnu_files}
-use Rattle.implib_read.proofs.OwnMembers.{files_as, files_of_specs, found_of, is_plain}
+use Rattle.implib_read.proofs.OwnMembers.{both_true, declares_plainly, files_as, files_of_specs, found_of, is_plain, not_true}
 use Rattle.implib_read.proofs.OwnMsvc.{map_twice}
 use Rattle.implib_rules.specs.ExportAs.{AreMadeFor, export_as_library, export_as_spec, exported_name, kept, kept_by, kept_definition, later_specs, later_specs_by}
 use Rattle.implib_rules.specs.Linked.{NamingView}
@@ -43,11 +43,17 @@ use Rattle.implib_check_driver.proofs.ThirdTexts.{text_declares}
 
 -- Files that both readers have.
 
-declared_of : (fs : List File) → map declared_by_found (map found_of fs) ≡ map declared_by fs
-unfolding found_of
-declared_of [] = refl
-declared_of (ShortImportFile r ∷ fs) = ap (λ others. declared_by (ShortImportFile r) ∷ others) (declared_of fs)
-declared_of (ObjectFile o ∷ fs) = ap (λ others. declared_by (ObjectFile o) ∷ others) (declared_of fs)
+declared_of : (fs : List File) → list_all is_plain fs ≡ true → map declared_by_found (map found_of fs) ≡ map declared_by fs
+unfolding found_of is_plain
+declared_of [] plain = refl
+declared_of (ShortImportFile r ∷ fs) plain =
+    let tests = both_true (is_plain (ShortImportFile r)) (list_all is_plain fs) plain in
+    let own = both_true (not (r.machine == arm64ec)) (not (r.name_type == 4)) tests.0 in
+    ap (λ s. s ∷ map declared_by_found (map found_of fs)) (declares_plainly r (not_true (r.machine == arm64ec) own.0))
+    ∙ ap (λ others. declared_by (ShortImportFile r) ∷ others) (declared_of fs tests.1)
+declared_of (ObjectFile o ∷ fs) plain =
+    let tests = both_true (is_plain (ObjectFile o)) (list_all is_plain fs) plain in
+    ap (λ others. declared_by (ObjectFile o) ∷ others) (declared_of fs tests.1)
 
 listed_of : (members : List MemberView) (fs : List File) → map (λ m. file_in m.bytes) members ≡ map Some fs
     → map (λ m. option_map declared_by (file_in m.bytes)) members ≡ map (λ m. Some m.symbols) members → map declared_by fs ≡ map (λ m. m.symbols) members
@@ -105,7 +111,7 @@ files_declare imports objects members has =
     sym (map_twice (λ b. declared_by_found (file_found b)) (λ (m : MemberView). m.bytes) members)
     ∙ sym (map_twice declared_by_found file_found contents)
     ∙ ap (map declared_by_found) (files_as imports objects contents has.fs files has.plain)
-    ∙ declared_of has.fs
+    ∙ declared_of has.fs has.plain
     ∙ listed_of members has.fs has.files has.declared
 
 -- what this reader has of a member's symbols, and those that the member lists

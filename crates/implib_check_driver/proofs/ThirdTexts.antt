@@ -21,6 +21,7 @@ use Rattle.implib_read.specs.Following.{Place}
 use Rattle.implib_read.specs.Leads.{declared_by_found}
 use Rattle.implib_read.specs.Objects.{object_found}
 use Rattle.implib_read.specs.OwnLibraries.{meaning_of_class}
+use Rattle.implib_read.specs.Arm64ec.{arm64ec_symbols}
 use Rattle.implib_read.specs.ShortImports.{arm64ec, fields_with, found_from, found_with, last_text, no_text, short_import_found}
 use Rattle.implib_read.specs.declared.import.ImportKind.{ImportKind}
 use Rattle.implib_read.proofs.OwnMembers.{machine_plain}
@@ -49,14 +50,14 @@ types_of n from to =
     subst HasTypes same (types_from (n - 16) (omega (arith, low, high)))
 
 -- the meaning of a short import, by the tests of its types
-meaning_by : (known ec written told : Bool) (dll symbol name : List ℕ) (hint machine : ℕ) (kind : ImportKind) → known ≡ true → ec ≡ false → written ≡ told
+meaning_by : (known ec written told : Bool) (others : List (List ℕ)) (dll symbol name : List ℕ) (hint machine : ℕ) (kind : ImportKind) → known ≡ true → ec ≡ false → written ≡ told
     → meaning_of_class (class_of_import (option_map (λ i. record { imports = i; kind = kind; machine = machine })
-    (option_map (λ (ask : Ask). record { dll = dll; declared = import_symbols written symbol; ask = ask }) (if known && not ec then Some (Name name hint) else None))))
+    (option_map (λ (ask : Ask). record { dll = dll; declared = if ec then others else import_symbols written symbol; ask = ask }) (if known then Some (Name name hint) else None))))
     ≡ Some (MeansImport (record { dll = dll; declared = import_symbols told symbol; ask = Name name hint }))
-meaning_by true false written told dll symbol name hint machine kind is other same =
+meaning_by true false written told others dll symbol name hint machine kind is other same =
     ap (λ b. Some (MeansImport (record { dll = dll; declared = import_symbols b symbol; ask = Name name hint }))) same
-meaning_by true true written told dll symbol name hint machine kind is other same = absurd (true≢false other)
-meaning_by false ec written told dll symbol name hint machine kind is other same = absurd (true≢false (sym is))
+meaning_by true true written told others dll symbol name hint machine kind is other same = absurd (true≢false other)
+meaning_by false ec written told others dll symbol name hint machine kind is other same = absurd (true≢false (sym is))
 
 -- what is read of a short import with a third text: it means the import that it is, and declares its symbols
 pub record IsRead (defined : List ℕ → Option Place) (bytes : List ℕ) (r : ExportAsRead) : Type 0 where
@@ -80,11 +81,12 @@ module _ (defined : List ℕ → Option Place) (bytes : List ℕ) (r : ExportAsR
       record {
         means =
             ap (λ o. meaning_of_class (class_of_file defined (short_import_or_object o (object_found bytes)))) found
-            ∙ meaning_by (nat_le (u16_at bytes 18 % 4) 2) (u16_at bytes 6 == arm64ec) (u16_at bytes 18 % 4 == 1) (u16_at bytes 18 == 4 * 4 + 1) dll symbol name (u16_at bytes 16) (u16_at bytes 6) (kind_of_type (u16_at bytes 18 % 4))
+            ∙ meaning_by (nat_le (u16_at bytes 18 % 4) 2) (u16_at bytes 6 == arm64ec) (u16_at bytes 18 % 4 == 1) (u16_at bytes 18 == 4 * 4 + 1) (arm64ec_symbols (u16_at bytes 18 % 4) symbol) dll symbol name (u16_at bytes 16) (u16_at bytes 6) (kind_of_type (u16_at bytes 18 % 4))
             types.import_type (ap (λ x. x.machine == arm64ec) own ∙ other) types.data_told
             ∙ ap (λ x. Some (MeansImport x.import)) own;
         declares =
             ap (λ o. declared_by_found (short_import_or_object o (object_found bytes))) found
+            ∙ ap (λ b. if b then arm64ec_symbols (u16_at bytes 18 % 4) symbol else import_symbols (u16_at bytes 18 % 4 == 1) symbol) (ap (λ x. x.machine == arm64ec) own ∙ other)
             ∙ ap (λ b. import_symbols b symbol) types.data_told
             ∙ ap (λ x. x.import.declared) own;
       }

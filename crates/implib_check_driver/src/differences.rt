@@ -10,11 +10,11 @@ use std::collections::HashMap;
 use std::io::{BufWriter, Write};
 
 // The members of one library that differ, by their symbols: of each symbol the first.
-fn differing<'m, 'a>(
+fn differing<'m, 'a: 'm>(
     alloc: Global,
     members: &'m [MemberRead<'a>],
     flags: &[bool],
-) -> Result<HashMap<&'a [u8], &'m MemberRead<'a>>, AllocError> {
+) -> Result<HashMap<&'m [u8], &'m MemberRead<'a>>, AllocError> {
     let mut found = HashMap::new(alloc);
     for (member, flag) in members.iter().zip(flags) {
         let symbol = symbol_of_member(member);
@@ -31,7 +31,7 @@ fn tell_one<'m, 'a, O: Write>(
     printer: &mut O,
     sources: (Source, Source),
     flagged: (&'m [MemberRead<'a>], &[bool]),
-    others: &HashMap<&'a [u8], &'m MemberRead<'a>>,
+    others: &HashMap<&'m [u8], &'m MemberRead<'a>>,
     is_second: bool,
 ) -> Result<(), Failure> {
     for (member, flag) in flagged.0.iter().zip(flagged.1) {

@@ -48,11 +48,12 @@ impl<'p> Source<'p> {
 #[derive(Clone, Copy)]
 pub struct Side<'p, 'm, 'a> {
     pub site: Site<'p>,
-    pub symbol: &'a [u8],
+    pub symbol: &'m [u8],
     pub member: &'m MemberRead<'a>,
 }
 
-/// Why a library does not work, or why that is not decided. An index is named by its number, 1 or 2.
+/// Why a library does not work, or why that is not decided. An index is named by its number: 1, 2, or 3,
+/// which is the EC index.
 #[derive(Clone, Copy)]
 pub enum Fault<'e, 'a> {
     NoIndex,
@@ -215,10 +216,10 @@ impl<'q> fmt::Display for Stopped<'q> {
 
 // The words for an index.
 fn index_words(number: u8) -> &'static str {
-    if number == 1 {
-        "the index"
-    } else {
-        "the second index"
+    match number {
+        1 => "the index",
+        2 => "the second index",
+        _ => "the EC index",
     }
 }
 

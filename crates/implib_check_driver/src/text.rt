@@ -50,7 +50,7 @@ pub fn kind_word(kind: ImportKind) -> &'static str
 }
 
 /// The symbol of a member that is an import or an alias.
-pub fn symbol_of_member<'a>(member: &MemberRead<'a>) -> &'a [u8] {
+pub fn symbol_of_member<'m, 'a: 'm>(member: &'m MemberRead<'a>) -> &'m [u8] {
     match &member.class {
         MemberClass::Import(import) => linked_symbol(&import.declared),
         MemberClass::Alias(alias) => alias.weak,

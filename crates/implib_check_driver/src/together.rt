@@ -104,6 +104,21 @@ fn add_texts(
     Ok(())
 }
 
+// Adds the claims of symbols that are held.
+fn add_held(
+    alloc: Global,
+    claims: &mut Vec<Claim>,
+    making: Making,
+    texts: &[Vec<u8>],
+) -> Result<(), AllocError>
+    ensures { OnOk result (map claim_view claims.new.items ≡ map claim_view claims.old.items ++ map (claim_for making.entry.library making.entry.member making.entry.made.now) (map (λ t. t.items) texts.now)) }
+{
+    for text in texts {
+        add_claim(alloc, claims, making, b"", text)?;
+    }
+    Ok(())
+}
+
 // Adds the claims of the symbols of a short import.
 fn add_name(
     alloc: Global,
@@ -135,6 +150,7 @@ fn add_declared(
         DeclaredFound::OfName(symbol, is_data) => {
             add_name(alloc, claims, making, symbol, *is_data)
         }
+        DeclaredFound::OfArm64ec(symbols) => add_held(alloc, claims, making, symbols),
         DeclaredFound::OfObject(addresses, code) => {
             add_texts(alloc, claims, making, addresses)?;
             add_texts(alloc, claims, making, code)

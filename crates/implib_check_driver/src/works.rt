@@ -67,8 +67,11 @@ fn tell_indexes<O: Write>(
         Some(found) => tell_index(form, printer, path, 1, found)?,
         None => tell(form, printer, &Finding::Fault(path, Fault::NoIndex))?,
     }
-    match &examined.second {
-        Some(found) => tell_index(form, printer, path, 2, found),
+    if let Some(found) = &examined.second {
+        tell_index(form, printer, path, 2, found)?;
+    }
+    match &examined.ec {
+        Some(found) => tell_index(form, printer, path, 3, found),
         None => Ok(()),
     }
 }

@@ -32,6 +32,18 @@ wanted_keys wanted (s ∷ symbols) = by (is_wanted wanted s) (wanted_keys wanted
 of_both : (wanted : Bool) (xs ys : List (List ℕ)) → flat_map (listed_if wanted) xs ++ flat_map (listed_if wanted) ys ≡ flat_map listed_key (filter (is_wanted wanted) (xs ++ ys))
 of_both wanted xs ys = sym (flat_map-append (listed_if wanted) xs ys) ∙ wanted_keys wanted (xs ++ ys)
 
+-- the keys of a list, those of addresses first
+pub one_list : (key : List ℕ) (xs : List (List ℕ))
+    → (key ++ flat_map (listed_if true) xs) ++ flat_map (listed_if false) xs ≡ key ++ flat_map listed_key (addresses_first xs)
+one_list key xs =
+    let a = flat_map (listed_if true) xs in
+    let c = flat_map (listed_if false) xs in
+    append_assoc key a c
+    ∙ ap (λ l. key ++ l)
+    (ap (λ l. l ++ c) (wanted_keys true xs)
+    ∙ (ap (λ l. flat_map listed_key (filter (is_wanted true) xs) ++ l) (wanted_keys false xs)
+    ∙ sym (flat_map-append listed_key (filter (is_wanted true) xs) (filter (is_wanted false) xs))))
+
 -- the keys of two lists, those of addresses of both first
 pub both_lists : (key : List ℕ) (xs ys : List (List ℕ))
     → (((key ++ flat_map (listed_if true) xs) ++ flat_map (listed_if true) ys) ++ flat_map (listed_if false) xs) ++ flat_map (listed_if false) ys

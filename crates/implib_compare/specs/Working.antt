@@ -2,15 +2,15 @@
 -- imports, and its chains of import tables are whole (this project's choice; docs/CHECK.md, "Whether a library works").
 use Rattle.std.specs.Prelude.{ℕ, ◌-◌, ◌==◌, Bool, true, false, ◌&&◌, ◌||◌, List, [], ◌∷◌, ◌++◌, Option, None, Some, bytes_eq, fold, if◌then◌else◌, length, map, unwrap_or}
 use Rattle.std.specs.List.{list_any}
-use Rattle.std.specs.Option.{option_map, option_map_or}
+use Rattle.std.specs.Option.{is_some, option_and_then, option_map, option_map_or}
 use Rattle.implib.specs.declared.flavor.Flavor.{Flavor}
 use Rattle.implib.specs.declared.flavor.Flavor.TheVariants.{Gnu, Msvc}
-use Rattle.implib_read.specs.Archives.{Archive, Part, StoredMember}
+use Rattle.implib_read.specs.Archives.{Archive, Part, StoredMember, ec_index_in}
 use Rattle.implib_read.specs.Classes.{Class, Descriptor, NullDescriptor, NullThunk, Head, Tail, MemberRead}
 use Rattle.implib_read.specs.Cutting.{Cut, cut_apart}
 use Rattle.implib_read.specs.Identity.{dlls_of}
-use Rattle.implib_read.specs.Indexes.{IndexEntry, first_index_in, offset_numbered, second_index_in}
-use Rattle.implib_read.specs.Leads.{first_declarer, wrong_entries}
+use Rattle.implib_read.specs.Indexes.{IndexEntry, ec_entries_in, first_index_in, offset_numbered, second_index_in}
+use Rattle.implib_read.specs.Leads.{first_declarer, first_ec_declarer, members_for, wrong_entries}
 use Rattle.implib_read.specs.MemberNames.{MemberName, LinkerMember, LongNamesMember, NameAt, Named, Special}
 use Rattle.implib_compare.specs.Comparison.{has_unread}
 use Rattle.implib_compare.specs.Flavors.{flavor_of}
@@ -61,13 +61,32 @@ abbrev pub second_misleads : List StoredMember → List ℕ → Option (List Ind
 second_misleads members contents =
     option_map (λ i. misleading members (map (with_offset i.offsets) i.entries)) (second_index_in contents)
 
+-- the members whose symbols the linker members have: all or, beside an EC index, those of ARM64
+abbrev pub linked_members : Archive → List StoredMember
+linked_members a = if is_some (ec_index_in a.parts) then members_for true a.members else a.members
+
 -- what is found of the first linker member, if there is one: the entries by which a linker is misled, if it can be read
 abbrev pub first_found : Archive → Option (Option (List IndexEntry))
-first_found a = option_map (first_misleads a.members) (linker_member 0 a.parts)
+first_found a = option_map (first_misleads (linked_members a)) (linker_member 0 a.parts)
 
 -- the same of the second
 abbrev pub second_found : Archive → Option (Option (List IndexEntry))
-second_found a = option_map (second_misleads a.members) (linker_member 1 a.parts)
+second_found a = option_map (second_misleads (linked_members a)) (linker_member 1 a.parts)
+
+-- the offsets of the second linker member, or none where it is not there or cannot be read
+abbrev pub second_offsets : Archive → List ℕ
+second_offsets a = option_map_or (λ i. i.offsets) (option_and_then second_index_in (linker_member 1 a.parts)) []
+
+-- The entries of an EC index by which a linker is misled, given the offsets of the second linker member: of each symbol
+-- the first, if it does not lead where it ought to.
+abbrev pub ec_misleads : List StoredMember → List ℕ → List ℕ → Option (List IndexEntry)
+ec_misleads members offsets contents = option_map
+    (λ entries. wrong_entries (first_ec_declarer members) (first_entries (map (with_offset offsets) entries)))
+    (ec_entries_in contents)
+
+-- what is found of the EC index, if there is one
+abbrev pub ec_found : Archive → Option (Option (List IndexEntry))
+ec_found a = option_map (ec_misleads a.members (second_offsets a)) (ec_index_in a.parts)
 
 -- whether an index misleads, given what is found of it: it cannot be read, or an entry does
 abbrev pub misled_by : Option (List IndexEntry) → Bool
@@ -80,6 +99,10 @@ misled_by (Some (e ∷ entries)) = true
 abbrev pub misled : Option (Option (List IndexEntry)) → Option (Option (List IndexEntry)) → Bool
 misled None second = true
 misled (Some first) second = misled_by first || option_map_or misled_by second false
+
+-- whether one of three indexes does, given what is found of the EC index, too
+abbrev pub some_misled : Option (Option (List IndexEntry)) → Option (Option (List IndexEntry)) → Option (Option (List IndexEntry)) → Bool
+some_misled first second ec = misled first second || option_map_or misled_by ec false
 
 -- Short imports.
 
@@ -132,7 +155,7 @@ works_of misleads unread dlls whole =
 -- whether a library works, given its archive and what each member is for
 abbrev pub working_of : Archive → List MemberRead → Working
 working_of a members =
-    works_of (misled (first_found a) (second_found a) || is_some_cut (cut_apart a.members)) (has_unread members) (length (dlls_of members))
+    works_of (some_misled (first_found a) (second_found a) (ec_found a) || is_some_cut (cut_apart a.members)) (has_unread members) (length (dlls_of members))
     (has_whole_tables (flavor_of members) members)
 
 -- of whether a library works: 0 it does, 1 it does not, 4 not decided

@@ -102,6 +102,16 @@ fn push_texts(key: &mut Vec<u8>, wanted: bool, texts: &[&[u8]]) -> Result<(), Al
     Ok(())
 }
 
+// Adds the texts of a list that are of addresses, or those that are not, without its end, of texts that are held.
+fn push_held(key: &mut Vec<u8>, wanted: bool, texts: &[Vec<u8>]) -> Result<(), AllocError>
+    ensures { OnOk result (key.new.items ≡ key.old.items ++ flat_map (listed_if wanted) (map (λ t. t.items) texts.now)) }
+{
+    for text in texts {
+        push_if(key, wanted, text)?;
+    }
+    Ok(())
+}
+
 // Adds the symbols of a short import, without the end of the list.
 fn push_symbols(key: &mut Vec<u8>, symbol: &[u8], is_data: bool) -> Result<(), AllocError>
     ensures { OnOk result (key.new.items ≡ key.old.items ++ flat_map listed_key (import_symbols is_data symbol.now)) }
@@ -115,13 +125,17 @@ fn push_symbols(key: &mut Vec<u8>, symbol: &[u8], is_data: bool) -> Result<(), A
 }
 
 // Adds the symbols that an import declares, those of addresses first, without the end of the list.
-#[tactic(auto, using(crate::proofs::Declared::own_first, crate::proofs::Declared::both_lists))]
+#[tactic(auto, using(crate::proofs::Declared::own_first, crate::proofs::Declared::one_list, crate::proofs::Declared::both_lists))]
 fn push_declared(key: &mut Vec<u8>, declared: &DeclaredFound) -> Result<(), AllocError>
     ensures { OnOk result (key.new.items ≡ key.old.items
         ++ flat_map listed_key (addresses_first (declared_view declared.now))) }
 {
     match declared {
         DeclaredFound::OfName(symbol, is_data) => push_symbols(key, symbol, *is_data),
+        DeclaredFound::OfArm64ec(symbols) => {
+            push_held(key, true, symbols)?;
+            push_held(key, false, symbols)
+        }
         DeclaredFound::OfObject(addresses, code) => {
             push_texts(key, true, addresses)?;
             push_texts(key, true, code)?;

@@ -3,8 +3,8 @@
 ghost use Rattle.std.specs.Prelude.{◌≡◌, ◌==◌, false, length, map, IfOk, OnOk};
 ghost use Rattle.std.specs.Option.{option_map, option_map_or};
 ghost use Rattle.implib_compare.specs.Flavors.{flavor_of};
-ghost use Rattle.implib_compare.specs.Working.{both_work, first_entries, first_found, first_misleads, has_one, has_whole_tables, is_linker, is_piece, is_some_cut, linker_member, misleading};
-ghost use Rattle.implib_compare.specs.Working.{misled, misled_by, second_found, second_misleads, with_first, with_offset, working_of, working_status, works_of};
+ghost use Rattle.implib_compare.specs.Working.{both_work, ec_found, ec_misleads, first_entries, first_found, first_misleads, has_one, has_whole_tables, is_linker, is_piece, is_some_cut, linked_members, linker_member, misleading};
+ghost use Rattle.implib_compare.specs.Working.{misled, misled_by, second_found, second_misleads, second_offsets, some_misled, with_first, with_offset, working_of, working_status, works_of};
 ghost use Rattle.implib_read.specs.ArchiveViews.{archive_view, member_view, part_view};
 ghost use Rattle.implib_read.specs.ClassViews.{class_view, member_read_view};
 ghost use Rattle.implib_read.specs.Cutting.{cut_apart};
@@ -18,7 +18,7 @@ use crate::flavor::flavor_of;
 use implib::Flavor;
 use implib_read::{
     Archive, CutApart, IndexEntry, Library, MemberClass, MemberName, MemberRead, Part, SecondIndex,
-    StoredMember, cut_apart, dlls_of, wrong_entries,
+    StoredMember, arm64_members, cut_apart, dlls_of, ec_index, wrong_ec_entries, wrong_entries,
 };
 use indexmap::IndexSet;
 use std::alloc::{AllocError, Global};
@@ -61,6 +61,8 @@ pub struct Examined<'a> {
     pub first: Option<IndexFound<'a>>,
     /// Of the second.
     pub second: Option<IndexFound<'a>>,
+    /// Of the EC index, which is for ARM64EC.
+    pub ec: Option<IndexFound<'a>>,
     /// The short imports by which linkers ask for different names.
     pub cut: Vec<CutApart<'a>>,
     /// For which linker the library is.
@@ -172,7 +174,7 @@ fn with_offset<'a>(index: &SecondIndex<'a>, entry: &IndexEntry<'a>) -> IndexEntr
     }
 }
 
-// The entries of a second linker member with the offsets that their numbers have.
+// The entries of an index with the offsets that their numbers have.
 fn with_offsets<'a>(
     alloc: Global,
     index: &SecondIndex<'a>,
@@ -204,15 +206,53 @@ pub fn second_misleads<'a>(
     }
 }
 
+/// The same of an EC index, given the offsets of the second linker member.
+pub fn ec_misleads<'a>(
+    alloc: Global,
+    members: &[StoredMember<'a>],
+    offsets: &'a [u8],
+    contents: &'a [u8],
+) -> Result<Option<Vec<IndexEntry<'a>>>, AllocError>
+    ensures { IfOk result (λ found. option_map (λ v. map index_entry_view v.items) found ≡ ec_misleads (map member_view members.now) offsets.now contents.now) }
+{
+    let entries = IndexEntry::read_ec(alloc, contents)?;
+    match entries {
+        Some(entries) => {
+            let numbered = SecondIndex { offsets, entries };
+            let entries = with_offsets(alloc, &numbered)?;
+            let firsts = first_entries(alloc, &entries)?;
+            Ok(Some(wrong_ec_entries(alloc, members, &firsts)?))
+        }
+        None => Ok(None),
+    }
+}
+
+// The members whose symbols the linker members have.
+fn linked_members<'a>(
+    alloc: Global,
+    archive: &Archive<'a>,
+) -> Result<Vec<StoredMember<'a>>, AllocError>
+    ensures { IfOk result (λ v. map member_view v.items ≡ linked_members (archive_view archive.now)) }
+{
+    if ec_index(&archive.parts).is_some() {
+        return arm64_members(alloc, &archive.members);
+    }
+    let mut members = Vec::new(alloc);
+    members.extend_from_slice(&archive.members)?;
+    Ok(members)
+}
+
 // What is found of the first linker member, if there is one.
 fn first_found<'a>(
     alloc: Global,
     archive: &Archive<'a>,
+    members: &[StoredMember<'a>],
 ) -> Result<Option<IndexFound<'a>>, AllocError>
+    requires { map member_view members.now ≡ linked_members (archive_view archive.now) }
     ensures { IfOk result (λ found. option_map (option_map (λ v. map index_entry_view v.items)) found ≡ first_found (archive_view archive.now)) }
 {
     match linker_member(0, &archive.parts) {
-        Some(contents) => Ok(Some(first_misleads(alloc, &archive.members, contents)?)),
+        Some(contents) => Ok(Some(first_misleads(alloc, members, contents)?)),
         None => Ok(None),
     }
 }
@@ -221,13 +261,40 @@ fn first_found<'a>(
 fn second_found<'a>(
     alloc: Global,
     archive: &Archive<'a>,
+    members: &[StoredMember<'a>],
 ) -> Result<Option<IndexFound<'a>>, AllocError>
+    requires { map member_view members.now ≡ linked_members (archive_view archive.now) }
     ensures { IfOk result (λ found. option_map (option_map (λ v. map index_entry_view v.items)) found ≡ second_found (archive_view archive.now)) }
 {
     match linker_member(1, &archive.parts) {
-        Some(contents) => Ok(Some(second_misleads(alloc, &archive.members, contents)?)),
+        Some(contents) => Ok(Some(second_misleads(alloc, members, contents)?)),
         None => Ok(None),
     }
+}
+
+// The offsets of the second linker member, or none.
+fn second_offsets<'a>(alloc: Global, archive: &Archive<'a>) -> Result<&'a [u8], AllocError>
+    ensures { IfOk result (λ offsets. offsets.now ≡ second_offsets (archive_view archive.now)) }
+{
+    let Some(contents) = linker_member(1, &archive.parts) else {
+        return Ok(b"");
+    };
+    let index = SecondIndex::read(alloc, contents)?;
+    match index {
+        Some(index) => Ok(index.offsets),
+        None => Ok(b""),
+    }
+}
+
+// What is found of the EC index, if there is one.
+fn ec_found<'a>(alloc: Global, archive: &Archive<'a>) -> Result<Option<IndexFound<'a>>, AllocError>
+    ensures { IfOk result (λ found. option_map (option_map (λ v. map index_entry_view v.items)) found ≡ ec_found (archive_view archive.now)) }
+{
+    let Some(contents) = ec_index(&archive.parts) else {
+        return Ok(None);
+    };
+    let offsets = second_offsets(alloc, archive)?;
+    Ok(Some(ec_misleads(alloc, &archive.members, offsets, contents)?))
 }
 
 // Whether an index misleads, given what is found of it.
@@ -240,11 +307,11 @@ fn misled_by(found: &IndexFound) -> bool
     }
 }
 
-// Whether a second index misleads, if there is one.
-fn misled_by_second(second: &Option<IndexFound>) -> bool
-    ensures { result ≡ option_map_or misled_by (option_map (option_map (λ v. map index_entry_view v.items)) second.now) false }
+// Whether a further index misleads, if there is one.
+fn misled_by_further(further: &Option<IndexFound>) -> bool
+    ensures { result ≡ option_map_or misled_by (option_map (option_map (λ v. map index_entry_view v.items)) further.now) false }
 {
-    match second {
+    match further {
         Some(found) => misled_by(found),
         None => false,
     }
@@ -255,9 +322,20 @@ fn misled(first: &Option<IndexFound>, second: &Option<IndexFound>) -> bool
     ensures { result ≡ misled (option_map (option_map (λ v. map index_entry_view v.items)) first.now) (option_map (option_map (λ v. map index_entry_view v.items)) second.now) }
 {
     match first {
-        Some(found) => misled_by(found) || misled_by_second(second),
+        Some(found) => misled_by(found) || misled_by_further(second),
         None => true,
     }
+}
+
+// Whether one of three indexes misleads, given what is found of each.
+fn some_misled(
+    first: &Option<IndexFound>,
+    second: &Option<IndexFound>,
+    ec: &Option<IndexFound>,
+) -> bool
+    ensures { result ≡ some_misled (option_map (option_map (λ v. map index_entry_view v.items)) first.now) (option_map (option_map (λ v. map index_entry_view v.items)) second.now) (option_map (option_map (λ v. map index_entry_view v.items)) ec.now) }
+{
+    misled(first, second) || misled_by_further(ec)
 }
 
 // Whether there is a short import by which linkers ask for different names.
@@ -351,6 +429,7 @@ pub fn works_of(misleads: bool, unread: bool, dlls: usize, whole: bool) -> Worki
 pub fn examine<'a>(alloc: Global, library: &Library<'a>) -> Result<Examined<'a>, AllocError>
     ensures first { IfOk result (λ e. option_map (option_map (λ v. map index_entry_view v.items)) e.first ≡ first_found (archive_view library.now.archive)) }
     ensures second { IfOk result (λ e. option_map (option_map (λ v. map index_entry_view v.items)) e.second ≡ second_found (archive_view library.now.archive)) }
+    ensures ec { IfOk result (λ e. option_map (option_map (λ v. map index_entry_view v.items)) e.ec ≡ ec_found (archive_view library.now.archive)) }
     ensures cut { IfOk result (λ e. map cut_apart_view e.cut.items ≡ cut_apart (archive_view library.now.archive).members) }
     ensures flavor { IfOk result (λ e. e.flavor ≡ flavor_of (map member_read_view library.now.members.items)) }
     ensures dlls { IfOk result (λ e. e.dlls ≡ length (dlls_of (map member_read_view library.now.members.items))) }
@@ -358,17 +437,20 @@ pub fn examine<'a>(alloc: Global, library: &Library<'a>) -> Result<Examined<'a>,
     ensures working { IfOk result (λ e. e.working ≡ working_of (archive_view library.now.archive) (map member_read_view library.now.members.items)) }
 {
     let members = library.members.as_slice();
-    let first = first_found(alloc, &library.archive)?;
-    let second = second_found(alloc, &library.archive)?;
+    let linked = linked_members(alloc, &library.archive)?;
+    let first = first_found(alloc, &library.archive, &linked)?;
+    let second = second_found(alloc, &library.archive, &linked)?;
+    let ec = ec_found(alloc, &library.archive)?;
     let cut = cut_apart(alloc, &library.archive.members)?;
     let flavor = flavor_of(members);
     let dlls = dlls_of(alloc, members)?.len();
     let is_whole = has_whole_tables(flavor, members);
-    let misleads = misled(&first, &second) || is_some_cut(&cut);
+    let misleads = some_misled(&first, &second, &ec) || is_some_cut(&cut);
     let working = works_of(misleads, has_unread(members), dlls, is_whole);
     Ok(Examined {
         first,
         second,
+        ec,
         cut,
         flavor,
         dlls,

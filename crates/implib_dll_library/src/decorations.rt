@@ -112,6 +112,22 @@ fn push_functions(
     Ok(())
 }
 
+// Appends a name with each of some symbols that is no address's, of symbols that are held.
+fn push_held(
+    alloc: Global,
+    name: &[u8],
+    symbols: &[Vec<u8>],
+    list: &mut Vec<Decoration>,
+) -> Result<(), AllocError>
+    ensures { OnOk result (map decoration_view list.new.items ≡ map decoration_view list.old.items
+        ++ named name.now (functions (map (λ symbol. symbol.items) symbols.now))) }
+{
+    for symbol in symbols {
+        push_function(alloc, name, symbol, list)?;
+    }
+    Ok(())
+}
+
 // Appends a name with the symbols of functions among those that are declared.
 fn push_declared(
     alloc: Global,
@@ -125,6 +141,7 @@ fn push_declared(
     match declared {
         DeclaredFound::OfName(_, true) => Ok(()),
         DeclaredFound::OfName(symbol, false) => push_function(alloc, name, symbol, list),
+        DeclaredFound::OfArm64ec(symbols) => push_held(alloc, name, symbols, list),
         DeclaredFound::OfObject(addresses, code) => {
             push_functions(alloc, name, addresses.as_slice(), list)?;
             push_functions(alloc, name, code.as_slice(), list)
