@@ -1,14 +1,16 @@
 -- The library for ARM64EC of a definition (LLVM, "COFFImportFile.cpp"; docs/DLLTOOL.md, "ARM64EC").
-use Rattle.std.specs.Prelude.{◌≡◌, ◌⊎◌, ℕ, true, List, [], Option, None, Some, drop, take, unwrap_or}
+use Rattle.std.specs.Prelude.{◌≡◌, ◌⊎◌, ℕ, true, List, [], ◌∷◌, if◌then◌else◌, Option, None, Some, drop, take, unwrap_or}
 use Rattle.std.specs.List.{AllByRecursion}
 use Rattle.std.specs.Str.{IsUtf8}
 use Rattle.implib.specs.declared.def.position.Position.{Position}
 use Rattle.implib.specs.declared.flavor.Flavor.TheVariants.{Gnu, Msvc}
-use Rattle.implib.specs.declared.machine.MachineType.TheVariants.{ARM64}
-use Rattle.implib.specs.Definition.{DefinitionView}
+use Rattle.implib.specs.declared.machine.MachineType.TheVariants.{AMD64, ARM64}
+use Rattle.implib.specs.Definition.{DefinitionView, ExportView}
 use Rattle.implib.specs.Fault as cause
 use Rattle.implib.specs.Fault.{Cause, cause_of}
+use Rattle.implib.specs.Import.{is_empty_text}
 use Rattle.implib.specs.LibraryName.{names_for}
+use Rattle.implib.specs.Text.Parses.{Parses}
 use Rattle.implib.specs.Members.MemberSpec.{MemberView}
 use Rattle.implib.specs.Renaming.{renamed}
 use Rattle.implib_arm64ec.specs.Archive.{library_refusal}
@@ -43,9 +45,26 @@ native_options options dll = record options {
   naming = record options.naming { exports_as = true };
 }
 
--- the definition with the library's name for Microsoft's linkers, each export under the name to link by
-abbrev pub for_linkers : DefinitionView → DefinitionView
-for_linkers d = renamed (with_library_name Msvc d)
+-- the name that an export gives, or else its word after `==`, if it has one
+abbrev pub asked_or : Option (List ℕ) → List ℕ → Option (List ℕ)
+asked_or (Some name) word = Some name
+asked_or None word = if is_empty_text word then None else Some word
+
+-- an export that asks for its word after `==`, which the first of these has, also where that is its symbol
+abbrev pub asking_by : List ExportView → ExportView → ExportView
+asking_by [] e = e
+asking_by (written ∷ rest) e = record e { asked_name = asked_or e.asked_name written.alias_target }
+
+-- Exports, each asking for the word after `==` that it has in the text. For example, `#f == #f` asks for `#f`, and
+-- `#f` for f.
+abbrev pub asking : List ExportView → List ExportView → List ExportView
+asking written [] = []
+asking written (e ∷ exports) = asking_by written e ∷ asking (drop 1 written) exports
+
+-- the definition of these written exports, with the library's name for Microsoft's linkers, each export under the name
+-- to link by
+abbrev pub for_linkers : List ExportView → DefinitionView → DefinitionView
+for_linkers written d = renamed (with_library_name Msvc (record d { exports = asking written d.exports }))
 
 -- Each export of a definition that is read so asks for its own name: none is an alias, which is weak for the symbol of
 -- another, and asks for nothing.
@@ -66,16 +85,21 @@ pub record IsLibraryNamed (bytes : List ℕ) (native : Option (List ℕ)) (optio
   pub utf8 : IsUtf8 (definition_text bytes)
   pub definition : DefinitionView
   pub of_text : DefinitionFor (definition_text bytes) (arm64ec_options options) definition
+  -- the text's exports as they are written
+  pub written : DefinitionView
+  pub parses : Parses (definition_text bytes) AMD64 written
   pub ordinary : AreOrdinary native options definition.import_name l.headers l.natives
-  pub imports : l.imports ≡ imports_of (names_for Msvc (for_linkers definition)) (for_linkers definition).exports
-  pub accepted : imports_fault (names_for Msvc (for_linkers definition)) (for_linkers definition).exports ≡ None
+  pub imports : l.imports ≡ imports_of (names_for Msvc (for_linkers written.exports definition)) (for_linkers written.exports definition).exports
+  pub accepted : imports_fault (names_for Msvc (for_linkers written.exports definition)) (for_linkers written.exports definition).exports ≡ None
 
 -- the bytes have a definition for this, whose short imports are refused
 pub record RefusesImports (bytes : List ℕ) (options : LibraryOptionsView) (fault : ImportsFault) : Type 0 where
   pub utf8 : IsUtf8 (definition_text bytes)
   pub definition : DefinitionView
   pub of_text : DefinitionFor (definition_text bytes) (arm64ec_options options) definition
-  pub refused : imports_fault (names_for Msvc (for_linkers definition)) (for_linkers definition).exports ≡ Some fault
+  pub written : DefinitionView
+  pub parses : Parses (definition_text bytes) AMD64 written
+  pub refused : imports_fault (names_for Msvc (for_linkers written.exports definition)) (for_linkers written.exports definition).exports ≡ Some fault
 
 -- the fault of short imports is told so: its export, if it is of one, is at this position of the text
 abbrev pub IsUnimported : List ℕ → ImportsFault → Unimported → Type 0

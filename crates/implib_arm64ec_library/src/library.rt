@@ -1,6 +1,6 @@
 //! The library for ARM64EC of texts.
 
-ghost use Rattle.implib.specs.Definition.{definition_view};
+ghost use Rattle.implib.specs.Definition.{definition_view, export_view};
 ghost use Rattle.implib.specs.Library.{member_view};
 ghost use Rattle.implib_arm64ec.specs.Archive.{library_refusal};
 ghost use Rattle.implib_arm64ec.specs.LibraryImports.{IsFault, imports_fault, imports_of};
@@ -8,17 +8,17 @@ ghost use Rattle.implib_arm64ec_library.specs.Libraries.{AreOrdinary, IsLibraryO
 ghost use Rattle.implib_arm64ec_library.specs.Libraries.{IsRefusalOfTexts, IsUnimported};
 ghost use Rattle.implib_arm64ec_library.specs.Libraries.{GivesName, IsLibraryNamed, IsNativeName, IsRefusalNamed};
 ghost use Rattle.implib_arm64ec_library.specs.Libraries.{IsRefusalOfDefinition, RefusesName};
-ghost use Rattle.implib_arm64ec_library.specs.Libraries.{arm64ec_options, for_linkers, native_options};
+ghost use Rattle.implib_arm64ec_library.specs.Libraries.{arm64ec_options, asking, asking_by, for_linkers, native_options};
 ghost use Rattle.implib.specs.LibraryName.{names_for};
 ghost use Rattle.implib.specs.declared.flavor.Flavor.TheVariants.{Msvc};
 ghost use Rattle.implib_rules.specs.Library.{IsRefusalOfMembers};
 ghost use Rattle.implib_rules.specs.Options.{library_options_view};
 ghost use Rattle.std.specs.Option.{option_map};
 ghost use Rattle.std.specs.String.{string_bytes};
-ghost use Rattle.std.specs.Prelude.{◌≡◌, [], IfErr, IfOk, None, OnOk, map, unwrap_or};
+ghost use Rattle.std.specs.Prelude.{◌≡◌, [], IfErr, IfOk, None, OnOk, drop, map, unwrap_or};
 
 use crate::held::held;
-use implib::def::{ModuleDef, Position};
+use implib::def::{ModuleDef, Position, ShortExport};
 use implib::msvc::linked_dll;
 use implib::{Fault, Flavor, ImportLibrary, MachineType, Member};
 use implib_arm64ec::{Archive, ImportsError, ImportsFault, short_imports};
@@ -29,6 +29,7 @@ use implib_rules::options::LibraryOptions;
 use implib_rules::places::position_of_fault;
 use implib_rules::text::DefinitionText;
 use std::alloc::{AllocError, Global};
+use std::slice::Iter;
 
 /// The members of a library for ARM64EC, in this order.
 #[derive(Drop)]
@@ -118,11 +119,41 @@ fn told(alloc: Global, text: &str, fault: ImportsFault) -> Result<Unimported, Al
     Ok(Unimported { fault, position })
 }
 
+// Gives an export without an asked name its word after `==`, which the next of these has, if it has one.
+fn ask_written(export: &mut ShortExport, left: &mut Iter<'_, ShortExport>) -> Result<(), AllocError>
+    ensures export { OnOk result (export_view export.new
+        ≡ asking_by (map export_view left.old.rest.now) (export_view export.old)) }
+    ensures left { OnOk result (map export_view left.new.rest.now
+        ≡ drop 1 (map export_view left.old.rest.now)) }
+{
+    let Some(written) = left.next() else {
+        return Ok(());
+    };
+    if export.asked_name.is_none() && !written.alias_target.is_empty() {
+        export.asked_name = Some(written.alias_target.clone()?);
+    }
+    Ok(())
+}
+
+// Lets each export ask for its word after `==` in the text, also where that is its symbol.
+fn ask_as_written(exports: &mut Vec<ShortExport>, written: &[ShortExport]) -> Result<(), AllocError>
+    ensures { OnOk result (map export_view exports.new.items
+        ≡ asking (map export_view written.now) (map export_view exports.old.items)) }
+{
+    let mut left = written.iter();
+    for export in exports.iter_mut() {
+        ask_written(export, &mut left)?;
+    }
+    Ok(())
+}
+
 // A definition with its library's name for Microsoft's linkers, each export under the name to link by.
-fn for_linkers(alloc: Global, def: ModuleDef) -> Result<ModuleDef, AllocError>
-    ensures { IfOk result (λ linked. definition_view linked ≡ for_linkers (definition_view def)) }
+fn for_linkers(alloc: Global, written: &ModuleDef, def: ModuleDef) -> Result<ModuleDef, AllocError>
+    ensures { IfOk result (λ linked. definition_view linked
+        ≡ for_linkers (definition_view written.now).exports (definition_view def)) }
 {
     let mut def = def;
+    ask_as_written(&mut def.exports, written.exports.as_slice())?;
     def.library_name = library_name_for(alloc, Flavor::Msvc, &def)?;
     Ok(ImportLibrary::from_def(def, MachineType::ARM64, Flavor::Msvc).into_def())
 }
@@ -202,7 +233,11 @@ fn library_named(
         Ok(def) => def,
         Err(refusal) => return Err(Arm64ecRefusal::OfDefinition(refusal)),
     };
-    let def = for_linkers(alloc, def)?;
+    // The text parses, since it has a definition: an error is want of memory.
+    let Ok(written) = ModuleDef::parse(alloc, text, MachineType::AMD64) else {
+        return Err(Arm64ecRefusal::OutOfMemory);
+    };
+    let def = for_linkers(alloc, &written, def)?;
     let imports = match imports_for(alloc, &def) {
         Ok(imports) => imports,
         Err(ImportsError::Invalid(fault)) => {

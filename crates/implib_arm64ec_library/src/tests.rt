@@ -13,9 +13,10 @@ use std::test::Fail;
 const DEFINITION: &[u8] = b"LIBRARY t.dll\nEXPORTS\nfunc\n?cpp@@YAHPEAX@Z\nbyord @7 NONAME\n\
     alias == target\ndat DATA\ncon CONSTANT\nhidden PRIVATE\n";
 
-// Names of the DLL that have a symbol of their own and others beside it; marks that the text has already.
-const NAMES: &[u8] =
-    b"LIBRARY t.dll\nEXPORTS\np EXPORTAS v\nv\nq == v\nw @5 NONAME\nr == w\n#con CONSTANT\n#dat DATA\n";
+// Names of the DLL that have a symbol of their own and others beside it; marks that the text has already, and
+// names that are asked for with them.
+const NAMES: &[u8] = b"LIBRARY t.dll\nEXPORTS\np EXPORTAS v\nv\nq == v\nw @5 NONAME\nr == w\n\
+    #con CONSTANT\n#dat DATA\n#f == #f\ng == g DATA\n#h\n";
 
 const NATIVE: &[u8] = b"LIBRARY t.dll\nEXPORTS\nnative\n#odd\nndata DATA\n";
 
@@ -63,7 +64,7 @@ fn libraries_are_those_of_llvm_dlltool(rt: HostRuntime) -> Result<(), Fail> {
         made(&rt, DEFINITION, Some(NATIVE))?,
         (2570, 0x28426a21a56baf8d)
     );
-    assert_eq!(rt; made(&rt, NAMES, None)?, (2144, 0x74e3b2d516e1491b));
+    assert_eq!(rt; made(&rt, NAMES, None)?, (2506, 0x4d74b60e72839285));
     // The native definition names the DLL.
     let native = b"LIBRARY u.dll\nEXPORTS\ng\n";
     let made = made(&rt, b"LIBRARY t.dll\nEXPORTS\nf\n", Some(native))?;

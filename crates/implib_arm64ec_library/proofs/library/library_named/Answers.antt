@@ -3,7 +3,9 @@ use Rattle.std.specs.Option.{option_map, unwrap_or}
 use Rattle.implib.specs.Definition.{DefinitionView, definition_view}
 use Rattle.implib.specs.Library.{member_view}
 use Rattle.implib.specs.LibraryName.{names_for}
+use Rattle.implib.specs.Text.Parses.{Parses}
 use Rattle.implib.specs.declared.flavor.Flavor.TheVariants.{Msvc}
+use Rattle.implib.specs.declared.machine.MachineType.TheVariants.{AMD64}
 use Rattle.implib_arm64ec.specs.LibraryImports.{imports_fault, imports_of}
 use Rattle.implib_arm64ec_library.specs.Libraries.{AreOrdinary, arm64ec_options, native_options}
 use Rattle.implib_rules.specs.Library.{DefinitionFor, IsRefusalOfMembers}
@@ -25,6 +27,8 @@ returns-in-Ok-ordinary_for-clause-made c =
       utf8 = found.1;
       definition = d;
       of_text = subst (λ t. DefinitionFor t (arm64ec_options options) d) found.0 read;
+      written = definition_view c.in-Ok-parse.written;
+      parses = subst (λ t. Parses t AMD64 (definition_view c.in-Ok-parse.written)) found.0 c.in-Ok-parse.ensures.parses;
       ordinary = subst (λ dll. AreOrdinary native options dll (map member_view c.in-Ok-ordinary_for.headers.items) (map member_view c.in-Ok-ordinary_for.natives.items)) (c.as_str.ensures.value ∙ ap (λ (v : DefinitionView). v.import_name) c.in_ok-def.ensures)
           c.in-Ok-ordinary_for.ensures.made;
       imports = subst (λ (v : DefinitionView). imports ≡ imports_of (names_for Msvc v) v.exports) c.in_ok-def.ensures c.in-Ok-imports_for.ensures.made;
