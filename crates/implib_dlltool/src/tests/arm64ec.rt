@@ -1,6 +1,7 @@
 //! Calls of the program for libraries for ARM64EC.
 
 use crate::tests::calls::ran;
+use std::path::Path;
 use std::test::Fail;
 use std::{env, fs};
 
@@ -20,18 +21,19 @@ fn sum(bytes: &[u8]) -> u64 {
     sum
 }
 
-// Three calls for one library, the last two with a native definition; the lengths and sums are those of
-// llvm-dlltool's and llvm-lib's, version 19.
+// The status of a call for a library at a path, the length of what it wrote, and the library's length and
+// sum.
+fn made(rt: &HostRuntime, words: &[&str], file: Path) -> Result<(u8, usize, usize, u64), Fail> {
+    let (status, wrote) = ran(rt, words, DEFINITION)?;
+    let library = fs::read(rt, file)?;
+    Ok((status, wrote.len(), library.len(), sum(library.as_slice())))
+}
+
+// A library without a native definition; its length and sum are those of llvm-dlltool's, version 19.
 #[test]
-fn libraries_are_those_of_llvm(rt: HostRuntime) -> Result<(), Fail> {
-    let folder = env::temp_dir(&rt)?.join(rt.alloc(), "implib_dlltool_arm64ec")?;
-    let _ = fs::create_dir(&rt, folder.as_path());
-    let file = folder.join(rt.alloc(), "t.a")?;
-    let native = folder.join(rt.alloc(), "native.def")?;
-    fs::write(&rt, native.as_path(), NATIVE)?;
-    let out = format!(in rt.alloc(); "/out:{}", file.as_str())?;
-    let def = format!(in rt.alloc(); "/defArm64Native:{}", native.as_str())?;
-    let alone = [
+fn a_library_is_that_of_llvm_dlltool(rt: HostRuntime) -> Result<(), Fail> {
+    let file = env::temp_dir(&rt)?.join(rt.alloc(), "implib_dlltool_arm64ec.a")?;
+    let words = [
         "-k",
         "-m",
         "arm64ec",
@@ -40,7 +42,19 @@ fn libraries_are_those_of_llvm(rt: HostRuntime) -> Result<(), Fail> {
         "--output-lib",
         file.as_str(),
     ];
-    let both = [
+    let found = made(&rt, words.as_slice(), file.as_path())?;
+    assert_eq!(rt; found, (0, 0, 2154, 0x6f284ba862b93335));
+    fs::remove_file(&rt, file.as_path())?;
+    Ok(())
+}
+
+// With a native definition, as llvm-dlltool's.
+#[test]
+fn a_library_with_native_exports_is_that_of_llvm_dlltool(rt: HostRuntime) -> Result<(), Fail> {
+    let file = env::temp_dir(&rt)?.join(rt.alloc(), "implib_dlltool_arm64ec_native.a")?;
+    let native = env::temp_dir(&rt)?.join(rt.alloc(), "implib_dlltool_arm64ec_native.def")?;
+    fs::write(&rt, native.as_path(), NATIVE)?;
+    let words = [
         "-l",
         file.as_str(),
         "-d",
@@ -49,29 +63,32 @@ fn libraries_are_those_of_llvm(rt: HostRuntime) -> Result<(), Fail> {
         native.as_str(),
         "-mARM64EC",
     ];
-    let lib = [
+    let found = made(&rt, words.as_slice(), file.as_path())?;
+    assert_eq!(rt; found, (0, 0, 2570, 0x28426a21a56baf8d));
+    fs::remove_file(&rt, file.as_path())?;
+    fs::remove_file(&rt, native.as_path())?;
+    Ok(())
+}
+
+// The same by LIB's words, as llvm-lib's.
+#[test]
+fn a_library_by_lib_words_is_that_of_llvm_lib(rt: HostRuntime) -> Result<(), Fail> {
+    let file = env::temp_dir(&rt)?.join(rt.alloc(), "implib_dlltool_arm64ec_lib.a")?;
+    let native = env::temp_dir(&rt)?.join(rt.alloc(), "implib_dlltool_arm64ec_lib.def")?;
+    fs::write(&rt, native.as_path(), NATIVE)?;
+    let out = format!(in rt.alloc(); "/out:{}", file.as_str())?;
+    let def = format!(in rt.alloc(); "/defArm64Native:{}", native.as_str())?;
+    let words = [
         "--lib",
         "/def:-",
         def.as_str(),
         "/machine:arm64x",
         out.as_str(),
     ];
-    for (words, length, expected) in [
-        (alone.as_slice(), 2154, 0x6f284ba862b93335),
-        (both.as_slice(), 2570, 0x28426a21a56baf8d),
-        (lib.as_slice(), 2570, 0x28426a21a56baf8d),
-    ] {
-        let (got, wrote) = ran(&rt, words, DEFINITION)?;
-        assert_eq!(rt; (got, wrote.as_str()), (0, ""));
-        let library = fs::read(&rt, file.as_path())?;
-        assert_eq!(rt;
-            (library.len(), sum(library.as_slice())),
-            (length, expected)
-        );
-    }
+    let found = made(&rt, words.as_slice(), file.as_path())?;
+    assert_eq!(rt; found, (0, 0, 2570, 0x28426a21a56baf8d));
     fs::remove_file(&rt, file.as_path())?;
     fs::remove_file(&rt, native.as_path())?;
-    fs::remove_dir(&rt, folder.as_path())?;
     Ok(())
 }
 
