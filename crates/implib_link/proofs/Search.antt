@@ -35,4 +35,5 @@ pub mod BothRooms
 pub mod BothExists
 pub mod NoShorts
 pub mod Sweeps
+pub mod CommandLines
 pub mod Wanting

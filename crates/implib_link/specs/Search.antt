@@ -14,4 +14,5 @@ pub mod BothFlavors
 pub mod BothExists
 pub mod NoShorts
 pub mod Sweeps
+pub mod CommandLines
 pub mod Wanting

@@ -10,27 +10,27 @@ use Rattle.implib.proofs.Link.LinkedMembers.{among_contains}
 use Rattle.implib.proofs.Link.Ranges.{Among, among_first, among_flat, among_later}
 use Rattle.implib_link.specs.Search.Closed.{AreTakenIntoAs, PullsIntoAs, TakesIntoAs, unresolved}
 use Rattle.implib_link.specs.Search.Search.{objects_as}
-use Rattle.implib_link.specs.Search.Sweeps.{IndexEntry, SweepsTake, entries_at, index_of, is_due, is_left, members_at, numbers_from, sweeps, swept}
+use Rattle.implib_link.specs.Search.Sweeps.{IndexEntry, SweepsTake, entries_at, index_at, index_of, is_due, is_left, members_at, numbers_from, sweeps, swept}
 use Rattle.implib_link.proofs.Gnu.Bounds.{index_below}
 use Rattle.implib_link.proofs.Search.ArchiveGroups.{first_is}
 use Rattle.implib_link.proofs.Search.Lists.{all_listed, among_any, among_flat_map, among_listed, among_mapped, any_among, contains_among, distinct_apart, distinct_later, listed_once}
 
 -- Numbers and members.
 
-member_at : (archive : List MemberView) (n : ℕ) (m : MemberView) → slice_get archive n ≡ Some m → Among m archive
+pub member_at : (archive : List MemberView) (n : ℕ) (m : MemberView) → slice_get archive n ≡ Some m → Among m archive
 unfolding Among
 member_at [] n m is = cc
 member_at (x ∷ archive) zero m is = (let same : x ≡ m = cc in inl (sym same))
 member_at (x ∷ archive) (suc n) m is = inr (member_at archive n m is)
 
-number_of : (archive : List MemberView) (m : MemberView) → Among m archive → (n : ℕ) × (slice_get archive n ≡ Some m)
+pub number_of : (archive : List MemberView) (m : MemberView) → Among m archive → (n : ℕ) × (slice_get archive n ≡ Some m)
 unfolding Among
 number_of [] m held = absurd held
 number_of (x ∷ archive) m (inl same) = (0, ap Some (sym same))
 number_of (x ∷ archive) m (inr held) = (let later = number_of archive m held in (suc later.0, later.1))
 
 -- a symbol has one number, where all symbols differ
-one_number : (archive : List MemberView) (name : List ℕ) (n k : ℕ) (m x : MemberView) → IsDistinct bytes_eq (all_listed archive) → slice_get archive n ≡ Some m → slice_get archive k ≡ Some x →
+pub one_number : (archive : List MemberView) (name : List ℕ) (n k : ℕ) (m x : MemberView) → IsDistinct bytes_eq (all_listed archive) → slice_get archive n ≡ Some m → slice_get archive k ≡ Some x →
     Among name m.symbols → Among name x.symbols → n ≡ k
 one_number [] name n k m x distinct at other listed again = cc
 one_number (y ∷ archive) name zero zero m x distinct at other listed again = refl
@@ -45,19 +45,19 @@ one_number (y ∷ archive) name (suc n) (suc k) m x distinct at other listed aga
 
 -- A number is taken exactly where its member is.
 
-number_among : (n : ℕ) (numbers : List ℕ) → list_any (λ number. number == n) numbers ≡ true → Among n numbers
+pub number_among : (n : ℕ) (numbers : List ℕ) → list_any (λ number. number == n) numbers ≡ true → Among n numbers
 unfolding Among
 number_among n [] is = absurd (true≢false (sym is))
 number_among n (k ∷ numbers) is =
     elim (cases_Bool (k == n)) [ inl same ↦ inl (sym (eqb-true k n same)) | inr other ↦ inr (number_among n numbers (rw other at is)) ]
 
-among_number : (n : ℕ) (numbers : List ℕ) → Among n numbers → list_any (λ number. number == n) numbers ≡ true
+pub among_number : (n : ℕ) (numbers : List ℕ) → Among n numbers → list_any (λ number. number == n) numbers ≡ true
 unfolding Among
 among_number n [] held = absurd held
 among_number n (k ∷ numbers) (inl same) = (let own : (k == n) ≡ true = eq-eqb k n (sym same) in rw own refl)
 among_number n (k ∷ numbers) (inr held) = elim (cases_Bool (k == n)) [ inl same ↦ rw same refl | inr other ↦ rw other (among_number n numbers held) ]
 
-members_next : (archive : List MemberView) (n : ℕ) (m : MemberView) (numbers : List ℕ) → slice_get archive n ≡ Some m → members_at archive (n ∷ numbers) ≡ m ∷ members_at archive numbers
+pub members_next : (archive : List MemberView) (n : ℕ) (m : MemberView) (numbers : List ℕ) → slice_get archive n ≡ Some m → members_at archive (n ∷ numbers) ≡ m ∷ members_at archive numbers
 members_next archive n m numbers at = ap (λ o. cons_option o (members_at archive numbers)) at
 
 taken_option : (o : Option MemberView) (m : MemberView) (rest : List MemberView) → Among m (cons_option o rest) → (o ≡ Some m) ⊎ Among m rest
@@ -66,7 +66,7 @@ taken_option None m rest held = inr held
 taken_option (Some x) m rest (inl same) = inl (ap Some (sym same))
 taken_option (Some x) m rest (inr held) = inr held
 
-taken_number : (archive : List MemberView) (numbers : List ℕ) (m : MemberView) → Among m (members_at archive numbers) → (n : ℕ) × Among n numbers × (slice_get archive n ≡ Some m)
+pub taken_number : (archive : List MemberView) (numbers : List ℕ) (m : MemberView) → Among m (members_at archive numbers) → (n : ℕ) × Among n numbers × (slice_get archive n ≡ Some m)
 unfolding Among
 taken_number archive [] m held = absurd held
 taken_number archive (n ∷ numbers) m held =
@@ -79,7 +79,7 @@ taken_behind : (o : Option MemberView) (m : MemberView) (rest : List MemberView)
 taken_behind None m rest held = held
 taken_behind (Some x) m rest held = among_later m x rest held
 
-number_taken : (archive : List MemberView) (numbers : List ℕ) (n : ℕ) (m : MemberView) → Among n numbers → slice_get archive n ≡ Some m → Among m (members_at archive numbers)
+pub number_taken : (archive : List MemberView) (numbers : List ℕ) (n : ℕ) (m : MemberView) → Among n numbers → slice_get archive n ≡ Some m → Among m (members_at archive numbers)
 unfolding Among
 number_taken archive [] n m held at = absurd held
 number_taken archive (k ∷ numbers) n m (inl same) at =
@@ -89,7 +89,7 @@ number_taken archive (k ∷ numbers) n m (inr held) at = taken_behind (slice_get
 -- The index.
 
 -- an entry is of a member that lists its name
-abbrev IsEntry : List MemberView → IndexEntry → Type 0
+abbrev pub IsEntry : List MemberView → IndexEntry → Type 0
 IsEntry archive e = (m : MemberView) × (slice_get archive e.number ≡ Some m) × Among e.name m.symbols
 
 entry_at : (archive : List MemberView) (number : ℕ) (o : Option MemberView) (e : IndexEntry) → slice_get archive number ≡ o → Among e (entries_at number o) → IsEntry archive e
@@ -102,12 +102,24 @@ entry_at archive number (Some m) e is held =
       subst (λ name. Among name m.symbols) (sym (ap (λ (x : IndexEntry). x.name) from.2)) from.1,
     )
 
-all_entries : (archive : List MemberView) (e : IndexEntry) → Among e (index_of archive) → IsEntry archive e
-all_entries archive e held =
-    let from = among_flat_map (λ (number : ℕ). entries_at number (slice_get archive number)) e (numbers_from (length archive) 0) held in
-    entry_at archive from.0 (slice_get archive from.0) e refl from.2
+entry_number : (number : ℕ) (o : Option MemberView) (e : IndexEntry) → Among e (entries_at number o) → e.number ≡ number
+unfolding Among
+entry_number number None e held = absurd held
+entry_number number (Some m) e held =
+    let from = among_mapped (λ (name : List ℕ). record { name = name; number = number }) e m.symbols held in ap (λ (x : IndexEntry). x.number) from.2
 
-number_there : (count first n : ℕ) → first ≤ n → n < first + count → Among n (numbers_from count first)
+-- an entry of an index is of a member of its numbers
+pub entries_of : (archive : List MemberView) (numbers : List ℕ) (e : IndexEntry) → Among e (index_at archive numbers) → IsEntry archive e × Among e.number numbers
+entries_of archive numbers e held =
+    let from = among_flat_map (λ (number : ℕ). entries_at number (slice_get archive number)) e numbers held in (
+      entry_at archive from.0 (slice_get archive from.0) e refl from.2,
+      subst (λ k. Among k numbers) (sym (entry_number from.0 (slice_get archive from.0) e from.2)) from.1,
+    )
+
+all_entries : (archive : List MemberView) (e : IndexEntry) → Among e (index_of archive) → IsEntry archive e
+all_entries archive e held = (entries_of archive (numbers_from (length archive) 0) e held).0
+
+pub number_there : (count first n : ℕ) → first ≤ n → n < first + count → Among n (numbers_from count first)
 unfolding Among
 number_there zero first n from below = absurd (omega arith)
 number_there (suc count) first n from below =
@@ -122,12 +134,15 @@ among_map_of f x [] held = absurd held
 among_map_of f x (y ∷ xs) (inl same) = inl (ap f same)
 among_map_of f x (y ∷ xs) (inr held) = inr (among_map_of f x xs held)
 
-listed_entry : (archive : List MemberView) (n : ℕ) (m : MemberView) (name : List ℕ) → slice_get archive n ≡ Some m → Among name m.symbols → Among (record { name = name; number = n }) (index_of archive)
-listed_entry archive n m name at listed =
-    let below : n < length archive = index_below archive n m at in
-    among_flat (λ (number : ℕ). entries_at number (slice_get archive number)) n (numbers_from (length archive) 0) (record { name = name; number = n })
-    (number_there (length archive) 0 n (omega arith) (omega arith))
+-- a member of these numbers has an entry for each symbol
+pub entry_there : (archive : List MemberView) (numbers : List ℕ) (n : ℕ) (m : MemberView) (name : List ℕ) → slice_get archive n ≡ Some m → Among n numbers → Among name m.symbols →
+    Among (record { name = name; number = n }) (index_at archive numbers)
+entry_there archive numbers n m name at held listed =
+    among_flat (λ (number : ℕ). entries_at number (slice_get archive number)) n numbers (record { name = name; number = n }) held
     (subst (λ o. Among (record { name = name; number = n }) (entries_at n o)) (sym at) (among_map_of (λ (x : List ℕ). record { name = x; number = n }) name m.symbols listed))
+
+pub all_there : (archive : List MemberView) (n : ℕ) (m : MemberView) → slice_get archive n ≡ Some m → Among n (numbers_from (length archive) 0)
+all_there archive n m at = (let below : n < length archive = index_below archive n m at in number_there (length archive) 0 n (omega arith) (omega arith))
 
 -- Sweeps.
 
@@ -142,8 +157,37 @@ module _ (reads : List ℕ → Option Object) (archive : List MemberView) (own :
         | inr not_due ↦ rw not_due (grows index numbers)
       ]
 
+  pub swept_keeps : (index : List IndexEntry) (numbers : List ℕ) (n : ℕ) → Among n numbers → Among n (swept reads archive own index numbers)
+  unfolding swept
+  swept_keeps [] numbers n held = held
+  swept_keeps (e ∷ index) numbers n held =
+      elim (cases_Bool (is_due reads archive own numbers e)) [
+        | inl due ↦ rw due (swept_keeps index (e.number ∷ numbers) n (among_later n e.number numbers held))
+        | inr not_due ↦ rw not_due (swept_keeps index numbers n held)
+      ]
+
+  -- what a sweep takes is of its entries
+  pub swept_adds : (index : List IndexEntry) (numbers : List ℕ) (n : ℕ) → Among n (swept reads archive own index numbers) → Among n numbers ⊎ ((e : IndexEntry) × Among e index × (n ≡ e.number))
+  unfolding swept Among
+  swept_adds [] numbers n held = inl held
+  swept_adds (e ∷ index) numbers n held =
+      elim (cases_Bool (is_due reads archive own numbers e)) [
+        | inl due ↦ elim (swept_adds index (e.number ∷ numbers) n (rw due at held)) [
+          | inl before ↦ first before
+          | inr behind ↦ inr (behind.0, among_later behind.0 e index behind.1, behind.2)
+        ]
+        | inr not_due ↦ elim (swept_adds index numbers n (rw not_due at held)) [
+          | inl before ↦ inl before
+          | inr behind ↦ inr (behind.0, among_later behind.0 e index behind.1, behind.2)
+        ]
+      ]
+    where
+      first : Among n (e.number ∷ numbers) → Among n numbers ⊎ ((x : IndexEntry) × Among x (e ∷ index) × (n ≡ x.number))
+      first (inl is) = inr (e, inl refl, is)
+      first (inr before) = inl before
+
   -- a sweep that takes nothing finds no entry whose member is to be taken
-  none_due : (index : List IndexEntry) (numbers : List ℕ) → swept reads archive own index numbers ≡ numbers → (e : IndexEntry) → Among e index → is_due reads archive own numbers e ≡ false
+  pub none_due : (index : List IndexEntry) (numbers : List ℕ) → swept reads archive own index numbers ≡ numbers → (e : IndexEntry) → Among e index → is_due reads archive own numbers e ≡ false
   unfolding swept Among
   none_due [] numbers ended e held = absurd held
   none_due (x ∷ index) numbers ended e held =
@@ -158,6 +202,19 @@ module _ (reads : List ℕ → Option Object) (archive : List MemberView) (own :
           | inr behind ↦ none_due index numbers (rw not_due at ended) e behind
         ]
       ]
+
+  -- so a name that is left unresolved, and that an entry has, is that of a member that is taken
+  pub none_left : (index : List IndexEntry) (numbers : List ℕ) → swept reads archive own index numbers ≡ numbers → (e : IndexEntry) → Among e index →
+      Among e.name (unresolved (own ++ objects_as reads (members_at archive numbers))) → Among e.number numbers
+  none_left index numbers ended e held left =
+      let named : is_left reads archive own numbers e.name ≡ true = among_any e.name (unresolved (own ++ objects_as reads (members_at archive numbers))) left in
+      elim (cases_Bool (list_any (λ number. number == e.number) numbers)) [
+        | inl there ↦ number_among e.number numbers there
+        | inr free ↦ absurd (true≢false (sym (both named free) ∙ none_due index numbers ended e held))
+      ]
+    where
+      both : {left there : Bool} → left ≡ true → there ≡ false → (left && not there) ≡ true
+      both one other = rw (one, other) refl
 
   module _ (distinct : IsDistinct bytes_eq (all_listed archive)) where
     -- an entry whose member is to be taken pulls it in
@@ -175,44 +232,46 @@ module _ (reads : List ℕ → Option Object) (archive : List MemberView) (own :
               true≢false (sym parts.1 ∙ ap not there);
         }
 
-    one_more : (numbers : List ℕ) (e : IndexEntry) (from : IsEntry archive e) → is_due reads archive own numbers e ≡ true → AreTakenIntoAs reads archive own (members_at archive numbers) →
-        AreTakenIntoAs reads archive own (members_at archive (e.number ∷ numbers))
-    unfolding AreTakenIntoAs
-    one_more numbers e from due before =
-        subst (AreTakenIntoAs reads archive own) (sym (members_next archive e.number from.0 numbers from.1)) ((e.name, due_pulls numbers e from due), before)
+    -- What a sweep takes for these objects is taken for others (`whole`), for which each pull is one, too.
+    module _ (whole : List Object) where
+      -- an entry, and what it pulls in
+      abbrev pub Lifts : IndexEntry → Type 0
+      Lifts e = (from : IsEntry archive e) × ((numbers : List ℕ) → PullsIntoAs reads archive own (members_at archive numbers) e.name from.0 →
+          PullsIntoAs reads archive whole (members_at archive numbers) e.name from.0)
 
-    swept_in_turn : (index : List IndexEntry) → ((e : IndexEntry) → Among e index → IsEntry archive e) → (numbers : List ℕ) → AreTakenIntoAs reads archive own (members_at archive numbers) →
-        AreTakenIntoAs reads archive own (members_at archive (swept reads archive own index numbers))
-    unfolding swept
-    swept_in_turn [] are numbers before = before
-    swept_in_turn (e ∷ index) are numbers before =
-        elim (cases_Bool (is_due reads archive own numbers e)) [
-          | inl due ↦ rw due (swept_in_turn index (λ x held. are x (among_later x e index held)) (e.number ∷ numbers) (one_more numbers e (are e (among_first e index)) due before))
-          | inr not_due ↦ rw not_due (swept_in_turn index (λ x held. are x (among_later x e index held)) numbers before)
-        ]
+      one_more : (numbers : List ℕ) (e : IndexEntry) (from : Lifts e) → is_due reads archive own numbers e ≡ true → AreTakenIntoAs reads archive whole (members_at archive numbers) →
+          AreTakenIntoAs reads archive whole (members_at archive (e.number ∷ numbers))
+      unfolding AreTakenIntoAs
+      one_more numbers e from due before =
+          subst (AreTakenIntoAs reads archive whole) (sym (members_next archive e.number from.0.0 numbers from.0.1)) ((e.name, from.1 numbers (due_pulls numbers e from.0 due)), before)
 
-    sweeps_in_turn : (count : ℕ) (numbers : List ℕ) → AreTakenIntoAs reads archive own (members_at archive numbers) →
-        AreTakenIntoAs reads archive own (members_at archive (sweeps reads archive own count numbers))
-    unfolding sweeps
-    sweeps_in_turn zero numbers before = before
-    sweeps_in_turn (suc count) numbers before =
-        sweeps_in_turn count (swept reads archive own (index_of archive) numbers) (swept_in_turn (index_of archive) (all_entries archive) numbers before)
+      pub swept_in_turn : (index : List IndexEntry) → ((e : IndexEntry) → Among e index → Lifts e) → (numbers : List ℕ) → AreTakenIntoAs reads archive whole (members_at archive numbers) →
+          AreTakenIntoAs reads archive whole (members_at archive (swept reads archive own index numbers))
+      unfolding swept
+      swept_in_turn [] are numbers before = before
+      swept_in_turn (e ∷ index) are numbers before =
+          elim (cases_Bool (is_due reads archive own numbers e)) [
+            | inl due ↦ rw due (swept_in_turn index (λ x held. are x (among_later x e index held)) (e.number ∷ numbers) (one_more numbers e (are e (among_first e index)) due before))
+            | inr not_due ↦ rw not_due (swept_in_turn index (λ x held. are x (among_later x e index held)) numbers before)
+          ]
+
+      pub sweeps_in_turn : (index : List IndexEntry) → ((e : IndexEntry) → Among e index → Lifts e) → (count : ℕ) (numbers : List ℕ) → AreTakenIntoAs reads archive whole (members_at archive numbers) →
+          AreTakenIntoAs reads archive whole (members_at archive (sweeps reads archive own index count numbers))
+      unfolding sweeps
+      sweeps_in_turn index are zero numbers before = before
+      sweeps_in_turn index are (suc count) numbers before =
+          sweeps_in_turn index are count (swept reads archive own index numbers) (swept_in_turn index are numbers before)
 
     pub sweeps_take : (count : ℕ) (numbers : List ℕ) → SweepsTake reads archive own count numbers → TakesIntoAs reads archive own (members_at archive numbers)
     unfolding AreTakenIntoAs
     sweeps_take count numbers takes = record {
-      in_turn = subst (λ ns. AreTakenIntoAs reads archive own (members_at archive ns)) takes.taken (sweeps_in_turn count [] tt);
+      in_turn = subst (λ ns. AreTakenIntoAs reads archive own (members_at archive ns)) takes.taken
+          (sweeps_in_turn own (index_of archive) (λ e held. (all_entries archive e held, λ ns pulls. pulls)) count [] tt);
       ended = λ name m pulls.
           let from = first_is name archive m pulls.listed in
           let at = number_of archive m from.0 in
-          let due = none_due (index_of archive) numbers takes.ended (record { name = name; number = at.0 }) (listed_entry archive at.0 m name at.1 from.1) in
-          let left : is_left reads archive own numbers name ≡ true =
-          among_any name (unresolved (own ++ objects_as reads (members_at archive numbers))) (contains_among name (unresolved (own ++ objects_as reads (members_at archive numbers))) pulls.named) in
-          elim (cases_Bool (list_any (λ number. number == at.0) numbers)) [
-            | inl there ↦ pulls.new (among_contains m (members_at archive numbers) (number_taken archive numbers at.0 m (number_among at.0 numbers there) at.1))
-            | inr free ↦ true≢false (sym (both left free) ∙ due)
-          ];
+          let there = none_left (index_of archive) numbers takes.ended (record { name = name; number = at.0 })
+              (entry_there archive (numbers_from (length archive) 0) at.0 m name at.1 (all_there archive at.0 m at.1) from.1)
+              (contains_among name (unresolved (own ++ objects_as reads (members_at archive numbers))) pulls.named) in
+          pulls.new (among_contains m (members_at archive numbers) (number_taken archive numbers at.0 m there at.1));
     }
-      where
-        both : {left there : Bool} → left ≡ true → there ≡ false → (left && not there) ≡ true
-        both one other = rw (one, other) refl

@@ -23,10 +23,13 @@ abbrev pub numbers_from : ℕ → ℕ → List ℕ
 numbers_from zero first = []
 numbers_from (suc count) first = first ∷ numbers_from count (suc first)
 
+-- the index of the members of these numbers
+abbrev pub index_at : List MemberView → List ℕ → List IndexEntry
+index_at archive numbers = flat_map (λ number. entries_at number (slice_get archive number)) numbers
+
 -- the index of an archive
 abbrev pub index_of : List MemberView → List IndexEntry
-index_of archive =
-    flat_map (λ number. entries_at number (slice_get archive number)) (numbers_from (length archive) 0)
+index_of archive = index_at archive (numbers_from (length archive) 0)
 
 -- the members of these numbers
 abbrev pub members_at : List MemberView → List ℕ → List MemberView
@@ -51,15 +54,15 @@ swept reads archive own (e ∷ index) numbers =
     then swept reads archive own index (e.number ∷ numbers)
     else swept reads archive own index numbers
 
--- those after some sweeps over an archive's index
-unfoldable pub sweeps : (List ℕ → Option Object) → List MemberView → List Object → ℕ → List ℕ → List ℕ
-sweeps reads archive own zero numbers = numbers
-sweeps reads archive own (suc count) numbers =
-    sweeps reads archive own count (swept reads archive own (index_of archive) numbers)
+-- those after some sweeps over entries
+unfoldable pub sweeps : (List ℕ → Option Object) → List MemberView → List Object → List IndexEntry → ℕ → List ℕ → List ℕ
+sweeps reads archive own index zero numbers = numbers
+sweeps reads archive own index (suc count) numbers =
+    sweeps reads archive own index count (swept reads archive own index numbers)
 
 -- What GNU `ld` takes of an archive for given objects: it sweeps the index so often (`taken`), until a sweep takes nothing
 -- (`ended`).
 pub record SweepsTake (reads : List ℕ → Option Object) (archive : List MemberView) (own : List Object) (count : ℕ)
     (numbers : List ℕ) : Type 0 where
-  pub taken : sweeps reads archive own count [] ≡ numbers
+  pub taken : sweeps reads archive own (index_of archive) count [] ≡ numbers
   pub ended : swept reads archive own (index_of archive) numbers ≡ numbers

@@ -1,0 +1,671 @@
+-- Searches of several archives, in the order of a command line, take what one search of all of them takes.
+use Rattle.std.proofs.Common.{◌≡◌, ℕ, ◌⊎◌, zero, suc, Bool, true, false, List, [], ◌∷◌, ◌++◌, length, Option, Some, None, refl, ap, sym, ◌∙◌, subst, inl, inr, arith}
+use Rattle.std.specs.Prelude.{◌==◌, bytes_eq, not, slice_get}
+use Rattle.std.specs.List.{AllByRecursion, Contains, IsDistinct, cons_option, filter, flat_map, list_any}
+use Rattle.std.proofs.lemmas.Bool.{cases_Bool, true≢false}
+use Rattle.std.proofs.lemmas.Grind.{flat_map-append}
+use Rattle.std.proofs.lemmas.List.{append-nil, append_assoc}
+use Rattle.implib.specs.Formats.Object.{Object}
+use Rattle.implib.specs.Members.MemberSpec.{MemberView}
+use Rattle.implib.proofs.Link.LinkedMembers.{among_contains}
+use Rattle.implib.proofs.Link.Ranges.{Among, all_among, among_back, among_first, among_flat, among_front, among_later}
+use Rattle.implib_link.specs.Gnu.Program.{ClaimsNone, HaveSame, claimed_names}
+use Rattle.implib_link.specs.Search.Closed.{AreTakenIntoAs, PullsIntoAs, TakesIntoAs, unresolved}
+use Rattle.implib_link.specs.Search.CommandLines.{AnObject, Archives, AreListedWhole, AreRounds, AreSwept, AreTakenBehind, AreUnclaimedBehind, HaveAll, Input, IsOrdered, IsSwept, LeavesNone, LldSearches, LldSearchesFrom, SearchesCommandLine, SearchesFrom, listed_at, numbers_but, numbers_in, numbers_of, object_of, objects_given}
+use Rattle.implib_link.specs.Search.Search.{claimed_as, first_listed, is_listed_for, objects_as, undefined_in}
+use Rattle.implib_link.specs.Search.Sweeps.{IndexEntry, index_at, members_at, numbers_from, sweeps, swept}
+use Rattle.implib_link.proofs.Search.ArchiveGroups.{found_or_not}
+use Rattle.implib_link.proofs.Search.Closing.{unresolved_from, unresolved_parts}
+use Rattle.implib_link.proofs.Search.Lists.{all_listed, among_any, any_among, among_either, among_flat_map, among_listed, as_name, contains_among, listed_is, listed_once, name_as, one_member, passes, passing, to_not}
+use Rattle.implib_link.proofs.Search.Sweeps.{Lifts, all_there, among_number, entries_of, entry_there, member_at, none_left, number_among, number_of, number_taken, swept_adds, swept_in_turn, swept_keeps, sweeps_in_turn, taken_number}
+
+-- What was read first counts on: references and claims of some objects are those of more.
+
+refs_front : (f : Object → List (List ℕ)) (own later : List Object) (name : List ℕ) → Among name (flat_map f own) → Among name (flat_map f (own ++ later))
+refs_front f own later name held = subst (Among name) (sym (flat_map-append f own later)) (among_front name (flat_map f own) (flat_map f later) held)
+
+refs_back : (f : Object → List (List ℕ)) (own later : List Object) (name : List ℕ) → Among name (flat_map f later) → Among name (flat_map f (own ++ later))
+refs_back f own later name held = subst (Among name) (sym (flat_map-append f own later)) (among_back name (flat_map f own) (flat_map f later) held)
+
+refs_either : (f : Object → List (List ℕ)) (own later : List Object) (name : List ℕ) → Among name (flat_map f (own ++ later)) → Among name (flat_map f own) ⊎ Among name (flat_map f later)
+refs_either f own later name held = among_either name (flat_map f own) (flat_map f later) (subst (Among name) (flat_map-append f own later) held)
+
+-- a name that no later object claims is left unresolved by these and later ones
+left_on : (own later taken : List Object) (name : List ℕ) → (Among name (flat_map claimed_names later) → ⊥) → Among name (unresolved (own ++ taken)) → Among name (unresolved ((own ++ later) ++ taken))
+left_on own later taken name none left =
+    let parts = unresolved_parts (own ++ taken) name left in
+    unresolved_from ((own ++ later) ++ taken) name
+    (elim (refs_either undefined_in own taken name parts.0) [
+      | inl here ↦ refs_front undefined_in (own ++ later) taken name (refs_front undefined_in own later name here)
+      | inr there ↦ refs_back undefined_in (own ++ later) taken name there
+    ])
+    (λ claimed. elim (refs_either claimed_names (own ++ later) taken name claimed) [
+      | inl given ↦ elim (refs_either claimed_names own later name given) [
+        | inl here ↦ parts.1 (refs_front claimed_names own taken name here)
+        | inr behind ↦ none behind
+      ]
+      | inr there ↦ parts.1 (refs_back claimed_names own taken name there)
+    ])
+
+-- Names that are listed.
+
+none_first : (name : List ℕ) (some : List MemberView) (m : MemberView) → first_listed some name ≡ None → Among m some → Among name m.symbols → ⊥
+unfolding Among
+none_first name [] m none held listed = held
+none_first name (x ∷ some) m none held listed =
+    elim (cases_Bool (is_listed_for name x)) [
+      | inl here ↦ found x (rw here at none)
+      | inr not_here ↦ elim held [
+        | inl is ↦ true≢false (sym (among_any name x.symbols (subst (λ (y : MemberView). Among name y.symbols) is listed)) ∙ not_here)
+        | inr behind ↦ none_first name some m (rw not_here at none) behind listed
+      ]
+    ]
+  where
+    found : (y : MemberView) → Some y ≡ None → ⊥
+    found y is = cc
+
+listed_name : (members : List MemberView) (numbers : List ℕ) (n : ℕ) (m : MemberView) (name : List ℕ) → slice_get members n ≡ Some m → Among n numbers → Among name m.symbols → Among name (listed_at members numbers)
+listed_name members numbers n m name at held listed = among_listed name m (members_at members numbers) (number_taken members numbers n m held at) listed
+
+members_more : (members : List MemberView) (first later : List ℕ) (m : MemberView) → Among m (members_at members first) → Among m (members_at members (first ++ later))
+members_more members first later m held =
+    let from = taken_number members first m held in number_taken members (first ++ later) from.0 m (among_front from.0 first later from.1) from.2
+
+listed_more : (members : List MemberView) (first later : List ℕ) (name : List ℕ) → Among name (listed_at members first) → Among name (listed_at members (first ++ later))
+listed_more members first later name held =
+    let from = among_flat_map (λ (m : MemberView). m.symbols) name (members_at members first) held in
+    among_listed name from.0 (members_at members (first ++ later)) (members_more members first later from.0 from.1) from.2
+
+-- no name that is listed is claimed by later objects
+pub unclaimed_later : (members : List MemberView) (read : List ℕ) (inputs : List Input) → AreUnclaimedBehind members read inputs → (name : List ℕ) → Among name (listed_at members read) →
+    Among name (flat_map claimed_names (objects_given inputs)) → ⊥
+unfolding AreUnclaimedBehind Among
+unclaimed_later members read [] none name listed claimed = claimed
+unclaimed_later members read (input ∷ inputs) none name listed claimed =
+    elim (refs_either claimed_names (object_of input) (objects_given inputs) name claimed) [
+      | inl here ↦
+          let from = among_flat_map claimed_names name (object_of input) here in
+          true≢false (sym (among_any name (claimed_names from.0) from.2)
+          ∙ all_among (λ n. list_any (bytes_eq n) (claimed_names from.0) ≡ false) name (listed_at members read) listed
+          (all_among (ClaimsNone (listed_at members read)) from.0 (object_of input) from.1 none.0))
+      | inr behind ↦ unclaimed_later members (read ++ numbers_of input) inputs none.1 name (listed_more members read (numbers_of input) name listed) behind
+    ]
+
+-- GNU `ld`'s searches.
+
+module _ (reads : List ℕ → Option Object) (members : List MemberView) where
+  -- What is taken stays so, and what comes to it is of the archives that are searched.
+
+  sweeps_keep : (own : List Object) (index : List IndexEntry) (count : ℕ) (numbers : List ℕ) (n : ℕ) → Among n numbers → Among n (sweeps reads members own index count numbers)
+  unfolding sweeps
+  sweeps_keep own index zero numbers n held = held
+  sweeps_keep own index (suc count) numbers n held =
+      sweeps_keep own index count (swept reads members own index numbers) n (swept_keeps reads members own index numbers n held)
+
+  sweeps_add : (own : List Object) (archive : List ℕ) (count : ℕ) (numbers : List ℕ) (n : ℕ) → Among n (sweeps reads members own (index_at members archive) count numbers) → Among n numbers ⊎ Among n archive
+  unfolding sweeps
+  sweeps_add own archive zero numbers n held = inl held
+  sweeps_add own archive (suc count) numbers n held =
+      elim (sweeps_add own archive count (swept reads members own (index_at members archive) numbers) n held) [
+        | inl before ↦ elim (swept_adds reads members own (index_at members archive) numbers n before) [
+          | inl old ↦ inl old
+          | inr new ↦ inr (subst (λ k. Among k archive) (sym new.2) (entries_of members archive new.0 new.1).1)
+        ]
+        | inr there ↦ inr there
+      ]
+
+  -- that searches do so
+  abbrev Keeps : List ℕ → List ℕ → List ℕ → Type 0
+  Keeps some before after = (n : ℕ) → (Among n before → Among n after) × (Among n after → Among n before ⊎ Among n some)
+
+  keeps_on : (first second before between after : List ℕ) → Keeps first before between → Keeps second between after → Keeps (first ++ second) before after
+  keeps_on first second before between after one two n = (
+    λ held. (two n).0 ((one n).0 held),
+    λ held. elim ((two n).1 held) [
+      | inl held ↦ elim ((one n).1 held) [
+        | inl old ↦ inl old
+        | inr new ↦ inr (among_front n first second new)
+      ]
+      | inr new ↦ inr (among_back n first second new)
+    ],
+  )
+
+  keeps_same : (some before after : List ℕ) → before ≡ after → Keeps some before after
+  keeps_same some before after is n = (λ held. subst (Among n) is held, λ held. inl (subst (Among n) (sym is) held))
+
+  archive_keeps : (own : List Object) (archive before after : List ℕ) → IsSwept reads members own archive before after → Keeps archive before after
+  archive_keeps own archive before after is n = (
+    λ held. subst (Among n) is.taken (sweeps_keep own (index_at members archive) is.count before n held),
+    λ held. sweeps_add own archive is.count before n (subst (Among n) (sym is.taken) held),
+  )
+
+  archives_keep : (own : List Object) (archives : List (List ℕ)) (before after : List ℕ) → AreSwept reads members own archives before after → Keeps (numbers_of (Archives archives)) before after
+  unfolding AreSwept
+  archives_keep own [] before after is = keeps_same [] before after is
+  archives_keep own (archive ∷ archives) before after (between, first, later) =
+      keeps_on archive (numbers_of (Archives archives)) before between after (archive_keeps own archive before between first) (archives_keep own archives between after later)
+
+  rounds_keep : (own : List Object) (archives : List (List ℕ)) (count : ℕ) (before after : List ℕ) → AreRounds reads members own archives count before after → Keeps (numbers_of (Archives archives)) before after
+  unfolding AreRounds
+  rounds_keep own archives zero before after is = keeps_same (numbers_of (Archives archives)) before after is
+  rounds_keep own archives (suc count) before after (between, first, later) =
+      twice (keeps_on (numbers_of (Archives archives)) (numbers_of (Archives archives)) before between after (archives_keep own archives before between first) (rounds_keep own archives count between after later))
+    where
+      twice : Keeps (numbers_of (Archives archives) ++ numbers_of (Archives archives)) before after → Keeps (numbers_of (Archives archives)) before after
+      twice two n = (
+        (two n).0,
+        λ held. elim ((two n).1 held) [
+          | inl old ↦ inl old
+          | inr new ↦ elim (among_either n (numbers_of (Archives archives)) (numbers_of (Archives archives)) new) [ inl one ↦ inr one | inr other ↦ inr other ]
+        ],
+      )
+
+  pub searches_keep : (own : List Object) (inputs : List Input) (before after : List ℕ) → SearchesFrom reads members own inputs before after → Keeps (numbers_in inputs) before after
+  unfolding SearchesFrom
+  searches_keep own [] before after is = keeps_same [] before after is
+  searches_keep own (AnObject o ∷ inputs) before after is = searches_keep (own ++ o ∷ []) inputs before after is
+  searches_keep own (Archives archives ∷ inputs) before after (between, group, later) =
+      keeps_on (numbers_of (Archives archives)) (numbers_in inputs) before between after (rounds_keep own archives group.rounds before between group.taken) (searches_keep own inputs between after later)
+
+  -- What is taken is taken in turn, for all objects of the command line.
+
+  module _ (distinct : IsDistinct bytes_eq (all_listed members)) where
+    -- no name that archives list is claimed by later objects
+    abbrev AreFree : List ℕ → List Object → Type 0
+    AreFree numbers later = (name : List ℕ) → Among name (listed_at members numbers) → Among name (flat_map claimed_names later) → ⊥
+
+    lifts : (own later : List Object) (archive : List ℕ) → AreFree archive later → (e : IndexEntry) → Among e (index_at members archive) → Lifts reads members own distinct (own ++ later) e
+    lifts own later archive free e held =
+        let from = entries_of members archive e held in (
+          from.0,
+          λ numbers pulls. record {
+            named = among_contains e.name (unresolved ((own ++ later) ++ objects_as reads (members_at members numbers)))
+                (left_on own later (objects_as reads (members_at members numbers)) e.name
+                (free e.name (listed_name members archive e.number from.0.0 e.name from.0.1 from.1 from.0.2))
+                (contains_among e.name (unresolved (own ++ objects_as reads (members_at members numbers))) pulls.named));
+            listed = pulls.listed;
+            new = pulls.new;
+          },
+        )
+
+    archive_in_turn : (own later : List Object) (archive before after : List ℕ) → AreFree archive later → IsSwept reads members own archive before after →
+        AreTakenIntoAs reads members (own ++ later) (members_at members before) → AreTakenIntoAs reads members (own ++ later) (members_at members after)
+    archive_in_turn own later archive before after free is taken =
+        subst (λ ns. AreTakenIntoAs reads members (own ++ later) (members_at members ns)) is.taken
+        (sweeps_in_turn reads members own distinct (own ++ later) (index_at members archive) (lifts own later archive free) is.count before taken)
+
+    archives_in_turn : (own later : List Object) (archives : List (List ℕ)) (before after : List ℕ) → AreFree (numbers_of (Archives archives)) later → AreSwept reads members own archives before after →
+        AreTakenIntoAs reads members (own ++ later) (members_at members before) → AreTakenIntoAs reads members (own ++ later) (members_at members after)
+    unfolding AreSwept
+    archives_in_turn own later [] before after free is taken = subst (λ ns. AreTakenIntoAs reads members (own ++ later) (members_at members ns)) is taken
+    archives_in_turn own later (archive ∷ archives) before after free (between, first, others) taken =
+        archives_in_turn own later archives between after (λ name held. free name (behind name held)) others
+        (archive_in_turn own later archive before between (λ name held. free name (listed_more members archive (numbers_of (Archives archives)) name held)) first taken)
+      where
+        behind : (name : List ℕ) → Among name (listed_at members (numbers_of (Archives archives))) → Among name (listed_at members (archive ++ numbers_of (Archives archives)))
+        behind name held =
+            let from = among_flat_map (λ (m : MemberView). m.symbols) name (members_at members (numbers_of (Archives archives))) held in
+            let at = taken_number members (numbers_of (Archives archives)) from.0 from.1 in
+            listed_name members (archive ++ numbers_of (Archives archives)) at.0 from.0 name at.2 (among_back at.0 archive (numbers_of (Archives archives)) at.1) from.2
+
+    rounds_in_turn : (own later : List Object) (archives : List (List ℕ)) (count : ℕ) (before after : List ℕ) → AreFree (numbers_of (Archives archives)) later → AreRounds reads members own archives count before after →
+        AreTakenIntoAs reads members (own ++ later) (members_at members before) → AreTakenIntoAs reads members (own ++ later) (members_at members after)
+    unfolding AreRounds
+    rounds_in_turn own later archives zero before after free is taken = subst (λ ns. AreTakenIntoAs reads members (own ++ later) (members_at members ns)) is taken
+    rounds_in_turn own later archives (suc count) before after free (between, first, others) taken =
+        rounds_in_turn own later archives count between after free others (archives_in_turn own later archives before between free first taken)
+
+    searches_in_turn : (own : List Object) (inputs : List Input) (read before after : List ℕ) → AreUnclaimedBehind members read inputs → SearchesFrom reads members own inputs before after →
+        AreTakenIntoAs reads members (own ++ objects_given inputs) (members_at members before) → AreTakenIntoAs reads members (own ++ objects_given inputs) (members_at members after)
+    unfolding SearchesFrom AreUnclaimedBehind
+    searches_in_turn own [] read before after none is taken = subst (λ ns. AreTakenIntoAs reads members (own ++ []) (members_at members ns)) is taken
+    searches_in_turn own (AnObject o ∷ inputs) read before after none is taken =
+        subst (λ objects. AreTakenIntoAs reads members objects (members_at members after)) (append_assoc own (o ∷ []) (objects_given inputs))
+        (searches_in_turn (own ++ o ∷ []) inputs (read ++ []) before after none.1 is
+        (subst (λ objects. AreTakenIntoAs reads members objects (members_at members before)) (sym (append_assoc own (o ∷ []) (objects_given inputs))) taken))
+    searches_in_turn own (Archives archives ∷ inputs) read before after none (between, group, later) taken =
+        searches_in_turn own inputs (read ++ numbers_of (Archives archives)) between after none.1 later
+        (rounds_in_turn own (objects_given inputs) archives group.rounds before between free group.taken taken)
+      where
+        free : AreFree (numbers_of (Archives archives)) (objects_given inputs)
+        free name held =
+            let from = among_flat_map (λ (m : MemberView). m.symbols) name (members_at members (numbers_of (Archives archives))) held in
+            let at = taken_number members (numbers_of (Archives archives)) from.0 from.1 in
+            unclaimed_later members (read ++ numbers_of (Archives archives)) inputs none.1 name
+            (listed_name members (read ++ numbers_of (Archives archives)) at.0 from.0 name at.2 (among_back at.0 read (numbers_of (Archives archives)) at.1) from.2)
+
+  -- What is left unresolved at the end, and by whom.
+
+  -- the object that a member is read as is one of those of its list
+  pub object_there : (some : List MemberView) (x : MemberView) (o : Object) → Among x some → reads x.bytes ≡ Some o → Among o (objects_as reads some)
+  unfolding Among
+  object_there [] x o held read = held
+  object_there (y ∷ some) x o (inl is) read = rw (subst (λ (z : MemberView). reads z.bytes ≡ Some o) is read) (inl refl)
+  object_there (y ∷ some) x o (inr held) read = behind (reads y.bytes) (object_there some x o held read)
+    where
+      behind : (read_y : Option Object) → Among o (objects_as reads some) → Among o (cons_option read_y (objects_as reads some))
+      behind None there = there
+      behind (Some p) there = among_later o p (objects_as reads some) there
+
+  -- an object that leaves none of some names does not leave a name among them
+  leaves_not : (names : List (List ℕ)) (o : Object) (name : List ℕ) → LeavesNone names o → Among name names → Among name (undefined_in o) → ⊥
+  leaves_not names o name none held left =
+      true≢false (sym (among_any name (undefined_in o) left) ∙ all_among (λ n. list_any (bytes_eq n) (undefined_in o) ≡ false) name names held none)
+
+  -- the name of a member whose number is not among some
+  but_these : (some : List ℕ) (n : ℕ) (m : MemberView) (name : List ℕ) → slice_get members n ≡ Some m → Among name m.symbols → (Among n some → ⊥) → Among name (listed_at members (numbers_but members some))
+  but_these some n m name at listed none =
+      listed_name members (numbers_but members some) n m name at
+      (passes (λ number. not (list_any (λ other. other == number) some)) n (numbers_from (length members) 0) (all_there members n m at) (to_not (list_any (λ other. other == n) some) (not_number n some none))) listed
+    where
+      not_number : (k : ℕ) (ns : List ℕ) → (Among k ns → ⊥) → list_any (λ other. other == k) ns ≡ false
+      not_number k ns free = elim (cases_Bool (list_any (λ other. other == k) ns)) [ inl there ↦ absurd (free (number_among k ns there)) | inr is ↦ is ]
+
+  -- Where a member is of none of the inputs, neither their objects nor their members leave its names.
+  module _ (n : ℕ) (m : MemberView) (name : List ℕ) (at : slice_get members n ≡ Some m) (listed : Among name m.symbols) where
+    pub objects_leave_not : (inputs : List Input) → IsOrdered reads members inputs → (Among n (numbers_in inputs) → ⊥) → Among name (flat_map undefined_in (objects_given inputs)) → ⊥
+    unfolding IsOrdered Among
+    objects_leave_not [] ordered none left = left
+    objects_leave_not (input ∷ inputs) ordered none left =
+        elim (refs_either undefined_in (object_of input) (objects_given inputs) name left) [
+          | inl here ↦
+              let from = among_flat_map undefined_in name (object_of input) here in
+              leaves_not (listed_at members (numbers_but members (numbers_in (input ∷ inputs)))) from.0 name
+              (all_among (LeavesNone (listed_at members (numbers_but members (numbers_in (input ∷ inputs))))) from.0 (object_of input ++ objects_as reads (members_at members (numbers_of input)))
+              (among_front from.0 (object_of input) (objects_as reads (members_at members (numbers_of input))) from.1) ordered.0)
+              (but_these (numbers_in (input ∷ inputs)) n m name at listed none) from.2
+          | inr behind ↦ objects_leave_not inputs ordered.1 (λ held. none (among_back n (numbers_of input) (numbers_in inputs) held)) behind
+        ]
+
+    pub members_leave_not : (inputs : List Input) → IsOrdered reads members inputs → (Among n (numbers_in inputs) → ⊥) → (k : ℕ) (x : MemberView) (o : Object) → slice_get members k ≡ Some x →
+        Among k (numbers_in inputs) → reads x.bytes ≡ Some o → Among name (undefined_in o) → ⊥
+    unfolding IsOrdered Among
+    members_leave_not [] ordered none k x o there held read left = held
+    members_leave_not (input ∷ inputs) ordered none k x o there held read left =
+        elim (among_either k (numbers_of input) (numbers_in inputs) held) [
+          | inl here ↦
+              leaves_not (listed_at members (numbers_but members (numbers_in (input ∷ inputs)))) o name
+              (all_among (LeavesNone (listed_at members (numbers_but members (numbers_in (input ∷ inputs))))) o (object_of input ++ objects_as reads (members_at members (numbers_of input)))
+              (among_back o (object_of input) (objects_as reads (members_at members (numbers_of input))) (object_there (members_at members (numbers_of input)) x o (number_taken members (numbers_of input) k x here there) read)) ordered.0)
+              (but_these (numbers_in (input ∷ inputs)) n m name at listed none) left
+          | inr behind ↦ members_leave_not inputs ordered.1 (λ number. none (among_back n (numbers_of input) (numbers_in inputs) number)) k x o there behind read left
+        ]
+
+    -- A name that is left in the end, by what was there before inputs that do not search its member, was left then.
+    left_before : (own : List Object) (inputs : List Input) (before after : List ℕ) → IsOrdered reads members inputs → SearchesFrom reads members own inputs before after → (Among n (numbers_in inputs) → ⊥) →
+        Among name (flat_map undefined_in ((own ++ objects_given inputs) ++ objects_as reads (members_at members after))) → Among name (flat_map undefined_in (own ++ objects_as reads (members_at members before)))
+    left_before own inputs before after ordered is none left =
+        elim (refs_either undefined_in (own ++ objects_given inputs) (objects_as reads (members_at members after)) name left) [
+          | inl given ↦ elim (refs_either undefined_in own (objects_given inputs) name given) [
+            | inl here ↦ refs_front undefined_in own (objects_as reads (members_at members before)) name here
+            | inr behind ↦ absurd (objects_leave_not inputs ordered none behind)
+          ]
+          | inr taken ↦
+              let from = name_as reads undefined_in name (members_at members after) taken in
+              let where_from = taken_number members after from.member from.held in
+              elim ((searches_keep own inputs before after is where_from.0).1 where_from.1) [
+                | inl old ↦ refs_back undefined_in own (objects_as reads (members_at members before)) name
+                    (as_name reads undefined_in name (members_at members before) from.member from.object (number_taken members before where_from.0 from.member old where_from.2) from.taken from.among)
+                | inr new ↦ absurd (members_leave_not inputs ordered none where_from.0 from.member from.object where_from.2 new from.taken from.among)
+              ]
+        ]
+
+    -- claims of what was there before are claims in the end
+    claimed_on : (own : List Object) (inputs : List Input) (before after : List ℕ) → SearchesFrom reads members own inputs before after →
+        Among name (flat_map claimed_names (own ++ objects_as reads (members_at members before))) → Among name (flat_map claimed_names ((own ++ objects_given inputs) ++ objects_as reads (members_at members after)))
+    claimed_on own inputs before after is claimed =
+        elim (refs_either claimed_names own (objects_as reads (members_at members before)) name claimed) [
+          | inl here ↦ refs_front claimed_names (own ++ objects_given inputs) (objects_as reads (members_at members after)) name (refs_front claimed_names own (objects_given inputs) name here)
+          | inr there ↦
+              let from = name_as reads claimed_names name (members_at members before) there in
+              let where_from = taken_number members before from.member from.held in
+              refs_back claimed_names (own ++ objects_given inputs) (objects_as reads (members_at members after)) name
+              (as_name reads claimed_names name (members_at members after) from.member from.object
+              (number_taken members after where_from.0 from.member ((searches_keep own inputs before after is where_from.0).0 where_from.1) where_from.2) from.taken from.among)
+        ]
+
+    -- a name that a group's member lists, and that is left unresolved once the group was searched, is that of a member that is taken
+    group_has : (own : List Object) (archives : List (List ℕ)) (after : List ℕ) → AllByRecursion (λ archive. swept reads members own (index_at members archive) after ≡ after) archives →
+        Among n (numbers_of (Archives archives)) → Among name (unresolved (own ++ objects_as reads (members_at members after))) → Among n after
+    unfolding Among
+    group_has own [] after ended held left = absurd held
+    group_has own (archive ∷ archives) after ended held left =
+        elim (among_either n archive (numbers_of (Archives archives)) held) [
+          | inl here ↦ none_left reads members own (index_at members archive) after ended.0 (record { name = name; number = n }) (entry_there members archive n m name at here listed) left
+          | inr behind ↦ group_has own archives after ended.1 behind left
+        ]
+
+    -- In the end each name that is left unresolved, and that an archive lists, is that of a member that is taken.
+    none_lost : (own : List Object) (inputs : List Input) (before after : List ℕ) → IsOrdered reads members inputs → SearchesFrom reads members own inputs before after → Among n (numbers_in inputs) →
+        Among name (unresolved ((own ++ objects_given inputs) ++ objects_as reads (members_at members after))) → Among n after
+    unfolding SearchesFrom IsOrdered Among
+    none_lost own [] before after ordered is held left = absurd held
+    none_lost own (AnObject o ∷ inputs) before after ordered is held left =
+        none_lost (own ++ o ∷ []) inputs before after ordered.1 is held
+        (subst (λ objects. Among name (unresolved (objects ++ objects_as reads (members_at members after)))) (sym (append_assoc own (o ∷ []) (objects_given inputs))) left)
+    none_lost own (Archives archives ∷ inputs) before after ordered (between, group, later) held left =
+        elim (cases_Bool (list_any (λ other. other == n) (numbers_in inputs))) [
+          | inl again ↦ none_lost own inputs between after ordered.1 later (number_among n (numbers_in inputs) again) left
+          | inr last ↦
+              let free : Among n (numbers_in inputs) → ⊥ = λ behind. true≢false (sym (among_number n (numbers_in inputs) behind) ∙ last) in
+              let here : Among n (numbers_of (Archives archives)) = elim (among_either n (numbers_of (Archives archives)) (numbers_in inputs) held) [ inl one ↦ one | inr behind ↦ absurd (free behind) ] in
+              let parts = unresolved_parts ((own ++ objects_given inputs) ++ objects_as reads (members_at members after)) name left in
+              (searches_keep own inputs between after later n).0
+              (group_has own archives between group.ended here
+              (unresolved_from (own ++ objects_as reads (members_at members between)) name
+              (left_before own inputs between after ordered.1 later free parts.0)
+              (λ claimed. parts.1 (claimed_on own inputs between after later claimed))))
+        ]
+
+  -- Where the command line is in order, GNU `ld` takes what one search of all archives takes.
+  pub gnu_searches : (inputs : List Input) (taken : List ℕ) → IsDistinct bytes_eq (all_listed members) → AreUnclaimedBehind members [] inputs → IsOrdered reads members inputs →
+      SearchesCommandLine reads members inputs taken → TakesIntoAs reads members (objects_given inputs) (members_at members taken)
+  unfolding AreTakenIntoAs Among
+  gnu_searches inputs taken distinct none ordered is = record {
+    in_turn = searches_in_turn distinct [] inputs [] [] taken none is tt;
+    ended = λ name m pulls.
+        let from = listed_is members name m pulls.listed in
+        let at = number_of members m from.0 in
+        let left = contains_among name (unresolved (objects_given inputs ++ objects_as reads (members_at members taken))) pulls.named in
+        pulls.new (among_contains m (members_at members taken) (number_taken members taken at.0 m
+        (elim (cases_Bool (list_any (λ other. other == at.0) (numbers_in inputs))) [
+          | inl searched ↦ none_lost at.0 m name at.1 from.1 [] inputs [] taken ordered is (number_among at.0 (numbers_in inputs) searched) left
+          | inr nowhere ↦ absurd (left_before at.0 m name at.1 from.1 [] inputs [] taken ordered is
+              (λ held. true≢false (sym (among_number at.0 (numbers_in inputs) held) ∙ nowhere))
+              (unresolved_parts (objects_given inputs ++ objects_as reads (members_at members taken)) name left).0)
+        ]) at.1));
+  }
+
+  -- lld's searches.
+
+  -- members of some numbers are members
+  of_all : (numbers : List ℕ) (m : MemberView) → Among m (members_at members numbers) → Among m members
+  of_all numbers m held = (let from = taken_number members numbers m held in member_at members from.0 m from.2)
+
+  module _ (distinct : IsDistinct bytes_eq (all_listed members)) where
+    -- the first of some members that list a name is the first of all
+    first_of_all : (numbers : List ℕ) (name : List ℕ) (m : MemberView) → first_listed (members_at members numbers) name ≡ Some m → first_listed members name ≡ Some m
+    first_of_all numbers name m is =
+        let from = listed_is (members_at members numbers) name m is in
+        listed_once members name m distinct (of_all numbers m from.0) from.1
+
+    -- and that of all is the first of some, if it is one of them
+    first_of_some : (some : List MemberView) (name : List ℕ) (m : MemberView) → ((x : MemberView) → Among x some → Among x members) → Among m some → Among name m.symbols → first_listed some name ≡ Some m
+    first_of_some some name m are held listed =
+        elim (found_or_not name some) [
+          | inl none ↦ absurd (none_first name some m none held listed)
+          | inr found ↦
+              let from = listed_is some name found.0 found.1 in
+              found.1 ∙ ap Some (one_member members name found.0 m distinct (are found.0 from.0) (are m held) from.1 listed)
+        ]
+
+    behind_in_turn : (own later : List Object) (numbers : List ℕ) → AreFree distinct numbers later → (before more : List MemberView) → AreTakenBehind reads (members_at members numbers) own before more →
+        AreTakenIntoAs reads members (own ++ later) before → AreTakenIntoAs reads members (own ++ later) (more ++ before)
+    unfolding AreTakenBehind AreTakenIntoAs
+    behind_in_turn own later numbers free before [] is taken = taken
+    behind_in_turn own later numbers free before (m ∷ more) is taken = (
+      (
+        is.0.0,
+        record {
+          named = among_contains is.0.0 (unresolved ((own ++ later) ++ objects_as reads (more ++ before)))
+              (left_on own later (objects_as reads (more ++ before)) is.0.0 (free is.0.0 (there (listed_is (members_at members numbers) is.0.0 m is.0.1.listed)))
+              (contains_among is.0.0 (unresolved (own ++ objects_as reads (more ++ before))) is.0.1.named));
+          listed = first_of_all numbers is.0.0 m is.0.1.listed;
+          new = is.0.1.new;
+        },
+      ),
+      behind_in_turn own later numbers free before more is.1 taken,
+    )
+      where
+        there : Among m (members_at members numbers) × Among is.0.0 m.symbols → Among is.0.0 (listed_at members numbers)
+        there from = among_listed is.0.0 m (members_at members numbers) from.0 from.1
+
+    lld_in_turn : (own : List Object) (read : List ℕ) (inputs : List Input) (before after : List MemberView) → AreUnclaimedBehind members read inputs → LldSearchesFrom reads members own read inputs before after →
+        AreTakenIntoAs reads members (own ++ objects_given inputs) before → AreTakenIntoAs reads members (own ++ objects_given inputs) after
+    unfolding LldSearchesFrom AreUnclaimedBehind
+    lld_in_turn own read [] before after none is taken = subst (AreTakenIntoAs reads members (own ++ [])) is taken
+    lld_in_turn own read (input ∷ inputs) before after none (between, closed, later) taken =
+        subst (λ objects. AreTakenIntoAs reads members objects after) (append_assoc own (object_of input) (objects_given inputs))
+        (lld_in_turn (own ++ object_of input) (read ++ numbers_of input) inputs between after none.1 later
+        (subst (AreTakenIntoAs reads members ((own ++ object_of input) ++ objects_given inputs)) closed.taken
+        (behind_in_turn (own ++ object_of input) (objects_given inputs) (read ++ numbers_of input)
+        (λ name held. unclaimed_later members (read ++ numbers_of input) inputs none.1 name held) before closed.more closed.in_turn
+        (subst (λ objects. AreTakenIntoAs reads members objects before) (sym (append_assoc own (object_of input) (objects_given inputs))) taken))))
+
+  -- that no name pulls in a member
+  abbrev AreDone : List ℕ → List Object → List MemberView → Type 0
+  AreDone numbers objects taken = (name : List ℕ) (m : MemberView) → PullsIntoAs reads (members_at members numbers) objects taken name m → ⊥
+
+  lld_done : (own : List Object) (read : List ℕ) (inputs : List Input) (before after : List MemberView) → LldSearchesFrom reads members own read inputs before after →
+      AreDone read own before → AreDone (read ++ numbers_in inputs) (own ++ objects_given inputs) after
+  unfolding LldSearchesFrom
+  lld_done own read [] before after is done =
+      subst (λ numbers. AreDone numbers (own ++ []) after) (sym (append-nil read)) (subst (λ objects. AreDone read objects after) (sym (append-nil own)) (subst (AreDone read own) is done))
+  lld_done own read (input ∷ inputs) before after (between, closed, later) done =
+      subst (λ numbers. AreDone numbers (own ++ objects_given (input ∷ inputs)) after) (append_assoc read (numbers_of input) (numbers_in inputs))
+      (subst (λ objects. AreDone ((read ++ numbers_of input) ++ numbers_in inputs) objects after) (append_assoc own (object_of input) (objects_given inputs))
+      (lld_done (own ++ object_of input) (read ++ numbers_of input) inputs between after later closed.ended))
+
+  -- In any order lld takes what one search of all archives takes.
+  pub lld_searches : (inputs : List Input) (taken : List MemberView) → IsDistinct bytes_eq (all_listed members) → AreUnclaimedBehind members [] inputs → HaveAll members inputs →
+      LldSearches reads members inputs taken → TakesIntoAs reads members (objects_given inputs) taken
+  unfolding AreTakenIntoAs
+  lld_searches inputs taken distinct none all is = record {
+    in_turn = lld_in_turn distinct [] [] inputs [] taken none is tt;
+    ended = λ name m pulls.
+        let from = listed_is members name m pulls.listed in
+        lld_done [] [] inputs [] taken is (λ n x nothing. nowhere n x nothing.listed) name m (record {
+          named = pulls.named;
+          listed = first_of_some distinct (members_at members (numbers_in inputs)) name m (of_all (numbers_in inputs)) (contains_among m (members_at members (numbers_in inputs)) (all m (among_contains m members from.0))) from.1;
+          new = pulls.new;
+        });
+  }
+    where
+      nowhere : (n : List ℕ) (x : MemberView) → None ≡ Some x → ⊥
+      nowhere n x is_none = cc
+
+  -- Two searches of one list take the same.
+
+  module _ (own : List Object) (distinct : IsDistinct bytes_eq (all_listed members)) (whole : AreListedWhole reads members) where
+    -- a member claims the names that it is listed for, and no others
+    claims_listed : (m : MemberView) (name : List ℕ) → Among m members → Among name m.symbols → Among name (claimed_as reads (m ∷ []))
+    claims_listed m name held listed =
+        contains_among name (claimed_as reads (m ∷ [])) ((all_among (λ x. HaveSame (claimed_as reads (x ∷ [])) x.symbols) m members held whole name).1 (among_contains name m.symbols listed))
+
+    listed_claims : (m : MemberView) (name : List ℕ) → Among m members → Among name (claimed_as reads (m ∷ [])) → Among name m.symbols
+    listed_claims m name held claimed =
+        contains_among name m.symbols ((all_among (λ x. HaveSame (claimed_as reads (x ∷ [])) x.symbols) m members held whole name).0 (among_contains name (claimed_as reads (m ∷ [])) claimed))
+
+    -- names that members claim are those of members that are listed for them
+    claimer : (some : List MemberView) (name : List ℕ) → ((x : MemberView) → Among x some → Among x members) → Among name (flat_map claimed_names (objects_as reads some)) →
+        (x : MemberView) × Among x some × Among name x.symbols
+    unfolding claimed_as
+    claimer some name are claimed =
+        let from = name_as reads claimed_names name some claimed in
+        (from.member, from.held, listed_claims from.member name (are from.member from.held)
+        (as_name reads claimed_names name (from.member ∷ []) from.member from.object (among_first from.member []) from.taken from.among))
+
+    claims_there : (some : List MemberView) (m : MemberView) (name : List ℕ) → Among m some → Among m members → Among name m.symbols → Among name (flat_map claimed_names (objects_as reads some))
+    unfolding claimed_as Among
+    claims_there some m name held there listed =
+        let from = name_as reads claimed_names name (m ∷ []) (claims_listed m name there listed) in
+        as_name reads claimed_names name some m from.object held (subst (λ (x : MemberView). reads x.bytes ≡ Some from.object) (alone from.member m from.held) from.taken) from.among
+      where
+        alone : (x y : MemberView) → Among x (y ∷ []) → x ≡ y
+        alone x y (inl is) = is
+        alone x y (inr nothing) = absurd nothing
+
+    taken_are : (taken : List MemberView) → AreTakenIntoAs reads members own taken → (x : MemberView) → Among x taken → Among x members
+    unfolding AreTakenIntoAs Among
+    taken_are [] is x held = absurd held
+    taken_are (m ∷ taken) is x (inl here) = subst (λ y. Among y members) (sym here) (listed_is members is.0.0 m is.0.1.listed).0
+    taken_are (m ∷ taken) is x (inr behind) = taken_are taken is.1 x behind
+
+    refs_of_more : (some more : List MemberView) (name : List ℕ) → ((x : MemberView) → Among x some → Among x more) → Among name (flat_map undefined_in (own ++ objects_as reads some)) →
+        Among name (flat_map undefined_in (own ++ objects_as reads more))
+    refs_of_more some more name are left =
+        elim (refs_either undefined_in own (objects_as reads some) name left) [
+          | inl here ↦ refs_front undefined_in own (objects_as reads more) name here
+          | inr there ↦
+              let from = name_as reads undefined_in name some there in
+              refs_back undefined_in own (objects_as reads more) name (as_name reads undefined_in name more from.member from.object (are from.member from.held) from.taken from.among)
+        ]
+
+    -- What a name pulls in after members that another search takes, that search takes, too.
+    one_taken : (taken other : List MemberView) (name : List ℕ) (m : MemberView) → PullsIntoAs reads members own taken name m → ((y : MemberView) → Among y taken → Among y other) →
+        TakesIntoAs reads members own other → Among m other
+    one_taken taken other name m pulls are takes =
+        elim (cases_Bool (list_any (bytes_eq name) (flat_map claimed_names (objects_as reads other)))) [
+          | inl claimed ↦
+              let by = claimer other name others (any_among name (flat_map claimed_names (objects_as reads other)) claimed) in
+              subst (λ y. Among y other) (one_member members name by.0 m distinct (others by.0 by.1) from.0 by.2 from.1) by.1
+          | inr free ↦
+              let none : Among name (flat_map claimed_names (objects_as reads other)) → ⊥ = λ claimed. true≢false (sym (among_any name (flat_map claimed_names (objects_as reads other)) claimed) ∙ free) in
+              absurd (takes.ended name m (record {
+                named = among_contains name (unresolved (own ++ objects_as reads other)) (unresolved_from (own ++ objects_as reads other) name
+                    (refs_of_more taken other name are parts.0)
+                    (λ claimed. elim (refs_either claimed_names own (objects_as reads other) name claimed) [
+                      | inl own_claims ↦ parts.1 (refs_front claimed_names own (objects_as reads taken) name own_claims)
+                      | inr claims ↦ none claims
+                    ]));
+                listed = pulls.listed;
+                new = λ held. none (claims_there other m name (contains_among m other held) from.0 from.1);
+              }))
+        ]
+      where
+        from : Among m members × Among name m.symbols
+        from = listed_is members name m pulls.listed
+
+        parts : Among name (flat_map undefined_in (own ++ objects_as reads taken)) × (Among name (flat_map claimed_names (own ++ objects_as reads taken)) → ⊥)
+        parts = unresolved_parts (own ++ objects_as reads taken) name (contains_among name (unresolved (own ++ objects_as reads taken)) pulls.named)
+
+        others : (y : MemberView) → Among y other → Among y members
+        others = taken_are other takes.in_turn
+
+    all_taken : (taken other : List MemberView) → AreTakenIntoAs reads members own taken → TakesIntoAs reads members own other → (x : MemberView) → Among x taken → Among x other
+    unfolding AreTakenIntoAs Among
+    all_taken [] other is takes x held = absurd held
+    all_taken (m ∷ taken) other is takes x (inr behind) = all_taken taken other is.1 takes x behind
+    all_taken (m ∷ taken) other is takes x (inl here) =
+        subst (λ y. Among y other) (sym here) (one_taken taken other is.0.0 m is.0.1 (λ y held. all_taken taken other is.1 takes y held) takes)
+
+    pub searches_alike : (taken other : List MemberView) → TakesIntoAs reads members own taken → TakesIntoAs reads members own other → HaveSame taken other
+    searches_alike taken other one two x = (
+      λ held. among_contains x other (all_taken taken other one.in_turn two x (contains_among x taken held)),
+      λ held. among_contains x taken (all_taken other taken two.in_turn one x (contains_among x other held)),
+    )
+
+    -- Members that are taken are as if they were given.
+
+    module _ (is_given : MemberView → Bool) where
+      abbrev others_of : List MemberView → List MemberView
+      others_of some = filter (λ m. not (is_given m)) some
+
+      -- a member is among those that are given or among the others
+      given_or_not : (some : List MemberView) (x : MemberView) → Among x some → Among x (filter is_given some) ⊎ Among x (others_of some)
+      given_or_not some x held =
+          elim (cases_Bool (is_given x)) [
+            | inl is ↦ inl (passes is_given x some held is)
+            | inr is ↦ inr (passes (λ m. not (is_given m)) x some held (to_not (is_given x) is))
+          ]
+
+      -- names of members' objects, by which list they are in
+      names_apart : (f : Object → List (List ℕ)) (some full : List MemberView) (name : List ℕ) → ((x : MemberView) → Among x some → Among x full) → Among name (flat_map f (objects_as reads some)) →
+          Among name (flat_map f (objects_as reads (filter is_given full))) ⊎ Among name (flat_map f (objects_as reads (others_of some)))
+      names_apart f some full name are held =
+          let from = name_as reads f name some held in
+          elim (given_or_not some from.member from.held) [
+            | inl given ↦
+                let kept = passing is_given from.member some given in
+                inl (as_name reads f name (filter is_given full) from.member from.object (passes is_given from.member full (are from.member kept.0) kept.1) from.taken from.among)
+            | inr other ↦ inr (as_name reads f name (others_of some) from.member from.object other from.taken from.among)
+          ]
+
+      names_within : (f : Object → List (List ℕ)) (test : MemberView → Bool) (full : List MemberView) (name : List ℕ) → Among name (flat_map f (objects_as reads (filter test full))) → Among name (flat_map f (objects_as reads full))
+      names_within f test full name held =
+          let from = name_as reads f name (filter test full) held in
+          as_name reads f name full from.member from.object (passing test from.member full from.held).0 from.taken from.among
+
+      module _ (full : List MemberView) (are_members : (x : MemberView) → Among x full → Among x members) where
+        abbrev given_too : List Object
+        given_too = own ++ objects_as reads (filter is_given full)
+
+        other_left : (taken : List MemberView) (name : List ℕ) (m : MemberView) → ((x : MemberView) → Among x taken → Among x full) → is_given m ≡ false → Among m members → Among name m.symbols →
+            Among name (unresolved (own ++ objects_as reads taken)) → Among name (unresolved (given_too ++ objects_as reads (others_of taken)))
+        other_left taken name m are other held listed left =
+            let parts = unresolved_parts (own ++ objects_as reads taken) name left in
+            unresolved_from (given_too ++ objects_as reads (others_of taken)) name
+            (elim (refs_either undefined_in own (objects_as reads taken) name parts.0) [
+              | inl here ↦ refs_front undefined_in given_too (objects_as reads (others_of taken)) name (refs_front undefined_in own (objects_as reads (filter is_given full)) name here)
+              | inr there ↦ elim (names_apart undefined_in taken full name are there) [
+                | inl given ↦ refs_front undefined_in given_too (objects_as reads (others_of taken)) name (refs_back undefined_in own (objects_as reads (filter is_given full)) name given)
+                | inr behind ↦ refs_back undefined_in given_too (objects_as reads (others_of taken)) name behind
+              ]
+            ])
+            (λ claimed. elim (refs_either claimed_names given_too (objects_as reads (others_of taken)) name claimed) [
+              | inl front ↦ elim (refs_either claimed_names own (objects_as reads (filter is_given full)) name front) [
+                | inl here ↦ parts.1 (refs_front claimed_names own (objects_as reads taken) name here)
+                | inr given ↦
+                    let by = claimer (filter is_given full) name (λ x among. are_members x (passing is_given x full among).0) given in
+                    let kept = passing is_given by.0 full by.1 in
+                    let same : by.0 ≡ m = one_member members name by.0 m distinct (are_members by.0 kept.0) held by.2 listed in
+                    true≢false (sym kept.1 ∙ (ap is_given same ∙ other))
+              ]
+              | inr there ↦ parts.1 (refs_back claimed_names own (objects_as reads taken) name (names_within claimed_names (λ m. not (is_given m)) taken name there))
+            ])
+
+        others_in_turn : (taken : List MemberView) → ((x : MemberView) → Among x taken → Among x full) → AreTakenIntoAs reads members own taken → AreTakenIntoAs reads (others_of members) given_too (others_of taken)
+        unfolding AreTakenIntoAs Among
+        others_in_turn [] are is = tt
+        others_in_turn (m ∷ taken) are is =
+            elim (cases_Bool (is_given m)) [
+              | inl given ↦ rw given (others_in_turn taken (λ x held. are x (inr held)) is.1)
+              | inr other ↦
+                  let from = listed_is members is.0.0 m is.0.1.listed in
+                  rw other (
+                    (
+                      is.0.0,
+                      record {
+                        named = among_contains is.0.0 (unresolved (given_too ++ objects_as reads (others_of taken)))
+                            (other_left taken is.0.0 m (λ x held. are x (inr held)) other from.0 from.1 (contains_among is.0.0 (unresolved (own ++ objects_as reads taken)) is.0.1.named));
+                        listed = first_of_some distinct (others_of members) is.0.0 m (λ x held. (passing (λ y. not (is_given y)) x members held).0)
+                            (passes (λ y. not (is_given y)) m members from.0 (to_not (is_given m) other)) from.1;
+                        new = λ held. is.0.1.new (among_contains m taken (passing (λ y. not (is_given y)) m taken (contains_among m (others_of taken) held)).0);
+                      },
+                    ),
+                    others_in_turn taken (λ x held. are x (inr held)) is.1,
+                  )
+            ]
+
+        left_again : (name : List ℕ) → Among name (unresolved (given_too ++ objects_as reads (others_of full))) → Among name (unresolved (own ++ objects_as reads full))
+        left_again name left =
+            let parts = unresolved_parts (given_too ++ objects_as reads (others_of full)) name left in
+            unresolved_from (own ++ objects_as reads full) name
+            (elim (refs_either undefined_in given_too (objects_as reads (others_of full)) name parts.0) [
+              | inl front ↦ elim (refs_either undefined_in own (objects_as reads (filter is_given full)) name front) [
+                | inl here ↦ refs_front undefined_in own (objects_as reads full) name here
+                | inr given ↦ refs_back undefined_in own (objects_as reads full) name (names_within undefined_in is_given full name given)
+              ]
+              | inr there ↦ refs_back undefined_in own (objects_as reads full) name (names_within undefined_in (λ m. not (is_given m)) full name there)
+            ])
+            (λ claimed. elim (refs_either claimed_names own (objects_as reads full) name claimed) [
+              | inl here ↦ parts.1 (refs_front claimed_names given_too (objects_as reads (others_of full)) name (refs_front claimed_names own (objects_as reads (filter is_given full)) name here))
+              | inr there ↦ elim (names_apart claimed_names full full name (λ x held. held) there) [
+                | inl given ↦ parts.1 (refs_front claimed_names given_too (objects_as reads (others_of full)) name (refs_back claimed_names own (objects_as reads (filter is_given full)) name given))
+                | inr behind ↦ parts.1 (refs_back claimed_names given_too (objects_as reads (others_of full)) name behind)
+              ]
+            ])
+
+      pub taken_as_given : (taken : List MemberView) → TakesIntoAs reads members own taken → TakesIntoAs reads (others_of members) (own ++ objects_as reads (filter is_given taken)) (others_of taken)
+      taken_as_given taken takes = record {
+        in_turn = others_in_turn taken (taken_are taken takes.in_turn) taken (λ x held. held) takes.in_turn;
+        ended = λ name m pulls.
+            let from = listed_is (others_of members) name m pulls.listed in
+            let kept = passing (λ y. not (is_given y)) m members from.0 in
+            takes.ended name m (record {
+              named = among_contains name (unresolved (own ++ objects_as reads taken)) (left_again taken (taken_are taken takes.in_turn) name
+                  (contains_among name (unresolved (given_too taken (taken_are taken takes.in_turn) ++ objects_as reads (others_of taken))) pulls.named));
+              listed = listed_once members name m distinct kept.0 from.1;
+              new = λ held. pulls.new (among_contains m (others_of taken) (passes (λ y. not (is_given y)) m taken (contains_among m taken held) kept.1));
+            });
+      }

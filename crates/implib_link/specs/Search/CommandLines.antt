@@ -1,0 +1,151 @@
+-- Searches of several archives, in the order of a command line. The members of all are in one list, and an archive is the
+-- numbers of its members there, in its order: one that stands twice on a command line has the same members twice.
+--
+-- GNU `ld` (binutils, ld/ldlang.c, `open_input_bfds`) goes through its inputs once. It sweeps an archive until a sweep takes
+-- nothing, and goes through a group (`--start-group`) until none of its archives has more to give. What later inputs leave
+-- unresolved leads it back to none.
+--
+-- lld (COFF/SymbolTable.cpp, `addLazyArchive`, `addUndefined`) keeps the symbols of each archive that it has read, and takes a
+-- member as soon as a name is both unresolved and listed.
+use Rattle.std.specs.Prelude.{◌≡◌, ℕ, zero, suc, Bool, false, ◌==◌, List, [], ◌∷◌, ◌++◌, bytes_eq, length, not, Option}
+use Rattle.std.specs.List.{AllByRecursion, Contains, filter, flat_map, list_any}
+use Rattle.implib.specs.Formats.Object.{Object}
+use Rattle.implib.specs.Members.MemberSpec.{MemberView}
+use Rattle.implib_link.specs.Gnu.Program.{ClaimsNone, HaveSame}
+use Rattle.implib_link.specs.Search.Closed.{PullsIntoAs, TakesIntoAs, listed_in}
+use Rattle.implib_link.specs.Search.Search.{claimed_as, objects_as, undefined_in}
+use Rattle.implib_link.specs.Search.Sweeps.{index_at, members_at, numbers_from, sweeps, swept}
+
+-- an input: an object, or archives that are searched as a group; an archive by itself is a group of one
+pub data Input : Type 0 where
+  AnObject : Object → Input
+  Archives : List (List ℕ) → Input
+
+-- the numbers of the members in an input, and in some
+abbrev pub numbers_of : Input → List ℕ
+numbers_of (AnObject o) = []
+numbers_of (Archives archives) = flat_map (λ numbers. numbers) archives
+
+abbrev pub numbers_in : List Input → List ℕ
+numbers_in inputs = flat_map numbers_of inputs
+
+-- the objects among inputs
+abbrev pub object_of : Input → List Object
+object_of (AnObject o) = o ∷ []
+object_of (Archives archives) = []
+
+abbrev pub objects_given : List Input → List Object
+objects_given inputs = flat_map object_of inputs
+
+-- GNU `ld`
+
+-- What is taken after an archive was swept, from what was taken before: some sweeps over its index, until one takes nothing.
+pub record IsSwept (reads : List ℕ → Option Object) (members : List MemberView) (own : List Object) (archive : List ℕ)
+    (before after : List ℕ) : Type 0 where
+  pub count : ℕ
+  pub taken : sweeps reads members own (index_at members archive) count before ≡ after
+  pub ended : swept reads members own (index_at members archive) after ≡ after
+
+-- archives are swept one after another
+unfoldable pub AreSwept : (List ℕ → Option Object) → List MemberView → List Object → List (List ℕ) → List ℕ → List ℕ → Type 0
+AreSwept reads members own [] before after = before ≡ after
+AreSwept reads members own (archive ∷ archives) before after =
+    (between : List ℕ) × IsSwept reads members own archive before between
+    × AreSwept reads members own archives between after
+
+-- a group is gone through so many times
+unfoldable pub AreRounds : (List ℕ → Option Object) → List MemberView → List Object → List (List ℕ) → ℕ → List ℕ → List ℕ → Type 0
+AreRounds reads members own archives zero before after = before ≡ after
+AreRounds reads members own archives (suc count) before after =
+    (between : List ℕ) × AreSwept reads members own archives before between
+    × AreRounds reads members own archives count between after
+
+-- What is taken after a group was searched: rounds through it (`taken`), until a sweep over none of its archives takes
+-- anything (`ended`).
+pub record IsGroupSearched (reads : List ℕ → Option Object) (members : List MemberView) (own : List Object)
+    (archives : List (List ℕ)) (before after : List ℕ) : Type 0 where
+  pub rounds : ℕ
+  pub taken : AreRounds reads members own archives rounds before after
+  pub ended : AllByRecursion (λ archive. swept reads members own (index_at members archive) after ≡ after) archives
+
+-- What is taken after inputs, for the objects that were read before them.
+unfoldable pub SearchesFrom : (List ℕ → Option Object) → List MemberView → List Object → List Input → List ℕ → List ℕ → Type 0
+SearchesFrom reads members own [] before after = before ≡ after
+SearchesFrom reads members own (AnObject o ∷ inputs) before after =
+    SearchesFrom reads members (own ++ o ∷ []) inputs before after
+SearchesFrom reads members own (Archives archives ∷ inputs) before after =
+    (between : List ℕ) × IsGroupSearched reads members own archives before between
+    × SearchesFrom reads members own inputs between after
+
+-- what GNU `ld` takes for a command line: the numbers of the members, the last one first
+abbrev pub SearchesCommandLine : (List ℕ → Option Object) → List MemberView → List Input → List ℕ → Type 0
+SearchesCommandLine reads members inputs taken = SearchesFrom reads members [] inputs [] taken
+
+-- lld
+
+-- members are taken one after another, behind those before them
+unfoldable pub AreTakenBehind : (List ℕ → Option Object) → List MemberView → List Object → List MemberView → List MemberView → Type 0
+AreTakenBehind reads archive own before [] = Unit {0}
+AreTakenBehind reads archive own before (m ∷ more) =
+    ((name : List ℕ) × PullsIntoAs reads archive own (more ++ before) name m)
+    × AreTakenBehind reads archive own before more
+
+-- Members are taken until no unresolved name pulls in another of the archives that were read.
+pub record IsClosedOver (reads : List ℕ → Option Object) (archive : List MemberView) (own : List Object)
+    (before after : List MemberView) : Type 0 where
+  pub more : List MemberView
+  pub taken : more ++ before ≡ after
+  pub in_turn : AreTakenBehind reads archive own before more
+  pub ended : (name : List ℕ) (m : MemberView) → PullsIntoAs reads archive own after name m → ⊥
+
+-- What is taken after inputs, for the objects and the archives that were read before them.
+unfoldable pub LldSearchesFrom : (List ℕ → Option Object) → List MemberView → List Object → List ℕ → List Input → List MemberView → List MemberView → Type 0
+LldSearchesFrom reads members own read [] before after = before ≡ after
+LldSearchesFrom reads members own read (input ∷ inputs) before after =
+    (between : List MemberView)
+    × IsClosedOver reads (members_at members (read ++ numbers_of input)) (own ++ object_of input) before between
+    × LldSearchesFrom reads members (own ++ object_of input) (read ++ numbers_of input) inputs between after
+
+-- what lld takes for a command line, the last one first
+abbrev pub LldSearches : (List ℕ → Option Object) → List MemberView → List Input → List MemberView → Type 0
+LldSearches reads members inputs taken = LldSearchesFrom reads members [] [] inputs [] taken
+
+-- What is asked of command lines.
+
+-- the symbols that members of these numbers are listed for
+abbrev pub listed_at : List MemberView → List ℕ → List (List ℕ)
+listed_at members numbers = listed_in (members_at members numbers)
+
+-- No object claims a name that an archive in front of it lists: a linker that needed the name there has taken that member,
+-- and the object defines it again.
+unfoldable pub AreUnclaimedBehind : List MemberView → List ℕ → List Input → Type 0
+AreUnclaimedBehind members read [] = Unit {0}
+AreUnclaimedBehind members read (input ∷ inputs) =
+    AllByRecursion (ClaimsNone (listed_at members read)) (object_of input)
+    × AreUnclaimedBehind members (read ++ numbers_of input) inputs
+
+-- an object leaves none of these names to others
+abbrev pub LeavesNone : List (List ℕ) → Object → Type 0
+LeavesNone names o = AllByRecursion (λ name. list_any (bytes_eq name) (undefined_in o) ≡ false) names
+
+-- the numbers of all members but some
+abbrev pub numbers_but : List MemberView → List ℕ → List ℕ
+numbers_but members some =
+    filter (λ number. not (list_any (λ other. other == number) some)) (numbers_from (length members) 0)
+
+-- The order that GNU `ld` wants: what an object or a member leaves to others is listed by archives of the same input or
+-- behind it alone, of all that list it.
+unfoldable pub IsOrdered : (List ℕ → Option Object) → List MemberView → List Input → Type 0
+IsOrdered reads members [] = Unit {0}
+IsOrdered reads members (input ∷ inputs) =
+    AllByRecursion (LeavesNone (listed_at members (numbers_but members (numbers_of input ++ numbers_in inputs))))
+    (object_of input ++ objects_as reads (members_at members (numbers_of input)))
+    × IsOrdered reads members inputs
+
+-- the inputs have each member
+abbrev pub HaveAll : List MemberView → List Input → Type 0
+HaveAll members inputs = (m : MemberView) → Contains members m → Contains (members_at members (numbers_in inputs)) m
+
+-- each member is listed for exactly the names that it claims, as an archive's index is made by tools
+abbrev pub AreListedWhole : (List ℕ → Option Object) → List MemberView → Type 0
+AreListedWhole reads members = AllByRecursion (λ m. HaveSame (claimed_as reads (m ∷ [])) m.symbols) members
