@@ -7,6 +7,7 @@ pub mod both_flavors;
 pub mod bounds;
 pub mod choices;
 pub mod closed;
+pub mod command_lines;
 pub mod exists;
 pub mod lld;
 pub mod msvc_search;

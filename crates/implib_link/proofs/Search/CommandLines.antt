@@ -5,16 +5,22 @@ use Rattle.std.specs.List.{AllByRecursion, Contains, IsDistinct, cons_option, fi
 use Rattle.std.proofs.lemmas.Bool.{cases_Bool, true≢false}
 use Rattle.std.proofs.lemmas.Grind.{flat_map-append}
 use Rattle.std.proofs.lemmas.List.{append-nil, append_assoc}
-use Rattle.implib.specs.Formats.Object.{Object}
+use Rattle.implib.specs.Formats.Object.{Object, object_in}
+use Rattle.implib.specs.Link.Placement.{Bases}
+use Rattle.implib.specs.declared.machine.MachineType.{MachineType}
 use Rattle.implib.specs.Members.MemberSpec.{MemberView}
 use Rattle.implib.proofs.Link.LinkedMembers.{among_contains}
 use Rattle.implib.proofs.Link.Ranges.{Among, all_among, among_back, among_first, among_flat, among_front, among_later}
 use Rattle.implib_link.specs.Gnu.Program.{ClaimsNone, HaveSame, claimed_names}
-use Rattle.implib_link.specs.Search.Closed.{AreTakenIntoAs, PullsIntoAs, TakesIntoAs, unresolved}
-use Rattle.implib_link.specs.Search.CommandLines.{AnObject, Archives, AreListedWhole, AreRounds, AreSwept, AreTakenBehind, AreUnclaimedBehind, HaveAll, Input, IsOrdered, IsSwept, LeavesNone, LldSearches, LldSearchesFrom, SearchesCommandLine, SearchesFrom, listed_at, numbers_but, numbers_in, numbers_of, object_of, objects_given}
+use Rattle.implib_link.specs.Search.Archives.{IsArchive, Library, archive_of}
+use Rattle.implib_link.specs.Search.Closed.{AreLinkedFor, AreTakenIntoAs, LinksClosed, PullsIntoAs, TakesInto, TakesIntoAs, unresolved}
+use Rattle.implib_link.specs.Search.Given.{AreGiven}
+use Rattle.implib_link.specs.Search.CommandLines.{AnObject, Archives, AreListedWhole, AreRounds, AreSwept, AreTakenBehind, AreUnclaimedBehind, HaveAll, Input, IsOrdered, IsSwept, LeavesNone, LldSearches, LldSearchesFrom, SearchesLibraries, SearchesCommandLine, SearchesFrom, listed_at, numbers_but, numbers_in, numbers_of, object_of, objects_given, others_of, given_with}
 use Rattle.implib_link.specs.Search.Search.{claimed_as, first_listed, is_listed_for, objects_as, undefined_in}
 use Rattle.implib_link.specs.Search.Sweeps.{IndexEntry, index_at, members_at, numbers_from, sweeps, swept}
 use Rattle.implib_link.proofs.Search.ArchiveGroups.{found_or_not}
+use Rattle.implib_link.proofs.Search.Closed.{closed_links}
+use Rattle.implib_link.proofs.Search.Given.{given_closes}
 use Rattle.implib_link.proofs.Search.Closing.{unresolved_from, unresolved_parts}
 use Rattle.implib_link.proofs.Search.Lists.{all_listed, among_any, any_among, among_either, among_flat_map, among_listed, as_name, contains_among, listed_is, listed_once, name_as, one_member, passes, passing, to_not}
 use Rattle.implib_link.proofs.Search.Sweeps.{Lifts, all_there, among_number, entries_of, entry_there, member_at, none_left, number_among, number_of, number_taken, swept_adds, swept_in_turn, swept_keeps, sweeps_in_turn, taken_number}
@@ -558,11 +564,8 @@ module _ (reads : List ℕ → Option Object) (members : List MemberView) where
     -- Members that are taken are as if they were given.
 
     module _ (is_given : MemberView → Bool) where
-      abbrev others_of : List MemberView → List MemberView
-      others_of some = filter (λ m. not (is_given m)) some
-
       -- a member is among those that are given or among the others
-      given_or_not : (some : List MemberView) (x : MemberView) → Among x some → Among x (filter is_given some) ⊎ Among x (others_of some)
+      given_or_not : (some : List MemberView) (x : MemberView) → Among x some → Among x (filter is_given some) ⊎ Among x (others_of is_given some)
       given_or_not some x held =
           elim (cases_Bool (is_given x)) [
             | inl is ↦ inl (passes is_given x some held is)
@@ -571,14 +574,14 @@ module _ (reads : List ℕ → Option Object) (members : List MemberView) where
 
       -- names of members' objects, by which list they are in
       names_apart : (f : Object → List (List ℕ)) (some full : List MemberView) (name : List ℕ) → ((x : MemberView) → Among x some → Among x full) → Among name (flat_map f (objects_as reads some)) →
-          Among name (flat_map f (objects_as reads (filter is_given full))) ⊎ Among name (flat_map f (objects_as reads (others_of some)))
+          Among name (flat_map f (objects_as reads (filter is_given full))) ⊎ Among name (flat_map f (objects_as reads (others_of is_given some)))
       names_apart f some full name are held =
           let from = name_as reads f name some held in
           elim (given_or_not some from.member from.held) [
             | inl given ↦
                 let kept = passing is_given from.member some given in
                 inl (as_name reads f name (filter is_given full) from.member from.object (passes is_given from.member full (are from.member kept.0) kept.1) from.taken from.among)
-            | inr other ↦ inr (as_name reads f name (others_of some) from.member from.object other from.taken from.among)
+            | inr other ↦ inr (as_name reads f name (others_of is_given some) from.member from.object other from.taken from.among)
           ]
 
       names_within : (f : Object → List (List ℕ)) (test : MemberView → Bool) (full : List MemberView) (name : List ℕ) → Among name (flat_map f (objects_as reads (filter test full))) → Among name (flat_map f (objects_as reads full))
@@ -591,18 +594,18 @@ module _ (reads : List ℕ → Option Object) (members : List MemberView) where
         given_too = own ++ objects_as reads (filter is_given full)
 
         other_left : (taken : List MemberView) (name : List ℕ) (m : MemberView) → ((x : MemberView) → Among x taken → Among x full) → is_given m ≡ false → Among m members → Among name m.symbols →
-            Among name (unresolved (own ++ objects_as reads taken)) → Among name (unresolved (given_too ++ objects_as reads (others_of taken)))
+            Among name (unresolved (own ++ objects_as reads taken)) → Among name (unresolved (given_too ++ objects_as reads (others_of is_given taken)))
         other_left taken name m are other held listed left =
             let parts = unresolved_parts (own ++ objects_as reads taken) name left in
-            unresolved_from (given_too ++ objects_as reads (others_of taken)) name
+            unresolved_from (given_too ++ objects_as reads (others_of is_given taken)) name
             (elim (refs_either undefined_in own (objects_as reads taken) name parts.0) [
-              | inl here ↦ refs_front undefined_in given_too (objects_as reads (others_of taken)) name (refs_front undefined_in own (objects_as reads (filter is_given full)) name here)
+              | inl here ↦ refs_front undefined_in given_too (objects_as reads (others_of is_given taken)) name (refs_front undefined_in own (objects_as reads (filter is_given full)) name here)
               | inr there ↦ elim (names_apart undefined_in taken full name are there) [
-                | inl given ↦ refs_front undefined_in given_too (objects_as reads (others_of taken)) name (refs_back undefined_in own (objects_as reads (filter is_given full)) name given)
-                | inr behind ↦ refs_back undefined_in given_too (objects_as reads (others_of taken)) name behind
+                | inl given ↦ refs_front undefined_in given_too (objects_as reads (others_of is_given taken)) name (refs_back undefined_in own (objects_as reads (filter is_given full)) name given)
+                | inr behind ↦ refs_back undefined_in given_too (objects_as reads (others_of is_given taken)) name behind
               ]
             ])
-            (λ claimed. elim (refs_either claimed_names given_too (objects_as reads (others_of taken)) name claimed) [
+            (λ claimed. elim (refs_either claimed_names given_too (objects_as reads (others_of is_given taken)) name claimed) [
               | inl front ↦ elim (refs_either claimed_names own (objects_as reads (filter is_given full)) name front) [
                 | inl here ↦ parts.1 (refs_front claimed_names own (objects_as reads taken) name here)
                 | inr given ↦
@@ -614,7 +617,7 @@ module _ (reads : List ℕ → Option Object) (members : List MemberView) where
               | inr there ↦ parts.1 (refs_back claimed_names own (objects_as reads taken) name (names_within claimed_names (λ m. not (is_given m)) taken name there))
             ])
 
-        others_in_turn : (taken : List MemberView) → ((x : MemberView) → Among x taken → Among x full) → AreTakenIntoAs reads members own taken → AreTakenIntoAs reads (others_of members) given_too (others_of taken)
+        others_in_turn : (taken : List MemberView) → ((x : MemberView) → Among x taken → Among x full) → AreTakenIntoAs reads members own taken → AreTakenIntoAs reads (others_of is_given members) given_too (others_of is_given taken)
         unfolding AreTakenIntoAs Among
         others_in_turn [] are is = tt
         others_in_turn (m ∷ taken) are is =
@@ -626,22 +629,22 @@ module _ (reads : List ℕ → Option Object) (members : List MemberView) where
                     (
                       is.0.0,
                       record {
-                        named = among_contains is.0.0 (unresolved (given_too ++ objects_as reads (others_of taken)))
+                        named = among_contains is.0.0 (unresolved (given_too ++ objects_as reads (others_of is_given taken)))
                             (other_left taken is.0.0 m (λ x held. are x (inr held)) other from.0 from.1 (contains_among is.0.0 (unresolved (own ++ objects_as reads taken)) is.0.1.named));
-                        listed = first_of_some distinct (others_of members) is.0.0 m (λ x held. (passing (λ y. not (is_given y)) x members held).0)
+                        listed = first_of_some distinct (others_of is_given members) is.0.0 m (λ x held. (passing (λ y. not (is_given y)) x members held).0)
                             (passes (λ y. not (is_given y)) m members from.0 (to_not (is_given m) other)) from.1;
-                        new = λ held. is.0.1.new (among_contains m taken (passing (λ y. not (is_given y)) m taken (contains_among m (others_of taken) held)).0);
+                        new = λ held. is.0.1.new (among_contains m taken (passing (λ y. not (is_given y)) m taken (contains_among m (others_of is_given taken) held)).0);
                       },
                     ),
                     others_in_turn taken (λ x held. are x (inr held)) is.1,
                   )
             ]
 
-        left_again : (name : List ℕ) → Among name (unresolved (given_too ++ objects_as reads (others_of full))) → Among name (unresolved (own ++ objects_as reads full))
+        left_again : (name : List ℕ) → Among name (unresolved (given_too ++ objects_as reads (others_of is_given full))) → Among name (unresolved (own ++ objects_as reads full))
         left_again name left =
-            let parts = unresolved_parts (given_too ++ objects_as reads (others_of full)) name left in
+            let parts = unresolved_parts (given_too ++ objects_as reads (others_of is_given full)) name left in
             unresolved_from (own ++ objects_as reads full) name
-            (elim (refs_either undefined_in given_too (objects_as reads (others_of full)) name parts.0) [
+            (elim (refs_either undefined_in given_too (objects_as reads (others_of is_given full)) name parts.0) [
               | inl front ↦ elim (refs_either undefined_in own (objects_as reads (filter is_given full)) name front) [
                 | inl here ↦ refs_front undefined_in own (objects_as reads full) name here
                 | inr given ↦ refs_back undefined_in own (objects_as reads full) name (names_within undefined_in is_given full name given)
@@ -649,23 +652,50 @@ module _ (reads : List ℕ → Option Object) (members : List MemberView) where
               | inr there ↦ refs_back undefined_in own (objects_as reads full) name (names_within undefined_in (λ m. not (is_given m)) full name there)
             ])
             (λ claimed. elim (refs_either claimed_names own (objects_as reads full) name claimed) [
-              | inl here ↦ parts.1 (refs_front claimed_names given_too (objects_as reads (others_of full)) name (refs_front claimed_names own (objects_as reads (filter is_given full)) name here))
+              | inl here ↦ parts.1 (refs_front claimed_names given_too (objects_as reads (others_of is_given full)) name (refs_front claimed_names own (objects_as reads (filter is_given full)) name here))
               | inr there ↦ elim (names_apart claimed_names full full name (λ x held. held) there) [
-                | inl given ↦ parts.1 (refs_front claimed_names given_too (objects_as reads (others_of full)) name (refs_back claimed_names own (objects_as reads (filter is_given full)) name given))
-                | inr behind ↦ parts.1 (refs_back claimed_names given_too (objects_as reads (others_of full)) name behind)
+                | inl given ↦ parts.1 (refs_front claimed_names given_too (objects_as reads (others_of is_given full)) name (refs_back claimed_names own (objects_as reads (filter is_given full)) name given))
+                | inr behind ↦ parts.1 (refs_back claimed_names given_too (objects_as reads (others_of is_given full)) name behind)
               ]
             ])
 
-      pub taken_as_given : (taken : List MemberView) → TakesIntoAs reads members own taken → TakesIntoAs reads (others_of members) (own ++ objects_as reads (filter is_given taken)) (others_of taken)
+      pub taken_as_given : (taken : List MemberView) → TakesIntoAs reads members own taken → TakesIntoAs reads (others_of is_given members) (own ++ objects_as reads (filter is_given taken)) (others_of is_given taken)
       taken_as_given taken takes = record {
         in_turn = others_in_turn taken (taken_are taken takes.in_turn) taken (λ x held. held) takes.in_turn;
         ended = λ name m pulls.
-            let from = listed_is (others_of members) name m pulls.listed in
+            let from = listed_is (others_of is_given members) name m pulls.listed in
             let kept = passing (λ y. not (is_given y)) m members from.0 in
             takes.ended name m (record {
               named = among_contains name (unresolved (own ++ objects_as reads taken)) (left_again taken (taken_are taken takes.in_turn) name
-                  (contains_among name (unresolved (given_too taken (taken_are taken takes.in_turn) ++ objects_as reads (others_of taken))) pulls.named));
+                  (contains_among name (unresolved (given_too taken (taken_are taken takes.in_turn) ++ objects_as reads (others_of is_given taken))) pulls.named));
               listed = listed_once members name m distinct kept.0 from.1;
-              new = λ held. pulls.new (among_contains m (others_of taken) (passes (λ y. not (is_given y)) m taken (contains_among m taken held) kept.1));
+              new = λ held. pulls.new (among_contains m (others_of is_given taken) (passes (λ y. not (is_given y)) m taken (contains_among m taken held) kept.1));
             });
       }
+
+-- GNU `ld`'s command lines of libraries and of anything else.
+
+module _ (machine : MachineType) (libraries : List Library) (members : List MemberView) (inputs : List Input) (is_given : MemberView → Bool) (taken : List ℕ) (s : SearchesLibraries machine libraries members inputs is_given taken) where
+  of_libraries : TakesInto (archive_of libraries) (given_with object_in is_given (objects_given inputs) (members_at members taken)) (others_of is_given (members_at members taken))
+  of_libraries =
+      subst (λ archive. TakesIntoAs object_in archive (given_with object_in is_given (objects_given inputs) (members_at members taken)) (others_of is_given (members_at members taken))) s.libraries_are
+      (taken_as_given object_in members (objects_given inputs) s.distinct s.whole is_given (members_at members taken)
+      (gnu_searches object_in members inputs taken s.distinct s.unclaimed s.ordered s.searches))
+
+pub command_line_closes : (machine : MachineType) (libraries : List Library) (members : List MemberView) (inputs : List Input) (taken : List ℕ) (is_given : MemberView → Bool)
+    (arranged : List Library) (bases : Bases) (objects : List Object) → SearchesLibraries machine libraries members inputs is_given taken → IsArchive machine libraries →
+    AreGiven machine libraries (given_with object_in is_given (objects_given inputs) (members_at members taken)) →
+    AreLinkedFor machine libraries (given_with object_in is_given (objects_given inputs) (members_at members taken)) (others_of is_given (members_at members taken)) arranged bases objects →
+    LinksClosed machine libraries (given_with object_in is_given (objects_given inputs) (members_at members taken)) (others_of is_given (members_at members taken)) arranged bases objects
+command_line_closes machine libraries members inputs taken is_given arranged bases objects searches archive given linked =
+    let takes = of_libraries machine libraries members inputs is_given taken searches in
+    closed_links machine libraries (given_with object_in is_given (objects_given inputs) (members_at members taken)) (others_of is_given (members_at members taken)) arranged bases objects archive
+    (given_closes machine libraries (given_with object_in is_given (objects_given inputs) (members_at members taken)) (others_of is_given (members_at members taken)) arranged bases objects archive given takes linked)
+
+-- Where both linkers take a command line's members, they take the same.
+pub takes_alike : (reads : List ℕ → Option Object) (members : List MemberView) (inputs : List Input) (taken : List ℕ) (other : List MemberView) → IsDistinct bytes_eq (all_listed members) →
+    AreListedWhole reads members → AreUnclaimedBehind members [] inputs → IsOrdered reads members inputs → HaveAll members inputs → SearchesCommandLine reads members inputs taken →
+    LldSearches reads members inputs other → HaveSame (members_at members taken) other
+takes_alike reads members inputs taken other distinct whole none ordered all gnu lld =
+    searches_alike reads members (objects_given inputs) distinct whole (members_at members taken) other
+    (gnu_searches reads members inputs taken distinct none ordered gnu) (lld_searches reads members inputs other distinct none all lld)

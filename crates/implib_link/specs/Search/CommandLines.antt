@@ -8,11 +8,13 @@
 -- lld (COFF/SymbolTable.cpp, `addLazyArchive`, `addUndefined`) keeps the symbols of each archive that it has read, and takes a
 -- member as soon as a name is both unresolved and listed.
 use Rattle.std.specs.Prelude.{◌≡◌, ℕ, zero, suc, Bool, false, ◌==◌, List, [], ◌∷◌, ◌++◌, bytes_eq, length, not, Option}
-use Rattle.std.specs.List.{AllByRecursion, Contains, filter, flat_map, list_any}
-use Rattle.implib.specs.Formats.Object.{Object}
+use Rattle.std.specs.List.{AllByRecursion, Contains, IsDistinct, filter, flat_map, list_any}
+use Rattle.implib.specs.Formats.Object.{Object, object_in}
+use Rattle.implib.specs.declared.machine.MachineType.{MachineType}
 use Rattle.implib.specs.Members.MemberSpec.{MemberView}
 use Rattle.implib_link.specs.Gnu.Program.{ClaimsNone, HaveSame}
-use Rattle.implib_link.specs.Search.Closed.{PullsIntoAs, TakesIntoAs, listed_in}
+use Rattle.implib_link.specs.Search.Archives.{Library, archive_of}
+use Rattle.implib_link.specs.Search.Closed.{PullsIntoAs, listed_in}
 use Rattle.implib_link.specs.Search.Search.{claimed_as, objects_as, undefined_in}
 use Rattle.implib_link.specs.Search.Sweeps.{index_at, members_at, numbers_from, sweeps, swept}
 
@@ -149,3 +151,23 @@ HaveAll members inputs = (m : MemberView) → Contains members m → Contains (m
 -- each member is listed for exactly the names that it claims, as an archive's index is made by tools
 abbrev pub AreListedWhole : (List ℕ → Option Object) → List MemberView → Type 0
 AreListedWhole reads members = AllByRecursion (λ m. HaveSame (claimed_as reads (m ∷ [])) m.symbols) members
+
+-- Members that are as if they were given: those that are taken beside the given objects, and the other members.
+abbrev pub given_with : (List ℕ → Option Object) → (MemberView → Bool) → List Object → List MemberView → List Object
+given_with reads is_given own taken = own ++ objects_as reads (filter is_given taken)
+
+abbrev pub others_of : (MemberView → Bool) → List MemberView → List MemberView
+others_of is_given members = filter (λ m. not (is_given m)) members
+
+-- What GNU `ld` takes of a command line's archives:
+-- `libraries_are`: the members that are not as given are those of libraries, archive by archive;
+-- `distinct`, `unclaimed`, `ordered`, `whole`: what is asked of the command line;
+-- `searches`: the search.
+pub record SearchesLibraries (machine : MachineType) (libraries : List Library) (members : List MemberView)
+    (inputs : List Input) (is_given : MemberView → Bool) (taken : List ℕ) : Type 0 where
+  pub libraries_are : others_of is_given members ≡ archive_of libraries
+  pub distinct : IsDistinct bytes_eq (listed_in members)
+  pub unclaimed : AreUnclaimedBehind members [] inputs
+  pub ordered : IsOrdered object_in members inputs
+  pub whole : AreListedWhole object_in members
+  pub searches : SearchesCommandLine object_in members inputs taken

@@ -1,0 +1,8 @@
+use Rattle.implib_link.proofs.Search.CommandLines.{searches_alike, takes_alike}
+use Rattle.implib_link.proofs.laws.command_lines.linkers_take_alike.Goals as goal
+
+pub returns : goal.returns
+returns c = record {
+  same = λ reads members own taken other distinct whole one two. searches_alike reads members own distinct whole taken other one two;
+  linkers = takes_alike;
+}

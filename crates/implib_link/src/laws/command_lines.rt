@@ -1,0 +1,90 @@
+//! Laws of searches of several archives, in the order of a command line.
+
+ghost use Rattle.implib.specs.Formats.Object.{Object, object_in};
+ghost use Rattle.implib.specs.Link.Placement.{Bases};
+ghost use Rattle.implib.specs.Members.MemberSpec.{MemberView};
+ghost use Rattle.implib.specs.declared.machine.MachineType.{MachineType};
+ghost use Rattle.implib_link.specs.Gnu.Program.{HaveSame};
+ghost use Rattle.implib_link.specs.Search.Archives.{IsArchive, Library};
+ghost use Rattle.implib_link.specs.Search.Closed.{AreLinkedFor, LinksClosed, TakesIntoAs};
+ghost use Rattle.implib_link.specs.Search.CommandLines.{AreListedWhole, AreUnclaimedBehind, HaveAll};
+ghost use Rattle.implib_link.specs.Search.CommandLines.{Input, IsOrdered, LldSearches};
+ghost use Rattle.implib_link.specs.Search.CommandLines.{SearchesCommandLine, SearchesLibraries};
+ghost use Rattle.implib_link.specs.Search.CommandLines.{given_with, objects_given, others_of};
+ghost use Rattle.implib_link.specs.Search.Given.{AreGiven};
+ghost use Rattle.implib_link.specs.Search.Sweeps.{members_at};
+ghost use Rattle.std.specs.List.{IsDistinct, flat_map};
+ghost use Rattle.std.specs.Prelude.{ℕ, [], Bool, List, Option, bytes_eq};
+
+/// What a linker takes of the archives of a command line is what one search of all their members
+/// takes, for all objects, whatever the archives are: so all that is proved of such a search holds
+/// of it.
+///
+/// No two members list one name, and no object claims a name that an archive in front of it lists.
+/// GNU `ld` wants an order, too, in which what is left unresolved is listed behind it, or in the same
+/// group (`gnu`); lld takes any (`lld`). An archive may stand on the command line more than once.
+/// However the linker reads members.
+pub fn command_lines_are_searched()
+    ensures gnu { (reads : List ℕ → Option Object) (members : List MemberView)
+        (inputs : List Input) (taken : List ℕ) →
+        IsDistinct bytes_eq (flat_map (λ m. m.symbols) members) →
+        AreUnclaimedBehind members [] inputs → IsOrdered reads members inputs →
+        SearchesCommandLine reads members inputs taken →
+        TakesIntoAs reads members (objects_given inputs) (members_at members taken) }
+    ensures lld { (reads : List ℕ → Option Object) (members : List MemberView)
+        (inputs : List Input) (taken : List MemberView) →
+        IsDistinct bytes_eq (flat_map (λ m. m.symbols) members) →
+        AreUnclaimedBehind members [] inputs → HaveAll members inputs →
+        LldSearches reads members inputs taken →
+        TakesIntoAs reads members (objects_given inputs) taken }
+{}
+
+/// Two searches of one list of members take the same, whichever unresolved name they take up first
+/// (`same`); so where the order is GNU `ld`'s, lld takes what it takes (`linkers`). Each member is
+/// listed for the names that it claims.
+pub fn linkers_take_alike()
+    ensures same { (reads : List ℕ → Option Object) (members : List MemberView)
+        (own : List Object) (taken other : List MemberView) →
+        IsDistinct bytes_eq (flat_map (λ m. m.symbols) members) →
+        AreListedWhole reads members → TakesIntoAs reads members own taken →
+        TakesIntoAs reads members own other → HaveSame taken other }
+    ensures linkers { (reads : List ℕ → Option Object) (members : List MemberView)
+        (inputs : List Input) (taken : List ℕ) (other : List MemberView) →
+        IsDistinct bytes_eq (flat_map (λ m. m.symbols) members) →
+        AreListedWhole reads members → AreUnclaimedBehind members [] inputs →
+        IsOrdered reads members inputs → HaveAll members inputs →
+        SearchesCommandLine reads members inputs taken →
+        LldSearches reads members inputs other →
+        HaveSame (members_at members taken) other }
+{}
+
+/// Members that are taken are as if they were given as objects: of the others a linker takes what it
+/// takes for these and the given objects. So what is proved of libraries holds of them beside
+/// archives of anything else, as of a C library's objects.
+pub fn taken_members_are_as_given()
+    ensures { (reads : List ℕ → Option Object) (members : List MemberView) (own : List Object)
+        (taken : List MemberView) (is_given : MemberView → Bool) →
+        IsDistinct bytes_eq (flat_map (λ m. m.symbols) members) →
+        AreListedWhole reads members → TakesIntoAs reads members own taken →
+        TakesIntoAs reads (others_of is_given members) (given_with reads is_given own taken)
+        (others_of is_given taken) }
+{}
+
+/// What GNU `ld` takes of a command line's archives, of which some are of libraries for it and the
+/// others of anything, closes the program, as what is linked: of the libraries it takes what the
+/// given objects and the members of the other archives that are taken leave unresolved.
+pub fn command_lines_close()
+    ensures { (machine : MachineType) (libraries : List Library) (members : List MemberView)
+        (inputs : List Input) (taken : List ℕ) (is_given : MemberView → Bool)
+        (arranged : List Library) (bases : Bases) (objects : List Object) →
+        SearchesLibraries machine libraries members inputs is_given taken →
+        IsArchive machine libraries →
+        AreGiven machine libraries
+        (given_with object_in is_given (objects_given inputs) (members_at members taken)) →
+        AreLinkedFor machine libraries
+        (given_with object_in is_given (objects_given inputs) (members_at members taken))
+        (others_of is_given (members_at members taken)) arranged bases objects →
+        LinksClosed machine libraries
+        (given_with object_in is_given (objects_given inputs) (members_at members taken))
+        (others_of is_given (members_at members taken)) arranged bases objects }
+{}
