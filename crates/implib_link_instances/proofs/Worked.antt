@@ -15,6 +15,7 @@ pub mod MsvcSearch
 pub mod Loads
 pub mod Searched
 pub mod Sweeps
+pub mod CommandLines
 pub mod FlavorLoads
 pub mod Packed
 pub mod GnuPacked

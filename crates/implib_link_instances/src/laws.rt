@@ -7,6 +7,7 @@ pub mod bounds;
 pub mod calls;
 pub mod choices;
 pub mod closed;
+pub mod command_lines;
 pub mod exists;
 pub mod files;
 pub mod in_bytes;

@@ -1,0 +1,9 @@
+//! Command lines of an object, a library and an archive, by GNU `ld`, ld.lld and lld-link.
+
+ghost use Rattle.implib_link_instances.specs.Worked.CommandLines.{WorkedCommandLines};
+
+/// On AMD64 and I386: GNU `ld` loses an import where the library is in front of the archive that wants
+/// it, and lld does not; in the other order, in a group and with the library twice both take all.
+pub fn worked_command_lines()
+    ensures { WorkedCommandLines }
+{}
