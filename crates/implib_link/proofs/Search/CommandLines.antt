@@ -487,9 +487,12 @@ module _ (reads : List ℕ → Option Object) (members : List MemberView) where
         (x : MemberView) × Among x some × Among name x.symbols
     unfolding claimed_as
     claimer some name are claimed =
-        let from = name_as reads claimed_names name some claimed in
-        (from.member, from.held, listed_claims from.member name (are from.member from.held)
-        (as_name reads claimed_names name (from.member ∷ []) from.member from.object (among_first from.member []) from.taken from.among))
+        let from = name_as reads claimed_names name some claimed in (
+          from.member,
+          from.held,
+          listed_claims from.member name (are from.member from.held)
+              (as_name reads claimed_names name (from.member ∷ []) from.member from.object (among_first from.member []) from.taken from.among),
+        )
 
     claims_there : (some : List MemberView) (m : MemberView) (name : List ℕ) → Among m some → Among m members → Among name m.symbols → Among name (flat_map claimed_names (objects_as reads some))
     unfolding claimed_as Among

@@ -271,7 +271,7 @@ module _ (reads : List ℕ → Option Object) (archive : List MemberView) (own :
           let from = first_is name archive m pulls.listed in
           let at = number_of archive m from.0 in
           let there = none_left (index_of archive) numbers takes.ended (record { name = name; number = at.0 })
-              (entry_there archive (numbers_from (length archive) 0) at.0 m name at.1 (all_there archive at.0 m at.1) from.1)
-              (contains_among name (unresolved (own ++ objects_as reads (members_at archive numbers))) pulls.named) in
+          (entry_there archive (numbers_from (length archive) 0) at.0 m name at.1 (all_there archive at.0 m at.1) from.1)
+          (contains_among name (unresolved (own ++ objects_as reads (members_at archive numbers))) pulls.named) in
           pulls.new (among_contains m (members_at archive numbers) (number_taken archive numbers at.0 m there at.1));
     }

@@ -1,8 +1,9 @@
 -- The command lines, by computing and by the laws.
-use Rattle.std.proofs.Common.{◌≡◌, ℕ, zero, suc, Bool, true, false, List, [], ◌∷◌, ◌++◌, length, map, Option, None, Some, refl, ap, sym, ◌∙◌, subst, inl, inr, codes, arith}
-use Rattle.std.specs.Prelude.{◌&&◌, bytes_eq, drop, is_none, not, slice_get}
+use Rattle.std.proofs.Common.{◌≡◌, ℕ, zero, suc, Bool, true, false, List, [], ◌∷◌, ◌++◌, ◌+◌, length, map, Option, None, Some, refl, ap, sym, ◌∙◌, subst, inl, inr, codes, arith}
+use Rattle.std.specs.Prelude.{◌&&◌, bytes_eq, drop, is_none, not, slice_get, take}
 use Rattle.std.specs.List.{AllByRecursion, Contains, IsDistinct, flat_map, list_all, list_any}
 use Rattle.std.proofs.lemmas.Bool.{and_parts, true≢false}
+use Rattle.std.proofs.lemmas.List.{append-nil, length-append}
 use Rattle.implib.specs.declared.machine.MachineType.TheVariants.{AMD64, I386}
 use Rattle.implib.specs.Formats.Layout.{encoded_size}
 use Rattle.implib.specs.Formats.Object.{Object, object_in}
@@ -14,14 +15,15 @@ use Rattle.implib.proofs.Link.Ranges.{Among}
 use Rattle.implib_link.specs.Gnu.Program.{ClaimsNone, HaveSame}
 use Rattle.implib_link.specs.Search.Archives.{archive_of, is_weak, symbols_of_library}
 use Rattle.implib_link.specs.Search.Closed.{PullsIntoAs, claims_of, listed_in, references_of, unresolved}
-use Rattle.implib_link.specs.Search.CommandLines.{AreListedWhole, AreRounds, AreSwept, AreTakenBehind, AreUnclaimedBehind, HaveAll, IsOrdered, LldSearches, LldSearchesFrom, SearchesCommandLine, SearchesFrom, given_with}
+use Rattle.implib_link.specs.Search.CommandLines.{AreListedWhole, AreRounds, AreSwept, AreTakenBehind, AreUnclaimedBehind, Archives, HaveAll, IsOrdered, IsSwept, LldSearches, LldSearchesFrom, SearchesCommandLine, SearchesFrom, given_with}
 use Rattle.implib_link.specs.Search.Given.{AreGiven, symbols_kept, wanted_at_most}
 use Rattle.implib_link.specs.Search.Search.{claimed_as, first_listed, objects_as, undefined_in}
-use Rattle.implib_link.specs.Search.Sweeps.{members_at, sweeps, swept}
-use Rattle.implib_link.proofs.Search.CommandLines.{gnu_searches, takes_alike}
+use Rattle.implib_link.specs.Search.Sweeps.{IndexEntry, index_at, members_at, sweeps, swept}
+use Rattle.implib_link.proofs.Search.CommandLines.{gnu_searches, searches_keep, takes_alike}
 use Rattle.implib_link.proofs.Search.Lists.{among_any, any_among, contains_among}
-use Rattle.implib_link_instances.specs.Worked.CommandLines.{WorkedCommandLine, WorkedCommandLines, WorkedLibraries, all_taken, amd64_members, i386_members, i386_wants_bytes, in_group, is_quit, kernel_on, library_first, library_last, library_twice, of_kernel, of_quit, read_or_none, wants_bytes}
+use Rattle.implib_link_instances.specs.Worked.CommandLines.{NearIsClosedOver, NearIsGroupSearched, NearIsSwept, NearSearchesLibraries, RefusedCommandLines, WorkedCommandLine, WorkedCommandLines, WorkedLibraries, all_taken, amd64_members, i386_members, i386_wants_bytes, in_group, is_quit, kernel_on, library_first, library_last, library_twice, of_kernel, of_quit, read_or_none, wants_bytes}
 use Rattle.implib_link_instances.specs.Worked.Programs.{code_object}
+use Rattle.implib_link_instances.proofs.Worked.RefusedLinks.{differ}
 use Rattle.implib_link_instances.proofs.Worked.Programs.{claims_none_by, distinct_by, opened}
 
 -- a member that claims what it is listed for, by computing
@@ -36,6 +38,10 @@ abbrev object_at : List Object → ℕ → Object
 object_at [] n = code_object []
 object_at (o ∷ objects) zero = o
 object_at (o ∷ objects) (suc n) = object_at objects n
+
+abbrev first_byte : List ℕ → ℕ
+first_byte [] = 0
+first_byte (byte ∷ bytes) = byte
 
 abbrev first_of : List (List ℕ) → List ℕ
 first_of [] = []
@@ -310,3 +316,114 @@ i386_libraries = record {
 
 pub worked_command_lines : WorkedCommandLines
 worked_command_lines = record { amd64 = line; i386 = i386_line; libraries = libraries; i386_libraries = i386_libraries }
+
+-- Near misses.
+
+-- where a sweep takes nothing, none does
+still : (archive : List MemberView) (objects : List Object) (index : List IndexEntry) (numbers : List ℕ) → swept object_in archive objects index numbers ≡ numbers → (count : ℕ) → sweeps object_in archive objects index count numbers ≡ numbers
+unfolding sweeps
+still archive objects index numbers is zero = refl
+still archive objects index numbers is (suc count) =
+    ap (sweeps object_in archive objects index count) is ∙ still archive objects index numbers is count
+
+no_sweep : swept object_in amd64_members own (index_at amd64_members of_kernel) [] ≡ []
+unfolding opened alias_specs encoded_size swept references_of claims_of undefined_in
+no_sweep = refl
+
+swept_nothing : (after : List ℕ) → IsSwept object_in amd64_members own of_kernel [] after → after ≡ []
+swept_nothing after is = sym (sym (still amd64_members own (index_at amd64_members of_kernel) [] no_sweep is.count) ∙ is.taken)
+
+rounds_of_nothing : (count : ℕ) (after : List ℕ) → AreRounds object_in amd64_members own (of_kernel ∷ []) count [] after → after ≡ []
+unfolding AreRounds AreSwept
+rounds_of_nothing zero after is = sym is
+rounds_of_nothing (suc count) after (between, (first, is, same), later) =
+    let none : between ≡ [] = sym same ∙ swept_nothing first is in
+    rounds_of_nothing count after (subst (λ ns. AreRounds object_in amd64_members own (of_kernel ∷ []) count ns after) none later)
+
+four_are_none : all_taken ≡ [] → ⊥
+four_are_none is = differ 0 4 (sym (ap length is)) (omega arith)
+
+pub near_is_swept : NearIsSwept
+unfolding opened alias_specs encoded_size swept references_of claims_of undefined_in
+near_is_swept = record {
+  taken = λ is. four_are_none (swept_nothing all_taken is);
+  ended = λ is. differ 2 3 (sym (ap length is.ended)) (omega arith);
+}
+
+pub near_is_group_searched : NearIsGroupSearched
+unfolding opened alias_specs encoded_size swept references_of claims_of undefined_in
+near_is_group_searched = record {
+  taken = λ is. four_are_none (rounds_of_nothing is.rounds all_taken is.taken);
+  ended = λ is. differ 1 2 (sym (ap length is.ended.0)) (omega arith);
+}
+
+-- the first member that is taken is pulled in by a name that the objects leave
+first_pulled : (archive : List MemberView) (objects : List Object) (taken : List MemberView) (m : MemberView) → AreTakenBehind object_in archive objects [] (taken ++ m ∷ []) → (name : List ℕ) × PullsIntoAs object_in archive objects [] name m
+unfolding AreTakenBehind
+first_pulled archive objects [] m is = is.0
+first_pulled archive objects (x ∷ taken) m is = first_pulled archive objects taken m is.1
+
+no_pull : (name : List ℕ) (m : MemberView) → PullsIntoAs object_in (kernel_on AMD64 (codes "ExitProcess")).members own [] name m → ⊥
+unfolding opened alias_specs encoded_size references_of claims_of undefined_in
+no_pull = ended_by (kernel_on AMD64 (codes "ExitProcess")).members own [] refl
+
+pub near_is_closed_over : NearIsClosedOver
+unfolding opened alias_specs encoded_size references_of claims_of undefined_in
+near_is_closed_over = record {
+  taken = λ is. differ 0 (length is.more + 4) (sym (ap length is.taken) ∙ length-append is.more amd64_members) (omega arith);
+  in_turn = λ is.
+      let all : is.more ≡ (kernel_on AMD64 (codes "ExitProcess")).members = sym (append-nil is.more) ∙ is.taken in
+      let turn : AreTakenBehind object_in (kernel_on AMD64 (codes "ExitProcess")).members own [] (kernel_on AMD64 (codes "ExitProcess")).members =
+      subst (AreTakenBehind object_in (kernel_on AMD64 (codes "ExitProcess")).members own []) all is.in_turn in
+      let pulled = first_pulled (kernel_on AMD64 (codes "ExitProcess")).members own (take 2 amd64_members) (member_or_none (slice_get amd64_members 2)) turn in
+      no_pull pulled.0 (member_or_none (slice_get amd64_members 2)) pulled.1;
+  ended = λ is. is.ended (codes "quit") (member_or_none (slice_get amd64_members 3)) (pulls_by amd64_members own [] (codes "quit") (member_or_none (slice_get amd64_members 3)) refl refl refl);
+}
+
+-- what is taken in the end is nothing, so nothing was
+nothing_before : (between : List ℕ) → ((n : ℕ) → Among n between → Among n []) → between ≡ []
+unfolding Among
+nothing_before [] none = refl
+nothing_before (n ∷ between) none = absurd (none n (inl refl))
+
+pub near_searches_libraries : NearSearchesLibraries
+unfolding opened alias_specs encoded_size IsDistinct claimed_as swept references_of claims_of undefined_in IsOrdered AreUnclaimedBehind SearchesFrom archive_of Among
+near_searches_libraries = record {
+  libraries_are = λ x. differ 0 3 (sym (ap length x.libraries_are)) (omega arith);
+  distinct = λ x. true≢false x.distinct.1.1.1.1.0.0;
+  unclaimed = λ x. true≢false x.unclaimed.1.1.1.0.0.0;
+  ordered = λ x. unordered x.ordered;
+  whole = λ x. not_quit (contains_among (codes "more") (codes "quit" ∷ []) ((x.whole.1.1.1.0 (codes "more")).1 (among_contains (codes "more") (codes "quit" ∷ codes "more" ∷ []) (inr (inl refl)))));
+  searches = λ x.
+      let s = x.searches in
+      let later = searches_keep object_in amd64_members own (Archives (of_kernel ∷ []) ∷ []) s.0 [] s.2 in
+      let none : s.0 ≡ [] = nothing_before s.0 (λ n. (later n).0) in
+      differ 0 1 (sym (ap length (subst (λ ns. swept object_in amd64_members own (index_at amd64_members of_quit) ns ≡ ns) none s.1.ended.0))) (omega arith);
+}
+  where
+    not_quit : Among (codes "more") (codes "quit" ∷ []) → ⊥
+    not_quit (inl is) = differ 109 113 (ap first_byte is) (omega arith)
+    not_quit (inr none) = absurd none
+
+pub refused_command_lines : RefusedCommandLines
+unfolding opened alias_specs encoded_size claimed_as AreUnclaimedBehind Among
+refused_command_lines = record {
+  unclaimed = λ x. true≢false x.1.0.0.0;
+  claimed_before = ((tt, tt), (tt, tt));
+  all = λ x. three_names (contains_among (member_or_none (slice_get amd64_members 3)) (kernel_on AMD64 (codes "ExitProcess")).members
+      (x (member_or_none (slice_get amd64_members 3)) (among_contains (member_or_none (slice_get amd64_members 3)) amd64_members (inr (inr (inr (inl refl)))))));
+  whole = λ x. other (contains_among (codes "more") (codes "quit" ∷ []) ((x.0 (codes "more")).1 (among_contains (codes "more") (codes "more" ∷ []) (inl refl))));
+}
+  where
+    other : Among (codes "more") (codes "quit" ∷ []) → ⊥
+    other (inl is) = differ 109 113 (ap first_byte is) (omega arith)
+    other (inr none) = absurd none
+
+    first_of_name : MemberView → ℕ
+    first_of_name m = first_byte m.name
+
+    three_names : Among (member_or_none (slice_get amd64_members 3)) (kernel_on AMD64 (codes "ExitProcess")).members → ⊥
+    three_names (inl is) = differ 107 113 (sym (ap first_of_name is)) (omega arith)
+    three_names (inr (inl is)) = differ 107 113 (sym (ap first_of_name is)) (omega arith)
+    three_names (inr (inr (inl is))) = differ 107 113 (sym (ap first_of_name is)) (omega arith)
+    three_names (inr (inr (inr none))) = absurd none

@@ -187,3 +187,55 @@ pub record WorkedCommandLines : Type 0 where
   pub i386 : WorkedCommandLine i386_members (read_or_none i386_wants_bytes) (codes "_ExitProcess@4")
   pub libraries : WorkedLibraries AMD64 (kernel_on AMD64 (codes "ExitProcess")) amd64_members (read_or_none wants_bytes)
   pub i386_libraries : WorkedLibraries I386 (kernel_on I386 (codes "_ExitProcess@4")) i386_members (read_or_none i386_wants_bytes)
+
+-- Near misses, on AMD64.
+
+abbrev pub wanting_own : List Object
+wanting_own = read_or_none wants_bytes
+
+-- nothing is due, and more is said to be taken; a sweep less than it takes
+pub record NearIsSwept : Type 0 where
+  pub taken : IsSwept object_in amd64_members wanting_own of_kernel [] all_taken → ⊥
+  pub ended : IsSwept object_in amd64_members wanting_own of_kernel of_quit (2 ∷ 3 ∷ []) → ⊥
+
+-- the same of a group; a round less
+pub record NearIsGroupSearched : Type 0 where
+  pub taken : IsGroupSearched object_in amd64_members wanting_own (of_kernel ∷ []) [] all_taken → ⊥
+  pub ended : IsGroupSearched object_in amd64_members wanting_own (of_kernel ∷ of_quit ∷ []) [] of_quit → ⊥
+
+-- a member is lost again; members that no name pulls in; one that a name does
+pub record NearIsClosedOver : Type 0 where
+  pub taken : IsClosedOver object_in amd64_members [] amd64_members [] → ⊥
+  pub in_turn : IsClosedOver object_in (kernel_on AMD64 (codes "ExitProcess")).members wanting_own []
+      (kernel_on AMD64 (codes "ExitProcess")).members → ⊥
+  pub ended : IsClosedOver object_in amd64_members wanting_own [] [] → ⊥
+
+-- an object that claims `quit`
+abbrev pub quitting : Object
+quitting = code_object (symbol_of_class (codes "quit") 1 class_external ∷ [])
+
+-- a command line of libraries, but for one thing: there are no libraries; the archive's member is there twice; an object behind
+-- the archive claims its name; the library is first; the member is listed for a name more; it is not taken
+pub record NearSearchesLibraries : Type 0 where
+  pub libraries_are : SearchesLibraries AMD64 [] amd64_members (library_last wanting_own) is_quit all_taken → ⊥
+  pub distinct : SearchesLibraries AMD64 (kernel_on AMD64 (codes "ExitProcess") ∷ [])
+      (amd64_members ++ quit_member (codes "quit") quit_bytes ∷ [])
+      (inputs_of wanting_own ++ Archives ((3 ∷ 4 ∷ []) ∷ []) ∷ Archives (of_kernel ∷ []) ∷ []) is_quit all_taken → ⊥
+  pub unclaimed : SearchesLibraries AMD64 (kernel_on AMD64 (codes "ExitProcess") ∷ []) amd64_members
+      (library_last wanting_own ++ AnObject quitting ∷ []) is_quit all_taken → ⊥
+  pub ordered : SearchesLibraries AMD64 (kernel_on AMD64 (codes "ExitProcess") ∷ []) amd64_members
+      (library_first wanting_own) is_quit of_quit → ⊥
+  pub whole : SearchesLibraries AMD64 (kernel_on AMD64 (codes "ExitProcess") ∷ [])
+      ((kernel_on AMD64 (codes "ExitProcess")).members
+      ++ record { name = codes "quit.o"; bytes = quit_bytes; symbols = codes "quit" ∷ codes "more" ∷ [] } ∷ [])
+      (library_last wanting_own) is_quit all_taken → ⊥
+  pub searches : SearchesLibraries AMD64 (kernel_on AMD64 (codes "ExitProcess") ∷ []) amd64_members
+      (library_last wanting_own) is_quit [] → ⊥
+
+-- Predicates: an object behind an archive that claims its name; an archive that no input has; a member that is listed for a
+-- name less than it claims. That an order is refused is in the worked rows.
+pub record RefusedCommandLines : Type 0 where
+  pub unclaimed : AreUnclaimedBehind amd64_members [] (Archives (of_quit ∷ []) ∷ AnObject quitting ∷ []) → ⊥
+  pub claimed_before : AreUnclaimedBehind amd64_members [] (AnObject quitting ∷ Archives (of_quit ∷ []) ∷ [])
+  pub all : HaveAll amd64_members (inputs_of wanting_own ++ Archives (of_kernel ∷ []) ∷ []) → ⊥
+  pub whole : AreListedWhole object_in (quit_member (codes "more") quit_bytes ∷ []) → ⊥

@@ -1,9 +1,20 @@
 //! Command lines of an object, a library and an archive, by GNU `ld`, ld.lld and lld-link.
 
-ghost use Rattle.implib_link_instances.specs.Worked.CommandLines.{WorkedCommandLines};
+ghost use Rattle.implib_link_instances.specs.Worked.CommandLines.{NearIsClosedOver, NearIsGroupSearched};
+ghost use Rattle.implib_link_instances.specs.Worked.CommandLines.{NearIsSwept, NearSearchesLibraries};
+ghost use Rattle.implib_link_instances.specs.Worked.CommandLines.{RefusedCommandLines, WorkedCommandLines};
 
 /// On AMD64 and I386: GNU `ld` loses an import where the library is in front of the archive that wants
 /// it, and lld does not; in the other order, in a group and with the library twice both take all.
 pub fn worked_command_lines()
-    ensures { WorkedCommandLines }
+    ensures worked { WorkedCommandLines }
+    ensures refused { RefusedCommandLines }
+{}
+
+/// A search that takes what it does not, or ends too soon, and command lines that are asked too little of.
+pub fn near_command_lines()
+    ensures swept { NearIsSwept }
+    ensures groups { NearIsGroupSearched }
+    ensures by_lld { NearIsClosedOver }
+    ensures libraries { NearSearchesLibraries }
 {}
