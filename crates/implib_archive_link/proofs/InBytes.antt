@@ -47,7 +47,7 @@ rising_among place (s ∷ parts) =
     let next = place + (60 + length s.contents + length s.contents % 2) in
     rising_name (name_in s.field) place next (headers_among next parts) (omega arith) (rising_among next parts)
 
-rising_headers : (bytes headers : List ℕ) → headers_in bytes ≡ Some headers → AreRising 8 headers
+pub rising_headers : (bytes headers : List ℕ) → headers_in bytes ≡ Some headers → AreRising 8 headers
 unfolding headers_in
 rising_headers bytes headers found = by_parts (stored_in bytes) found
   where

@@ -3,3 +3,4 @@ pub mod Results
 pub mod Way
 pub mod LldWay
 pub mod BothWay
+pub mod Files

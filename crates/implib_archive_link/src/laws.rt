@@ -9,8 +9,12 @@ ghost use Rattle.implib.specs.Members.Members.{AreMembersOf};
 ghost use Rattle.implib.specs.Members.MsvcObjects.{descriptor_symbol};
 ghost use Rattle.implib.specs.declared.flavor.Flavor.TheVariants.{Gnu, Msvc};
 ghost use Rattle.implib.specs.declared.machine.MachineType.{MachineType};
+ghost use Rattle.implib_archive.specs.Archive.{archive_of as archive_bytes};
+ghost use Rattle.implib_archive.specs.Refusal.{refusal_of};
+ghost use Rattle.implib_archive.specs.declared.kind.Kind.TheVariants.{Gnu as GnuKind};
 ghost use Rattle.implib_archive.specs.declared.kind.Kind.{Kind};
 ghost use Rattle.implib_archive_link.specs.BothWay.{AreLinkedForBoth, BothArrive};
+ghost use Rattle.implib_archive_link.specs.Files.{HasMembers};
 ghost use Rattle.implib_archive_link.specs.InBytes.{LinkerMember, asks_for, asks_on, asks_with};
 ghost use Rattle.implib_archive_link.specs.InBytes.{asks_with_on};
 ghost use Rattle.implib_archive_link.specs.LldWay.{AreCalledAlike, LldArrives, asks_of_lld};
@@ -32,7 +36,7 @@ ghost use Rattle.implib_link.specs.Search.Search.{NamesNoHeadOrTail, exports_wan
 ghost use Rattle.implib_link.specs.Gnu.Program.{HaveSame};
 ghost use Rattle.implib_link.specs.Search.Search.{linked_if_any, names_undefined};
 ghost use Rattle.std.specs.List.{AllByRecursion, IsDistinct, flat_map};
-ghost use Rattle.std.specs.Prelude.{◌≡◌, ◌<◌, ◌++◌, ℕ, List, bytes_eq, length};
+ghost use Rattle.std.specs.Prelude.{◌≡◌, ◌<◌, ◌++◌, ℕ, List, None, bytes_eq, length};
 
 /// The bytes of the archive of members are an archive in the sense of searches: a name leads to the
 /// first member that it is listed for, by either linker member; what a linker takes in the bytes
@@ -42,6 +46,15 @@ pub fn archives_are_searched()
         HaveArchive kind linker members → AreSearched kind linker members }
     ensures list { (kind : Kind) (linker : LinkerMember) (members : List MemberView) →
         HaveArchive kind linker members → AreFoundInBytes kind linker members }
+{}
+
+/// The bytes of an archive of the GNU kind have its members, with the symbols of each in the order of
+/// the index: what a linker finds in the files of a command line are the members that the laws of
+/// command lines speak of. Some member lists a symbol.
+pub fn archives_have_their_members()
+    ensures { (members : List MemberView) → refusal_of GnuKind members ≡ None →
+        0 < length (flat_map (λ m. m.symbols) members) →
+        HasMembers (archive_bytes GnuKind members) members }
 {}
 
 /// A search in the bytes comes to an end, whichever name the linker takes up first: for any names,

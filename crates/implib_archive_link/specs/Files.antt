@@ -1,0 +1,43 @@
+-- The members of an archive of the GNU kind, as a linker finds them in its bytes: after each header a name and bytes, and the
+-- symbols that the first linker member leads there. By them the laws of searches and of command lines hold of archives' bytes.
+use Rattle.std.specs.Prelude.{◌≡◌, ℕ, ◌==◌, List, [], ◌∷◌, ◌++◌, Option, Some, None, map, unwrap_or}
+use Rattle.std.specs.List.{filter, filter_map}
+use Rattle.std.specs.Option.{option_map}
+use Rattle.implib.specs.Members.MemberSpec.{MemberView}
+use Rattle.implib_archive.specs.Leads.{headers_in}
+use Rattle.implib_archive.specs.Reader.{first_in, member_at}
+use Rattle.implib_archive.specs.declared.kind.Kind.TheVariants.{Gnu}
+
+-- the entries of the first linker member: symbols, and the offsets of headers
+unfoldable pub entries_in : List ℕ → List (List ℕ × ℕ)
+entries_in bytes = unwrap_or (first_in bytes) []
+
+-- the symbols that entries lead to a header
+unfoldable pub symbols_at : List (List ℕ × ℕ) → ℕ → List (List ℕ)
+symbols_at entries header = map (λ e. e.0) (filter (λ e. e.1 == header) entries)
+
+-- the member after a header
+unfoldable pub member_after : List ℕ → ℕ → Option MemberView
+member_after bytes header = option_map
+    (λ r. record { name = r.name; bytes = r.bytes; symbols = symbols_at (entries_in bytes) header })
+    (member_at Gnu bytes header)
+
+-- the members in an archive, in the order of their headers
+unfoldable pub members_read : List ℕ → List MemberView
+members_read bytes = filter_map (member_after bytes) (unwrap_or (headers_in bytes) [])
+
+-- the entries of members after these headers, in their order
+unfoldable pub entries_by : List ℕ → List MemberView → List (List ℕ × ℕ)
+entries_by [] members = []
+entries_by (header ∷ headers) [] = []
+entries_by (header ∷ headers) (m ∷ members) =
+    map (λ symbol. (symbol, header)) m.symbols ++ entries_by headers members
+
+-- An archive's bytes have members:
+-- `read`: these are in it, and no others;
+-- `ordered`: and its index has their symbols in their order, as searches sweep them.
+pub record HasMembers (bytes : List ℕ) (members : List MemberView) : Type 0 where
+  pub headers : List ℕ
+  pub located : headers_in bytes ≡ Some headers
+  pub read : members_read bytes ≡ members
+  pub ordered : entries_in bytes ≡ entries_by headers members
