@@ -5,3 +5,4 @@ pub mod WorkedLldWay
 pub mod WorkedBothWay
 pub mod NearMisses
 pub mod NearBothWay
+pub mod Files

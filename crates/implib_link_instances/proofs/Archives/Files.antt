@@ -1,0 +1,43 @@
+-- The archives that were read by hand, by computing.
+use Rattle.std.proofs.Common.{◌≡◌, ℕ, List, [], ◌∷◌, Option, None, Some, refl, ap, sym, ◌∙◌, subst, codes, length, arith}
+use Rattle.implib_archive.specs.Leads.{headers_among, headers_in, with_header}
+use Rattle.implib_archive.specs.Reader.{data_at, first_in, linker_data, linker_in, long_name, long_name_at, long_names_in, long_names_or, member_at, name_in, number_in, numbers_in, paired, read_as, stored_at, stored_from, stored_in, texts_in, trimmed}
+use Rattle.implib_archive_link.specs.Files.{HasMembers, entries_by, entries_in, member_after, members_read, symbols_at}
+use Rattle.implib_link_instances.specs.Archives.Files.{NearHasMembers, WorkedFiles, reversed, two_members}
+use Rattle.implib_link_instances.proofs.Worked.RefusedLinks.{differ}
+
+-- what the computing has to open
+unfoldable opened_files : Unit {0}
+unfolding headers_among headers_in with_header data_at first_in linker_data linker_in long_name long_name_at long_names_in long_names_or member_at name_in number_in numbers_in paired read_as stored_at stored_from stored_in texts_in trimmed entries_by entries_in member_after members_read symbols_at
+opened_files = tt
+
+pub worked_files : WorkedFiles
+unfolding opened_files
+worked_files = record {
+  amd64 = record { headers = 82 ∷ []; located = refl; read = refl; ordered = refl };
+  i386 = record { headers = 82 ∷ []; located = refl; read = refl; ordered = refl };
+}
+
+abbrev first_byte : List ℕ → ℕ
+first_byte [] = 0
+first_byte (byte ∷ bytes) = byte
+
+abbrev first_byte_of : List (List ℕ × ℕ) → ℕ
+first_byte_of [] = 0
+first_byte_of (e ∷ entries) = first_byte e.0
+
+pub near_has_members : NearHasMembers
+unfolding opened_files
+near_has_members = record {
+  located = λ has. nowhere has.headers has.located;
+  read = λ has. differ 0 1 (sym (ap length has.read)) (omega arith);
+  ordered = λ has.
+      let same : has.headers ≡ 84 ∷ 146 ∷ [] = sym (these (84 ∷ 146 ∷ []) has.headers has.located) in
+      differ 120 121 (sym (ap first_byte_of (has.ordered ∙ ap (λ headers. entries_by headers two_members) same))) (omega arith);
+}
+  where
+    nowhere : (headers : List ℕ) → ◌≡◌ {A = Option (List ℕ)} None (Some headers) → ⊥
+    nowhere headers is = cc
+
+    these : (xs ys : List ℕ) → ◌≡◌ {A = Option (List ℕ)} (Some xs) (Some ys) → xs ≡ ys
+    these xs ys is = cc
