@@ -1,6 +1,6 @@
 -- The whole way, by the laws on it.
-use Rattle.std.proofs.Common.{◌+◌, ◌*◌, List, ap, map, ◌∙◌}
-use Rattle.std.specs.List.{AllByRecursion}
+use Rattle.std.proofs.Common.{ℕ, ◌+◌, ◌*◌, Bool, List, ap, map, ◌∙◌}
+use Rattle.std.specs.List.{AllByRecursion, flat_map}
 use Rattle.implib.specs.declared.machine.MachineType.{MachineType}
 use Rattle.implib.specs.Formats.Object.{Object, object_in}
 use Rattle.implib.specs.Link.LinkedMembers.{LinkInput}
@@ -8,6 +8,7 @@ use Rattle.implib.specs.Link.Placement.{Bases}
 use Rattle.implib.specs.Members.ImportTables.{thunk_width}
 use Rattle.implib.specs.Members.MemberSpec.{MemberView}
 use Rattle.implib_archive.specs.declared.kind.Kind.{Kind}
+use Rattle.implib_archive_link.specs.Files.{members_read}
 use Rattle.implib_archive_link.specs.InBytes.{LinkerMember, asks_with}
 use Rattle.implib_archive_link.specs.Results.{HaveArchive, TakesJust}
 use Rattle.implib_archive_link.specs.Way.{CallsArrive}
@@ -15,7 +16,10 @@ use Rattle.implib_archive_link.proofs.Corollaries.{given_taken}
 use Rattle.implib_archive_link.proofs.InBytes.{takes_just}
 use Rattle.implib_link.specs.Search.Archives.{IsArchive, Library, archive_of}
 use Rattle.implib_link.specs.Search.Closed.{AreLinkedFor, LinksClosed, TakesInto, inputs_in, wanted_in}
+use Rattle.implib_link.specs.Search.CommandLines.{Input, SearchesLibraries, given_with, objects_given, others_of}
 use Rattle.implib_link.specs.Search.Given.{AreGiven}
+use Rattle.implib_link.specs.Search.Sweeps.{members_at}
+use Rattle.implib_link.proofs.Search.CommandLines.{of_libraries}
 use Rattle.implib_link.proofs.Flavors.Steady.{program_tables_none}
 use Rattle.implib_link.proofs.Flavors.GnuPrograms.{gnu_made}
 use Rattle.implib_link.specs.Flavors.Program.{FlavorInput, IsMadeFor, OfLinker, gnu_input, thunks_of}
@@ -62,3 +66,14 @@ bytes_lead_to_calls kind linker machine libraries own ready archive given =
     takes_just kind linker (archive_of libraries) (asks_with own)
     (λ taken. (arranged : List Library) (bases : Bases) (objects : List Object) → AreLinkedFor machine libraries own taken arranged bases objects → CallsArrive machine libraries own taken arranged bases objects) ready
     (λ taken takes arranged bases objects linked. calls_arrive machine libraries own taken arranged bases objects archive given (given_taken object_in (archive_of libraries) own taken takes) linked)
+
+-- The files of a command line.
+pub files_lead_to_calls : (machine : MachineType) (libraries : List Library) (files : List (List ℕ)) (inputs : List Input) (is_given : MemberView → Bool) (taken : List ℕ) (arranged : List Library) (bases : Bases) (objects : List Object) →
+    SearchesLibraries machine libraries (flat_map members_read files) inputs is_given taken → IsArchive machine libraries →
+    AreGiven machine libraries (given_with object_in is_given (objects_given inputs) (members_at (flat_map members_read files) taken)) →
+    AreLinkedFor machine libraries (given_with object_in is_given (objects_given inputs) (members_at (flat_map members_read files) taken)) (others_of is_given (members_at (flat_map members_read files) taken)) arranged bases objects →
+    CallsArrive machine libraries (given_with object_in is_given (objects_given inputs) (members_at (flat_map members_read files) taken)) (others_of is_given (members_at (flat_map members_read files) taken)) arranged bases objects
+files_lead_to_calls machine libraries files inputs is_given taken arranged bases objects searches archive given linked =
+    let members = flat_map members_read files in
+    calls_arrive machine libraries (given_with object_in is_given (objects_given inputs) (members_at members taken)) (others_of is_given (members_at members taken)) arranged bases objects archive given
+    (of_libraries machine libraries members inputs is_given taken searches) linked

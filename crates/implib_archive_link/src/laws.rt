@@ -1,7 +1,7 @@
 //! Laws of archive search in bytes. The functions do nothing: their contracts are the laws.
 
 ghost use Rattle.implib.specs.Definition.{DefinitionView};
-ghost use Rattle.implib.specs.Formats.Object.{Object};
+ghost use Rattle.implib.specs.Formats.Object.{Object, object_in};
 ghost use Rattle.implib.specs.Link.Placement.{Bases};
 ghost use Rattle.implib.specs.LibraryName.{linked_dll, linked_name};
 ghost use Rattle.implib.specs.Members.MemberSpec.{MemberView};
@@ -14,7 +14,7 @@ ghost use Rattle.implib_archive.specs.Refusal.{refusal_of};
 ghost use Rattle.implib_archive.specs.declared.kind.Kind.TheVariants.{Gnu as GnuKind};
 ghost use Rattle.implib_archive.specs.declared.kind.Kind.{Kind};
 ghost use Rattle.implib_archive_link.specs.BothWay.{AreLinkedForBoth, BothArrive};
-ghost use Rattle.implib_archive_link.specs.Files.{HasMembers};
+ghost use Rattle.implib_archive_link.specs.Files.{HasMembers, members_read};
 ghost use Rattle.implib_archive_link.specs.InBytes.{LinkerMember, asks_for, asks_on, asks_with};
 ghost use Rattle.implib_archive_link.specs.InBytes.{asks_with_on};
 ghost use Rattle.implib_archive_link.specs.LldWay.{AreCalledAlike, LldArrives, asks_of_lld};
@@ -29,14 +29,17 @@ ghost use Rattle.implib_link.specs.Search.BothFlavors.{AreGivenForBoth, FlavorLi
 ghost use Rattle.implib_link.specs.Search.BothFlavors.{IsFlavorArchive, archive_of_both, msvc_among};
 ghost use Rattle.implib_link.specs.Search.Closed.{AreLinkedFor, LinksClosed, listed_in, unresolved};
 ghost use Rattle.implib_link.specs.Search.Closed.{wanted_in};
+ghost use Rattle.implib_link.specs.Search.CommandLines.{Input, SearchesLibraries, given_with};
+ghost use Rattle.implib_link.specs.Search.CommandLines.{objects_given, others_of};
 ghost use Rattle.implib_link.specs.Search.Given.{AreGiven};
+ghost use Rattle.implib_link.specs.Search.Sweeps.{members_at};
 ghost use Rattle.implib_link.specs.Search.Msvc.{NamesNoHeader, msvc_if_any, shorts_wanted};
 ghost use Rattle.implib_link.specs.Search.MsvcArchives.{IsMsvcArchive, short_inputs};
 ghost use Rattle.implib_link.specs.Search.Search.{NamesNoHeadOrTail, exports_wanted};
 ghost use Rattle.implib_link.specs.Gnu.Program.{HaveSame};
 ghost use Rattle.implib_link.specs.Search.Search.{linked_if_any, names_undefined};
 ghost use Rattle.std.specs.List.{AllByRecursion, IsDistinct, flat_map};
-ghost use Rattle.std.specs.Prelude.{◌≡◌, ◌<◌, ◌++◌, ℕ, List, None, bytes_eq, length};
+ghost use Rattle.std.specs.Prelude.{◌≡◌, ◌<◌, ◌++◌, ℕ, Bool, List, None, bytes_eq, length};
 
 /// The bytes of the archive of members are an archive in the sense of searches: a name leads to the
 /// first member that it is listed for, by either linker member; what a linker takes in the bytes
@@ -157,6 +160,31 @@ pub fn bytes_lead_to_calls()
         (λ taken. (arranged : List Library) (bases : Bases) (objects : List Object) →
         AreLinkedFor machine libraries own taken arranged bases objects →
         CallsArrive machine libraries own taken arranged bases objects) }
+{}
+
+/// The whole way for GNU's linker, of the files of a command line: what it takes in the order of the
+/// command line, of archives of libraries and of anything else, for the given objects, closes the
+/// program; and in the memory that a loader leaves each call through an import's `__imp_` symbol goes
+/// to what the DLL gives.
+pub fn files_lead_to_calls()
+    ensures { (machine : MachineType) (libraries : List Library) (files : List (List ℕ))
+        (inputs : List Input) (is_given : MemberView → Bool) (taken : List ℕ)
+        (arranged : List Library) (bases : Bases) (objects : List Object) →
+        SearchesLibraries machine libraries (flat_map members_read files) inputs is_given taken →
+        IsArchive machine libraries →
+        AreGiven machine libraries
+        (given_with object_in is_given (objects_given inputs)
+        (members_at (flat_map members_read files) taken)) →
+        AreLinkedFor machine libraries
+        (given_with object_in is_given (objects_given inputs)
+        (members_at (flat_map members_read files) taken))
+        (others_of is_given (members_at (flat_map members_read files) taken))
+        arranged bases objects →
+        CallsArrive machine libraries
+        (given_with object_in is_given (objects_given inputs)
+        (members_at (flat_map members_read files) taken))
+        (others_of is_given (members_at (flat_map members_read files) taken))
+        arranged bases objects }
 {}
 
 /// The whole way for lld: in the bytes of an archive of libraries for Microsoft's linker lld takes

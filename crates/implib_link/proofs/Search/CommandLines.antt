@@ -679,7 +679,7 @@ module _ (reads : List ℕ → Option Object) (members : List MemberView) where
 -- GNU `ld`'s command lines of libraries and of anything else.
 
 module _ (machine : MachineType) (libraries : List Library) (members : List MemberView) (inputs : List Input) (is_given : MemberView → Bool) (taken : List ℕ) (s : SearchesLibraries machine libraries members inputs is_given taken) where
-  of_libraries : TakesInto (archive_of libraries) (given_with object_in is_given (objects_given inputs) (members_at members taken)) (others_of is_given (members_at members taken))
+  pub of_libraries : TakesInto (archive_of libraries) (given_with object_in is_given (objects_given inputs) (members_at members taken)) (others_of is_given (members_at members taken))
   of_libraries =
       subst (λ archive. TakesIntoAs object_in archive (given_with object_in is_given (objects_given inputs) (members_at members taken)) (others_of is_given (members_at members taken))) s.libraries_are
       (taken_as_given object_in members (objects_given inputs) s.distinct s.whole is_given (members_at members taken)
