@@ -1,9 +1,9 @@
 //! What is answered to a case: line by line.
 
-use crate::callers::answer_calls;
-use crate::files::{Files, answer_expand, answer_search, files_of};
-use crate::linking::{State, answer_linked, link};
-use crate::loading::answer_loaded;
+use super::callers::answer_calls;
+use super::files::{Files, answer_expand, answer_search, files_of};
+use super::linking::{State, answer_linked, link};
+use super::loading::answer_loaded;
 use implib_cases::{Case, Line};
 use std::alloc::Global;
 use std::test::Fail;

@@ -5,9 +5,9 @@
 //! an entry; `code 16`, the address of a stub; `relative 0`, the same of an entry, counted from the
 //! image's base.
 
-use crate::linking::State;
-use crate::loading::giver;
-use crate::objects::{template_and_symbol, template_of};
+use super::linking::State;
+use super::loading::giver;
+use super::objects::{template_and_symbol, template_of};
 use implib_cases::{Case, Line, numbers_in};
 use implib_test_linker::{Flaw, Memory};
 use std::alloc::Global;

@@ -1,8 +1,9 @@
 //! What is answered to a case.
 
-use crate::definitions::members_of;
-use crate::readings::show_members;
-use crate::stored::compare;
+use super::definitions::members_of;
+use super::linkers::answer_linkers;
+use super::readings::show_members;
+use super::stored::compare;
 use implib::{Fault, Flavor, MachineType, Member};
 use implib_cases::{Case, numbers_in, push_bytes};
 use std::alloc::{AllocError, Global};
@@ -19,7 +20,7 @@ pub fn answered(alloc: Global, case: &Case) -> Result<String, Fail> {
             "bytes" => answer_bytes(alloc, &mut text, case, machine, line.rest)?,
             "compare" => answer_compare(alloc, &mut text, case, machine, line.rest)?,
             word if is_of_case(word) => {}
-            word => return Err(Fail::new(format_args!("{word} is no word of a case"))),
+            word => answer_linkers(alloc, &mut text, case, machine, word)?,
         }
     }
     Ok(text)

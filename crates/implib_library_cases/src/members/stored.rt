@@ -1,7 +1,7 @@
 //! Members held against stored bytes. A line `stored` begins those of the next member, and lines `=`
 //! have them.
 
-use crate::readings::show_listed;
+use super::readings::show_listed;
 use implib::Member;
 use implib_cases::{Line, bytes_in};
 use std::alloc::Global;

@@ -4,7 +4,7 @@
 //! and `numbered e 3` adds lines `e0`, `e1` and `e2` to it. `unlist NAME` has an archive list no
 //! symbol for a member. A file is named by its name; `foo.dll:3` is the fourth file of a name.
 
-use crate::objects::object_bytes;
+use super::objects::object_bytes;
 use implib::{Flavor, ImportLibrary, MachineType, Member};
 use implib_cases::{Line, bytes_in, number_in, text_of};
 use implib_test_linker::{Archive, Expansion, expanded, left_undefined, object_of};

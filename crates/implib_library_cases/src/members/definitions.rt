@@ -25,7 +25,7 @@ pub fn members_of(
 }
 
 /// The library of the text, or of the definition by hand where there is no text.
-fn library_of(
+pub fn library_of(
     alloc: Global,
     case: &Case,
     machine: MachineType,

@@ -7,7 +7,7 @@
 //! where the stub reads where it jumps; `fields`, the base relocations. `write` puts bytes at an
 //! address.
 
-use crate::files::{Files, index_of};
+use super::files::{Files, index_of};
 use implib_cases::{Case, Line, bytes_in, number_in, numbers_in};
 use implib_test_linker::{Linked, Memory, object_of};
 use std::alloc::{AllocError, Global};

@@ -7,7 +7,7 @@
 //! `pointer ADDRESS` follows the address there; `bytes ADDRESS COUNT` tells the bytes there, and
 //! `overwrite` puts others in their place. Addresses count from the image's base.
 
-use crate::linking::State;
+use super::linking::State;
 use implib_cases::{Line, bytes_in, number_in, push_bytes, push_escaped};
 use implib_test_linker::{Linked, Memory};
 use std::alloc::{AllocError, Global};
