@@ -6,7 +6,7 @@
 //! `object NAME TEMPLATE SYMBOL` is an object with such a section and a symbol of this name.
 
 ghost use Rattle.implib.specs.Formats.Layout.{HasNoNul};
-ghost use Rattle.std.specs.Prelude.{◌<◌, length};
+ghost use Rattle.std.specs.Prelude.{◌≡◌, ◌<◌, length};
 
 use implib::MachineType;
 use implib::coff::{ObjectWriter, Place, Relocation, Section, Symbol, class};
@@ -144,7 +144,7 @@ fn defining(
     Ok(writer.write()?)
 }
 
-/// An object of a section of 24 bytes and of fields in it for an undefined symbol.
+/// An object of a section of 24 bytes or more and of fields in their first for an undefined symbol.
 fn calling(
     alloc: Global,
     machine: MachineType,
@@ -156,23 +156,29 @@ fn calling(
     requires no_nul { HasNoNul symbol.now }
 {
     let [first, second, third] = fields;
-    let bytes: [u8; 24] = match section.bytes.as_slice().first_chunk() {
-        Some(bytes) => *bytes,
-        None => return Err(Fail::new("a section is short")),
-    };
+    let bytes = section.bytes.as_slice();
+    if bytes.len() < 24 {
+        return Err(Fail::new("a section is short"));
+    }
     if first.0 > 20 || second.0 > 20 || third.0 > 20 {
         return Err(Fail::new("a field is not in the section"));
     }
     let mut writer = ObjectWriter::new(alloc, machine);
-    writer.add_section(Section::new(alloc, section.name, section.flags, &bytes)?)?;
+    writer.add_section(Section::new(alloc, section.name, section.flags, bytes)?)?;
     writer.add_symbol(Symbol::new(alloc, symbol, Place::Undefined, class::EXTERNAL)?)?;
-    let relocation = |(offset, kind): (u32, u16)| Relocation {
-        offset,
-        symbol: 0,
-        kind,
-    };
-    writer.add_relocation(1, relocation(first))?;
-    writer.add_relocation(1, relocation(second))?;
-    writer.add_relocation(1, relocation(third))?;
+    writer.add_relocation(1, relocation_of(first))?;
+    writer.add_relocation(1, relocation_of(second))?;
+    writer.add_relocation(1, relocation_of(third))?;
     Ok(writer.write()?)
+}
+
+/// The relocation of a field, for the first symbol.
+fn relocation_of(field: (u32, u16)) -> Relocation
+    ensures { result ≡ record { offset = field.0; symbol = 0; kind = field.1 } }
+{
+    Relocation {
+        offset: field.0,
+        symbol: 0,
+        kind: field.1,
+    }
 }
