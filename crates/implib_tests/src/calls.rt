@@ -1,9 +1,7 @@
-//! The calls of the library: they succeed where there is memory. With each allocation failed in
-//! turn (`checks/memory`) the tests of refused memory still pass.
+//! The calls of the library where memory is refused: with each allocation failed in turn
+//! (`checks/memory`) these tests still pass, or fail for want of memory alone.
 
 use implib::def::{ModuleDef, ShortExport};
-use implib::gnu::GnuImportLibrary;
-use implib::msvc::MsvcImportLibrary;
 use implib::{Error, Fault, Flavor, ImportLibrary, MachineType, Member};
 use std::alloc::Global;
 use std::process::Abort;
@@ -51,83 +49,6 @@ fn have_lengths(members: &[Member], lengths: &[usize]) -> bool {
     true
 }
 
-#[test]
-fn libraries_for_one_linker_have_members(rt: HostRuntime) -> Result<(), Fail> {
-    let (text, microsoft, gnu) = ALIASED;
-    let def = ModuleDef::parse(rt.alloc(), text, MachineType::AMD64)?;
-    let members = MsvcImportLibrary::new(def, MachineType::AMD64).members()?;
-    assert!(rt; have_lengths(&members, microsoft));
-    let def = ModuleDef::parse(rt.alloc(), text, MachineType::AMD64)?;
-    let members = GnuImportLibrary::new(def, MachineType::AMD64).members()?;
-    assert!(rt; have_lengths(&members, gnu));
-    Ok(())
-}
-
-#[test]
-fn members_for_microsoft_are_in_three_lists(rt: HostRuntime) -> Result<(), Fail> {
-    let text = "LIBRARY foo.dll\nEXPORTS\nfoo == baz\nbar\nvar == baz DATA";
-    let def = ModuleDef::parse(rt.alloc(), text, MachineType::AMD64)?;
-    let lists = MsvcImportLibrary::new(def, MachineType::AMD64).into_member_lists()?;
-    assert!(rt; have_lengths(&lists.header, &[358, 127, 159]));
-    assert!(rt; have_lengths(&lists.aliases, &[162, 174, 174]));
-    let imports = lists.imports;
-    assert!(rt; (imports.len(), imports.size(0), imports.symbol_count(0)) == (1, 32, 2));
-    assert!(rt; (imports.name(0), imports.symbol(0, 0)) == ("foo.dll", "__imp_bar"));
-    assert!(rt; imports.symbol(0, 1) == "bar");
-    let bytes = imports.bytes(rt.alloc(), 0)?;
-    let record = b"\0\0\xFF\xFF\0\0\x64\x86\0\0\0\0\x0C\0\0\0\0\0\x04\0bar\0foo.dll\0";
-    assert!(rt; bytes.as_slice() == record.as_slice());
-    Ok(())
-}
-
-#[test]
-fn objects_for_gnu_are_made_when_they_are_wanted(rt: HostRuntime) -> Result<(), Fail> {
-    let text = "LIBRARY foo.dll\nEXPORTS\nbar\nvar DATA";
-    let def = ModuleDef::parse(rt.alloc(), text, MachineType::AMD64)?;
-    let kept = GnuImportLibrary::new(def.clone()?, MachineType::AMD64).into_members()?;
-    let members = GnuImportLibrary::new(def, MachineType::AMD64).members()?;
-    assert!(rt; have_lengths(&kept.before, &[356, 450]));
-    let objects = kept.objects;
-    assert!(rt; (objects.len(), objects.size(1)) == (2, 474));
-    assert!(rt; (objects.name(0), objects.name(1)) == ("foo_dll_a_s00001.o", "foo_dll_a_s00000.o"));
-    assert!(rt; (objects.symbol_count(0), objects.symbol(0, 0)) == (1, "__imp_var"));
-    assert!(rt; (objects.symbol(1, 0), objects.symbol(1, 1)) == ("bar", "__imp_bar"));
-    let made = match members.get(2) {
-        Some(member) => member.bytes.as_slice(),
-        None => &[],
-    };
-    let bytes = objects.bytes(rt.alloc(), 0)?;
-    assert!(rt; bytes.as_slice() == made);
-    Ok(())
-}
-
-#[test]
-fn members_for_gnu_with_older_symbols(rt: HostRuntime) -> Result<(), Fail> {
-    let (text, _, gnu) = BAR;
-    let def = ModuleDef::parse(rt.alloc(), text, MachineType::AMD64)?;
-    let library = GnuImportLibrary::new(def, MachineType::AMD64);
-    let members = library.members_with_older_symbols()?;
-    assert!(rt; have_lengths(&members, &[356, 450, 502]));
-    let symbols = match members.get(2) {
-        Some(member) => member.symbols.as_slice(),
-        None => &[],
-    };
-    assert!(rt; symbols.len() == 3);
-    assert!(rt; symbols.last().map(String::as_str) == Some("___impbar"));
-    assert!(rt; have_lengths(&library.members()?, gnu));
-    Ok(())
-}
-
-#[test]
-fn members_for_gnu_with_an_alias_are_all_made(rt: HostRuntime) -> Result<(), Fail> {
-    let (text, _, gnu) = ALIASED;
-    let def = ModuleDef::parse(rt.alloc(), text, MachineType::AMD64)?;
-    let kept = GnuImportLibrary::new(def, MachineType::AMD64).into_members()?;
-    assert!(rt; have_lengths(&kept.before, gnu));
-    assert!(rt; kept.objects.len() == 0);
-    Ok(())
-}
-
 // What a fault says is empty.
 fn empty_part(fault: &Fault) -> &'static str {
     match fault {
@@ -160,26 +81,27 @@ fn are_refused_for(
     Ok(once && is_refused_for(&microsoft, part) && is_refused_for(&gnu, part))
 }
 
-#[test]
-fn an_empty_import_name_is_refused_without_memory(rt: HostRuntime) -> Result<(), Fail> {
-    let refused = are_refused_for(rt.alloc(), "", MachineType::AMD64, "import name")?;
-    assert!(rt; refused);
-    Ok(())
-}
+// Texts whose libraries are refused since this is empty, each for a machine.
+const REFUSED: &[(&str, MachineType, &str)] = &[
+    ("", MachineType::AMD64, "import name"),
+    (
+        "LIBRARY foo.dll\nEXPORTS\n\"abc",
+        MachineType::AMD64,
+        "name",
+    ),
+    (
+        "LIBRARY foo.dll\nEXPORTS\n\"\"",
+        MachineType::I386,
+        "asked name",
+    ),
+];
 
 #[test]
-fn an_empty_name_is_refused_without_memory(rt: HostRuntime) -> Result<(), Fail> {
-    let text = "LIBRARY foo.dll\nEXPORTS\n\"abc";
-    let refused = are_refused_for(rt.alloc(), text, MachineType::AMD64, "name")?;
-    assert!(rt; refused);
-    Ok(())
-}
-
-#[test]
-fn an_empty_asked_name_is_refused_without_memory(rt: HostRuntime) -> Result<(), Fail> {
-    let text = "LIBRARY foo.dll\nEXPORTS\n\"\"";
-    let refused = are_refused_for(rt.alloc(), text, MachineType::I386, "asked name")?;
-    assert!(rt; refused);
+fn empty_names_are_refused_without_memory(rt: HostRuntime) -> Result<(), Fail> {
+    for (text, machine, part) in REFUSED {
+        let refused = are_refused_for(rt.alloc(), *text, *machine, *part)?;
+        assert!(rt; refused, "{text:?}");
+    }
     Ok(())
 }
 
@@ -191,21 +113,6 @@ fn asking(alloc: Global, name: &str, asked: &str) -> Result<ModuleDef, Error> {
     def.import_name.push_str("foo.dll")?;
     def.exports.push(export)?;
     Ok(def)
-}
-
-// The members of a definition for I386 in a flavour.
-fn i386_members(def: ModuleDef, flavor: Flavor) -> Result<Vec<Member>, Error> {
-    ImportLibrary::from_def(def, MachineType::I386, flavor).members()
-}
-
-#[test]
-fn an_export_that_gives_a_name_has_members(rt: HostRuntime) -> Result<(), Fail> {
-    let alloc = rt.alloc();
-    let members = i386_members(asking(alloc, "_F@8", "F@8")?, Flavor::Msvc)?;
-    assert!(rt; have_lengths(&members, &[358, 127, 151, 33]));
-    let members = i386_members(asking(alloc, "a", "b")?, Flavor::Gnu)?;
-    assert!(rt; have_lengths(&members, &[349, 452, 455]));
-    Ok(())
 }
 
 #[test]

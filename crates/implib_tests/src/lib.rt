@@ -3,25 +3,9 @@
 #![tactic(auto)]
 
 #[cfg(test)]
-mod archives;
-#[cfg(test)]
 mod calls;
-#[cfg(test)]
-mod conversions;
-#[cfg(test)]
-mod displayed;
 pub mod laws;
-#[cfg(test)]
-mod many;
 #[cfg(test)]
 mod memory;
 #[cfg(test)]
-mod objects;
-#[cfg(test)]
 mod pass;
-#[cfg(test)]
-mod positions;
-#[cfg(test)]
-mod statements;
-#[cfg(test)]
-mod tokens;

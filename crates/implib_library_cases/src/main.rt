@@ -1,0 +1,43 @@
+//! Answers cases about the library `implib` and the archives of its members. The arguments name the files
+//! of cases (`implib_cases` has their form); the folder of a file says what its cases are about:
+//! [`texts`], [`members`], [`archives`] or [`links`].
+#![tactic(auto)]
+
+mod archives;
+mod links;
+mod members;
+mod texts;
+
+use implib_cases::{Case, cases_in};
+use std::alloc::Global;
+use std::test::Fail;
+use std::{env, fs};
+
+fn main(rt: HostRuntime) -> Result<(), Fail> {
+    for name in env::args(&rt)?.skip(1) {
+        answer_file(&rt, name.as_str())?;
+    }
+    Ok(())
+}
+
+/// Prints the answers to the cases of a file.
+fn answer_file(rt: &HostRuntime, name: &str) -> Result<(), Fail> {
+    let (path, _) = name.rsplit_once('/').ok_or("a file is in no folder")?;
+    let (_, folder) = path.rsplit_once('/').unwrap_or(("", path));
+    let file = fs::read_to_string(rt, name)?;
+    for case in cases_in(rt.alloc(), file.as_str())? {
+        print!(rt; "{}", answered(rt.alloc(), folder, &case)?)?;
+    }
+    Ok(())
+}
+
+/// The answer to a case of a folder.
+fn answered(alloc: Global, folder: &str, case: &Case) -> Result<String, Fail> {
+    match folder {
+        "texts" => texts::answered(alloc, case),
+        "members" => members::answers::answered(alloc, case),
+        "archives" => archives::answered(alloc, case),
+        "links" => links::answers::answered(alloc, case),
+        _ => Err(Fail::new(format_args!("{folder} is no folder of cases"))),
+    }
+}
