@@ -7,14 +7,14 @@
 --
 -- lld (COFF/SymbolTable.cpp, `addLazyArchive`, `addUndefined`) keeps the symbols of each archive that it has read, and takes a
 -- member as soon as a name is both unresolved and listed.
-use Rattle.std.specs.Prelude.{◌≡◌, ℕ, zero, suc, Bool, false, ◌==◌, List, [], ◌∷◌, ◌++◌, bytes_eq, length, not, Option}
-use Rattle.std.specs.List.{AllByRecursion, Contains, IsDistinct, filter, flat_map, list_any}
+use Rattle.std.specs.Prelude.{◌≡◌, ℕ, zero, suc, Bool, false, ◌==◌, List, [], ◌∷◌, ◌++◌, bytes_eq, length, not, slice_get, Option, Some}
+use Rattle.std.specs.List.{AllByRecursion, Contains, filter, flat_map, list_any}
 use Rattle.implib.specs.Formats.Object.{Object, object_in}
 use Rattle.implib.specs.declared.machine.MachineType.{MachineType}
 use Rattle.implib.specs.Members.MemberSpec.{MemberView}
 use Rattle.implib_link.specs.Gnu.Program.{ClaimsNone, HaveSame}
 use Rattle.implib_link.specs.Search.Archives.{Library, archive_of}
-use Rattle.implib_link.specs.Search.Closed.{PullsIntoAs, listed_in}
+use Rattle.implib_link.specs.Search.Closed.{PullsIntoAs, listed_in, references_of}
 use Rattle.implib_link.specs.Search.Search.{claimed_as, objects_as, undefined_in}
 use Rattle.implib_link.specs.Search.Sweeps.{index_at, members_at, numbers_from, sweeps, swept}
 
@@ -148,6 +148,16 @@ IsOrdered reads members (input ∷ inputs) =
 abbrev pub HaveAll : List MemberView → List Input → Type 0
 HaveAll members inputs = (m : MemberView) → Contains members m → Contains (members_at members (numbers_in inputs)) m
 
+-- no two members are listed for one of these names
+abbrev pub AreListedOnce : List MemberView → List (List ℕ) → Type 0
+AreListedOnce members names = (name : List ℕ) (n k : ℕ) (m x : MemberView) → Contains names name →
+    slice_get members n ≡ Some m → Contains m.symbols name → slice_get members k ≡ Some x → Contains x.symbols name →
+    n ≡ k
+
+-- what is left to others in a link: by the given objects, and by the members that are taken
+abbrev pub names_left : (List ℕ → Option Object) → List Object → List MemberView → List (List ℕ)
+names_left reads own taken = references_of (own ++ objects_as reads taken)
+
 -- each member is listed for exactly the names that it claims, as an archive's index is made by tools
 abbrev pub AreListedWhole : (List ℕ → Option Object) → List MemberView → Type 0
 AreListedWhole reads members = AllByRecursion (λ m. HaveSame (claimed_as reads (m ∷ [])) m.symbols) members
@@ -161,12 +171,12 @@ others_of is_given members = filter (λ m. not (is_given m)) members
 
 -- What GNU `ld` takes of a command line's archives:
 -- `libraries_are`: the members that are not as given are those of libraries, archive by archive;
--- `distinct`, `unclaimed`, `ordered`, `whole`: what is asked of the command line;
+-- `once`, `unclaimed`, `ordered`, `whole`: what is asked of the command line;
 -- `searches`: the search.
 pub record SearchesLibraries (machine : MachineType) (libraries : List Library) (members : List MemberView)
     (inputs : List Input) (is_given : MemberView → Bool) (taken : List ℕ) : Type 0 where
   pub libraries_are : others_of is_given members ≡ archive_of libraries
-  pub distinct : IsDistinct bytes_eq (listed_in members)
+  pub once : AreListedOnce members (names_left object_in (objects_given inputs) (members_at members taken))
   pub unclaimed : AreUnclaimedBehind members [] inputs
   pub ordered : IsOrdered object_in members inputs
   pub whole : AreListedWhole object_in members

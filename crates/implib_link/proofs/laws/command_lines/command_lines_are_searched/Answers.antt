@@ -3,6 +3,6 @@ use Rattle.implib_link.proofs.laws.command_lines.command_lines_are_searched.Goal
 
 pub returns : goal.returns
 returns c = record {
-  gnu = λ reads members inputs taken distinct none ordered is. gnu_searches reads members inputs taken distinct none ordered is;
-  lld = λ reads members inputs taken distinct none all is. lld_searches reads members inputs taken distinct none all is;
+  gnu = λ reads members inputs taken once none ordered is. gnu_searches reads members inputs taken once none ordered is;
+  lld = λ reads members inputs taken once none all is. lld_searches reads members inputs taken once none all is;
 }
