@@ -15,7 +15,7 @@ use Rattle.implib_link.specs.Gnu.Program.{ClaimsNone, HaveSame, claimed_names}
 use Rattle.implib_link.specs.Search.Archives.{IsArchive, Library, archive_of}
 use Rattle.implib_link.specs.Search.Closed.{AreLinkedFor, AreTakenIntoAs, LinksClosed, PullsIntoAs, TakesInto, TakesIntoAs, references_of, unresolved}
 use Rattle.implib_link.specs.Search.Given.{AreGiven}
-use Rattle.implib_link.specs.Search.CommandLines.{AnObject, Archives, AreListedOnce, AreListedWhole, AreRounds, AreSwept, AreTakenBehind, AreUnclaimedBehind, HaveAll, Input, IsOrdered, IsSwept, LeavesNone, LldSearches, LldSearchesFrom, SearchesLibraries, SearchesCommandLine, SearchesFrom, listed_at, names_left, numbers_but, numbers_in, numbers_of, object_of, objects_given, others_of, given_with}
+use Rattle.implib_link.specs.Search.CommandLines.{AnObject, Archives, AreListedOnce, AreListedWhole, AreRounds, AreSwept, AreTakenBehind, AreUnclaimedBehind, HaveAll, Input, IsOrdered, IsSwept, LeavesNone, LldSearches, LldSearchesFrom, NoneIsLost, SearchesLibraries, SearchesCommandLine, SearchesFrom, listed_at, names_left, numbers_but, numbers_in, numbers_of, object_of, objects_given, others_of, given_with}
 use Rattle.implib_link.specs.Search.Search.{claimed_as, first_listed, is_listed_for, objects_as, undefined_in}
 use Rattle.implib_link.specs.Search.Sweeps.{IndexEntry, index_at, members_at, numbers_from, sweeps, swept}
 use Rattle.implib_link.proofs.Search.ArchiveGroups.{found_or_not}
@@ -396,6 +396,20 @@ module _ (reads : List ℕ → Option Object) (members : List MemberView) where
         ]) at.1));
   }
 
+  -- And it does where nothing that an archive lists is left unresolved in the end.
+  pub gnu_completes : (inputs : List Input) (taken : List ℕ) → AreListedOnce members (names_left reads (objects_given inputs) (members_at members taken)) → AreUnclaimedBehind members [] inputs →
+      NoneIsLost reads members (objects_given inputs) (members_at members taken) → SearchesCommandLine reads members inputs taken → TakesIntoAs reads members (objects_given inputs) (members_at members taken)
+  unfolding AreTakenIntoAs
+  gnu_completes inputs taken once none complete is = record {
+    in_turn = searches_in_turn (objects_given inputs) taken once [] inputs [] [] taken refl none is (λ n held. held) tt;
+    ended = λ name m pulls.
+        nowhere m (sym (all_among (λ n. first_listed members n ≡ None) name (unresolved (objects_given inputs ++ objects_as reads (members_at members taken)))
+        (contains_among name (unresolved (objects_given inputs ++ objects_as reads (members_at members taken))) pulls.named) complete) ∙ pulls.listed);
+  }
+    where
+      nowhere : (m : MemberView) → None ≡ Some m → ⊥
+      nowhere m is_none = cc
+
   -- lld's searches.
 
   -- members of some numbers are members
@@ -707,7 +721,7 @@ module _ (reads : List ℕ → Option Object) (members : List MemberView) where
             let from = listed_is (others_of is_given members) name m pulls.listed in
             let kept = passing (λ y. not (is_given y)) m members from.0 in
             let left = left_again taken (taken_are taken takes.in_turn) once name
-                (contains_among name (unresolved (given_too taken (taken_are taken takes.in_turn) once ++ objects_as reads (others_of is_given taken))) pulls.named) in
+            (contains_among name (unresolved (given_too taken (taken_are taken takes.in_turn) once ++ objects_as reads (others_of is_given taken))) pulls.named) in
             let at = number_of members m kept.0 in
             takes.ended name m (record {
               named = among_contains name (unresolved (own ++ objects_as reads taken)) left;
@@ -723,7 +737,10 @@ module _ (machine : MachineType) (libraries : List Library) (members : List Memb
   of_libraries =
       subst (λ archive. TakesIntoAs object_in archive (given_with object_in is_given (objects_given inputs) (members_at members taken)) (others_of is_given (members_at members taken))) s.libraries_are
       (taken_as_given object_in members (objects_given inputs) s.whole is_given (members_at members taken) s.once
-      (gnu_searches object_in members inputs taken s.once s.unclaimed s.ordered s.searches))
+      (elim s.ordered [
+        | inl ordered ↦ gnu_searches object_in members inputs taken s.once s.unclaimed ordered s.searches
+        | inr complete ↦ gnu_completes object_in members inputs taken s.once s.unclaimed complete s.searches
+      ]))
 
 pub command_line_closes : (machine : MachineType) (libraries : List Library) (members : List MemberView) (inputs : List Input) (taken : List ℕ) (is_given : MemberView → Bool)
     (arranged : List Library) (bases : Bases) (objects : List Object) → SearchesLibraries machine libraries members inputs is_given taken → IsArchive machine libraries →

@@ -7,15 +7,15 @@
 --
 -- lld (COFF/SymbolTable.cpp, `addLazyArchive`, `addUndefined`) keeps the symbols of each archive that it has read, and takes a
 -- member as soon as a name is both unresolved and listed.
-use Rattle.std.specs.Prelude.{◌≡◌, ℕ, zero, suc, Bool, false, ◌==◌, List, [], ◌∷◌, ◌++◌, bytes_eq, length, not, slice_get, Option, Some}
+use Rattle.std.specs.Prelude.{◌≡◌, ℕ, zero, suc, Bool, false, ◌==◌, List, [], ◌∷◌, ◌++◌, bytes_eq, length, not, slice_get, Option, None, Some, ◌⊎◌}
 use Rattle.std.specs.List.{AllByRecursion, Contains, filter, flat_map, list_any}
 use Rattle.implib.specs.Formats.Object.{Object, object_in}
 use Rattle.implib.specs.declared.machine.MachineType.{MachineType}
 use Rattle.implib.specs.Members.MemberSpec.{MemberView}
 use Rattle.implib_link.specs.Gnu.Program.{ClaimsNone, HaveSame}
 use Rattle.implib_link.specs.Search.Archives.{Library, archive_of}
-use Rattle.implib_link.specs.Search.Closed.{PullsIntoAs, listed_in, references_of}
-use Rattle.implib_link.specs.Search.Search.{claimed_as, objects_as, undefined_in}
+use Rattle.implib_link.specs.Search.Closed.{PullsIntoAs, listed_in, references_of, unresolved}
+use Rattle.implib_link.specs.Search.Search.{claimed_as, first_listed, objects_as, undefined_in}
 use Rattle.implib_link.specs.Search.Sweeps.{index_at, members_at, numbers_from, sweeps, swept}
 
 -- an input: an object, or archives that are searched as a group; an archive by itself is a group of one
@@ -144,6 +144,12 @@ IsOrdered reads members (input ∷ inputs) =
     (object_of input ++ objects_as reads (members_at members (numbers_of input)))
     × IsOrdered reads members inputs
 
+-- No name that is left unresolved in the end is listed for a member: so it is in each link that ends without an "undefined
+-- reference" to what its archives have, in whatever order these are.
+abbrev pub NoneIsLost : (List ℕ → Option Object) → List MemberView → List Object → List MemberView → Type 0
+NoneIsLost reads members own taken =
+    AllByRecursion (λ name. first_listed members name ≡ None) (unresolved (own ++ objects_as reads taken))
+
 -- the inputs have each member
 abbrev pub HaveAll : List MemberView → List Input → Type 0
 HaveAll members inputs = (m : MemberView) → Contains members m → Contains (members_at members (numbers_in inputs)) m
@@ -179,5 +185,6 @@ pub record SearchesLibraries (machine : MachineType) (libraries : List Library) 
   pub once : AreListedOnce members (names_left object_in (objects_given inputs) (members_at members taken))
   pub unclaimed : AreUnclaimedBehind members [] inputs
   pub ordered : IsOrdered object_in members inputs
+      ⊎ NoneIsLost object_in members (objects_given inputs) (members_at members taken)
   pub whole : AreListedWhole object_in members
   pub searches : SearchesCommandLine object_in members inputs taken

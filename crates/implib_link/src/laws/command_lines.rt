@@ -8,7 +8,8 @@ ghost use Rattle.implib_link.specs.Gnu.Program.{HaveSame};
 ghost use Rattle.implib_link.specs.Search.Archives.{IsArchive, Library};
 ghost use Rattle.implib_link.specs.Search.Closed.{AreLinkedFor, LinksClosed, TakesIntoAs};
 ghost use Rattle.implib_link.specs.Search.CommandLines.{AreListedOnce, AreListedWhole};
-ghost use Rattle.implib_link.specs.Search.CommandLines.{AreUnclaimedBehind, HaveAll, names_left};
+ghost use Rattle.implib_link.specs.Search.CommandLines.{AreUnclaimedBehind, HaveAll, NoneIsLost};
+ghost use Rattle.implib_link.specs.Search.CommandLines.{names_left};
 ghost use Rattle.implib_link.specs.Search.CommandLines.{Input, IsOrdered, LldSearches};
 ghost use Rattle.implib_link.specs.Search.CommandLines.{SearchesCommandLine, SearchesLibraries};
 ghost use Rattle.implib_link.specs.Search.CommandLines.{given_with, objects_given, others_of};
@@ -22,13 +23,21 @@ ghost use Rattle.std.specs.Prelude.{ℕ, [], Bool, List, Option};
 ///
 /// No two members list a name that objects or taken members leave to others, and no object claims a name that an archive in front of it lists.
 /// GNU `ld` wants an order, too, in which what is left unresolved is listed behind it, or in the same
-/// group (`gnu`); lld takes any (`lld`). An archive may stand on the command line more than once.
+/// group (`gnu`); or that nothing which an archive lists is left in the end, as in each link without
+/// an undefined reference (`complete`). lld takes any order (`lld`). An archive may stand on the command line more than once.
 /// However the linker reads members.
 pub fn command_lines_are_searched()
     ensures gnu { (reads : List ℕ → Option Object) (members : List MemberView)
         (inputs : List Input) (taken : List ℕ) →
         AreListedOnce members (names_left reads (objects_given inputs) (members_at members taken)) →
         AreUnclaimedBehind members [] inputs → IsOrdered reads members inputs →
+        SearchesCommandLine reads members inputs taken →
+        TakesIntoAs reads members (objects_given inputs) (members_at members taken) }
+    ensures complete { (reads : List ℕ → Option Object) (members : List MemberView)
+        (inputs : List Input) (taken : List ℕ) →
+        AreListedOnce members (names_left reads (objects_given inputs) (members_at members taken)) →
+        AreUnclaimedBehind members [] inputs →
+        NoneIsLost reads members (objects_given inputs) (members_at members taken) →
         SearchesCommandLine reads members inputs taken →
         TakesIntoAs reads members (objects_given inputs) (members_at members taken) }
     ensures lld { (reads : List ℕ → Option Object) (members : List MemberView)

@@ -15,7 +15,7 @@ use Rattle.implib.proofs.Link.Ranges.{Among}
 use Rattle.implib_link.specs.Gnu.Program.{ClaimsNone, HaveSame}
 use Rattle.implib_link.specs.Search.Archives.{archive_of, is_weak, symbols_of_library}
 use Rattle.implib_link.specs.Search.Closed.{PullsIntoAs, claims_of, listed_in, references_of, unresolved}
-use Rattle.implib_link.specs.Search.CommandLines.{AreListedOnce, AreListedWhole, AreRounds, AreSwept, AreTakenBehind, AreUnclaimedBehind, Archives, HaveAll, IsOrdered, IsSwept, LldSearches, LldSearchesFrom, SearchesCommandLine, SearchesFrom, given_with, names_left}
+use Rattle.implib_link.specs.Search.CommandLines.{AreListedOnce, AreListedWhole, AreRounds, AreSwept, AreTakenBehind, AreUnclaimedBehind, Archives, HaveAll, IsOrdered, IsSwept, LldSearches, LldSearchesFrom, NoneIsLost, SearchesCommandLine, SearchesFrom, given_with, names_left}
 use Rattle.implib_link.specs.Search.Given.{AreGiven, symbols_kept, wanted_at_most}
 use Rattle.implib_link.specs.Search.Search.{claimed_as, first_listed, objects_as, undefined_in}
 use Rattle.implib_link.specs.Search.Sweeps.{IndexEntry, index_at, members_at, sweeps, swept}
@@ -189,7 +189,7 @@ libraries : WorkedLibraries AMD64 (kernel_on AMD64 (codes "ExitProcess")) amd64_
 unfolding opened alias_specs encoded_size refusal renamed_refusal is_weak symbols_of_library archive_of
 libraries = record {
   archive = record { made = (record { accepted = refl; made = refl; ordinals = refl }, tt); distinct = distinct_by (flat_map (symbols_of_library AMD64) ((kernel_on AMD64 (codes "ExitProcess")) ∷ [])) refl };
-  searches = record { libraries_are = refl; once = listed_once_of amd64_members (names_left object_in own (members_at amd64_members all_taken)) distinct; unclaimed = unclaimed; ordered = ordered; whole = whole; searches = searched_last };
+  searches = record { libraries_are = refl; once = listed_once_of amd64_members (names_left object_in own (members_at amd64_members all_taken)) distinct; unclaimed = unclaimed; ordered = inl ordered; whole = whole; searches = searched_last };
   given = given;
 }
 
@@ -306,11 +306,15 @@ i386_given = record {
   names = (record { head = refl; name = refl }, tt);
 }
 
+complete : NoneIsLost object_in i386_members i386_own (members_at i386_members all_taken)
+unfolding opened alias_specs encoded_size references_of claims_of undefined_in
+complete = tt
+
 i386_libraries : WorkedLibraries I386 (kernel_on I386 (codes "_ExitProcess@4")) i386_members i386_own
 unfolding opened alias_specs encoded_size refusal renamed_refusal is_weak symbols_of_library archive_of
 i386_libraries = record {
   archive = record { made = (record { accepted = refl; made = refl; ordinals = refl }, tt); distinct = distinct_by (flat_map (symbols_of_library I386) ((kernel_on I386 (codes "_ExitProcess@4")) ∷ [])) refl };
-  searches = record { libraries_are = refl; once = listed_once_of i386_members (names_left object_in i386_own (members_at i386_members all_taken)) i386_distinct; unclaimed = i386_unclaimed; ordered = i386_ordered; whole = i386_whole; searches = i386_searched_last };
+  searches = record { libraries_are = refl; once = listed_once_of i386_members (names_left object_in i386_own (members_at i386_members all_taken)) i386_distinct; unclaimed = i386_unclaimed; ordered = inr complete; whole = i386_whole; searches = i386_searched_last };
   given = i386_given;
 }
 
@@ -392,7 +396,7 @@ near_searches_libraries = record {
   libraries_are = λ x. differ 0 3 (sym (ap length x.libraries_are)) (omega arith);
   once = λ x. differ 3 4 (x.once (codes "quit") 3 4 (quit_member (codes "quit") quit_bytes) (quit_member (codes "quit") quit_bytes) quit_left refl (among_contains (codes "quit") (codes "quit" ∷ []) (inl refl)) refl (among_contains (codes "quit") (codes "quit" ∷ []) (inl refl))) (omega arith);
   unclaimed = λ x. true≢false x.unclaimed.1.1.1.0.0.0;
-  ordered = λ x. unordered x.ordered;
+  ordered = λ x. elim x.ordered [ inl is ↦ unordered is | inr none ↦ found none.0 ];
   whole = λ x. not_quit (contains_among (codes "more") (codes "quit" ∷ []) ((x.whole.1.1.1.0 (codes "more")).1 (among_contains (codes "more") (codes "quit" ∷ codes "more" ∷ []) (inr (inl refl)))));
   searches = λ x.
       let s = x.searches in
@@ -403,6 +407,9 @@ near_searches_libraries = record {
   where
     quit_left : Contains (names_left object_in own (members_at (amd64_members ++ quit_member (codes "quit") quit_bytes ∷ []) all_taken)) (codes "quit")
     quit_left = among_contains (codes "quit") (names_left object_in own (members_at (amd64_members ++ quit_member (codes "quit") quit_bytes ∷ []) all_taken)) (any_among (codes "quit") (names_left object_in own (members_at (amd64_members ++ quit_member (codes "quit") quit_bytes ∷ []) all_taken)) refl)
+
+    found : ◌≡◌ {A = Option MemberView} (first_listed amd64_members (codes "ExitProcess")) None → ⊥
+    found is = cc
 
     not_quit : Among (codes "more") (codes "quit" ∷ []) → ⊥
     not_quit (inl is) = differ 109 113 (ap first_byte is) (omega arith)
