@@ -1,5 +1,5 @@
 -- Searches of several archives, in the order of a command line, take what one search of all of them takes.
-use Rattle.std.proofs.Common.{◌≡◌, ℕ, ◌⊎◌, zero, suc, Bool, true, false, List, [], ◌∷◌, ◌++◌, length, Option, Some, None, refl, ap, sym, ◌∙◌, subst, inl, inr, arith}
+use Rattle.std.proofs.Common.{◌≡◌, ◌≤◌, ℕ, ◌⊎◌, zero, suc, Bool, true, false, List, [], ◌∷◌, ◌++◌, length, Option, Some, None, refl, ap, sym, ◌∙◌, subst, inl, inr, arith}
 use Rattle.std.specs.Prelude.{◌==◌, bytes_eq, not, slice_get}
 use Rattle.std.specs.List.{AllByRecursion, Contains, IsDistinct, cons_option, filter, flat_map, list_any}
 use Rattle.std.proofs.lemmas.Bool.{cases_Bool, true≢false}
@@ -15,15 +15,15 @@ use Rattle.implib_link.specs.Gnu.Program.{ClaimsNone, HaveSame, claimed_names}
 use Rattle.implib_link.specs.Search.Archives.{IsArchive, Library, archive_of}
 use Rattle.implib_link.specs.Search.Closed.{AreLinkedFor, AreTakenIntoAs, LinksClosed, PullsIntoAs, TakesInto, TakesIntoAs, references_of, unresolved}
 use Rattle.implib_link.specs.Search.Given.{AreGiven}
-use Rattle.implib_link.specs.Search.CommandLines.{AnObject, Archives, AreListedOnce, AreListedWhole, AreRounds, AreSwept, AreTakenBehind, AreUnclaimedBehind, HaveAll, Input, IsOrdered, IsSwept, LeavesNone, LldSearches, LldSearchesFrom, NoneIsLost, SearchesLibraries, SearchesCommandLine, SearchesFrom, listed_at, names_left, numbers_but, numbers_in, numbers_of, object_of, objects_given, others_of, given_with}
+use Rattle.implib_link.specs.Search.CommandLines.{AnObject, Archives, AreListedOnce, AreListedWhole, AreRounds, AreSwept, AreTakenBehind, AreTakenOnce, AreUnclaimedBehind, HaveAll, Input, IsOrdered, IsSwept, LeavesNone, LldSearches, LldSearchesFrom, NoneIsLost, SearchesLibraries, TakesFirst, SearchesCommandLine, SearchesFrom, listed_at, names_left, numbers_but, numbers_in, numbers_of, object_of, objects_given, others_of, given_with}
 use Rattle.implib_link.specs.Search.Search.{claimed_as, first_listed, is_listed_for, objects_as, undefined_in}
 use Rattle.implib_link.specs.Search.Sweeps.{IndexEntry, index_at, members_at, numbers_from, sweeps, swept}
 use Rattle.implib_link.proofs.Search.ArchiveGroups.{found_or_not}
 use Rattle.implib_link.proofs.Search.Closed.{closed_links}
 use Rattle.implib_link.proofs.Search.Given.{given_closes}
 use Rattle.implib_link.proofs.Search.Closing.{unresolved_from, unresolved_parts}
-use Rattle.implib_link.proofs.Search.Lists.{all_listed, among_any, any_among, among_either, among_flat_map, among_listed, as_name, contains_among, listed_is, listed_once, name_as, one_member, passes, passing, to_not}
-use Rattle.implib_link.proofs.Search.Sweeps.{IsOnce, Lifts, all_there, among_number, entries_of, entry_there, member_at, first_once, none_first, none_left, number_among, number_of, number_taken, swept_adds, swept_in_turn, sweeps_in_turn, sweeps_keep, taken_number, once_by, once_member}
+use Rattle.implib_link.proofs.Search.Lists.{all_listed, among_any, any_among, among_either, among_flat_map, among_listed, as_name, contains_among, listed_is, listed_once, name_as, one_member, passes, passing, same_member, to_not}
+use Rattle.implib_link.proofs.Search.Sweeps.{IsFirstAt, IsOnce, Lifts, all_there, among_number, entries_of, entry_there, member_at, first_once, none_first, none_left, number_among, number_of, number_taken, swept_adds, swept_in_turn, sweeps_in_turn, sweeps_keep, taken_number, once_by, once_member}
 
 -- What was read first counts on: references and claims of some objects are those of more.
 
@@ -154,13 +154,11 @@ module _ (reads : List ℕ → Option Object) (members : List MemberView) where
 
   -- What is taken is taken in turn, for all objects of the command line.
 
-  -- A name that objects and members leave which are there in the end: no two members are listed for it, where none are for what
-  -- is left in the end.
-  once_in_end : (whole : List Object) (final : List MemberView) → AreListedOnce members (names_left reads whole final) → (own later : List Object) → own ++ later ≡ whole → (taken : List MemberView) →
-      ((x : MemberView) → Among x taken → Among x final) → (name : List ℕ) → Among name (unresolved (own ++ objects_as reads taken)) → IsOnce members name
+  -- a name that objects and members leave which are there in the end
+  name_in_end : (whole : List Object) (final : List MemberView) (own later : List Object) → own ++ later ≡ whole → (taken : List MemberView) → ((x : MemberView) → Among x taken → Among x final) →
+      (name : List ℕ) → Among name (unresolved (own ++ objects_as reads taken)) → Contains (names_left reads whole final) name
   unfolding references_of
-  once_in_end whole final once own later all taken within name left n k m x at listed other again =
-      once name n k m x (among_contains name (flat_map undefined_in (whole ++ objects_as reads final)) in_end) at (among_contains name m.symbols listed) other (among_contains name x.symbols again)
+  name_in_end whole final own later all taken within name left = among_contains name (flat_map undefined_in (whole ++ objects_as reads final)) in_end
     where
       in_end : Among name (flat_map undefined_in (whole ++ objects_as reads final))
       in_end = elim (refs_either undefined_in own (objects_as reads taken) name (unresolved_parts (own ++ objects_as reads taken) name left).0) [
@@ -170,25 +168,34 @@ module _ (reads : List ℕ → Option Object) (members : List MemberView) where
             refs_back undefined_in whole (objects_as reads final) name (as_name reads undefined_in name final from.member from.object (within from.member from.held) from.taken from.among)
       ]
 
+  -- no two members are listed for it, where none are for what is left in the end
+  once_in_end : (whole : List Object) (final : List MemberView) → AreListedOnce members (names_left reads whole final) → (own later : List Object) → own ++ later ≡ whole → (taken : List MemberView) →
+      ((x : MemberView) → Among x taken → Among x final) → (name : List ℕ) → Among name (unresolved (own ++ objects_as reads taken)) → IsOnce members name
+  once_in_end whole final once own later all taken within name left n k m x at listed other again =
+      once name n k m x (name_in_end whole final own later all taken within name left) at (among_contains name m.symbols listed) other (among_contains name x.symbols again)
+
   -- no name that archives list is claimed by later objects
   abbrev AreFree : List ℕ → List Object → Type 0
   AreFree numbers later = (name : List ℕ) → Among name (listed_at members numbers) → Among name (flat_map claimed_names later) → ⊥
 
-  -- what the objects of the whole and members that are taken in the end leave to others, one member at most is listed for
-  module _ (whole : List Object) (final : List ℕ) (once : AreListedOnce members (names_left reads whole (members_at members final))) where
+  -- what is taken in the end is the first that is listed for what is left in the end
+  module _ (whole : List Object) (final : List ℕ) (takes_first : TakesFirst members (names_left reads whole (members_at members final)) final) where
     abbrev Within : List ℕ → Type 0
     Within numbers = (n : ℕ) → Among n numbers → Among n final
 
     within_less : (before after : List ℕ) → ((n : ℕ) → Among n before → Among n after) → Within after → Within before
     within_less before after held within n there = within n (held n there)
 
-    left_in_end : (own later : List Object) → own ++ later ≡ whole → (numbers : List ℕ) → Within numbers → (name : List ℕ) → Among name (unresolved (own ++ objects_as reads (members_at members numbers))) → IsOnce members name
-    left_in_end own later all numbers within =
-        once_in_end whole (members_at members final) once own later all (members_at members numbers)
-        (λ x held. (let at = taken_number members numbers x held in number_taken members final at.0 x (within at.0 at.1) at.2))
+    first_in_end : (own later : List Object) → own ++ later ≡ whole → (numbers : List ℕ) → Within numbers → (name : List ℕ) → Among name (unresolved (own ++ objects_as reads (members_at members numbers))) →
+        (n : ℕ) → Among n final → IsFirstAt members name n
+    first_in_end own later all numbers within name left n held k m x at listed other again =
+        takes_first name n k m x
+        (name_in_end whole (members_at members final) own later all (members_at members numbers)
+        (λ y there. (let from = taken_number members numbers y there in number_taken members final from.0 y (within from.0 from.1) from.2)) name left)
+        (among_contains n final held) at (among_contains name m.symbols listed) other (among_contains name x.symbols again)
 
     module _ (own later : List Object) (all : own ++ later ≡ whole) where
-      lifts : (archive : List ℕ) → AreFree archive later → (e : IndexEntry) → Among e (index_at members archive) → Lifts reads members own (own ++ later) Within within_less (left_in_end own later all) e
+      lifts : (archive : List ℕ) → AreFree archive later → (e : IndexEntry) → Among e (index_at members archive) → Lifts reads members own (own ++ later) (λ n. Among n final) (first_in_end own later all) e
       lifts archive free e held =
           let from = entries_of members archive e held in (
             from.0,
@@ -209,7 +216,7 @@ module _ (reads : List ℕ → Option Object) (members : List MemberView) where
       archive_in_turn : (archive before after : List ℕ) → AreFree archive later → IsSwept reads members own archive before after → Within after → AreInTurn before → AreInTurn after
       archive_in_turn archive before after free is within taken =
           subst AreInTurn is.taken
-          (sweeps_in_turn reads members own (own ++ later) Within within_less (left_in_end own later all) (index_at members archive) (lifts archive free) is.count before
+          (sweeps_in_turn reads members own (own ++ later) (λ n. Among n final) (first_in_end own later all) (index_at members archive) (lifts archive free) is.count before
           (within_less (sweeps reads members own (index_at members archive) is.count before) after (λ n. subst (Among n) is.taken) within) taken)
 
       archives_in_turn : (archives : List (List ℕ)) (before after : List ℕ) → AreFree (numbers_of (Archives archives)) later → AreSwept reads members own archives before after → Within after → AreInTurn before → AreInTurn after
@@ -378,7 +385,7 @@ module _ (reads : List ℕ → Option Object) (members : List MemberView) where
         ]
 
   -- Where the command line is in order, GNU `ld` takes what one search of all archives takes.
-  pub gnu_searches : (inputs : List Input) (taken : List ℕ) → AreListedOnce members (names_left reads (objects_given inputs) (members_at members taken)) → AreUnclaimedBehind members [] inputs → IsOrdered reads members inputs →
+  pub gnu_searches : (inputs : List Input) (taken : List ℕ) → TakesFirst members (names_left reads (objects_given inputs) (members_at members taken)) taken → AreUnclaimedBehind members [] inputs → IsOrdered reads members inputs →
       SearchesCommandLine reads members inputs taken → TakesIntoAs reads members (objects_given inputs) (members_at members taken)
   unfolding AreTakenIntoAs Among
   gnu_searches inputs taken once none ordered is = record {
@@ -397,7 +404,7 @@ module _ (reads : List ℕ → Option Object) (members : List MemberView) where
   }
 
   -- And it does where nothing that an archive lists is left unresolved in the end.
-  pub gnu_completes : (inputs : List Input) (taken : List ℕ) → AreListedOnce members (names_left reads (objects_given inputs) (members_at members taken)) → AreUnclaimedBehind members [] inputs →
+  pub gnu_completes : (inputs : List Input) (taken : List ℕ) → TakesFirst members (names_left reads (objects_given inputs) (members_at members taken)) taken → AreUnclaimedBehind members [] inputs →
       NoneIsLost reads members (objects_given inputs) (members_at members taken) → SearchesCommandLine reads members inputs taken → TakesIntoAs reads members (objects_given inputs) (members_at members taken)
   unfolding AreTakenIntoAs
   gnu_completes inputs taken once none complete is = record {
@@ -616,6 +623,21 @@ module _ (reads : List ℕ → Option Object) (members : List MemberView) where
     -- Members that are taken are as if they were given.
 
     module _ (is_given : MemberView → Bool) where
+      -- the first member of all is that of the others, if it is one of them
+      first_kept : (some : List MemberView) (name : List ℕ) (m : MemberView) → is_given m ≡ false → first_listed some name ≡ Some m → first_listed (others_of is_given some) name ≡ Some m
+      first_kept [] name m other is = absurd (cc)
+      first_kept (x ∷ some) name m other is =
+          elim (cases_Bool (is_listed_for name x)) [
+            | inl here ↦
+                let same : x ≡ m = same_member x m (rw here at is) in
+                let kept : is_given x ≡ false = ap is_given same ∙ other in
+                rw (kept, here) (ap Some same)
+            | inr none ↦ elim (cases_Bool (is_given x)) [
+              | inl given ↦ rw given (first_kept some name m other (rw none at is))
+              | inr kept ↦ rw (kept, none) (first_kept some name m other (rw none at is))
+            ]
+          ]
+
       -- a member is among those that are given or among the others
       given_or_not : (some : List MemberView) (x : MemberView) → Among x some → Among x (filter is_given some) ⊎ Among x (others_of is_given some)
       given_or_not some x held =
@@ -641,13 +663,13 @@ module _ (reads : List ℕ → Option Object) (members : List MemberView) where
           let from = name_as reads f name (filter test full) held in
           as_name reads f name full from.member from.object (passing test from.member full from.held).0 from.taken from.among
 
-      module _ (full : List MemberView) (are_members : (x : MemberView) → Among x full → Among x members) (once : AreListedOnce members (names_left reads own full)) where
+      module _ (full : List MemberView) (are_members : (x : MemberView) → Among x full → Among x members) (once : AreTakenOnce (names_left reads own full) full) where
         abbrev given_too : List Object
         given_too = own ++ objects_as reads (filter is_given full)
 
-        other_left : (taken : List MemberView) (name : List ℕ) (m : MemberView) → ((x : MemberView) → Among x taken → Among x full) → is_given m ≡ false → Among m members → Among name m.symbols → IsOnce members name →
+        other_left : (taken : List MemberView) (name : List ℕ) (m : MemberView) → ((x : MemberView) → Among x taken → Among x full) → is_given m ≡ false → Among m full → Among name m.symbols →
             Among name (unresolved (own ++ objects_as reads taken)) → Among name (unresolved (given_too ++ objects_as reads (others_of is_given taken)))
-        other_left taken name m are other held listed once left =
+        other_left taken name m are other held listed left =
             let parts = unresolved_parts (own ++ objects_as reads taken) name left in
             unresolved_from (given_too ++ objects_as reads (others_of is_given taken)) name
             (elim (refs_either undefined_in own (objects_as reads taken) name parts.0) [
@@ -663,7 +685,7 @@ module _ (reads : List ℕ → Option Object) (members : List MemberView) where
                 | inr given ↦
                     let by = claimer (filter is_given full) name (λ x among. are_members x (passing is_given x full among).0) given in
                     let kept = passing is_given by.0 full by.1 in
-                    let same : by.0 ≡ m = once_member members name by.0 m once (are_members by.0 kept.0) held by.2 listed in
+                    let same : by.0 ≡ m = once name by.0 m (name_in_end own full own [] (append-nil own) taken are name left) (among_contains by.0 full kept.0) (among_contains name by.0.symbols by.2) (among_contains m full held) (among_contains name m.symbols listed) in
                     true≢false (sym kept.1 ∙ (ap is_given same ∙ other))
               ]
               | inr there ↦ parts.1 (refs_back claimed_names own (objects_as reads taken) name (names_within claimed_names (λ m. not (is_given m)) taken name there))
@@ -678,15 +700,13 @@ module _ (reads : List ℕ → Option Object) (members : List MemberView) where
               | inr other ↦
                   let from = listed_is members is.0.0 m is.0.1.listed in
                   let left = contains_among is.0.0 (unresolved (own ++ objects_as reads taken)) is.0.1.named in
-                  let one = sure full once taken (λ x held. are x (inr held)) is.0.0 left in
                   rw other (
                     (
                       is.0.0,
                       record {
                         named = among_contains is.0.0 (unresolved (given_too ++ objects_as reads (others_of is_given taken)))
-                            (other_left taken is.0.0 m (λ x held. are x (inr held)) other from.0 from.1 one left);
-                        listed = first_of_some (others_of is_given members) is.0.0 m one (λ x held. (passing (λ y. not (is_given y)) x members held).0)
-                            (passes (λ y. not (is_given y)) m members from.0 (to_not (is_given m) other)) from.1;
+                            (other_left taken is.0.0 m (λ x held. are x (inr held)) other (are m (inl refl)) from.1 left);
+                        listed = first_kept members is.0.0 m other is.0.1.listed;
                         new = λ held. is.0.1.new (among_contains m taken (passing (λ y. not (is_given y)) m taken (contains_among m (others_of is_given taken) held)).0);
                       },
                     ),
@@ -713,7 +733,7 @@ module _ (reads : List ℕ → Option Object) (members : List MemberView) where
               ]
             ])
 
-      pub taken_as_given : (taken : List MemberView) → AreListedOnce members (names_left reads own taken) → TakesIntoAs reads members own taken →
+      pub taken_as_given : (taken : List MemberView) → AreTakenOnce (names_left reads own taken) taken → TakesIntoAs reads members own taken →
           TakesIntoAs reads (others_of is_given members) (own ++ objects_as reads (filter is_given taken)) (others_of is_given taken)
       taken_as_given taken once takes = record {
         in_turn = others_in_turn taken (taken_are taken takes.in_turn) once taken (λ x held. held) takes.in_turn;
@@ -721,14 +741,31 @@ module _ (reads : List ℕ → Option Object) (members : List MemberView) where
             let from = listed_is (others_of is_given members) name m pulls.listed in
             let kept = passing (λ y. not (is_given y)) m members from.0 in
             let left = left_again taken (taken_are taken takes.in_turn) once name
-            (contains_among name (unresolved (given_too taken (taken_are taken takes.in_turn) once ++ objects_as reads (others_of is_given taken))) pulls.named) in
-            let at = number_of members m kept.0 in
-            takes.ended name m (record {
-              named = among_contains name (unresolved (own ++ objects_as reads taken)) left;
-              listed = first_once members name at.0 m (sure taken once taken (λ x held. held) name left) at.1 from.1;
-              new = λ held. pulls.new (among_contains m (others_of is_given taken) (passes (λ y. not (is_given y)) m taken (contains_among m taken held) kept.1));
-            });
+                (contains_among name (unresolved (given_too taken (taken_are taken takes.in_turn) once ++ objects_as reads (others_of is_given taken))) pulls.named) in
+            elim (found_or_not name members) [
+              | inl none ↦ none_first name members m none kept.0 from.1
+              | inr found ↦
+                  let first = listed_is members name found.0 found.1 in
+                  takes.ended name found.0 (record {
+                    named = among_contains name (unresolved (own ++ objects_as reads taken)) left;
+                    listed = found.1;
+                    new = λ held. (unresolved_parts (own ++ objects_as reads taken) name left).1
+                        (refs_back claimed_names own (objects_as reads taken) name (claims_there taken found.0 name (contains_among found.0 taken held) first.0 first.1));
+                  })
+            ];
       }
+
+-- Where what is taken is the first that is listed, no two of it are listed for a name.
+first_are_once : (members : List MemberView) (names : List (List ℕ)) (taken : List ℕ) → TakesFirst members names taken → AreTakenOnce names (members_at members taken)
+first_are_once members names taken first name m x left held listed other again =
+    let one = taken_number members taken m (contains_among m (members_at members taken) held) in
+    let two = taken_number members taken x (contains_among x (members_at members taken) other) in
+    let up : one.0 ≤ two.0 = first name one.0 two.0 m x left (among_contains one.0 taken one.1) one.2 listed two.2 again in
+    let down : two.0 ≤ one.0 = first name two.0 one.0 x m left (among_contains two.0 taken two.1) two.2 again one.2 listed in
+    same_at members one.0 two.0 m x (omega arith) one.2 two.2
+  where
+    same_at : (some : List MemberView) (n k : ℕ) (a b : MemberView) → n ≡ k → slice_get some n ≡ Some a → slice_get some k ≡ Some b → a ≡ b
+    same_at some n k a b is at again_at = same_member a b (sym at ∙ (ap (slice_get some) is ∙ again_at))
 
 -- GNU `ld`'s command lines of libraries and of anything else.
 
@@ -736,10 +773,10 @@ module _ (machine : MachineType) (libraries : List Library) (members : List Memb
   pub of_libraries : TakesInto (archive_of libraries) (given_with object_in is_given (objects_given inputs) (members_at members taken)) (others_of is_given (members_at members taken))
   of_libraries =
       subst (λ archive. TakesIntoAs object_in archive (given_with object_in is_given (objects_given inputs) (members_at members taken)) (others_of is_given (members_at members taken))) s.libraries_are
-      (taken_as_given object_in members (objects_given inputs) s.whole is_given (members_at members taken) s.once
+      (taken_as_given object_in members (objects_given inputs) s.whole is_given (members_at members taken) (first_are_once members (names_left object_in (objects_given inputs) (members_at members taken)) taken s.first)
       (elim s.ordered [
-        | inl ordered ↦ gnu_searches object_in members inputs taken s.once s.unclaimed ordered s.searches
-        | inr complete ↦ gnu_completes object_in members inputs taken s.once s.unclaimed complete s.searches
+        | inl ordered ↦ gnu_searches object_in members inputs taken s.first s.unclaimed ordered s.searches
+        | inr complete ↦ gnu_completes object_in members inputs taken s.first s.unclaimed complete s.searches
       ]))
 
 pub command_line_closes : (machine : MachineType) (libraries : List Library) (members : List MemberView) (inputs : List Input) (taken : List ℕ) (is_given : MemberView → Bool)
@@ -752,13 +789,18 @@ command_line_closes machine libraries members inputs taken is_given arranged bas
     closed_links machine libraries (given_with object_in is_given (objects_given inputs) (members_at members taken)) (others_of is_given (members_at members taken)) arranged bases objects archive
     (given_closes machine libraries (given_with object_in is_given (objects_given inputs) (members_at members taken)) (others_of is_given (members_at members taken)) arranged bases objects archive given takes linked)
 
+-- what no two members are listed for, the first is
+pub once_is_first : (members : List MemberView) (names : List (List ℕ)) (taken : List ℕ) → AreListedOnce members names → TakesFirst members names taken
+once_is_first members names taken once name n k m x left held at listed other again =
+    let same : n ≡ k = once name n k m x left at listed other again in omega arith
+
 -- Where both linkers take a command line's members, they take the same.
 pub takes_alike : (reads : List ℕ → Option Object) (members : List MemberView) (inputs : List Input) (taken : List ℕ) (other : List MemberView) → AreListedOnce members (names_left reads (objects_given inputs) (members_at members taken)) →
     AreListedOnce members (names_left reads (objects_given inputs) other) → AreListedWhole reads members → AreUnclaimedBehind members [] inputs → IsOrdered reads members inputs → HaveAll members inputs → SearchesCommandLine reads members inputs taken →
     LldSearches reads members inputs other → HaveSame (members_at members taken) other
 takes_alike reads members inputs taken other once again whole none ordered all gnu lld =
     searches_alike reads members (objects_given inputs) whole (members_at members taken) other once again
-    (gnu_searches reads members inputs taken once none ordered gnu) (lld_searches reads members inputs other again none all lld)
+    (gnu_searches reads members inputs taken (once_is_first members (names_left reads (objects_given inputs) (members_at members taken)) taken once) none ordered gnu) (lld_searches reads members inputs other again none all lld)
 
 -- Where all symbols differ, no two members are listed for any names.
 pub listed_once_of : (members : List MemberView) (names : List (List ℕ)) → IsDistinct bytes_eq (all_listed members) → AreListedOnce members names

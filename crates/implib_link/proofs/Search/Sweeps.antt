@@ -62,6 +62,9 @@ none_first name (x ∷ some) m none held listed =
 abbrev pub IsOnce : List MemberView → List ℕ → Type 0
 IsOnce archive name = (n k : ℕ) (m x : MemberView) → slice_get archive n ≡ Some m → Among name m.symbols → slice_get archive k ≡ Some x → Among name x.symbols → n ≡ k
 
+same_less : (n k : ℕ) → n ≡ k → n ≤ k
+same_less n k is = omega (arith, is)
+
 pub once_by : (archive : List MemberView) (name : List ℕ) → IsDistinct bytes_eq (all_listed archive) → IsOnce archive name
 once_by archive name distinct n k m x at listed other again = one_number archive name n k m x distinct at other listed again
 
@@ -83,6 +86,27 @@ first_once archive name n m once at listed =
           let from = first_is name archive found.0 found.1 in
           found.1 ∙ ap Some (once_member archive name found.0 m once from.0 (member_at archive n m at) from.1 listed)
     ]
+
+-- no member in front of that of a number is listed for a name, if this one is
+abbrev pub IsFirstAt : List MemberView → List ℕ → ℕ → Type 0
+IsFirstAt archive name n = (k : ℕ) (m x : MemberView) → slice_get archive n ≡ Some m → Among name m.symbols → slice_get archive k ≡ Some x → Among name x.symbols → n ≤ k
+
+first_at : (archive : List MemberView) (name : List ℕ) (n : ℕ) (m : MemberView) → IsFirstAt archive name n → slice_get archive n ≡ Some m → Among name m.symbols → first_listed archive name ≡ Some m
+first_at [] name n m first at listed = absurd (cc)
+first_at (y ∷ archive) name zero m first at listed =
+    let same : y ≡ m = same_member y m at in
+    rw (among_any name y.symbols (subst (λ (z : MemberView). Among name z.symbols) (sym same) listed)) (ap Some same)
+first_at (y ∷ archive) name (suc n) m first at listed =
+    elim (cases_Bool (is_listed_for name y)) [
+      | inl here ↦ absurd (below n (first 0 m y at listed refl (any_among name y.symbols here)))
+      | inr other ↦ rw other (first_at archive name n m (λ k a b is held again names. less n k (first (suc k) a b is held again names)) at listed)
+    ]
+  where
+    below : (i : ℕ) → suc i ≤ 0 → ⊥
+    below i is = omega (arith, is)
+
+    less : (i k : ℕ) → suc i ≤ suc k → i ≤ k
+    less i k is = omega (arith, is)
 
 -- A number is taken exactly where its member is.
 
@@ -262,62 +286,72 @@ module _ (reads : List ℕ → Option Object) (archive : List MemberView) (own :
       both : {left there : Bool} → left ≡ true → there ≡ false → (left && not there) ≡ true
       both one other = rw (one, other) refl
 
-  -- an entry whose member is to be taken pulls it in, where no other member is listed for its name
-  due_pulls : (numbers : List ℕ) (e : IndexEntry) → (from : IsEntry archive e) → IsOnce archive e.name → is_due reads archive own numbers e ≡ true → PullsIntoAs reads archive own (members_at archive numbers) e.name from.0
-  due_pulls numbers e from once due =
+  -- an entry whose member is to be taken pulls it in, where it and those that are taken are the first that are listed for its name
+  due_pulls : (numbers : List ℕ) (e : IndexEntry) → (from : IsEntry archive e) → ((n : ℕ) → Among n (e.number ∷ numbers) → IsFirstAt archive e.name n) → is_due reads archive own numbers e ≡ true →
+      PullsIntoAs reads archive own (members_at archive numbers) e.name from.0
+  due_pulls numbers e from first due =
       let parts = and_parts (is_left reads archive own numbers e.name) (not (list_any (λ number. number == e.number) numbers)) due in
+      let own_first = first e.number (among_first e.number numbers) in
       record {
         named = among_contains e.name (unresolved (own ++ objects_as reads (members_at archive numbers)))
             (any_among e.name (unresolved (own ++ objects_as reads (members_at archive numbers))) parts.0);
-        listed = first_once archive e.name e.number from.0 once from.1 from.2;
+        listed = first_at archive e.name e.number from.0 own_first from.1 from.2;
         new = λ held.
             let other = taken_number archive numbers from.0 (contains_among from.0 (members_at archive numbers) held) in
-            let one : other.0 ≡ e.number = once other.0 e.number from.0 from.0 other.2 from.2 from.1 from.2 in
+            let up : e.number ≤ other.0 = own_first other.0 from.0 from.0 from.1 from.2 other.2 from.2 in
+            let down : other.0 ≤ e.number = first other.0 (among_later other.0 e.number numbers other.1) e.number from.0 from.0 other.2 from.2 from.1 from.2 in
+            let one : other.0 ≡ e.number = omega arith in
             let there : list_any (λ number. number == e.number) numbers ≡ true = among_number e.number numbers (subst (λ k. Among k numbers) one other.1) in
             true≢false (sym parts.1 ∙ ap not there);
       }
 
-  -- What a sweep takes for these objects is taken for others (`whole`), for which each pull is one, too. `Fits` says of what
-  -- is taken that no two members are listed for a name that is left then (`sure`); of less, it holds as well (`less`).
-  module _ (whole : List Object) (Fits : List ℕ → Type 0) (less : (before after : List ℕ) → ((n : ℕ) → Among n before → Among n after) → Fits after → Fits before)
-      (sure : (numbers : List ℕ) → Fits numbers → (name : List ℕ) → Among name (unresolved (own ++ objects_as reads (members_at archive numbers))) → IsOnce archive name) where
+  -- What a sweep takes for these objects is taken for others (`whole`), for which each pull is one, too; where of what is taken
+  -- in the end (`Kept`) each is the first that is listed for a name that is left on the way (`sure`).
+  module _ (whole : List Object) (Kept : ℕ → Type 0)
+      (sure : (numbers : List ℕ) → ((n : ℕ) → Among n numbers → Kept n) → (name : List ℕ) → Among name (unresolved (own ++ objects_as reads (members_at archive numbers))) → (n : ℕ) → Kept n → IsFirstAt archive name n) where
+    abbrev Within : List ℕ → Type 0
+    Within numbers = (n : ℕ) → Among n numbers → Kept n
+
     -- an entry, and what it pulls in
     abbrev pub Lifts : IndexEntry → Type 0
     Lifts e = (from : IsEntry archive e) × ((numbers : List ℕ) → PullsIntoAs reads archive own (members_at archive numbers) e.name from.0 →
         PullsIntoAs reads archive whole (members_at archive numbers) e.name from.0)
 
-    one_more : (numbers : List ℕ) (e : IndexEntry) (from : Lifts e) → Fits numbers → is_due reads archive own numbers e ≡ true → AreTakenIntoAs reads archive whole (members_at archive numbers) →
+    one_more : (numbers : List ℕ) (e : IndexEntry) (from : Lifts e) → Within (e.number ∷ numbers) → is_due reads archive own numbers e ≡ true → AreTakenIntoAs reads archive whole (members_at archive numbers) →
         AreTakenIntoAs reads archive whole (members_at archive (e.number ∷ numbers))
     unfolding AreTakenIntoAs
-    one_more numbers e from fits due before =
+    one_more numbers e from within due before =
         let left = any_among e.name (unresolved (own ++ objects_as reads (members_at archive numbers))) (and_parts (is_left reads archive own numbers e.name) (not (list_any (λ number. number == e.number) numbers)) due).0 in
-        subst (AreTakenIntoAs reads archive whole) (sym (members_next archive e.number from.0.0 numbers from.0.1)) ((e.name, from.1 numbers (due_pulls numbers e from.0 (sure numbers fits e.name left) due)), before)
+        let first = λ (n : ℕ) (held : Among n (e.number ∷ numbers)). sure numbers (λ k there. within k (among_later k e.number numbers there)) e.name left n (within n held) in
+        subst (AreTakenIntoAs reads archive whole) (sym (members_next archive e.number from.0.0 numbers from.0.1)) ((e.name, from.1 numbers (due_pulls numbers e from.0 first due)), before)
 
-    pub swept_in_turn : (index : List IndexEntry) → ((e : IndexEntry) → Among e index → Lifts e) → (numbers : List ℕ) → Fits (swept reads archive own index numbers) → AreTakenIntoAs reads archive whole (members_at archive numbers) →
+    pub swept_in_turn : (index : List IndexEntry) → ((e : IndexEntry) → Among e index → Lifts e) → (numbers : List ℕ) → Within (swept reads archive own index numbers) → AreTakenIntoAs reads archive whole (members_at archive numbers) →
         AreTakenIntoAs reads archive whole (members_at archive (swept reads archive own index numbers))
     unfolding swept
-    swept_in_turn [] are numbers fits before = before
-    swept_in_turn (e ∷ index) are numbers fits before =
-        let now : Fits numbers = less numbers (swept reads archive own (e ∷ index) numbers) (swept_keeps (e ∷ index) numbers) fits in
+    swept_in_turn [] are numbers within before = before
+    swept_in_turn (e ∷ index) are numbers within before =
         elim (cases_Bool (is_due reads archive own numbers e)) [
-          | inl due ↦ rw due (swept_in_turn index (λ x held. are x (among_later x e index held)) (e.number ∷ numbers) (rw due at fits) (one_more numbers e (are e (among_first e index)) now due before))
-          | inr not_due ↦ rw not_due (swept_in_turn index (λ x held. are x (among_later x e index held)) numbers (rw not_due at fits) before)
+          | inl due ↦
+              let kept : Within (swept reads archive own index (e.number ∷ numbers)) = rw due at within in
+              rw due (swept_in_turn index (λ x held. are x (among_later x e index held)) (e.number ∷ numbers) kept
+              (one_more numbers e (are e (among_first e index)) (λ n held. kept n (swept_keeps index (e.number ∷ numbers) n held)) due before))
+          | inr not_due ↦ rw not_due (swept_in_turn index (λ x held. are x (among_later x e index held)) numbers (rw not_due at within) before)
         ]
 
-    pub sweeps_in_turn : (index : List IndexEntry) → ((e : IndexEntry) → Among e index → Lifts e) → (count : ℕ) (numbers : List ℕ) → Fits (sweeps reads archive own index count numbers) → AreTakenIntoAs reads archive whole (members_at archive numbers) →
+    pub sweeps_in_turn : (index : List IndexEntry) → ((e : IndexEntry) → Among e index → Lifts e) → (count : ℕ) (numbers : List ℕ) → Within (sweeps reads archive own index count numbers) → AreTakenIntoAs reads archive whole (members_at archive numbers) →
         AreTakenIntoAs reads archive whole (members_at archive (sweeps reads archive own index count numbers))
     unfolding sweeps
-    sweeps_in_turn index are zero numbers fits before = before
-    sweeps_in_turn index are (suc count) numbers fits before =
-        sweeps_in_turn index are count (swept reads archive own index numbers) fits
-        (swept_in_turn index are numbers (less (swept reads archive own index numbers) (sweeps reads archive own index count (swept reads archive own index numbers)) (sweeps_keep index count (swept reads archive own index numbers)) fits) before)
+    sweeps_in_turn index are zero numbers within before = before
+    sweeps_in_turn index are (suc count) numbers within before =
+        sweeps_in_turn index are count (swept reads archive own index numbers) within
+        (swept_in_turn index are numbers (λ n held. within n (sweeps_keep index count (swept reads archive own index numbers) n held)) before)
 
   module _ (distinct : IsDistinct bytes_eq (all_listed archive)) where
     pub sweeps_take : (count : ℕ) (numbers : List ℕ) → SweepsTake reads archive own count numbers → TakesIntoAs reads archive own (members_at archive numbers)
     unfolding AreTakenIntoAs
     sweeps_take count numbers takes = record {
       in_turn = subst (λ ns. AreTakenIntoAs reads archive own (members_at archive ns)) takes.taken
-          (sweeps_in_turn own (λ ns. Unit {0}) (λ one other held fits. tt) (λ ns fits name left. once_by archive name distinct) (index_of archive) (λ e held. (all_entries archive e held, λ ns pulls. pulls)) count [] tt tt);
+          (sweeps_in_turn own (λ n. Unit {0}) (λ ns kept name left n held k m x at listed other again. same_less n k (once_by archive name distinct n k m x at listed other again)) (index_of archive) (λ e held. (all_entries archive e held, λ ns pulls. pulls)) count [] (λ n held. tt) tt);
       ended = λ name m pulls.
           let from = first_is name archive m pulls.listed in
           let at = number_of archive m from.0 in

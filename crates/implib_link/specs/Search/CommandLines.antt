@@ -7,7 +7,7 @@
 --
 -- lld (COFF/SymbolTable.cpp, `addLazyArchive`, `addUndefined`) keeps the symbols of each archive that it has read, and takes a
 -- member as soon as a name is both unresolved and listed.
-use Rattle.std.specs.Prelude.{◌≡◌, ℕ, zero, suc, Bool, false, ◌==◌, List, [], ◌∷◌, ◌++◌, bytes_eq, length, not, slice_get, Option, None, Some, ◌⊎◌}
+use Rattle.std.specs.Prelude.{◌≡◌, ℕ, zero, suc, Bool, false, ◌==◌, List, [], ◌∷◌, ◌++◌, ◌≤◌, bytes_eq, length, not, slice_get, Option, None, Some, ◌⊎◌}
 use Rattle.std.specs.List.{AllByRecursion, Contains, filter, flat_map, list_any}
 use Rattle.implib.specs.Formats.Object.{Object, object_in}
 use Rattle.implib.specs.declared.machine.MachineType.{MachineType}
@@ -160,6 +160,17 @@ AreListedOnce members names = (name : List ℕ) (n k : ℕ) (m x : MemberView) �
     slice_get members n ≡ Some m → Contains m.symbols name → slice_get members k ≡ Some x → Contains x.symbols name →
     n ≡ k
 
+-- No member that is taken is listed for one of these names, if one in front of it is.
+abbrev pub TakesFirst : List MemberView → List (List ℕ) → List ℕ → Type 0
+TakesFirst members names taken = (name : List ℕ) (n k : ℕ) (m x : MemberView) → Contains names name →
+    Contains taken n → slice_get members n ≡ Some m → Contains m.symbols name →
+    slice_get members k ≡ Some x → Contains x.symbols name → n ≤ k
+
+-- no two members that are taken are listed for one of these names
+abbrev pub AreTakenOnce : List (List ℕ) → List MemberView → Type 0
+AreTakenOnce names taken = (name : List ℕ) (m x : MemberView) → Contains names name →
+    Contains taken m → Contains m.symbols name → Contains taken x → Contains x.symbols name → m ≡ x
+
 -- what is left to others in a link: by the given objects, and by the members that are taken
 abbrev pub names_left : (List ℕ → Option Object) → List Object → List MemberView → List (List ℕ)
 names_left reads own taken = references_of (own ++ objects_as reads taken)
@@ -177,12 +188,12 @@ others_of is_given members = filter (λ m. not (is_given m)) members
 
 -- What GNU `ld` takes of a command line's archives:
 -- `libraries_are`: the members that are not as given are those of libraries, archive by archive;
--- `once`, `unclaimed`, `ordered`, `whole`: what is asked of the command line;
+-- `first`, `unclaimed`, `ordered`, `whole`: what is asked of the command line;
 -- `searches`: the search.
 pub record SearchesLibraries (machine : MachineType) (libraries : List Library) (members : List MemberView)
     (inputs : List Input) (is_given : MemberView → Bool) (taken : List ℕ) : Type 0 where
   pub libraries_are : others_of is_given members ≡ archive_of libraries
-  pub once : AreListedOnce members (names_left object_in (objects_given inputs) (members_at members taken))
+  pub first : TakesFirst members (names_left object_in (objects_given inputs) (members_at members taken)) taken
   pub unclaimed : AreUnclaimedBehind members [] inputs
   pub ordered : IsOrdered object_in members inputs
       ⊎ NoneIsLost object_in members (objects_given inputs) (members_at members taken)

@@ -7,9 +7,9 @@ ghost use Rattle.implib.specs.declared.machine.MachineType.{MachineType};
 ghost use Rattle.implib_link.specs.Gnu.Program.{HaveSame};
 ghost use Rattle.implib_link.specs.Search.Archives.{IsArchive, Library};
 ghost use Rattle.implib_link.specs.Search.Closed.{AreLinkedFor, LinksClosed, TakesIntoAs};
-ghost use Rattle.implib_link.specs.Search.CommandLines.{AreListedOnce, AreListedWhole};
+ghost use Rattle.implib_link.specs.Search.CommandLines.{AreListedOnce, AreListedWhole, AreTakenOnce};
 ghost use Rattle.implib_link.specs.Search.CommandLines.{AreUnclaimedBehind, HaveAll, NoneIsLost};
-ghost use Rattle.implib_link.specs.Search.CommandLines.{names_left};
+ghost use Rattle.implib_link.specs.Search.CommandLines.{TakesFirst, names_left};
 ghost use Rattle.implib_link.specs.Search.CommandLines.{Input, IsOrdered, LldSearches};
 ghost use Rattle.implib_link.specs.Search.CommandLines.{SearchesCommandLine, SearchesLibraries};
 ghost use Rattle.implib_link.specs.Search.CommandLines.{given_with, objects_given, others_of};
@@ -21,7 +21,8 @@ ghost use Rattle.std.specs.Prelude.{ℕ, [], Bool, List, Option};
 /// takes, for all objects, whatever the archives are: so all that is proved of such a search holds
 /// of it.
 ///
-/// No two members list a name that objects or taken members leave to others, and no object claims a name that an archive in front of it lists.
+/// For a name that objects or taken members leave to others no member in front of a taken one is
+/// listed, if this one is (for lld, no two members are); and no object claims a name that an archive in front of it lists.
 /// GNU `ld` wants an order, too, in which what is left unresolved is listed behind it, or in the same
 /// group (`gnu`); or that nothing which an archive lists is left in the end, as in each link without
 /// an undefined reference (`complete`). lld takes any order (`lld`). An archive may stand on the command line more than once.
@@ -29,13 +30,13 @@ ghost use Rattle.std.specs.Prelude.{ℕ, [], Bool, List, Option};
 pub fn command_lines_are_searched()
     ensures gnu { (reads : List ℕ → Option Object) (members : List MemberView)
         (inputs : List Input) (taken : List ℕ) →
-        AreListedOnce members (names_left reads (objects_given inputs) (members_at members taken)) →
+        TakesFirst members (names_left reads (objects_given inputs) (members_at members taken)) taken →
         AreUnclaimedBehind members [] inputs → IsOrdered reads members inputs →
         SearchesCommandLine reads members inputs taken →
         TakesIntoAs reads members (objects_given inputs) (members_at members taken) }
     ensures complete { (reads : List ℕ → Option Object) (members : List MemberView)
         (inputs : List Input) (taken : List ℕ) →
-        AreListedOnce members (names_left reads (objects_given inputs) (members_at members taken)) →
+        TakesFirst members (names_left reads (objects_given inputs) (members_at members taken)) taken →
         AreUnclaimedBehind members [] inputs →
         NoneIsLost reads members (objects_given inputs) (members_at members taken) →
         SearchesCommandLine reads members inputs taken →
@@ -75,7 +76,7 @@ pub fn linkers_take_alike()
 pub fn taken_members_are_as_given()
     ensures { (reads : List ℕ → Option Object) (members : List MemberView) (own : List Object)
         (taken : List MemberView) (is_given : MemberView → Bool) →
-        AreListedOnce members (names_left reads own taken) →
+        AreTakenOnce (names_left reads own taken) taken →
         AreListedWhole reads members → TakesIntoAs reads members own taken →
         TakesIntoAs reads (others_of is_given members) (given_with reads is_given own taken)
         (others_of is_given taken) }

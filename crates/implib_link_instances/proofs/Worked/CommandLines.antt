@@ -1,5 +1,5 @@
 -- The command lines, by computing and by the laws.
-use Rattle.std.proofs.Common.{◌≡◌, ℕ, zero, suc, Bool, true, false, List, [], ◌∷◌, ◌++◌, ◌+◌, length, map, Option, None, Some, refl, ap, sym, ◌∙◌, subst, inl, inr, codes, arith}
+use Rattle.std.proofs.Common.{◌≡◌, ◌≤◌, ℕ, zero, suc, Bool, true, false, List, [], ◌∷◌, ◌++◌, ◌+◌, length, map, Option, None, Some, refl, ap, sym, ◌∙◌, subst, inl, inr, codes, arith}
 use Rattle.std.specs.Prelude.{◌&&◌, bytes_eq, drop, is_none, not, slice_get, take}
 use Rattle.std.specs.List.{AllByRecursion, Contains, IsDistinct, flat_map, list_all, list_any}
 use Rattle.std.proofs.lemmas.Bool.{and_parts, true≢false}
@@ -19,7 +19,7 @@ use Rattle.implib_link.specs.Search.CommandLines.{AreListedOnce, AreListedWhole,
 use Rattle.implib_link.specs.Search.Given.{AreGiven, symbols_kept, wanted_at_most}
 use Rattle.implib_link.specs.Search.Search.{claimed_as, first_listed, objects_as, undefined_in}
 use Rattle.implib_link.specs.Search.Sweeps.{IndexEntry, index_at, members_at, sweeps, swept}
-use Rattle.implib_link.proofs.Search.CommandLines.{gnu_searches, listed_once_of, searches_keep, takes_alike}
+use Rattle.implib_link.proofs.Search.CommandLines.{gnu_searches, listed_once_of, once_is_first, searches_keep, takes_alike}
 use Rattle.implib_link.proofs.Search.Lists.{among_any, any_among, contains_among}
 use Rattle.implib_link_instances.specs.Worked.CommandLines.{NearIsClosedOver, NearIsGroupSearched, NearIsSwept, NearSearchesLibraries, RefusedCommandLines, WorkedCommandLine, WorkedCommandLines, WorkedLibraries, all_taken, amd64_members, i386_members, i386_wants_bytes, in_group, is_quit, kernel_on, library_first, library_last, library_twice, of_kernel, of_quit, quit_bytes, quit_member, read_or_none, spare_member, wants_bytes, with_spares}
 use Rattle.implib_link_instances.specs.Worked.Programs.{code_object}
@@ -169,7 +169,7 @@ line = record {
   by_lld = by_lld;
   first = searched_last;
   ordered = ordered;
-  takes = gnu_searches object_in amd64_members (library_last own) all_taken (listed_once_of amd64_members (names_left object_in own (members_at amd64_members all_taken)) distinct) unclaimed ordered searched_last;
+  takes = gnu_searches object_in amd64_members (library_last own) all_taken (once_is_first amd64_members (names_left object_in own (members_at amd64_members all_taken)) all_taken (listed_once_of amd64_members (names_left object_in own (members_at amd64_members all_taken)) distinct)) unclaimed ordered searched_last;
   group = searched_group;
   again = searched_twice;
   alike = λ other lld. takes_alike object_in amd64_members (in_group own) all_taken other (listed_once_of amd64_members (names_left object_in own (members_at amd64_members all_taken)) distinct) (listed_once_of amd64_members (names_left object_in own other) distinct) whole group_unclaimed group_ordered all searched_group lld;
@@ -189,7 +189,7 @@ libraries : WorkedLibraries AMD64 (kernel_on AMD64 (codes "ExitProcess")) amd64_
 unfolding opened alias_specs encoded_size refusal renamed_refusal is_weak symbols_of_library archive_of
 libraries = record {
   archive = record { made = (record { accepted = refl; made = refl; ordinals = refl }, tt); distinct = distinct_by (flat_map (symbols_of_library AMD64) ((kernel_on AMD64 (codes "ExitProcess")) ∷ [])) refl };
-  searches = record { libraries_are = refl; once = listed_once_of amd64_members (names_left object_in own (members_at amd64_members all_taken)) distinct; unclaimed = unclaimed; ordered = inl ordered; whole = whole; searches = searched_last };
+  searches = record { libraries_are = refl; first = once_is_first amd64_members (names_left object_in own (members_at amd64_members all_taken)) all_taken (listed_once_of amd64_members (names_left object_in own (members_at amd64_members all_taken)) distinct); unclaimed = unclaimed; ordered = inl ordered; whole = whole; searches = searched_last };
   given = given;
 }
 
@@ -290,7 +290,7 @@ i386_line = record {
   by_lld = i386_by_lld;
   first = i386_searched_last;
   ordered = i386_ordered;
-  takes = gnu_searches object_in i386_members (library_last i386_own) all_taken (listed_once_of i386_members (names_left object_in i386_own (members_at i386_members all_taken)) i386_distinct) i386_unclaimed i386_ordered i386_searched_last;
+  takes = gnu_searches object_in i386_members (library_last i386_own) all_taken (once_is_first i386_members (names_left object_in i386_own (members_at i386_members all_taken)) all_taken (listed_once_of i386_members (names_left object_in i386_own (members_at i386_members all_taken)) i386_distinct)) i386_unclaimed i386_ordered i386_searched_last;
   group = i386_searched_group;
   again = i386_searched_twice;
   alike = λ other lld. takes_alike object_in i386_members (in_group i386_own) all_taken other (listed_once_of i386_members (names_left object_in i386_own (members_at i386_members all_taken)) i386_distinct) (listed_once_of i386_members (names_left object_in i386_own other) i386_distinct) i386_whole i386_group_unclaimed i386_group_ordered i386_all i386_searched_group lld;
@@ -314,7 +314,7 @@ i386_libraries : WorkedLibraries I386 (kernel_on I386 (codes "_ExitProcess@4")) 
 unfolding opened alias_specs encoded_size refusal renamed_refusal is_weak symbols_of_library archive_of
 i386_libraries = record {
   archive = record { made = (record { accepted = refl; made = refl; ordinals = refl }, tt); distinct = distinct_by (flat_map (symbols_of_library I386) ((kernel_on I386 (codes "_ExitProcess@4")) ∷ [])) refl };
-  searches = record { libraries_are = refl; once = listed_once_of i386_members (names_left object_in i386_own (members_at i386_members all_taken)) i386_distinct; unclaimed = i386_unclaimed; ordered = inr complete; whole = i386_whole; searches = i386_searched_last };
+  searches = record { libraries_are = refl; first = once_is_first i386_members (names_left object_in i386_own (members_at i386_members all_taken)) all_taken (listed_once_of i386_members (names_left object_in i386_own (members_at i386_members all_taken)) i386_distinct); unclaimed = i386_unclaimed; ordered = inr complete; whole = i386_whole; searches = i386_searched_last };
   given = i386_given;
 }
 
@@ -394,7 +394,8 @@ pub near_searches_libraries : NearSearchesLibraries
 unfolding opened alias_specs encoded_size IsDistinct claimed_as swept references_of claims_of undefined_in IsOrdered AreUnclaimedBehind SearchesFrom archive_of Among
 near_searches_libraries = record {
   libraries_are = λ x. differ 0 3 (sym (ap length x.libraries_are)) (omega arith);
-  once = λ x. differ 3 4 (x.once (codes "quit") 3 4 (quit_member (codes "quit") quit_bytes) (quit_member (codes "quit") quit_bytes) quit_left refl (among_contains (codes "quit") (codes "quit" ∷ []) (inl refl)) refl (among_contains (codes "quit") (codes "quit" ∷ []) (inl refl))) (omega arith);
+  first = λ x. above (x.first (codes "quit") 4 3 (quit_member (codes "quit") quit_bytes) (quit_member (codes "quit") quit_bytes) quit_left
+      (among_contains 4 (0 ∷ 1 ∷ 2 ∷ 4 ∷ []) (inr (inr (inr (inl refl))))) refl (among_contains (codes "quit") (codes "quit" ∷ []) (inl refl)) refl (among_contains (codes "quit") (codes "quit" ∷ []) (inl refl)));
   unclaimed = λ x. true≢false x.unclaimed.1.1.1.0.0.0;
   ordered = λ x. elim x.ordered [ inl is ↦ unordered is | inr none ↦ found none.0 ];
   whole = λ x. not_quit (contains_among (codes "more") (codes "quit" ∷ []) ((x.whole.1.1.1.0 (codes "more")).1 (among_contains (codes "more") (codes "quit" ∷ codes "more" ∷ []) (inr (inl refl)))));
@@ -405,8 +406,11 @@ near_searches_libraries = record {
       differ 0 1 (sym (ap length (subst (λ ns. swept object_in amd64_members own (index_at amd64_members of_quit) ns ≡ ns) none s.1.ended.0))) (omega arith);
 }
   where
-    quit_left : Contains (names_left object_in own (members_at (amd64_members ++ quit_member (codes "quit") quit_bytes ∷ []) all_taken)) (codes "quit")
-    quit_left = among_contains (codes "quit") (names_left object_in own (members_at (amd64_members ++ quit_member (codes "quit") quit_bytes ∷ []) all_taken)) (any_among (codes "quit") (names_left object_in own (members_at (amd64_members ++ quit_member (codes "quit") quit_bytes ∷ []) all_taken)) refl)
+    above : 4 ≤ 3 → ⊥
+    above is = omega (arith, is)
+
+    quit_left : Contains (names_left object_in own (members_at (amd64_members ++ quit_member (codes "quit") quit_bytes ∷ []) (0 ∷ 1 ∷ 2 ∷ 4 ∷ []))) (codes "quit")
+    quit_left = among_contains (codes "quit") (names_left object_in own (members_at (amd64_members ++ quit_member (codes "quit") quit_bytes ∷ []) (0 ∷ 1 ∷ 2 ∷ 4 ∷ []))) (any_among (codes "quit") (names_left object_in own (members_at (amd64_members ++ quit_member (codes "quit") quit_bytes ∷ []) (0 ∷ 1 ∷ 2 ∷ 4 ∷ []))) refl)
 
     found : ◌≡◌ {A = Option MemberView} (first_listed amd64_members (codes "ExitProcess")) None → ⊥
     found is = cc

@@ -214,13 +214,15 @@ pub record NearIsClosedOver : Type 0 where
 abbrev pub quitting : Object
 quitting = code_object (symbol_of_class (codes "quit") 1 class_external ∷ [])
 
--- a command line of libraries, but for one thing: there are no libraries; the archive's member is there twice; an object behind
+-- a command line of libraries, but for one thing: there are no libraries; the second of two members that are listed
+-- for a name is taken; an object behind
 -- the archive claims its name; the library is first; the member is listed for a name more; it is not taken
 pub record NearSearchesLibraries : Type 0 where
   pub libraries_are : SearchesLibraries AMD64 [] amd64_members (library_last wanting_own) is_quit all_taken → ⊥
-  pub once : SearchesLibraries AMD64 (kernel_on AMD64 (codes "ExitProcess") ∷ [])
+  pub first : SearchesLibraries AMD64 (kernel_on AMD64 (codes "ExitProcess") ∷ [])
       (amd64_members ++ quit_member (codes "quit") quit_bytes ∷ [])
-      (inputs_of wanting_own ++ Archives ((3 ∷ 4 ∷ []) ∷ []) ∷ Archives (of_kernel ∷ []) ∷ []) is_quit all_taken → ⊥
+      (inputs_of wanting_own ++ Archives ((4 ∷ []) ∷ []) ∷ Archives (of_kernel ∷ []) ∷ []) is_quit
+      (0 ∷ 1 ∷ 2 ∷ 4 ∷ []) → ⊥
   pub unclaimed : SearchesLibraries AMD64 (kernel_on AMD64 (codes "ExitProcess") ∷ []) amd64_members
       (library_last wanting_own ++ AnObject quitting ∷ []) is_quit all_taken → ⊥
   pub ordered : SearchesLibraries AMD64 (kernel_on AMD64 (codes "ExitProcess") ∷ []) amd64_members
