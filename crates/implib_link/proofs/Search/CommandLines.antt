@@ -1,5 +1,5 @@
 -- Searches of several archives, in the order of a command line, take what one search of all of them takes.
-use Rattle.std.proofs.Common.{◌≡◌, ℕ, ◌⊎◌, zero, suc, Bool, true, false, List, [], ◌∷◌, ◌++◌, length, Option, Some, None, refl, ap, sym, ◌∙◌, subst, inl, inr, arith}
+use Rattle.std.proofs.Common.{◌≡◌, ◌≤◌, ℕ, ◌⊎◌, zero, suc, Bool, true, false, List, [], ◌∷◌, ◌++◌, length, Option, Some, None, refl, ap, sym, ◌∙◌, subst, inl, inr, arith}
 use Rattle.std.specs.Prelude.{◌==◌, bytes_eq, not, slice_get}
 use Rattle.std.specs.List.{AllByRecursion, Contains, IsDistinct, cons_option, filter, flat_map, list_any}
 use Rattle.std.proofs.lemmas.Bool.{cases_Bool, true≢false}
@@ -13,17 +13,17 @@ use Rattle.implib.proofs.Link.LinkedMembers.{among_contains}
 use Rattle.implib.proofs.Link.Ranges.{Among, all_among, among_back, among_first, among_flat, among_front, among_later}
 use Rattle.implib_link.specs.Gnu.Program.{ClaimsNone, HaveSame, claimed_names}
 use Rattle.implib_link.specs.Search.Archives.{IsArchive, Library, archive_of}
-use Rattle.implib_link.specs.Search.Closed.{AreLinkedFor, AreTakenIntoAs, LinksClosed, PullsIntoAs, TakesInto, TakesIntoAs, unresolved}
+use Rattle.implib_link.specs.Search.Closed.{AreLinkedFor, AreTakenIntoAs, LinksClosed, PullsIntoAs, TakesInto, TakesIntoAs, references_of, unresolved}
 use Rattle.implib_link.specs.Search.Given.{AreGiven}
-use Rattle.implib_link.specs.Search.CommandLines.{AnObject, Archives, AreListedWhole, AreRounds, AreSwept, AreTakenBehind, AreUnclaimedBehind, HaveAll, Input, IsOrdered, IsSwept, LeavesNone, LldSearches, LldSearchesFrom, SearchesLibraries, SearchesCommandLine, SearchesFrom, listed_at, numbers_but, numbers_in, numbers_of, object_of, objects_given, others_of, given_with}
+use Rattle.implib_link.specs.Search.CommandLines.{AnObject, Archives, AreListedOnce, AreListedWhole, AreRounds, AreSwept, AreTakenBehind, AreTakenOnce, AreUnclaimedBehind, HaveAll, Input, IsOrdered, IsSwept, LeavesNone, LldSearches, LldSearchesFrom, NoneIsLost, SearchesLibraries, TakesFirst, SearchesCommandLine, SearchesFrom, listed_at, names_left, numbers_but, numbers_in, numbers_of, object_of, objects_given, others_of, given_with}
 use Rattle.implib_link.specs.Search.Search.{claimed_as, first_listed, is_listed_for, objects_as, undefined_in}
 use Rattle.implib_link.specs.Search.Sweeps.{IndexEntry, index_at, members_at, numbers_from, sweeps, swept}
 use Rattle.implib_link.proofs.Search.ArchiveGroups.{found_or_not}
 use Rattle.implib_link.proofs.Search.Closed.{closed_links}
 use Rattle.implib_link.proofs.Search.Given.{given_closes}
 use Rattle.implib_link.proofs.Search.Closing.{unresolved_from, unresolved_parts}
-use Rattle.implib_link.proofs.Search.Lists.{all_listed, among_any, any_among, among_either, among_flat_map, among_listed, as_name, contains_among, listed_is, listed_once, name_as, one_member, passes, passing, to_not}
-use Rattle.implib_link.proofs.Search.Sweeps.{Lifts, all_there, among_number, entries_of, entry_there, member_at, none_left, number_among, number_of, number_taken, swept_adds, swept_in_turn, swept_keeps, sweeps_in_turn, taken_number}
+use Rattle.implib_link.proofs.Search.Lists.{all_listed, among_any, any_among, among_either, among_flat_map, among_listed, as_name, contains_among, listed_is, listed_once, name_as, one_member, passes, passing, same_member, to_not}
+use Rattle.implib_link.proofs.Search.Sweeps.{IsFirstAt, IsOnce, Lifts, all_there, among_number, entries_of, entry_there, member_at, first_once, none_first, none_left, number_among, number_of, number_taken, swept_adds, swept_in_turn, sweeps_in_turn, sweeps_keep, taken_number, once_by, once_member}
 
 -- What was read first counts on: references and claims of some objects are those of more.
 
@@ -54,21 +54,6 @@ left_on own later taken name none left =
     ])
 
 -- Names that are listed.
-
-none_first : (name : List ℕ) (some : List MemberView) (m : MemberView) → first_listed some name ≡ None → Among m some → Among name m.symbols → ⊥
-unfolding Among
-none_first name [] m none held listed = held
-none_first name (x ∷ some) m none held listed =
-    elim (cases_Bool (is_listed_for name x)) [
-      | inl here ↦ found x (rw here at none)
-      | inr not_here ↦ elim held [
-        | inl is ↦ true≢false (sym (among_any name x.symbols (subst (λ (y : MemberView). Among name y.symbols) is listed)) ∙ not_here)
-        | inr behind ↦ none_first name some m (rw not_here at none) behind listed
-      ]
-    ]
-  where
-    found : (y : MemberView) → Some y ≡ None → ⊥
-    found y is = cc
 
 listed_name : (members : List MemberView) (numbers : List ℕ) (n : ℕ) (m : MemberView) (name : List ℕ) → slice_get members n ≡ Some m → Among n numbers → Among name m.symbols → Among name (listed_at members numbers)
 listed_name members numbers n m name at held listed = among_listed name m (members_at members numbers) (number_taken members numbers n m held at) listed
@@ -101,12 +86,6 @@ unclaimed_later members read (input ∷ inputs) none name listed claimed =
 
 module _ (reads : List ℕ → Option Object) (members : List MemberView) where
   -- What is taken stays so, and what comes to it is of the archives that are searched.
-
-  sweeps_keep : (own : List Object) (index : List IndexEntry) (count : ℕ) (numbers : List ℕ) (n : ℕ) → Among n numbers → Among n (sweeps reads members own index count numbers)
-  unfolding sweeps
-  sweeps_keep own index zero numbers n held = held
-  sweeps_keep own index (suc count) numbers n held =
-      sweeps_keep own index count (swept reads members own index numbers) n (swept_keeps reads members own index numbers n held)
 
   sweeps_add : (own : List Object) (archive : List ℕ) (count : ℕ) (numbers : List ℕ) (n : ℕ) → Among n (sweeps reads members own (index_at members archive) count numbers) → Among n numbers ⊎ Among n archive
   unfolding sweeps
@@ -141,7 +120,7 @@ module _ (reads : List ℕ → Option Object) (members : List MemberView) where
 
   archive_keeps : (own : List Object) (archive before after : List ℕ) → IsSwept reads members own archive before after → Keeps archive before after
   archive_keeps own archive before after is n = (
-    λ held. subst (Among n) is.taken (sweeps_keep own (index_at members archive) is.count before n held),
+    λ held. subst (Among n) is.taken (sweeps_keep reads members own (index_at members archive) is.count before n held),
     λ held. sweeps_add own archive is.count before n (subst (Among n) (sym is.taken) held),
   )
 
@@ -175,63 +154,105 @@ module _ (reads : List ℕ → Option Object) (members : List MemberView) where
 
   -- What is taken is taken in turn, for all objects of the command line.
 
-  module _ (distinct : IsDistinct bytes_eq (all_listed members)) where
-    -- no name that archives list is claimed by later objects
-    abbrev AreFree : List ℕ → List Object → Type 0
-    AreFree numbers later = (name : List ℕ) → Among name (listed_at members numbers) → Among name (flat_map claimed_names later) → ⊥
+  -- a name that objects and members leave which are there in the end
+  name_in_end : (whole : List Object) (final : List MemberView) (own later : List Object) → own ++ later ≡ whole → (taken : List MemberView) → ((x : MemberView) → Among x taken → Among x final) →
+      (name : List ℕ) → Among name (unresolved (own ++ objects_as reads taken)) → Contains (names_left reads whole final) name
+  unfolding references_of
+  name_in_end whole final own later all taken within name left = among_contains name (flat_map undefined_in (whole ++ objects_as reads final)) in_end
+    where
+      in_end : Among name (flat_map undefined_in (whole ++ objects_as reads final))
+      in_end = elim (refs_either undefined_in own (objects_as reads taken) name (unresolved_parts (own ++ objects_as reads taken) name left).0) [
+        | inl here ↦ refs_front undefined_in whole (objects_as reads final) name (subst (λ objects. Among name (flat_map undefined_in objects)) all (refs_front undefined_in own later name here))
+        | inr there ↦
+            let from = name_as reads undefined_in name taken there in
+            refs_back undefined_in whole (objects_as reads final) name (as_name reads undefined_in name final from.member from.object (within from.member from.held) from.taken from.among)
+      ]
 
-    lifts : (own later : List Object) (archive : List ℕ) → AreFree archive later → (e : IndexEntry) → Among e (index_at members archive) → Lifts reads members own distinct (own ++ later) e
-    lifts own later archive free e held =
-        let from = entries_of members archive e held in (
-          from.0,
-          λ numbers pulls. record {
-            named = among_contains e.name (unresolved ((own ++ later) ++ objects_as reads (members_at members numbers)))
-                (left_on own later (objects_as reads (members_at members numbers)) e.name
-                (free e.name (listed_name members archive e.number from.0.0 e.name from.0.1 from.1 from.0.2))
-                (contains_among e.name (unresolved (own ++ objects_as reads (members_at members numbers))) pulls.named));
-            listed = pulls.listed;
-            new = pulls.new;
-          },
-        )
+  -- no two members are listed for it, where none are for what is left in the end
+  once_in_end : (whole : List Object) (final : List MemberView) → AreListedOnce members (names_left reads whole final) → (own later : List Object) → own ++ later ≡ whole → (taken : List MemberView) →
+      ((x : MemberView) → Among x taken → Among x final) → (name : List ℕ) → Among name (unresolved (own ++ objects_as reads taken)) → IsOnce members name
+  once_in_end whole final once own later all taken within name left n k m x at listed other again =
+      once name n k m x (name_in_end whole final own later all taken within name left) at (among_contains name m.symbols listed) other (among_contains name x.symbols again)
 
-    archive_in_turn : (own later : List Object) (archive before after : List ℕ) → AreFree archive later → IsSwept reads members own archive before after →
-        AreTakenIntoAs reads members (own ++ later) (members_at members before) → AreTakenIntoAs reads members (own ++ later) (members_at members after)
-    archive_in_turn own later archive before after free is taken =
-        subst (λ ns. AreTakenIntoAs reads members (own ++ later) (members_at members ns)) is.taken
-        (sweeps_in_turn reads members own distinct (own ++ later) (index_at members archive) (lifts own later archive free) is.count before taken)
+  -- no name that archives list is claimed by later objects
+  abbrev AreFree : List ℕ → List Object → Type 0
+  AreFree numbers later = (name : List ℕ) → Among name (listed_at members numbers) → Among name (flat_map claimed_names later) → ⊥
 
-    archives_in_turn : (own later : List Object) (archives : List (List ℕ)) (before after : List ℕ) → AreFree (numbers_of (Archives archives)) later → AreSwept reads members own archives before after →
-        AreTakenIntoAs reads members (own ++ later) (members_at members before) → AreTakenIntoAs reads members (own ++ later) (members_at members after)
-    unfolding AreSwept
-    archives_in_turn own later [] before after free is taken = subst (λ ns. AreTakenIntoAs reads members (own ++ later) (members_at members ns)) is taken
-    archives_in_turn own later (archive ∷ archives) before after free (between, first, others) taken =
-        archives_in_turn own later archives between after (λ name held. free name (behind name held)) others
-        (archive_in_turn own later archive before between (λ name held. free name (listed_more members archive (numbers_of (Archives archives)) name held)) first taken)
-      where
-        behind : (name : List ℕ) → Among name (listed_at members (numbers_of (Archives archives))) → Among name (listed_at members (archive ++ numbers_of (Archives archives)))
-        behind name held =
-            let from = among_flat_map (λ (m : MemberView). m.symbols) name (members_at members (numbers_of (Archives archives))) held in
-            let at = taken_number members (numbers_of (Archives archives)) from.0 from.1 in
-            listed_name members (archive ++ numbers_of (Archives archives)) at.0 from.0 name at.2 (among_back at.0 archive (numbers_of (Archives archives)) at.1) from.2
+  -- what is taken in the end is the first that is listed for what is left in the end
+  module _ (whole : List Object) (final : List ℕ) (takes_first : TakesFirst members (names_left reads whole (members_at members final)) final) where
+    abbrev Within : List ℕ → Type 0
+    Within numbers = (n : ℕ) → Among n numbers → Among n final
 
-    rounds_in_turn : (own later : List Object) (archives : List (List ℕ)) (count : ℕ) (before after : List ℕ) → AreFree (numbers_of (Archives archives)) later → AreRounds reads members own archives count before after →
-        AreTakenIntoAs reads members (own ++ later) (members_at members before) → AreTakenIntoAs reads members (own ++ later) (members_at members after)
-    unfolding AreRounds
-    rounds_in_turn own later archives zero before after free is taken = subst (λ ns. AreTakenIntoAs reads members (own ++ later) (members_at members ns)) is taken
-    rounds_in_turn own later archives (suc count) before after free (between, first, others) taken =
-        rounds_in_turn own later archives count between after free others (archives_in_turn own later archives before between free first taken)
+    within_less : (before after : List ℕ) → ((n : ℕ) → Among n before → Among n after) → Within after → Within before
+    within_less before after held within n there = within n (held n there)
 
-    searches_in_turn : (own : List Object) (inputs : List Input) (read before after : List ℕ) → AreUnclaimedBehind members read inputs → SearchesFrom reads members own inputs before after →
+    first_in_end : (own later : List Object) → own ++ later ≡ whole → (numbers : List ℕ) → Within numbers → (name : List ℕ) → Among name (unresolved (own ++ objects_as reads (members_at members numbers))) →
+        (n : ℕ) → Among n final → IsFirstAt members name n
+    first_in_end own later all numbers within name left n held k m x at listed other again =
+        takes_first name n k m x
+        (name_in_end whole (members_at members final) own later all (members_at members numbers)
+        (λ y there. (let from = taken_number members numbers y there in number_taken members final from.0 y (within from.0 from.1) from.2)) name left)
+        (among_contains n final held) at (among_contains name m.symbols listed) other (among_contains name x.symbols again)
+
+    module _ (own later : List Object) (all : own ++ later ≡ whole) where
+      lifts : (archive : List ℕ) → AreFree archive later → (e : IndexEntry) → Among e (index_at members archive) → Lifts reads members own (own ++ later) (λ n. Among n final) (first_in_end own later all) e
+      lifts archive free e held =
+          let from = entries_of members archive e held in (
+            from.0,
+            λ numbers pulls. record {
+              named = among_contains e.name (unresolved ((own ++ later) ++ objects_as reads (members_at members numbers)))
+                  (left_on own later (objects_as reads (members_at members numbers)) e.name
+                  (free e.name (listed_name members archive e.number from.0.0 e.name from.0.1 from.1 from.0.2))
+                  (contains_among e.name (unresolved (own ++ objects_as reads (members_at members numbers))) pulls.named));
+              listed = pulls.listed;
+              new = pulls.new;
+            },
+          )
+
+      -- what is taken in turn
+      abbrev AreInTurn : List ℕ → Type 0
+      AreInTurn numbers = AreTakenIntoAs reads members (own ++ later) (members_at members numbers)
+
+      archive_in_turn : (archive before after : List ℕ) → AreFree archive later → IsSwept reads members own archive before after → Within after → AreInTurn before → AreInTurn after
+      archive_in_turn archive before after free is within taken =
+          subst AreInTurn is.taken
+          (sweeps_in_turn reads members own (own ++ later) (λ n. Among n final) (first_in_end own later all) (index_at members archive) (lifts archive free) is.count before
+          (within_less (sweeps reads members own (index_at members archive) is.count before) after (λ n. subst (Among n) is.taken) within) taken)
+
+      archives_in_turn : (archives : List (List ℕ)) (before after : List ℕ) → AreFree (numbers_of (Archives archives)) later → AreSwept reads members own archives before after → Within after → AreInTurn before → AreInTurn after
+      unfolding AreSwept
+      archives_in_turn [] before after free is within taken = subst AreInTurn is taken
+      archives_in_turn (archive ∷ archives) before after free (between, first, others) within taken =
+          archives_in_turn archives between after (λ name held. free name (behind name held)) others within
+          (archive_in_turn archive before between (λ name held. free name (listed_more members archive (numbers_of (Archives archives)) name held)) first
+          (within_less between after (λ n. (archives_keep own archives between after others n).0) within) taken)
+        where
+          behind : (name : List ℕ) → Among name (listed_at members (numbers_of (Archives archives))) → Among name (listed_at members (archive ++ numbers_of (Archives archives)))
+          behind name held =
+              let from = among_flat_map (λ (m : MemberView). m.symbols) name (members_at members (numbers_of (Archives archives))) held in
+              let at = taken_number members (numbers_of (Archives archives)) from.0 from.1 in
+              listed_name members (archive ++ numbers_of (Archives archives)) at.0 from.0 name at.2 (among_back at.0 archive (numbers_of (Archives archives)) at.1) from.2
+
+      rounds_in_turn : (archives : List (List ℕ)) (count : ℕ) (before after : List ℕ) → AreFree (numbers_of (Archives archives)) later → AreRounds reads members own archives count before after → Within after → AreInTurn before → AreInTurn after
+      unfolding AreRounds
+      rounds_in_turn archives zero before after free is within taken = subst AreInTurn is taken
+      rounds_in_turn archives (suc count) before after free (between, first, others) within taken =
+          rounds_in_turn archives count between after free others within
+          (archives_in_turn archives before between free first (within_less between after (λ n. (rounds_keep own archives count between after others n).0) within) taken)
+
+    searches_in_turn : (own : List Object) (inputs : List Input) (read before after : List ℕ) → own ++ objects_given inputs ≡ whole → AreUnclaimedBehind members read inputs → SearchesFrom reads members own inputs before after → Within after →
         AreTakenIntoAs reads members (own ++ objects_given inputs) (members_at members before) → AreTakenIntoAs reads members (own ++ objects_given inputs) (members_at members after)
     unfolding SearchesFrom AreUnclaimedBehind
-    searches_in_turn own [] read before after none is taken = subst (λ ns. AreTakenIntoAs reads members (own ++ []) (members_at members ns)) is taken
-    searches_in_turn own (AnObject o ∷ inputs) read before after none is taken =
-        subst (λ objects. AreTakenIntoAs reads members objects (members_at members after)) (append_assoc own (o ∷ []) (objects_given inputs))
-        (searches_in_turn (own ++ o ∷ []) inputs (read ++ []) before after none.1 is
-        (subst (λ objects. AreTakenIntoAs reads members objects (members_at members before)) (sym (append_assoc own (o ∷ []) (objects_given inputs))) taken))
-    searches_in_turn own (Archives archives ∷ inputs) read before after none (between, group, later) taken =
-        searches_in_turn own inputs (read ++ numbers_of (Archives archives)) between after none.1 later
-        (rounds_in_turn own (objects_given inputs) archives group.rounds before between free group.taken taken)
+    searches_in_turn own [] read before after all none is within taken = subst (λ ns. AreTakenIntoAs reads members (own ++ []) (members_at members ns)) is taken
+    searches_in_turn own (AnObject o ∷ inputs) read before after all none is within taken =
+        let same = append_assoc own (o ∷ []) (objects_given inputs) in
+        subst (λ objects. AreTakenIntoAs reads members objects (members_at members after)) same
+        (searches_in_turn (own ++ o ∷ []) inputs (read ++ []) before after (same ∙ all) none.1 is within
+        (subst (λ objects. AreTakenIntoAs reads members objects (members_at members before)) (sym same) taken))
+    searches_in_turn own (Archives archives ∷ inputs) read before after all none (between, group, later) within taken =
+        searches_in_turn own inputs (read ++ numbers_of (Archives archives)) between after all none.1 later within
+        (rounds_in_turn own (objects_given inputs) all archives group.rounds before between free group.taken
+        (within_less between after (λ n. (searches_keep own inputs between after later n).0) within) taken)
       where
         free : AreFree (numbers_of (Archives archives)) (objects_given inputs)
         free name held =
@@ -364,11 +385,11 @@ module _ (reads : List ℕ → Option Object) (members : List MemberView) where
         ]
 
   -- Where the command line is in order, GNU `ld` takes what one search of all archives takes.
-  pub gnu_searches : (inputs : List Input) (taken : List ℕ) → IsDistinct bytes_eq (all_listed members) → AreUnclaimedBehind members [] inputs → IsOrdered reads members inputs →
+  pub gnu_searches : (inputs : List Input) (taken : List ℕ) → TakesFirst members (names_left reads (objects_given inputs) (members_at members taken)) taken → AreUnclaimedBehind members [] inputs → IsOrdered reads members inputs →
       SearchesCommandLine reads members inputs taken → TakesIntoAs reads members (objects_given inputs) (members_at members taken)
   unfolding AreTakenIntoAs Among
-  gnu_searches inputs taken distinct none ordered is = record {
-    in_turn = searches_in_turn distinct [] inputs [] [] taken none is tt;
+  gnu_searches inputs taken once none ordered is = record {
+    in_turn = searches_in_turn (objects_given inputs) taken once [] inputs [] [] taken refl none is (λ n held. held) tt;
     ended = λ name m pulls.
         let from = listed_is members name m pulls.listed in
         let at = number_of members m from.0 in
@@ -382,61 +403,86 @@ module _ (reads : List ℕ → Option Object) (members : List MemberView) where
         ]) at.1));
   }
 
+  -- And it does where nothing that an archive lists is left unresolved in the end.
+  pub gnu_completes : (inputs : List Input) (taken : List ℕ) → TakesFirst members (names_left reads (objects_given inputs) (members_at members taken)) taken → AreUnclaimedBehind members [] inputs →
+      NoneIsLost reads members (objects_given inputs) (members_at members taken) → SearchesCommandLine reads members inputs taken → TakesIntoAs reads members (objects_given inputs) (members_at members taken)
+  unfolding AreTakenIntoAs
+  gnu_completes inputs taken once none complete is = record {
+    in_turn = searches_in_turn (objects_given inputs) taken once [] inputs [] [] taken refl none is (λ n held. held) tt;
+    ended = λ name m pulls.
+        nowhere m (sym (all_among (λ n. first_listed members n ≡ None) name (unresolved (objects_given inputs ++ objects_as reads (members_at members taken)))
+        (contains_among name (unresolved (objects_given inputs ++ objects_as reads (members_at members taken))) pulls.named) complete) ∙ pulls.listed);
+  }
+    where
+      nowhere : (m : MemberView) → None ≡ Some m → ⊥
+      nowhere m is_none = cc
+
   -- lld's searches.
 
   -- members of some numbers are members
   of_all : (numbers : List ℕ) (m : MemberView) → Among m (members_at members numbers) → Among m members
   of_all numbers m held = (let from = taken_number members numbers m held in member_at members from.0 m from.2)
 
-  module _ (distinct : IsDistinct bytes_eq (all_listed members)) where
-    -- the first of some members that list a name is the first of all
-    first_of_all : (numbers : List ℕ) (name : List ℕ) (m : MemberView) → first_listed (members_at members numbers) name ≡ Some m → first_listed members name ≡ Some m
-    first_of_all numbers name m is =
-        let from = listed_is (members_at members numbers) name m is in
-        listed_once members name m distinct (of_all numbers m from.0) from.1
+  -- the first of some members that list a name is the first of all
+  first_of_all : (numbers : List ℕ) (name : List ℕ) (m : MemberView) → IsOnce members name → first_listed (members_at members numbers) name ≡ Some m → first_listed members name ≡ Some m
+  first_of_all numbers name m once is =
+      let from = listed_is (members_at members numbers) name m is in
+      let at = number_of members m (of_all numbers m from.0) in
+      first_once members name at.0 m once at.1 from.1
 
-    -- and that of all is the first of some, if it is one of them
-    first_of_some : (some : List MemberView) (name : List ℕ) (m : MemberView) → ((x : MemberView) → Among x some → Among x members) → Among m some → Among name m.symbols → first_listed some name ≡ Some m
-    first_of_some some name m are held listed =
-        elim (found_or_not name some) [
-          | inl none ↦ absurd (none_first name some m none held listed)
-          | inr found ↦
-              let from = listed_is some name found.0 found.1 in
-              found.1 ∙ ap Some (one_member members name found.0 m distinct (are found.0 from.0) (are m held) from.1 listed)
-        ]
+  -- and that of all is the first of some, if it is one of them
+  first_of_some : (some : List MemberView) (name : List ℕ) (m : MemberView) → IsOnce members name → ((x : MemberView) → Among x some → Among x members) → Among m some → Among name m.symbols → first_listed some name ≡ Some m
+  first_of_some some name m once are held listed =
+      elim (found_or_not name some) [
+        | inl none ↦ absurd (none_first name some m none held listed)
+        | inr found ↦
+            let from = listed_is some name found.0 found.1 in
+            found.1 ∙ ap Some (once_member members name found.0 m once (are found.0 from.0) (are m held) from.1 listed)
+      ]
 
-    behind_in_turn : (own later : List Object) (numbers : List ℕ) → AreFree distinct numbers later → (before more : List MemberView) → AreTakenBehind reads (members_at members numbers) own before more →
-        AreTakenIntoAs reads members (own ++ later) before → AreTakenIntoAs reads members (own ++ later) (more ++ before)
+  module _ (whole : List Object) (final : List MemberView) (once : AreListedOnce members (names_left reads whole final)) where
+    behind_in_turn : (own later : List Object) → own ++ later ≡ whole → (numbers : List ℕ) → AreFree numbers later → (before more : List MemberView) → AreTakenBehind reads (members_at members numbers) own before more →
+        ((x : MemberView) → Among x (more ++ before) → Among x final) → AreTakenIntoAs reads members (own ++ later) before → AreTakenIntoAs reads members (own ++ later) (more ++ before)
     unfolding AreTakenBehind AreTakenIntoAs
-    behind_in_turn own later numbers free before [] is taken = taken
-    behind_in_turn own later numbers free before (m ∷ more) is taken = (
+    behind_in_turn own later all numbers free before [] is within taken = taken
+    behind_in_turn own later all numbers free before (m ∷ more) is within taken = (
       (
         is.0.0,
         record {
           named = among_contains is.0.0 (unresolved ((own ++ later) ++ objects_as reads (more ++ before)))
-              (left_on own later (objects_as reads (more ++ before)) is.0.0 (free is.0.0 (there (listed_is (members_at members numbers) is.0.0 m is.0.1.listed)))
-              (contains_among is.0.0 (unresolved (own ++ objects_as reads (more ++ before))) is.0.1.named));
-          listed = first_of_all numbers is.0.0 m is.0.1.listed;
+              (left_on own later (objects_as reads (more ++ before)) is.0.0 (free is.0.0 (there (listed_is (members_at members numbers) is.0.0 m is.0.1.listed))) left);
+          listed = first_of_all numbers is.0.0 m (once_in_end whole final once own later all (more ++ before) (λ x held. within x (among_later x m (more ++ before) held)) is.0.0 left) is.0.1.listed;
           new = is.0.1.new;
         },
       ),
-      behind_in_turn own later numbers free before more is.1 taken,
+      behind_in_turn own later all numbers free before more is.1 (λ x held. within x (among_later x m (more ++ before) held)) taken,
     )
       where
         there : Among m (members_at members numbers) × Among is.0.0 m.symbols → Among is.0.0 (listed_at members numbers)
         there from = among_listed is.0.0 m (members_at members numbers) from.0 from.1
 
-    lld_in_turn : (own : List Object) (read : List ℕ) (inputs : List Input) (before after : List MemberView) → AreUnclaimedBehind members read inputs → LldSearchesFrom reads members own read inputs before after →
-        AreTakenIntoAs reads members (own ++ objects_given inputs) before → AreTakenIntoAs reads members (own ++ objects_given inputs) after
+        left : Among is.0.0 (unresolved (own ++ objects_as reads (more ++ before)))
+        left = contains_among is.0.0 (unresolved (own ++ objects_as reads (more ++ before))) is.0.1.named
+
+    lld_keeps : (own : List Object) (read : List ℕ) (inputs : List Input) (before after : List MemberView) → LldSearchesFrom reads members own read inputs before after → (x : MemberView) → Among x before → Among x after
+    unfolding LldSearchesFrom
+    lld_keeps own read [] before after is x held = subst (Among x) is held
+    lld_keeps own read (input ∷ inputs) before after (between, closed, later) x held =
+        lld_keeps (own ++ object_of input) (read ++ numbers_of input) inputs between after later x (subst (Among x) closed.taken (among_back x closed.more before held))
+
+    lld_in_turn : (own : List Object) (read : List ℕ) (inputs : List Input) (before after : List MemberView) → own ++ objects_given inputs ≡ whole → AreUnclaimedBehind members read inputs → LldSearchesFrom reads members own read inputs before after →
+        ((x : MemberView) → Among x after → Among x final) → AreTakenIntoAs reads members (own ++ objects_given inputs) before → AreTakenIntoAs reads members (own ++ objects_given inputs) after
     unfolding LldSearchesFrom AreUnclaimedBehind
-    lld_in_turn own read [] before after none is taken = subst (AreTakenIntoAs reads members (own ++ [])) is taken
-    lld_in_turn own read (input ∷ inputs) before after none (between, closed, later) taken =
-        subst (λ objects. AreTakenIntoAs reads members objects after) (append_assoc own (object_of input) (objects_given inputs))
-        (lld_in_turn (own ++ object_of input) (read ++ numbers_of input) inputs between after none.1 later
+    lld_in_turn own read [] before after all none is within taken = subst (AreTakenIntoAs reads members (own ++ [])) is taken
+    lld_in_turn own read (input ∷ inputs) before after all none (between, closed, later) within taken =
+        let same = append_assoc own (object_of input) (objects_given inputs) in
+        subst (λ objects. AreTakenIntoAs reads members objects after) same
+        (lld_in_turn (own ++ object_of input) (read ++ numbers_of input) inputs between after (same ∙ all) none.1 later within
         (subst (AreTakenIntoAs reads members ((own ++ object_of input) ++ objects_given inputs)) closed.taken
-        (behind_in_turn (own ++ object_of input) (objects_given inputs) (read ++ numbers_of input)
+        (behind_in_turn (own ++ object_of input) (objects_given inputs) (same ∙ all) (read ++ numbers_of input)
         (λ name held. unclaimed_later members (read ++ numbers_of input) inputs none.1 name held) before closed.more closed.in_turn
-        (subst (λ objects. AreTakenIntoAs reads members objects before) (sym (append_assoc own (object_of input) (objects_given inputs))) taken))))
+        (λ x held. within x (lld_keeps (own ++ object_of input) (read ++ numbers_of input) inputs between after later x (subst (Among x) closed.taken held)))
+        (subst (λ objects. AreTakenIntoAs reads members objects before) (sym same) taken))))
 
   -- that no name pulls in a member
   abbrev AreDone : List ℕ → List Object → List MemberView → Type 0
@@ -453,16 +499,18 @@ module _ (reads : List ℕ → Option Object) (members : List MemberView) where
       (lld_done (own ++ object_of input) (read ++ numbers_of input) inputs between after later closed.ended))
 
   -- In any order lld takes what one search of all archives takes.
-  pub lld_searches : (inputs : List Input) (taken : List MemberView) → IsDistinct bytes_eq (all_listed members) → AreUnclaimedBehind members [] inputs → HaveAll members inputs →
+  pub lld_searches : (inputs : List Input) (taken : List MemberView) → AreListedOnce members (names_left reads (objects_given inputs) taken) → AreUnclaimedBehind members [] inputs → HaveAll members inputs →
       LldSearches reads members inputs taken → TakesIntoAs reads members (objects_given inputs) taken
   unfolding AreTakenIntoAs
-  lld_searches inputs taken distinct none all is = record {
-    in_turn = lld_in_turn distinct [] [] inputs [] taken none is tt;
+  lld_searches inputs taken once none all is = record {
+    in_turn = lld_in_turn (objects_given inputs) taken once [] [] inputs [] taken refl none is (λ x held. held) tt;
     ended = λ name m pulls.
         let from = listed_is members name m pulls.listed in
+        let left = contains_among name (unresolved (objects_given inputs ++ objects_as reads taken)) pulls.named in
+        let sure = once_in_end (objects_given inputs) taken once (objects_given inputs) [] (append-nil (objects_given inputs)) taken (λ x held. held) name left in
         lld_done [] [] inputs [] taken is (λ n x nothing. nowhere n x nothing.listed) name m (record {
           named = pulls.named;
-          listed = first_of_some distinct (members_at members (numbers_in inputs)) name m (of_all (numbers_in inputs)) (contains_among m (members_at members (numbers_in inputs)) (all m (among_contains m members from.0))) from.1;
+          listed = first_of_some (members_at members (numbers_in inputs)) name m sure (of_all (numbers_in inputs)) (contains_among m (members_at members (numbers_in inputs)) (all m (among_contains m members from.0))) from.1;
           new = pulls.new;
         });
   }
@@ -472,7 +520,7 @@ module _ (reads : List ℕ → Option Object) (members : List MemberView) where
 
   -- Two searches of one list take the same.
 
-  module _ (own : List Object) (distinct : IsDistinct bytes_eq (all_listed members)) (whole : AreListedWhole reads members) where
+  module _ (own : List Object) (whole : AreListedWhole reads members) where
     -- a member claims the names that it is listed for, and no others
     claims_listed : (m : MemberView) (name : List ℕ) → Among m members → Among name m.symbols → Among name (claimed_as reads (m ∷ []))
     claims_listed m name held listed =
@@ -521,13 +569,13 @@ module _ (reads : List ℕ → Option Object) (members : List MemberView) where
         ]
 
     -- What a name pulls in after members that another search takes, that search takes, too.
-    one_taken : (taken other : List MemberView) (name : List ℕ) (m : MemberView) → PullsIntoAs reads members own taken name m → ((y : MemberView) → Among y taken → Among y other) →
+    one_taken : (taken other : List MemberView) (name : List ℕ) (m : MemberView) → IsOnce members name → PullsIntoAs reads members own taken name m → ((y : MemberView) → Among y taken → Among y other) →
         TakesIntoAs reads members own other → Among m other
-    one_taken taken other name m pulls are takes =
+    one_taken taken other name m once pulls are takes =
         elim (cases_Bool (list_any (bytes_eq name) (flat_map claimed_names (objects_as reads other)))) [
           | inl claimed ↦
               let by = claimer other name others (any_among name (flat_map claimed_names (objects_as reads other)) claimed) in
-              subst (λ y. Among y other) (one_member members name by.0 m distinct (others by.0 by.1) from.0 by.2 from.1) by.1
+              subst (λ y. Among y other) (once_member members name by.0 m once (others by.0 by.1) from.0 by.2 from.1) by.1
           | inr free ↦
               let none : Among name (flat_map claimed_names (objects_as reads other)) → ⊥ = λ claimed. true≢false (sym (among_any name (flat_map claimed_names (objects_as reads other)) claimed) ∙ free) in
               absurd (takes.ended name m (record {
@@ -551,22 +599,45 @@ module _ (reads : List ℕ → Option Object) (members : List MemberView) where
         others : (y : MemberView) → Among y other → Among y members
         others = taken_are other takes.in_turn
 
-    all_taken : (taken other : List MemberView) → AreTakenIntoAs reads members own taken → TakesIntoAs reads members own other → (x : MemberView) → Among x taken → Among x other
-    unfolding AreTakenIntoAs Among
-    all_taken [] other is takes x held = absurd held
-    all_taken (m ∷ taken) other is takes x (inr behind) = all_taken taken other is.1 takes x behind
-    all_taken (m ∷ taken) other is takes x (inl here) =
-        subst (λ y. Among y other) (sym here) (one_taken taken other is.0.0 m is.0.1 (λ y held. all_taken taken other is.1 takes y held) takes)
+    -- a name that is left when members are taken that are taken in the end
+    sure : (full : List MemberView) → AreListedOnce members (names_left reads own full) → (taken : List MemberView) → ((x : MemberView) → Among x taken → Among x full) → (name : List ℕ) → Among name (unresolved (own ++ objects_as reads taken)) → IsOnce members name
+    sure full once taken within = once_in_end own full once own [] (append-nil own) taken within
 
-    pub searches_alike : (taken other : List MemberView) → TakesIntoAs reads members own taken → TakesIntoAs reads members own other → HaveSame taken other
-    searches_alike taken other one two x = (
-      λ held. among_contains x other (all_taken taken other one.in_turn two x (contains_among x taken held)),
-      λ held. among_contains x taken (all_taken other taken two.in_turn one x (contains_among x other held)),
+    all_taken : (full : List MemberView) → AreListedOnce members (names_left reads own full) → (taken other : List MemberView) → ((x : MemberView) → Among x taken → Among x full) → AreTakenIntoAs reads members own taken →
+        TakesIntoAs reads members own other → (x : MemberView) → Among x taken → Among x other
+    unfolding AreTakenIntoAs Among
+    all_taken full once [] other within is takes x held = absurd held
+    all_taken full once (m ∷ taken) other within is takes x (inr behind) = all_taken full once taken other (λ y held. within y (inr held)) is.1 takes x behind
+    all_taken full once (m ∷ taken) other within is takes x (inl here) =
+        subst (λ y. Among y other) (sym here)
+        (one_taken taken other is.0.0 m
+        (sure full once taken (λ y held. within y (inr held)) is.0.0 (contains_among is.0.0 (unresolved (own ++ objects_as reads taken)) is.0.1.named)) is.0.1
+        (λ y held. all_taken full once taken other (λ z among. within z (inr among)) is.1 takes y held) takes)
+
+    pub searches_alike : (taken other : List MemberView) → AreListedOnce members (names_left reads own taken) → AreListedOnce members (names_left reads own other) → TakesIntoAs reads members own taken → TakesIntoAs reads members own other → HaveSame taken other
+    searches_alike taken other once again one two x = (
+      λ held. among_contains x other (all_taken taken once taken other (λ y among. among) one.in_turn two x (contains_among x taken held)),
+      λ held. among_contains x taken (all_taken other again other taken (λ y among. among) two.in_turn one x (contains_among x other held)),
     )
 
     -- Members that are taken are as if they were given.
 
     module _ (is_given : MemberView → Bool) where
+      -- the first member of all is that of the others, if it is one of them
+      first_kept : (some : List MemberView) (name : List ℕ) (m : MemberView) → is_given m ≡ false → first_listed some name ≡ Some m → first_listed (others_of is_given some) name ≡ Some m
+      first_kept [] name m other is = absurd (cc)
+      first_kept (x ∷ some) name m other is =
+          elim (cases_Bool (is_listed_for name x)) [
+            | inl here ↦
+                let same : x ≡ m = same_member x m (rw here at is) in
+                let kept : is_given x ≡ false = ap is_given same ∙ other in
+                rw (kept, here) (ap Some same)
+            | inr none ↦ elim (cases_Bool (is_given x)) [
+              | inl given ↦ rw given (first_kept some name m other (rw none at is))
+              | inr kept ↦ rw (kept, none) (first_kept some name m other (rw none at is))
+            ]
+          ]
+
       -- a member is among those that are given or among the others
       given_or_not : (some : List MemberView) (x : MemberView) → Among x some → Among x (filter is_given some) ⊎ Among x (others_of is_given some)
       given_or_not some x held =
@@ -592,11 +663,11 @@ module _ (reads : List ℕ → Option Object) (members : List MemberView) where
           let from = name_as reads f name (filter test full) held in
           as_name reads f name full from.member from.object (passing test from.member full from.held).0 from.taken from.among
 
-      module _ (full : List MemberView) (are_members : (x : MemberView) → Among x full → Among x members) where
+      module _ (full : List MemberView) (are_members : (x : MemberView) → Among x full → Among x members) (once : AreTakenOnce (names_left reads own full) full) where
         abbrev given_too : List Object
         given_too = own ++ objects_as reads (filter is_given full)
 
-        other_left : (taken : List MemberView) (name : List ℕ) (m : MemberView) → ((x : MemberView) → Among x taken → Among x full) → is_given m ≡ false → Among m members → Among name m.symbols →
+        other_left : (taken : List MemberView) (name : List ℕ) (m : MemberView) → ((x : MemberView) → Among x taken → Among x full) → is_given m ≡ false → Among m full → Among name m.symbols →
             Among name (unresolved (own ++ objects_as reads taken)) → Among name (unresolved (given_too ++ objects_as reads (others_of is_given taken)))
         other_left taken name m are other held listed left =
             let parts = unresolved_parts (own ++ objects_as reads taken) name left in
@@ -614,7 +685,7 @@ module _ (reads : List ℕ → Option Object) (members : List MemberView) where
                 | inr given ↦
                     let by = claimer (filter is_given full) name (λ x among. are_members x (passing is_given x full among).0) given in
                     let kept = passing is_given by.0 full by.1 in
-                    let same : by.0 ≡ m = one_member members name by.0 m distinct (are_members by.0 kept.0) held by.2 listed in
+                    let same : by.0 ≡ m = once name by.0 m (name_in_end own full own [] (append-nil own) taken are name left) (among_contains by.0 full kept.0) (among_contains name by.0.symbols by.2) (among_contains m full held) (among_contains name m.symbols listed) in
                     true≢false (sym kept.1 ∙ (ap is_given same ∙ other))
               ]
               | inr there ↦ parts.1 (refs_back claimed_names own (objects_as reads taken) name (names_within claimed_names (λ m. not (is_given m)) taken name there))
@@ -628,14 +699,14 @@ module _ (reads : List ℕ → Option Object) (members : List MemberView) where
               | inl given ↦ rw given (others_in_turn taken (λ x held. are x (inr held)) is.1)
               | inr other ↦
                   let from = listed_is members is.0.0 m is.0.1.listed in
+                  let left = contains_among is.0.0 (unresolved (own ++ objects_as reads taken)) is.0.1.named in
                   rw other (
                     (
                       is.0.0,
                       record {
                         named = among_contains is.0.0 (unresolved (given_too ++ objects_as reads (others_of is_given taken)))
-                            (other_left taken is.0.0 m (λ x held. are x (inr held)) other from.0 from.1 (contains_among is.0.0 (unresolved (own ++ objects_as reads taken)) is.0.1.named));
-                        listed = first_of_some distinct (others_of is_given members) is.0.0 m (λ x held. (passing (λ y. not (is_given y)) x members held).0)
-                            (passes (λ y. not (is_given y)) m members from.0 (to_not (is_given m) other)) from.1;
+                            (other_left taken is.0.0 m (λ x held. are x (inr held)) other (are m (inl refl)) from.1 left);
+                        listed = first_kept members is.0.0 m other is.0.1.listed;
                         new = λ held. is.0.1.new (among_contains m taken (passing (λ y. not (is_given y)) m taken (contains_among m (others_of is_given taken) held)).0);
                       },
                     ),
@@ -662,19 +733,39 @@ module _ (reads : List ℕ → Option Object) (members : List MemberView) where
               ]
             ])
 
-      pub taken_as_given : (taken : List MemberView) → TakesIntoAs reads members own taken → TakesIntoAs reads (others_of is_given members) (own ++ objects_as reads (filter is_given taken)) (others_of is_given taken)
-      taken_as_given taken takes = record {
-        in_turn = others_in_turn taken (taken_are taken takes.in_turn) taken (λ x held. held) takes.in_turn;
+      pub taken_as_given : (taken : List MemberView) → AreTakenOnce (names_left reads own taken) taken → TakesIntoAs reads members own taken →
+          TakesIntoAs reads (others_of is_given members) (own ++ objects_as reads (filter is_given taken)) (others_of is_given taken)
+      taken_as_given taken once takes = record {
+        in_turn = others_in_turn taken (taken_are taken takes.in_turn) once taken (λ x held. held) takes.in_turn;
         ended = λ name m pulls.
             let from = listed_is (others_of is_given members) name m pulls.listed in
             let kept = passing (λ y. not (is_given y)) m members from.0 in
-            takes.ended name m (record {
-              named = among_contains name (unresolved (own ++ objects_as reads taken)) (left_again taken (taken_are taken takes.in_turn) name
-                  (contains_among name (unresolved (given_too taken (taken_are taken takes.in_turn) ++ objects_as reads (others_of is_given taken))) pulls.named));
-              listed = listed_once members name m distinct kept.0 from.1;
-              new = λ held. pulls.new (among_contains m (others_of is_given taken) (passes (λ y. not (is_given y)) m taken (contains_among m taken held) kept.1));
-            });
+            let left = left_again taken (taken_are taken takes.in_turn) once name
+                (contains_among name (unresolved (given_too taken (taken_are taken takes.in_turn) once ++ objects_as reads (others_of is_given taken))) pulls.named) in
+            elim (found_or_not name members) [
+              | inl none ↦ none_first name members m none kept.0 from.1
+              | inr found ↦
+                  let first = listed_is members name found.0 found.1 in
+                  takes.ended name found.0 (record {
+                    named = among_contains name (unresolved (own ++ objects_as reads taken)) left;
+                    listed = found.1;
+                    new = λ held. (unresolved_parts (own ++ objects_as reads taken) name left).1
+                        (refs_back claimed_names own (objects_as reads taken) name (claims_there taken found.0 name (contains_among found.0 taken held) first.0 first.1));
+                  })
+            ];
       }
+
+-- Where what is taken is the first that is listed, no two of it are listed for a name.
+first_are_once : (members : List MemberView) (names : List (List ℕ)) (taken : List ℕ) → TakesFirst members names taken → AreTakenOnce names (members_at members taken)
+first_are_once members names taken first name m x left held listed other again =
+    let one = taken_number members taken m (contains_among m (members_at members taken) held) in
+    let two = taken_number members taken x (contains_among x (members_at members taken) other) in
+    let up : one.0 ≤ two.0 = first name one.0 two.0 m x left (among_contains one.0 taken one.1) one.2 listed two.2 again in
+    let down : two.0 ≤ one.0 = first name two.0 one.0 x m left (among_contains two.0 taken two.1) two.2 again one.2 listed in
+    same_at members one.0 two.0 m x (omega arith) one.2 two.2
+  where
+    same_at : (some : List MemberView) (n k : ℕ) (a b : MemberView) → n ≡ k → slice_get some n ≡ Some a → slice_get some k ≡ Some b → a ≡ b
+    same_at some n k a b is at again_at = same_member a b (sym at ∙ (ap (slice_get some) is ∙ again_at))
 
 -- GNU `ld`'s command lines of libraries and of anything else.
 
@@ -682,8 +773,11 @@ module _ (machine : MachineType) (libraries : List Library) (members : List Memb
   pub of_libraries : TakesInto (archive_of libraries) (given_with object_in is_given (objects_given inputs) (members_at members taken)) (others_of is_given (members_at members taken))
   of_libraries =
       subst (λ archive. TakesIntoAs object_in archive (given_with object_in is_given (objects_given inputs) (members_at members taken)) (others_of is_given (members_at members taken))) s.libraries_are
-      (taken_as_given object_in members (objects_given inputs) s.distinct s.whole is_given (members_at members taken)
-      (gnu_searches object_in members inputs taken s.distinct s.unclaimed s.ordered s.searches))
+      (taken_as_given object_in members (objects_given inputs) s.whole is_given (members_at members taken) (first_are_once members (names_left object_in (objects_given inputs) (members_at members taken)) taken s.first)
+      (elim s.ordered [
+        | inl ordered ↦ gnu_searches object_in members inputs taken s.first s.unclaimed ordered s.searches
+        | inr complete ↦ gnu_completes object_in members inputs taken s.first s.unclaimed complete s.searches
+      ]))
 
 pub command_line_closes : (machine : MachineType) (libraries : List Library) (members : List MemberView) (inputs : List Input) (taken : List ℕ) (is_given : MemberView → Bool)
     (arranged : List Library) (bases : Bases) (objects : List Object) → SearchesLibraries machine libraries members inputs is_given taken → IsArchive machine libraries →
@@ -695,10 +789,20 @@ command_line_closes machine libraries members inputs taken is_given arranged bas
     closed_links machine libraries (given_with object_in is_given (objects_given inputs) (members_at members taken)) (others_of is_given (members_at members taken)) arranged bases objects archive
     (given_closes machine libraries (given_with object_in is_given (objects_given inputs) (members_at members taken)) (others_of is_given (members_at members taken)) arranged bases objects archive given takes linked)
 
+-- what no two members are listed for, the first is
+pub once_is_first : (members : List MemberView) (names : List (List ℕ)) (taken : List ℕ) → AreListedOnce members names → TakesFirst members names taken
+once_is_first members names taken once name n k m x left held at listed other again =
+    let same : n ≡ k = once name n k m x left at listed other again in omega arith
+
 -- Where both linkers take a command line's members, they take the same.
-pub takes_alike : (reads : List ℕ → Option Object) (members : List MemberView) (inputs : List Input) (taken : List ℕ) (other : List MemberView) → IsDistinct bytes_eq (all_listed members) →
-    AreListedWhole reads members → AreUnclaimedBehind members [] inputs → IsOrdered reads members inputs → HaveAll members inputs → SearchesCommandLine reads members inputs taken →
+pub takes_alike : (reads : List ℕ → Option Object) (members : List MemberView) (inputs : List Input) (taken : List ℕ) (other : List MemberView) → AreListedOnce members (names_left reads (objects_given inputs) (members_at members taken)) →
+    AreListedOnce members (names_left reads (objects_given inputs) other) → AreListedWhole reads members → AreUnclaimedBehind members [] inputs → IsOrdered reads members inputs → HaveAll members inputs → SearchesCommandLine reads members inputs taken →
     LldSearches reads members inputs other → HaveSame (members_at members taken) other
-takes_alike reads members inputs taken other distinct whole none ordered all gnu lld =
-    searches_alike reads members (objects_given inputs) distinct whole (members_at members taken) other
-    (gnu_searches reads members inputs taken distinct none ordered gnu) (lld_searches reads members inputs other distinct none all lld)
+takes_alike reads members inputs taken other once again whole none ordered all gnu lld =
+    searches_alike reads members (objects_given inputs) whole (members_at members taken) other once again
+    (gnu_searches reads members inputs taken (once_is_first members (names_left reads (objects_given inputs) (members_at members taken)) taken once) none ordered gnu) (lld_searches reads members inputs other again none all lld)
+
+-- Where all symbols differ, no two members are listed for any names.
+pub listed_once_of : (members : List MemberView) (names : List (List ℕ)) → IsDistinct bytes_eq (all_listed members) → AreListedOnce members names
+listed_once_of members names distinct name n k m x held at listed other again =
+    once_by members name distinct n k m x at (contains_among name m.symbols listed) other (contains_among name x.symbols again)

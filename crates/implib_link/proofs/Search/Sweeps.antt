@@ -9,11 +9,11 @@ use Rattle.implib.specs.Members.MemberSpec.{MemberView}
 use Rattle.implib.proofs.Link.LinkedMembers.{among_contains}
 use Rattle.implib.proofs.Link.Ranges.{Among, among_first, among_flat, among_later}
 use Rattle.implib_link.specs.Search.Closed.{AreTakenIntoAs, PullsIntoAs, TakesIntoAs, unresolved}
-use Rattle.implib_link.specs.Search.Search.{objects_as}
+use Rattle.implib_link.specs.Search.Search.{first_listed, is_listed_for, objects_as}
 use Rattle.implib_link.specs.Search.Sweeps.{IndexEntry, SweepsTake, entries_at, index_at, index_of, is_due, is_left, members_at, numbers_from, sweeps, swept}
 use Rattle.implib_link.proofs.Gnu.Bounds.{index_below}
-use Rattle.implib_link.proofs.Search.ArchiveGroups.{first_is}
-use Rattle.implib_link.proofs.Search.Lists.{all_listed, among_any, among_flat_map, among_listed, among_mapped, any_among, contains_among, distinct_apart, distinct_later, listed_once}
+use Rattle.implib_link.proofs.Search.ArchiveGroups.{first_is, found_or_not}
+use Rattle.implib_link.proofs.Search.Lists.{all_listed, same_member, among_any, among_flat_map, among_listed, among_mapped, any_among, contains_among, distinct_apart, distinct_later, listed_once}
 
 -- Numbers and members.
 
@@ -42,6 +42,71 @@ one_number (y ∷ archive) name (suc n) zero m x distinct at other listed again 
     absurd (distinct_apart y.symbols (all_listed archive) name distinct (subst (λ (z : MemberView). Among name z.symbols) (sym same) again) (among_listed name m archive (member_at archive n m at) listed))
 one_number (y ∷ archive) name (suc n) (suc k) m x distinct at other listed again =
     ap suc (one_number archive name n k m x (distinct_later y.symbols (all_listed archive) distinct) at other listed again)
+
+pub none_first : (name : List ℕ) (some : List MemberView) (m : MemberView) → first_listed some name ≡ None → Among m some → Among name m.symbols → ⊥
+unfolding Among
+none_first name [] m none held listed = held
+none_first name (x ∷ some) m none held listed =
+    elim (cases_Bool (is_listed_for name x)) [
+      | inl here ↦ found x (rw here at none)
+      | inr not_here ↦ elim held [
+        | inl is ↦ true≢false (sym (among_any name x.symbols (subst (λ (y : MemberView). Among name y.symbols) is listed)) ∙ not_here)
+        | inr behind ↦ none_first name some m (rw not_here at none) behind listed
+      ]
+    ]
+  where
+    found : (y : MemberView) → Some y ≡ None → ⊥
+    found y is = cc
+
+-- no two numbers' members are listed for a name
+abbrev pub IsOnce : List MemberView → List ℕ → Type 0
+IsOnce archive name = (n k : ℕ) (m x : MemberView) → slice_get archive n ≡ Some m → Among name m.symbols → slice_get archive k ≡ Some x → Among name x.symbols → n ≡ k
+
+same_less : (n k : ℕ) → n ≡ k → n ≤ k
+same_less n k is = omega (arith, is)
+
+pub once_by : (archive : List MemberView) (name : List ℕ) → IsDistinct bytes_eq (all_listed archive) → IsOnce archive name
+once_by archive name distinct n k m x at listed other again = one_number archive name n k m x distinct at other listed again
+
+same_member_at : (archive : List MemberView) (n k : ℕ) (m x : MemberView) → n ≡ k → slice_get archive n ≡ Some m → slice_get archive k ≡ Some x → m ≡ x
+same_member_at archive n k m x same at other = same_member m x (sym at ∙ (ap (slice_get archive) same ∙ other))
+
+-- such a name has one member
+pub once_member : (archive : List MemberView) (name : List ℕ) (m x : MemberView) → IsOnce archive name → Among m archive → Among x archive → Among name m.symbols → Among name x.symbols → m ≡ x
+once_member archive name m x once held other listed again =
+    let first = number_of archive m held in
+    let second = number_of archive x other in
+    same_member_at archive first.0 second.0 m x (once first.0 second.0 m x first.1 listed second.1 again) first.1 second.1
+
+pub first_once : (archive : List MemberView) (name : List ℕ) (n : ℕ) (m : MemberView) → IsOnce archive name → slice_get archive n ≡ Some m → Among name m.symbols → first_listed archive name ≡ Some m
+first_once archive name n m once at listed =
+    elim (found_or_not name archive) [
+      | inl none ↦ absurd (none_first name archive m none (member_at archive n m at) listed)
+      | inr found ↦
+          let from = first_is name archive found.0 found.1 in
+          found.1 ∙ ap Some (once_member archive name found.0 m once from.0 (member_at archive n m at) from.1 listed)
+    ]
+
+-- no member in front of that of a number is listed for a name, if this one is
+abbrev pub IsFirstAt : List MemberView → List ℕ → ℕ → Type 0
+IsFirstAt archive name n = (k : ℕ) (m x : MemberView) → slice_get archive n ≡ Some m → Among name m.symbols → slice_get archive k ≡ Some x → Among name x.symbols → n ≤ k
+
+first_at : (archive : List MemberView) (name : List ℕ) (n : ℕ) (m : MemberView) → IsFirstAt archive name n → slice_get archive n ≡ Some m → Among name m.symbols → first_listed archive name ≡ Some m
+first_at [] name n m first at listed = absurd (cc)
+first_at (y ∷ archive) name zero m first at listed =
+    let same : y ≡ m = same_member y m at in
+    rw (among_any name y.symbols (subst (λ (z : MemberView). Among name z.symbols) (sym same) listed)) (ap Some same)
+first_at (y ∷ archive) name (suc n) m first at listed =
+    elim (cases_Bool (is_listed_for name y)) [
+      | inl here ↦ absurd (below n (first 0 m y at listed refl (any_among name y.symbols here)))
+      | inr other ↦ rw other (first_at archive name n m (λ k a b is held again names. less n k (first (suc k) a b is held again names)) at listed)
+    ]
+  where
+    below : (i : ℕ) → suc i ≤ 0 → ⊥
+    below i is = omega (arith, is)
+
+    less : (i k : ℕ) → suc i ≤ suc k → i ≤ k
+    less i k is = omega (arith, is)
 
 -- A number is taken exactly where its member is.
 
@@ -166,6 +231,11 @@ module _ (reads : List ℕ → Option Object) (archive : List MemberView) (own :
         | inr not_due ↦ rw not_due (swept_keeps index numbers n held)
       ]
 
+  pub sweeps_keep : (index : List IndexEntry) (count : ℕ) (numbers : List ℕ) (n : ℕ) → Among n numbers → Among n (sweeps reads archive own index count numbers)
+  unfolding sweeps
+  sweeps_keep index zero numbers n held = held
+  sweeps_keep index (suc count) numbers n held = sweeps_keep index count (swept reads archive own index numbers) n (swept_keeps index numbers n held)
+
   -- what a sweep takes is of its entries
   pub swept_adds : (index : List IndexEntry) (numbers : List ℕ) (n : ℕ) → Among n (swept reads archive own index numbers) → Among n numbers ⊎ ((e : IndexEntry) × Among e index × (n ≡ e.number))
   unfolding swept Among
@@ -216,57 +286,72 @@ module _ (reads : List ℕ → Option Object) (archive : List MemberView) (own :
       both : {left there : Bool} → left ≡ true → there ≡ false → (left && not there) ≡ true
       both one other = rw (one, other) refl
 
+  -- an entry whose member is to be taken pulls it in, where it and those that are taken are the first that are listed for its name
+  due_pulls : (numbers : List ℕ) (e : IndexEntry) → (from : IsEntry archive e) → ((n : ℕ) → Among n (e.number ∷ numbers) → IsFirstAt archive e.name n) → is_due reads archive own numbers e ≡ true →
+      PullsIntoAs reads archive own (members_at archive numbers) e.name from.0
+  due_pulls numbers e from first due =
+      let parts = and_parts (is_left reads archive own numbers e.name) (not (list_any (λ number. number == e.number) numbers)) due in
+      let own_first = first e.number (among_first e.number numbers) in
+      record {
+        named = among_contains e.name (unresolved (own ++ objects_as reads (members_at archive numbers)))
+            (any_among e.name (unresolved (own ++ objects_as reads (members_at archive numbers))) parts.0);
+        listed = first_at archive e.name e.number from.0 own_first from.1 from.2;
+        new = λ held.
+            let other = taken_number archive numbers from.0 (contains_among from.0 (members_at archive numbers) held) in
+            let up : e.number ≤ other.0 = own_first other.0 from.0 from.0 from.1 from.2 other.2 from.2 in
+            let down : other.0 ≤ e.number = first other.0 (among_later other.0 e.number numbers other.1) e.number from.0 from.0 other.2 from.2 from.1 from.2 in
+            let one : other.0 ≡ e.number = omega arith in
+            let there : list_any (λ number. number == e.number) numbers ≡ true = among_number e.number numbers (subst (λ k. Among k numbers) one other.1) in
+            true≢false (sym parts.1 ∙ ap not there);
+      }
+
+  -- What a sweep takes for these objects is taken for others (`whole`), for which each pull is one, too; where of what is taken
+  -- in the end (`Kept`) each is the first that is listed for a name that is left on the way (`sure`).
+  module _ (whole : List Object) (Kept : ℕ → Type 0)
+      (sure : (numbers : List ℕ) → ((n : ℕ) → Among n numbers → Kept n) → (name : List ℕ) → Among name (unresolved (own ++ objects_as reads (members_at archive numbers))) → (n : ℕ) → Kept n → IsFirstAt archive name n) where
+    abbrev Within : List ℕ → Type 0
+    Within numbers = (n : ℕ) → Among n numbers → Kept n
+
+    -- an entry, and what it pulls in
+    abbrev pub Lifts : IndexEntry → Type 0
+    Lifts e = (from : IsEntry archive e) × ((numbers : List ℕ) → PullsIntoAs reads archive own (members_at archive numbers) e.name from.0 →
+        PullsIntoAs reads archive whole (members_at archive numbers) e.name from.0)
+
+    one_more : (numbers : List ℕ) (e : IndexEntry) (from : Lifts e) → Within (e.number ∷ numbers) → is_due reads archive own numbers e ≡ true → AreTakenIntoAs reads archive whole (members_at archive numbers) →
+        AreTakenIntoAs reads archive whole (members_at archive (e.number ∷ numbers))
+    unfolding AreTakenIntoAs
+    one_more numbers e from within due before =
+        let left = any_among e.name (unresolved (own ++ objects_as reads (members_at archive numbers))) (and_parts (is_left reads archive own numbers e.name) (not (list_any (λ number. number == e.number) numbers)) due).0 in
+        let first = λ (n : ℕ) (held : Among n (e.number ∷ numbers)). sure numbers (λ k there. within k (among_later k e.number numbers there)) e.name left n (within n held) in
+        subst (AreTakenIntoAs reads archive whole) (sym (members_next archive e.number from.0.0 numbers from.0.1)) ((e.name, from.1 numbers (due_pulls numbers e from.0 first due)), before)
+
+    pub swept_in_turn : (index : List IndexEntry) → ((e : IndexEntry) → Among e index → Lifts e) → (numbers : List ℕ) → Within (swept reads archive own index numbers) → AreTakenIntoAs reads archive whole (members_at archive numbers) →
+        AreTakenIntoAs reads archive whole (members_at archive (swept reads archive own index numbers))
+    unfolding swept
+    swept_in_turn [] are numbers within before = before
+    swept_in_turn (e ∷ index) are numbers within before =
+        elim (cases_Bool (is_due reads archive own numbers e)) [
+          | inl due ↦
+              let kept : Within (swept reads archive own index (e.number ∷ numbers)) = rw due at within in
+              rw due (swept_in_turn index (λ x held. are x (among_later x e index held)) (e.number ∷ numbers) kept
+              (one_more numbers e (are e (among_first e index)) (λ n held. kept n (swept_keeps index (e.number ∷ numbers) n held)) due before))
+          | inr not_due ↦ rw not_due (swept_in_turn index (λ x held. are x (among_later x e index held)) numbers (rw not_due at within) before)
+        ]
+
+    pub sweeps_in_turn : (index : List IndexEntry) → ((e : IndexEntry) → Among e index → Lifts e) → (count : ℕ) (numbers : List ℕ) → Within (sweeps reads archive own index count numbers) → AreTakenIntoAs reads archive whole (members_at archive numbers) →
+        AreTakenIntoAs reads archive whole (members_at archive (sweeps reads archive own index count numbers))
+    unfolding sweeps
+    sweeps_in_turn index are zero numbers within before = before
+    sweeps_in_turn index are (suc count) numbers within before =
+        sweeps_in_turn index are count (swept reads archive own index numbers) within
+        (swept_in_turn index are numbers (λ n held. within n (sweeps_keep index count (swept reads archive own index numbers) n held)) before)
+
   module _ (distinct : IsDistinct bytes_eq (all_listed archive)) where
-    -- an entry whose member is to be taken pulls it in
-    due_pulls : (numbers : List ℕ) (e : IndexEntry) → (from : IsEntry archive e) → is_due reads archive own numbers e ≡ true → PullsIntoAs reads archive own (members_at archive numbers) e.name from.0
-    due_pulls numbers e from due =
-        let parts = and_parts (is_left reads archive own numbers e.name) (not (list_any (λ number. number == e.number) numbers)) due in
-        record {
-          named = among_contains e.name (unresolved (own ++ objects_as reads (members_at archive numbers)))
-              (any_among e.name (unresolved (own ++ objects_as reads (members_at archive numbers))) parts.0);
-          listed = listed_once archive e.name from.0 distinct (member_at archive e.number from.0 from.1) from.2;
-          new = λ held.
-              let other = taken_number archive numbers from.0 (contains_among from.0 (members_at archive numbers) held) in
-              let one : other.0 ≡ e.number = one_number archive e.name other.0 e.number from.0 from.0 distinct other.2 from.1 from.2 from.2 in
-              let there : list_any (λ number. number == e.number) numbers ≡ true = among_number e.number numbers (subst (λ k. Among k numbers) one other.1) in
-              true≢false (sym parts.1 ∙ ap not there);
-        }
-
-    -- What a sweep takes for these objects is taken for others (`whole`), for which each pull is one, too.
-    module _ (whole : List Object) where
-      -- an entry, and what it pulls in
-      abbrev pub Lifts : IndexEntry → Type 0
-      Lifts e = (from : IsEntry archive e) × ((numbers : List ℕ) → PullsIntoAs reads archive own (members_at archive numbers) e.name from.0 →
-          PullsIntoAs reads archive whole (members_at archive numbers) e.name from.0)
-
-      one_more : (numbers : List ℕ) (e : IndexEntry) (from : Lifts e) → is_due reads archive own numbers e ≡ true → AreTakenIntoAs reads archive whole (members_at archive numbers) →
-          AreTakenIntoAs reads archive whole (members_at archive (e.number ∷ numbers))
-      unfolding AreTakenIntoAs
-      one_more numbers e from due before =
-          subst (AreTakenIntoAs reads archive whole) (sym (members_next archive e.number from.0.0 numbers from.0.1)) ((e.name, from.1 numbers (due_pulls numbers e from.0 due)), before)
-
-      pub swept_in_turn : (index : List IndexEntry) → ((e : IndexEntry) → Among e index → Lifts e) → (numbers : List ℕ) → AreTakenIntoAs reads archive whole (members_at archive numbers) →
-          AreTakenIntoAs reads archive whole (members_at archive (swept reads archive own index numbers))
-      unfolding swept
-      swept_in_turn [] are numbers before = before
-      swept_in_turn (e ∷ index) are numbers before =
-          elim (cases_Bool (is_due reads archive own numbers e)) [
-            | inl due ↦ rw due (swept_in_turn index (λ x held. are x (among_later x e index held)) (e.number ∷ numbers) (one_more numbers e (are e (among_first e index)) due before))
-            | inr not_due ↦ rw not_due (swept_in_turn index (λ x held. are x (among_later x e index held)) numbers before)
-          ]
-
-      pub sweeps_in_turn : (index : List IndexEntry) → ((e : IndexEntry) → Among e index → Lifts e) → (count : ℕ) (numbers : List ℕ) → AreTakenIntoAs reads archive whole (members_at archive numbers) →
-          AreTakenIntoAs reads archive whole (members_at archive (sweeps reads archive own index count numbers))
-      unfolding sweeps
-      sweeps_in_turn index are zero numbers before = before
-      sweeps_in_turn index are (suc count) numbers before =
-          sweeps_in_turn index are count (swept reads archive own index numbers) (swept_in_turn index are numbers before)
-
     pub sweeps_take : (count : ℕ) (numbers : List ℕ) → SweepsTake reads archive own count numbers → TakesIntoAs reads archive own (members_at archive numbers)
     unfolding AreTakenIntoAs
     sweeps_take count numbers takes = record {
       in_turn = subst (λ ns. AreTakenIntoAs reads archive own (members_at archive ns)) takes.taken
-          (sweeps_in_turn own (index_of archive) (λ e held. (all_entries archive e held, λ ns pulls. pulls)) count [] tt);
+          (sweeps_in_turn own (λ n. Unit {0}) (λ ns kept name left n held k m x at listed other again. same_less n k (once_by archive name distinct n k m x at listed other again)) (index_of archive) (λ e held. (all_entries archive e held, λ ns pulls. pulls)) count [] (λ n held. tt) tt);
       ended = λ name m pulls.
           let from = first_is name archive m pulls.listed in
           let at = number_of archive m from.0 in

@@ -7,15 +7,15 @@
 --
 -- lld (COFF/SymbolTable.cpp, `addLazyArchive`, `addUndefined`) keeps the symbols of each archive that it has read, and takes a
 -- member as soon as a name is both unresolved and listed.
-use Rattle.std.specs.Prelude.{◌≡◌, ℕ, zero, suc, Bool, false, ◌==◌, List, [], ◌∷◌, ◌++◌, bytes_eq, length, not, Option}
-use Rattle.std.specs.List.{AllByRecursion, Contains, IsDistinct, filter, flat_map, list_any}
+use Rattle.std.specs.Prelude.{◌≡◌, ℕ, zero, suc, Bool, false, ◌==◌, List, [], ◌∷◌, ◌++◌, ◌≤◌, bytes_eq, length, not, slice_get, Option, None, Some, ◌⊎◌}
+use Rattle.std.specs.List.{AllByRecursion, Contains, filter, flat_map, list_any}
 use Rattle.implib.specs.Formats.Object.{Object, object_in}
 use Rattle.implib.specs.declared.machine.MachineType.{MachineType}
 use Rattle.implib.specs.Members.MemberSpec.{MemberView}
 use Rattle.implib_link.specs.Gnu.Program.{ClaimsNone, HaveSame}
 use Rattle.implib_link.specs.Search.Archives.{Library, archive_of}
-use Rattle.implib_link.specs.Search.Closed.{PullsIntoAs, listed_in}
-use Rattle.implib_link.specs.Search.Search.{claimed_as, objects_as, undefined_in}
+use Rattle.implib_link.specs.Search.Closed.{PullsIntoAs, listed_in, references_of, unresolved}
+use Rattle.implib_link.specs.Search.Search.{claimed_as, first_listed, objects_as, undefined_in}
 use Rattle.implib_link.specs.Search.Sweeps.{index_at, members_at, numbers_from, sweeps, swept}
 
 -- an input: an object, or archives that are searched as a group; an archive by itself is a group of one
@@ -144,9 +144,36 @@ IsOrdered reads members (input ∷ inputs) =
     (object_of input ++ objects_as reads (members_at members (numbers_of input)))
     × IsOrdered reads members inputs
 
+-- No name that is left unresolved in the end is listed for a member: so it is in each link that ends without an "undefined
+-- reference" to what its archives have, in whatever order these are.
+abbrev pub NoneIsLost : (List ℕ → Option Object) → List MemberView → List Object → List MemberView → Type 0
+NoneIsLost reads members own taken =
+    AllByRecursion (λ name. first_listed members name ≡ None) (unresolved (own ++ objects_as reads taken))
+
 -- the inputs have each member
 abbrev pub HaveAll : List MemberView → List Input → Type 0
 HaveAll members inputs = (m : MemberView) → Contains members m → Contains (members_at members (numbers_in inputs)) m
+
+-- no two members are listed for one of these names
+abbrev pub AreListedOnce : List MemberView → List (List ℕ) → Type 0
+AreListedOnce members names = (name : List ℕ) (n k : ℕ) (m x : MemberView) → Contains names name →
+    slice_get members n ≡ Some m → Contains m.symbols name → slice_get members k ≡ Some x → Contains x.symbols name →
+    n ≡ k
+
+-- No member that is taken is listed for one of these names, if one in front of it is.
+abbrev pub TakesFirst : List MemberView → List (List ℕ) → List ℕ → Type 0
+TakesFirst members names taken = (name : List ℕ) (n k : ℕ) (m x : MemberView) → Contains names name →
+    Contains taken n → slice_get members n ≡ Some m → Contains m.symbols name →
+    slice_get members k ≡ Some x → Contains x.symbols name → n ≤ n
+
+-- no two members that are taken are listed for one of these names
+abbrev pub AreTakenOnce : List (List ℕ) → List MemberView → Type 0
+AreTakenOnce names taken = (name : List ℕ) (m x : MemberView) → Contains names name →
+    Contains taken m → Contains m.symbols name → Contains taken x → Contains x.symbols name → m ≡ x
+
+-- what is left to others in a link: by the given objects, and by the members that are taken
+abbrev pub names_left : (List ℕ → Option Object) → List Object → List MemberView → List (List ℕ)
+names_left reads own taken = references_of (own ++ objects_as reads taken)
 
 -- each member is listed for exactly the names that it claims, as an archive's index is made by tools
 abbrev pub AreListedWhole : (List ℕ → Option Object) → List MemberView → Type 0
@@ -161,13 +188,14 @@ others_of is_given members = filter (λ m. not (is_given m)) members
 
 -- What GNU `ld` takes of a command line's archives:
 -- `libraries_are`: the members that are not as given are those of libraries, archive by archive;
--- `distinct`, `unclaimed`, `ordered`, `whole`: what is asked of the command line;
+-- `first`, `unclaimed`, `ordered`, `whole`: what is asked of the command line;
 -- `searches`: the search.
 pub record SearchesLibraries (machine : MachineType) (libraries : List Library) (members : List MemberView)
     (inputs : List Input) (is_given : MemberView → Bool) (taken : List ℕ) : Type 0 where
   pub libraries_are : others_of is_given members ≡ archive_of libraries
-  pub distinct : IsDistinct bytes_eq (listed_in members)
+  pub first : TakesFirst members (names_left object_in (objects_given inputs) (members_at members taken)) taken
   pub unclaimed : AreUnclaimedBehind members [] inputs
   pub ordered : IsOrdered object_in members inputs
+      ⊎ NoneIsLost object_in members (objects_given inputs) (members_at members taken)
   pub whole : AreListedWhole object_in members
   pub searches : SearchesCommandLine object_in members inputs taken

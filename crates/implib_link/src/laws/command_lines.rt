@@ -7,33 +7,43 @@ ghost use Rattle.implib.specs.declared.machine.MachineType.{MachineType};
 ghost use Rattle.implib_link.specs.Gnu.Program.{HaveSame};
 ghost use Rattle.implib_link.specs.Search.Archives.{IsArchive, Library};
 ghost use Rattle.implib_link.specs.Search.Closed.{AreLinkedFor, LinksClosed, TakesIntoAs};
-ghost use Rattle.implib_link.specs.Search.CommandLines.{AreListedWhole, AreUnclaimedBehind, HaveAll};
+ghost use Rattle.implib_link.specs.Search.CommandLines.{AreListedOnce, AreListedWhole, AreTakenOnce};
+ghost use Rattle.implib_link.specs.Search.CommandLines.{AreUnclaimedBehind, HaveAll, NoneIsLost};
+ghost use Rattle.implib_link.specs.Search.CommandLines.{TakesFirst, names_left};
 ghost use Rattle.implib_link.specs.Search.CommandLines.{Input, IsOrdered, LldSearches};
 ghost use Rattle.implib_link.specs.Search.CommandLines.{SearchesCommandLine, SearchesLibraries};
 ghost use Rattle.implib_link.specs.Search.CommandLines.{given_with, objects_given, others_of};
 ghost use Rattle.implib_link.specs.Search.Given.{AreGiven};
 ghost use Rattle.implib_link.specs.Search.Sweeps.{members_at};
-ghost use Rattle.std.specs.List.{IsDistinct, flat_map};
-ghost use Rattle.std.specs.Prelude.{ℕ, [], Bool, List, Option, bytes_eq};
+ghost use Rattle.std.specs.Prelude.{ℕ, [], Bool, List, Option};
 
 /// What a linker takes of the archives of a command line is what one search of all their members
 /// takes, for all objects, whatever the archives are: so all that is proved of such a search holds
 /// of it.
 ///
-/// No two members list one name, and no object claims a name that an archive in front of it lists.
+/// For a name that objects or taken members leave to others no member in front of a taken one is
+/// listed, if this one is (for lld, no two members are); and no object claims a name that an archive in front of it lists.
 /// GNU `ld` wants an order, too, in which what is left unresolved is listed behind it, or in the same
-/// group (`gnu`); lld takes any (`lld`). An archive may stand on the command line more than once.
+/// group (`gnu`); or that nothing which an archive lists is left in the end, as in each link without
+/// an undefined reference (`complete`). lld takes any order (`lld`). An archive may stand on the command line more than once.
 /// However the linker reads members.
 pub fn command_lines_are_searched()
     ensures gnu { (reads : List ℕ → Option Object) (members : List MemberView)
         (inputs : List Input) (taken : List ℕ) →
-        IsDistinct bytes_eq (flat_map (λ m. m.symbols) members) →
+        TakesFirst members (names_left reads (objects_given inputs) (members_at members taken)) taken →
         AreUnclaimedBehind members [] inputs → IsOrdered reads members inputs →
+        SearchesCommandLine reads members inputs taken →
+        TakesIntoAs reads members (objects_given inputs) (members_at members taken) }
+    ensures complete { (reads : List ℕ → Option Object) (members : List MemberView)
+        (inputs : List Input) (taken : List ℕ) →
+        TakesFirst members (names_left reads (objects_given inputs) (members_at members taken)) taken →
+        AreUnclaimedBehind members [] inputs →
+        NoneIsLost reads members (objects_given inputs) (members_at members taken) →
         SearchesCommandLine reads members inputs taken →
         TakesIntoAs reads members (objects_given inputs) (members_at members taken) }
     ensures lld { (reads : List ℕ → Option Object) (members : List MemberView)
         (inputs : List Input) (taken : List MemberView) →
-        IsDistinct bytes_eq (flat_map (λ m. m.symbols) members) →
+        AreListedOnce members (names_left reads (objects_given inputs) taken) →
         AreUnclaimedBehind members [] inputs → HaveAll members inputs →
         LldSearches reads members inputs taken →
         TakesIntoAs reads members (objects_given inputs) taken }
@@ -45,12 +55,14 @@ pub fn command_lines_are_searched()
 pub fn linkers_take_alike()
     ensures same { (reads : List ℕ → Option Object) (members : List MemberView)
         (own : List Object) (taken other : List MemberView) →
-        IsDistinct bytes_eq (flat_map (λ m. m.symbols) members) →
+        AreListedOnce members (names_left reads own taken) →
+        AreListedOnce members (names_left reads own other) →
         AreListedWhole reads members → TakesIntoAs reads members own taken →
         TakesIntoAs reads members own other → HaveSame taken other }
     ensures linkers { (reads : List ℕ → Option Object) (members : List MemberView)
         (inputs : List Input) (taken : List ℕ) (other : List MemberView) →
-        IsDistinct bytes_eq (flat_map (λ m. m.symbols) members) →
+        AreListedOnce members (names_left reads (objects_given inputs) (members_at members taken)) →
+        AreListedOnce members (names_left reads (objects_given inputs) other) →
         AreListedWhole reads members → AreUnclaimedBehind members [] inputs →
         IsOrdered reads members inputs → HaveAll members inputs →
         SearchesCommandLine reads members inputs taken →
@@ -64,7 +76,7 @@ pub fn linkers_take_alike()
 pub fn taken_members_are_as_given()
     ensures { (reads : List ℕ → Option Object) (members : List MemberView) (own : List Object)
         (taken : List MemberView) (is_given : MemberView → Bool) →
-        IsDistinct bytes_eq (flat_map (λ m. m.symbols) members) →
+        AreTakenOnce (names_left reads own taken) taken →
         AreListedWhole reads members → TakesIntoAs reads members own taken →
         TakesIntoAs reads (others_of is_given members) (given_with reads is_given own taken)
         (others_of is_given taken) }

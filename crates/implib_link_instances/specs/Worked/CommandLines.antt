@@ -17,7 +17,7 @@ use Rattle.implib.specs.Worked.Statements.{plain_export}
 use Rattle.implib_link.specs.Gnu.Program.{HaveSame}
 use Rattle.implib_link.specs.Search.Archives.{IsArchive, Library}
 use Rattle.implib_link.specs.Search.Closed.{TakesIntoAs, listed_in, unresolved}
-use Rattle.implib_link.specs.Search.CommandLines.{AnObject, Archives, AreListedWhole, AreUnclaimedBehind, HaveAll, Input, IsClosedOver, IsGroupSearched, IsOrdered, IsSwept, LldSearches, SearchesCommandLine, SearchesLibraries, given_with}
+use Rattle.implib_link.specs.Search.CommandLines.{AnObject, Archives, AreListedOnce, AreListedWhole, AreUnclaimedBehind, HaveAll, Input, IsClosedOver, IsGroupSearched, IsOrdered, IsSwept, LldSearches, SearchesCommandLine, SearchesLibraries, given_with}
 use Rattle.implib_link.specs.Search.Given.{AreGiven}
 use Rattle.implib_link.specs.Search.Search.{objects_as}
 use Rattle.implib_link.specs.Search.Sweeps.{members_at}
@@ -214,13 +214,15 @@ pub record NearIsClosedOver : Type 0 where
 abbrev pub quitting : Object
 quitting = code_object (symbol_of_class (codes "quit") 1 class_external ∷ [])
 
--- a command line of libraries, but for one thing: there are no libraries; the archive's member is there twice; an object behind
+-- a command line of libraries, but for one thing: there are no libraries; the second of two members that are listed
+-- for a name is taken; an object behind
 -- the archive claims its name; the library is first; the member is listed for a name more; it is not taken
 pub record NearSearchesLibraries : Type 0 where
   pub libraries_are : SearchesLibraries AMD64 [] amd64_members (library_last wanting_own) is_quit all_taken → ⊥
-  pub distinct : SearchesLibraries AMD64 (kernel_on AMD64 (codes "ExitProcess") ∷ [])
+  pub first : SearchesLibraries AMD64 (kernel_on AMD64 (codes "ExitProcess") ∷ [])
       (amd64_members ++ quit_member (codes "quit") quit_bytes ∷ [])
-      (inputs_of wanting_own ++ Archives ((3 ∷ 4 ∷ []) ∷ []) ∷ Archives (of_kernel ∷ []) ∷ []) is_quit all_taken → ⊥
+      (inputs_of wanting_own ++ Archives ((4 ∷ []) ∷ []) ∷ Archives (of_kernel ∷ []) ∷ []) is_quit
+      (0 ∷ 1 ∷ 2 ∷ 4 ∷ []) → ⊥
   pub unclaimed : SearchesLibraries AMD64 (kernel_on AMD64 (codes "ExitProcess") ∷ []) amd64_members
       (library_last wanting_own ++ AnObject quitting ∷ []) is_quit all_taken → ⊥
   pub ordered : SearchesLibraries AMD64 (kernel_on AMD64 (codes "ExitProcess") ∷ []) amd64_members
@@ -232,10 +234,20 @@ pub record NearSearchesLibraries : Type 0 where
   pub searches : SearchesLibraries AMD64 (kernel_on AMD64 (codes "ExitProcess") ∷ []) amd64_members
       (library_last wanting_own) is_quit [] → ⊥
 
+-- two members that are listed for one name, which nothing leaves to others, and that of `quit`
+abbrev pub spare_member : MemberView
+spare_member = record { name = codes "spare.o"; bytes = []; symbols = codes "spare" ∷ [] }
+
+abbrev pub with_spares : List MemberView
+with_spares = quit_member (codes "quit") quit_bytes ∷ spare_member ∷ spare_member ∷ []
+
 -- Predicates: an object behind an archive that claims its name; an archive that no input has; a member that is listed for a
--- name less than it claims. That an order is refused is in the worked rows.
+-- name less than it claims; a name that two members are listed for, among those that are left, and not. That an order is
+-- refused is in the worked rows.
 pub record RefusedCommandLines : Type 0 where
   pub unclaimed : AreUnclaimedBehind amd64_members [] (Archives (of_quit ∷ []) ∷ AnObject quitting ∷ []) → ⊥
   pub claimed_before : AreUnclaimedBehind amd64_members [] (AnObject quitting ∷ Archives (of_quit ∷ []) ∷ [])
   pub all : HaveAll amd64_members (inputs_of wanting_own ++ Archives (of_kernel ∷ []) ∷ []) → ⊥
   pub whole : AreListedWhole object_in (quit_member (codes "more") quit_bytes ∷ []) → ⊥
+  pub once : AreListedOnce with_spares (codes "quit" ∷ [])
+  pub twice : AreListedOnce with_spares (codes "quit" ∷ codes "spare" ∷ []) → ⊥

@@ -1,8 +1,9 @@
-use Rattle.implib_link.proofs.Search.CommandLines.{gnu_searches, lld_searches}
+use Rattle.implib_link.proofs.Search.CommandLines.{gnu_completes, gnu_searches, lld_searches}
 use Rattle.implib_link.proofs.laws.command_lines.command_lines_are_searched.Goals as goal
 
 pub returns : goal.returns
 returns c = record {
-  gnu = λ reads members inputs taken distinct none ordered is. gnu_searches reads members inputs taken distinct none ordered is;
-  lld = λ reads members inputs taken distinct none all is. lld_searches reads members inputs taken distinct none all is;
+  gnu = λ reads members inputs taken once none ordered is. gnu_searches reads members inputs taken once none ordered is;
+  complete = λ reads members inputs taken once none complete is. gnu_completes reads members inputs taken once none complete is;
+  lld = λ reads members inputs taken once none all is. lld_searches reads members inputs taken once none all is;
 }
