@@ -1,13 +1,12 @@
 -- The bytes of an archive of members have these members.
-use Rattle.std.proofs.Common.{◌≡◌, ℕ, zero, suc, inl, inr, ◌+◌, ◌-◌, ◌*◌, ◌^◌, ◌<◌, ◌≤◌, Bool, true, false, List, [], ◌∷◌, ◌++◌, Option, Some, None, refl, sym, ap, subst, ◌∙◌, arith, get_or, length, map, nat_lt, if◌then◌else◌, unwrap_or, codes, append_assoc, append-nil, length-append}
+use Rattle.std.proofs.Common.{◌≡◌, ℕ, inl, inr, ◌+◌, ◌-◌, ◌<◌, ◌≤◌, true, false, List, [], ◌∷◌, ◌++◌, Option, Some, None, refl, sym, ap, subst, ◌∙◌, arith, get_or, length, map, nat_lt, if◌then◌else◌, unwrap_or, codes, append_assoc, append-nil, length-append}
 use Rattle.std.specs.Prelude.{◌==◌, slice_get}
-use Rattle.std.specs.List.{AllByRecursion, cons_option, filter, filter_map, flat_map}
+use Rattle.std.specs.List.{AllByRecursion, cons_option, filter_map, flat_map}
 use Rattle.std.specs.Option.{option_map}
-use Rattle.std.proofs.lemmas.Bool.{cases_Bool, eq-eqb, eqb-true, true≢false, lt-ltb}
+use Rattle.std.proofs.lemmas.Bool.{cases_Bool, eq-eqb, eqb-true, lt-ltb}
 use Rattle.std.proofs.lemmas.List.{length-map, map-append}
 use Rattle.implib.specs.Members.MemberSpec.{MemberView}
 use Rattle.implib_archive.specs.Archive.{archive_of, entries_from, entries_of, first_linker, long_names, names_bytes, place_of, places_of}
-use Rattle.implib_archive.specs.Leads.{headers_in}
 use Rattle.implib_archive.specs.Parts.{padding}
 use Rattle.implib_archive.specs.ReadBack.{padded, parts_of, read_view, stored, stored_linkers, stored_member, stored_names}
 use Rattle.implib_archive.specs.Reader.{Read, first_in, linker_in, member_at}

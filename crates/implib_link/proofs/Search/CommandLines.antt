@@ -1,5 +1,5 @@
 -- Searches of several archives, in the order of a command line, take what one search of all of them takes.
-use Rattle.std.proofs.Common.{◌≡◌, ◌≤◌, ℕ, ◌⊎◌, zero, suc, Bool, true, false, List, [], ◌∷◌, ◌++◌, length, Option, Some, None, refl, ap, sym, ◌∙◌, subst, inl, inr, arith}
+use Rattle.std.proofs.Common.{◌≡◌, ◌≤◌, ℕ, ◌⊎◌, zero, suc, Bool, false, List, [], ◌∷◌, ◌++◌, length, Option, Some, None, refl, ap, sym, ◌∙◌, subst, inl, inr, arith}
 use Rattle.std.specs.Prelude.{◌==◌, bytes_eq, not, slice_get}
 use Rattle.std.specs.List.{AllByRecursion, Contains, IsDistinct, cons_option, filter, flat_map, list_any}
 use Rattle.std.proofs.lemmas.Bool.{cases_Bool, true≢false}
@@ -10,7 +10,7 @@ use Rattle.implib.specs.Link.Placement.{Bases}
 use Rattle.implib.specs.declared.machine.MachineType.{MachineType}
 use Rattle.implib.specs.Members.MemberSpec.{MemberView}
 use Rattle.implib.proofs.Link.LinkedMembers.{among_contains}
-use Rattle.implib.proofs.Link.Ranges.{Among, all_among, among_back, among_first, among_flat, among_front, among_later}
+use Rattle.implib.proofs.Link.Ranges.{Among, all_among, among_back, among_first, among_front, among_later}
 use Rattle.implib_link.specs.Gnu.Program.{ClaimsNone, HaveSame, claimed_names}
 use Rattle.implib_link.specs.Search.Archives.{IsArchive, Library, archive_of}
 use Rattle.implib_link.specs.Search.Closed.{AreLinkedFor, AreTakenIntoAs, LinksClosed, PullsIntoAs, TakesInto, TakesIntoAs, references_of, unresolved}
@@ -22,8 +22,8 @@ use Rattle.implib_link.proofs.Search.ArchiveGroups.{found_or_not}
 use Rattle.implib_link.proofs.Search.Closed.{closed_links}
 use Rattle.implib_link.proofs.Search.Given.{given_closes}
 use Rattle.implib_link.proofs.Search.Closing.{unresolved_from, unresolved_parts}
-use Rattle.implib_link.proofs.Search.Lists.{all_listed, among_any, any_among, among_either, among_flat_map, among_listed, as_name, contains_among, listed_is, listed_once, name_as, one_member, passes, passing, same_member, to_not}
-use Rattle.implib_link.proofs.Search.Sweeps.{IsFirstAt, IsOnce, Lifts, all_there, among_number, entries_of, entry_there, member_at, first_once, none_first, none_left, number_among, number_of, number_taken, swept_adds, swept_in_turn, sweeps_in_turn, sweeps_keep, taken_number, once_by, once_member}
+use Rattle.implib_link.proofs.Search.Lists.{all_listed, among_any, any_among, among_either, among_flat_map, among_listed, as_name, contains_among, listed_is, name_as, passes, passing, same_member, to_not}
+use Rattle.implib_link.proofs.Search.Sweeps.{IsFirstAt, IsOnce, Lifts, all_there, among_number, entries_of, entry_there, member_at, first_once, none_first, none_left, number_among, number_of, number_taken, swept_adds, sweeps_in_turn, sweeps_keep, taken_number, once_by, once_member}
 
 -- What was read first counts on: references and claims of some objects are those of more.
 
@@ -741,7 +741,7 @@ module _ (reads : List ℕ → Option Object) (members : List MemberView) where
             let from = listed_is (others_of is_given members) name m pulls.listed in
             let kept = passing (λ y. not (is_given y)) m members from.0 in
             let left = left_again taken (taken_are taken takes.in_turn) once name
-                (contains_among name (unresolved (given_too taken (taken_are taken takes.in_turn) once ++ objects_as reads (others_of is_given taken))) pulls.named) in
+            (contains_among name (unresolved (given_too taken (taken_are taken takes.in_turn) once ++ objects_as reads (others_of is_given taken))) pulls.named) in
             elim (found_or_not name members) [
               | inl none ↦ none_first name members m none kept.0 from.1
               | inr found ↦

@@ -164,7 +164,7 @@ AreListedOnce members names = (name : List ℕ) (n k : ℕ) (m x : MemberView) �
 abbrev pub TakesFirst : List MemberView → List (List ℕ) → List ℕ → Type 0
 TakesFirst members names taken = (name : List ℕ) (n k : ℕ) (m x : MemberView) → Contains names name →
     Contains taken n → slice_get members n ≡ Some m → Contains m.symbols name →
-    slice_get members k ≡ Some x → Contains x.symbols name → n ≤ n
+    slice_get members k ≡ Some x → Contains x.symbols name → n ≤ k
 
 -- no two members that are taken are listed for one of these names
 abbrev pub AreTakenOnce : List (List ℕ) → List MemberView → Type 0
