@@ -4,3 +4,4 @@ pub mod FirstEntries
 pub mod KeyTexts
 pub mod Matching
 pub mod Declared
+pub mod Arm64ecArchives

@@ -1,7 +1,10 @@
-//! Libraries of further makers as worked instances of the reader [`implib_read`]: of Microsoft's linker, winebuild and
-//! rustc; and the reader's rules at their bounds. The functions do nothing: their contracts are the instances.
+//! Libraries of further makers as worked instances of the reader [`implib_read`]: of Microsoft's linker, winebuild,
+//! rustc and, for ARM64EC, llvm-dlltool; the reader's rules at their bounds; and that it reads the short imports of
+//! `implib_arm64ec`. The functions do nothing: their contracts are the instances and the law.
 #![tactic(auto)]
 
+ghost use Rattle.implib_read_cases.specs.Arm64ecImports.{ImportsAreRead, ShortImportsAreRead};
+ghost use Rattle.implib_read_cases.specs.Arm64ecLibraries.{WorkedArm64ec, WorkedNative};
 ghost use Rattle.implib_read_cases.specs.Bounds.{WorkedBounds};
 ghost use Rattle.implib_read_cases.specs.DelayedLibraries.{WorkedDlltool64, WorkedDlltool32, WorkedLater, WorkedOwn64, WorkedOwn32};
 ghost use Rattle.implib_read_cases.specs.MoreLibraries.{WorkedDelayed, WorkedMicrosoft, WorkedRustc, WorkedWinebuild};
@@ -54,4 +57,24 @@ pub fn worked_own64()
 /// What a library of `implib_dlltool -y` means on I386, worked by hand.
 pub fn worked_own32()
     ensures { WorkedOwn32 }
+{}
+
+/// What a library of llvm-dlltool 19 for ARM64EC means, worked by hand.
+pub fn worked_arm64ec()
+    ensures { WorkedArm64ec }
+{}
+
+/// What a library of llvm-dlltool 19 for ARM64EC with native exports means, worked by hand.
+pub fn worked_native()
+    ensures { WorkedNative }
+{}
+
+/// The short import for ARM64EC of an export is read as the import that the export means.
+pub fn short_imports_are_read()
+    ensures { ShortImportsAreRead }
+{}
+
+/// The short imports for ARM64EC of a library's exports are read as the imports that the exports mean, in order.
+pub fn imports_are_read()
+    ensures { ImportsAreRead }
 {}
