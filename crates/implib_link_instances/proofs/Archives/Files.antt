@@ -1,9 +1,9 @@
 -- The archives that were read by hand, by computing.
-use Rattle.std.proofs.Common.{◌≡◌, ℕ, List, [], ◌∷◌, Option, None, Some, refl, ap, sym, ◌∙◌, subst, codes, length, arith}
+use Rattle.std.proofs.Common.{◌≡◌, ℕ, List, [], ◌∷◌, Option, None, Some, refl, ap, sym, ◌∙◌, length, arith}
 use Rattle.implib_archive.specs.Leads.{headers_among, headers_in, with_header}
 use Rattle.implib_archive.specs.Reader.{data_at, first_in, linker_data, linker_in, long_name, long_name_at, long_names_in, long_names_or, member_at, name_in, number_in, numbers_in, paired, read_as, stored_at, stored_from, stored_in, texts_in, trimmed}
-use Rattle.implib_archive_link.specs.Files.{HasMembers, entries_by, entries_in, member_after, members_read, symbols_at}
-use Rattle.implib_link_instances.specs.Archives.Files.{NearHasMembers, WorkedFiles, reversed, two_members}
+use Rattle.implib_archive_link.specs.Files.{entries_by, entries_in, member_after, members_read, symbols_at}
+use Rattle.implib_link_instances.specs.Archives.Files.{NearHasMembers, WorkedFiles, two_members}
 use Rattle.implib_link_instances.proofs.Worked.RefusedLinks.{differ}
 
 -- what the computing has to open

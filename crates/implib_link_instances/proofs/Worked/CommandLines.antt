@@ -1,7 +1,7 @@
 -- The command lines, by computing and by the laws.
-use Rattle.std.proofs.Common.{◌≡◌, ◌≤◌, ℕ, zero, suc, Bool, true, false, List, [], ◌∷◌, ◌++◌, ◌+◌, length, map, Option, None, Some, refl, ap, sym, ◌∙◌, subst, inl, inr, codes, arith}
-use Rattle.std.specs.Prelude.{◌&&◌, bytes_eq, drop, is_none, not, slice_get, take}
-use Rattle.std.specs.List.{AllByRecursion, Contains, IsDistinct, flat_map, list_all, list_any}
+use Rattle.std.proofs.Common.{◌≡◌, ◌≤◌, ℕ, zero, suc, true, false, List, [], ◌∷◌, ◌++◌, ◌+◌, length, map, Option, None, Some, refl, ap, sym, ◌∙◌, subst, inl, inr, codes, arith}
+use Rattle.std.specs.Prelude.{bytes_eq, drop, is_none, slice_get, take}
+use Rattle.std.specs.List.{Contains, IsDistinct, flat_map, list_all, list_any}
 use Rattle.std.proofs.lemmas.Bool.{and_parts, true≢false}
 use Rattle.std.proofs.lemmas.List.{append-nil, length-append}
 use Rattle.implib.specs.declared.machine.MachineType.TheVariants.{AMD64, I386}
@@ -12,11 +12,11 @@ use Rattle.implib.specs.Members.MemberSpec.{MemberView}
 use Rattle.implib.specs.Members.Members.{refusal, renamed_refusal}
 use Rattle.implib.proofs.Link.LinkedMembers.{among_contains, among_map}
 use Rattle.implib.proofs.Link.Ranges.{Among}
-use Rattle.implib_link.specs.Gnu.Program.{ClaimsNone, HaveSame}
+use Rattle.implib_link.specs.Gnu.Program.{HaveSame}
 use Rattle.implib_link.specs.Search.Archives.{archive_of, is_weak, symbols_of_library}
 use Rattle.implib_link.specs.Search.Closed.{PullsIntoAs, claims_of, listed_in, references_of, unresolved}
 use Rattle.implib_link.specs.Search.CommandLines.{AreListedOnce, AreListedWhole, AreRounds, AreSwept, AreTakenBehind, AreUnclaimedBehind, Archives, HaveAll, IsOrdered, IsSwept, LldSearches, LldSearchesFrom, NoneIsLost, SearchesCommandLine, SearchesFrom, given_with, names_left}
-use Rattle.implib_link.specs.Search.Given.{AreGiven, symbols_kept, wanted_at_most}
+use Rattle.implib_link.specs.Search.Given.{AreGiven, symbols_kept}
 use Rattle.implib_link.specs.Search.Search.{claimed_as, first_listed, objects_as, undefined_in}
 use Rattle.implib_link.specs.Search.Sweeps.{IndexEntry, index_at, members_at, sweeps, swept}
 use Rattle.implib_link.proofs.Search.CommandLines.{gnu_searches, listed_once_of, once_is_first, searches_keep, takes_alike}

@@ -2,7 +2,7 @@
 -- others. The objects are of gcc 12 (mingw-w64), of `void start(void) { quit(); }` and `void quit(void) { ExitProcess(0); }`.
 -- GNU ld 2.40 says of the library in front of the archive "undefined reference to `ExitProcess'", and links them in the
 -- other order, in a group, and with the library a second time behind; ld.lld and lld-link 14.0.6 link them in any order.
-use Rattle.std.specs.Prelude.{◌≡◌, ℕ, Bool, true, List, [], ◌∷◌, ◌++◌, Option, None, Some, bytes_eq, codes, map, reverse}
+use Rattle.std.specs.Prelude.{◌≡◌, ℕ, Bool, true, List, [], ◌∷◌, ◌++◌, bytes_eq, codes, map}
 use Rattle.std.specs.List.{IsDistinct, list_any}
 use Rattle.implib.specs.declared.flavor.Flavor.TheVariants.{Gnu}
 use Rattle.implib.specs.declared.machine.MachineType.{MachineType}
