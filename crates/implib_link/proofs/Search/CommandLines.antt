@@ -15,15 +15,15 @@ use Rattle.implib_link.specs.Gnu.Program.{ClaimsNone, HaveSame, claimed_names}
 use Rattle.implib_link.specs.Search.Archives.{IsArchive, Library, archive_of}
 use Rattle.implib_link.specs.Search.Closed.{AreLinkedFor, AreTakenIntoAs, LinksClosed, PullsIntoAs, TakesInto, TakesIntoAs, references_of, unresolved}
 use Rattle.implib_link.specs.Search.Given.{AreGiven}
-use Rattle.implib_link.specs.Search.CommandLines.{AnObject, Archives, AreListedOnce, AreListedWhole, AreRounds, AreSwept, AreTakenBehind, AreTakenOnce, AreUnclaimedBehind, HaveAll, Input, IsOrdered, IsSwept, LeavesNone, LldSearches, LldSearchesFrom, NoneIsLost, SearchesLibraries, TakesFirst, SearchesCommandLine, SearchesFrom, listed_at, names_left, numbers_but, numbers_in, numbers_of, object_of, objects_given, others_of, given_with}
+use Rattle.implib_link.specs.Search.CommandLines.{AnObject, Archives, AreFirst, AreListedWhole, AreRounds, AreSwept, AreTakenBehind, AreUnclaimedBehind, HaveAll, Input, IsOrdered, IsSwept, LeavesNone, LldSearches, LldSearchesFrom, NoneIsLost, SearchesLibraries, TakesFirst, SearchesCommandLine, SearchesFrom, listed_at, names_left, numbers_but, numbers_in, numbers_of, object_of, objects_given, others_of, given_with}
 use Rattle.implib_link.specs.Search.Search.{claimed_as, first_listed, is_listed_for, objects_as, undefined_in}
 use Rattle.implib_link.specs.Search.Sweeps.{IndexEntry, index_at, members_at, numbers_from, sweeps, swept}
 use Rattle.implib_link.proofs.Search.ArchiveGroups.{found_or_not}
 use Rattle.implib_link.proofs.Search.Closed.{closed_links}
 use Rattle.implib_link.proofs.Search.Given.{given_closes}
 use Rattle.implib_link.proofs.Search.Closing.{unresolved_from, unresolved_parts}
-use Rattle.implib_link.proofs.Search.Lists.{all_listed, among_any, any_among, among_either, among_flat_map, among_listed, as_name, contains_among, listed_is, name_as, passes, passing, same_member, to_not}
-use Rattle.implib_link.proofs.Search.Sweeps.{IsFirstAt, IsOnce, Lifts, all_there, among_number, entries_of, entry_there, member_at, first_once, none_first, none_left, number_among, number_of, number_taken, swept_adds, sweeps_in_turn, sweeps_keep, taken_number, once_by, once_member}
+use Rattle.implib_link.proofs.Search.Lists.{all_listed, among_any, any_among, among_either, among_flat_map, among_listed, as_name, contains_among, listed_is, listed_once, name_as, passes, passing, same_member, to_not}
+use Rattle.implib_link.proofs.Search.Sweeps.{IsFirstAt, Lifts, all_there, among_number, entries_of, entry_there, member_at, first_at, none_first, none_left, number_among, number_of, number_taken, swept_adds, sweeps_in_turn, sweeps_keep, taken_number, once_by}
 
 -- What was read first counts on: references and claims of some objects are those of more.
 
@@ -167,12 +167,6 @@ module _ (reads : List ℕ → Option Object) (members : List MemberView) where
             let from = name_as reads undefined_in name taken there in
             refs_back undefined_in whole (objects_as reads final) name (as_name reads undefined_in name final from.member from.object (within from.member from.held) from.taken from.among)
       ]
-
-  -- no two members are listed for it, where none are for what is left in the end
-  once_in_end : (whole : List Object) (final : List MemberView) → AreListedOnce members (names_left reads whole final) → (own later : List Object) → own ++ later ≡ whole → (taken : List MemberView) →
-      ((x : MemberView) → Among x taken → Among x final) → (name : List ℕ) → Among name (unresolved (own ++ objects_as reads taken)) → IsOnce members name
-  once_in_end whole final once own later all taken within name left n k m x at listed other again =
-      once name n k m x (name_in_end whole final own later all taken within name left) at (among_contains name m.symbols listed) other (among_contains name x.symbols again)
 
   -- no name that archives list is claimed by later objects
   abbrev AreFree : List ℕ → List Object → Type 0
@@ -423,24 +417,15 @@ module _ (reads : List ℕ → Option Object) (members : List MemberView) where
   of_all : (numbers : List ℕ) (m : MemberView) → Among m (members_at members numbers) → Among m members
   of_all numbers m held = (let from = taken_number members numbers m held in member_at members from.0 m from.2)
 
-  -- the first of some members that list a name is the first of all
-  first_of_all : (numbers : List ℕ) (name : List ℕ) (m : MemberView) → IsOnce members name → first_listed (members_at members numbers) name ≡ Some m → first_listed members name ≡ Some m
-  first_of_all numbers name m once is =
-      let from = listed_is (members_at members numbers) name m is in
-      let at = number_of members m (of_all numbers m from.0) in
-      first_once members name at.0 m once at.1 from.1
+  behind_are : (numbers : List ℕ) (own : List Object) (before more : List MemberView) → AreTakenBehind reads (members_at members numbers) own before more → ((x : MemberView) → Among x before → Among x members) →
+      (x : MemberView) → Among x (more ++ before) → Among x members
+  unfolding AreTakenBehind Among
+  behind_are numbers own before [] is are x held = are x held
+  behind_are numbers own before (m ∷ more) is are x (inl here) = subst (λ y. Among y members) (sym here) (of_all numbers m (listed_is (members_at members numbers) is.0.0 m is.0.1.listed).0)
+  behind_are numbers own before (m ∷ more) is are x (inr behind) = behind_are numbers own before more is.1 are x behind
 
-  -- and that of all is the first of some, if it is one of them
-  first_of_some : (some : List MemberView) (name : List ℕ) (m : MemberView) → IsOnce members name → ((x : MemberView) → Among x some → Among x members) → Among m some → Among name m.symbols → first_listed some name ≡ Some m
-  first_of_some some name m once are held listed =
-      elim (found_or_not name some) [
-        | inl none ↦ absurd (none_first name some m none held listed)
-        | inr found ↦
-            let from = listed_is some name found.0 found.1 in
-            found.1 ∙ ap Some (once_member members name found.0 m once (are found.0 from.0) (are m held) from.1 listed)
-      ]
-
-  module _ (whole : List Object) (final : List MemberView) (once : AreListedOnce members (names_left reads whole final)) where
+  -- what is taken in the end is the first that is listed for what is left in the end
+  module _ (whole : List Object) (final : List MemberView) (first : AreFirst members (names_left reads whole final) final) where
     behind_in_turn : (own later : List Object) → own ++ later ≡ whole → (numbers : List ℕ) → AreFree numbers later → (before more : List MemberView) → AreTakenBehind reads (members_at members numbers) own before more →
         ((x : MemberView) → Among x (more ++ before) → Among x final) → AreTakenIntoAs reads members (own ++ later) before → AreTakenIntoAs reads members (own ++ later) (more ++ before)
     unfolding AreTakenBehind AreTakenIntoAs
@@ -450,16 +435,17 @@ module _ (reads : List ℕ → Option Object) (members : List MemberView) where
         is.0.0,
         record {
           named = among_contains is.0.0 (unresolved ((own ++ later) ++ objects_as reads (more ++ before)))
-              (left_on own later (objects_as reads (more ++ before)) is.0.0 (free is.0.0 (there (listed_is (members_at members numbers) is.0.0 m is.0.1.listed))) left);
-          listed = first_of_all numbers is.0.0 m (once_in_end whole final once own later all (more ++ before) (λ x held. within x (among_later x m (more ++ before) held)) is.0.0 left) is.0.1.listed;
+              (left_on own later (objects_as reads (more ++ before)) is.0.0 (free is.0.0 (among_listed is.0.0 m (members_at members numbers) from.0 from.1)) left);
+          listed = first is.0.0 m (name_in_end whole final own later all (more ++ before) (λ x held. within x (among_later x m (more ++ before) held)) is.0.0 left)
+              (among_contains m final (within m (among_first m (more ++ before)))) (among_contains is.0.0 m.symbols from.1);
           new = is.0.1.new;
         },
       ),
       behind_in_turn own later all numbers free before more is.1 (λ x held. within x (among_later x m (more ++ before) held)) taken,
     )
       where
-        there : Among m (members_at members numbers) × Among is.0.0 m.symbols → Among is.0.0 (listed_at members numbers)
-        there from = among_listed is.0.0 m (members_at members numbers) from.0 from.1
+        from : Among m (members_at members numbers) × Among is.0.0 m.symbols
+        from = listed_is (members_at members numbers) is.0.0 m is.0.1.listed
 
         left : Among is.0.0 (unresolved (own ++ objects_as reads (more ++ before)))
         left = contains_among is.0.0 (unresolved (own ++ objects_as reads (more ++ before))) is.0.1.named
@@ -484,6 +470,15 @@ module _ (reads : List ℕ → Option Object) (members : List MemberView) where
         (λ x held. within x (lld_keeps (own ++ object_of input) (read ++ numbers_of input) inputs between after later x (subst (Among x) closed.taken held)))
         (subst (λ objects. AreTakenIntoAs reads members objects before) (sym same) taken))))
 
+  -- what lld takes are members
+  pub lld_members : (own : List Object) (read : List ℕ) (inputs : List Input) (before after : List MemberView) → LldSearchesFrom reads members own read inputs before after → ((x : MemberView) → Among x before → Among x members) →
+      (x : MemberView) → Among x after → Among x members
+  unfolding LldSearchesFrom
+  lld_members own read [] before after is are x held = are x (subst (Among x) (sym is) held)
+  lld_members own read (input ∷ inputs) before after (between, closed, later) are x held =
+      lld_members (own ++ object_of input) (read ++ numbers_of input) inputs between after later
+      (λ y there. behind_are (read ++ numbers_of input) (own ++ object_of input) before closed.more closed.in_turn are y (subst (Among y) (sym closed.taken) there)) x held
+
   -- that no name pulls in a member
   abbrev AreDone : List ℕ → List Object → List MemberView → Type 0
   AreDone numbers objects taken = (name : List ℕ) (m : MemberView) → PullsIntoAs reads (members_at members numbers) objects taken name m → ⊥
@@ -499,20 +494,28 @@ module _ (reads : List ℕ → Option Object) (members : List MemberView) where
       (lld_done (own ++ object_of input) (read ++ numbers_of input) inputs between after later closed.ended))
 
   -- In any order lld takes what one search of all archives takes.
-  pub lld_searches : (inputs : List Input) (taken : List MemberView) → AreListedOnce members (names_left reads (objects_given inputs) taken) → AreUnclaimedBehind members [] inputs → HaveAll members inputs →
+  pub lld_searches : (inputs : List Input) (taken : List MemberView) → AreFirst members (names_left reads (objects_given inputs) taken) taken → AreUnclaimedBehind members [] inputs → HaveAll members inputs →
       LldSearches reads members inputs taken → TakesIntoAs reads members (objects_given inputs) taken
   unfolding AreTakenIntoAs
-  lld_searches inputs taken once none all is = record {
-    in_turn = lld_in_turn (objects_given inputs) taken once [] [] inputs [] taken refl none is (λ x held. held) tt;
+  lld_searches inputs taken first none all is = record {
+    in_turn = lld_in_turn (objects_given inputs) taken first [] [] inputs [] taken refl none is (λ x held. held) tt;
     ended = λ name m pulls.
         let from = listed_is members name m pulls.listed in
         let left = contains_among name (unresolved (objects_given inputs ++ objects_as reads taken)) pulls.named in
-        let sure = once_in_end (objects_given inputs) taken once (objects_given inputs) [] (append-nil (objects_given inputs)) taken (λ x held. held) name left in
-        lld_done [] [] inputs [] taken is (λ n x nothing. nowhere n x nothing.listed) name m (record {
-          named = pulls.named;
-          listed = first_of_some (members_at members (numbers_in inputs)) name m sure (of_all (numbers_in inputs)) (contains_among m (members_at members (numbers_in inputs)) (all m (among_contains m members from.0))) from.1;
-          new = pulls.new;
-        });
+        let there = contains_among m (members_at members (numbers_in inputs)) (all m (among_contains m members from.0)) in
+        elim (found_or_not name (members_at members (numbers_in inputs))) [
+          | inl nothing ↦ none_first name (members_at members (numbers_in inputs)) m nothing there from.1
+          | inr found ↦
+              let listed = listed_is (members_at members (numbers_in inputs)) name found.0 found.1 in
+              lld_done [] [] inputs [] taken is (λ n x empty. nowhere n x empty.listed) name found.0 (record {
+                named = pulls.named;
+                listed = found.1;
+                new = λ held.
+                    let one : found.0 ≡ m = same_member found.0 m (sym (first name found.0
+                    (name_in_end (objects_given inputs) taken (objects_given inputs) [] (append-nil (objects_given inputs)) taken (λ x among. among) name left) held (among_contains name found.0.symbols listed.1)) ∙ pulls.listed) in
+                    pulls.new (subst (Contains taken) one held);
+              })
+        ];
   }
     where
       nowhere : (n : List ℕ) (x : MemberView) → None ≡ Some x → ⊥
@@ -569,13 +572,15 @@ module _ (reads : List ℕ → Option Object) (members : List MemberView) where
         ]
 
     -- What a name pulls in after members that another search takes, that search takes, too.
-    one_taken : (taken other : List MemberView) (name : List ℕ) (m : MemberView) → IsOnce members name → PullsIntoAs reads members own taken name m → ((y : MemberView) → Among y taken → Among y other) →
+    one_taken : (taken other : List MemberView) (name : List ℕ) (m : MemberView) → AreFirst members (names_left reads own other) other → PullsIntoAs reads members own taken name m → ((y : MemberView) → Among y taken → Among y other) →
         TakesIntoAs reads members own other → Among m other
-    one_taken taken other name m once pulls are takes =
+    unfolding references_of
+    one_taken taken other name m first pulls are takes =
         elim (cases_Bool (list_any (bytes_eq name) (flat_map claimed_names (objects_as reads other)))) [
           | inl claimed ↦
               let by = claimer other name others (any_among name (flat_map claimed_names (objects_as reads other)) claimed) in
-              subst (λ y. Among y other) (once_member members name by.0 m once (others by.0 by.1) from.0 by.2 from.1) by.1
+              let one : by.0 ≡ m = same_member by.0 m (sym (first name by.0 in_other (among_contains by.0 other by.1) (among_contains name by.0.symbols by.2)) ∙ pulls.listed) in
+              subst (λ y. Among y other) one by.1
           | inr free ↦
               let none : Among name (flat_map claimed_names (objects_as reads other)) → ⊥ = λ claimed. true≢false (sym (among_any name (flat_map claimed_names (objects_as reads other)) claimed) ∙ free) in
               absurd (takes.ended name m (record {
@@ -599,25 +604,20 @@ module _ (reads : List ℕ → Option Object) (members : List MemberView) where
         others : (y : MemberView) → Among y other → Among y members
         others = taken_are other takes.in_turn
 
-    -- a name that is left when members are taken that are taken in the end
-    sure : (full : List MemberView) → AreListedOnce members (names_left reads own full) → (taken : List MemberView) → ((x : MemberView) → Among x taken → Among x full) → (name : List ℕ) → Among name (unresolved (own ++ objects_as reads taken)) → IsOnce members name
-    sure full once taken within = once_in_end own full once own [] (append-nil own) taken within
+        in_other : Contains (names_left reads own other) name
+        in_other = among_contains name (flat_map undefined_in (own ++ objects_as reads other)) (refs_of_more taken other name are parts.0)
 
-    all_taken : (full : List MemberView) → AreListedOnce members (names_left reads own full) → (taken other : List MemberView) → ((x : MemberView) → Among x taken → Among x full) → AreTakenIntoAs reads members own taken →
-        TakesIntoAs reads members own other → (x : MemberView) → Among x taken → Among x other
+    all_taken : (taken other : List MemberView) → AreFirst members (names_left reads own other) other → AreTakenIntoAs reads members own taken → TakesIntoAs reads members own other → (x : MemberView) → Among x taken → Among x other
     unfolding AreTakenIntoAs Among
-    all_taken full once [] other within is takes x held = absurd held
-    all_taken full once (m ∷ taken) other within is takes x (inr behind) = all_taken full once taken other (λ y held. within y (inr held)) is.1 takes x behind
-    all_taken full once (m ∷ taken) other within is takes x (inl here) =
-        subst (λ y. Among y other) (sym here)
-        (one_taken taken other is.0.0 m
-        (sure full once taken (λ y held. within y (inr held)) is.0.0 (contains_among is.0.0 (unresolved (own ++ objects_as reads taken)) is.0.1.named)) is.0.1
-        (λ y held. all_taken full once taken other (λ z among. within z (inr among)) is.1 takes y held) takes)
+    all_taken [] other first is takes x held = absurd held
+    all_taken (m ∷ taken) other first is takes x (inr behind) = all_taken taken other first is.1 takes x behind
+    all_taken (m ∷ taken) other first is takes x (inl here) =
+        subst (λ y. Among y other) (sym here) (one_taken taken other is.0.0 m first is.0.1 (λ y held. all_taken taken other first is.1 takes y held) takes)
 
-    pub searches_alike : (taken other : List MemberView) → AreListedOnce members (names_left reads own taken) → AreListedOnce members (names_left reads own other) → TakesIntoAs reads members own taken → TakesIntoAs reads members own other → HaveSame taken other
-    searches_alike taken other once again one two x = (
-      λ held. among_contains x other (all_taken taken once taken other (λ y among. among) one.in_turn two x (contains_among x taken held)),
-      λ held. among_contains x taken (all_taken other again other taken (λ y among. among) two.in_turn one x (contains_among x other held)),
+    pub searches_alike : (taken other : List MemberView) → AreFirst members (names_left reads own taken) taken → AreFirst members (names_left reads own other) other → TakesIntoAs reads members own taken → TakesIntoAs reads members own other → HaveSame taken other
+    searches_alike taken other first second one two x = (
+      λ held. among_contains x other (all_taken taken other second one.in_turn two x (contains_among x taken held)),
+      λ held. among_contains x taken (all_taken other taken first two.in_turn one x (contains_among x other held)),
     )
 
     -- Members that are taken are as if they were given.
@@ -663,7 +663,7 @@ module _ (reads : List ℕ → Option Object) (members : List MemberView) where
           let from = name_as reads f name (filter test full) held in
           as_name reads f name full from.member from.object (passing test from.member full from.held).0 from.taken from.among
 
-      module _ (full : List MemberView) (are_members : (x : MemberView) → Among x full → Among x members) (once : AreTakenOnce (names_left reads own full) full) where
+      module _ (full : List MemberView) (are_members : (x : MemberView) → Among x full → Among x members) (first : AreFirst members (names_left reads own full) full) where
         abbrev given_too : List Object
         given_too = own ++ objects_as reads (filter is_given full)
 
@@ -685,7 +685,8 @@ module _ (reads : List ℕ → Option Object) (members : List MemberView) where
                 | inr given ↦
                     let by = claimer (filter is_given full) name (λ x among. are_members x (passing is_given x full among).0) given in
                     let kept = passing is_given by.0 full by.1 in
-                    let same : by.0 ≡ m = once name by.0 m (name_in_end own full own [] (append-nil own) taken are name left) (among_contains by.0 full kept.0) (among_contains name by.0.symbols by.2) (among_contains m full held) (among_contains name m.symbols listed) in
+                    let there = name_in_end own full own [] (append-nil own) taken are name left in
+                    let same : by.0 ≡ m = same_member by.0 m (sym (first name by.0 there (among_contains by.0 full kept.0) (among_contains name by.0.symbols by.2)) ∙ first name m there (among_contains m full held) (among_contains name m.symbols listed)) in
                     true≢false (sym kept.1 ∙ (ap is_given same ∙ other))
               ]
               | inr there ↦ parts.1 (refs_back claimed_names own (objects_as reads taken) name (names_within claimed_names (λ m. not (is_given m)) taken name there))
@@ -733,39 +734,35 @@ module _ (reads : List ℕ → Option Object) (members : List MemberView) where
               ]
             ])
 
-      pub taken_as_given : (taken : List MemberView) → AreTakenOnce (names_left reads own taken) taken → TakesIntoAs reads members own taken →
+      pub taken_as_given : (taken : List MemberView) → AreFirst members (names_left reads own taken) taken → TakesIntoAs reads members own taken →
           TakesIntoAs reads (others_of is_given members) (own ++ objects_as reads (filter is_given taken)) (others_of is_given taken)
-      taken_as_given taken once takes = record {
-        in_turn = others_in_turn taken (taken_are taken takes.in_turn) once taken (λ x held. held) takes.in_turn;
+      taken_as_given taken first takes = record {
+        in_turn = others_in_turn taken (taken_are taken takes.in_turn) first taken (λ x held. held) takes.in_turn;
         ended = λ name m pulls.
             let from = listed_is (others_of is_given members) name m pulls.listed in
             let kept = passing (λ y. not (is_given y)) m members from.0 in
-            let left = left_again taken (taken_are taken takes.in_turn) once name
-            (contains_among name (unresolved (given_too taken (taken_are taken takes.in_turn) once ++ objects_as reads (others_of is_given taken))) pulls.named) in
+            let left = left_again taken (taken_are taken takes.in_turn) first name
+            (contains_among name (unresolved (given_too taken (taken_are taken takes.in_turn) first ++ objects_as reads (others_of is_given taken))) pulls.named) in
             elim (found_or_not name members) [
               | inl none ↦ none_first name members m none kept.0 from.1
               | inr found ↦
-                  let first = listed_is members name found.0 found.1 in
+                  let there = listed_is members name found.0 found.1 in
                   takes.ended name found.0 (record {
                     named = among_contains name (unresolved (own ++ objects_as reads taken)) left;
                     listed = found.1;
                     new = λ held. (unresolved_parts (own ++ objects_as reads taken) name left).1
-                        (refs_back claimed_names own (objects_as reads taken) name (claims_there taken found.0 name (contains_among found.0 taken held) first.0 first.1));
+                        (refs_back claimed_names own (objects_as reads taken) name (claims_there taken found.0 name (contains_among found.0 taken held) there.0 there.1));
                   })
             ];
       }
 
--- Where what is taken is the first that is listed, no two of it are listed for a name.
-first_are_once : (members : List MemberView) (names : List (List ℕ)) (taken : List ℕ) → TakesFirst members names taken → AreTakenOnce names (members_at members taken)
-first_are_once members names taken first name m x left held listed other again =
-    let one = taken_number members taken m (contains_among m (members_at members taken) held) in
-    let two = taken_number members taken x (contains_among x (members_at members taken) other) in
-    let up : one.0 ≤ two.0 = first name one.0 two.0 m x left (among_contains one.0 taken one.1) one.2 listed two.2 again in
-    let down : two.0 ≤ one.0 = first name two.0 one.0 x m left (among_contains two.0 taken two.1) two.2 again one.2 listed in
-    same_at members one.0 two.0 m x (omega arith) one.2 two.2
-  where
-    same_at : (some : List MemberView) (n k : ℕ) (a b : MemberView) → n ≡ k → slice_get some n ≡ Some a → slice_get some k ≡ Some b → a ≡ b
-    same_at some n k a b is at again_at = same_member a b (sym at ∙ (ap (slice_get some) is ∙ again_at))
+-- what is first by numbers is the first that is listed
+pub first_by_numbers : (members : List MemberView) (names : List (List ℕ)) (taken : List ℕ) → TakesFirst members names taken → AreFirst members names (members_at members taken)
+first_by_numbers members names taken first name m left held listed =
+    let at = taken_number members taken m (contains_among m (members_at members taken) held) in
+    first_at members name at.0 m
+    (λ k a b here mine other again. first name at.0 k a b left (among_contains at.0 taken at.1) here (among_contains name a.symbols mine) other (among_contains name b.symbols again))
+    at.2 (contains_among name m.symbols listed)
 
 -- GNU `ld`'s command lines of libraries and of anything else.
 
@@ -773,7 +770,7 @@ module _ (machine : MachineType) (libraries : List Library) (members : List Memb
   pub of_libraries : TakesInto (archive_of libraries) (given_with object_in is_given (objects_given inputs) (members_at members taken)) (others_of is_given (members_at members taken))
   of_libraries =
       subst (λ archive. TakesIntoAs object_in archive (given_with object_in is_given (objects_given inputs) (members_at members taken)) (others_of is_given (members_at members taken))) s.libraries_are
-      (taken_as_given object_in members (objects_given inputs) s.whole is_given (members_at members taken) (first_are_once members (names_left object_in (objects_given inputs) (members_at members taken)) taken s.first)
+      (taken_as_given object_in members (objects_given inputs) s.whole is_given (members_at members taken) (first_by_numbers members (names_left object_in (objects_given inputs) (members_at members taken)) taken s.first)
       (elim s.ordered [
         | inl ordered ↦ gnu_searches object_in members inputs taken s.first s.unclaimed ordered s.searches
         | inr complete ↦ gnu_completes object_in members inputs taken s.first s.unclaimed complete s.searches
@@ -789,20 +786,19 @@ command_line_closes machine libraries members inputs taken is_given arranged bas
     closed_links machine libraries (given_with object_in is_given (objects_given inputs) (members_at members taken)) (others_of is_given (members_at members taken)) arranged bases objects archive
     (given_closes machine libraries (given_with object_in is_given (objects_given inputs) (members_at members taken)) (others_of is_given (members_at members taken)) arranged bases objects archive given takes linked)
 
--- what no two members are listed for, the first is
-pub once_is_first : (members : List MemberView) (names : List (List ℕ)) (taken : List ℕ) → AreListedOnce members names → TakesFirst members names taken
-once_is_first members names taken once name n k m x left held at listed other again =
-    let same : n ≡ k = once name n k m x left at listed other again in omega arith
-
 -- Where both linkers take a command line's members, they take the same.
-pub takes_alike : (reads : List ℕ → Option Object) (members : List MemberView) (inputs : List Input) (taken : List ℕ) (other : List MemberView) → AreListedOnce members (names_left reads (objects_given inputs) (members_at members taken)) →
-    AreListedOnce members (names_left reads (objects_given inputs) other) → AreListedWhole reads members → AreUnclaimedBehind members [] inputs → IsOrdered reads members inputs → HaveAll members inputs → SearchesCommandLine reads members inputs taken →
+pub takes_alike : (reads : List ℕ → Option Object) (members : List MemberView) (inputs : List Input) (taken : List ℕ) (other : List MemberView) → TakesFirst members (names_left reads (objects_given inputs) (members_at members taken)) taken →
+    AreFirst members (names_left reads (objects_given inputs) other) other → AreListedWhole reads members → AreUnclaimedBehind members [] inputs → IsOrdered reads members inputs → HaveAll members inputs → SearchesCommandLine reads members inputs taken →
     LldSearches reads members inputs other → HaveSame (members_at members taken) other
-takes_alike reads members inputs taken other once again whole none ordered all gnu lld =
-    searches_alike reads members (objects_given inputs) whole (members_at members taken) other once again
-    (gnu_searches reads members inputs taken (once_is_first members (names_left reads (objects_given inputs) (members_at members taken)) taken once) none ordered gnu) (lld_searches reads members inputs other again none all lld)
+takes_alike reads members inputs taken other first second whole none ordered all gnu lld =
+    searches_alike reads members (objects_given inputs) whole (members_at members taken) other (first_by_numbers members (names_left reads (objects_given inputs) (members_at members taken)) taken first) second
+    (gnu_searches reads members inputs taken first none ordered gnu) (lld_searches reads members inputs other second none all lld)
 
--- Where all symbols differ, no two members are listed for any names.
-pub listed_once_of : (members : List MemberView) (names : List (List ℕ)) → IsDistinct bytes_eq (all_listed members) → AreListedOnce members names
-listed_once_of members names distinct name n k m x held at listed other again =
-    once_by members name distinct n k m x at (contains_among name m.symbols listed) other (contains_among name x.symbols again)
+-- Where all symbols differ, each member is the first for its names.
+pub first_of_distinct : (members : List MemberView) (names : List (List ℕ)) (taken : List ℕ) → IsDistinct bytes_eq (all_listed members) → TakesFirst members names taken
+first_of_distinct members names taken distinct name n k m x left held at listed other again =
+    let same : n ≡ k = once_by members name distinct n k m x at (contains_among name m.symbols listed) other (contains_among name x.symbols again) in omega arith
+
+pub are_first_of_distinct : (members : List MemberView) (names : List (List ℕ)) (taken : List MemberView) → IsDistinct bytes_eq (all_listed members) → ((x : MemberView) → Among x taken → Among x members) → AreFirst members names taken
+are_first_of_distinct members names taken distinct are name m left held listed =
+    listed_once members name m distinct (are m (contains_among m taken held)) (contains_among name m.symbols listed)

@@ -68,30 +68,11 @@ same_less n k is = omega (arith, is)
 pub once_by : (archive : List MemberView) (name : List ℕ) → IsDistinct bytes_eq (all_listed archive) → IsOnce archive name
 once_by archive name distinct n k m x at listed other again = one_number archive name n k m x distinct at other listed again
 
-same_member_at : (archive : List MemberView) (n k : ℕ) (m x : MemberView) → n ≡ k → slice_get archive n ≡ Some m → slice_get archive k ≡ Some x → m ≡ x
-same_member_at archive n k m x same at other = same_member m x (sym at ∙ (ap (slice_get archive) same ∙ other))
-
--- such a name has one member
-pub once_member : (archive : List MemberView) (name : List ℕ) (m x : MemberView) → IsOnce archive name → Among m archive → Among x archive → Among name m.symbols → Among name x.symbols → m ≡ x
-once_member archive name m x once held other listed again =
-    let first = number_of archive m held in
-    let second = number_of archive x other in
-    same_member_at archive first.0 second.0 m x (once first.0 second.0 m x first.1 listed second.1 again) first.1 second.1
-
-pub first_once : (archive : List MemberView) (name : List ℕ) (n : ℕ) (m : MemberView) → IsOnce archive name → slice_get archive n ≡ Some m → Among name m.symbols → first_listed archive name ≡ Some m
-first_once archive name n m once at listed =
-    elim (found_or_not name archive) [
-      | inl none ↦ absurd (none_first name archive m none (member_at archive n m at) listed)
-      | inr found ↦
-          let from = first_is name archive found.0 found.1 in
-          found.1 ∙ ap Some (once_member archive name found.0 m once from.0 (member_at archive n m at) from.1 listed)
-    ]
-
 -- no member in front of that of a number is listed for a name, if this one is
 abbrev pub IsFirstAt : List MemberView → List ℕ → ℕ → Type 0
 IsFirstAt archive name n = (k : ℕ) (m x : MemberView) → slice_get archive n ≡ Some m → Among name m.symbols → slice_get archive k ≡ Some x → Among name x.symbols → n ≤ k
 
-first_at : (archive : List MemberView) (name : List ℕ) (n : ℕ) (m : MemberView) → IsFirstAt archive name n → slice_get archive n ≡ Some m → Among name m.symbols → first_listed archive name ≡ Some m
+pub first_at : (archive : List MemberView) (name : List ℕ) (n : ℕ) (m : MemberView) → IsFirstAt archive name n → slice_get archive n ≡ Some m → Among name m.symbols → first_listed archive name ≡ Some m
 first_at [] name n m first at listed = absurd (cc)
 first_at (y ∷ archive) name zero m first at listed =
     let same : y ≡ m = same_member y m at in

@@ -154,22 +154,16 @@ NoneIsLost reads members own taken =
 abbrev pub HaveAll : List MemberView → List Input → Type 0
 HaveAll members inputs = (m : MemberView) → Contains members m → Contains (members_at members (numbers_in inputs)) m
 
--- no two members are listed for one of these names
-abbrev pub AreListedOnce : List MemberView → List (List ℕ) → Type 0
-AreListedOnce members names = (name : List ℕ) (n k : ℕ) (m x : MemberView) → Contains names name →
-    slice_get members n ≡ Some m → Contains m.symbols name → slice_get members k ≡ Some x → Contains x.symbols name →
-    n ≡ k
+-- Each member that is taken, and that is listed for one of these names, is the first that is listed for it.
+abbrev pub AreFirst : List MemberView → List (List ℕ) → List MemberView → Type 0
+AreFirst members names taken = (name : List ℕ) (m : MemberView) → Contains names name →
+    Contains taken m → Contains m.symbols name → first_listed members name ≡ Some m
 
--- No member that is taken is listed for one of these names, if one in front of it is.
+-- the same by numbers
 abbrev pub TakesFirst : List MemberView → List (List ℕ) → List ℕ → Type 0
 TakesFirst members names taken = (name : List ℕ) (n k : ℕ) (m x : MemberView) → Contains names name →
     Contains taken n → slice_get members n ≡ Some m → Contains m.symbols name →
     slice_get members k ≡ Some x → Contains x.symbols name → n ≤ k
-
--- no two members that are taken are listed for one of these names
-abbrev pub AreTakenOnce : List (List ℕ) → List MemberView → Type 0
-AreTakenOnce names taken = (name : List ℕ) (m x : MemberView) → Contains names name →
-    Contains taken m → Contains m.symbols name → Contains taken x → Contains x.symbols name → m ≡ x
 
 -- what is left to others in a link: by the given objects, and by the members that are taken
 abbrev pub names_left : (List ℕ → Option Object) → List Object → List MemberView → List (List ℕ)

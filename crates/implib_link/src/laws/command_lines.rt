@@ -7,7 +7,7 @@ ghost use Rattle.implib.specs.declared.machine.MachineType.{MachineType};
 ghost use Rattle.implib_link.specs.Gnu.Program.{HaveSame};
 ghost use Rattle.implib_link.specs.Search.Archives.{IsArchive, Library};
 ghost use Rattle.implib_link.specs.Search.Closed.{AreLinkedFor, LinksClosed, TakesIntoAs};
-ghost use Rattle.implib_link.specs.Search.CommandLines.{AreListedOnce, AreListedWhole, AreTakenOnce};
+ghost use Rattle.implib_link.specs.Search.CommandLines.{AreFirst, AreListedWhole};
 ghost use Rattle.implib_link.specs.Search.CommandLines.{AreUnclaimedBehind, HaveAll, NoneIsLost};
 ghost use Rattle.implib_link.specs.Search.CommandLines.{TakesFirst, names_left};
 ghost use Rattle.implib_link.specs.Search.CommandLines.{Input, IsOrdered, LldSearches};
@@ -21,8 +21,8 @@ ghost use Rattle.std.specs.Prelude.{ℕ, [], Bool, List, Option};
 /// takes, for all objects, whatever the archives are: so all that is proved of such a search holds
 /// of it.
 ///
-/// For a name that objects or taken members leave to others no member in front of a taken one is
-/// listed, if this one is (for lld, no two members are); and no object claims a name that an archive in front of it lists.
+/// A taken member that is listed for a name which objects or taken members leave to others is the
+/// first that is; and no object claims a name that an archive in front of it lists.
 /// GNU `ld` wants an order, too, in which what is left unresolved is listed behind it, or in the same
 /// group (`gnu`); or that nothing which an archive lists is left in the end, as in each link without
 /// an undefined reference (`complete`). lld takes any order (`lld`). An archive may stand on the command line more than once.
@@ -43,7 +43,7 @@ pub fn command_lines_are_searched()
         TakesIntoAs reads members (objects_given inputs) (members_at members taken) }
     ensures lld { (reads : List ℕ → Option Object) (members : List MemberView)
         (inputs : List Input) (taken : List MemberView) →
-        AreListedOnce members (names_left reads (objects_given inputs) taken) →
+        AreFirst members (names_left reads (objects_given inputs) taken) taken →
         AreUnclaimedBehind members [] inputs → HaveAll members inputs →
         LldSearches reads members inputs taken →
         TakesIntoAs reads members (objects_given inputs) taken }
@@ -55,14 +55,14 @@ pub fn command_lines_are_searched()
 pub fn linkers_take_alike()
     ensures same { (reads : List ℕ → Option Object) (members : List MemberView)
         (own : List Object) (taken other : List MemberView) →
-        AreListedOnce members (names_left reads own taken) →
-        AreListedOnce members (names_left reads own other) →
+        AreFirst members (names_left reads own taken) taken →
+        AreFirst members (names_left reads own other) other →
         AreListedWhole reads members → TakesIntoAs reads members own taken →
         TakesIntoAs reads members own other → HaveSame taken other }
     ensures linkers { (reads : List ℕ → Option Object) (members : List MemberView)
         (inputs : List Input) (taken : List ℕ) (other : List MemberView) →
-        AreListedOnce members (names_left reads (objects_given inputs) (members_at members taken)) →
-        AreListedOnce members (names_left reads (objects_given inputs) other) →
+        TakesFirst members (names_left reads (objects_given inputs) (members_at members taken)) taken →
+        AreFirst members (names_left reads (objects_given inputs) other) other →
         AreListedWhole reads members → AreUnclaimedBehind members [] inputs →
         IsOrdered reads members inputs → HaveAll members inputs →
         SearchesCommandLine reads members inputs taken →
@@ -76,7 +76,7 @@ pub fn linkers_take_alike()
 pub fn taken_members_are_as_given()
     ensures { (reads : List ℕ → Option Object) (members : List MemberView) (own : List Object)
         (taken : List MemberView) (is_given : MemberView → Bool) →
-        AreTakenOnce (names_left reads own taken) taken →
+        AreFirst members (names_left reads own taken) taken →
         AreListedWhole reads members → TakesIntoAs reads members own taken →
         TakesIntoAs reads (others_of is_given members) (given_with reads is_given own taken)
         (others_of is_given taken) }

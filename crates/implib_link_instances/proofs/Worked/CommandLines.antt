@@ -1,5 +1,5 @@
 -- The command lines, by computing and by the laws.
-use Rattle.std.proofs.Common.{◌≡◌, ◌≤◌, ℕ, zero, suc, true, false, List, [], ◌∷◌, ◌++◌, ◌+◌, length, map, Option, None, Some, refl, ap, sym, ◌∙◌, subst, inl, inr, codes, arith}
+use Rattle.std.proofs.Common.{◌≡◌, ◌≤◌, ◌⊎◌, ℕ, zero, suc, true, false, List, [], ◌∷◌, ◌++◌, ◌+◌, length, map, Option, None, Some, refl, ap, sym, ◌∙◌, subst, inl, inr, codes, arith}
 use Rattle.std.specs.Prelude.{bytes_eq, drop, is_none, slice_get, take}
 use Rattle.std.specs.List.{Contains, IsDistinct, flat_map, list_all, list_any}
 use Rattle.std.proofs.lemmas.Bool.{and_parts, true≢false}
@@ -15,13 +15,13 @@ use Rattle.implib.proofs.Link.Ranges.{Among}
 use Rattle.implib_link.specs.Gnu.Program.{HaveSame}
 use Rattle.implib_link.specs.Search.Archives.{archive_of, is_weak, symbols_of_library}
 use Rattle.implib_link.specs.Search.Closed.{PullsIntoAs, claims_of, listed_in, references_of, unresolved}
-use Rattle.implib_link.specs.Search.CommandLines.{AreListedOnce, AreListedWhole, AreRounds, AreSwept, AreTakenBehind, AreUnclaimedBehind, Archives, HaveAll, IsOrdered, IsSwept, LldSearches, LldSearchesFrom, NoneIsLost, SearchesCommandLine, SearchesFrom, given_with, names_left}
+use Rattle.implib_link.specs.Search.CommandLines.{AreFirst, AreListedWhole, AreRounds, AreSwept, AreTakenBehind, AreUnclaimedBehind, Archives, HaveAll, IsOrdered, IsSwept, LldSearches, LldSearchesFrom, NoneIsLost, SearchesCommandLine, SearchesFrom, given_with, names_left}
 use Rattle.implib_link.specs.Search.Given.{AreGiven, symbols_kept}
 use Rattle.implib_link.specs.Search.Search.{claimed_as, first_listed, objects_as, undefined_in}
 use Rattle.implib_link.specs.Search.Sweeps.{IndexEntry, index_at, members_at, sweeps, swept}
-use Rattle.implib_link.proofs.Search.CommandLines.{gnu_searches, listed_once_of, once_is_first, searches_keep, takes_alike}
+use Rattle.implib_link.proofs.Search.CommandLines.{are_first_of_distinct, first_of_distinct, gnu_searches, lld_members, searches_keep, takes_alike}
 use Rattle.implib_link.proofs.Search.Lists.{among_any, any_among, contains_among}
-use Rattle.implib_link_instances.specs.Worked.CommandLines.{NearIsClosedOver, NearIsGroupSearched, NearIsSwept, NearSearchesLibraries, RefusedCommandLines, WorkedCommandLine, WorkedCommandLines, WorkedLibraries, all_taken, amd64_members, i386_members, i386_wants_bytes, in_group, is_quit, kernel_on, library_first, library_last, library_twice, of_kernel, of_quit, quit_bytes, quit_member, read_or_none, spare_member, wants_bytes, with_spares}
+use Rattle.implib_link_instances.specs.Worked.CommandLines.{NearIsClosedOver, NearIsGroupSearched, NearIsSwept, NearSearchesLibraries, RefusedCommandLines, WorkedCommandLine, WorkedCommandLines, WorkedLibraries, all_taken, amd64_members, i386_members, i386_wants_bytes, in_group, is_quit, kernel_on, library_first, library_last, library_twice, of_kernel, of_quit, other_spare, quit_bytes, quit_member, read_or_none, spare_member, wants_bytes, with_spares}
 use Rattle.implib_link_instances.specs.Worked.Programs.{code_object}
 use Rattle.implib_link_instances.proofs.Worked.RefusedLinks.{differ}
 use Rattle.implib_link_instances.proofs.Worked.Programs.{claims_none_by, distinct_by, opened}
@@ -71,6 +71,10 @@ pulls_by archive own taken name m left listed new = record {
   listed = listed;
   new = λ has. true≢false (sym (among_any m.name (map (λ (x : MemberView). x.name) taken) (among_map (λ (x : MemberView). x.name) m taken (contains_among m taken has))) ∙ new);
 }
+
+none_there : (members : List MemberView) (x : MemberView) → Among x [] → Among x members
+unfolding Among
+none_there members x none = absurd none
 
 -- AMD64
 
@@ -169,10 +173,10 @@ line = record {
   by_lld = by_lld;
   first = searched_last;
   ordered = ordered;
-  takes = gnu_searches object_in amd64_members (library_last own) all_taken (once_is_first amd64_members (names_left object_in own (members_at amd64_members all_taken)) all_taken (listed_once_of amd64_members (names_left object_in own (members_at amd64_members all_taken)) distinct)) unclaimed ordered searched_last;
+  takes = gnu_searches object_in amd64_members (library_last own) all_taken (first_of_distinct amd64_members (names_left object_in own (members_at amd64_members all_taken)) all_taken distinct) unclaimed ordered searched_last;
   group = searched_group;
   again = searched_twice;
-  alike = λ other lld. takes_alike object_in amd64_members (in_group own) all_taken other (listed_once_of amd64_members (names_left object_in own (members_at amd64_members all_taken)) distinct) (listed_once_of amd64_members (names_left object_in own other) distinct) whole group_unclaimed group_ordered all searched_group lld;
+  alike = λ other lld. takes_alike object_in amd64_members (in_group own) all_taken other (first_of_distinct amd64_members (names_left object_in own (members_at amd64_members all_taken)) all_taken distinct) (are_first_of_distinct amd64_members (names_left object_in own other) other distinct (lld_members object_in amd64_members [] [] (in_group own) [] other lld (none_there amd64_members))) whole group_unclaimed group_ordered all searched_group lld;
 }
 
 given : AreGiven AMD64 ((kernel_on AMD64 (codes "ExitProcess")) ∷ []) (given_with object_in is_quit own (members_at amd64_members all_taken))
@@ -189,7 +193,7 @@ libraries : WorkedLibraries AMD64 (kernel_on AMD64 (codes "ExitProcess")) amd64_
 unfolding opened alias_specs encoded_size refusal renamed_refusal is_weak symbols_of_library archive_of
 libraries = record {
   archive = record { made = (record { accepted = refl; made = refl; ordinals = refl }, tt); distinct = distinct_by (flat_map (symbols_of_library AMD64) ((kernel_on AMD64 (codes "ExitProcess")) ∷ [])) refl };
-  searches = record { libraries_are = refl; first = once_is_first amd64_members (names_left object_in own (members_at amd64_members all_taken)) all_taken (listed_once_of amd64_members (names_left object_in own (members_at amd64_members all_taken)) distinct); unclaimed = unclaimed; ordered = inl ordered; whole = whole; searches = searched_last };
+  searches = record { libraries_are = refl; first = first_of_distinct amd64_members (names_left object_in own (members_at amd64_members all_taken)) all_taken distinct; unclaimed = unclaimed; ordered = inl ordered; whole = whole; searches = searched_last };
   given = given;
 }
 
@@ -290,10 +294,10 @@ i386_line = record {
   by_lld = i386_by_lld;
   first = i386_searched_last;
   ordered = i386_ordered;
-  takes = gnu_searches object_in i386_members (library_last i386_own) all_taken (once_is_first i386_members (names_left object_in i386_own (members_at i386_members all_taken)) all_taken (listed_once_of i386_members (names_left object_in i386_own (members_at i386_members all_taken)) i386_distinct)) i386_unclaimed i386_ordered i386_searched_last;
+  takes = gnu_searches object_in i386_members (library_last i386_own) all_taken (first_of_distinct i386_members (names_left object_in i386_own (members_at i386_members all_taken)) all_taken i386_distinct) i386_unclaimed i386_ordered i386_searched_last;
   group = i386_searched_group;
   again = i386_searched_twice;
-  alike = λ other lld. takes_alike object_in i386_members (in_group i386_own) all_taken other (listed_once_of i386_members (names_left object_in i386_own (members_at i386_members all_taken)) i386_distinct) (listed_once_of i386_members (names_left object_in i386_own other) i386_distinct) i386_whole i386_group_unclaimed i386_group_ordered i386_all i386_searched_group lld;
+  alike = λ other lld. takes_alike object_in i386_members (in_group i386_own) all_taken other (first_of_distinct i386_members (names_left object_in i386_own (members_at i386_members all_taken)) all_taken i386_distinct) (are_first_of_distinct i386_members (names_left object_in i386_own other) other i386_distinct (lld_members object_in i386_members [] [] (in_group i386_own) [] other lld (none_there i386_members))) i386_whole i386_group_unclaimed i386_group_ordered i386_all i386_searched_group lld;
 }
 
 i386_given : AreGiven I386 ((kernel_on I386 (codes "_ExitProcess@4")) ∷ []) (given_with object_in is_quit i386_own (members_at i386_members all_taken))
@@ -314,7 +318,7 @@ i386_libraries : WorkedLibraries I386 (kernel_on I386 (codes "_ExitProcess@4")) 
 unfolding opened alias_specs encoded_size refusal renamed_refusal is_weak symbols_of_library archive_of
 i386_libraries = record {
   archive = record { made = (record { accepted = refl; made = refl; ordinals = refl }, tt); distinct = distinct_by (flat_map (symbols_of_library I386) ((kernel_on I386 (codes "_ExitProcess@4")) ∷ [])) refl };
-  searches = record { libraries_are = refl; first = once_is_first i386_members (names_left object_in i386_own (members_at i386_members all_taken)) all_taken (listed_once_of i386_members (names_left object_in i386_own (members_at i386_members all_taken)) i386_distinct); unclaimed = i386_unclaimed; ordered = inr complete; whole = i386_whole; searches = i386_searched_last };
+  searches = record { libraries_are = refl; first = first_of_distinct i386_members (names_left object_in i386_own (members_at i386_members all_taken)) all_taken i386_distinct; unclaimed = i386_unclaimed; ordered = inr complete; whole = i386_whole; searches = i386_searched_last };
   given = i386_given;
 }
 
@@ -419,37 +423,41 @@ near_searches_libraries = record {
     not_quit (inl is) = differ 109 113 (ap first_byte is) (omega arith)
     not_quit (inr none) = absurd none
 
-is_first : (n : ℕ) (m : MemberView) → slice_get with_spares n ≡ Some m → Among (codes "quit") m.symbols → n ≡ 0
+-- names and members, two of each
+two_names : (name : List ℕ) → Among name (codes "quit" ∷ codes "spare" ∷ []) → (name ≡ codes "quit") ⊎ (name ≡ codes "spare")
 unfolding Among
-is_first zero m at held = refl
-is_first (suc zero) m at held = absurd (not_spare (subst (λ (x : MemberView). Among (codes "quit") x.symbols) (sym (same at)) held))
-  where
-    same : {x : MemberView} → Some x ≡ Some m → x ≡ m
-    same is = cc
+two_names name (inl is) = inl is
+two_names name (inr (inl is)) = inr is
+two_names name (inr (inr none)) = absurd none
 
-    not_spare : Among (codes "quit") (codes "spare" ∷ []) → ⊥
-    not_spare (inl is) = differ 113 115 (ap first_byte is) (omega arith)
-    not_spare (inr none) = absurd none
-is_first (suc (suc zero)) m at held = absurd (not_spare (subst (λ (x : MemberView). Among (codes "quit") x.symbols) (sym (same at)) held))
-  where
-    same : {x : MemberView} → Some x ≡ Some m → x ≡ m
-    same is = cc
-
-    not_spare : Among (codes "quit") (codes "spare" ∷ []) → ⊥
-    not_spare (inl is) = differ 113 115 (ap first_byte is) (omega arith)
-    not_spare (inr none) = absurd none
-is_first (suc (suc (suc n))) m at held = absurd (cc)
-
-alone_in : (name : List ℕ) → Among name (codes "quit" ∷ []) → name ≡ codes "quit"
+two_taken : (m : MemberView) → Among m (quit_member (codes "quit") quit_bytes ∷ spare_member ∷ []) → (m ≡ quit_member (codes "quit") quit_bytes) ⊎ (m ≡ spare_member)
 unfolding Among
-alone_in name (inl is) = is
-alone_in name (inr none) = absurd none
+two_taken m (inl is) = inl is
+two_taken m (inr (inl is)) = inr is
+two_taken m (inr (inr none)) = absurd none
 
-once_here : AreListedOnce with_spares (codes "quit" ∷ [])
-once_here name n k m x left at listed other again =
-    let is = alone_in name (contains_among name (codes "quit" ∷ []) left) in
-    is_first n m at (subst (λ t. Among t m.symbols) is (contains_among name m.symbols listed))
-    ∙ sym (is_first k x other (subst (λ t. Among t x.symbols) is (contains_among name x.symbols again)))
+listed_by : (name other : List ℕ) → Among name (other ∷ []) → name ≡ other
+unfolding Among
+listed_by name other (inl is) = is
+listed_by name other (inr none) = absurd none
+
+first_here : AreFirst with_spares (codes "quit" ∷ codes "spare" ∷ []) (quit_member (codes "quit") quit_bytes ∷ spare_member ∷ [])
+first_here name m left held listed =
+    elim (two_taken m (contains_among m (quit_member (codes "quit") quit_bytes ∷ spare_member ∷ []) held)) [
+      | inl is ↦
+          let one = listed_by name (codes "quit") (subst (λ (x : MemberView). Among name x.symbols) is (contains_among name m.symbols listed)) in
+          subst (λ n. first_listed with_spares n ≡ Some m) (sym one) (ap Some (sym is))
+      | inr is ↦
+          let one = listed_by name (codes "spare") (subst (λ (x : MemberView). Among name x.symbols) is (contains_among name m.symbols listed)) in
+          subst (λ n. first_listed with_spares n ≡ Some m) (sym one) (ap Some (sym is))
+    ]
+
+not_second : Some spare_member ≡ Some other_spare → ⊥
+not_second is = differ 111 115 (sym (ap first_of_option is)) (omega arith)
+  where
+    first_of_option : Option MemberView → ℕ
+    first_of_option None = 0
+    first_of_option (Some m) = first_byte m.name
 
 pub refused_command_lines : RefusedCommandLines
 unfolding opened alias_specs encoded_size claimed_as AreUnclaimedBehind Among
@@ -458,8 +466,8 @@ refused_command_lines = record {
   claimed_before = ((tt, tt), (tt, tt));
   all = λ x. three_names (contains_among (member_or_none (slice_get amd64_members 3)) (kernel_on AMD64 (codes "ExitProcess")).members
       (x (member_or_none (slice_get amd64_members 3)) (among_contains (member_or_none (slice_get amd64_members 3)) amd64_members (inr (inr (inr (inl refl)))))));
-  once = once_here;
-  twice = λ x. differ 1 2 (x (codes "spare") 1 2 spare_member spare_member (among_contains (codes "spare") (codes "quit" ∷ codes "spare" ∷ []) (inr (inl refl))) refl (among_contains (codes "spare") (codes "spare" ∷ []) (inl refl)) refl (among_contains (codes "spare") (codes "spare" ∷ []) (inl refl))) (omega arith);
+  first = first_here;
+  second = λ x. not_second (x (codes "spare") other_spare (among_contains (codes "spare") (codes "quit" ∷ codes "spare" ∷ []) (inr (inl refl))) (among_contains other_spare (other_spare ∷ []) (inl refl)) (among_contains (codes "spare") (codes "spare" ∷ []) (inl refl)));
   whole = λ x. other (contains_among (codes "more") (codes "quit" ∷ []) ((x.0 (codes "more")).1 (among_contains (codes "more") (codes "more" ∷ []) (inl refl))));
 }
   where

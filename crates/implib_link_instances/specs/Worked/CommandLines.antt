@@ -17,7 +17,7 @@ use Rattle.implib.specs.Worked.Statements.{plain_export}
 use Rattle.implib_link.specs.Gnu.Program.{HaveSame}
 use Rattle.implib_link.specs.Search.Archives.{IsArchive, Library}
 use Rattle.implib_link.specs.Search.Closed.{TakesIntoAs, listed_in, unresolved}
-use Rattle.implib_link.specs.Search.CommandLines.{AnObject, Archives, AreListedOnce, AreListedWhole, AreUnclaimedBehind, HaveAll, Input, IsClosedOver, IsGroupSearched, IsOrdered, IsSwept, LldSearches, SearchesCommandLine, SearchesLibraries, given_with}
+use Rattle.implib_link.specs.Search.CommandLines.{AnObject, Archives, AreFirst, AreListedWhole, AreUnclaimedBehind, HaveAll, Input, IsClosedOver, IsGroupSearched, IsOrdered, IsSwept, LldSearches, SearchesCommandLine, SearchesLibraries, given_with}
 use Rattle.implib_link.specs.Search.Given.{AreGiven}
 use Rattle.implib_link.specs.Search.Search.{objects_as}
 use Rattle.implib_link.specs.Search.Sweeps.{members_at}
@@ -234,20 +234,24 @@ pub record NearSearchesLibraries : Type 0 where
   pub searches : SearchesLibraries AMD64 (kernel_on AMD64 (codes "ExitProcess") ∷ []) amd64_members
       (library_last wanting_own) is_quit [] → ⊥
 
--- two members that are listed for one name, which nothing leaves to others, and that of `quit`
+-- two members that are listed for one name, and that of `quit`
 abbrev pub spare_member : MemberView
 spare_member = record { name = codes "spare.o"; bytes = []; symbols = codes "spare" ∷ [] }
 
+abbrev pub other_spare : MemberView
+other_spare = record { name = codes "other.o"; bytes = []; symbols = codes "spare" ∷ [] }
+
 abbrev pub with_spares : List MemberView
-with_spares = quit_member (codes "quit") quit_bytes ∷ spare_member ∷ spare_member ∷ []
+with_spares = quit_member (codes "quit") quit_bytes ∷ spare_member ∷ other_spare ∷ []
 
 -- Predicates: an object behind an archive that claims its name; an archive that no input has; a member that is listed for a
--- name less than it claims; a name that two members are listed for, among those that are left, and not. That an order is
+-- name less than it claims; of two members that are listed for one name the first is taken, and not
+-- the second. That an order is
 -- refused is in the worked rows.
 pub record RefusedCommandLines : Type 0 where
   pub unclaimed : AreUnclaimedBehind amd64_members [] (Archives (of_quit ∷ []) ∷ AnObject quitting ∷ []) → ⊥
   pub claimed_before : AreUnclaimedBehind amd64_members [] (AnObject quitting ∷ Archives (of_quit ∷ []) ∷ [])
   pub all : HaveAll amd64_members (inputs_of wanting_own ++ Archives (of_kernel ∷ []) ∷ []) → ⊥
   pub whole : AreListedWhole object_in (quit_member (codes "more") quit_bytes ∷ []) → ⊥
-  pub once : AreListedOnce with_spares (codes "quit" ∷ [])
-  pub twice : AreListedOnce with_spares (codes "quit" ∷ codes "spare" ∷ []) → ⊥
+  pub first : AreFirst with_spares (codes "quit" ∷ codes "spare" ∷ []) (quit_member (codes "quit") quit_bytes ∷ spare_member ∷ [])
+  pub second : AreFirst with_spares (codes "quit" ∷ codes "spare" ∷ []) (other_spare ∷ []) → ⊥

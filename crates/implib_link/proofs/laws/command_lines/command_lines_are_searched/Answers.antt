@@ -3,7 +3,7 @@ use Rattle.implib_link.proofs.laws.command_lines.command_lines_are_searched.Goal
 
 pub returns : goal.returns
 returns c = record {
-  gnu = λ reads members inputs taken once none ordered is. gnu_searches reads members inputs taken once none ordered is;
-  complete = λ reads members inputs taken once none complete is. gnu_completes reads members inputs taken once none complete is;
-  lld = λ reads members inputs taken once none all is. lld_searches reads members inputs taken once none all is;
+  gnu = λ reads members inputs taken first none ordered is. gnu_searches reads members inputs taken first none ordered is;
+  complete = λ reads members inputs taken first none complete is. gnu_completes reads members inputs taken first none complete is;
+  lld = λ reads members inputs taken first none all is. lld_searches reads members inputs taken first none all is;
 }
