@@ -1,10 +1,16 @@
 //! Makes the import library of a module definition: a program in place of `dlltool`.
 //!
-//! What it does is in the crate `implib_driver`, and what it does it to in `implib_devices`.
+//! What it does is in the crate `implib_driver`; [`files`] is the system's disk, and [`console`] says
+//! on standard error what there is to say.
 #![tactic(auto)]
 
-use implib_devices::console::Console;
-use implib_devices::files::SystemDisk;
+pub mod console;
+pub mod files;
+#[cfg(test)]
+mod tests;
+
+use crate::console::Console;
+use crate::files::SystemDisk;
 use implib_driver::program::{CommandLine, perform};
 use std::alloc::AllocError;
 use std::env::{Env, FillError};
