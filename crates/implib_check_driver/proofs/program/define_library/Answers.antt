@@ -20,4 +20,4 @@ returns g c =
     let size : length c.in-Ok-dlls_of.names.keys ≡ 1 = omega (arith, c.len-count.ensures.len) in
     let count : length (dlls_of ms) ≡ 1 = sym (ap length keys) ∙ (length-map c.in-Ok-dlls_of.names.keys (λ k. k.now) ∙ size) in
     undefined_is c.args.hints define c.args.bytes.now (archive_view c.in-Ok.library.archive) ms why c.say_undefined.result
-    read.0 read.1 (subst (λ (n : ℕ). (n == 1) ≡ true) (sym count) refl) undefined c.say_undefined.ensures
+    read.0 read.1 (subst (λ (n : ℕ). (n == 1) ≡ true) (sym count) refl) (sym c.has_arm64ec.ensures ∙ c.if-has_arm64ec.false) undefined c.say_undefined.ensures
