@@ -5,18 +5,20 @@ use Rattle.std.specs.Prelude.{IfSome}
 use Rattle.std.specs.Option.{option_map, option_map_or}
 use Rattle.implib_read.specs.Archives.{Archive, archive_in}
 use Rattle.implib_read.specs.Classes.{MemberRead, library_in, members_read}
-use Rattle.implib_compare.specs.Meant.{IsVerdictOn}
+use Rattle.implib_compare.specs.Meant.{IsArm64ecFault, IsArm64ecVerdictOn, IsRefusalFor, IsVerdictOn}
+use Rattle.implib_compare.specs.declared.meant.Arm64ecFault.{Arm64ecFault}
+use Rattle.implib_rules.specs.declared.library.Refusal.{Refusal}
 use Rattle.implib_compare.specs.Working.{working_of}
 use Rattle.implib_compare.specs.declared.compare.Verdict.{Verdict}
 use Rattle.implib_check_driver.specs.Against.{begins_dll, is_library}
-use Rattle.implib_check_driver.specs.Answers.{AnswersDefine, AnswersOf, AnswersOfBoth, CheckedAs, DefinedAs, OrFailed, compared, compared_in, status_in}
+use Rattle.implib_check_driver.specs.Answers.{AnswersDefine, AnswersOf, AnswersOfBoth, CheckedAs, DefinedAs, IsCheckedBeside, IsCheckedForArm64ec, IsCheckedOrdinary, OrFailed, compared, compared_in, status_in}
 use Rattle.implib_check_driver.specs.Calls.{CheckView, DefineView}
 use Rattle.implib_check_driver.specs.Defining.{IsUndefined}
 use Rattle.implib_check_driver.specs.OfDlls.{HasNoLibrary}
 use Rattle.implib_check_driver.specs.declared.defining.Undefined.{Undefined}
 use Rattle.implib_read.specs.Identity.{dlls_of}
-use Rattle.implib_check_driver.specs.Status.{comparison_status, no_library_status, undefined_status}
-use Rattle.implib_check_driver.specs.Targets.{options_for, options_of}
+use Rattle.implib_check_driver.specs.Status.{arm64ec_status, comparison_status, no_library_status, refusal_status, undefined_status}
+use Rattle.implib_check_driver.specs.Targets.{has_arm64ec, is_for_arm64ec, is_unfit, options_for, options_of}
 
 -- what failed answers with 3
 pub answered_failed : (of : Archive → ℕ) (file : Option (List ℕ)) (status : ℕ) → status ≡ 3 → AnswersOf of file status
@@ -96,35 +98,96 @@ both_read left right l r a b status first second read other (inr answers) =
     ∙ sym (ap (λ found. option_map_or (λ x. option_map_or (compared x) (archive_in r) (no_library_status r)) found (no_library_status l)) read)))
 
 -- an archive beside a definition, where its members are as they are read
-pub checked_is : (check : CheckView) (library definition : List ℕ) (a : Archive) (ms : List MemberRead) (v : Verdict) (status : ℕ)
-    → archive_in library ≡ Some a → ms ≡ members_read a.members → is_library definition ≡ false
-    → IsVerdictOn check.older_symbols definition (options_for check ms) ms v
+pub checked_is : (check : CheckView) (definition : List ℕ) (a : Archive) (ms : List MemberRead) (v : Verdict) (status : ℕ)
+    → ms ≡ members_read a.members → IsVerdictOn check.older_symbols definition (options_for check ms) ms v
     → OrFailed status (status ≡ comparison_status v (working_of a ms))
-    → OrFailed status (CheckedAs check library definition (archive_in library) status)
-checked_is check library definition a ms v status read same unlike on (inl failed) = inl failed
-checked_is check library definition a ms v status read same unlike on (inr is) =
-    inr (subst (λ found. CheckedAs check library definition found status) (sym read) (
-      (λ yes. absurd (true≢false (sym yes ∙ unlike))),
-      (λ here. inl (record {
-        verdict = v;
-        on = subst (λ xs. IsVerdictOn check.older_symbols definition (options_for check xs) xs v) same on;
-        is = subst (λ xs. status ≡ comparison_status v (working_of a xs)) same is;
-      })),
-    ))
+    → OrFailed status (IsCheckedOrdinary check a definition status)
+checked_is check definition a ms v status same on (inl failed) = inl failed
+checked_is check definition a ms v status same on (inr is) = inr (inl (record {
+  verdict = v;
+  on = subst (λ xs. IsVerdictOn check.older_symbols definition (options_for check xs) xs v) same on;
+  is = subst (λ xs. status ≡ comparison_status v (working_of a xs)) same is;
+}))
+
+pub checked_refused : (check : CheckView) (definition : List ℕ) (a : Archive) (ms : List MemberRead) (why : Refusal) (status : ℕ)
+    → ms ≡ members_read a.members → IsRefusalFor check.older_symbols definition (options_for check ms) why → status ≡ refusal_status why
+    → OrFailed status (IsCheckedOrdinary check a definition status)
+checked_refused check definition a ms why status same refused is = inr (inr (record {
+  why = why;
+  is_refusal = subst (λ xs. IsRefusalFor check.older_symbols definition (options_for check xs) why) same refused;
+  is = is;
+}))
+
+-- the same for ARM64EC
+pub checked_arm64ec_is : (check : CheckView) (definition : List ℕ) (native : Option (List ℕ)) (a : Archive) (ms : List MemberRead) (v : Verdict) (status : ℕ)
+    → ms ≡ members_read a.members → IsArm64ecVerdictOn definition native (options_for check ms) ms v
+    → OrFailed status (status ≡ comparison_status v (working_of a ms))
+    → OrFailed status (IsCheckedForArm64ec check a definition native status)
+checked_arm64ec_is check definition native a ms v status same on (inl failed) = inl failed
+checked_arm64ec_is check definition native a ms v status same on (inr is) = inr (inl (record {
+  verdict = v;
+  on = subst (λ xs. IsArm64ecVerdictOn definition native (options_for check xs) xs v) same on;
+  is = subst (λ xs. status ≡ comparison_status v (working_of a xs)) same is;
+}))
+
+pub checked_arm64ec_refused : (check : CheckView) (definition : List ℕ) (native : Option (List ℕ)) (a : Archive) (ms : List MemberRead) (why : Arm64ecFault) (status : ℕ)
+    → ms ≡ members_read a.members → IsArm64ecFault definition native (options_for check ms) why → status ≡ arm64ec_status why
+    → OrFailed status (IsCheckedForArm64ec check a definition native status)
+checked_arm64ec_refused check definition native a ms why status same refused is = inr (inr (record {
+  why = why;
+  is_fault = subst (λ xs. IsArm64ecFault definition native (options_for check xs) why) same refused;
+  is = is;
+}))
+
+-- an archive beside definitions: an unfit call, one for ARM64EC, and another
+pub checked_unfit : (check : CheckView) (definition : List ℕ) (native : Option (List ℕ)) (a : Archive) (ms : List MemberRead) (status : ℕ)
+    → ms ≡ members_read a.members → is_unfit check ms ≡ true → status ≡ 2 → OrFailed status (IsCheckedBeside check a definition native status)
+checked_unfit check definition native a ms status same unfit is =
+    let here : is_unfit check (members_read a.members) ≡ true = subst (λ xs. is_unfit check xs ≡ true) same unfit in
+    inr ((λ yes. is), ((λ no for. absurd (true≢false (sym here ∙ no))), (λ no other. absurd (true≢false (sym here ∙ no)))))
+
+pub checked_for_arm64ec : (check : CheckView) (definition : List ℕ) (native : Option (List ℕ)) (a : Archive) (ms : List MemberRead) (status : ℕ)
+    → ms ≡ members_read a.members → is_unfit check ms ≡ false → is_for_arm64ec check ms ≡ true
+    → OrFailed status (IsCheckedForArm64ec check a definition native status) → OrFailed status (IsCheckedBeside check a definition native status)
+checked_for_arm64ec check definition native a ms status same fit ec (inl failed) = inl failed
+checked_for_arm64ec check definition native a ms status same fit ec (inr is) =
+    let none : is_unfit check (members_read a.members) ≡ false = subst (λ xs. is_unfit check xs ≡ false) same fit in
+    let here : is_for_arm64ec check (members_read a.members) ≡ true = subst (λ xs. is_for_arm64ec check xs ≡ true) same ec in
+    inr ((λ yes. absurd (true≢false (sym yes ∙ none))), ((λ no for. is), (λ no other. absurd (true≢false (sym here ∙ other)))))
+
+pub checked_ordinary : (check : CheckView) (definition : List ℕ) (native : Option (List ℕ)) (a : Archive) (ms : List MemberRead) (status : ℕ)
+    → ms ≡ members_read a.members → is_unfit check ms ≡ false → is_for_arm64ec check ms ≡ false
+    → OrFailed status (IsCheckedOrdinary check a definition status) → OrFailed status (IsCheckedBeside check a definition native status)
+checked_ordinary check definition native a ms status same fit plain (inl failed) = inl failed
+checked_ordinary check definition native a ms status same fit plain (inr is) =
+    let none : is_unfit check (members_read a.members) ≡ false = subst (λ xs. is_unfit check xs ≡ false) same fit in
+    let here : is_for_arm64ec check (members_read a.members) ≡ false = subst (λ xs. is_for_arm64ec check xs ≡ false) same plain in
+    inr ((λ yes. absurd (true≢false (sym yes ∙ none))), ((λ no for. absurd (true≢false (sym for ∙ here))), (λ no other. is)))
+
+-- bytes of an archive beside definitions of which the first is none
+pub checked_beside : (check : CheckView) (library definition : List ℕ) (native : Option (List ℕ)) (a : Archive) (status : ℕ)
+    → archive_in library ≡ Some a → is_library definition ≡ false → OrFailed status (IsCheckedBeside check a definition native status)
+    → OrFailed status (CheckedAs check library definition native (archive_in library) status)
+checked_beside check library definition native a status read unlike (inl failed) = inl failed
+checked_beside check library definition native a status read unlike (inr is) =
+    inr (subst (λ found. CheckedAs check library definition native found status) (sym read) ((λ yes. absurd (true≢false (sym yes ∙ unlike))), (λ here. is)))
 
 -- an archive without a definition, where its members are as they are read
 pub undefined_is : (hints : Bool) (define : DefineView) (library : List ℕ) (a : Archive) (ms : List MemberRead) (why : Undefined) (status : ℕ)
-    → archive_in library ≡ Some a → ms ≡ members_read a.members → (length (dlls_of ms) == 1) ≡ true
+    → archive_in library ≡ Some a → ms ≡ members_read a.members → (length (dlls_of ms) == 1) ≡ true → has_arm64ec ms ≡ false
     → IsUndefined hints define.older_symbols (options_of define ms) ms why → status ≡ undefined_status why
     → OrFailed status (DefinedAs hints define library (archive_in library) status)
-undefined_is hints define library a ms why status read same one unlike is =
+undefined_is hints define library a ms why status read same one plain unlike is =
     inr (subst (λ found. DefinedAs hints define library found status) (sym read) (
       (λ other. absurd (true≢false (sym (subst (λ xs. (length (dlls_of xs) == 1) ≡ true) same one) ∙ other))),
-      (λ here. inr (record {
-        why = why;
-        undefined = subst (λ xs. IsUndefined hints define.older_symbols (options_of define xs) xs why) same unlike;
-        is = is;
-      })),
+      (
+        (λ here ec. absurd (true≢false (sym ec ∙ subst (λ xs. has_arm64ec xs ≡ false) same plain))),
+        (λ here other. inr (record {
+          why = why;
+          undefined = subst (λ xs. IsUndefined hints define.older_symbols (options_of define xs) xs why) same unlike;
+          is = is;
+        })),
+      ),
     ))
 
 -- a DLL without a library, whose bytes these are

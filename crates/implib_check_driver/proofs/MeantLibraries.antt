@@ -9,6 +9,8 @@ use Rattle.implib.specs.Renaming.{renamed}
 use Rattle.implib.proofs.Text.HeardNames.{heard_once}
 use Rattle.implib.proofs.Text.OneReading.{one_definition}
 use Rattle.implib_archive.specs.Archive.{archive_of}
+use Rattle.implib_arm64ec.specs.Library.{members_of}
+use Rattle.implib_compare.specs.Meant.{Arm64ecMembersFound, IsArm64ecFile}
 use Rattle.implib_read.specs.Archives.{Archive, archive_in}
 use Rattle.implib_read.specs.Classes.{library_in, members_read}
 use Rattle.implib_read.specs.OwnLibraries.{OwnMembersFound, member_bytes_in}
@@ -34,6 +36,24 @@ library_there own definition options file is none = by (archive_in file) refl
         cc
     by (Some a) there =
         let e : Some (members_read a.members) ≡ None = sym (ap (option_map (λ archive. members_read archive.members)) there) ∙ none in
+        cc
+
+-- so is one for ARM64EC
+pub arm64ec_file_is_read : Arm64ecMembersFound → (definition : List ℕ) (native : Option (List ℕ)) (options : LibraryOptionsView) (file : List ℕ)
+    → IsArm64ecFile definition native options file → library_in file ≡ None → ⊥
+unfolding library_in
+arm64ec_file_is_read found definition native options file is none = by (archive_in file) refl
+  where
+    there : member_bytes_in file ≡ Some (map (λ (m : MemberView). m.bytes) (members_of is.library))
+    there = ap member_bytes_in is.is ∙ found is.library is.accepted
+
+    by : (o : Option Archive) → archive_in file ≡ o → ⊥
+    by None at =
+        let e : None ≡ Some (map (λ (m : MemberView). m.bytes) (members_of is.library)) =
+        sym (ap (option_map (λ a. map (λ m. m.bytes) a.members)) at) ∙ there in
+        cc
+    by (Some a) at =
+        let e : Some (members_read a.members) ≡ None = sym (ap (option_map (λ archive. members_read archive.members)) at) ∙ none in
         cc
 
 -- a text means one definition for options

@@ -60,8 +60,8 @@ members_against others check e members =
 -- whether a call has an option that a definition alone is read by
 abbrev pub has_options : CheckView → Bool
 has_options c =
-    is_some c.machine || (is_some c.flavor || (c.older_symbols
-    || (c.naming.is_plain || (c.naming.kills_at || (c.naming.exports_as || c.naming.keeps_decorated)))))
+    is_some c.machine || (is_some c.native || (is_some c.flavor || (c.older_symbols
+    || (c.naming.is_plain || (c.naming.kills_at || (c.naming.exports_as || c.naming.keeps_decorated))))))
 
 -- the status of members in the DLL that bytes are read as: 3 where they are refused, and 1 where nothing is exported
 abbrev pub members_in : Through → CheckView → List MemberRead → Read (Option Exports) → ℕ

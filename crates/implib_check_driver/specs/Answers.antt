@@ -1,7 +1,7 @@
 -- What the program answers with, by what its files hold: the exit statuses of its calls (docs/CHECK.md, "Exit status"). Each
 -- call may also end with status 3, where a file, a stream or memory fails.
 use Rattle.std.specs.Prelude.{◌≡◌, ◌⊎◌, ℕ, ◌==◌, ◌||◌, Bool, true, false, List, Err, Ok, Option, None, Some, IfSome, length, map}
-use Rattle.std.specs.Option.{option_map_or}
+use Rattle.std.specs.Option.{is_some, option_map, option_map_or}
 use Rattle.implib_read.specs.Archives.{Archive, archive_in}
 use Rattle.implib_read.specs.ArchiveViews.{archive_view}
 use Rattle.implib_read.specs.ClassViews.{member_read_view}
@@ -14,9 +14,10 @@ use Rattle.implib_check_driver.specs.Against.{DefinitionAgainst, begins_archive,
 use Rattle.implib_check_driver.specs.Calls.{CheckView, DefineView, is_searching}
 use Rattle.implib_check_driver.specs.Defining.{DefinesFor, IsUndefined}
 use Rattle.implib_check_driver.specs.OfDlls.{HasNoLibrary, IsLibraryOfDll}
-use Rattle.implib_check_driver.specs.Targets.{options_for, options_of}
+use Rattle.implib_check_driver.specs.Targets.{has_arm64ec, is_for_arm64ec, is_unfit, options_for, options_of}
 use Rattle.implib_check_driver.specs.declared.defining.Undefined.{Undefined}
-use Rattle.implib_compare.specs.Meant.{IsRefusalFor, IsVerdictOn}
+use Rattle.implib_compare.specs.Meant.{IsArm64ecFault, IsArm64ecVerdictOn, IsRefusalFor, IsVerdictOn}
+use Rattle.implib_compare.specs.declared.meant.Arm64ecFault.{Arm64ecFault}
 use Rattle.implib_compare.specs.declared.compare.Verdict.{Verdict}
 use Rattle.implib_rules.specs.declared.library.Refusal.{Refusal}
 use Rattle.implib_check_driver.specs.Tasks.{Checks, Compares, Defines, Help, Identifies, Joins, Lists, ListsExports, Searches, TaskView, Version, WorksOf}
@@ -28,7 +29,7 @@ use Rattle.implib_check_driver.specs.Starting.{program_status}
 use Rattle.implib_dll_check.specs.Folders.{AreKnown, listings}
 use Rattle.implib_check_driver.specs.Through.{AreKnownFor, Through, through}
 use Rattle.implib_check_driver.specs.Together.{joined_status}
-use Rattle.implib_check_driver.specs.Status.{comparison_status, identity_status, list_status, no_library_status, refusal_status, undefined_status}
+use Rattle.implib_check_driver.specs.Status.{arm64ec_status, comparison_status, identity_status, list_status, no_library_status, refusal_status, undefined_status}
 
 -- a library is that of these bytes
 abbrev pub IsReadAs : List ℕ → Library → Type 0
@@ -99,22 +100,51 @@ pub record IsCheckRefused (check : CheckView) (a : Archive) (definition : List �
   pub is_refusal : IsRefusalFor check.older_symbols definition (options_for check (members_read a.members)) why
   pub is : status ≡ refusal_status why
 
--- the status of an archive, or of bytes that are none, beside a definition: 2 where that is a library, too
-abbrev pub CheckedAs : CheckView → List ℕ → List ℕ → Option Archive → ℕ → Type 0
-CheckedAs check library definition None status = status ≡ no_library_status library
-CheckedAs check library definition (Some a) status =
+-- the status of an archive beside a definition
+abbrev pub IsCheckedOrdinary : CheckView → Archive → List ℕ → ℕ → Type 0
+IsCheckedOrdinary check a definition status = IsChecked check a definition status ⊎ IsCheckRefused check a definition status
+
+-- the same beside the definitions of a library for ARM64EC, of which the second is the native one, if there is one
+pub record IsArm64ecChecked (check : CheckView) (a : Archive) (definition : List ℕ) (native : Option (List ℕ)) (status : ℕ) : Type 0 where
+  pub verdict : Verdict
+  pub on : IsArm64ecVerdictOn definition native (options_for check (members_read a.members)) (members_read a.members) verdict
+  pub is : status ≡ comparison_status verdict (working_of a (members_read a.members))
+
+-- the status of such definitions, one of which is refused
+pub record IsArm64ecRefused (check : CheckView) (a : Archive) (definition : List ℕ) (native : Option (List ℕ)) (status : ℕ) : Type 0 where
+  pub why : Arm64ecFault
+  pub is_fault : IsArm64ecFault definition native (options_for check (members_read a.members)) why
+  pub is : status ≡ arm64ec_status why
+
+abbrev pub IsCheckedForArm64ec : CheckView → Archive → List ℕ → Option (List ℕ) → ℕ → Type 0
+IsCheckedForArm64ec check a definition native status =
+    IsArm64ecChecked check a definition native status ⊎ IsArm64ecRefused check a definition native status
+
+-- the status of an archive beside definitions: 2 where the call asks for what its library is not made with
+abbrev pub IsCheckedBeside : CheckView → Archive → List ℕ → Option (List ℕ) → ℕ → Type 0
+IsCheckedBeside check a definition native status =
+    (is_unfit check (members_read a.members) ≡ true → status ≡ 2)
+    × ((is_unfit check (members_read a.members) ≡ false → is_for_arm64ec check (members_read a.members) ≡ true
+    → IsCheckedForArm64ec check a definition native status)
+    × (is_unfit check (members_read a.members) ≡ false → is_for_arm64ec check (members_read a.members) ≡ false
+    → IsCheckedOrdinary check a definition status))
+
+-- the status of an archive, or of bytes that are none, beside definitions: 2 where the first is a library, too
+abbrev pub CheckedAs : CheckView → List ℕ → List ℕ → Option (List ℕ) → Option Archive → ℕ → Type 0
+CheckedAs check library definition native None status = status ≡ no_library_status library
+CheckedAs check library definition native (Some a) status =
     (is_library definition ≡ true → status ≡ 2)
-    × (is_library definition ≡ false → IsChecked check a definition status ⊎ IsCheckRefused check a definition status)
+    × (is_library definition ≡ false → IsCheckedBeside check a definition native status)
 
 -- whether a call asks for more of a DLL: its exports, or where its forwarders lead
 abbrev pub asks_for_dll : CheckView → Bool
 asks_for_dll check = check.lists_unasked || is_searching check
 
 -- what is said of the status of a library beside a definition: 2 where more of a DLL is asked for
-abbrev pub IsAnswerChecked : CheckView → List ℕ → List ℕ → ℕ → Type 0
-IsAnswerChecked check library definition status =
+abbrev pub IsAnswerChecked : CheckView → List ℕ → List ℕ → Option (List ℕ) → ℕ → Type 0
+IsAnswerChecked check library definition native status =
     (asks_for_dll check ≡ true → status ≡ 2)
-    × (asks_for_dll check ≡ false → CheckedAs check library definition (archive_in library) status)
+    × (asks_for_dll check ≡ false → CheckedAs check library definition native (archive_in library) status)
 
 -- The status of an archive of one DLL whose definition is asked for: 0 where the text that says its imports is one.
 pub record IsDefinedAs (define : DefineView) (a : Archive) (status : ℕ) : Type 0 where
@@ -128,12 +158,14 @@ pub record IsUndefinedAs (hints : Bool) (define : DefineView) (a : Archive) (sta
   pub is : status ≡ undefined_status why
 
 -- the status of an archive, or of bytes that are none, whose definition is asked for, with hints as ordinals or as
--- comments: 1 where it is not of one DLL
+-- comments: 1 where it is not of one DLL, or has an import for ARM64EC
 abbrev pub DefinedAs : Bool → DefineView → List ℕ → Option Archive → ℕ → Type 0
 DefinedAs hints define library None status = status ≡ no_library_status library
 DefinedAs hints define library (Some a) status =
     ((length (dlls_of (members_read a.members)) == 1) ≡ false → status ≡ 1)
-    × ((length (dlls_of (members_read a.members)) == 1) ≡ true → IsDefinedAs define a status ⊎ IsUndefinedAs hints define a status)
+    × (((length (dlls_of (members_read a.members)) == 1) ≡ true → has_arm64ec (members_read a.members) ≡ true → status ≡ 1)
+    × ((length (dlls_of (members_read a.members)) == 1) ≡ true → has_arm64ec (members_read a.members) ≡ false
+    → IsDefinedAs define a status ⊎ IsUndefinedAs hints define a status))
 
 -- The status of a DLL whose definition is asked for: that of its library, where it has one.
 pub record IsDllDefined (define : DefineView) (dll : List ℕ) (status : ℕ) : Type 0 where
@@ -147,30 +179,45 @@ AnswersDefine define file status = OrFailed status (IfSome file (λ f.
     (begins_dll f ≡ false → DefinedAs false define f (archive_in f) status)
     × (begins_dll f ≡ true → IsDllDefined define f status ⊎ HasNoLibrary define f status)))
 
+-- whether a call asks for a library for ARM64EC, or for one of a native definition
+abbrev pub asks_for_arm64ec : CheckView → Bool
+asks_for_arm64ec check = check.arm64ec || is_some check.native
+
+-- the status of a definition beside a DLL: 2 where its library is to be for ARM64EC
+abbrev pub DefinitionBeside : Through → CheckView → List ℕ → List ℕ → ℕ → Type 0
+DefinitionBeside others check definition dll status =
+    (asks_for_arm64ec check ≡ true → status ≡ 2)
+    × (asks_for_arm64ec check ≡ false → DefinitionAgainst others check definition (exports_in File dll) status)
+
 -- what is said of the status of a library or a definition beside a DLL: 2 where it is a DLL itself
 abbrev pub IsAnswerBeside : Through → CheckView → List ℕ → List ℕ → ℕ → Type 0
 IsAnswerBeside others check first dll status =
     (begins_archive first ≡ true → status ≡ library_against others check first dll)
     × ((begins_archive first ≡ false → begins_dll first ≡ true → status ≡ 2)
-    × (begins_archive first ≡ false → begins_dll first ≡ false
-    → DefinitionAgainst others check first (exports_in File dll) status))
+    × (begins_archive first ≡ false → begins_dll first ≡ false → DefinitionBeside others check first dll status))
 
--- what is said of the status of a library or a definition beside a DLL or a definition
-abbrev pub IsAnswerWith : Through → CheckView → List ℕ → List ℕ → ℕ → Type 0
-IsAnswerWith others check first second status =
+-- what is said of the status of a library or a definition beside a DLL or a definition, and a native one
+abbrev pub IsAnswerWith : Through → CheckView → List ℕ → List ℕ → Option (List ℕ) → ℕ → Type 0
+IsAnswerWith others check first second native status =
     (begins_dll second ≡ true → IsAnswerBeside others check first second status)
-    × (begins_dll second ≡ false → IsAnswerChecked check first second status)
+    × (begins_dll second ≡ false → IsAnswerChecked check first second native status)
 
--- the same where the bytes of both files are known
-abbrev pub AnswersBoth : Through → CheckView → Option (List ℕ) → Option (List ℕ) → ℕ → Type 0
-AnswersBoth others check first second status =
-    OrFailed status (IfSome first (λ f. IfSome second (λ d. IsAnswerWith others check f d status)))
+-- what is known of the bytes of a native definition, whose file may be given
+abbrev pub native_seen : (List ℕ → Option (List ℕ)) → Option (List ℕ) → Option (Option (List ℕ))
+native_seen seen None = Some None
+native_seen seen (Some path) = option_map Some (seen path)
+
+-- what is said of it where the bytes of all files are known
+abbrev pub AnswersAll : Through → CheckView → Option (List ℕ) → Option (List ℕ) → Option (Option (List ℕ)) → ℕ → Type 0
+AnswersAll others check first second native status =
+    OrFailed status (IfSome first (λ f. IfSome second (λ d. IfSome native (λ n. IsAnswerWith others check f d n status))))
 
 -- The same, and where forwarders are followed, where the bytes of all files and the names in all folders are known.
 abbrev pub AnswersBeside : (List ℕ → Option (List ℕ)) → (List ℕ → Option (List (List ℕ))) → CheckView → ℕ → Type 0
 AnswersBeside seen listed check status =
     (file : List ℕ → List ℕ) (names : List ℕ → List (List ℕ)) → AreKnownFor seen listed check file names
-    → AnswersBoth (through file (listings names check.folders) check) check (seen check.library) (seen check.definition) status
+    → AnswersAll (through file (listings names check.folders) check) check (seen check.library) (seen check.definition)
+    (native_seen seen check.native) status
 
 -- what is said of the status of libraries in one link, where the bytes of all files are known
 abbrev pub AnswersJoined : (List ℕ → Option (List ℕ)) → List (List ℕ) → ℕ → Type 0

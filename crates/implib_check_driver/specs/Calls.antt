@@ -7,6 +7,7 @@ use Rattle.std.specs.String.{string_bytes}
 use Rattle.implib.specs.declared.flavor.Flavor.{Flavor}
 use Rattle.implib.specs.declared.flavor.Flavor.TheVariants.{Gnu, Msvc}
 use Rattle.implib.specs.declared.machine.MachineType.{MachineType}
+use Rattle.implib.specs.declared.machine.MachineType.TheVariants.{ARM64}
 use Rattle.implib.specs.Ascii.{begins_with}
 use Rattle.implib.specs.Conversions.{flavor_named}
 use Rattle.implib_rules.specs.Linked.{NamingView, naming_view}
@@ -22,8 +23,12 @@ use Rattle.implib_check_driver.specs.declared.call.Setting.TheVariants as settin
 pub record CheckView : Type 0 where
   pub library : List ℕ
   pub definition : List ℕ
-  -- the machine and the flavour, if they are named
+  -- the machine, if one is named, for ARM64EC ARM64, and whether that is the machine
   pub machine : Option MachineType
+  pub arm64ec : Bool
+  -- the file of the native definition, if one is given
+  pub native : Option (List ℕ)
+  -- the flavour, if one is named
   pub flavor : Option Flavor
   -- the DLL's name, before the definition's own
   pub dll : Option (List ℕ)
@@ -42,6 +47,8 @@ check_view c = record {
   library = c.library.now;
   definition = c.definition.now;
   machine = c.machine;
+  arm64ec = c.arm64ec;
+  native = option_map (λ text. text.now) c.native;
   flavor = c.flavor;
   dll = option_map (λ text. text.now) c.dll;
   naming = naming_view c.naming;
@@ -76,6 +83,8 @@ pub record ReadingView : Type 0 where
   pub library : Option (List ℕ)
   pub definition : Option (List ℕ)
   pub machine : Option MachineType
+  pub arm64ec : Bool
+  pub native : Option (List ℕ)
   pub flavor : Option Flavor
   pub dll : Option (List ℕ)
   pub naming : NamingView
@@ -90,6 +99,8 @@ reading_view r = record {
   library = option_map (λ text. text.now) r.library;
   definition = option_map (λ text. text.now) r.definition;
   machine = r.machine;
+  arm64ec = r.arm64ec;
+  native = option_map (λ text. text.now) r.native;
   flavor = r.flavor;
   dll = option_map (λ text. text.now) r.dll;
   naming = naming_view r.naming;
@@ -104,6 +115,8 @@ unread_call = record {
   library = None;
   definition = None;
   machine = None;
+  arm64ec = false;
+  native = None;
   flavor = None;
   dll = None;
   naming = record { is_plain = false; kills_at = false; exports_as = false; keeps_decorated = false };
@@ -112,9 +125,16 @@ unread_call = record {
   waiting = None;
 }
 
+-- after the name of a machine: as `-m` of `implib_dlltool` has it, ARM64EC's too
+abbrev pub with_machine : List ℕ → ReadingView → Option ReadingView
+with_machine name r =
+    if bytes_eq name (codes "arm64ec") then Some (record r { machine = Some ARM64; arm64ec = true; waiting = None })
+    else option_map (λ m. record r { machine = Some m; arm64ec = false; waiting = None }) (machine_called name)
+
 -- after the value of an option; a name of a DLL is not empty, but for a directory
 abbrev pub with_value : Setting → List ℕ → ReadingView → Option ReadingView
-with_value setting.Machine value r = option_map (λ m. record r { machine = Some m; waiting = None }) (machine_called value)
+with_value setting.Machine value r = with_machine value r
+with_value setting.Native value r = Some (record r { native = Some value; waiting = None })
 with_value setting.Flavor value r = option_map (λ f. record r { flavor = Some f; waiting = None }) (flavor_named value)
 with_value setting.Dll value r =
     if nat_eq (length (last_part value)) 0 then None else Some (record r { dll = Some value; waiting = None })
@@ -131,6 +151,7 @@ with_option option r =
     else if bytes_eq option (codes "--all") then Some (record r { lists_unasked = true })
     else if bytes_eq option (codes "-m") then Some (record r { waiting = Some setting.Machine })
     else if bytes_eq option (codes "--machine") then Some (record r { waiting = Some setting.Machine })
+    else if bytes_eq option (codes "-N") || bytes_eq option (codes "--input-native-def") then Some (record r { waiting = Some setting.Native })
     else if bytes_eq option (codes "-D") then Some (record r { waiting = Some setting.Dll })
     else if bytes_eq option (codes "--dllname") then Some (record r { waiting = Some setting.Dll })
     else if bytes_eq option (codes "--flavor") || bytes_eq option (codes "--flavour") then Some (record r { waiting = Some setting.Flavor })
@@ -176,6 +197,8 @@ check_of (Some library) (Some definition) None r = Some (record {
   library = library;
   definition = definition;
   machine = r.machine;
+  arm64ec = r.arm64ec;
+  native = r.native;
   flavor = r.flavor;
   dll = r.dll;
   naming = r.naming;
@@ -229,10 +252,14 @@ define_of (Some library) None None r = Some (record {
 })
 define_of _ _ _ r = None
 
+-- whether a library for ARM64EC is asked for, or one of a native definition
+abbrev pub asks_for_arm64ec_in : ReadingView → Bool
+asks_for_arm64ec_in r = r.arm64ec || is_some r.native
+
 -- What all words say. A library has the name of its DLL and the names that it asks for itself, so no option says
--- these.
+-- these; and of a library for ARM64EC no definition is written.
 abbrev pub define_in : ReadingView → Option DefineView
-define_in r = if lacks_older r || (r.naming.kills_at || (r.naming.exports_as || (is_some r.dll || r.lists_unasked))) then None else define_of r.library r.definition r.waiting r
+define_in r = if lacks_older r || (r.naming.kills_at || (r.naming.exports_as || (is_some r.dll || (r.lists_unasked || asks_for_arm64ec_in r)))) then None else define_of r.library r.definition r.waiting r
 
 -- the definition that words ask for
 abbrev pub define_called : List (List ℕ) → Option DefineView

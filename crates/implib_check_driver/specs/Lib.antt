@@ -27,3 +27,4 @@ pub mod WorkedThrough
 pub mod WorkedTogether
 pub mod OfDlls
 pub mod Answers
+pub mod WorkedArm64ec

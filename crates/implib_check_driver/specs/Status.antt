@@ -4,6 +4,9 @@ use Rattle.std.specs.declared.io.ErrorKind.{ErrorKind}
 use Rattle.std.specs.declared.io.ErrorKind.TheVariants as io
 use Rattle.implib_check_driver.specs.declared.report.Failure.{Failure}
 use Rattle.implib_check_driver.specs.declared.report.Failure.TheVariants as failed
+use Rattle.implib_arm64ec_library.specs.declared.library.Arm64ecRefusal.TheVariants as arm64ec
+use Rattle.implib_compare.specs.declared.meant.Arm64ecFault.{Arm64ecFault}
+use Rattle.implib_compare.specs.declared.meant.Arm64ecFault.TheVariants.{OfArchive, OfTexts}
 use Rattle.implib_compare.specs.declared.compare.Verdict.{Verdict}
 use Rattle.implib_compare.specs.declared.compare.Verdict.TheVariants.{Different, NotDecided, Same}
 use Rattle.implib_check_driver.specs.declared.defining.Undefined.{Undefined}
@@ -39,6 +42,14 @@ identity_status unread count is_strict =
 -- of a definition that is refused: 1, and 3 for want of memory
 abbrev pub refusal_status : Refusal → ℕ
 refusal_status refusal = status_of refusal
+
+-- of definitions that have no library for ARM64EC
+abbrev pub arm64ec_status : Arm64ecFault → ℕ
+arm64ec_status (OfTexts (arm64ec.OfDefinition why)) = refusal_status why
+arm64ec_status (OfTexts (arm64ec.OfImports why)) = 1
+arm64ec_status (OfTexts (arm64ec.OfNative why)) = refusal_status why
+arm64ec_status (OfTexts arm64ec.OutOfMemory) = 3
+arm64ec_status (OfArchive why) = refusal_status why
 
 -- of a library without a definition: 4 where a member may import what is not read
 abbrev pub undefined_status : Undefined → ℕ

@@ -25,6 +25,8 @@ plain_check = record {
   library = codes "a.lib";
   definition = codes "a.def";
   machine = None;
+  arm64ec = false;
+  native = None;
   flavor = None;
   dll = None;
   naming = record { is_plain = false; kills_at = false; exports_as = false; keeps_decorated = false };
@@ -39,6 +41,8 @@ full_check = record {
   library = codes "a.lib";
   definition = codes "a.def";
   machine = Some I386;
+  arm64ec = false;
+  native = None;
   flavor = Some Gnu;
   dll = Some (codes "d/zoo.dll");
   naming = record { is_plain = true; kills_at = true; exports_as = false; keeps_decorated = false };

@@ -62,6 +62,7 @@ pub fn has_options(check: &Check) -> bool
 {
     let naming = check.naming;
     check.machine.is_some()
+        || check.native.is_some()
         || check.flavor.is_some()
         || check.older_symbols
         || naming.is_plain

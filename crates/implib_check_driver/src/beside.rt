@@ -7,7 +7,7 @@ ghost use Rattle.implib_compare.specs.Comparison.{has_unread};
 ghost use Rattle.implib_dll_check.specs.ForwardingViews.{end_view};
 ghost use Rattle.implib_dll_check.specs.Imports.{judgements};
 ghost use Rattle.implib_check_driver.specs.Against.{DefinitionAgainst, IsHeld, library_against, members_against, options_against};
-ghost use Rattle.implib_check_driver.specs.Answers.{AnswersExports, IsAnswerBeside, OrFailed};
+ghost use Rattle.implib_check_driver.specs.Answers.{AnswersExports, DefinitionBeside, IsAnswerBeside, OrFailed, asks_for_arm64ec};
 ghost use Rattle.implib_check_driver.specs.OfDlls.{IsNoDll};
 ghost use Rattle.implib_check_driver.specs.Refused.{IsRefusalOfCheck};
 ghost use Rattle.implib_check_driver.specs.Calls.{check_view, is_searching as IsSearching};
@@ -406,6 +406,42 @@ fn definition_against<S: Shelf, O: Write, E: Write>(
     }
 }
 
+// Whether a call asks for a library for ARM64EC, or for one of a native definition.
+fn asks_for_arm64ec(check: &Check) -> bool
+    ensures { result ≡ asks_for_arm64ec (check_view check.now) }
+{
+    check.arm64ec || check.native.is_some()
+}
+
+// Holds a definition against a DLL, unless its library is to be for ARM64EC, and gives the exit status.
+#[tactic(auto, using(crate::proofs::BesideDlls::beside_arm64ec, crate::proofs::BesideDlls::beside_ordinary))]
+fn definition_beside<S: Shelf, O: Write, E: Write>(
+    form: Form,
+    shelf: &S,
+    printer: &mut O,
+    faults: &mut E,
+    check: &Check,
+    definition: &[u8],
+    dll: &[u8],
+    folders: &[Folder],
+) -> u8
+    ensures { (file : List ℕ → List ℕ) → (IsSearching (check_view check.now) ≡ true → AreKnown (S.seen shelf.now) file)
+        → OrFailed result (DefinitionBeside (through file (map folder_view folders.now) (check_view check.now))
+        (check_view check.now) definition.now dll.now result) }
+{
+    if asks_for_arm64ec(check) {
+        return complain(
+            faults,
+            check.definition,
+            "arm64ec: not supported beside a DLL",
+            2,
+        );
+    }
+    definition_against(
+        form, shelf, printer, faults, check, definition, dll, folders,
+    )
+}
+
 /// Holds a library or a definition against a DLL, and gives the exit status.
 pub(crate) fn run_against<S: Shelf, O: Write, E: Write>(
     form: Form,
@@ -432,5 +468,5 @@ pub(crate) fn run_against<S: Shelf, O: Write, E: Write>(
             2,
         );
     }
-    definition_against(form, shelf, printer, faults, check, first, dll, folders)
+    definition_beside(form, shelf, printer, faults, check, first, dll, folders)
 }

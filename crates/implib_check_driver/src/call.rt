@@ -5,7 +5,7 @@ ghost use Rattle.std.specs.Prelude.{◌≡◌, ◌<◌, IfSome, length, map};
 ghost use Rattle.std.specs.Option.{option_and_then, option_map};
 ghost use Rattle.std.specs.String.{string_bytes};
 ghost use Rattle.implib_check_driver.specs.Calls.{after_word, check_called, check_in, check_named, check_view, define_called, define_in, define_view};
-ghost use Rattle.implib_check_driver.specs.Calls.{is_search_word, is_searching, reading_view, said_by, searching, said_by_all, are_for_msvc, lacks_older, unread_call, with_file, with_option, with_value};
+ghost use Rattle.implib_check_driver.specs.Calls.{is_search_word, is_searching, reading_view, said_by, searching, said_by_all, are_for_msvc, asks_for_arm64ec_in, lacks_older, unread_call, with_file, with_machine, with_option, with_value};
 
 use implib::{Flavor, MachineType};
 use implib_rules::linked::Naming;
@@ -19,8 +19,12 @@ pub struct Check<'a> {
     pub library: &'a str,
     /// The file of the definition or of the DLL.
     pub definition: &'a str,
-    /// The machine, if one is named.
+    /// The machine, if one is named; for ARM64EC ARM64.
     pub machine: Option<MachineType>,
+    /// Whether the machine that is named is ARM64EC.
+    pub arm64ec: bool,
+    /// The file of the native definition, if one is given.
+    pub native: Option<&'a str>,
     /// The flavour, if one is named.
     pub flavor: Option<Flavor>,
     /// The DLL's name, before the definition's own.
@@ -54,6 +58,7 @@ pub struct Define<'a> {
 #[derive(Clone, Copy)]
 enum Setting {
     Machine,
+    Native,
     Flavor,
     Dll,
 }
@@ -64,6 +69,8 @@ struct Reading<'a> {
     library: Option<&'a str>,
     definition: Option<&'a str>,
     machine: Option<MachineType>,
+    arm64ec: bool,
+    native: Option<&'a str>,
     flavor: Option<Flavor>,
     dll: Option<&'a str>,
     naming: Naming,
@@ -81,6 +88,8 @@ fn unread_call<'a>() -> Reading<'a>
         library: None,
         definition: None,
         machine: None,
+        arm64ec: false,
+        native: None,
         flavor: None,
         dll: None,
         naming: Naming {
@@ -95,19 +104,40 @@ fn unread_call<'a>() -> Reading<'a>
     }
 }
 
+// After the name of a machine.
+fn with_machine<'a>(name: &str, reading: Reading<'a>) -> Option<Reading<'a>>
+    ensures { option_map reading_view result ≡ with_machine name.now (reading_view reading.entry) }
+{
+    if name == "arm64ec" {
+        return Some(Reading {
+            machine: Some(MachineType::ARM64),
+            arm64ec: true,
+            waiting: None,
+            ..reading
+        });
+    }
+    match machine_called(name) {
+        Some(machine) => Some(Reading {
+            machine: Some(machine),
+            arm64ec: false,
+            waiting: None,
+            ..reading
+        }),
+        None => None,
+    }
+}
+
 // After the value of an option.
 fn with_value<'a>(setting: Setting, value: &'a str, reading: Reading<'a>) -> Option<Reading<'a>>
     ensures { option_map reading_view result ≡ with_value setting value.now (reading_view reading.entry) }
 {
     match setting {
-        Setting::Machine => match machine_called(value) {
-            Some(machine) => Some(Reading {
-                machine: Some(machine),
-                waiting: None,
-                ..reading
-            }),
-            None => None,
-        },
+        Setting::Machine => with_machine(value, reading),
+        Setting::Native => Some(Reading {
+            native: Some(value),
+            waiting: None,
+            ..reading
+        }),
         Setting::Flavor => match value.parse::<Flavor>() {
             Ok(flavor) => Some(Reading {
                 flavor: Some(flavor),
@@ -174,6 +204,10 @@ fn with_option<'a>(option: &str, reading: Reading<'a>) -> Option<Reading<'a>>
         }),
         "-m" | "--machine" => Some(Reading {
             waiting: Some(Setting::Machine),
+            ..reading
+        }),
+        "-N" | "--input-native-def" => Some(Reading {
+            waiting: Some(Setting::Native),
             ..reading
         }),
         "-D" | "--dllname" => Some(Reading {
@@ -260,6 +294,8 @@ fn check_in<'a>(reading: Reading<'a>) -> Option<Check<'a>>
             library,
             definition,
             machine: reading.machine,
+            arm64ec: reading.arm64ec,
+            native: reading.native,
             flavor: reading.flavor,
             dll: reading.dll,
             naming: reading.naming,
@@ -343,6 +379,13 @@ pub fn check_named(words: &[String]) -> Option<Check<'_>>
     }
 }
 
+// Whether a library for ARM64EC is asked for, or one of a native definition.
+fn asks_for_arm64ec_in(reading: &Reading) -> bool
+    ensures { result ≡ asks_for_arm64ec_in (reading_view reading.now) }
+{
+    reading.arm64ec || reading.native.is_some()
+}
+
 // What all words say: there is one file, no option lacks its value, and none is of names that a library has itself.
 fn define_in<'a>(reading: Reading<'a>) -> Option<Define<'a>>
     ensures { option_map define_view result ≡ define_in (reading_view reading.entry) }
@@ -352,6 +395,7 @@ fn define_in<'a>(reading: Reading<'a>) -> Option<Define<'a>>
         || reading.naming.exports_as
         || reading.dll.is_some()
         || reading.lists_unasked
+        || asks_for_arm64ec_in(&reading)
     {
         return None;
     }

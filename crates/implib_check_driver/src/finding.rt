@@ -4,11 +4,12 @@ ghost use Rattle.std.specs.Prelude.{◌≡◌};
 ghost use Rattle.implib_check_driver.specs.Json.{address_word, loss_words, piece_words, stop_words};
 
 use crate::positions::Positions;
+use crate::target::ARM64EC;
 use crate::text::{Listed, Place, Said, Shown, Site, symbol_of_member};
 use implib_compare::working::Piece;
 use implib_dll::{AddressKind, Ask, Target};
 use implib_dll_check::{Loss, MOST_FORWARDERS, Stop};
-use implib_read::{CutApart, IndexEntry, MemberRead};
+use implib_read::{CutApart, DeclaredFound, IndexEntry, MemberClass, MemberRead};
 use std::fmt;
 
 /// What members are from.
@@ -18,6 +19,52 @@ pub enum Source<'p> {
     Library(&'p str),
     /// The file of a definition, and where its exports are.
     Definition(&'p str, &'p Positions),
+    /// The same of the two definitions of a library for ARM64EC, of which the second has the exports of ARM64.
+    Definitions(Written<'p>, Written<'p>),
+}
+
+/// The file of a definition, and where its exports are.
+#[derive(Clone, Copy)]
+pub struct Written<'p> {
+    pub path: &'p str,
+    pub positions: &'p Positions,
+}
+
+// Whether a member of a library for ARM64EC is of its native definition.
+fn is_native(class: &MemberClass) -> bool {
+    match class {
+        MemberClass::Import(import) => import.machine != ARM64EC,
+        MemberClass::Alias(_) => true,
+        _ => false,
+    }
+}
+
+// The last symbol of a short import for ARM64EC: its first text, if that has a mark.
+fn marked_symbol<'m>(class: &'m MemberClass<'_>) -> Option<&'m [u8]> {
+    let MemberClass::Import(import) = class else {
+        return None;
+    };
+    match &import.declared {
+        DeclaredFound::OfArm64ec(symbols) => match symbols.last() {
+            Some(symbol) => Some(symbol.as_slice()),
+            None => None,
+        },
+        _ => None,
+    }
+}
+
+impl<'p> Written<'p> {
+    // The place of an export for ARM64EC, whose symbol the definition may write with its mark.
+    fn site(self, symbol: &[u8], class: &MemberClass) -> Site<'p> {
+        let position = match self.positions.at(symbol) {
+            Some(position) => Some(position),
+            None => match marked_symbol(class) {
+                Some(marked) => self.positions.at(marked),
+                None => None,
+            },
+        };
+        Site::Definition(self.path, position)
+    }
 }
 
 impl<'p> Source<'p> {
@@ -26,6 +73,7 @@ impl<'p> Source<'p> {
         match self {
             Source::Library(path) => Site::Library(path),
             Source::Definition(path, _) => Site::Definition(path, None),
+            Source::Definitions(own, _) => Site::Definition(own.path, None),
         }
     }
 
@@ -35,6 +83,14 @@ impl<'p> Source<'p> {
         let site = match self {
             Source::Library(path) => Site::Library(path),
             Source::Definition(path, positions) => Site::Definition(path, positions.at(symbol)),
+            Source::Definitions(own, native) => {
+                let written = if is_native(&member.class) {
+                    native
+                } else {
+                    own
+                };
+                written.site(symbol, &member.class)
+            }
         };
         Side {
             site,

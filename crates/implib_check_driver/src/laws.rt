@@ -5,6 +5,7 @@ ghost use Rattle.implib_check_driver.specs.OwnIndexes.{OwnIndexesLead};
 ghost use Rattle.implib_check_driver.specs.OwnLibraries.{MeantIsDefined, OwnLibrariesAreTheSame, SameSaysTheDefined};
 ghost use Rattle.implib_check_driver.specs.OwnTables.{OwnTablesAreWhole};
 ghost use Rattle.implib_check_driver.specs.Worked.{WorkedIdentities, WorkedStatuses, WorkedTasks};
+ghost use Rattle.implib_check_driver.specs.WorkedArm64ec.{WorkedArm64ec};
 ghost use Rattle.implib_check_driver.specs.WorkedAgainst.{WorkedAgainst};
 ghost use Rattle.implib_check_driver.specs.WorkedChecks.{WorkedChecks, WorkedTargets};
 ghost use Rattle.implib_check_driver.specs.WorkedDefinitions.{WorkedDefines, WorkedDefinitions};
@@ -91,6 +92,11 @@ pub fn worked_checks()
 /// For which machine and flavour definitions are compared with libraries, worked by hand.
 pub fn worked_targets()
     ensures { WorkedTargets }
+{}
+
+/// What calls for ARM64EC say, what libraries are compared as, and statuses, worked by hand.
+pub fn worked_arm64ec()
+    ensures { WorkedArm64ec }
 {}
 
 /// Where the exports of definitions are, worked by hand.

@@ -8,6 +8,7 @@
 #![tactic(auto)]
 
 pub mod against;
+pub mod arm64ec;
 mod beside;
 pub mod call;
 mod console;

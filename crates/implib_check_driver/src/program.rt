@@ -1,7 +1,7 @@
 //! The program: its arguments, its files, what it writes, and its exit status.
 
 ghost use Rattle.std.specs.Prelude.{◌≡◌, ℕ, false, length, List, map, true, IfOk};
-ghost use Rattle.implib_check_driver.specs.Answers.{AnswersBeside, AnswersDefine, AnswersOf, AnswersOfBoth, AnswersTask, CheckedAs, DefinedAs, IsAnswerWith, OrFailed, asks_for_dll, compared_as, identified, listed};
+ghost use Rattle.implib_check_driver.specs.Answers.{AnswersBeside, AnswersDefine, AnswersOf, AnswersOfBoth, AnswersTask, CheckedAs, DefinedAs, IsAnswerWith, IsCheckedBeside, IsCheckedForArm64ec, IsCheckedOrdinary, OrFailed, asks_for_dll, compared_as, identified, listed};
 ghost use Rattle.implib_check_driver.specs.Calls.{check_view, define_view, is_searching as IsSearching};
 ghost use Rattle.implib_dll_check.specs.Folders.{AreKnown, folder_view};
 ghost use Rattle.implib_check_driver.specs.Through.{through};
@@ -10,14 +10,16 @@ ghost use Rattle.implib_compare.specs.Working.{working_of};
 ghost use Rattle.implib_compare.specs.declared.compare.Verdict.TheVariants.{Same};
 ghost use Rattle.implib_read.specs.ArchiveViews.{archive_view};
 ghost use Rattle.implib_read.specs.Archives.{archive_in};
+ghost use Rattle.implib_read.specs.Classes.{members_read};
 ghost use Rattle.implib_read.specs.ClassViews.{member_read_view};
 ghost use Rattle.implib_check_driver.specs.Tasks.{in_form, task_named};
-ghost use Rattle.std.specs.Option.{option_and_then};
+ghost use Rattle.std.specs.Option.{option_and_then, option_map};
 ghost use Rattle.std.specs.String.{string_bytes};
 ghost use Rattle.implib_read.specs.Identity.{dlls_of};
 ghost use Rattle.implib_check_driver.specs.Status.{comparison_status, identity_status, undefined_status};
 
 use crate::against::{begins_dll, is_library};
+use crate::arm64ec::{Arm64ecError, check_arm64ec, refuse_arm64ec};
 use crate::beside::{run_against, run_exports};
 use crate::call::{Check, Define, is_searching};
 use crate::console::{NAME, bytes_of, complain, doubt, library_of, print, refuse, status_of};
@@ -31,7 +33,7 @@ use crate::report::{BUFFER, Failure, Form, Lines, flushed, tell};
 use crate::shelf::Shelf;
 use crate::starting::{folders_of, run_program};
 use crate::status::{comparison_status, identity_status, list_status, undefined_status};
-use crate::target::{options_for, options_of};
+use crate::target::{has_arm64ec, is_for_arm64ec, is_unfit, options_for, options_of};
 use crate::task::{CommandLine, Task, call_named};
 use crate::text::{Place, Shown, Site, fault_of, is_listed};
 use crate::works::{run_works, tell_working};
@@ -51,7 +53,7 @@ const HELP: &str = "\
 usage: implib_check LIB DLL [--all] [-D DLL] [--json] [--search DIR..]
        implib_check LIB DEF [-m MACHINE] [-k] [--no-leading-underscore]
                     [--export-as] [--lib] [-C] [-D DLL] [--flavor FLAVOR]
-                    [--json]
+                    [-N NATIVE] [--json]
        implib_check DEF DLL [--all] [and the options of LIB DEF] [--search DIR..]
        implib_check --def LIB [-m MACHINE] [--no-leading-underscore] [-C]
                     [--flavor FLAVOR]
@@ -71,7 +73,10 @@ one of the definition; the differences. With a DLL: whether a program that is
 linked with the library, or with that of the definition, finds in the DLL what
 it imports; what it does not find.
 
-  -m, --machine      i386, i386:x86-64, arm or arm64; without it the library's
+  -m, --machine      i386, i386:x86-64, arm, arm64 or arm64ec; without it the
+                     library's
+  -N, --input-native-def
+                     of arm64ec, the definition of what the DLL exports for arm64
   -k, --kill-at      ask for names without @ and the number after it, on i386
   --no-leading-underscore
                      no underscore before symbols, on i386
@@ -93,7 +98,8 @@ it imports; what it does not find.
   --exports          a line for each export of a DLL: ordinal, code, data or
                      forwarder, address or other DLL's export, hint, name
   --list             a line for each import and alias: offset, DLL, symbol,
-                     type, what is asked by, name, ordinal or hint
+                     type, what is asked by, name, ordinal or hint; arm64ec
+                     for that machine
   --identify         the DLLs that the library imports from
   --identify-strict  the DLL; an error where there are several
   --same             whether two libraries have the same imports and aliases;
@@ -348,28 +354,21 @@ fn run_same<S: Shelf, O: Write, E: Write>(
     )
 }
 
-// Compares a library with a definition, and gives the exit status.
-fn check_library<O: Write, E: Write>(
+// Compares a library that is read with a definition, and gives the exit status.
+#[tactic(auto, using(crate::proofs::Answers::checked_refused))]
+fn check_ordinary<O: Write, E: Write>(
     form: Form,
     printer: &mut O,
     faults: &mut E,
     check: &Check,
-    bytes: &[u8],
+    library: &Library,
     definition: &[u8],
 ) -> u8
-    ensures { OrFailed result (CheckedAs (check_view check.now) bytes.now definition.now (archive_in bytes.now) result) }
+    requires { map member_read_view library.now.members.items ≡ members_read (archive_view library.now.archive).members }
+    ensures { OrFailed result (IsCheckedOrdinary (check_view check.now) (archive_view library.now.archive) definition.now result) }
 {
-    let library = match library_of(form.alloc, faults, check.library, bytes) {
-        Ok(library) => library,
-        Err(status) => return status,
-    };
-    if is_library(definition) {
-        let message = "a library, and no definition; --same LIB LIB compares two libraries";
-        return complain(faults, check.definition, message, 2);
-    }
     let members = library.members.as_slice();
     let options = options_for(check, members);
-    doubt(faults, check.library, members, true);
     let paths = (check.library, check.definition);
     let checked = check_definition(
         form,
@@ -381,10 +380,96 @@ fn check_library<O: Write, E: Write>(
         check.older_symbols,
     );
     match checked {
-        Ok(verdict) => tell_checked(form, printer, faults, verdict, check.library, &library),
+        Ok(verdict) => tell_checked(form, printer, faults, verdict, check.library, library),
         Err(CheckError::Refused(refusal)) => refuse(faults, check.definition, &refusal),
         Err(CheckError::Failed(failure)) => status_of(faults, Err(failure), 3),
     }
+}
+
+// Compares a library that is read with the definitions of one for ARM64EC, and gives the exit status.
+#[tactic(auto, using(crate::proofs::Answers::checked_arm64ec_refused))]
+fn check_for_arm64ec<O: Write, E: Write>(
+    form: Form,
+    printer: &mut O,
+    faults: &mut E,
+    check: &Check,
+    library: &Library,
+    definition: &[u8],
+    native: Option<&[u8]>,
+) -> u8
+    requires { map member_read_view library.now.members.items ≡ members_read (archive_view library.now.archive).members }
+    ensures { OrFailed result (IsCheckedForArm64ec (check_view check.now) (archive_view library.now.archive) definition.now
+        (option_map (λ text. text.now) native.entry) result) }
+{
+    let members = library.members.as_slice();
+    let options = options_for(check, members);
+    let checked = check_arm64ec(form, printer, check, members, definition, native, &options);
+    match checked {
+        Ok(verdict) => tell_checked(form, printer, faults, verdict, check.library, library),
+        Err(Arm64ecError::Refused(fault)) => refuse_arm64ec(faults, check, &fault),
+        Err(Arm64ecError::Failed(failure)) => status_of(faults, Err(failure), 3),
+    }
+}
+
+// What is said of a call that asks for what a library for ARM64EC, or another one, is not made with.
+fn unfit_text(is_for_arm64ec: bool) -> &'static str {
+    if is_for_arm64ec {
+        "arm64ec: not supported for GNU's linker; leave out -C, and --flavor or make it msvc"
+    } else {
+        "--input-native-def: for arm64ec alone; add -m arm64ec"
+    }
+}
+
+// Compares a library that is read with a definition, and gives the exit status.
+#[tactic(auto, using(crate::proofs::Answers::checked_unfit, crate::proofs::Answers::checked_for_arm64ec, crate::proofs::Answers::checked_ordinary))]
+fn check_read<O: Write, E: Write>(
+    form: Form,
+    printer: &mut O,
+    faults: &mut E,
+    check: &Check,
+    library: &Library,
+    definition: &[u8],
+    native: Option<&[u8]>,
+) -> u8
+    requires { map member_read_view library.now.members.items ≡ members_read (archive_view library.now.archive).members }
+    ensures { OrFailed result (IsCheckedBeside (check_view check.now) (archive_view library.now.archive) definition.now
+        (option_map (λ text. text.now) native.entry) result) }
+{
+    let members = library.members.as_slice();
+    if is_unfit(check, members) {
+        let message = unfit_text(is_for_arm64ec(check, members));
+        return complain(faults, NAME, message, 2);
+    }
+    doubt(faults, check.library, members, true);
+    if is_for_arm64ec(check, members) {
+        check_for_arm64ec(form, printer, faults, check, library, definition, native)
+    } else {
+        check_ordinary(form, printer, faults, check, library, definition)
+    }
+}
+
+// Compares a library with a definition, and gives the exit status.
+fn check_library<O: Write, E: Write>(
+    form: Form,
+    printer: &mut O,
+    faults: &mut E,
+    check: &Check,
+    bytes: &[u8],
+    definition: &[u8],
+    native: Option<&[u8]>,
+) -> u8
+    ensures { OrFailed result (CheckedAs (check_view check.now) bytes.now definition.now
+        (option_map (λ text. text.now) native.entry) (archive_in bytes.now) result) }
+{
+    let library = match library_of(form.alloc, faults, check.library, bytes) {
+        Ok(library) => library,
+        Err(status) => return status,
+    };
+    if is_library(definition) {
+        let message = "a library, and no definition; --same LIB LIB compares two libraries";
+        return complain(faults, check.definition, message, 2);
+    }
+    check_read(form, printer, faults, check, &library, definition, native)
 }
 
 // Whether a call asks for more of a DLL: its exports, or where its forwarders lead.
@@ -404,11 +489,12 @@ fn check_bytes<S: Shelf, O: Write, E: Write>(
     check: &Check,
     bytes: &[u8],
     definition: &[u8],
+    native: Option<&[u8]>,
     folders: &[Folder],
 ) -> u8
     ensures { (file : List ℕ → List ℕ) → (IsSearching (check_view check.now) ≡ true → AreKnown (S.seen shelf.now) file)
         → OrFailed result (IsAnswerWith (through file (map folder_view folders.now) (check_view check.now))
-        (check_view check.now) bytes.now definition.now result) }
+        (check_view check.now) bytes.now definition.now (option_map (λ text. text.now) native.entry) result) }
 {
     if begins_dll(definition) {
         return run_against(
@@ -419,7 +505,7 @@ fn check_bytes<S: Shelf, O: Write, E: Write>(
         let message = "no DLL, and --all or --search asks for one";
         return complain(faults, check.definition, message, 2);
     }
-    check_library(form, printer, faults, check, bytes, definition)
+    check_library(form, printer, faults, check, bytes, definition, native)
 }
 
 // Compares a library with a definition, or holds one of them against a DLL, and gives the exit status.
@@ -446,6 +532,23 @@ fn run_check<S: Shelf, O: Write, E: Write>(
         Ok(folders) => folders,
         Err(status) => return status,
     };
+    let Some(path) = check.native else {
+        return check_bytes(
+            form,
+            shelf,
+            printer,
+            faults,
+            check,
+            &bytes,
+            &definition,
+            None,
+            &folders,
+        );
+    };
+    let native = match bytes_of(alloc, shelf, faults, path) {
+        Ok(native) => native,
+        Err(status) => return status,
+    };
     check_bytes(
         form,
         shelf,
@@ -454,6 +557,7 @@ fn run_check<S: Shelf, O: Write, E: Write>(
         check,
         &bytes,
         &definition,
+        Some(native.as_slice()),
         &folders,
     )
 }
@@ -564,6 +668,14 @@ fn define_library<O: Write, E: Write>(
     }
     if count > 1 {
         return say_dlls(faults, path, &names);
+    }
+    if has_arm64ec(members) {
+        return complain(
+            faults,
+            path,
+            "imports for arm64ec, of which --def writes no definition",
+            1,
+        );
     }
     let form = Form {
         alloc,

@@ -2,7 +2,7 @@
 
 ghost use Rattle.std.specs.Prelude.{◌≡◌, map, unwrap_or};
 ghost use Rattle.implib_check_driver.specs.Calls.{check_view, define_view};
-ghost use Rattle.implib_check_driver.specs.Targets.{flavor_for, machine_of, machine_of_class, options_for, options_of};
+ghost use Rattle.implib_check_driver.specs.Targets.{flavor_for, has_arm64ec, is_arm64ec, is_for_arm64ec, is_for_gnu, is_unfit, machine_of, machine_of_class, options_for, options_of};
 ghost use Rattle.implib_compare.specs.Flavors.{flavor_of};
 ghost use Rattle.implib_read.specs.ClassViews.{class_view, member_read_view};
 ghost use Rattle.implib_rules.specs.Options.{library_options_view};
@@ -58,6 +58,61 @@ fn flavor_for(named: Option<Flavor>, older_symbols: bool, members: &[MemberRead]
         } else {
             flavor_of(members)
         },
+    }
+}
+
+/// The machine of code for ARM64 that calls code for AMD64.
+pub const ARM64EC: u16 = 0xA641;
+
+// Whether a member imports for ARM64EC.
+fn is_arm64ec(class: &MemberClass) -> bool
+    ensures { result ≡ is_arm64ec (class_view class.now) }
+{
+    match class {
+        MemberClass::Import(import) => import.machine == ARM64EC,
+        _ => false,
+    }
+}
+
+/// Whether a library has an import for ARM64EC.
+pub fn has_arm64ec(members: &[MemberRead]) -> bool
+    ensures { result ≡ has_arm64ec (map member_read_view members.now) }
+{
+    for member in members {
+        if is_arm64ec(&member.class) {
+            return true;
+        }
+    }
+    false
+}
+
+/// Whether the library of a definition is one for ARM64EC: a call names that, or no machine, and the library has an
+/// import for it.
+pub fn is_for_arm64ec(check: &Check, members: &[MemberRead]) -> bool
+    ensures { result ≡ is_for_arm64ec (check_view check.now) (map member_read_view members.now) }
+{
+    check.arm64ec || (check.machine.is_none() && has_arm64ec(members))
+}
+
+// Whether GNU's flavour is named.
+fn is_for_gnu(flavor: Option<Flavor>) -> bool
+    ensures { result ≡ is_for_gnu flavor }
+{
+    match flavor {
+        Some(Flavor::Gnu) => true,
+        Some(Flavor::Msvc) | None => false,
+    }
+}
+
+/// Whether a call asks for what the library is not made with: for ARM64EC what GNU's linker alone has, and for another
+/// machine a native definition.
+pub fn is_unfit(check: &Check, members: &[MemberRead]) -> bool
+    ensures { result ≡ is_unfit (check_view check.now) (map member_read_view members.now) }
+{
+    if is_for_arm64ec(check, members) {
+        check.older_symbols || is_for_gnu(check.flavor)
+    } else {
+        check.native.is_some()
     }
 }
 

@@ -1,8 +1,12 @@
 //! The lines that are written.
+//!
+//! A row of the list has six columns behind the offset, and a seventh, `arm64ec`, for an import for ARM64EC alone: rows
+//! for other machines stay as they are, and a library for ARM64EC may have the same import for ARM64.
 
 ghost use Rattle.std.specs.Prelude.{◌≡◌};
 ghost use Rattle.implib_check_driver.specs.Json.{kind_word};
 
+use crate::target::ARM64EC;
 use implib::def::Position;
 use implib_compare::compare::{is_other, is_unread};
 use implib_read::{AskFound, ImportFound, ImportKind, MemberClass, MemberRead, linked_symbol};
@@ -70,9 +74,13 @@ impl<'m, 'a> fmt::Display for Row<'m, 'a> {
         let kind = kind_word(import.kind);
         write!(f, "{dll}\t{symbol}\t{kind}\t")?;
         match import.ask {
-            AskFound::Name(name, hint) => write!(f, "name\t{}\t{hint}", Shown(name)),
-            AskFound::Ordinal(ordinal) => write!(f, "ordinal\t\t{ordinal}"),
+            AskFound::Name(name, hint) => write!(f, "name\t{}\t{hint}", Shown(name))?,
+            AskFound::Ordinal(ordinal) => write!(f, "ordinal\t\t{ordinal}")?,
         }
+        if import.machine == ARM64EC {
+            f.write_str("\tarm64ec")?;
+        }
+        Ok(())
     }
 }
 

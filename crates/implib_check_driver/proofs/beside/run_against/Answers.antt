@@ -14,5 +14,5 @@ returns-then-begins_archive g c = λ file known.
 pub returns : goal.returns
 returns g c = λ file known.
     let check = check_view c.args.check.now in
-    beside_text (through file (map folder_view c.args.folders.now) check) check c.args.first.now c.args.dll.now c.definition_against.result
-    (sym c.begins_archive.ensures ∙ c.if-begins_archive.false) (sym c.begins_dll.ensures ∙ c.if-begins_dll.false) (c.definition_against.ensures file known)
+    beside_text (through file (map folder_view c.args.folders.now) check) check c.args.first.now c.args.dll.now c.definition_beside.result
+    (sym c.begins_archive.ensures ∙ c.if-begins_archive.false) (sym c.begins_dll.ensures ∙ c.if-begins_dll.false) (c.definition_beside.ensures file known)

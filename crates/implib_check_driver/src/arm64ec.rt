@@ -1,0 +1,244 @@
+//! Whether a library means what the definitions of one for ARM64EC mean.
+
+ghost use Rattle.std.specs.Option.{option_map};
+ghost use Rattle.std.specs.Prelude.{◌≡◌, [], map, IfErr, IfOk, None, Some, unwrap_or};
+ghost use Rattle.implib_check_driver.specs.Calls.{check_view};
+ghost use Rattle.implib_check_driver.specs.Refused.{IsRefusalOfArm64ec};
+ghost use Rattle.implib_check_driver.specs.Status.{arm64ec_status};
+ghost use Rattle.implib_compare.specs.Meant.{IsArm64ecVerdictOn};
+ghost use Rattle.implib_read.specs.ClassViews.{member_read_view};
+ghost use Rattle.implib_rules.specs.Options.{library_options_view};
+
+use crate::call::Check;
+use crate::console::refuse;
+use crate::differences::tell_both;
+use crate::finding::{Source, Written};
+use crate::positions::Positions;
+use crate::report::{Failure, Form, Lines};
+use implib::def::Position;
+use implib::{Fault, Flavor, MachineType};
+use implib_arm64ec::ImportsFault;
+use implib_arm64ec_library::{Arm64ecRefusal, Unimported};
+use implib_compare::compare::{Comparison, Verdict, compare};
+use implib_compare::laws::arm64ec_members_found;
+use implib_compare::meant::{Arm64ecFault, arm64ec_file_for};
+use implib_read::{Library, MemberRead};
+use implib_rules::library::Refusal;
+use implib_rules::linked::Naming;
+use implib_rules::options::LibraryOptions;
+use implib_rules::{FaultMessage, ShownPlace, position_of};
+use std::alloc::{AllocError, Global};
+use std::fmt;
+use std::fmt::Write as _;
+use std::io::Write;
+
+/// Why a library is not compared with definitions for ARM64EC.
+#[derive(Drop)]
+pub enum Arm64ecError {
+    /// The definitions have no library.
+    Refused(Arm64ecFault),
+    /// A write or an allocation failed.
+    Failed(Failure),
+}
+
+impl From<Arm64ecFault> for Arm64ecError {
+    ghost use Rattle.implib_check_driver.specs.declared.arm64ec.Arm64ecError.TheVariants.{Refused};
+    ghost use Rattle.std.specs.Prelude.{◌≡◌};
+
+    ghost from_gives = { λ fault error. error ≡ Refused fault };
+
+    fn from(fault: Arm64ecFault) -> Arm64ecError {
+        Arm64ecError::Refused(fault)
+    }
+}
+
+impl From<Failure> for Arm64ecError {
+    ghost use Rattle.implib_check_driver.specs.declared.arm64ec.Arm64ecError.TheVariants.{Failed};
+    ghost use Rattle.std.specs.Prelude.{◌≡◌};
+
+    ghost from_gives = { λ failure error. error ≡ Failed failure };
+
+    fn from(failure: Failure) -> Arm64ecError {
+        Arm64ecError::Failed(failure)
+    }
+}
+
+impl From<AllocError> for Arm64ecError {
+    ghost use Rattle.implib_check_driver.specs.declared.arm64ec.Arm64ecError.TheVariants.{Failed};
+    ghost use Rattle.implib_check_driver.specs.declared.report.Failure.TheVariants.{OutOfMemory};
+    ghost use Rattle.std.specs.Prelude.{◌≡◌};
+
+    ghost from_gives = { λ _ error. error ≡ Failed OutOfMemory };
+
+    fn from(_refused: AllocError) -> Arm64ecError {
+        Arm64ecError::Failed(Failure::OutOfMemory)
+    }
+}
+
+// The positions of exports for ARM64EC.
+fn own_positions(
+    alloc: Global,
+    definition: &[u8],
+    options: &LibraryOptions,
+) -> Result<Positions, AllocError> {
+    let options = LibraryOptions {
+        machine: MachineType::ARM64,
+        flavor: Flavor::Gnu,
+        ..*options
+    };
+    Positions::of(alloc, definition, &options)
+}
+
+// The positions of native exports. The name of the DLL, which the definition may lack, is of no effect on them.
+fn native_positions(
+    alloc: Global,
+    native: Option<&[u8]>,
+    options: &LibraryOptions,
+) -> Result<Positions, AllocError> {
+    let options = LibraryOptions {
+        machine: MachineType::ARM64,
+        flavor: Flavor::Msvc,
+        dll: Some("native"),
+        naming: Naming {
+            exports_as: true,
+            ..options.naming
+        },
+        ..*options
+    };
+    Positions::of(alloc, native.unwrap_or(b""), &options)
+}
+
+// The file of the native definition, or the definition's where there is none.
+fn native_path<'a>(check: &Check<'a>) -> &'a str {
+    check.native.unwrap_or(check.definition)
+}
+
+// Writes the differences of a library and that of definitions.
+fn tell_arm64ec<O: Write>(
+    form: Form,
+    printer: &mut O,
+    check: &Check,
+    positions: (&Positions, &Positions),
+    members: (&[MemberRead], &[MemberRead]),
+    found: &Comparison,
+) -> Result<(), Failure> {
+    let own = Written {
+        path: check.definition,
+        positions: positions.0,
+    };
+    let native = Written {
+        path: native_path(check),
+        positions: positions.1,
+    };
+    let sources = (
+        Source::Library(check.library),
+        Source::Definitions(own, native),
+    );
+    tell_both(form, printer, sources, members.0, members.1, found)
+}
+
+/// Compares a library with the one for ARM64EC of a definition and, if there is one, of a native definition, and writes
+/// the differences.
+///
+/// # Errors
+///
+/// `Refused`: the definitions have no library. `Failed`: a write or an allocation.
+#[tactic(auto, using(crate::proofs::MeantLibraries::arm64ec_file_is_read))]
+pub fn check_arm64ec<O: Write>(
+    form: Form,
+    printer: &mut O,
+    check: &Check,
+    members: &[MemberRead],
+    definition: &[u8],
+    native: Option<&[u8]>,
+    options: &LibraryOptions,
+) -> Result<Verdict, Arm64ecError>
+    ensures verdict { IfOk result (IsArm64ecVerdictOn definition.now (option_map (λ text. text.now) native.entry)
+        (library_options_view options.now) (map member_read_view members.now)) }
+    ensures refused { IfErr result (IsRefusalOfArm64ec definition.now (option_map (λ text. text.now) native.entry)
+        (library_options_view options.now)) }
+{
+    arm64ec_members_found();
+    let alloc = form.alloc;
+    let file = arm64ec_file_for(alloc, definition, native, options)?;
+    let Some(meant) = Library::read(alloc, &file)? else {
+        unreachable!();
+    };
+    let found = compare(alloc, members, &meant.members)?;
+    let own = own_positions(alloc, definition, options)?;
+    let others = native_positions(alloc, native, options)?;
+    let both = (members, meant.members.as_slice());
+    tell_arm64ec(form, printer, check, (&own, &others), both, &found)?;
+    Ok(found.verdict)
+}
+
+// Why a definition has no short imports for ARM64EC, in the words of `implib_dlltool`.
+#[derive(Clone, Copy)]
+struct UnimportedMessage(Unimported);
+
+impl fmt::Display for UnimportedMessage {
+    fn fmt<W: fmt::Write>(&self, f: &mut fmt::Formatter<W>) -> fmt::Result {
+        match self.0.fault {
+            ImportsFault::NulInDllName => write!(f, "{}", FaultMessage(&Fault::NulInImportName)),
+            ImportsFault::NulInExport(index) => {
+                write!(f, "{}", FaultMessage(&Fault::NulInExport(index)))
+            }
+            ImportsFault::Unreadable(_, place) => write!(
+                f,
+                "a name of C++ for arm64ec that is not understood after {place} bytes; with $$h in \
+                 it a name is taken as it is"
+            ),
+            ImportsFault::MemberTooLong(_) => {
+                write!(f, "{}", FaultMessage(&Fault::MemberTooLong))
+            }
+        }
+    }
+}
+
+// Where that is; none where it is of the DLL's name.
+fn position_of_unimported(why: Unimported) -> Option<Position> {
+    match why.fault {
+        ImportsFault::NulInDllName => None,
+        _ => Some(why.position),
+    }
+}
+
+// The file that a refusal of the native members is told of: one without a place is of the DLL's name, which is the
+// definition's.
+fn native_told<'a>(check: &Check<'a>, refusal: &Refusal) -> &'a str {
+    match position_of(refusal) {
+        Some(_) => native_path(check),
+        None => check.definition,
+    }
+}
+
+// Says why a definition has no short imports, and gives the exit status.
+fn refuse_imports<E: Write>(faults: &mut E, path: &str, why: Unimported) -> u8
+    ensures { result ≡ 1 }
+{
+    let place = ShownPlace(path, position_of_unimported(why));
+    let mut lines = Lines { writer: faults };
+    let _ = writeln!(lines, "{place} {}", UnimportedMessage(why));
+    1
+}
+
+/// Says why definitions have no library for ARM64EC, and gives the exit status.
+pub(crate) fn refuse_arm64ec<E: Write>(faults: &mut E, check: &Check, fault: &Arm64ecFault) -> u8
+    ensures { result ≡ arm64ec_status fault.now }
+{
+    match fault {
+        Arm64ecFault::OfTexts(Arm64ecRefusal::OfDefinition(why)) => {
+            refuse(faults, check.definition, why)
+        }
+        Arm64ecFault::OfTexts(Arm64ecRefusal::OfImports(why)) => {
+            refuse_imports(faults, check.definition, *why)
+        }
+        Arm64ecFault::OfTexts(Arm64ecRefusal::OfNative(why)) => {
+            refuse(faults, native_told(check, why), why)
+        }
+        Arm64ecFault::OfTexts(Arm64ecRefusal::OutOfMemory) => {
+            refuse(faults, check.definition, &Refusal::OutOfMemory)
+        }
+        Arm64ecFault::OfArchive(why) => refuse(faults, check.definition, why),
+    }
+}
