@@ -1,16 +1,10 @@
 //! Makes the import library of a module definition: a program in place of `dlltool`.
 //!
-//! What it does is in the crate `implib_driver`; [`files`] is the system's disk, and [`console`] says
-//! on standard error what there is to say.
+//! What it does is in the crate `implib_driver`, and what it does it to in `implib_devices`.
 #![tactic(auto)]
 
-pub mod console;
-pub mod files;
-#[cfg(test)]
-mod tests;
-
-use crate::console::Console;
-use crate::files::SystemDisk;
+use implib_devices::console::Console;
+use implib_devices::files::SystemDisk;
 use implib_driver::program::{CommandLine, perform};
 use std::alloc::AllocError;
 use std::env::{Env, FillError};

@@ -3,7 +3,7 @@ use Rattle.std.specs.Prelude.{None}
 use Rattle.std.specs.Option.{option_map}
 use Rattle.std.specs.String.{string_bytes}
 use Rattle.implib_driver.specs.Disk.{DiskView}
-use Rattle.implib_dlltool.specs.declared.files.State.{State}
+use Rattle.implib_devices.specs.declared.files.State.{State}
 
 -- of its bytes and names nothing is known
 abbrev pub state_view : State → DiskView

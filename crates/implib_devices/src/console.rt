@@ -13,12 +13,12 @@ use std::fmt;
 use std::fmt::Write as _;
 use std::io::Write;
 
-// A line of what is said, of a path or of the program.
+/// A line of what is said, of a path or of the program.
 #[derive(Drop)]
-enum Message<'a> {
-    // A warning of a definition, whose exports are in these lines.
+pub enum Message<'a> {
+    /// A warning of a definition, whose exports are in these lines.
     Warning(&'a str, &'a Warning<'a>, &'a [usize]),
-    // A definition is refused.
+    /// A definition is refused.
     Refusal(&'a str, &'a Refusal),
     Complaint(&'a str, &'a Complaint<'a>),
 }
@@ -104,8 +104,8 @@ impl<E: Write> Console<E> {
         self.put(line, message);
     }
 
-    // Writes the line of a message at once, or in pieces where memory for it was refused.
-    fn put(&mut self, line: Result<String, AllocError>, message: &Message<'_>) {
+    /// Writes the line of a message at once, or in pieces where memory for it was refused.
+    pub fn put(&mut self, line: Result<String, AllocError>, message: &Message<'_>) {
         match line {
             Ok(line) => {
                 let _ = self.lines.writer.write_all(line.as_bytes());
@@ -133,6 +133,3 @@ impl<E: Write> Reporter for Console<E> {
         self.say(&Message::Complaint(subject, &complaint));
     }
 }
-
-#[cfg(test)]
-mod tests;

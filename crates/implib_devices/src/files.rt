@@ -4,7 +4,7 @@
 //! that was killed it stays, and the next call for the same file removes it. That is a file of just
 //! this name, of no process that runs; on a system without `/proc` none is removed.
 
-ghost use Rattle.implib_dlltool.specs.Disk.{state_view};
+ghost use Rattle.implib_devices.specs.Disk.{state_view};
 ghost use Rattle.std.specs.Prelude.{◌≡◌, IfOk, None, false};
 ghost use Rattle.std.specs.String.{string_bytes};
 
@@ -92,8 +92,8 @@ fn is_gone<R: Files + AllocGlobal>(rt: &R, process: &str) -> io::Result<bool> {
     Ok(fs::exists(rt, "/proc/self")? && !fs::exists(rt, path.as_str())?)
 }
 
-// The folder of the names beside another: for a name alone, the one that the process works in.
-fn folder_of(path: &str) -> &str {
+/// The folder of the names beside another: for a name alone, the one that the process works in.
+pub fn folder_of(path: &str) -> &str {
     match Path::new(path).parent() {
         Some(parent) if !parent.as_str().is_empty() => parent.as_str(),
         _ => ".",
@@ -136,14 +136,14 @@ fn open_beside<R: Files + AllocGlobal + Clone + Drop>(
     Err(io::Error::from(ErrorKind::AlreadyExists))
 }
 
-// A new file that was made.
+/// A new file that was made.
 #[derive(Drop)]
-struct Made {
-    // Its name.
-    name: String,
-    // The file whose place it takes, and the path that leads there.
-    target: String,
-    path: String,
+pub struct Made {
+    /// Its name.
+    pub name: String,
+    /// The file whose place it takes, and the path that leads there.
+    pub target: String,
+    pub path: String,
 }
 
 // What was done.
@@ -156,8 +156,8 @@ struct State {
     is_stuck: bool,
 }
 
-// A new file of this name, which gets a mode where one is given. One that cannot have it is removed.
-fn with_mode<R: Files, F: OpenFile + Drop>(
+/// A new file of this name, which gets a mode where one is given. One that cannot have it is removed.
+pub fn with_mode<R: Files, F: OpenFile + Drop>(
     rt: &R,
     name: &str,
     file: F,
@@ -197,9 +197,9 @@ fn make_file<R: Files + AllocGlobal + Clone + Drop>(
     Ok((file, made))
 }
 
-// Puts a file into its place, once its bytes are on the disk: so an error that the system finds
-// late, as it would at the file's end, comes before the old file is gone.
-fn settle<R: Files, F: OpenFile + Drop>(rt: &R, made: &Made, file: F) -> io::Result<()> {
+/// Puts a file into its place, once its bytes are on the disk: so an error that the system finds
+/// late, as it would at the file's end, comes before the old file is gone.
+pub fn settle<R: Files, F: OpenFile + Drop>(rt: &R, made: &Made, file: F) -> io::Result<()> {
     file.sync_all()?;
     drop(file);
     fs::rename(rt, made.name.as_str(), made.target.as_str())
@@ -324,6 +324,3 @@ impl<'a, R: Files + AllocGlobal + Clone + Drop> Disk for SystemDisk<'a, R> {
         }
     }
 }
-
-#[cfg(test)]
-mod tests;
