@@ -1,6 +1,6 @@
 /*
- * For `checks/dlltool`, by LD_PRELOAD: the allocation of the number in FAIL_AT is refused, counted from 1. A
- * program that ends before it gets there says so on standard output.
+ * For `checks/dlltool` and `checks/memory`, by LD_PRELOAD: the allocation of the number in FAIL_AT is refused, counted
+ * from 1. A program that ends before it gets there says so on standard output.
  */
 #include <errno.h>
 #include <stdlib.h>

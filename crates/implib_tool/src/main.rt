@@ -1,22 +1,10 @@
 //! Prints the members of the import libraries of module definitions.
+//!
+//! What it does is in the crate `implib_tool_driver`, over the system's streams.
 #![tactic(auto)]
 
-pub mod command;
-pub mod device;
-mod documents;
-#[cfg(test)]
-mod doubles;
-pub mod host;
-pub mod laws;
-mod listing;
-mod output;
-pub mod program;
-pub mod run;
-#[cfg(test)]
-mod trials;
-
-use crate::host::Host;
-use crate::program::perform;
+use implib_tool_driver::host::Host;
+use implib_tool_driver::program::perform;
 use std::env;
 use std::process::ExitCode;
 

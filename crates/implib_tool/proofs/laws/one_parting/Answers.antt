@@ -1,5 +1,0 @@
-use Rattle.implib_tool.proofs.Dividing.{one_parting}
-use Rattle.implib_tool.proofs.laws.one_parting.Goals as goal
-
-pub returns : goal.returns
-returns c = one_parting

@@ -1,0 +1,72 @@
+-- Lemmas on lines of hexadecimal digits, made many at a time.
+use Rattle.std.proofs.Common.{◌≡◌, ℕ, zero, suc, ◌+◌, ◌*◌, ◌/◌, ◌%◌, ◌<◌, ◌≤◌, List, [], ◌∷◌, ◌++◌, length, map, get_or, refl, ap, ◌∙◌, arith, cond, leb, w8, Fits}
+use Rattle.std.specs.Simd.Lanes.{Each1}
+use Rattle.std.proofs.lemmas.Simd.{swz_l}
+use Rattle.std.proofs.lemmas.Bool.Decides.{nat_tests}
+use Rattle.implib_tool_driver.specs.Listing.{bytes_listing, hex_digit}
+
+-- the hexadecimal digits
+abbrev pub hex_digits : List ℕ
+hex_digits = 48 ∷ 49 ∷ 50 ∷ 51 ∷ 52 ∷ 53 ∷ 54 ∷ 55 ∷ 56 ∷ 57 ∷ 97 ∷ 98 ∷ 99 ∷ 100 ∷ 101 ∷ 102 ∷ []
+
+-- the digit at a position
+digit_at : (n : ℕ) → n < 16 → get_or hex_digits n 0 ≡ hex_digit n
+digit_at zero below = refl
+digit_at (suc zero) below = refl
+digit_at (suc (suc zero)) below = refl
+digit_at (suc (suc (suc zero))) below = refl
+digit_at (suc (suc (suc (suc zero)))) below = refl
+digit_at (suc (suc (suc (suc (suc zero))))) below = refl
+digit_at (suc (suc (suc (suc (suc (suc zero)))))) below = refl
+digit_at (suc (suc (suc (suc (suc (suc (suc zero))))))) below = refl
+digit_at (suc (suc (suc (suc (suc (suc (suc (suc zero)))))))) below = refl
+digit_at (suc (suc (suc (suc (suc (suc (suc (suc (suc zero))))))))) below = refl
+digit_at (suc (suc (suc (suc (suc (suc (suc (suc (suc (suc zero)))))))))) below = refl
+digit_at (suc (suc (suc (suc (suc (suc (suc (suc (suc (suc (suc zero))))))))))) below = refl
+digit_at (suc (suc (suc (suc (suc (suc (suc (suc (suc (suc (suc (suc zero)))))))))))) below = refl
+digit_at (suc (suc (suc (suc (suc (suc (suc (suc (suc (suc (suc (suc (suc zero))))))))))))) below = refl
+digit_at (suc (suc (suc (suc (suc (suc (suc (suc (suc (suc (suc (suc (suc (suc zero)))))))))))))) below = refl
+digit_at (suc (suc (suc (suc (suc (suc (suc (suc (suc (suc (suc (suc (suc (suc (suc zero))))))))))))))) below = refl
+digit_at (suc (suc (suc (suc (suc (suc (suc (suc (suc (suc (suc (suc (suc (suc (suc (suc n)))))))))))))))) below = absurd (omega (arith, below))
+
+-- no lane is made 0
+not_zeroed : (n a : ℕ) → n < 16 → cond (leb 128 n) 0 a ≡ a
+not_zeroed n a below = grind (arith, nat_tests)
+
+-- looking each up gives its digit
+pub looked_up : (values : List ℕ) (i : ℕ) → i + length values ≤ 16 → Each1 (λ n. n < 16) values → swz_l w8 16 hex_digits i values ≡ map hex_digit values
+looked_up [] i room below = refl
+looked_up (n ∷ values) i room below =
+    let place : 16 * (i / 16) + n ≡ n = omega (arith, room) in
+    let lane = not_zeroed n (get_or hex_digits (16 * (i / 16) + n) 0) below.0 ∙ ap (λ k. get_or hex_digits k 0) place ∙ digit_at n below.0 in
+    ap (λ t. t ∷ swz_l w8 16 hex_digits (suc i) values) lane ∙ ap (λ t. hex_digit n ∷ t) (looked_up values (suc i) (omega (arith, room)) below.1)
+
+-- the high half of a byte is below 16
+pub highs_below : (values : List ℕ) → Each1 (Fits w8) values → Each1 (λ n. n < 16) (map (λ b. b / 16) values)
+highs_below [] fits = tt
+highs_below (n ∷ values) fits = (omega (arith, fits.0.fits), highs_below values fits.1)
+
+-- a line of 16 bytes, by the higher digits and then the lower ones
+abbrev pub line_of_digits : List ℕ → List ℕ
+line_of_digits digits = get_or digits 0 0 ∷ get_or digits 16 0 ∷ 32 ∷ get_or digits 1 0 ∷ get_or digits 17 0 ∷ 32 ∷ get_or digits 2 0 ∷ get_or digits 18 0 ∷ 32 ∷ get_or digits 3 0 ∷ get_or digits 19 0 ∷ 32 ∷ get_or digits 4 0 ∷ get_or digits 20 0 ∷ 32 ∷ get_or digits 5 0 ∷ get_or digits 21 0 ∷ 32 ∷ get_or digits 6 0 ∷ get_or digits 22 0 ∷ 32 ∷ get_or digits 7 0 ∷ get_or digits 23 0 ∷ 32 ∷ get_or digits 8 0 ∷ get_or digits 24 0 ∷ 32 ∷ get_or digits 9 0 ∷ get_or digits 25 0 ∷ 32 ∷ get_or digits 10 0 ∷ get_or digits 26 0 ∷ 32 ∷ get_or digits 11 0 ∷ get_or digits 27 0 ∷ 32 ∷ get_or digits 12 0 ∷ get_or digits 28 0 ∷ 32 ∷ get_or digits 13 0 ∷ get_or digits 29 0 ∷ 32 ∷ get_or digits 14 0 ∷ get_or digits 30 0 ∷ 32 ∷ get_or digits 15 0 ∷ get_or digits 31 0 ∷ 10 ∷ []
+
+-- it is the listing of these bytes
+pub line_text : (bytes : List ℕ) → length bytes ≡ 16 → line_of_digits (map hex_digit (map (λ b. b / 16) bytes) ++ map hex_digit (map (λ b. b % 16) bytes)) ≡ bytes_listing bytes
+line_text [] size = absurd (omega (arith, size))
+line_text (a0 ∷ []) size = absurd (omega (arith, size))
+line_text (a0 ∷ a1 ∷ []) size = absurd (omega (arith, size))
+line_text (a0 ∷ a1 ∷ a2 ∷ []) size = absurd (omega (arith, size))
+line_text (a0 ∷ a1 ∷ a2 ∷ a3 ∷ []) size = absurd (omega (arith, size))
+line_text (a0 ∷ a1 ∷ a2 ∷ a3 ∷ a4 ∷ []) size = absurd (omega (arith, size))
+line_text (a0 ∷ a1 ∷ a2 ∷ a3 ∷ a4 ∷ a5 ∷ []) size = absurd (omega (arith, size))
+line_text (a0 ∷ a1 ∷ a2 ∷ a3 ∷ a4 ∷ a5 ∷ a6 ∷ []) size = absurd (omega (arith, size))
+line_text (a0 ∷ a1 ∷ a2 ∷ a3 ∷ a4 ∷ a5 ∷ a6 ∷ a7 ∷ []) size = absurd (omega (arith, size))
+line_text (a0 ∷ a1 ∷ a2 ∷ a3 ∷ a4 ∷ a5 ∷ a6 ∷ a7 ∷ a8 ∷ []) size = absurd (omega (arith, size))
+line_text (a0 ∷ a1 ∷ a2 ∷ a3 ∷ a4 ∷ a5 ∷ a6 ∷ a7 ∷ a8 ∷ a9 ∷ []) size = absurd (omega (arith, size))
+line_text (a0 ∷ a1 ∷ a2 ∷ a3 ∷ a4 ∷ a5 ∷ a6 ∷ a7 ∷ a8 ∷ a9 ∷ a10 ∷ []) size = absurd (omega (arith, size))
+line_text (a0 ∷ a1 ∷ a2 ∷ a3 ∷ a4 ∷ a5 ∷ a6 ∷ a7 ∷ a8 ∷ a9 ∷ a10 ∷ a11 ∷ []) size = absurd (omega (arith, size))
+line_text (a0 ∷ a1 ∷ a2 ∷ a3 ∷ a4 ∷ a5 ∷ a6 ∷ a7 ∷ a8 ∷ a9 ∷ a10 ∷ a11 ∷ a12 ∷ []) size = absurd (omega (arith, size))
+line_text (a0 ∷ a1 ∷ a2 ∷ a3 ∷ a4 ∷ a5 ∷ a6 ∷ a7 ∷ a8 ∷ a9 ∷ a10 ∷ a11 ∷ a12 ∷ a13 ∷ []) size = absurd (omega (arith, size))
+line_text (a0 ∷ a1 ∷ a2 ∷ a3 ∷ a4 ∷ a5 ∷ a6 ∷ a7 ∷ a8 ∷ a9 ∷ a10 ∷ a11 ∷ a12 ∷ a13 ∷ a14 ∷ []) size = absurd (omega (arith, size))
+line_text (a0 ∷ a1 ∷ a2 ∷ a3 ∷ a4 ∷ a5 ∷ a6 ∷ a7 ∷ a8 ∷ a9 ∷ a10 ∷ a11 ∷ a12 ∷ a13 ∷ a14 ∷ a15 ∷ []) size = refl
+line_text (a0 ∷ a1 ∷ a2 ∷ a3 ∷ a4 ∷ a5 ∷ a6 ∷ a7 ∷ a8 ∷ a9 ∷ a10 ∷ a11 ∷ a12 ∷ a13 ∷ a14 ∷ a15 ∷ b ∷ bytes) size = absurd (omega (arith, size))
