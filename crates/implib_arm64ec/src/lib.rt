@@ -25,6 +25,3 @@ pub use error::{ImportError, MarkError};
 pub use imports::short_import;
 pub use library::{ImportsError, ImportsFault, short_imports};
 pub use names::{mark, unmark};
-
-#[cfg(test)]
-mod tests;

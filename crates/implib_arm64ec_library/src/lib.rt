@@ -8,8 +8,6 @@
 mod held;
 pub mod laws;
 mod library;
-#[cfg(test)]
-mod tests;
 
 pub use library::{
     Arm64ecLibrary, Arm64ecRefusal, Unimported, arm64ec_archive, arm64ec_library_for,

@@ -1,7 +1,13 @@
-//! Tests of the library `implib` by its public calls, and what was worked by hand of great counts.
-//! The library has no tests of its own, since a crate with tests is proved twice.
+//! Tests of libraries by their public calls, and what was worked by hand of great counts. The libraries
+//! have no tests of their own, since a crate with tests is proved twice.
 #![tactic(auto)]
 
+#[cfg(test)]
+mod arm64ec_archives;
+#[cfg(test)]
+mod arm64ec_libraries;
+#[cfg(test)]
+mod callers;
 #[cfg(test)]
 mod calls;
 pub mod laws;

@@ -10,8 +10,6 @@ mod linked;
 mod members;
 mod objects;
 mod options;
-#[cfg(test)]
-mod tests;
 mod tokens;
 
 pub use errors::error_in;

@@ -1,8 +1,8 @@
 //! A library as llvm-dlltool 19 writes it.
 
-use crate::{Archive, short_imports};
 use implib::def::ModuleDef;
 use implib::{Flavor, ImportLibrary, MachineType, Member};
+use implib_arm64ec::{Archive, short_imports};
 use std::alloc::Global;
 use std::test::Fail;
 

@@ -1,8 +1,8 @@
 //! Libraries of texts, held against those of llvm-dlltool 19 by their lengths and a sum of their bytes.
 
-use crate::library::{Arm64ecRefusal, arm64ec_archive, arm64ec_library_for};
 use implib::{Flavor, MachineType};
 use implib_arm64ec::ImportsFault;
+use implib_arm64ec_library::{Arm64ecRefusal, arm64ec_archive, arm64ec_library_for};
 use implib_rules::additions::Additions;
 use implib_rules::library::Refusal;
 use implib_rules::linked::Naming;
