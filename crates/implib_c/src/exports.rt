@@ -5,40 +5,40 @@
 //! variable of their own in a null pointer's place.
 
 ghost use Rattle.implib.specs.Text.Position.{line_and_column};
-ghost use Rattle.implib_c.specs.Answer.{Answers};
-ghost use Rattle.implib_c.specs.CheckAnswer.{CheckAnswers};
-ghost use Rattle.implib_c.specs.DefinitionAnswer.{DefinitionAnswers};
-ghost use Rattle.implib_c.specs.Delayed.{DelayedAnswers};
-ghost use Rattle.implib_c.specs.DllCheckAnswer.{DllCheckAnswers};
-ghost use Rattle.implib_c.specs.DllExportsAnswer.{ExportsAnswers};
-ghost use Rattle.implib_c.specs.Given.{length_given, place_given, status_given};
-ghost use Rattle.implib_c.specs.ImportsAnswer.{ImportsAnswers};
-ghost use Rattle.implib_c.specs.Library.{LibraryAnswers};
-ghost use Rattle.implib_c.specs.LibraryOf.{LibraryOfAnswers, given_export};
-ghost use Rattle.implib_c.specs.LibraryWith.{LibraryWithAnswers};
-ghost use Rattle.implib_c.specs.Place.{text_before};
-ghost use Rattle.implib_c.specs.Status.{status_number, text_for, with_text};
-ghost use Rattle.implib_c.specs.Version.{version};
-ghost use Rattle.implib_c.specs.WarningsAnswer.{WarningsAnswers};
+ghost use Rattle.implib_c_calls.specs.Answer.{Answers};
+ghost use Rattle.implib_c_calls.specs.CheckAnswer.{CheckAnswers};
+ghost use Rattle.implib_c_calls.specs.DefinitionAnswer.{DefinitionAnswers};
+ghost use Rattle.implib_c_calls.specs.Delayed.{DelayedAnswers};
+ghost use Rattle.implib_c_calls.specs.DllCheckAnswer.{DllCheckAnswers};
+ghost use Rattle.implib_c_calls.specs.DllExportsAnswer.{ExportsAnswers};
+ghost use Rattle.implib_c_calls.specs.Given.{length_given, place_given, status_given};
+ghost use Rattle.implib_c_calls.specs.ImportsAnswer.{ImportsAnswers};
+ghost use Rattle.implib_c_calls.specs.Library.{LibraryAnswers};
+ghost use Rattle.implib_c_calls.specs.LibraryOf.{LibraryOfAnswers, given_export};
+ghost use Rattle.implib_c_calls.specs.LibraryWith.{LibraryWithAnswers};
+ghost use Rattle.implib_c_calls.specs.Place.{text_before};
+ghost use Rattle.implib_c_calls.specs.Status.{status_number, text_for, with_text};
+ghost use Rattle.implib_c_calls.specs.Version.{version};
+ghost use Rattle.implib_c_calls.specs.WarningsAnswer.{WarningsAnswers};
 ghost use Rattle.std.specs.Prelude.{◌<◌, ◌≡◌, length, map};
 
-use crate::check::check_into;
-use crate::definition::definition_into;
-use crate::delayed::delayed_into;
-use crate::dll_check::check_dll_into;
-use crate::dll_exports::exports_into;
-use crate::export::Export;
-use crate::imports::imports_into;
-use crate::library_of::library_of_into;
-use crate::library_with::{OptionsArguments, library_with_into};
-use crate::outcome::{Failure, length_of, library_into, members_into, place_of, status_of};
-use crate::place::position_of;
-use crate::status::status_text;
-use crate::warnings::warnings_into;
+use implib_c_calls::check::check_into;
+use implib_c_calls::definition::definition_into;
+use implib_c_calls::delayed::delayed_into;
+use implib_c_calls::dll_check::check_dll_into;
+use implib_c_calls::dll_exports::exports_into;
+use implib_c_calls::export::Export;
+use implib_c_calls::imports::imports_into;
+use implib_c_calls::library_of::library_of_into;
+use implib_c_calls::library_with::{OptionsArguments, library_with_into};
+use implib_c_calls::outcome::{
+    Failure, length_of, library_into, members_into, place_of, status_of,
+};
+use implib_c_calls::place::position_of;
+use implib_c_calls::status::put_status_text;
+use implib_c_calls::version::version;
+use implib_c_calls::warnings::warnings_into;
 use std::alloc::Global;
-
-// `IMPLIB_VERSION` of the header.
-const VERSION: u32 = 9;
 
 // Writes the length and the place of an answer. Gives its status.
 fn tell(answer: &Result<usize, Failure>, length: &mut usize, place: &mut usize) -> u32
@@ -407,7 +407,7 @@ pub extern "C" fn implib_position_nonnull(
 pub extern "C" fn implib_version() -> u32
     ensures { result ≡ version }
 {
-    VERSION
+    version()
 }
 
 /// Puts the text of a status and a NUL at the beginning of `buffer`, where it has room for both;
@@ -419,11 +419,5 @@ pub extern "C" fn implib_status_text_nonnull(status: u32, buffer: &mut [u8]) -> 
     ensures length { result ≡ length (text_for status) }
     ensures short { result < 32 }
 {
-    let text = status_text(status);
-    let end = text.len();
-    if end < buffer.len() {
-        buffer[..end].copy_from_slice(text.as_bytes());
-        buffer[end] = 0;
-    }
-    end
+    put_status_text(status, buffer)
 }

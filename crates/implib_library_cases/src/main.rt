@@ -1,9 +1,12 @@
-//! Answers cases about the library `implib` and the archives of its members. The arguments name the files
-//! of cases (`implib_cases` has their form); the folder of a file says what its cases are about:
-//! [`texts`], [`members`], [`archives`] or [`links`].
+//! Answers cases about the library `implib`, the archives of its members, the program `implib_tool` and the
+//! library for C. The arguments name the files of cases (`implib_cases` has their form); the folder of a file
+//! says what its cases are about: [`texts`], [`members`], [`archives`], [`links`], [`filter`] or [`buffers`].
 #![tactic(auto)]
 
 mod archives;
+mod buffers;
+mod filter;
+mod lines;
 mod links;
 mod members;
 mod texts;
@@ -38,6 +41,8 @@ fn answered(alloc: Global, folder: &str, case: &Case) -> Result<String, Fail> {
         "members" => members::answers::answered(alloc, case),
         "archives" => archives::answered(alloc, case),
         "links" => links::answers::answered(alloc, case),
+        "filter" => filter::answered(alloc, case),
+        "buffers" => buffers::answered(alloc, case),
         _ => Err(Fail::new(format_args!("{folder} is no folder of cases"))),
     }
 }

@@ -1,9 +1,0 @@
-use Rattle.std.proofs.Common.{ap, ◌∙◌}
-use Rattle.implib_c.specs.Status.{with_text}
-use Rattle.implib_c.proofs.Fill.{text_ended}
-use Rattle.implib_c.proofs.exports.implib_status_text_nonnull.Goals as goal
-
-pub returns-then-end-buffer-clause-text : goal.returns-then-end-buffer-clause-text
-returns-then-end-buffer-clause-text c =
-    text_ended c.args.buffer.now c.status_text-text.result.now c.copy_from_slice.new.self (c.copy_from_slice.ensures.after ∙ c.as_bytes.ensures.value) c.if-end-buffer.true
-    ∙ ap (with_text c.args.buffer.now) c.status_text-text.ensures.text

@@ -1,5 +1,0 @@
-use Rattle.implib_c.proofs.WorkedStatus.{worked_statuses}
-use Rattle.implib_c.proofs.laws.worked_statuses.Goals as goal
-
-pub returns : goal.returns
-returns c = worked_statuses

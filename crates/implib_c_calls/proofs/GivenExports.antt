@@ -1,0 +1,49 @@
+-- Exports as C passes them, read from the first to the last.
+use Rattle.std.proofs.Common.{◌≡◌, ◌∙◌, ◌++◌, ◌+◌, ◌<◌, ℕ, List, [], ◌∷◌, ap, arith, get_or, length, map, refl, subst, sym, take}
+use Rattle.std.specs.Option.{option_map}
+use Rattle.std.proofs.lemmas.List.{get_or-map, length-map, map_more}
+use Rattle.std.proofs.lemmas.List.Elements.{All-more}
+use Rattle.std.proofs.lemmas.Option.{slice_get-get_or, slice_get-map}
+use Rattle.implib.specs.Definition.{ExportView}
+use Rattle.implib_c_calls.specs.declared.export.Export.{Export}
+use Rattle.implib_c_calls.specs.declared.export.ExportFault.{ExportFault}
+use Rattle.implib_rules.specs.Exports.{LackSymbolNames}
+use Rattle.implib_c_calls.specs.GivenOf.{AreGiven}
+use Rattle.implib_c_calls.specs.LibraryOf.{GivenExport, IsAccepted, IsExportFault, IsFirstFault, export_given, exports_given, given_export}
+
+-- none has a symbol name
+pub lack_symbol_names : (exports : List GivenExport) → LackSymbolNames (exports_given exports)
+lack_symbol_names [] = refl
+lack_symbol_names (e ∷ exports) = lack_symbol_names exports
+
+module _ (exports : List Export) (index : ℕ) (d : Export) (within : index < length exports) where
+  -- one export more
+  pub given_more : (name target : List ℕ) (before after : List ExportView) → AreGiven (take index (map given_export exports)) before
+      → IsAccepted (given_export (get_or exports index d)) → name ≡ (given_export (get_or exports index d)).name → target ≡ (given_export (get_or exports index d)).target
+      → after ≡ before ++ export_given (record (given_export (get_or exports index d)) { name = name; target = target }) ∷ []
+      → AreGiven (take (index + 1) (map given_export exports)) after
+  given_more name target before after given accepted name_is target_is pushed =
+      let x = given_export (get_or exports index d) in
+      let xs = map given_export exports in
+      let here : get_or xs index x ≡ x = get_or-map given_export exports index d x within in
+      let inside : index < length xs = omega (arith, within, length-map exports given_export) in
+      record {
+        accepted = All-more IsAccepted xs index x inside given.accepted (subst IsAccepted (sym here) accepted);
+        are =
+            pushed
+            ∙ (ap (λ n. before ++ export_given (record x { name = n; target = target }) ∷ []) name_is
+            ∙ (ap (λ t. before ++ export_given (record x { target = t }) ∷ []) target_is
+            ∙ (ap (λ v. v ++ export_given x ∷ []) given.are
+            ∙ (ap (λ y. exports_given (take index xs) ++ export_given y ∷ []) (sym here)
+            ∙ sym (map_more export_given xs index x inside)))));
+      }
+
+  -- the first that is refused
+  pub first_fault : (before : List ExportView) (fault : ExportFault) → AreGiven (take index (map given_export exports)) before
+      → IsExportFault (given_export (get_or exports index d)) fault → IsFirstFault (map given_export exports) index fault
+  first_fault before fault given is = record {
+    export = given_export (get_or exports index d);
+    stands = slice_get-map given_export exports index ∙ ap (option_map given_export) (slice_get-get_or exports index d within);
+    before = given.accepted;
+    is = is;
+  }

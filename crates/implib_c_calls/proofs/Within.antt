@@ -1,0 +1,152 @@
+-- The offset of a refusal is within its text.
+use Rattle.std.proofs.Common.{◌≡◌, ℕ, zero, suc, ◌+◌, ◌-◌, ◌<◌, ◌≤◌, ◌^◌, ◌==◌, Bool, true, false, List, [], ◌∷◌, Option, None, Some, length, drop, get_or, map, nat_eq, subst, sym, arith, if◌then◌else◌, length-append, ap, inl, inr}
+use Rattle.std.specs.Prelude.{is_some}
+use Rattle.std.specs.List.{AllByRecursion, fold, starts_with}
+use Rattle.std.specs.Str.{trim, trim_start}
+use Rattle.std.proofs.lemmas.List.{length-drop}
+use Rattle.std.proofs.lemmas.Option.{none-some, same_Some}
+use Rattle.implib.specs.declared.def.listener.Role.{Role}
+use Rattle.implib.specs.declared.def.listener.Role.TheVariants.{Name, Other}
+use Rattle.implib.specs.declared.def.position.Position.{Position}
+use Rattle.implib.specs.Fault.{Cause, cause_of, export_index}
+use Rattle.implib.specs.Text.Heard.{Heard, heard_of, names_of, roles_of}
+use Rattle.implib.specs.Text.Token.{TokenView, Lexed, Lexeme, Blank, Comment, LastComment, EqualSign, EqualSigns, CommaSign, Quoted, Unclosed, Word, lexeme_text, text_of, tokens_of_lexeme, tokens_of, value_start}
+use Rattle.implib.proofs.Text.RefusedWithin.{refused_within}
+use Rattle.implib.proofs.Text.Trivia.{AllByRecursion-append}
+use Rattle.implib_rules.specs.declared.library.Refusal.{Refusal}
+use Rattle.implib_rules.specs.declared.library.Refusal.TheVariants as refusal
+use Rattle.implib_rules.proofs.PlainPlaces.{places_kept}
+use Rattle.implib_rules.specs.declared.form.Problem.{Problem}
+use Rattle.implib_rules.specs.declared.plain.Reading.{Reading}
+use Rattle.implib_rules.specs.Forms.{Formed, IsMisplacedAt, Misplaced, formed_by, formed_on, is_open, open_quote_from, problem_at, unformed}
+use Rattle.implib_rules.specs.Library.{IsRefusalOfMembers, IsSyntaxErrorAt, definition_text, without_mark}
+use Rattle.implib_rules.specs.Options.{LibraryOptionsView}
+use Rattle.implib_rules.specs.Plain.{beginning, step_of}
+use Rattle.implib_rules.specs.Places.{IsAtExport}
+use Rattle.implib_c_calls.specs.GivenWith.{IsWithin}
+use Rattle.implib_c_calls.specs.LibraryWith.{mark_length}
+
+-- the token begins at the latest there
+abbrev BeginsBy : ℕ → TokenView → Type 0
+BeginsBy end token = token.at ≤ end
+
+cut_short : (b : Bool) (n m : ℕ) → (if b then 0 else n - m) ≤ n
+cut_short true n m = omega arith
+cut_short false n m = omega arith
+
+start_within : (inside : List ℕ) → value_start inside ≤ length inside
+start_within inside = cut_short (length (trim inside) == 0) (length inside) (length (trim_start inside))
+
+lexeme_begins : (end offset : ℕ) (lexeme : Lexeme) → offset + length (lexeme_text lexeme) ≤ end → AllByRecursion (BeginsBy end) (tokens_of_lexeme offset lexeme)
+lexeme_begins end offset (Blank character) le = tt
+lexeme_begins end offset (Comment line) le = tt
+lexeme_begins end offset (LastComment line) le = tt
+lexeme_begins end offset EqualSign le = (omega (arith, le), tt)
+lexeme_begins end offset EqualSigns le = (omega (arith, le), tt)
+lexeme_begins end offset CommaSign le = (omega (arith, le), tt)
+lexeme_begins end offset (Quoted inside) le = (omega (arith, le, start_within inside, length-append inside (34 ∷ [])), tt)
+lexeme_begins end offset (Unclosed inside) le = (omega (arith, le), tt)
+lexeme_begins end offset (Word run) le = (omega (arith, le), tt)
+
+lexemes_begin : (end offset : ℕ) (lexemes : List Lexeme) (rest : List ℕ) → offset + length (text_of lexemes rest) ≤ end → AllByRecursion (BeginsBy end) (tokens_of offset lexemes)
+lexemes_begin end offset [] rest le = (omega (arith, le), tt)
+lexemes_begin end offset (lexeme ∷ lexemes) rest le =
+    let sum = length-append (lexeme_text lexeme) (text_of lexemes rest) in
+    AllByRecursion-append (BeginsBy end) (tokens_of_lexeme offset lexeme) (tokens_of (offset + length (lexeme_text lexeme)) lexemes)
+    (lexeme_begins end offset lexeme (omega (arith, le, sum)))
+    (lexemes_begin end (offset + length (lexeme_text lexeme)) lexemes rest (omega (arith, le, sum)))
+
+tokens_begin : (text : List ℕ) (tokens : List TokenView) → Lexed text tokens → AllByRecursion (BeginsBy (length text)) tokens
+tokens_begin text tokens lexed =
+    let same = ap length lexed.divides.text_is in
+    subst (AllByRecursion (BeginsBy (length text))) (sym lexed.given) (lexemes_begin (length text) 0 lexed.lexemes lexed.end (omega (arith, same)))
+
+-- what holds of all tokens holds of those that are heard as names
+names_all : (P : TokenView → Type 0) (roles : List Role) (tokens : List TokenView) → AllByRecursion P tokens → AllByRecursion P (names_of (heard_of roles tokens))
+names_all P [] tokens all = tt
+names_all P (role ∷ roles) [] all = tt
+names_all P (Name ∷ roles) (token ∷ tokens) all = (all.0, names_all P roles tokens all.1)
+names_all P (Other ∷ roles) (token ∷ tokens) all = names_all P roles tokens all.1
+
+-- the offset of the name at an index, or 0
+name_begins : (end : ℕ) (names : List TokenView) (index : ℕ) → AllByRecursion (BeginsBy end) names → get_or (map (λ t. t.at) names) index 0 ≤ end
+name_begins end [] zero all = omega arith
+name_begins end [] (suc index) all = omega arith
+name_begins end (name ∷ names) zero all = all.0
+name_begins end (name ∷ names) (suc index) all = name_begins end names index all.1
+
+-- the position of an export, or of the beginning
+pub export_within : (text : List ℕ) (index : Option ℕ) (position : Position) → IsAtExport text index position → position.offset ≤ length text
+export_within text None position at = let same = ap (λ (p : Position). p.offset) at in omega (arith, same)
+export_within text (Some index) position at =
+    let same = ap (λ (p : Position). p.offset) at.is in
+    let names = subst (λ heard. AllByRecursion (BeginsBy (length text)) (names_of heard)) (sym at.is_heard.is)
+    (names_all (BeginsBy (length text)) (roles_of at.is_heard.statements) at.is_heard.tokens (tokens_begin text at.is_heard.tokens at.is_heard.lexed)) in
+    let begins = name_begins (length text) (names_of at.heard) index names in
+    omega (arith, same, begins)
+
+-- a quote that its line does not close is in the text
+open_within : (text : List ℕ) (reading : Reading) (at found : ℕ) → open_quote_from reading at text ≡ Some found → found ≤ at + length text
+unfolding open_quote_from
+open_within [] reading at found is = absurd (none-some found is)
+open_within (b ∷ rest) reading at found is = by (is_open reading b rest) (open_within rest (step_of reading b (b ∷ rest) rest).reading (at + 1) found) is
+  where
+    by : (opens : Bool)
+        → (open_quote_from (step_of reading b (b ∷ rest) rest).reading (at + 1) rest ≡ Some found → found ≤ at + 1 + length rest)
+        → (if opens then Some at else open_quote_from (step_of reading b (b ∷ rest) rest).reading (at + 1) rest) ≡ Some found
+        → found ≤ at + length (b ∷ rest)
+    by true later is = let same = same_Some at found is in omega (arith, same)
+    by false later is = let within = later is in omega (arith, within)
+
+module _ (end : ℕ) (text : List ℕ) where
+  -- a wrong word is one of the tokens
+  one_within : (f : Formed) (h : Heard) → ((m : Misplaced) → f.misplaced ≡ Some m → m.at ≤ end) → h.token.at ≤ end
+      → (m : Misplaced) → (formed_on text f h).misplaced ≡ Some m → m.at ≤ end
+  one_within f h before here m is = by (is_some f.misplaced) (problem_at text f.point h.role h.token) is
+    where
+      by : (b : Bool) (problem : Option Problem) → (if b then f else formed_by f h.role h.token problem).misplaced ≡ Some m → m.at ≤ end
+      by true problem is = before m is
+      by false None is = absurd (none-some m is)
+      by false (Some problem) is = subst (λ (x : Misplaced). x.at ≤ end) (same_Some _ m is) here
+
+  all_within : (heard : List Heard) (f : Formed) → ((m : Misplaced) → f.misplaced ≡ Some m → m.at ≤ end)
+      → AllByRecursion (λ (h : Heard). h.token.at ≤ end) heard → (m : Misplaced) → (fold (formed_on text) f heard).misplaced ≡ Some m → m.at ≤ end
+  all_within [] f before all m is = before m is
+  all_within (h ∷ heard) f before all m is = all_within heard (formed_on text f h) (one_within f h before all.0) all.1 m is
+
+all_heard : (end : ℕ) (roles : List Role) (tokens : List TokenView) → AllByRecursion (BeginsBy end) tokens → AllByRecursion (λ (h : Heard). h.token.at ≤ end) (heard_of roles tokens)
+all_heard end [] tokens all = tt
+all_heard end (role ∷ roles) [] all = tt
+all_heard end (role ∷ roles) (token ∷ tokens) all = (all.0, all_heard end roles tokens all.1)
+
+misplaced_within : (text : List ℕ) (cause : Cause) (position : Position) → IsMisplacedAt text cause position → position.offset ≤ length text
+misplaced_within text cause position at =
+    let same = ap (λ (p : Position). p.offset) at.there in
+    let tokens = all_heard (length text) (roles_of at.is_heard.statements) at.is_heard.tokens (tokens_begin text at.is_heard.tokens at.is_heard.lexed) in
+    let heard = subst (AllByRecursion (λ (h : Heard). h.token.at ≤ length text)) (sym at.is_heard.is) tokens in
+    let within = all_within (length text) text at.heard unformed (λ m none. absurd (none-some m none)) heard at.misplaced at.found in
+    omega (arith, same, within)
+
+-- a syntax error is within its text
+pub syntax_within : (text : List ℕ) (cause : Cause) (position : Position) → IsSyntaxErrorAt text cause position → position.offset ≤ length text
+syntax_within text cause position (inl unclosed) = let within = open_within text beginning 0 position.offset unclosed.found in omega (arith, within)
+syntax_within text cause position (inr (inl parsed)) = refused_within text cause position.offset parsed.1.0
+syntax_within text cause position (inr (inr misplaced)) = misplaced_within text cause position misplaced
+
+-- a refusal of members is within its text
+pub refusal_within : (text : List ℕ) (options : LibraryOptionsView) (why : Refusal) → IsRefusalOfMembers text options why → IsWithin text why
+refusal_within text options (refusal.NotUtf8 position) is = let short = is.longest.short in omega (arith, short)
+refusal_within text options (refusal.Syntax fault position) is = syntax_within (definition_text text) (cause_of fault) position is.refused
+refusal_within text options refusal.NoName is = tt
+refusal_within text options (refusal.Members fault position) is = export_within (definition_text text) (export_index (cause_of fault)) position is.1
+refusal_within text options (refusal.Archive fault) is = tt
+refusal_within text options refusal.OutOfMemory is = tt
+
+-- an offset in the text has 64 bits, where the text's length has
+mark_fits : (text : List ℕ) (offset : ℕ) (marked : Bool) → length text < 2 ^ 64 → offset ≤ length (if marked then drop 3 text else text) → (if marked then 3 else 0) + offset < 2 ^ 64
+mark_fits text offset true short within = let rest = length-drop 3 text in omega (arith, rest, short, within)
+mark_fits text offset false short within = omega (arith, short, within)
+
+pub offset_fits : (text : List ℕ) (offset : ℕ) → length text < 2 ^ 64 → offset ≤ length (definition_text text) → mark_length text + offset < 2 ^ 64
+offset_fits text offset short within =
+    mark_fits text offset (starts_with nat_eq text (0xEF ∷ 0xBB ∷ 0xBF ∷ [])) short (omega (arith, (places_kept (without_mark text)).as_long, within))

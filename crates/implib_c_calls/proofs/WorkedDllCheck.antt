@@ -1,0 +1,37 @@
+-- What imports of libraries come to in DLLs, by computing.
+use Rattle.std.proofs.Common.{refl}
+use Rattle.implib.specs.Worked.Digits.{bytes_of_digits}
+use Rattle.implib_dll.specs.Lookup.{order_at, searched}
+use Rattle.implib_dll_check.specs.Missing.{missing_from}
+use Rattle.implib_c_calls.specs.DllCheck.{dll_told_in, encoded_dll_told}
+use Rattle.implib_c_calls.specs.Encoding.{encoded_number, items_in, list_in, number_in}
+use Rattle.implib_c_calls.specs.WorkedDllCheck.{WorkedDllChecks, WorkedDllTold, WorkedDllToldBytes, small_told_bytes}
+
+told : WorkedDllTold
+unfolding order_at searched missing_from
+told = record {
+  told = refl;
+  renamed = refl;
+  none = refl;
+  reached = refl;
+  searched = refl;
+  other_dll = refl;
+  other_machine = refl;
+  not_found = refl;
+  data_as_function = refl;
+  own_name = refl;
+  given_name = refl;
+}
+
+bytes : WorkedDllToldBytes
+unfolding bytes_of_digits dll_told_in encoded_dll_told encoded_number items_in list_in number_in small_told_bytes
+bytes = record {
+  small = refl;
+  small_length = refl;
+  small_read = refl;
+  small_read_before_others = refl;
+  none_read = refl;
+}
+
+pub worked_dll_checks : WorkedDllChecks
+worked_dll_checks = record { told = told; bytes = bytes }

@@ -1,0 +1,5 @@
+use Rattle.implib_c_calls.proofs.WrittenAlike.{one_library}
+use Rattle.implib_c_calls.proofs.laws.one_library.Goals as goal
+
+pub returns : goal.returns
+returns c = one_library

@@ -1,0 +1,142 @@
+//! From exports and options to the library that the rules of the program make of them, or to what is
+//! wrong.
+
+ghost use Rattle.implib.specs.Definition.{export_view};
+ghost use Rattle.implib_c_calls.specs.Given.{failure_status, length_given, place_given, status_given};
+ghost use Rattle.implib_c_calls.specs.GivenOf.{AreGiven, OnExportFault, PutsLibraryOf};
+ghost use Rattle.implib_c_calls.specs.LibraryOf.{LibraryOfAnswers, export_given, exports_status, given_export};
+ghost use Rattle.implib_c_calls.specs.LibraryOf.{place_of_refusal};
+ghost use Rattle.implib_c_calls.specs.LibraryWith.{given_options};
+ghost use Rattle.implib_c_calls.specs.Status.{status_number};
+ghost use Rattle.implib_rules.specs.Options.{library_options_view};
+ghost use Rattle.std.specs.Prelude.{◌≡◌, ◌++◌, [], ◌∷◌, Err, IfErr, IfOk, OnOk, map};
+
+use crate::export::{Export, ExportFault, names_of, short_export};
+use crate::library_with::{OptionsArguments, options_with, pack_for};
+use crate::outcome::Failure;
+use implib::def::ShortExport;
+use implib_rules::exports::{ExportsRefusal, members_of_exports};
+use implib_rules::options::LibraryOptions;
+use std::alloc::{AllocError, Global};
+
+// Why a definition has nothing of exports.
+#[derive(Debug, Drop)]
+enum GivenError {
+    // An export is refused by itself: the fault, and its index.
+    Export(ExportFault, usize),
+    // An allocation failed.
+    OutOfMemory,
+}
+
+impl From<AllocError> for GivenError {
+    ghost use Rattle.implib_c_calls.specs.declared.library_of.GivenError.TheVariants.{OutOfMemory};
+
+    ghost from_gives = { λ _ error. error ≡ OutOfMemory };
+
+    fn from(_refused: AllocError) -> GivenError {
+        GivenError::OutOfMemory
+    }
+}
+
+impl From<GivenError> for Failure {
+    ghost use Rattle.implib_c_calls.specs.GivenOf.{failure_given};
+
+    ghost from_gives = { λ error given. given ≡ failure_given error };
+
+    fn from(error: GivenError) -> Failure {
+        match error {
+            GivenError::Export(fault, index) => Failure::NoExport(fault, index),
+            GivenError::OutOfMemory => Failure::OutOfMemory,
+        }
+    }
+}
+
+// Appends what a definition has of an export of these names.
+fn push_export(
+    alloc: Global,
+    given: &mut Vec<ShortExport>,
+    export: &Export<'_>,
+    name: &str,
+    target: &str,
+) -> Result<(), AllocError>
+    ensures { OnOk result (map export_view given.new.items ≡ map export_view given.old.items
+        ++ export_given (record (given_export export.now) { name = name.now; target = target.now })
+        ∷ []) }
+{
+    given.push(short_export(alloc, export, name, target)?)?;
+    Ok(())
+}
+
+// What a definition has of exports.
+fn short_exports(alloc: Global, exports: &[Export<'_>]) -> Result<Vec<ShortExport>, GivenError>
+    ensures ok { IfOk result (λ given. AreGiven (map given_export exports.now)
+        (map export_view given.items)) }
+    ensures fault { IfErr result (OnExportFault (map given_export exports.now)) }
+{
+    let mut given = Vec::with_capacity(alloc, exports.len())?;
+    for (index, export) in exports.iter().enumerate() {
+        match names_of(export) {
+            Ok((name, target)) => push_export(alloc, &mut given, export, name, target)?,
+            Err(fault) => return Err(GivenError::Export(fault, index)),
+        }
+    }
+    Ok(given)
+}
+
+// What a refusal of exports becomes.
+fn failure_of(refusal: ExportsRefusal) -> Failure
+    ensures status { failure_status result ≡ exports_status refusal }
+    ensures length { length_given (Err result) ≡ 0 }
+    ensures place { place_given (Err result) ≡ place_of_refusal refusal }
+{
+    match refusal {
+        ExportsRefusal::NoName => Failure::NoDllName,
+        ExportsRefusal::Members(fault) => Failure::Refused(fault),
+        ExportsRefusal::OutOfMemory => Failure::OutOfMemory,
+    }
+}
+
+// Puts the library of exports with these options at the beginning of the buffer, where there is
+// room. Gives its length.
+fn put_library_of(
+    alloc: Global,
+    exports: &[Export<'_>],
+    options: &LibraryOptions<'_>,
+    buffer: &mut [u8],
+) -> Result<usize, Failure>
+    ensures { PutsLibraryOf (map given_export exports.now) (library_options_view options.now)
+        buffer.old buffer.new (length_given result) (place_given result) (status_given result) }
+{
+    let given = match short_exports(alloc, exports) {
+        Ok(given) => given,
+        Err(error) => return Err(Failure::from(error)),
+    };
+    match members_of_exports(alloc, given, options) {
+        Ok(members) => pack_for(alloc, buffer, &members, options.flavor),
+        Err(refusal) => Err(failure_of(refusal)),
+    }
+}
+
+/// Puts the library of exports with these options at the beginning of the buffer. Gives its length.
+/// An error leaves the buffer as it was.
+///
+/// # Errors
+///
+/// The first that applies: `UnknownMachine`, `UnknownFlavor`, `UnknownFlags`, `DllNotUtf8`,
+/// `NoExport`, `NoDllName`, `Refused`, `NoArchive`, `BufferTooSmall`. `OutOfMemory` can precede the
+/// last five, and come where none applies.
+pub fn library_of_into(
+    alloc: Global,
+    exports: &[Export<'_>],
+    arguments: OptionsArguments<'_>,
+    buffer: &mut [u8],
+) -> Result<usize, Failure>
+    ensures { LibraryOfAnswers (map given_export exports.now) (given_options arguments.entry)
+        buffer.old buffer.new
+        (length_given result) (place_given result) (status_number (status_given result)) }
+{
+    match options_with(arguments) {
+        Ok(options) => put_library_of(alloc, exports, &options, buffer),
+        Err(failure) => Err(failure),
+    }
+}
