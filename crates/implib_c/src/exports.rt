@@ -15,7 +15,7 @@ ghost use Rattle.implib_c.specs.Given.{length_given, place_given, status_given};
 ghost use Rattle.implib_c.specs.ImportsAnswer.{ImportsAnswers};
 ghost use Rattle.implib_c.specs.Library.{LibraryAnswers};
 ghost use Rattle.implib_c.specs.LibraryOf.{LibraryOfAnswers, given_export};
-ghost use Rattle.implib_c.specs.LibraryWith.{LibraryWithAnswers};
+ghost use Rattle.implib_c.specs.LibraryWith.{LibraryWithAnswers, NamedLibraryAnswers};
 ghost use Rattle.implib_c.specs.Place.{text_before};
 ghost use Rattle.implib_c.specs.Status.{status_number, text_for, with_text};
 ghost use Rattle.implib_c.specs.Version.{version};
@@ -31,6 +31,7 @@ use crate::export::Export;
 use crate::imports::imports_into;
 use crate::library_of::library_of_into;
 use crate::library_with::{OptionsArguments, library_with_into};
+use crate::named::named_library_into;
 use crate::outcome::{Failure, length_of, library_into, members_into, place_of, status_of};
 use crate::place::position_of;
 use crate::status::status_text;
@@ -38,7 +39,7 @@ use crate::warnings::warnings_into;
 use std::alloc::Global;
 
 // `IMPLIB_VERSION` of the header.
-const VERSION: u32 = 9;
+const VERSION: u32 = 10;
 
 // Writes the length and the place of an answer. Gives its status.
 fn tell(answer: &Result<usize, Failure>, length: &mut usize, place: &mut usize) -> u32
@@ -139,6 +140,37 @@ pub extern "C" fn implib_library_with_nonnull(
         dll,
     };
     let answer = library_with_into(alloc, text, arguments, buffer);
+    tell(&answer, length, place)
+}
+
+/// Puts the library that `implib_library_with_nonnull` puts for the same arguments at the beginning of
+/// `buffer`, but with a null descriptor whose symbol is named after the library; for GNU's linker it is the
+/// same library. Gives a status: 0 where it is done.
+#[unsafe(no_mangle)]
+pub extern "C" fn implib_named_library_nonnull(
+    alloc: Global,
+    text: &[u8],
+    dll: &[u8],
+    has_dll: u32,
+    machine: u16,
+    flavor: u32,
+    flags: u32,
+    buffer: &mut [u8],
+    length: &mut usize,
+    place: &mut usize,
+) -> u32
+    ensures { NamedLibraryAnswers text.now
+        (record { machine = machine; flavor = flavor; flags = flags; has_dll = has_dll; dll = dll.now })
+        buffer.old buffer.new length.new place.new result }
+{
+    let arguments = OptionsArguments {
+        machine,
+        flavor,
+        flags,
+        has_dll,
+        dll,
+    };
+    let answer = named_library_into(alloc, text, arguments, buffer);
     tell(&answer, length, place)
 }
 

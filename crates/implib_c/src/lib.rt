@@ -15,6 +15,7 @@ mod imports;
 mod laws;
 mod library_of;
 mod library_with;
+mod named;
 mod outcome;
 mod place;
 mod status;

@@ -663,7 +663,7 @@ fn delayed_imports_have_a_library(rt: HostRuntime) -> Result<(), Fail> {
 
 #[test]
 fn the_version_is_that_of_the_header(rt: HostRuntime) -> Result<(), Fail> {
-    assert_eq!(rt; implib_version(), 9);
+    assert_eq!(rt; implib_version(), 10);
     Ok(())
 }
 
