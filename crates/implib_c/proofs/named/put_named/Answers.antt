@@ -10,7 +10,7 @@ failure_in-requires c = named_within c.args.text.now (library_options_view c.arg
 pub returns-in-Ok : goal.returns-in-Ok
 returns-in-Ok c =
     puts_named c.args.text.now (library_options_view c.args.options.now) c.args.buffer.now c.in-Ok.members c.in-Ok.ensures.made
-    c.pack_into.new.buffer c.pack_into.result (rw (c.kind_for.ensures, c.len.ensures) at c.pack_into.ensures)
+    c.pack_into.new.buffer c.pack_into.result (rw (c.kind_for-kind.ensures, c.len.ensures) at c.pack_into.ensures)
 
 pub returns-in-Err : goal.returns-in-Err
 returns-in-Err c =
