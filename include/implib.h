@@ -62,7 +62,7 @@ extern "C" {
 
 /* The version of this header, which grows with every change of what it declares or says. implib_version()
  * gives that of the library. */
-#define IMPLIB_VERSION 9
+#define IMPLIB_VERSION 10
 uint32_t implib_version(void);
 
 /* What a call answers. New statuses get new numbers. Those of faults of the input are 16 to 39. */
@@ -146,6 +146,10 @@ enum implib_status {
 #define IMPLIB_KEEP_DECORATED 8u        /* --lib: on I386 a name with an `@` is decorated already */
 #define IMPLIB_DELAYED 16u              /* -y: of implib_library_with and implib_write alone, for GNU's linker: the
                                          * DLL is loaded at the first call of one of its functions */
+#define IMPLIB_NULL_NAMED 32u           /* of implib_library_with and implib_write alone, without IMPLIB_DELAYED: for
+                                         * Microsoft's linkers the null descriptor's symbol is
+                                         * __NULL_IMPORT_DESCRIPTOR_NAME, by the library's name without .dll or .exe, so
+                                         * that whole archives can be linked together; for GNU's of no effect */
 
 /*
  * For which machine, linker and DLL a library is made.
@@ -524,6 +528,10 @@ uint32_t implib_delayed_library_nonnull(const uint8_t *text, size_t text_length,
                                         size_t dll_length, uint32_t has_dll, uint16_t machine, uint32_t flavor,
                                         uint32_t flags, uint8_t *buffer, size_t buffer_length, size_t *length,
                                         size_t *place);
+uint32_t implib_named_library_nonnull(const uint8_t *text, size_t text_length, const uint8_t *dll,
+                                      size_t dll_length, uint32_t has_dll, uint16_t machine, uint32_t flavor,
+                                      uint32_t flags, uint8_t *buffer, size_t buffer_length, size_t *length,
+                                      size_t *place);
 uint32_t implib_library_of_nonnull(const struct implib_export *exports, size_t count, const uint8_t *dll,
                                    size_t dll_length, uint32_t has_dll, uint16_t machine, uint32_t flavor,
                                    uint32_t flags, uint8_t *buffer, size_t buffer_length, size_t *length,
@@ -585,6 +593,12 @@ static inline uint32_t implib_library_with(const struct implib_options *options,
                                               all.dll != NULL, all.machine, all.flavor, all.flags - IMPLIB_DELAYED,
                                               buffer_length == 0 ? &no_buffer : buffer, buffer_length, own_length,
                                               own_place);
+    if ((all.flags & IMPLIB_NULL_NAMED) != 0)
+        return implib_named_library_nonnull(text_length == 0 ? &no_text : text, text_length,
+                                            all.dll_length == 0 ? &no_dll : all.dll, all.dll_length, all.dll != NULL,
+                                            all.machine, all.flavor, all.flags - IMPLIB_NULL_NAMED,
+                                            buffer_length == 0 ? &no_buffer : buffer, buffer_length, own_length,
+                                            own_place);
     return implib_library_with_nonnull(text_length == 0 ? &no_text : text, text_length,
                                        all.dll_length == 0 ? &no_dll : all.dll, all.dll_length, all.dll != NULL,
                                        all.machine, all.flavor, all.flags,

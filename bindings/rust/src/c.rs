@@ -8,7 +8,7 @@ use crate::error::{Error, Fault, Position};
 use crate::{Flavor, MachineType};
 
 /// `IMPLIB_VERSION` of the header that this file was written for.
-pub(crate) const VERSION: u32 = 9;
+pub(crate) const VERSION: u32 = 10;
 
 /// `IMPLIB_STATUS_TEXT_SIZE`: no text of a status is longer, its NUL counted.
 const STATUS_TEXT_SIZE: usize = 32;
@@ -31,6 +31,21 @@ extern "C" {
     ) -> u32;
 
     fn implib_delayed_library_nonnull(
+        text: *const u8,
+        text_length: usize,
+        dll: *const u8,
+        dll_length: usize,
+        has_dll: u32,
+        machine: u16,
+        flavor: u32,
+        flags: u32,
+        buffer: *mut u8,
+        buffer_length: usize,
+        length: *mut usize,
+        place: *mut usize,
+    ) -> u32;
+
+    fn implib_named_library_nonnull(
         text: *const u8,
         text_length: usize,
         dll: *const u8,
@@ -204,6 +219,32 @@ pub(crate) fn delayed(text: &[u8], machine: u16, dll: Option<&[u8]>, buffer: &mu
             has_dll,
             machine,
             Flavor::Gnu as u32,
+            0,
+            buffer.as_mut_ptr(),
+            buffer.len(),
+            &mut length,
+            &mut place,
+        )
+    };
+    (status, length, place)
+}
+
+/// Puts the library of a text, for Microsoft's linkers, whose null descriptor is named after it at the beginning of
+/// the buffer: the status, the length and the place, an offset in the text.
+pub(crate) fn named(text: &[u8], machine: u16, dll: Option<&[u8]>, buffer: &mut [u8]) -> (u32, usize, usize) {
+    let (mut length, mut place) = (0, 0);
+    let has_dll = u32::from(dll.is_some());
+    let dll = dll.unwrap_or(&[]);
+    // SAFETY: as in `delayed`, whose arguments these are.
+    let status = unsafe {
+        implib_named_library_nonnull(
+            text.as_ptr(),
+            text.len(),
+            dll.as_ptr(),
+            dll.len(),
+            has_dll,
+            machine,
+            Flavor::Msvc as u32,
             0,
             buffer.as_mut_ptr(),
             buffer.len(),

@@ -18,10 +18,17 @@ const BUFFER_TOO_SMALL: u32 = 1;
 ///
 /// The first fault of the text; a fault of an export has the position of its name.
 pub fn library(def: &str, machine: MachineType, dll: Option<&str>) -> Result<Vec<u8>, Error> {
+    library_by(def, |buffer| c::delayed(def.as_bytes(), machine as u16, dll.map(str::as_bytes), buffer))
+}
+
+/// What a call puts into a buffer of its length, which a first call with none tells.
+pub(crate) fn library_by(
+    def: &str,
+    call: impl Fn(&mut [u8]) -> (u32, usize, usize),
+) -> Result<Vec<u8>, Error> {
     if c::version() != c::VERSION {
         return Err(Error::new(Fault::OtherVersion));
     }
-    let call = |buffer: &mut [u8]| c::delayed(def.as_bytes(), machine as u16, dll.map(str::as_bytes), buffer);
     let length = match call(&mut []) {
         (SUCCESS | BUFFER_TOO_SMALL, length, _) => length,
         (status, _, place) => return Err(error(def, status, place)),

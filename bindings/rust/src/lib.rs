@@ -2,7 +2,8 @@
 //!
 //! The interface is that of the crate `implib` 0.4.0. The libraries are made by the library for C of the project
 //! `implib` in Rattle, which is proved to make what its documents say; where that differs from the crate of this
-//! name (`docs/DIFFERENCES.md`), its rule holds. [`dll`] and [`delay`], which that crate lacks, read what a DLL exports, and make libraries of delayed imports. `docs/CALLING.md`, "From Rust", says how it is linked.
+//! name (`docs/DIFFERENCES.md`), its rule holds. [`dll`], [`delay`] and [`named`], which that crate lacks, read what a DLL exports, and make libraries of delayed
+//! imports, and with a null descriptor of their own name. `docs/CALLING.md`, "From Rust", says how it is linked.
 //!
 //! ```
 //! use implib::{Flavor, ImportLibrary, MachineType};
@@ -21,6 +22,7 @@ pub mod def;
 pub mod delay;
 pub mod dll;
 mod error;
+pub mod named;
 mod read;
 
 pub use crate::def::{ModuleDef, ShortExport};

@@ -15,7 +15,7 @@ ghost use Rattle.implib_c_calls.specs.Given.{length_given, place_given, status_g
 ghost use Rattle.implib_c_calls.specs.ImportsAnswer.{ImportsAnswers};
 ghost use Rattle.implib_c_calls.specs.Library.{LibraryAnswers};
 ghost use Rattle.implib_c_calls.specs.LibraryOf.{LibraryOfAnswers, given_export};
-ghost use Rattle.implib_c_calls.specs.LibraryWith.{LibraryWithAnswers};
+ghost use Rattle.implib_c_calls.specs.LibraryWith.{LibraryWithAnswers, NamedLibraryAnswers};
 ghost use Rattle.implib_c_calls.specs.Place.{text_before};
 ghost use Rattle.implib_c_calls.specs.Status.{status_number, text_for, with_text};
 ghost use Rattle.implib_c_calls.specs.Version.{version};
@@ -31,6 +31,7 @@ use implib_c_calls::export::Export;
 use implib_c_calls::imports::imports_into;
 use implib_c_calls::library_of::library_of_into;
 use implib_c_calls::library_with::{OptionsArguments, library_with_into};
+use implib_c_calls::named::named_library_into;
 use implib_c_calls::outcome::{
     Failure, length_of, library_into, members_into, place_of, status_of,
 };
@@ -139,6 +140,37 @@ pub extern "C" fn implib_library_with_nonnull(
         dll,
     };
     let answer = library_with_into(alloc, text, arguments, buffer);
+    tell(&answer, length, place)
+}
+
+/// Puts the library that `implib_library_with_nonnull` puts for the same arguments at the beginning of
+/// `buffer`, but with a null descriptor whose symbol is named after the library; for GNU's linker it is the
+/// same library. Gives a status: 0 where it is done.
+#[unsafe(no_mangle)]
+pub extern "C" fn implib_named_library_nonnull(
+    alloc: Global,
+    text: &[u8],
+    dll: &[u8],
+    has_dll: u32,
+    machine: u16,
+    flavor: u32,
+    flags: u32,
+    buffer: &mut [u8],
+    length: &mut usize,
+    place: &mut usize,
+) -> u32
+    ensures { NamedLibraryAnswers text.now
+        (record { machine = machine; flavor = flavor; flags = flags; has_dll = has_dll; dll = dll.now })
+        buffer.old buffer.new length.new place.new result }
+{
+    let arguments = OptionsArguments {
+        machine,
+        flavor,
+        flags,
+        has_dll,
+        dll,
+    };
+    let answer = named_library_into(alloc, text, arguments, buffer);
     tell(&answer, length, place)
 }
 

@@ -23,6 +23,7 @@ use Rattle.implib_rules.specs.Library.{IsRefusalOfMembers, IsSyntaxErrorAt, defi
 use Rattle.implib_rules.specs.Options.{LibraryOptionsView}
 use Rattle.implib_rules.specs.Plain.{beginning, step_of}
 use Rattle.implib_rules.specs.Places.{IsAtExport}
+use Rattle.implib_null_descriptor.specs.Libraries.{IsRefusalOfNamed}
 use Rattle.implib_c_calls.specs.GivenWith.{IsWithin}
 use Rattle.implib_c_calls.specs.LibraryWith.{mark_length}
 
@@ -141,6 +142,14 @@ refusal_within text options refusal.NoName is = tt
 refusal_within text options (refusal.Members fault position) is = export_within (definition_text text) (export_index (cause_of fault)) position is.1
 refusal_within text options (refusal.Archive fault) is = tt
 refusal_within text options refusal.OutOfMemory is = tt
+
+-- and so is one of members with a named null descriptor
+pub named_within : (text : List ℕ) (options : LibraryOptionsView) (why : Refusal) → IsRefusalOfNamed text options why → IsWithin text why
+named_within text options why is =
+    elim is [
+      inl refused ↦ refusal_within text options why refused
+    | inr long ↦ subst (IsWithin text) (sym long.is) (export_within (definition_text text) None long.position long.at)
+    ]
 
 -- an offset in the text has 64 bits, where the text's length has
 mark_fits : (text : List ℕ) (offset : ℕ) (marked : Bool) → length text < 2 ^ 64 → offset ≤ length (if marked then drop 3 text else text) → (if marked then 3 else 0) + offset < 2 ^ 64

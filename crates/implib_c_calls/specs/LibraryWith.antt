@@ -13,6 +13,7 @@ use Rattle.implib_rules.specs.declared.library.Refusal.TheVariants as refusal
 use Rattle.implib_rules.specs.Library.{IsLibrary, IsRefusalOfBytes}
 use Rattle.implib_rules.specs.Linked.{NamingView}
 use Rattle.implib_rules.specs.Options.{LibraryOptionsView}
+use Rattle.implib_null_descriptor.specs.Libraries.{IsNamedLibrary, IsRefusalOfNamedLibrary}
 use Rattle.implib_c_calls.specs.declared.library_with.OptionsArguments.{OptionsArguments}
 use Rattle.implib_c_calls.specs.declared.status.Status.{Status}
 use Rattle.implib_c_calls.specs.declared.status.Status.TheVariants as status
@@ -91,15 +92,18 @@ pub data EndingWith : Type 0 where
   Refused : Refusal → EndingWith
   NoOptions : OptionFault → EndingWith
 
--- when a call ends so, for a buffer of this many bytes
+-- When a call ends so, for a buffer of this many bytes, by what the library of options is, and why there is none.
+abbrev pub EndsAs : (LibraryOptionsView → List ℕ → Type 0) → (LibraryOptionsView → Refusal → Type 0) → GivenOptions → ℕ → EndingWith → Type 0
+EndsAs IsMade IsRefused given room (Made file) =
+    WithOptions given (λ options. IsMade options file × (length file ≤ room))
+EndsAs IsMade IsRefused given room (TooLong file) =
+    WithOptions given (λ options. IsMade options file × (room < length file))
+EndsAs IsMade IsRefused given room (Refused refusal) = WithOptions given (λ options. IsRefused options refusal)
+EndsAs IsMade IsRefused given room (NoOptions fault) = IsOptionFault given fault
+
+-- when a call for the program's library ends so
 abbrev pub EndsWith : List ℕ → GivenOptions → ℕ → EndingWith → Type 0
-EndsWith text given room (Made file) =
-    WithOptions given (λ options. IsLibrary text options file × (length file ≤ room))
-EndsWith text given room (TooLong file) =
-    WithOptions given (λ options. IsLibrary text options file × (room < length file))
-EndsWith text given room (Refused refusal) =
-    WithOptions given (λ options. IsRefusalOfBytes text options refusal)
-EndsWith text given room (NoOptions fault) = IsOptionFault given fault
+EndsWith text = EndsAs (IsLibrary text) (IsRefusalOfBytes text)
 
 -- the status of options that are none
 abbrev pub option_status : OptionFault → Status
@@ -165,12 +169,20 @@ buffer_with old (TooLong file) = old
 buffer_with old (Refused refusal) = old
 buffer_with old (NoOptions fault) = old
 
--- the call's ending, with all that it leaves
-pub record LibraryWithAnswers (text : List ℕ) (given : GivenOptions) (old new : List ℕ)
-    (length_left place_left : ℕ) (status_left : ℕ) : Type 0 where
+-- a call's ending, with all that it leaves
+pub record AnswersAs (IsMade : LibraryOptionsView → List ℕ → Type 0) (IsRefused : LibraryOptionsView → Refusal → Type 0)
+    (text : List ℕ) (given : GivenOptions) (old new : List ℕ) (length_left place_left : ℕ) (status_left : ℕ) : Type 0 where
   pub ending : EndingWith
-  pub ends : EndsWith text given (length old) ending
+  pub ends : EndsAs IsMade IsRefused given (length old) ending
   pub status_is : status_left ≡ status_number (status_with ending)
   pub length_is : length_left ≡ length_with ending
   pub place_is : place_left ≡ place_with text ending
   pub buffer_is : new ≡ buffer_with old ending
+
+-- that of a call for the library that the program makes
+abbrev pub LibraryWithAnswers : List ℕ → GivenOptions → List ℕ → List ℕ → ℕ → ℕ → ℕ → Type 0
+LibraryWithAnswers text = AnswersAs (IsLibrary text) (IsRefusalOfBytes text) text
+
+-- that of a call for the same library with a null descriptor that is named after it (`implib_null_descriptor`)
+abbrev pub NamedLibraryAnswers : List ℕ → GivenOptions → List ℕ → List ℕ → ℕ → ℕ → ℕ → Type 0
+NamedLibraryAnswers text = AnswersAs (IsNamedLibrary text) (IsRefusalOfNamedLibrary text) text

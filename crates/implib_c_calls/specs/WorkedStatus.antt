@@ -167,7 +167,7 @@ pub record WorkedArguments : Type 0 where
   pub export_as_keep_decorated : naming_numbered 12 ≡ Some (record { is_plain = false; kills_at = false; exports_as = true; keeps_decorated = true })
   pub each_flag : naming_numbered 15 ≡ Some (record { is_plain = true; kills_at = true; exports_as = true; keeps_decorated = true })
   pub unknown_flag : naming_numbered 16 ≡ None
-  pub version_is : version ≡ 9
+  pub version_is : version ≡ 10
 
 -- the number with which a call for delayed imports ends so, and the place that it gives in a text with a byte order mark
 abbrev pub number_delayed : EndingDelayed → ℕ

@@ -15,6 +15,7 @@ pub mod imports;
 pub mod laws;
 pub mod library_of;
 pub mod library_with;
+pub mod named;
 pub mod outcome;
 pub mod place;
 pub mod status;

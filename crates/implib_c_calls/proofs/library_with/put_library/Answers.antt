@@ -1,5 +1,3 @@
-use Rattle.std.proofs.Common.{refl}
-use Rattle.implib_rules.specs.Library.{kind_of}
 use Rattle.implib_rules.specs.Options.{library_options_view}
 use Rattle.implib_c_calls.proofs.AnswerWith.{puts_nothing, puts_packed}
 use Rattle.implib_c_calls.proofs.Within.{refusal_within}
@@ -11,7 +9,7 @@ failure_in-requires c = refusal_within c.args.text.now (library_options_view c.a
 pub returns-in-Ok : goal.returns-in-Ok
 returns-in-Ok c =
     puts_packed c.args.text.now (library_options_view c.args.options.now) c.args.buffer.now c.in-Ok.members c.in-Ok.ensures.made
-    (kind_of c.args.options.now.flavor c.in-Ok.members) refl c.pack_for.new.buffer c.pack_for.result c.pack_for.ensures
+    c.pack_for.new.buffer c.pack_for.result c.pack_for.ensures
 
 pub returns-in-Err : goal.returns-in-Err
 returns-in-Err c =

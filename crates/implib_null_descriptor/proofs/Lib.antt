@@ -1,0 +1,3 @@
+pub mod Headed
+pub mod Symbols
+pub mod Worked

@@ -1,0 +1,4 @@
+pub mod Libraries
+pub mod Named
+pub mod Spots
+pub mod Worked
