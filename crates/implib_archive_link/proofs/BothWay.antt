@@ -37,7 +37,7 @@ both_arrive machine libraries own taken arranged bases objects archive given som
     closed_links_of_both machine libraries own taken arranged bases objects archive
     (record { closed = closed; admissible = linked.admissible; lookups = linked.lookups; addresses = linked.addresses; follows = linked.follows }) in
     let inputs : List FlavorInput = inputs_of_both machine arranged own taken in
-    let made : AllByRecursion (IsMadeFor machine) inputs = both_made machine libraries arranged linked.order archive (wanted_for machine own taken) in
+    let made : AllByRecursion (IsMadeFor machine) inputs = both_made machine libraries archive arranged linked.order (wanted_for machine own taken) in
     let own_tables : Tables = tables_at machine bases objects (map (block_of_flavor machine) inputs) in
     let tables : AreTables machine own_tables = program_tables machine OfMember bases inputs objects made links.program in
     record {

@@ -131,9 +131,6 @@ none_above header low (h ∷ headers) (m ∷ members) less rising =
     none_of n [] rest differ = refl
     none_of n (s ∷ symbols) rest differ = (let other : (n == header) ≡ false = other_header n header differ in rw other (none_of n symbols rest differ))
 
-same_read : (x y : Read) → ◌≡◌ {A = Option Read} (Some x) (Some y) → x ≡ y
-same_read x y is = cc
-
 -- The members after headers that rise, behind entries of headers that are below them.
 members_after : (bytes : List ℕ) (before : List (List ℕ × ℕ)) (low : ℕ) (headers : List ℕ) (members : List MemberView) → AreRising low headers → AreBelow low before →
     entries_in bytes ≡ before ++ entries_by headers members → map (member_at Gnu bytes) headers ≡ map (λ m. Some (read_view m)) members → filter_map (member_after bytes) headers ≡ members

@@ -55,10 +55,6 @@ pub record CanLink (machine : MachineType) (ending : Ending) (k : FlavorBlock) :
 abbrev pub AllSuit : Ending → List FlavorBlock → Type 0
 AllSuit ending blocks = AllByRecursion (λ k. Suits ending k.flavor) blocks
 
-pub all_suit : (machine : MachineType) (ending : Ending) (blocks : List FlavorBlock) → AllByRecursion (CanLink machine ending) blocks → AllSuit ending blocks
-all_suit machine ending [] fit = tt
-all_suit machine ending (k ∷ blocks) fit = (fit.0.suits, all_suit machine ending blocks fit.1)
-
 abbrev pub ends_one : MachineType → Bases → FlavorBlock → Bases
 ends_one machine b k = ends_in machine k.flavor k.dll b k.exports
 

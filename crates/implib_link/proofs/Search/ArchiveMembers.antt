@@ -9,7 +9,7 @@ use Rattle.implib.specs.Members.Gnu.{archive_symbols, export_object, head_object
 use Rattle.implib.specs.Members.GnuMembers.{alias_specs, gnu_specs, numbered_specs, numbered_specs_of}
 use Rattle.implib.specs.Members.WeakExternal.{weak_spec, weak_object}
 use Rattle.implib.specs.Import.{imp_symbol, is_alias}
-use Rattle.implib.specs.Formats.Layout.{encoded_size, entries_of, name_text, object_of}
+use Rattle.implib.specs.Formats.Layout.{encoded_size, object_of}
 use Rattle.implib.specs.Members.MemberSpec.{MemberSpec, MemberView}
 use Rattle.implib.specs.Members.Members.{is_too_long}
 use Rattle.implib.specs.Formats.Object.{object_in}
@@ -20,7 +20,6 @@ use Rattle.implib.proofs.Formats.ObjectReading.{object_in-encoded}
 use Rattle.implib.proofs.Link.Placement.{export, head, tail}
 use Rattle.implib.proofs.Link.Ranges.{Among, among_first, among_later}
 use Rattle.implib_link.specs.Search.Archives.{IsArchive, IsLibrary, Library, archive_of, exports_of, has_weak, is_weak, is_weak_entry, symbols_of_export}
-use Rattle.implib_link.specs.Gnu.Program.{claimed_names}
 use Rattle.implib_link.specs.Search.Search.{first_listed, is_listed_for}
 use Rattle.implib_link.proofs.Search.ArchiveGroups.{Group, IsWithin, Kind, OfExport, OfHead, OfTail, all_groups, archive_groups, export_group, export_group_held, export_of, first_in_group, first_is, group_kind, group_of_first, head_group, head_group_held, head_of, symbols_groups, symbols_of_groups, tail_group, tail_group_held, tail_of, weak_address_of, weak_of}
 use Rattle.implib_link.proofs.Search.Search.{address_listed, listed_export, listed_head, listed_tail, numbered_in, only_one}
@@ -227,14 +226,6 @@ module _ (machine : MachineType) where
         let short : encoded_size (weak_object machine e.name e.alias_target) ≤ 0xFFFF_FFFF =
         short_enough p (none_long p (gnu_specs machine dll (exports_of l)) there (not_long l.definition machine l.members [] made)) in
         object_in-encoded (weak_object machine e.name e.alias_target) (Fits-weak_object machine e.name e.alias_target good.name good.alias_target) (omega arith)
-
-  pub claimed_weak : (weak target : List ℕ) → claimed_names (object_of (weak_object machine weak target)) ≡ weak ∷ []
-  unfolding weak_object object_of entries_of name_text
-  claimed_weak weak target = refl
-
-  pub weak_is_weak : (m : MemberView) (weak target : List ℕ) → object_in m.bytes ≡ Some (object_of (weak_object machine weak target)) → is_weak m ≡ true
-  unfolding is_weak weak_object object_of entries_of name_text
-  weak_is_weak m weak target read = ap has_weak read
 
   pub tail_not_weak : (m : MemberView) (dll : NamesOfDll) → object_in m.bytes ≡ Some (tail machine dll) → is_weak m ≡ false
   unfolding is_weak tail_object

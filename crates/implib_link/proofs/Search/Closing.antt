@@ -318,7 +318,7 @@ module _ (reads : List ℕ → Option Object) (archive : List MemberView) where
           as_name reads f name taken by.member by.object (there by.member by.held) by.taken by.among
 
       -- a name of an object of the program is one of a given object, or of a member that is taken
-      pub from_sources : (f : Object → List (List ℕ)) → f null_descriptor ≡ [] → (name : List ℕ) → Among name (flat_map f objects) → Among name (flat_map f (own ++ objects_as reads taken))
+      from_sources : (f : Object → List (List ℕ)) → f null_descriptor ≡ [] → (name : List ℕ) → Among name (flat_map f objects) → Among name (flat_map f (own ++ objects_as reads taken))
       from_sources f nothing name named =
           let by = among_flat_map f name objects named in
           subst (Among name) (sym (flat_map-append f own (objects_as reads taken)))
@@ -354,7 +354,7 @@ module _ (reads : List ℕ → Option Object) (archive : List MemberView) where
           ]
 
       -- and the other way round
-      pub into_objects : (f : Object → List (List ℕ)) (name : List ℕ) → Among name (flat_map f (own ++ objects_as reads taken)) → Among name (flat_map f objects)
+      into_objects : (f : Object → List (List ℕ)) (name : List ℕ) → Among name (flat_map f (own ++ objects_as reads taken)) → Among name (flat_map f objects)
       into_objects f name named =
           elim (among_either name (flat_map f own) (flat_map f (objects_as reads taken)) (subst (Among name) (flat_map-append f own (objects_as reads taken)) named)) [
             | inl given ↦
@@ -363,17 +363,22 @@ module _ (reads : List ℕ → Option Object) (archive : List MemberView) where
             | inr member ↦ member_object f name (name_as reads f name taken member)
           ]
 
+      -- a name that the program leaves is left by what is given and taken
+      pub still_unresolved : (name : List ℕ) → Contains (unresolved objects) name → Among name (unresolved (own ++ objects_as reads taken))
+      unfolding undefined_in
+      still_unresolved name left =
+          let parts = unresolved_parts objects name (contains_among name (unresolved objects) left) in
+          unresolved_from (own ++ objects_as reads taken) name (from_sources undefined_in refl name parts.0) (λ claimed. parts.1 (into_objects claimed_names name claimed))
+
       -- no name is left that the archive lists
       pub none_left : TakesIntoAs reads archive own taken → (name : List ℕ) → Contains (unresolved objects) name → Contains (listed_in archive) name → ⊥
-      unfolding undefined_in
       none_left takes name left listed =
-          let parts = unresolved_parts objects name (contains_among name (unresolved objects) left) in
           let at = first_of name archive (contains_among name (listed_in archive) listed) in
-          let none : Among name (flat_map claimed_names (own ++ objects_as reads taken)) → ⊥ = λ claimed. parts.1 (into_objects claimed_names name claimed) in
+          let named : Among name (unresolved (own ++ objects_as reads taken)) = still_unresolved name left in
           takes.ended name at.0 (record {
-            named = among_contains name (unresolved (own ++ objects_as reads taken)) (unresolved_from (own ++ objects_as reads taken) name (from_sources undefined_in refl name parts.0) none);
+            named = among_contains name (unresolved (own ++ objects_as reads taken)) named;
             listed = at.1;
-            new = λ has. none (subst (Among name) (sym (flat_map-append claimed_names own (objects_as reads taken)))
+            new = λ has. (unresolved_parts (own ++ objects_as reads taken) name named).1 (subst (Among name) (sym (flat_map-append claimed_names own (objects_as reads taken)))
                 (among_back name (flat_map claimed_names own) (flat_map claimed_names (objects_as reads taken))
                 (listed_claimed name at.0 (contains_among at.0 taken has) (listed_is archive name at.0 at.1).1)));
           })

@@ -22,7 +22,8 @@ use Rattle.implib_link.specs.Search.Archives.{IsArchive, Library, NamesNoHeadOrT
 use Rattle.implib_link.specs.Search.Search.{IsTakenInTurn, NamesNoHeadOrTail, Takes, exports_wanted, linked_if_any, left_as, AreTakenInTurnAs}
 use Rattle.implib_link.specs.Gnu.Program.{HaveSame}
 use Rattle.implib_link.proofs.Search.ArchiveMembers.{export_not_weak, export_object_is, head_not_weak, head_object_is, tail_not_weak, tail_object_is}
-use Rattle.implib_link.proofs.Search.Archives.{input_linked, libraries_taken}
+use Rattle.implib_link.proofs.Search.Archives.{libraries_taken}
+use Rattle.implib_link.proofs.Search.Arranged.{input_linked}
 use Rattle.implib_link.proofs.Search.Search.{IsHead, IsTail, Kind, Needed, OfAnExport, kind, linked_if_needed, needed_if_linked, no_alias, numbers_are_wanted}
 use Rattle.implib_link.proofs.Search.Lists.{all_from, all_listed, contains_among, listed_is, listed_mapped}
 use Rattle.implib.specs.LibraryName.{linked_name, names_for}

@@ -30,8 +30,7 @@ use Rattle.implib_link.specs.Search.Exists.{export_room, library_room, tables_en
 use Rattle.implib_link.specs.Search.Search.{exports_wanted, is_wanted}
 use Rattle.implib_link.proofs.Gnu.Blocks.{objects_behind}
 use Rattle.implib_link.proofs.Gnu.Packed.{end_kept}
-use Rattle.implib_link.proofs.Search.Archives.{inputs_made}
-use Rattle.implib_link.proofs.Search.Arranged.{chosen_are}
+use Rattle.implib_link.proofs.Search.Arranged.{chosen_are, inputs_made}
 use Rattle.implib.specs.LibraryName.{NamesOfDll, names_for}
 use Rattle.implib.specs.declared.flavor.Flavor.TheVariants.{Gnu}
 

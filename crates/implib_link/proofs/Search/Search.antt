@@ -1,9 +1,9 @@
 -- What a linker takes of the members for GNU's linker.
-use Rattle.std.proofs.Common.{◌≡◌, ℕ, zero, suc, ◌+◌, ◌<◌, true, List, [], ◌∷◌, ◌++◌, Option, Some, None, refl, ap, sym, ◌∙◌, subst, inl, inr, ◌⊎◌, arith}
+use Rattle.std.proofs.Common.{◌≡◌, ℕ, zero, suc, ◌+◌, ◌<◌, Bool, length, true, List, [], ◌∷◌, ◌++◌, Option, Some, None, refl, ap, sym, ◌∙◌, subst, inl, inr, ◌⊎◌, arith}
 use Rattle.std.specs.Prelude.{bytes_eq, slice_get, slice_index}
-use Rattle.std.specs.List.{IsDistinct, cons_option, filter_map, list_any}
+use Rattle.std.specs.List.{IsDistinct, cons_option, filter, filter_map, list_any}
 use Rattle.std.proofs.lemmas.Bool.{cases_Bool, true≢false}
-use Rattle.std.proofs.lemmas.List.{append_cancel_left}
+use Rattle.std.proofs.lemmas.List.{append_assoc, append_cancel_left, length-append}
 use Rattle.implib.specs.declared.flavor.Flavor.TheVariants.{Gnu}
 use Rattle.implib.specs.declared.machine.MachineType.{MachineType}
 use Rattle.implib.specs.Definition.{DefinitionView, ExportView}
@@ -19,7 +19,7 @@ use Rattle.implib.specs.Renaming.{renamed}
 use Rattle.implib.proofs.Link.LinkedMembers.{among_map, among_reverse}
 use Rattle.implib.proofs.Link.Placement.{export, head, tail}
 use Rattle.implib.proofs.Link.Ranges.{Among, among_back, among_first, among_front, among_later}
-use Rattle.implib_link.specs.Search.Search.{is_wanted, undefined_in, linked_if_any, numbers_wanted}
+use Rattle.implib_link.specs.Search.Search.{is_wanted, undefined_in, linked_if_any, numbers_passing}
 use Rattle.implib_link.proofs.Search.Lists.{all_listed, among_any, among_either, among_mapped, among_reversed, any_among, one_member}
 use Rattle.implib.specs.LibraryName.{NamesOfDll, linked_name, names_for}
 
@@ -79,7 +79,7 @@ name_differs n m same below = omega arith
 -- The numbers of wanted exports.
 
 pub number_wanted : (wanted : List (List ℕ)) (exports : List ExportView) (start n : ℕ) (e : ExportView) → slice_get exports n ≡ Some e → is_wanted wanted e ≡ true →
-    Among (start + n) (numbers_wanted wanted start exports)
+    Among (start + n) (numbers_passing (is_wanted wanted) start exports)
 unfolding Among
 number_wanted wanted [] start n e is want = cc
 number_wanted wanted (x ∷ exports) start zero e is want =
@@ -88,18 +88,18 @@ number_wanted wanted (x ∷ exports) start zero e is want =
     rw (subst (λ y. is_wanted wanted y ≡ true) same want) (inl position)
 number_wanted wanted (x ∷ exports) start (suc n) e is want =
     let position : start + 1 + n ≡ start + suc n = omega arith in
-    let later : Among (start + suc n) (numbers_wanted wanted (start + 1) exports) =
-    subst (λ n. Among n (numbers_wanted wanted (start + 1) exports)) position (number_wanted wanted exports (start + 1) n e is want) in
+    let later : Among (start + suc n) (numbers_passing (is_wanted wanted) (start + 1) exports) =
+    subst (λ n. Among n (numbers_passing (is_wanted wanted) (start + 1) exports)) position (number_wanted wanted exports (start + 1) n e is want) in
     elim (cases_Bool (is_wanted wanted x)) [ inl here ↦ rw here (inr later) | inr none ↦ rw none later ]
 
-pub wanted_number : (wanted : List (List ℕ)) (exports : List ExportView) (start k : ℕ) → Among k (numbers_wanted wanted start exports) →
+pub wanted_number : (wanted : List (List ℕ)) (exports : List ExportView) (start k : ℕ) → Among k (numbers_passing (is_wanted wanted) start exports) →
     (n : ℕ) × (e : ExportView) × (k ≡ start + n) × (slice_get exports n ≡ Some e) × (is_wanted wanted e ≡ true)
 unfolding Among
 wanted_number wanted [] start k held = absurd held
 wanted_number wanted (x ∷ exports) start k held =
     elim (cases_Bool (is_wanted wanted x)) [
       | inl here ↦
-          let either : Among k (start ∷ numbers_wanted wanted (start + 1) exports) = rw here at held in
+          let either : Among k (start ∷ numbers_passing (is_wanted wanted) (start + 1) exports) = rw here at held in
           elim either [
             | inl is ↦ let position : start ≡ start + 0 = omega arith in (0, x, is ∙ position, refl, here)
             | inr behind ↦ next (wanted_number wanted exports (start + 1) k behind)
@@ -110,6 +110,29 @@ wanted_number wanted (x ∷ exports) start k held =
     next : ((n : ℕ) × (e : ExportView) × (k ≡ start + 1 + n) × (slice_get exports n ≡ Some e) × (is_wanted wanted e ≡ true)) →
         (n : ℕ) × (e : ExportView) × (k ≡ start + n) × (slice_get (x ∷ exports) n ≡ Some e) × (is_wanted wanted e ≡ true)
     next later = let position : start + 1 + later.0 ≡ start + suc later.0 = omega arith in (suc later.0, later.1, later.2 ∙ position, later.3, later.4)
+
+pub at_end : {X : Type 0} (front : List X) (x : X) (behind : List X) → slice_get (front ++ x ∷ behind) (length front) ≡ Some x
+at_end [] x behind = refl
+at_end (y ∷ front) x behind = at_end front x behind
+
+pub passing_chosen : (test : ExportView → Bool) (front exports : List ExportView) → filter_map (slice_get (front ++ exports)) (numbers_passing test (length front) exports) ≡ filter test exports
+passing_chosen test front [] = refl
+passing_chosen test front (e ∷ exports) =
+    let later : filter_map (slice_get (front ++ e ∷ exports)) (numbers_passing test (length front + 1) exports) ≡ filter test exports =
+    subst (λ (all : List ExportView). filter_map (slice_get all) (numbers_passing test (length front + 1) exports) ≡ filter test exports) (append_assoc front (e ∷ []) exports)
+    (subst (λ n. filter_map (slice_get ((front ++ e ∷ []) ++ exports)) (numbers_passing test n exports) ≡ filter test exports) (length-append front (e ∷ [])) (passing_chosen test (front ++ e ∷ []) exports)) in
+    elim (cases_Bool (test e)) [
+      | inl is ↦ rw (is, at_end front e exports) (ap (λ es. e ∷ es) later)
+      | inr is ↦ rw is later
+    ]
+
+pub some_export : (test : ExportView → Bool) (number : ℕ) (exports : List ExportView) (n : ℕ) (chosen : List ℕ) → numbers_passing test number exports ≡ n ∷ chosen → (e : ExportView) × (Among e exports × (test e ≡ true))
+some_export test number [] n chosen is = cc
+some_export test number (e ∷ exports) n chosen is =
+    elim (cases_Bool (test e)) [
+      | inl passes ↦ (e, (among_first e exports, passes))
+      | inr fails ↦ let later = some_export test (number + 1) exports n chosen (rw fails at is) in (later.0, (among_later later.0 e exports later.1.0, later.1.1))
+    ]
 
 -- a name of some names is wanted
 pub wants : (wanted names : List (List ℕ)) (name : List ℕ) → Among name names → Among name wanted → list_any (λ n. list_any (bytes_eq n) wanted) names ≡ true
@@ -237,11 +260,6 @@ pub data Needed (machine : MachineType) (dll : NamesOfDll) (exports : List Expor
   TheHead : m ≡ member_of (head_spec machine dll.linked) → AnyWanted exports wanted → Needed machine dll exports wanted m
   AnExport : (x : IsExport machine dll.linked exports m) → is_wanted wanted x.export ≡ true → Needed machine dll exports wanted m
 
-pub any_wanted : (machine : MachineType) (dll : NamesOfDll) (exports : List ExportView) (wanted : List (List ℕ)) (m : MemberView) → Needed machine dll exports wanted m → AnyWanted exports wanted
-any_wanted machine dll exports wanted m (TheTail same any) = any
-any_wanted machine dll exports wanted m (TheHead same any) = any
-any_wanted machine dll exports wanted m (AnExport x want) = record { number = x.number; export = x.export; is = x.is; want = want }
-
 module _ (d : DefinitionView) (machine : MachineType) (members : List MemberView) (made : AreMembersOf d machine Gnu members)
     (distinct : IsDistinct bytes_eq (all_listed members)) where
   abbrev pub public : List ExportView
@@ -304,7 +322,7 @@ pub record AreWanted (exports : List ExportView) (wanted : List (List ℕ)) (cho
   pub only : (k : ℕ) → Among k chosen → (e : ExportView) × (slice_get exports k ≡ Some e) × (is_wanted wanted e ≡ true)
   pub all : (k : ℕ) (e : ExportView) → slice_get exports k ≡ Some e → is_wanted wanted e ≡ true → Among k chosen
 
-pub numbers_are_wanted : (exports : List ExportView) (wanted : List (List ℕ)) → AreWanted exports wanted (numbers_wanted wanted 0 exports)
+pub numbers_are_wanted : (exports : List ExportView) (wanted : List (List ℕ)) → AreWanted exports wanted (numbers_passing (is_wanted wanted) 0 exports)
 numbers_are_wanted exports wanted = record {
   only = λ k held.
       let found = wanted_number wanted exports 0 k held in
@@ -312,13 +330,13 @@ numbers_are_wanted exports wanted = record {
       (found.1, subst (λ n. slice_get exports n ≡ Some found.1) (sym (found.2 ∙ same)) found.3, found.4);
   all = λ k e is want.
       let same : 0 + k ≡ k = omega arith in
-      subst (λ n. Among n (numbers_wanted wanted 0 exports)) same (number_wanted wanted exports 0 k e is want);
+      subst (λ n. Among n (numbers_passing (is_wanted wanted) 0 exports)) same (number_wanted wanted exports 0 k e is want);
 }
 
 abbrev member_specs_linked : MachineType → NamesOfDll → List ExportView → List ℕ → List MemberSpec
 member_specs_linked machine dll exports chosen = head_spec machine dll.linked ∷ (filter_map (numbered_spec machine dll.linked exports) chosen ++ tail_spec machine dll ∷ [])
 
-member_spec_linked : (machine : MachineType) (dll : NamesOfDll) (exports : List ExportView) (chosen : List ℕ) (p : MemberSpec) → Among p (member_specs_linked machine dll exports chosen) →
+pub member_spec_linked : (machine : MachineType) (dll : NamesOfDll) (exports : List ExportView) (chosen : List ℕ) (p : MemberSpec) → Among p (member_specs_linked machine dll exports chosen) →
     (p ≡ head_spec machine dll.linked) ⊎ ((p ≡ tail_spec machine dll) ⊎ Chosen machine dll.linked exports chosen p)
 unfolding Among
 member_spec_linked machine dll exports chosen p (inl e) = inl e

@@ -12,7 +12,7 @@ use Rattle.implib_link.specs.Search.Closed.{AreTakenIntoAs, PullsIntoAs, TakesIn
 use Rattle.implib_link.specs.Search.Search.{first_listed, is_listed_for, objects_as}
 use Rattle.implib_link.specs.Search.Sweeps.{IndexEntry, SweepsTake, entries_at, index_at, index_of, is_due, is_left, members_at, numbers_from, sweeps, swept}
 use Rattle.implib_link.proofs.Gnu.Bounds.{index_below}
-use Rattle.implib_link.proofs.Search.ArchiveGroups.{first_is, found_or_not}
+use Rattle.implib_link.proofs.Search.ArchiveGroups.{first_is}
 use Rattle.implib_link.proofs.Search.Lists.{all_listed, same_member, among_any, among_flat_map, among_listed, among_mapped, any_among, contains_among, distinct_apart, distinct_later}
 
 -- Numbers and members.
