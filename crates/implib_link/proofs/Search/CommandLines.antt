@@ -15,7 +15,7 @@ use Rattle.implib_link.specs.Gnu.Program.{ClaimsNone, HaveSame, claimed_names}
 use Rattle.implib_link.specs.Search.Archives.{IsArchive, Library, archive_of}
 use Rattle.implib_link.specs.Search.Closed.{AreLinkedFor, AreTakenIntoAs, LinksClosed, PullsIntoAs, TakesInto, TakesIntoAs, references_of, unresolved}
 use Rattle.implib_link.specs.Search.Given.{AreGiven}
-use Rattle.implib_link.specs.Search.CommandLines.{AnObject, Archives, AreFirst, AreListedWhole, AreRounds, AreSwept, AreTakenBehind, AreUnclaimedBehind, HaveAll, Input, IsOrdered, IsSwept, LeavesNone, LldSearches, LldSearchesFrom, NoneIsLost, SearchesLibraries, TakesFirst, SearchesCommandLine, SearchesFrom, listed_at, names_left, numbers_but, numbers_in, numbers_of, object_of, objects_given, others_of, given_with}
+use Rattle.implib_link.specs.Search.CommandLines.{AnObject, Archives, AreFirst, AreListedWhole, AreRounds, AreSwept, AreTakenBehind, AreUnclaimedBehind, HaveAll, Input, IsOrdered, IsSwept, LeavesNone, LldSearches, LldSearchesFrom, NoneIsLost, SearchesFor, SearchesLibraries, TakesFirst, SearchesCommandLine, SearchesFrom, listed_at, names_left, numbers_but, numbers_in, numbers_of, object_of, objects_given, others_of, given_with}
 use Rattle.implib_link.specs.Search.Search.{claimed_as, first_listed, is_listed_for, objects_as, undefined_in}
 use Rattle.implib_link.specs.Search.Sweeps.{IndexEntry, index_at, members_at, numbers_from, sweeps, swept}
 use Rattle.implib_link.proofs.Search.ArchiveGroups.{found_or_not}
@@ -766,14 +766,14 @@ first_by_numbers members names taken first name m left held listed =
 
 -- GNU `ld`'s command lines of libraries and of anything else.
 
-module _ (machine : MachineType) (libraries : List Library) (members : List MemberView) (inputs : List Input) (is_given : MemberView → Bool) (taken : List ℕ) (s : SearchesLibraries machine libraries members inputs is_given taken) where
-  pub of_libraries : TakesInto (archive_of libraries) (given_with object_in is_given (objects_given inputs) (members_at members taken)) (others_of is_given (members_at members taken))
-  of_libraries =
-      subst (λ archive. TakesIntoAs object_in archive (given_with object_in is_given (objects_given inputs) (members_at members taken)) (others_of is_given (members_at members taken))) s.libraries_are
-      (taken_as_given object_in members (objects_given inputs) s.whole is_given (members_at members taken) (first_by_numbers members (names_left object_in (objects_given inputs) (members_at members taken)) taken s.first)
+module _ (reads : List ℕ → Option Object) (of_libraries members : List MemberView) (inputs : List Input) (is_given : MemberView → Bool) (taken : List ℕ) (s : SearchesFor reads of_libraries members inputs is_given taken) where
+  pub takes_of_libraries : TakesIntoAs reads of_libraries (given_with reads is_given (objects_given inputs) (members_at members taken)) (others_of is_given (members_at members taken))
+  takes_of_libraries =
+      subst (λ archive. TakesIntoAs reads archive (given_with reads is_given (objects_given inputs) (members_at members taken)) (others_of is_given (members_at members taken))) s.libraries_are
+      (taken_as_given reads members (objects_given inputs) s.whole is_given (members_at members taken) (first_by_numbers members (names_left reads (objects_given inputs) (members_at members taken)) taken s.first)
       (elim s.ordered [
-        | inl ordered ↦ gnu_searches object_in members inputs taken s.first s.unclaimed ordered s.searches
-        | inr complete ↦ gnu_completes object_in members inputs taken s.first s.unclaimed complete s.searches
+        | inl ordered ↦ gnu_searches reads members inputs taken s.first s.unclaimed ordered s.searches
+        | inr complete ↦ gnu_completes reads members inputs taken s.first s.unclaimed complete s.searches
       ]))
 
 pub command_line_closes : (machine : MachineType) (libraries : List Library) (members : List MemberView) (inputs : List Input) (taken : List ℕ) (is_given : MemberView → Bool)
@@ -782,7 +782,7 @@ pub command_line_closes : (machine : MachineType) (libraries : List Library) (me
     AreLinkedFor machine libraries (given_with object_in is_given (objects_given inputs) (members_at members taken)) (others_of is_given (members_at members taken)) arranged bases objects →
     LinksClosed machine libraries (given_with object_in is_given (objects_given inputs) (members_at members taken)) (others_of is_given (members_at members taken)) arranged bases objects
 command_line_closes machine libraries members inputs taken is_given arranged bases objects searches archive given linked =
-    let takes = of_libraries machine libraries members inputs is_given taken searches in
+    let takes = takes_of_libraries object_in (archive_of libraries) members inputs is_given taken searches in
     closed_links machine libraries (given_with object_in is_given (objects_given inputs) (members_at members taken)) (others_of is_given (members_at members taken)) arranged bases objects archive
     (given_closes machine libraries (given_with object_in is_given (objects_given inputs) (members_at members taken)) (others_of is_given (members_at members taken)) arranged bases objects archive given takes linked)
 
