@@ -2,13 +2,13 @@
 use Rattle.std.proofs.Common.{◌≡◌, ℕ, List, [], ◌∷◌, Option, None, Some, refl, ap, sym, ◌∙◌, length, arith}
 use Rattle.implib_archive.specs.Leads.{headers_among, headers_in, with_header}
 use Rattle.implib_archive.specs.Reader.{data_at, first_in, linker_data, linker_in, long_name, long_name_at, long_names_in, long_names_or, member_at, name_in, number_in, numbers_in, paired, read_as, stored_at, stored_from, stored_in, texts_in, trimmed}
-use Rattle.implib_archive_link.specs.Files.{entries_by, entries_in, member_after, members_read, symbols_at}
-use Rattle.implib_link_instances.specs.Archives.Files.{NearHasMembers, WorkedFiles, two_members}
+use Rattle.implib_archive_link.specs.Files.{entries_by, entries_in, member_after, members_read_as, symbols_at}
+use Rattle.implib_link_instances.specs.Archives.Files.{NearHasMembersAs, WorkedFiles, two_members}
 use Rattle.implib_link_instances.proofs.Worked.RefusedLinks.{differ}
 
 -- what the computing has to open
 unfoldable opened_files : Unit {0}
-unfolding headers_among headers_in with_header data_at first_in linker_data linker_in long_name long_name_at long_names_in long_names_or member_at name_in number_in numbers_in paired read_as stored_at stored_from stored_in texts_in trimmed entries_by entries_in member_after members_read symbols_at
+unfolding headers_among headers_in with_header data_at first_in linker_data linker_in long_name long_name_at long_names_in long_names_or member_at name_in number_in numbers_in paired read_as stored_at stored_from stored_in texts_in trimmed entries_by entries_in member_after members_read_as symbols_at
 opened_files = tt
 
 pub worked_files : WorkedFiles
@@ -26,7 +26,7 @@ abbrev first_byte_of : List (List ℕ × ℕ) → ℕ
 first_byte_of [] = 0
 first_byte_of (e ∷ entries) = first_byte e.0
 
-pub near_has_members : NearHasMembers
+pub near_has_members : NearHasMembersAs
 unfolding opened_files
 near_has_members = record {
   located = λ has. nowhere has.headers has.located;

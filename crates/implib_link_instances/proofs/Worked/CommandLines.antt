@@ -21,7 +21,7 @@ use Rattle.implib_link.specs.Search.Search.{claimed_as, first_listed, objects_as
 use Rattle.implib_link.specs.Search.Sweeps.{IndexEntry, index_at, members_at, sweeps, swept}
 use Rattle.implib_link.proofs.Search.CommandLines.{are_first_of_distinct, first_of_distinct, gnu_searches, lld_members, searches_keep, takes_alike}
 use Rattle.implib_link.proofs.Search.Lists.{among_any, any_among, contains_among}
-use Rattle.implib_link_instances.specs.Worked.CommandLines.{NearIsClosedOver, NearIsGroupSearched, NearIsSwept, NearSearchesLibraries, RefusedCommandLines, WorkedCommandLine, WorkedCommandLines, WorkedLibraries, all_taken, amd64_members, i386_members, i386_wants_bytes, in_group, is_quit, kernel_on, library_first, library_last, library_twice, of_kernel, of_quit, other_spare, quit_bytes, quit_member, read_or_none, spare_member, wants_bytes, with_spares}
+use Rattle.implib_link_instances.specs.Worked.CommandLines.{NearIsClosedOver, NearIsGroupSearched, NearIsSwept, NearSearchesFor, RefusedCommandLines, WorkedCommandLine, WorkedCommandLines, WorkedLibraries, all_taken, amd64_members, i386_members, i386_wants_bytes, in_group, is_quit, kernel_on, library_first, library_last, library_twice, of_kernel, of_quit, other_spare, quit_bytes, quit_member, read_or_none, spare_member, wants_bytes, with_spares}
 use Rattle.implib_link_instances.specs.Worked.Programs.{code_object}
 use Rattle.implib_link_instances.proofs.Worked.RefusedLinks.{differ}
 use Rattle.implib_link_instances.proofs.Worked.Programs.{claims_none_by, distinct_by, opened}
@@ -394,7 +394,7 @@ unfolding Among
 nothing_before [] none = refl
 nothing_before (n ∷ between) none = absurd (none n (inl refl))
 
-pub near_searches_libraries : NearSearchesLibraries
+pub near_searches_libraries : NearSearchesFor
 unfolding opened alias_specs encoded_size IsDistinct claimed_as swept references_of claims_of undefined_in IsOrdered AreUnclaimedBehind SearchesFrom archive_of Among
 near_searches_libraries = record {
   libraries_are = λ x. differ 0 3 (sym (ap length x.libraries_are)) (omega arith);

@@ -39,7 +39,7 @@ two_members =
     ∷ []
 
 -- no archive; a member that is not said; the members of the archive above, whose index is not in their order
-pub record NearHasMembers : Type 0 where
+pub record NearHasMembersAs : Type 0 where
   pub located : HasMembers [] [] → ⊥
   pub read : HasMembers libquit [] → ⊥
   pub ordered : HasMembers reversed two_members → ⊥

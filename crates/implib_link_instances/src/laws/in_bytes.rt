@@ -1,6 +1,6 @@
 //! Searches in the bytes of archives, and ways from these to calls, worked by hand, and near misses.
 
-ghost use Rattle.implib_link_instances.specs.Archives.Files.{NearHasMembers, WorkedFiles};
+ghost use Rattle.implib_link_instances.specs.Archives.Files.{NearHasMembersAs, WorkedFiles};
 ghost use Rattle.implib_link_instances.specs.Archives.NearMisses.{NearAreSearched, NearCallsArrive, NearIsBuiltByLld};
 ghost use Rattle.implib_link_instances.specs.Archives.NearMisses.{NearIsWantedBy, NearLeadsToFirst, NearLldArrives};
 ghost use Rattle.implib_link_instances.specs.Archives.NearMisses.{NearAreMembersAt, NearHaveArchive, NearIsHeaderOf};
@@ -21,7 +21,7 @@ pub fn worked_searches()
 /// The members in the bytes of archives that GNU `ar` wrote, and near misses.
 pub fn worked_files()
     ensures worked { WorkedFiles }
-    ensures near { NearHasMembers }
+    ensures near { NearHasMembersAs }
 {}
 
 /// The whole way by hand: from the bytes of the archive of foo.dll, which exports `bar`, to the
