@@ -18,6 +18,7 @@ ghost use Rattle.implib_archive_link.specs.Files.{ArchiveFile, HasMembers, HasMe
 ghost use Rattle.implib_archive_link.specs.Files.{members_in_files, members_read};
 ghost use Rattle.implib_archive_link.specs.InBytes.{LinkerMember, asks_for, asks_on, asks_with};
 ghost use Rattle.implib_archive_link.specs.InBytes.{asks_with_on};
+ghost use Rattle.implib_archive_link.specs.LldFiles.{SearchesByLld, read_by_lld};
 ghost use Rattle.implib_archive_link.specs.LldWay.{AreCalledAlike, LldArrives, asks_of_lld};
 ghost use Rattle.implib_archive_link.specs.Results.{AreFoundInBytes, AreSearched, HaveArchive};
 ghost use Rattle.implib_archive_link.specs.Results.{IsEnding, TakesJust};
@@ -268,4 +269,18 @@ pub fn files_of_both_flavors_lead_to_calls()
         (members_at (members_in_files files) taken))
         (others_of is_given (members_at (members_in_files files) taken))
         arranged bases objects }
+{}
+
+/// The whole way for lld, of the files of a command line: what it takes of archives of libraries for
+/// Microsoft's linker and of anything else, in whatever order, has the short import of each export that
+/// the given objects, with the members of the other archives that are taken, leave unresolved; and what
+/// it writes of them arrives as `bytes_lead_to_lld_calls` says.
+pub fn files_lead_to_lld_calls()
+    ensures { (machine : MachineType) (libraries : List Library) (files : List ArchiveFile)
+        (inputs : List Input) (is_given : MemberView → Bool) (taken : List MemberView) →
+        SearchesByLld machine libraries (members_in_files files) inputs is_given taken →
+        IsMsvcArchive machine libraries → AreCalledAlike libraries →
+        LldArrives machine libraries
+        (given_with (read_by_lld machine) is_given (objects_given inputs) taken)
+        (others_of is_given taken) }
 {}
