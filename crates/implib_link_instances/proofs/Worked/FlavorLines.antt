@@ -17,21 +17,9 @@ use Rattle.implib_link_instances.specs.Worked.CommandLines.{i386_wants_bytes, is
 use Rattle.implib_link_instances.specs.Worked.FlavorLines.{WorkedFlavorLine, WorkedFlavorLines, amd64_kernels, amd64_shorts, i386_kernels, i386_shorts, shorts_grouped, shorts_last, shorts_taken, with_quit}
 use Rattle.implib_link_instances.specs.Worked.Programs.{code_object}
 use Rattle.implib_link_instances.proofs.Worked.BothFlavors.{archive_by}
+use Rattle.implib_link_instances.proofs.Worked.CommandLines.{ended_by, member_or_none, none_there, object_at, pulls_by, whole_at}
 use Rattle.implib_link_instances.proofs.Worked.NearSearches.{searched}
 use Rattle.implib_link_instances.proofs.Worked.Programs.{claims_none_by, distinct_by}
-
--- a member that claims what it is listed for, by computing
-whole_at : (reads : List ℕ → Option Object) (m : MemberView) → claimed_as reads (m ∷ []) ≡ m.symbols → HaveSame (claimed_as reads (m ∷ [])) m.symbols
-whole_at reads m is x = (λ held. subst (λ names. Contains names x) is held, λ held. subst (λ names. Contains names x) (sym is) held)
-
-abbrev member_or_none : Option MemberView → MemberView
-member_or_none None = record { name = []; bytes = []; symbols = [] }
-member_or_none (Some m) = m
-
-abbrev object_at : List Object → ℕ → Object
-object_at [] n = code_object []
-object_at (o ∷ objects) zero = o
-object_at (o ∷ objects) (suc n) = object_at objects n
 
 -- AMD64
 

@@ -1,8 +1,9 @@
 -- Command lines of an object, an archive and a library for Microsoft's linker, for GNU `ld`, which expands short imports.
-use Rattle.std.specs.Prelude.{ℕ, ◌<◌, Bool, List, [], ◌∷◌, ◌++◌, codes, length, map}
+use Rattle.std.specs.Prelude.{ℕ, ◌<◌, Bool, List, [], ◌∷◌, ◌++◌, Some, codes, length, map}
 use Rattle.implib.specs.declared.flavor.Flavor.TheVariants.{Msvc}
 use Rattle.implib.specs.declared.machine.MachineType.{MachineType}
 use Rattle.implib.specs.declared.machine.MachineType.TheVariants.{I386, AMD64}
+use Rattle.implib.specs.Definition.{ExportView}
 use Rattle.implib.specs.Formats.Object.{Object}
 use Rattle.implib.specs.Members.MemberSpec.{MemberView, member_of}
 use Rattle.implib.specs.Members.Members.{member_specs}
@@ -18,16 +19,16 @@ use Rattle.implib_link.specs.Search.Sweeps.{members_at}
 use Rattle.implib_link_instances.specs.Worked.CommandLines.{i386_quit_bytes, i386_wants_bytes, inputs_of, is_quit, quit_bytes, quit_member, read_or_none, wants_bytes}
 
 -- the library of kernel32.dll for Microsoft's linker, with one function
-abbrev pub kernels_on : MachineType → List ℕ → List FlavorLibrary
-kernels_on machine symbol =
-    let d = of_dll (codes "kernel32.dll") (plain_export symbol ∷ []) in
+abbrev pub kernels_on : MachineType → ExportView → List FlavorLibrary
+kernels_on machine export =
+    let d = of_dll (codes "kernel32.dll") (export ∷ []) in
     record { flavor = Msvc; library = record { definition = d; members = map member_of (member_specs (renamed d) machine Msvc) } } ∷ []
 
 abbrev pub amd64_kernels : List FlavorLibrary
-amd64_kernels = kernels_on AMD64 (codes "ExitProcess")
+amd64_kernels = kernels_on AMD64 (plain_export (codes "ExitProcess"))
 
 abbrev pub i386_kernels : List FlavorLibrary
-i386_kernels = kernels_on I386 (codes "_ExitProcess@4")
+i386_kernels = kernels_on I386 (record (plain_export (codes "_ExitProcess@4")) { asked_name = Some (codes "ExitProcess@4") })
 
 -- The members: the import descriptor 0, the null descriptor 1, the null thunk 2, the short import 3, and that of the
 -- archive, 4.
