@@ -1,5 +1,6 @@
 //! Searches in the bytes of archives, and ways from these to calls, worked by hand, and near misses.
 
+ghost use Rattle.implib_link_instances.specs.Archives.FileLines.{WorkedFileLines};
 ghost use Rattle.implib_link_instances.specs.Archives.Files.{NearHasMembersAs, WorkedFiles};
 ghost use Rattle.implib_link_instances.specs.Archives.NearMisses.{NearAreSearched, NearCallsArrive, NearIsBuiltByLld};
 ghost use Rattle.implib_link_instances.specs.Archives.NearMisses.{NearIsWantedBy, NearLeadsToFirst, NearLldArrives};
@@ -18,9 +19,11 @@ pub fn worked_searches()
     ensures libraries { WorkedLibraries }
 {}
 
-/// The members in the bytes of archives that GNU `ar` wrote, and near misses.
+/// The members in the bytes of archives that GNU `ar` wrote, and of libraries of llvm-dlltool 19; command
+/// lines of these files, by lld to its program and by GNU `ld`; and near misses.
 pub fn worked_files()
     ensures worked { WorkedFiles }
+    ensures lines { WorkedFileLines }
     ensures near { NearHasMembersAs }
 {}
 
