@@ -1,5 +1,5 @@
 -- The command lines of files, by computing and by the laws.
-use Rattle.std.proofs.Common.{◌≡◌, ◌⊎◌, ℕ, List, [], ◌∷◌, ◌++◌, Some, codes, refl, sym, ap, subst, ◌∙◌, inl, inr, arith}
+use Rattle.std.proofs.Common.{◌≡◌, ◌⊎◌, ℕ, true, false, List, [], ◌∷◌, ◌++◌, Option, None, Some, codes, length, refl, sym, ap, subst, ◌∙◌, inl, inr, arith}
 use Rattle.std.specs.Prelude.{bytes_eq, drop, slice_get}
 use Rattle.std.specs.List.{Contains, IsDistinct, flat_map}
 use Rattle.implib.specs.declared.machine.MachineType.{MachineType}
@@ -15,20 +15,24 @@ use Rattle.implib_archive_link.specs.LldWay.{AreCalledAlike}
 use Rattle.implib_archive_link.proofs.LldFiles.{files_lead_to_lld}
 use Rattle.implib_link.specs.Search.Archives.{Library}
 use Rattle.implib_link.specs.Search.BothFlavors.{FlavorLibrary, archive_of_both, msvc_among}
-use Rattle.implib_link.specs.Search.Closed.{listed_in}
+use Rattle.implib_link.specs.Search.Closed.{PullsIntoAs, listed_in}
 use Rattle.implib_link.specs.Search.CommandLines.{AreListedWhole, AreTakenBehind, AreUnclaimedBehind, HaveAll, LldSearches, LldSearchesFrom, SearchesFlavors, names_left}
 use Rattle.implib_link.specs.Search.MsvcArchives.{IsMsvcArchive, symbols_of_shorts}
+use Rattle.implib_link.specs.Search.Sweeps.{members_at}
 use Rattle.implib_link.proofs.Search.CommandLines.{are_first_of_distinct, lld_members}
-use Rattle.implib_link.proofs.Search.Lists.{contains_among}
+use Rattle.implib_link.proofs.Search.Lists.{any_among, contains_among}
+use Rattle.implib.proofs.Link.LinkedMembers.{among_contains}
 use Rattle.implib_link.proofs.Search.Search.{only_one}
-use Rattle.implib_link_instances.specs.Archives.FileLines.{WorkedFileLine, WorkedFileLines, amd64_files, i386_files, lld_taken, shorts_first}
+use Rattle.implib_link_instances.specs.Archives.FileLines.{NearSearchesByLld, WorkedFileLine, WorkedFileLines, amd64_files, i386_files, lld_taken, other_quit, shorts_first}
 use Rattle.implib_link_instances.specs.Archives.Files.{i386_libquit, libquit}
 use Rattle.implib_link_instances.specs.Worked.CommandLines.{i386_wants_bytes, is_quit, read_or_none, wants_bytes}
 use Rattle.implib_link_instances.specs.Worked.FlavorLines.{amd64_kernels, amd64_shorts, i386_kernels, i386_shorts, shorts_grouped, shorts_last, shorts_taken}
 use Rattle.implib_link_instances.proofs.Archives.Files.{i386_kernel, kernel, worked_files}
-use Rattle.implib_link_instances.proofs.Worked.CommandLines.{ended_by, member_or_none, none_there, pulls_by, whole_at}
+use Rattle.implib_link_instances.proofs.Worked.CommandLines.{ended_by, first_byte, member_or_none, none_there, pulls_by, whole_at}
 use Rattle.implib_link_instances.proofs.Worked.FlavorLines.{worked_flavor_lines}
 use Rattle.implib_link_instances.proofs.Worked.NearSearches.{searched}
+use Rattle.implib_link_instances.proofs.Worked.RefusedLinks.{differ}
+use Rattle.std.proofs.lemmas.Bool.{true≢false}
 use Rattle.implib_link_instances.proofs.Worked.Programs.{distinct_by}
 
 -- one library alone is called like itself
@@ -227,3 +231,53 @@ i386_line =
 
 pub worked_file_lines : WorkedFileLines
 worked_file_lines = record { amd64 = line; i386 = i386_line }
+
+-- Near misses.
+
+abbrev first_of_name : MemberView → ℕ
+first_of_name m = first_byte m.name
+
+abbrev first_of_option : Option MemberView → ℕ
+first_of_option None = 0
+first_of_option (Some m) = first_of_name m
+
+not_more : Among (codes "more") (codes "quit" ∷ []) → ⊥
+unfolding Among
+not_more (inl is) = differ 109 113 (ap first_byte is) (omega arith)
+not_more (inr none) = absurd none
+
+not_of_kernel : Among (member_or_none (slice_get amd64_shorts 4)) (archive_of_both amd64_kernels) → ⊥
+unfolding searched Among
+not_of_kernel (inl is) = differ 107 113 (sym (ap first_of_name is)) (omega arith)
+not_of_kernel (inr (inl is)) = differ 107 113 (sym (ap first_of_name is)) (omega arith)
+not_of_kernel (inr (inr (inl is))) = differ 107 113 (sym (ap first_of_name is)) (omega arith)
+not_of_kernel (inr (inr (inr (inl is)))) = differ 107 113 (sym (ap first_of_name is)) (omega arith)
+not_of_kernel (inr (inr (inr (inr none)))) = absurd none
+
+-- nothing is taken before nothing
+none_behind : (more before : List MemberView) → more ++ before ≡ [] → before ≡ []
+none_behind [] before is = is
+none_behind (m ∷ more) before is = cc
+
+pub near_searches_by_lld : NearSearchesByLld
+unfolding searched read_by_lld AreTakenBehind LldSearchesFrom AreUnclaimedBehind Among
+near_searches_by_lld = record {
+  libraries_are = λ x. differ 0 4 (sym (ap length x.libraries_are)) (omega arith);
+  first = λ x.
+      let named : List (List ℕ) = names_left (read_by_lld AMD64) own (members_at amd64_shorts (3 ∷ []) ++ other_quit ∷ []) in
+      let is = x.first (codes "quit") other_quit (among_contains (codes "quit") named (any_among (codes "quit") named refl))
+      (among_contains other_quit (members_at amd64_shorts (3 ∷ []) ++ other_quit ∷ []) (inr (inl refl))) (among_contains (codes "quit") (codes "quit" ∷ []) (inl refl)) in
+      differ 111 113 (sym (ap first_of_option is)) (omega arith);
+  unclaimed = λ x. true≢false x.unclaimed.1.1.1.0.0.1.1.1.1.1.0;
+  all = λ x.
+      not_of_kernel (contains_among (member_or_none (slice_get amd64_shorts 4)) (archive_of_both amd64_kernels)
+      (x.all (member_or_none (slice_get amd64_shorts 4)) (among_contains (member_or_none (slice_get amd64_shorts 4)) amd64_shorts (inr (inr (inr (inr (inl refl))))))));
+  whole = λ x.
+      not_more (contains_among (codes "more") (codes "quit" ∷ []) ((x.whole.1.1.1.1.0 (codes "more")).1 (among_contains (codes "more") (codes "quit" ∷ codes "more" ∷ []) (inr (inl refl)))));
+  searches = λ x.
+      let closed = x.searches.2.2.1 in
+      let none : x.searches.2.2.0 ≡ [] = x.searches.2.2.2 in
+      closed.ended (codes "quit") (member_or_none (slice_get amd64_shorts 4))
+      (subst (λ taken. PullsIntoAs (read_by_lld AMD64) amd64_shorts own taken (codes "quit") (member_or_none (slice_get amd64_shorts 4))) (sym none)
+      (pulls_by (read_by_lld AMD64) amd64_shorts own [] (codes "quit") (member_or_none (slice_get amd64_shorts 4)) refl refl refl));
+}

@@ -39,7 +39,7 @@ object_at [] n = code_object []
 object_at (o ∷ objects) zero = o
 object_at (o ∷ objects) (suc n) = object_at objects n
 
-abbrev first_byte : List ℕ → ℕ
+abbrev pub first_byte : List ℕ → ℕ
 first_byte [] = 0
 first_byte (byte ∷ bytes) = byte
 

@@ -1,6 +1,6 @@
 //! Searches in the bytes of archives, and ways from these to calls, worked by hand, and near misses.
 
-ghost use Rattle.implib_link_instances.specs.Archives.FileLines.{WorkedFileLines};
+ghost use Rattle.implib_link_instances.specs.Archives.FileLines.{NearSearchesByLld, WorkedFileLines};
 ghost use Rattle.implib_link_instances.specs.Archives.Files.{NearHasMembersAs, WorkedFiles};
 ghost use Rattle.implib_link_instances.specs.Archives.NearMisses.{NearAreSearched, NearCallsArrive, NearIsBuiltByLld};
 ghost use Rattle.implib_link_instances.specs.Archives.NearMisses.{NearIsWantedBy, NearLeadsToFirst, NearLldArrives};
@@ -25,6 +25,7 @@ pub fn worked_files()
     ensures worked { WorkedFiles }
     ensures lines { WorkedFileLines }
     ensures near { NearHasMembersAs }
+    ensures near_lines { NearSearchesByLld }
 {}
 
 /// The whole way by hand: from the bytes of the archive of foo.dll, which exports `bar`, to the
