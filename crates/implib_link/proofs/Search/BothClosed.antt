@@ -36,7 +36,8 @@ use Rattle.implib_link.proofs.Search.Arranged.{among_moved}
 use Rattle.implib_link.proofs.Search.BothArranged.{both_distinct, both_found, both_made}
 use Rattle.implib_link.proofs.Search.Chosen.{AnOwn, AnyOf, TheLast, TheTop, chosen_are, chosen_by, chosen_name, export_chosen, input_held, input_in, input_is, is_chosen, linked_from, linked_into, some_short}
 use Rattle.implib_link.proofs.Search.Closing.{IsFirstAs, IsListed, at_index, first_of, listed_other, none_left, others_claim_none, reached, still_named, takes_apart}
-use Rattle.implib_link.proofs.Search.Found.{IsReader, expands, first_held, found, made_of, there_msvc, weak_by_role}
+use Rattle.implib_link.proofs.Search.FlavorGroups.{first_held, made_of, there_msvc}
+use Rattle.implib_link.proofs.Search.Found.{IsReader, expands, found, weak_by_role}
 use Rattle.implib_link.proofs.Search.Lists.{among_at, among_either, among_flat_map, contains_among, from_not, passes, passing, to_not}
 use Rattle.implib_link.proofs.Search.MsvcArchives.{by_symbol, null_tables}
 use Rattle.implib_link.proofs.Search.MsvcMembers.{null_is, null_of}

@@ -35,7 +35,8 @@ use Rattle.implib_link.proofs.Search.BothGiven.{both_given_closes, both_given_en
 use Rattle.implib_link.proofs.Search.BothRooms.{both_tables_near}
 use Rattle.implib_link.proofs.Search.Chosen.{AnOwn, IsLinked, TheLast, TheTop, linked_from, own_chosen}
 use Rattle.implib_link.proofs.Search.Closing.{each_read, in_turn_for, pulled}
-use Rattle.implib_link.proofs.Search.Found.{HasRole, IsReader, expands, first_held, found, tables_by_role, there_msvc, weak_by_role}
+use Rattle.implib_link.proofs.Search.FlavorGroups.{first_held, there_msvc}
+use Rattle.implib_link.proofs.Search.Found.{HasRole, IsReader, expands, found, tables_by_role, weak_by_role}
 use Rattle.implib_link.proofs.Search.Lists.{among_either, passing}
 use Rattle.implib_link.proofs.Search.MsvcMembers.{null_of}
 use Rattle.implib_link.proofs.Search.Roles.{Last, Null, Own, Top, in_flavor, is_weak_role}

@@ -8,9 +8,9 @@ use Rattle.implib.specs.Members.MemberSpec.{MemberView}
 use Rattle.implib.proofs.Link.LinkedMembers.{among_contains}
 use Rattle.implib.proofs.Link.Ranges.{Among}
 use Rattle.implib_link.specs.Search.Search.{AreTakenInTurnAs, first_listed, PullsInAs, TakesAs, left_as, claimed_as}
-use Rattle.implib_link.proofs.Search.ArchiveGroups.{first_is, found_or_not}
+use Rattle.implib_link.proofs.Search.ArchiveGroups.{found_or_not}
 use Rattle.implib.specs.Formats.Object.{Object}
-use Rattle.implib_link.proofs.Search.Lists.{contains_among}
+use Rattle.implib_link.proofs.Search.Lists.{contains_among, listed_is}
 use Rattle.implib_link.proofs.Gnu.Choices.{same_text}
 
 -- Whether two members are the same.
@@ -175,7 +175,7 @@ module _ (archive : List MemberView) (Pulls : List MemberView → List ℕ → M
   fewer_left : (taken : List MemberView) (name : List ℕ) (m : MemberView) → Pulls taken name m → not_taken archive (m ∷ taken) < not_taken archive taken
   fewer_left taken name m pulls =
       let own = fresh taken name m pulls in
-      fewer archive taken m (first_is name archive m own.0).0 (false_from_ne_true (is_taken taken m) (λ is. own.1 (among_contains m taken (taken_among taken m is))))
+      fewer archive taken m (listed_is archive name m own.0).0 (false_from_ne_true (is_taken taken m) (λ is. own.1 (among_contains m taken (taken_among taken m is))))
 
   -- from members that are taken, with at most so many left
   ends_from : (most : ℕ) (taken : List MemberView) → not_taken archive taken ≤ most → Turn taken →
@@ -226,7 +226,7 @@ module _ (reads : List ℕ → Option Object) (archive : List MemberView) (wante
   taken_and_left [] turn = omega arith
   taken_and_left (m ∷ earlier) turn =
       let less : not_taken archive (m ∷ earlier) < not_taken archive earlier =
-      fewer archive earlier m (first_is turn.0.0 archive m turn.0.1.listed).0 (false_from_ne_true (is_taken earlier m) (λ is. turn.0.1.new (among_contains m earlier (taken_among earlier m is)))) in
+      fewer archive earlier m (listed_is archive turn.0.0 m turn.0.1.listed).0 (false_from_ne_true (is_taken earlier m) (λ is. turn.0.1.new (among_contains m earlier (taken_among earlier m is)))) in
       let before : length earlier + not_taken archive earlier ≤ not_taken archive [] = taken_and_left earlier turn.1 in
       let counted : length (m ∷ earlier) ≡ suc (length earlier) = refl in
       omega arith

@@ -34,15 +34,6 @@ among_either x [] ys m = inr m
 among_either x (y ∷ xs) ys (inl e) = inl (inl e)
 among_either x (y ∷ xs) ys (inr m) = elim (among_either x xs ys m) [ inl first ↦ inl (inr first) | inr later ↦ inr later ]
 
-pub among_reversed : {X : Type 0} (x : X) (xs : List X) → Among x (reverse xs) → Among x xs
-unfolding Among
-among_reversed x [] m = m
-among_reversed x (y ∷ xs) m =
-    elim (among_either x (reverse xs) (y ∷ []) (subst (Among x) (reverse-append (y ∷ []) xs) m)) [
-      | inl first ↦ inr (among_reversed x xs first)
-      | inr last ↦ elim last [ inl e ↦ inl e | inr none ↦ absurd none ]
-    ]
-
 pub among_mapped : {X Y : Type 0} (f : X → Y) (y : Y) (xs : List X) → Among y (map f xs) → (x : X) × Among x xs × (y ≡ f x)
 unfolding Among
 among_mapped f y [] m = absurd m
@@ -315,3 +306,11 @@ to_not b is = rw is refl
 
 pub among_filter : {X : Type 0} (test : X → Bool) (x : X) (xs : List X) → Among x (filter test xs) → Among x xs
 among_filter test x xs held = (passing test x xs held).0
+
+-- where none passes a test
+pub none_passes : {X : Type 0} (test : X → Bool) (xs : List X) → ((x : X) → Among x xs → test x ≡ false) → (filter test xs ≡ []) × (filter (λ x. not (test x)) xs ≡ xs)
+none_passes test [] none = (refl, refl)
+none_passes test (x ∷ xs) none =
+    let own : test x ≡ false = none x (among_first x xs) in
+    let later = none_passes test xs (λ y held. none y (among_later y x xs held)) in
+    (rw own later.0, rw own (ap (λ ys. x ∷ ys) later.1))

@@ -12,8 +12,7 @@ use Rattle.implib_link.specs.Search.Closed.{AreTakenIntoAs, PullsIntoAs, TakesIn
 use Rattle.implib_link.specs.Search.Search.{first_listed, is_listed_for, objects_as}
 use Rattle.implib_link.specs.Search.Sweeps.{IndexEntry, SweepsTake, entries_at, index_at, index_of, is_due, is_left, members_at, numbers_from, sweeps, swept}
 use Rattle.implib_link.proofs.Gnu.Bounds.{index_below}
-use Rattle.implib_link.proofs.Search.ArchiveGroups.{first_is}
-use Rattle.implib_link.proofs.Search.Lists.{all_listed, same_member, among_any, among_flat_map, among_listed, among_mapped, any_among, contains_among, distinct_apart, distinct_later}
+use Rattle.implib_link.proofs.Search.Lists.{all_listed, same_member, among_any, among_flat_map, among_listed, among_mapped, any_among, contains_among, distinct_apart, distinct_later, listed_is}
 
 -- Numbers and members.
 
@@ -334,7 +333,7 @@ module _ (reads : List ℕ → Option Object) (archive : List MemberView) (own :
       in_turn = subst (λ ns. AreTakenIntoAs reads archive own (members_at archive ns)) takes.taken
           (sweeps_in_turn own (λ n. Unit {0}) (λ ns kept name left n held k m x at listed other again. same_less n k (once_by archive name distinct n k m x at listed other again)) (index_of archive) (λ e held. (all_entries archive e held, λ ns pulls. pulls)) count [] (λ n held. tt) tt);
       ended = λ name m pulls.
-          let from = first_is name archive m pulls.listed in
+          let from = listed_is archive name m pulls.listed in
           let at = number_of archive m from.0 in
           let there = none_left (index_of archive) numbers takes.ended (record { name = name; number = at.0 })
           (entry_there archive (numbers_from (length archive) 0) at.0 m name at.1 (all_there archive at.0 m at.1) from.1)

@@ -25,7 +25,8 @@ use Rattle.implib_link.specs.Search.MsvcArchives.{first_null, is_weak_in, short_
 use Rattle.implib_link.specs.Search.Search.{AreTakenInTurnAs, NamesNoHeadOrTail, TakesAs, first_listed, left_as, objects_as, undefined_in}
 use Rattle.implib_link.proofs.Search.Chosen.{AnOwn, AnyOf, IsLinked, TheLast, TheTop, chosen_by, chosen_name, is_chosen, linked_are, linked_from, linked_into, own_chosen, shorts_are}
 use Rattle.implib_link.proofs.Search.Closing.{IsFirstAs, left_by as left_as_by, pulled, reached as reached_as, still_named as still_as, there_not}
-use Rattle.implib_link.proofs.Search.Found.{Found, HasRole, IsReader, by_name, expands, finds, first_by_role, first_held, found, gnu_there, left_by_role, msvc_there, there_gnu, there_msvc, weak_by_role}
+use Rattle.implib_link.proofs.Search.FlavorGroups.{first_held, gnu_there, msvc_there, there_gnu, there_msvc}
+use Rattle.implib_link.proofs.Search.Found.{Found, HasRole, IsReader, by_name, expands, finds, first_by_role, found, left_by_role, weak_by_role}
 use Rattle.implib_link.proofs.Search.Lists.{all_from as all_each, among_at, among_either, among_mapped, as_name, contains_among, from_not, name_as, passes, passing, to_not}
 use Rattle.implib_link.proofs.Search.MsvcArchives.{member_with, null_or_member, null_with}
 use Rattle.implib_link.proofs.Search.MsvcMembers.{null_of}
