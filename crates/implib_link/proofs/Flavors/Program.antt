@@ -179,7 +179,7 @@ module _ (machine : MachineType) (inputs : List FlavorInput) (objects : List Obj
   none = subst (AllByRecursion EndsNothing) (sym parts_are) (blocks_end machine (map block_in inputs))
 
 -- Where the linker's null descriptor does.
-linker_kept : (machine : MachineType) (inputs : List FlavorInput) (objects : List Object) → AllByRecursion (IsMadeFor machine) inputs → AreEndedByLinker machine inputs objects →
+pub linker_kept : (machine : MachineType) (inputs : List FlavorInput) (objects : List Object) → AllByRecursion (IsMadeFor machine) inputs → AreEndedByLinker machine inputs objects →
     filter has_tables objects ≡ all_objects machine (map block_in inputs) (null_descriptor ∷ [])
 linker_kept machine inputs objects made ended = ended.tables ∙ inputs_plainly machine inputs (null_descriptor ∷ []) made ended.gnu
 
