@@ -1,7 +1,7 @@
 -- The way for lld, from the bytes of an archive to the DLL.
 use Rattle.std.proofs.Common.{◌≡◌, ℕ, ◌+◌, Bool, true, false, List, [], ◌∷◌, ◌++◌, map, Option, None, Some, refl, ap, sym, ◌∙◌, subst, inl, inr}
 use Rattle.std.specs.Prelude.{bytes_eq, nat_le, not, if◌then◌else◌}
-use Rattle.std.specs.List.{AllByRecursion, Contains, IsDistinct, cons_option, filter, filter_map, flat_map, list_any}
+use Rattle.std.specs.List.{AllByRecursion, Contains, IsDistinct, cons_option, filter, flat_map, list_any}
 use Rattle.std.specs.Option.{option_and_then}
 use Rattle.std.proofs.lemmas.Bool.{cases_Bool, false_from_ne_true, le-leb, or_parts}
 use Rattle.implib.specs.declared.machine.MachineType.{MachineType}
@@ -48,17 +48,20 @@ use Rattle.implib_link.proofs.Flavors.Block.{FitsIn}
 use Rattle.implib_link.proofs.Flavors.Expanded.{AskFits}
 use Rattle.implib_link.proofs.Flavors.Inputs.{descriptor_at, export_fits, null_at, read_of, short_at, thunk_at, same_machine as own_machine}
 use Rattle.implib_link.proofs.Flavors.LldPrograms.{lld_calls, lld_count, lld_leads}
-use Rattle.implib_link.proofs.Search.Closing.{IsFirstAs, at_index}
+use Rattle.implib_link.proofs.Search.Closing.{IsFirstAs}
 use Rattle.implib_link.proofs.Search.FlavorGroups.{gnu_there, made_of, msvc_there}
 use Rattle.implib_link.proofs.Search.Found.{HasRole, expands, finds, first_by_role, found}
 use Rattle.implib_link.proofs.Search.GnuAlone.{no_gnu, short_libraries, short_members, shorts_alone, shorts_archive}
-use Rattle.implib_link.proofs.Search.Lists.{among_at, any_among, any_member, contains_among, listed_is, name_as, none_listed, passes, passing}
+use Rattle.implib_link.proofs.Search.Lists.{among_at, any_among, any_member, contains_among, listed_is, name_as, none_listed, passes, passing, from_not, kept_into, at_index}
 use Rattle.implib_link.proofs.Search.Roles.{IsRole, Last, Null, Own, Role, Top, Weak, in_flavor, member, pair, weak_symbol, weak_target}
 use Rattle.implib_link.proofs.Search.MsvcMembers.{pair_there, short_of}
 use Rattle.implib_link.proofs.Search.Search.{in_nothing}
 use Rattle.implib_link.proofs.TablesInMemory.{tables_load_in_memory}
 use Rattle.implib_link.proofs.TablesOfPrograms.{lld_tables}
 use Rattle.implib_link.specs.Tables.{tables_of_lld}
+use Rattle.implib_link.proofs.Search.MsvcArchives.{made_of as short_made}
+use Rattle.std.proofs.lemmas.Option.{same_Some}
+use Rattle.implib_link.proofs.Gnu.Texts.{all_filter}
 
 -- The short import of an export, read in its member's bytes.
 
@@ -83,22 +86,8 @@ short_is_read machine l e made there =
     (read_of l.definition machine l.members [] made (short_import_spec machine (names_for Msvc l.definition) e) (short_at l.definition machine l.members [] made e there)) in
     ap (option_and_then (if_for machine)) read ∙ ap (λ b. if b then Some (short_of_export machine l e) else None) (is_for machine l e)
 
--- what a member is read as is among what members are read as
-among_read : {X Y : Type 0} (f : X → Option Y) (x : X) (y : Y) (xs : List X) → Among x xs → f x ≡ Some y → Among y (filter_map f xs)
-unfolding Among
-among_read f x y [] held is = absurd held
-among_read f x y (z ∷ xs) (inl same) is = subst (λ o. Among y (cons_option o (filter_map f xs))) (sym (ap f (sym same) ∙ is)) (inl refl)
-among_read {X} {Y} f x y (z ∷ xs) (inr held) is = behind (f z) (among_read f x y xs held is)
-  where
-    behind : (o : Option Y) → Among y (filter_map f xs) → Among y (cons_option o (filter_map f xs))
-    behind None later = later
-    behind (Some w) later = inr later
-
 -- What is taken of an archive of libraries.
 module _ (machine : MachineType) (libraries : List Library) (archive : IsMsvcArchive machine libraries) where
-  made : (l : Library) → Among l libraries → IsMsvcLibrary machine l
-  made l held = all_among (IsMsvcLibrary machine) l libraries held archive.made
-
   abbrev in_msvc : List FlavorLibrary
   in_msvc = short_libraries libraries
 
@@ -146,12 +135,12 @@ module _ (machine : MachineType) (libraries : List Library) (archive : IsMsvcArc
       elim (cases_Bool (list_any (is_listed_for name) taken)) [
         | inl some ↦
             let t = any_member name taken some in
-            let same : t.0 ≡ m = one_first name t.0 m ((is_first t.0 (pulled own taken takes.in_turn t.0 t.1)).first name t.2) is in
+            let same : t.0 ≡ m = same_Some t.0 m (sym ((is_first t.0 (pulled own taken takes.in_turn t.0 t.1)).first name t.2) ∙ is) in
             subst (λ x. Among x taken) same t.1
         | inr none ↦ absurd (takes.ended name m (record {
           asked = (
             among_contains name (references_of own ++ references_of (objects_for machine (not_shorts (map (λ x. x.bytes) taken)))) (among_front name (references_of own) _ parts.0),
-            none_claims name (claims_of own) (claims_of (objects_for machine (map (λ x. x.bytes) taken))) (not_true (list_any (bytes_eq name) (claims_of own)) parts.1)
+            none_claims name (claims_of own) (claims_of (objects_for machine (map (λ x. x.bytes) taken))) (from_not (list_any (bytes_eq name) (claims_of own)) parts.1)
                 (false_from_ne_true (list_any (bytes_eq name) (claims_of (objects_for machine (map (λ x. x.bytes) taken)))) (λ claimed.
                 let by = name_as (expanded_in machine) claimed_names name taken (any_among name _ (subst (λ objects. list_any (bytes_eq name) (flat_map claimed_names objects) ≡ true) (objects_same taken) claimed)) in
                 let one = is_first by.member (pulled own taken takes.in_turn by.member by.held) in
@@ -163,13 +152,6 @@ module _ (machine : MachineType) (libraries : List Library) (archive : IsMsvcArc
         }))
       ]
     where
-      one_first : (name : List ℕ) (t m : MemberView) → first_listed (archive_of libraries) name ≡ Some t → first_listed (archive_of libraries) name ≡ Some m → t ≡ m
-      one_first name t m first second = (let e : Some t ≡ Some m = sym first ∙ second in cc)
-
-      not_true : (b : Bool) → not b ≡ true → b ≡ false
-      not_true true is = cc
-      not_true false is = refl
-
       none_claims : (name : List ℕ) (xs ys : List (List ℕ)) → list_any (bytes_eq name) xs ≡ false → list_any (bytes_eq name) ys ≡ false → list_any (bytes_eq name) (xs ++ ys) ≡ false
       none_claims name [] ys first second = second
       none_claims name (x ∷ xs) ys first second =
@@ -230,7 +212,7 @@ module _ (machine : MachineType) (libraries : List Library) (archive : IsMsvcArc
   writable : (m : MemberView) (r : ShortImport) → OfExport m r → IsImportable (record { dll = r.dll; asks = ask_of_short_import r ∷ [] })
   unfolding FitsIn
   writable m r of =
-      let own = made of.library of.held in
+      let own = short_made machine libraries archive of.library of.held in
       let fits : AskFits (ask_in Msvc machine of.export) =
       export_fits machine of.export (all_among Sound of.export (exports_of of.library) of.there (exports_sound of.library.definition machine Msvc of.library.members own)) in
       subst (λ (s : ShortImport). IsImportable (record { dll = s.dll; asks = ask_of_short_import s ∷ [] })) (sym of.is_short_import)
@@ -294,11 +276,6 @@ module _ (machine : MachineType) (libraries : List Library) (archive : IsMsvcArc
             (apart_from t r from is taken (λ held. turn.0.1.new (among_contains t taken held)) (λ m held. pulled own taken turn.1 m held), later)
 
   -- and of those that are live.
-  live_all : (P : ShortImport → Type 0) (is_live : ShortImport → Bool) (rs : List ShortImport) → AllByRecursion P rs → AllByRecursion P (filter is_live rs)
-  live_all P is_live [] all = tt
-  live_all P is_live (r ∷ rs) all =
-      elim (cases_Bool (is_live r)) [ inl is ↦ rw is (all.0, live_all P is_live rs all.1) | inr is ↦ rw is (live_all P is_live rs all.1) ]
-
   live_apart : (name : List ℕ) (is_live : ShortImport → Bool) (rs : List ShortImport) → AllByRecursion (λ other. bytes_eq name other ≡ false) (imp_symbols_of rs) →
       AllByRecursion (λ other. bytes_eq name other ≡ false) (imp_symbols_of (filter is_live rs))
   live_apart name is_live [] all = tt
@@ -331,7 +308,7 @@ module _ (machine : MachineType) (libraries : List Library) (archive : IsMsvcArc
   is_program : AreCalledAlike libraries → (own : List Object) (taken : List MemberView) → TakesBy (archive_of libraries) (asks_of_lld machine own) taken → (is_live : ShortImport → Bool) (descriptors addresses : ℕ) (image : List Range) (linked : List Placed) →
       IsBuiltByLld machine descriptors addresses (filter is_live (shorts_in machine taken)) image linked → IsLldProgram machine descriptors addresses (filter is_live (shorts_in machine taken)) image linked
   is_program alike own taken takes is_live descriptors addresses image linked built =
-      let from = live_all (λ r. (m : MemberView) × OfExport m r) is_live (shorts_in machine taken) (shorts_from taken (λ m held. pulled own taken takes.in_turn m held)) in
+      let from = all_filter (λ r. (m : MemberView) × OfExport m r) is_live (shorts_in machine taken) (shorts_from taken (λ m held. pulled own taken takes.in_turn m held)) in
       record {
         writable = each_writable (filter is_live (shorts_in machine taken)) from;
         distinct = live_distinct is_live (shorts_in machine taken) (shorts_distinct own taken takes.in_turn);
@@ -371,8 +348,8 @@ module _ (machine : MachineType) (libraries : List Library) (archive : IsMsvcArc
       short_taken : (l : Library) (e : ExportView) → IsWantedBy libraries own l e → Contains (shorts_in machine taken) (short_of_export machine l e)
       short_taken l e wanted =
           among_contains (short_of_export machine l e) (shorts_in machine taken)
-          (among_read (λ (m : MemberView). short_for machine m.bytes) (short_of machine l e) (short_of_export machine l e) taken (member_taken own taken l e takes wanted)
-          (short_is_read machine l e (made l (contains_among l libraries wanted.library)) (contains_among e (exports_of l) wanted.export)))
+          (kept_into (λ (m : MemberView). short_for machine m.bytes) taken (short_of_export machine l e) (short_of machine l e) (member_taken own taken l e takes wanted)
+          (short_is_read machine l e (short_made machine libraries archive l (contains_among l libraries wanted.library)) (contains_among e (exports_of l) wanted.export)))
 
       live_taken : (is_live : ShortImport → Bool) (l : Library) (e : ExportView) → IsWantedBy libraries own l e → is_live (short_of_export machine l e) ≡ true →
           Contains (filter is_live (shorts_in machine taken)) (short_of_export machine l e)

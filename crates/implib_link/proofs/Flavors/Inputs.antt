@@ -5,7 +5,7 @@ use Rattle.std.specs.List.{AllByRecursion, Contains, cons_option, filter_map, fl
 use Rattle.std.specs.Option.{option_and_then, option_map}
 use Rattle.std.proofs.lemmas.Bool.{cases_Bool, le-leb, ltb-true, or_parts}
 use Rattle.std.proofs.lemmas.Grind.{flat_map-append}
-use Rattle.std.proofs.lemmas.List.{append-nil, append_assoc}
+use Rattle.std.proofs.lemmas.List.{append-nil, append_assoc, map_push}
 use Rattle.std.proofs.lemmas.List.Elements.{filter_map-append}
 use Rattle.implib.specs.declared.machine.MachineType.{MachineType}
 use Rattle.implib.specs.declared.machine.MachineType.TheVariants.{I386, ARMNT, AMD64, ARM64}
@@ -140,10 +140,6 @@ all_read : {X Y : Type 0} (f : X → Option Y) (g : X → Y) (xs : List X) → A
 all_read f g [] all = refl
 all_read f g (x ∷ xs) all = let first : f x ≡ Some (g x) = all.0 in let rest : map f xs ≡ map Some (map g xs) = all_read f g xs all.1 in cc
 
-map-append-last : {X Y : Type 0} (f : X → Y) (xs : List X) (last : X) → map f (xs ++ last ∷ []) ≡ map f xs ++ f last ∷ []
-map-append-last f [] last = refl
-map-append-last f (x ∷ xs) last = ap (λ ys. f x ∷ ys) (map-append-last f xs last)
-
 all_contained : {X Y : Type 0} (f : X → Y) (all : List X) (xs : List X) → AllByRecursion (λ x. Among x all) xs → AllByRecursion (Contains (map f all)) (map f xs)
 all_contained f all [] among = tt
 all_contained f all (x ∷ xs) among = (among_contains (f x) (map f all) (among_map f x all among.0), all_contained f all xs among.1)
@@ -216,12 +212,12 @@ module _ (d : DefinitionView) (machine : MachineType) (members : List MemberView
       map_after (λ (m : MemberView). expanded_in machine m.bytes) member_of (specs_in Msvc d machine chosen)
       ∙ ap (λ o. o ∷ map reading (shorts ++ last ∷ [])) descriptor_taken
       ∙ ap (λ os. Some (taken_descriptor machine (names_for Msvc d)) ∷ os) (
-      map-append-last reading shorts last
+      map_push reading shorts last
       ∙ ap (λ o. map reading shorts ++ o ∷ []) thunk_taken
       ∙ ap (λ os. os ++ Some (taken_null_thunk machine (names_for Msvc d)) ∷ [])
       (map_after reading (short_import_spec machine (names_for Msvc d)) (chosen_exports d chosen)
       ∙ all_read (λ e. reading (short_import_spec machine (names_for Msvc d) e)) (asking machine (names_for Msvc d)) (chosen_exports d chosen) shorts_taken)
-      ∙ sym (map-append-last Some (map (asking machine (names_for Msvc d)) (chosen_exports d chosen)) (taken_null_thunk machine (names_for Msvc d))))
+      ∙ sym (map_push Some (map (asking machine (names_for Msvc d)) (chosen_exports d chosen)) (taken_null_thunk machine (names_for Msvc d))))
 
   all_mapped : {X Y : Type 0} (f : X → Y) (P : Y → Type 0) (xs : List X) → AllByRecursion (λ x. P (f x)) xs → AllByRecursion P (map f xs)
   all_mapped f P [] all = tt

@@ -4,7 +4,6 @@ use Rattle.std.specs.Prelude.{◌&&◌, ◌||◌, ◌==◌, bytes_eq, not, slice
 use Rattle.std.specs.List.{AllByRecursion, filter_map, list_any}
 use Rattle.std.specs.Option.{option_and_then}
 use Rattle.std.proofs.lemmas.Bool.{and_parts, cases_Bool, eqb-true}
-use Rattle.std.proofs.Math.Nat.{mul-suc}
 use Rattle.std.proofs.lemmas.List.{append_assoc, length-replicate}
 use Rattle.std.proofs.lemmas.Slice.Eq.{bytes_eq-Decides}
 use Rattle.implib.specs.declared.coff.object.Relocation.{Relocation}
@@ -32,7 +31,9 @@ use Rattle.implib_link.proofs.Gnu.Packed.{end_of_sections}
 use Rattle.implib_link.proofs.Gnu.Runs.{located_behind}
 use Rattle.implib_link.proofs.Gnu.Sized.{IsSized}
 use Rattle.implib_link.proofs.Parts.Sections.{none_ends, one_address, one_ends, one_is}
-use Rattle.implib_link.proofs.Parts.Texts.{ended_is, named_located, null_located, only_located, plus_none, thunk_located}
+use Rattle.implib_link.proofs.Parts.Texts.{ended_is, named_located, null_located, only_located, thunk_located}
+use Rattle.implib_link.proofs.Gnu.Loaded.{plus_none, times_next, times_none}
+use Rattle.implib_link.proofs.Flavors.Program.{later_even}
 
 -- The address of a symbol in the only section of a group.
 module _ (group : Group) (o : Object) (b : Bases) (s : ObjectSection) (is : only_section group o ≡ Some s) (even : base_of group b % 4 ≡ 0) where
@@ -80,14 +81,8 @@ pub has_section : (machine : MachineType) (o : Object) (ask : Ask) (found : Opti
 has_section machine o ask None is = cc
 has_section machine o ask (Some s) is = (s, refl)
 
-next_entry : (a w j : ℕ) → a + w + w * j ≡ a + w * suc j
-next_entry a w j = let split : w * suc j ≡ w * j + w = mul-suc w j in omega arith
-
 next_table : (a w n : ℕ) → a + w + w * (n + 1) ≡ a + w * (suc n + 1)
-next_table a w n = let count : suc (n + 1) ≡ suc n + 1 = omega arith in next_entry a w (n + 1) ∙ ap (λ k. a + w * k) count
-
-no_entry : (a w : ℕ) → a ≡ a + w * 0
-no_entry a w = omega arith
+next_table a w n = let count : suc (n + 1) ≡ suc n + 1 = omega arith in times_next a w (n + 1) ∙ ap (λ k. a + w * k) count
 
 one_null : (a w : ℕ) → a + w ≡ a + w * (0 + 1)
 one_null a w = omega arith
@@ -190,11 +185,11 @@ module _ (machine : MachineType) (linked : List Placed) (image : List Range) (st
           let own_entry : e ≡ x = cc in
           let section = has_section machine o e.ask (only_section Addresses o) entry.address in
           let here = entry_defined o b section.0 section.1 even.addresses name o.entries (subst (λ found. names_entry o found ≡ true) (ap (λ (y : TableEntry). y.symbol) own_entry ∙ named) entry.symbol) in
-          subst (λ n. Among (record { name = name; address = Some n }) ((filter_map (defined_by_entry (section_addresses_of b o.sections)) o.entries) ++ (definitions (placed_from (ends_after b o.sections) (objects ++ later))))) (no_entry b.addresses (thunk_width machine)) (among_front _ (filter_map (defined_by_entry (section_addresses_of b o.sections)) o.entries) (definitions (placed_from (ends_after b o.sections) (objects ++ later))) here)
+          subst (λ n. Among (record { name = name; address = Some n }) ((filter_map (defined_by_entry (section_addresses_of b o.sections)) o.entries) ++ (definitions (placed_from (ends_after b o.sections) (objects ++ later))))) (times_none b.addresses (thunk_width machine)) (among_front _ (filter_map (defined_by_entry (section_addresses_of b o.sections)) o.entries) (definitions (placed_from (ends_after b o.sections) (objects ++ later))) here)
       symbols same rest (suc j) x name is named =
           among_back _ (filter_map (defined_by_entry (section_addresses_of b o.sections)) o.entries) (definitions (placed_from (ends_after b o.sections) (objects ++ later)))
           (subst (λ n. Among (record { name = name; address = Some n }) (definitions (placed_from (ends_after b o.sections) (objects ++ later))))
-          (ap (λ n. n + thunk_width machine * j) same ∙ next_entry b.addresses (thunk_width machine) j) (rest j x name is named))
+          (ap (λ n. n + thunk_width machine * j) same ∙ times_next b.addresses (thunk_width machine) j) (rest j x name is named))
 
       at : (ends_after b o.sections).addresses ≡ b.addresses + thunk_width machine →
           ((j : ℕ) (q : Object) (e : TableEntry) → slice_get objects j ≡ Some q → slice_get entries j ≡ Some e →
@@ -207,7 +202,7 @@ module _ (machine : MachineType) (linked : List Placed) (image : List Range) (st
             bases = b;
             held = among_first _ _;
             aligned = even;
-            addresses = no_entry b.addresses (thunk_width machine);
+            addresses = times_none b.addresses (thunk_width machine);
             section = section.0;
             only = section.1;
           })
@@ -217,7 +212,7 @@ module _ (machine : MachineType) (linked : List Placed) (image : List Range) (st
             bases = found.bases;
             held = among_later _ _ _ found.held;
             aligned = found.aligned;
-            addresses = found.addresses ∙ ap (λ n. n + thunk_width machine * j) same ∙ next_entry b.addresses (thunk_width machine) j;
+            addresses = found.addresses ∙ ap (λ n. n + thunk_width machine * j) same ∙ times_next b.addresses (thunk_width machine) j;
             section = found.section;
             only = found.only;
           }
@@ -334,9 +329,6 @@ module _ (machine : MachineType) (linked : List Placed) (image : List Range) (st
               one_ends group o.sections (base_of group b) s one.0 one.1 level ∙ ap (λ n. base_of group b + n) (ap length same) ∙ plus_none (base_of group b),
             )
 
-    level_next : (n : ℕ) → n % 4 ≡ 0 → (n + 20) % 4 ≡ 0
-    level_next n level = omega arith
-
     name_found : (dll : List ℕ) (others later : List Object) (found : Option Entry) → AllByRecursion IsSized others → LocatedFrom machine linked image (ends_after b o.sections) (others ++ later) →
         ((d : SymbolDefinition) → Among d (definitions (placed_from (ends_after b o.sections) (others ++ later))) → definitions_of d.name linked ≡ d ∷ []) → dll_text others found ≡ Some dll →
         (a : ℕ) × ((address_or_zero (option_and_then (symbol_address linked p) found) ≡ a) × TextAt image a dll)
@@ -384,7 +376,7 @@ module _ (machine : MachineType) (linked : List Placed) (image : List Range) (st
       let lookups_are : next.lookups ≡ b.lookups = end_of_sections Lookups b head.sections ∙ lookups.1 in
       let addresses_are : next.addresses ≡ b.addresses = end_of_sections Addresses b head.sections ∙ addresses.1 in
       let later_even : AreAligned next = record {
-        descriptors = ap (λ n. n % 4) descriptors_are ∙ level_next head b rest sized.0 even located b.descriptors even.descriptors;
+        descriptors = ap (λ n. n % 4) descriptors_are ∙ later_even b.descriptors even.descriptors;
         lookups = ap (λ n. n % 4) lookups_are ∙ even.lookups;
         addresses = ap (λ n. n % 4) addresses_are ∙ even.addresses;
       } in

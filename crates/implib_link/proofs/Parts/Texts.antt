@@ -28,6 +28,7 @@ use Rattle.implib_link.specs.Gnu.Packed.{sections_end}
 use Rattle.implib_link.specs.Parts.{ask_of, bytes_at_symbol, bytes_from, has_none, hint_and_name, holds_texts, is_field, is_of, named_bytes_in, null_thunk_of, only_section, ordinal_with, own_bytes, sections_of, thunk_ask}
 use Rattle.implib_link.proofs.Gnu.Sized.{IsSized}
 use Rattle.implib_link.proofs.Parts.Sections.{nth_placed, one_ends, one_is, one_placed}
+use Rattle.implib_link.proofs.Gnu.Loaded.{plus_none}
 
 -- The groups whose bytes are located.
 
@@ -93,9 +94,6 @@ u16_is low high small below =
 
 hint_small : (low high : ℕ) → low < 256 → high < 256 → low + 256 * high < 2 ^ 16
 hint_small low high small below = omega arith
-
-pub plus_none : (n : ℕ) → n + 0 ≡ n
-plus_none n = omega arith
 
 -- Sections of an object that is placed first from bases on.
 module _ (machine : MachineType) (linked : List Placed) (image : List Range) (starts : AllByRecursion (λ r. 0 < r.start) image) (ends : AllByRecursion (λ r. range_end r < 2 ^ 31) image)

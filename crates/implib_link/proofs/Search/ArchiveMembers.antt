@@ -1,8 +1,8 @@
 -- The members of a library for GNU's linker: which of an export's a name finds, and what they are read as.
-use Rattle.std.proofs.Common.{◌≡◌, ℕ, zero, suc, ◌+◌, ◌≤◌, true, false, List, [], ◌∷◌, length, Some, refl, ap, sym, ◌∙◌, subst, inl, inr, arith}
+use Rattle.std.proofs.Common.{◌≡◌, ℕ, ◌+◌, ◌≤◌, true, false, List, [], ◌∷◌, length, Some, refl, ap, sym, ◌∙◌, subst, inl, inr, arith}
 use Rattle.std.specs.Prelude.{slice_get}
-use Rattle.std.specs.List.{AllByRecursion, list_any}
-use Rattle.std.proofs.lemmas.Bool.{cases_Bool, false_from_ne_true, or_parts}
+use Rattle.std.specs.List.{list_any}
+use Rattle.std.proofs.lemmas.Bool.{cases_Bool, false_from_ne_true}
 use Rattle.implib.specs.declared.machine.MachineType.{MachineType}
 use Rattle.implib.specs.Definition.{ExportView}
 use Rattle.implib.specs.Members.Gnu.{archive_symbols, export_object, weak_name}
@@ -13,7 +13,7 @@ use Rattle.implib.specs.Formats.Layout.{encoded_size, object_of}
 use Rattle.implib.specs.Members.MemberSpec.{MemberSpec, MemberView}
 use Rattle.implib.specs.Members.Members.{is_too_long}
 use Rattle.implib.specs.Formats.Object.{object_in}
-use Rattle.implib.proofs.Link.LinkedMembers.{among_reverse, linked_free, export_reads, head_reads, not_long, sound, tail_reads}
+use Rattle.implib.proofs.Link.LinkedMembers.{among_reverse, linked_free, export_reads, head_reads, not_long, sound, tail_reads, all_at}
 use Rattle.implib.proofs.Members.MsvcObjects.{Fits-weak_object}
 use Rattle.implib.proofs.Members.NotRefused.{Sound, short_enough}
 use Rattle.implib.proofs.Formats.ObjectReading.{object_in-encoded}
@@ -23,16 +23,17 @@ use Rattle.implib_link.specs.Search.Archives.{IsLibrary, Library, exports_of, is
 use Rattle.implib_link.specs.Search.Search.{first_listed, is_listed_for}
 use Rattle.implib_link.proofs.Search.ArchiveGroups.{IsWithin, export_group, export_of, head_of, tail_of, weak_address_of, weak_of}
 use Rattle.implib_link.proofs.Search.Search.{address_listed, listed_export, numbered_in, only_one}
-use Rattle.implib_link.proofs.Search.Lists.{listed_is, among_any, any_among}
+use Rattle.implib_link.proofs.Search.Lists.{listed_is, among_any, any_among, none_among}
 use Rattle.implib.specs.LibraryName.{NamesOfDll, linked_name, names_for}
 use Rattle.implib.specs.declared.flavor.Flavor.TheVariants.{Gnu}
+use Rattle.std.proofs.lemmas.Option.{same_Some}
 
 -- The names of one export.
 
 longer : (n m : ℕ) → n ≡ m → m ≡ 6 + n → ⊥
 longer n m same more = omega arith
 
-no_address : (name : List ℕ) → name ≡ imp_symbol name → ⊥
+pub no_address : (name : List ℕ) → name ≡ imp_symbol name → ⊥
 no_address name same = longer (length name) (length (imp_symbol name)) (ap length same) (omega arith)
 
 pub own_symbols : (e : ExportView) (name : List ℕ) → Among name (archive_symbols e) → Among name (symbols_of_export e)
@@ -124,11 +125,8 @@ module _ (machine : MachineType) where
     FindsOwn : m ≡ export_of machine l n e → Among name (archive_symbols e) → InExport l n e name m
     FindsWeak : is_alias e.alias_target e.name ≡ true → e.is_data ≡ true → name ≡ e.name → m ≡ weak_of machine l n e → InExport l n e name m
 
-  same_found : (m own : MemberView) → Some m ≡ Some own → m ≡ own
-  same_found m own same = cc
-
   finds_own : (l : Library) (n : ℕ) (e : ExportView) (name : List ℕ) (m : MemberView) → first_listed (export_group machine l n e).members name ≡ Some m → Among name (archive_symbols e) → InExport l n e name m
-  finds_own l n e name m found listed = FindsOwn (same_found m (export_of machine l n e) (sym found ∙ own_first l n e name listed)) listed
+  finds_own l n e name m found listed = FindsOwn (same_Some m (export_of machine l n e) (sym found ∙ own_first l n e name listed)) listed
 
   pub in_export : (l : Library) (n : ℕ) (e : ExportView) (name : List ℕ) (m : MemberView) → first_listed (export_group machine l n e).members name ≡ Some m → InExport l n e name m
   in_export l n e name m found =
@@ -177,18 +175,7 @@ module _ (machine : MachineType) where
         export_reads machine (names_for Gnu l.definition) (exports_of l) (linked_free l.definition machine l.members [] made) (sound l.definition machine l.members [] made)
         (not_long l.definition machine l.members [] made) n e is
 
-    export_sound : (exports : List ExportView) (n : ℕ) (e : ExportView) → AllByRecursion Sound exports → slice_get exports n ≡ Some e → Sound e
-    export_sound [] n e all is = cc
-    export_sound (x ∷ exports) zero e all is = (let same : x ≡ e = cc in subst Sound same all.0)
-    export_sound (x ∷ exports) (suc n) e all is = export_sound exports n e all.1 is
-
-    none_long : (p : MemberSpec) (ps : List MemberSpec) → Among p ps → list_any is_too_long ps ≡ false → is_too_long p ≡ false
-    unfolding Among
-    none_long p [] held none = absurd held
-    none_long p (q ∷ ps) (inl e) none = subst (λ x. is_too_long x ≡ false) (sym e) (or_parts (is_too_long q) (list_any is_too_long ps) none).0
-    none_long p (q ∷ ps) (inr held) none = none_long p ps held (or_parts (is_too_long q) (list_any is_too_long ps) none).1
-
-    weak_there : (n : ℕ) (e : ExportView) → is_alias e.alias_target e.name ≡ true →
+    pub weak_there : (n : ℕ) (e : ExportView) → is_alias e.alias_target e.name ≡ true →
         Among (weak_spec machine (weak_name (linked_name l.definition) n) e.name e.alias_target) (numbered_specs_of machine (linked_name l.definition) n e)
     unfolding alias_specs
     weak_there n e alias = rw alias (among_first _ _)
@@ -198,13 +185,13 @@ module _ (machine : MachineType) where
     weak_object_is n e is alias =
         let dll : NamesOfDll = names_for Gnu l.definition in
         let p : MemberSpec = weak_spec machine (weak_name dll.linked n) e.name e.alias_target in
-        let good : Sound e = export_sound (exports_of l) n e (sound l.definition machine l.members [] made) is in
+        let good : Sound e = all_at Sound (exports_of l) n e (sound l.definition machine l.members [] made) is in
         let position : 0 + n ≡ n = omega arith in
         let there : Among p (gnu_specs machine dll (exports_of l)) =
         among_later _ _ _ (among_later _ _ _ (among_reverse p (numbered_specs machine dll.linked 0 (exports_of l))
         (numbered_in machine dll.linked (exports_of l) 0 n e p is (subst (λ k. Among p (numbered_specs_of machine dll.linked k e)) (sym position) (weak_there n e alias))))) in
         let short : encoded_size (weak_object machine e.name e.alias_target) ≤ 0xFFFF_FFFF =
-        short_enough p (none_long p (gnu_specs machine dll (exports_of l)) there (not_long l.definition machine l.members [] made)) in
+        short_enough p (none_among is_too_long p (gnu_specs machine dll (exports_of l)) there (not_long l.definition machine l.members [] made)) in
         object_in-encoded (weak_object machine e.name e.alias_target) (Fits-weak_object machine e.name e.alias_target good.name good.alias_target) (omega arith)
 
   pub export_entries : (dll : NamesOfDll) (e : ExportView) → list_any is_weak_entry (export machine dll e).entries ≡ false

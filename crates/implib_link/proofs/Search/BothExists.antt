@@ -41,6 +41,7 @@ use Rattle.implib_link.proofs.Search.Lists.{among_either, passing}
 use Rattle.implib_link.proofs.Search.MsvcMembers.{null_of}
 use Rattle.implib_link.proofs.Search.Roles.{Last, Null, Own, Top, in_flavor, is_weak_role}
 use Rattle.implib_link.proofs.Search.Search.{only_one}
+use Rattle.implib.proofs.Link.Linked.{all_append}
 
 -- Packed tables lie within the room of the libraries.
 
@@ -56,10 +57,6 @@ within_by first low high end (r ∷ rs) above below all =
 abbrev pub NoneHave : List Object → Type 0
 NoneHave objects = AllByRecursion (λ o. has_tables o ≡ false) objects
 
-pub both_none : (xs ys : List Object) → NoneHave xs → NoneHave ys → NoneHave (xs ++ ys)
-both_none [] ys own behind = behind
-both_none (x ∷ xs) ys own behind = (own.0, both_none xs ys own.1 behind)
-
 pub plain_left : (objects : List Object) → NoneHave objects → filter (λ o. not (has_tables o)) objects ≡ objects
 plain_left [] none = refl
 plain_left (o ∷ objects) none = rw none.0 (ap (λ others. o ∷ others) (plain_left objects none.1))
@@ -74,7 +71,7 @@ pub tables_last : (own weak tables : List Object) → NoneHave own → NoneHave 
 tables_last own weak tables plain none all =
     ap (filter has_tables) (sym (append_assoc own weak tables))
     ∙ filter-append has_tables (own ++ weak) tables
-    ∙ ap (λ front. front ++ filter has_tables tables) (none_kept (own ++ weak) (both_none own weak plain none))
+    ∙ ap (λ front. front ++ filter has_tables tables) (none_kept (own ++ weak) (all_append (λ o. has_tables o ≡ false) own weak plain none))
     ∙ all_kept tables all
 
 pub others_first : (own weak tables : List Object) → NoneHave own → NoneHave weak → AllByRecursion (λ o. has_tables o ≡ true) tables →
@@ -85,7 +82,7 @@ others_first own weak tables plain none all =
     ∙ filter-append (λ o. not (has_tables o)) (own ++ weak) tables
     ∙ ap (λ behind. filter (λ o. not (has_tables o)) (own ++ weak) ++ behind) (none_left tables all)
     ∙ append-nil (filter (λ o. not (has_tables o)) (own ++ weak))
-    ∙ plain_left (own ++ weak) (both_none own weak plain none) in
+    ∙ plain_left (own ++ weak) (all_append (λ o. has_tables o ≡ false) own weak plain none) in
     λ o. (λ held. subst (λ zs. Contains zs o) are held, λ held. subst (λ zs. Contains zs o) (sym are) held)
 
 -- The objects of a program, packed where there is room for the libraries' tables.

@@ -11,7 +11,8 @@ use Rattle.implib_link.specs.Search.Search.{AreTakenInTurnAs, first_listed, Pull
 use Rattle.implib_link.proofs.Search.ArchiveGroups.{found_or_not}
 use Rattle.implib.specs.Formats.Object.{Object}
 use Rattle.implib_link.proofs.Search.Lists.{contains_among, listed_is}
-use Rattle.implib_link.proofs.Gnu.Choices.{same_text}
+use Rattle.implib.proofs.Link.Definitions.{same_text}
+use Rattle.std.proofs.lemmas.Option.{same_Some}
 
 -- Whether two members are the same.
 
@@ -122,9 +123,6 @@ fewer (m ∷ archive) taken t (inr held) new =
       ]
     ]
 
-same_first : (m other : MemberView) → Some m ≡ Some other → m ≡ other
-same_first m other e = cc
-
 -- whether a name finds a member that is not taken
 pub first_new : (archive taken : List MemberView) (name : List ℕ) → ((m : MemberView) × (first_listed archive name ≡ Some m) × (Contains taken m → ⊥)) ⊎
     ((m : MemberView) → first_listed archive name ≡ Some m → (Contains taken m → ⊥) → ⊥)
@@ -133,7 +131,7 @@ first_new archive taken name =
       | inl none ↦ inr (λ m listed new. (let found : None ≡ Some m = sym none ∙ listed in cc))
       | inr found ↦ elim (cases_Bool (is_taken taken found.0)) [
         | inl is ↦ inr (λ m listed new.
-            let same : m ≡ found.0 = same_first m found.0 (sym listed ∙ found.1) in
+            let same : m ≡ found.0 = same_Some m found.0 (sym listed ∙ found.1) in
             new (among_contains m taken (subst (λ x. Among x taken) (sym same) (taken_among taken found.0 is))))
         | inr none ↦ inl (found.0, found.1, λ has. true≢false (sym (among_taken taken found.0 (contains_among found.0 taken has)) ∙ none))
       ]

@@ -23,11 +23,9 @@ use Rattle.implib_link.specs.Search.BothFlavors.{FlavorLibrary, IsFlavorArchive,
 use Rattle.implib_link.specs.Search.MsvcArchives.{symbols_of_all_shorts, symbols_of_shorts}
 use Rattle.implib_link.specs.Search.Search.{first_listed, is_listed_for}
 use Rattle.implib_link.proofs.Search.ArchiveGroups.{Group, IsWithin, export_group, export_group_is, export_groups, first_behind, first_in_group, found_or_not, group_is_export, group_of_first, head_of, members_of_exports, members_of_groups, symbols_of_exports, symbols_of_groups, tail_of}
-use Rattle.implib_link.proofs.Search.Arranged.{kept_from, kept_into}
 use Rattle.implib_link.proofs.Search.ArchiveMembers.{within_export as within_gnu}
-use Rattle.implib_link.proofs.Search.Closing.{at_index}
 use Rattle.implib_link.proofs.Search.Counts.{distinct_from, few_from, none_times, times, times_both}
-use Rattle.implib_link.proofs.Search.Lists.{all_from, among_at, among_flat_map, among_any, among_mapped, any_among, distinct_apart, distinct_later, listed_is}
+use Rattle.implib_link.proofs.Search.Lists.{all_from, among_at, among_flat_map, among_any, among_mapped, any_among, distinct_apart, distinct_later, listed_is, at_index, kept_from, kept_into}
 use Rattle.implib_link.proofs.Search.MsvcMembers.{descriptor_of, members_are, null_of as null_member_of, short_group, symbols_of_groups_of, thunk_of, within_export as within_short}
 use Rattle.implib_link.proofs.Search.Roles.{Last, Null, Own, Role, Top, Weak, in_flavor, listed_as, member, symbols}
 use Rattle.implib_link.proofs.Search.Search.{in_nothing, only_one}

@@ -1,5 +1,5 @@
 -- The members of a library for Microsoft's linker: which of an export's a name finds, and what they are taken for.
-use Rattle.std.proofs.Common.{◌≡◌, ℕ, ◌+◌, true, false, List, [], ◌∷◌, ◌++◌, length, map, Option, Some, refl, ap, sym, ◌∙◌, subst, inl, inr, ◌⊎◌, arith}
+use Rattle.std.proofs.Common.{◌≡◌, ℕ, true, false, List, [], ◌∷◌, ◌++◌, map, Some, refl, ap, sym, ◌∙◌, subst, inl, inr, ◌⊎◌}
 use Rattle.std.specs.List.{flat_map}
 use Rattle.std.proofs.lemmas.Bool.{cases_Bool, false_from_ne_true}
 use Rattle.std.proofs.lemmas.List.{map-append}
@@ -27,6 +27,8 @@ use Rattle.implib_link.proofs.Search.Lists.{listed_is, among_any, any_among}
 use Rattle.implib_link.proofs.Search.Search.{in_nothing, only_one}
 use Rattle.implib.specs.LibraryName.{NamesOfDll, linked_dll, names_for}
 use Rattle.implib.specs.declared.flavor.Flavor.TheVariants.{Msvc}
+use Rattle.implib_link.proofs.Search.ArchiveMembers.{no_address}
+use Rattle.std.proofs.lemmas.Option.{same_Some}
 
 -- The members.
 
@@ -64,12 +66,6 @@ unfolding undefined_in with_section_symbols weak_object object_of entries_of nam
 left_weak machine weak target = refl
 
 -- Names of one export.
-
-longer : (n m : ℕ) → n ≡ m → m ≡ 6 + n → ⊥
-longer n m same more = omega arith
-
-no_address : (name : List ℕ) → name ≡ imp_symbol name → ⊥
-no_address name same = longer (length name) (length (imp_symbol name)) (ap length same) (omega arith)
 
 one_of_two : (e : ExportView) (name : List ℕ) → Among name (short_import_symbols e) → (name ≡ short_import_symbol e) ⊎ (name ≡ imp_symbol (short_import_symbol e))
 unfolding Among
@@ -159,17 +155,14 @@ module _ (machine : MachineType) where
     FindsShort : is_short_alias e ≡ false → m ≡ short_of machine l e → Among name (short_import_symbols e) → InExport l e name m
     FindsWeak : is_short_alias e ≡ true → (weak target : List ℕ) → IsPair e weak target → m ≡ weak_of machine l weak target → name ≡ weak → InExport l e name m
 
-  same_found : (m own : MemberView) (found : Option MemberView) → found ≡ Some m → found ≡ Some own → m ≡ own
-  same_found m own found is other = (let e : Some m ≡ Some own = sym is ∙ other in cc)
-
   finds_pair : (l : Library) (e : ExportView) (name : List ℕ) (m : MemberView) → is_short_alias e ≡ true → first_listed (short_group l e).members name ≡ Some m →
       (name ≡ short_import_symbol e) ⊎ (name ≡ imp_symbol (short_import_symbol e)) → InExport l e name m
   finds_pair l e name m alias found (inl is) =
       FindsWeak alias (short_import_symbol e) e.alias_target (inl (refl, refl))
-      (same_found m _ (first_listed (short_group l e).members name) found (ap (first_listed (short_group l e).members) is ∙ symbol_first l e alias)) is
+      (same_Some m _ (sym found ∙ ap (first_listed (short_group l e).members) is ∙ symbol_first l e alias)) is
   finds_pair l e name m alias found (inr is) =
       FindsWeak alias (imp_symbol (short_import_symbol e)) (imp_symbol e.alias_target) (inr (refl, refl))
-      (same_found m _ (first_listed (short_group l e).members name) found (ap (first_listed (short_group l e).members) is ∙ address_first l e alias)) is
+      (same_Some m _ (sym found ∙ ap (first_listed (short_group l e).members) is ∙ address_first l e alias)) is
 
   pub in_export : (l : Library) (e : ExportView) (name : List ℕ) (m : MemberView) → first_listed (short_group l e).members name ≡ Some m → InExport l e name m
   unfolding Among

@@ -1,5 +1,5 @@
 -- How far packed import tables of libraries for Microsoft's linker reach, by the definitions alone.
-use Rattle.std.proofs.Common.{◌≡◌, ℕ, zero, suc, take, ◌+◌, ◌≤◌, Bool, true, false, List, [], ◌∷◌, ◌++◌, length, refl, sym, subst, inl, inr, arith, if◌then◌else◌}
+use Rattle.std.proofs.Common.{◌≡◌, ℕ, ◌+◌, ◌≤◌, Bool, true, false, List, [], ◌∷◌, ◌++◌, length, refl, sym, subst, inl, inr, arith, if◌then◌else◌}
 use Rattle.std.specs.Prelude.{not, ◌==◌}
 use Rattle.std.specs.List.{before_first, position_or_len, sum_by}
 use Rattle.std.proofs.lemmas.Bool.{cases_Bool}
@@ -30,16 +30,12 @@ use Rattle.implib_link.proofs.Flavors.Expanded.{taken_descriptor, taken_null, ta
 use Rattle.implib_link.proofs.Search.MsvcArchives.{imports_are}
 use Rattle.implib_link.proofs.Search.Rooms.{all_rooms, own_rooms, sections_room, without_near}
 use Rattle.implib.specs.LibraryName.{NamesOfDll}
+use Rattle.implib.proofs.Text.Advanced.{take_shorter}
 
 -- The name that is asked for is no longer than the symbol.
 
-take_near : (n : ℕ) (xs : List ℕ) → length (take n xs) ≤ length xs
-take_near zero xs = omega arith
-take_near (suc n) [] = omega arith
-take_near (suc n) (x ∷ xs) = (let behind = take_near n xs in omega arith)
-
 before_near : (p : ℕ → Bool) (name : List ℕ) → length (before_first p name) ≤ length name
-before_near p name = take_near (position_or_len p name) name
+before_near p name = take_shorter (position_or_len p name) name
 
 prefix_near : (symbol : List ℕ) → length (without_prefix symbol) ≤ length symbol
 prefix_near symbol =

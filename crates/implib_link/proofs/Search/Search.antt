@@ -20,8 +20,9 @@ use Rattle.implib.proofs.Link.LinkedMembers.{among_map, among_reverse}
 use Rattle.implib.proofs.Link.Placement.{export, head, tail}
 use Rattle.implib.proofs.Link.Ranges.{Among, among_back, among_first, among_front, among_later}
 use Rattle.implib_link.specs.Search.Search.{is_wanted, undefined_in, linked_if_any, numbers_passing}
-use Rattle.implib_link.proofs.Search.Lists.{all_listed, among_any, among_either, among_mapped, any_among, one_member}
+use Rattle.implib_link.proofs.Search.Lists.{all_listed, among_any, among_either, among_mapped, any_among, one_member, among_option}
 use Rattle.implib.specs.LibraryName.{NamesOfDll, linked_name, names_for}
+use Rattle.std.proofs.lemmas.Option.{same_Some}
 
 -- What specifications there are.
 
@@ -119,11 +120,6 @@ wanted_name wanted (n ∷ names) is =
 
 -- The specifications of chosen exports.
 
-among_option : {X : Type 0} (x : X) (o : Option X) (xs : List X) → Among x xs → Among x (cons_option o xs)
-unfolding Among
-among_option x None xs held = held
-among_option x (Some y) xs held = inr held
-
 pub member_spec_chosen : (machine : MachineType) (dll : List ℕ) (exports : List ExportView) (chosen : List ℕ) (n : ℕ) (e : ExportView) → Among n chosen →
     slice_get exports n ≡ Some e → Among (export_spec machine dll n e) (filter_map (numbered_spec machine dll exports) chosen)
 unfolding Among
@@ -132,7 +128,7 @@ member_spec_chosen machine dll exports (k ∷ chosen) n e (inl same) is =
     let here : slice_get exports k ≡ Some e = subst (λ m. slice_get exports m ≡ Some e) same is in
     rw here (inl (ap (λ m. export_spec machine dll m e) same))
 member_spec_chosen machine dll exports (k ∷ chosen) n e (inr held) is =
-    among_option (export_spec machine dll n e) (numbered_spec machine dll exports k) (filter_map (numbered_spec machine dll exports) chosen)
+    among_option (numbered_spec machine dll exports k) (export_spec machine dll n e) (filter_map (numbered_spec machine dll exports) chosen)
     (member_spec_chosen machine dll exports chosen n e held is)
 
 -- a specification of a chosen export
@@ -185,9 +181,6 @@ only_one x y (inr nothing) = absurd nothing
 pub in_nothing : {X : Type 0} (x : X) → Among x [] → ⊥
 unfolding Among
 in_nothing x held = held
-
-pub same_export : (e other : ExportView) → Some e ≡ Some other → e ≡ other
-same_export e other same = cc
 
 names_apart : (dll : List ℕ) (n : ℕ) → weak_address_name dll n ≡ export_name dll n → ⊥
 unfolding numbered_name
@@ -321,7 +314,7 @@ module _ (d : DefinitionView) (machine : MachineType) (wanted : List (List ℕ))
   needed_member_spec m p same any (inr (inl e)) = TheTail (same ∙ ap member_of e) any
   needed_member_spec m p same any (inr (inr c)) =
       let found = are.only c.0 c.2 in
-      let own : c.1 ≡ found.0 = same_export c.1 found.0 (sym c.3 ∙ found.1) in
+      let own : c.1 ≡ found.0 = same_Some c.1 found.0 (sym c.3 ∙ found.1) in
       AnExport (record { number = c.0; export = c.1; is = c.3; same = same ∙ ap member_of c.4 }) (subst (λ e. is_wanted wanted e ≡ true) (sym own) found.2)
 
   pub needed_if_linked : (m : MemberView) → Among m (linked_if_any d machine chosen) → Needed machine (names_for Gnu d) (public_exports (renamed d)) wanted m
