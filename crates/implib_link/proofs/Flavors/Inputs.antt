@@ -46,6 +46,7 @@ use Rattle.implib_link.proofs.Flavors.Blocks.{AllSuit, CanLink, FlavorBlock, all
 use Rattle.implib_link.proofs.Flavors.Expanded.{AskFits, taken_descriptor, taken_null, taken_null_thunk}
 use Rattle.implib_link.proofs.Gnu.Texts.{all_chosen}
 use Rattle.implib.specs.LibraryName.{NamesOfDll, linked_dll, names_for}
+use Rattle.implib.proofs.Link.Linked.{all_append}
 
 -- Short imports.
 
@@ -223,17 +224,13 @@ module _ (d : DefinitionView) (machine : MachineType) (members : List MemberView
   all_mapped f P [] all = tt
   all_mapped f P (x ∷ xs) all = (all.0, all_mapped f P xs all.1)
 
-  all_last : {X : Type 0} (P : X → Type 0) (xs : List X) (last : X) → AllByRecursion P xs → P last → AllByRecursion P (xs ++ last ∷ [])
-  all_last P [] last all here = (here, tt)
-  all_last P (x ∷ xs) last all here = (all.0, all_last P xs last all.1 here)
-
   pub msvc_from : AllByRecursion (Contains members) (map member_of (specs_in Msvc d machine chosen))
   msvc_from =
       subst (λ ms. AllByRecursion (Contains ms) (map member_of (specs_in Msvc d machine chosen))) (sym made.made)
       (all_contained member_of (member_specs (renamed d) machine Msvc) (specs_in Msvc d machine chosen) (
         descriptor_at,
-        all_last (λ p. Among p (member_specs (renamed d) machine Msvc)) shorts (null_thunk_spec machine (linked_dll d))
-            (all_mapped (short_import_spec machine (names_for Msvc d)) (λ p. Among p (member_specs (renamed d) machine Msvc)) (chosen_exports d chosen) (chosen_all (λ e. Among (short_import_spec machine (names_for Msvc d) e) (member_specs (renamed d) machine Msvc)) short_at)) thunk_at,
+        all_append (λ p. Among p (member_specs (renamed d) machine Msvc)) shorts (null_thunk_spec machine (linked_dll d) ∷ [])
+            (all_mapped (short_import_spec machine (names_for Msvc d)) (λ p. Among p (member_specs (renamed d) machine Msvc)) (chosen_exports d chosen) (chosen_all (λ e. Among (short_import_spec machine (names_for Msvc d) e) (member_specs (renamed d) machine Msvc)) short_at)) (thunk_at, tt),
       ))
 
   pub null_from : Contains members (null_member machine (linked_dll d))

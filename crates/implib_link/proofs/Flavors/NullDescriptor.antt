@@ -195,25 +195,16 @@ module _ (machine : MachineType) (b : Bases) (xs ys : List Object) (none : AllBy
   contributions_same linked group empty =
       ap (contributions machine linked group) with_null ∙ flat_none (contributions_of machine linked group) front back own empty ∙ sym (ap (contributions machine linked group) without)
 
-  pub descriptors_same : (linked : List Placed) → contributions machine linked Descriptors (placed_from b (xs ++ taken_null machine ∷ ys)) ≡ contributions machine linked Descriptors (placed_from b (xs ++ ys))
+  -- a group that the null descriptor is not in
+  pub group_same : (linked : List Placed) (group : Group) → same_group group DirectoryEnds ≡ false →
+      contributions machine linked group (placed_from b (xs ++ taken_null machine ∷ ys)) ≡ contributions machine linked group (placed_from b (xs ++ ys))
   unfolding with_section_symbols object_of null_descriptor entries_of name_text
-  descriptors_same linked = contributions_same linked Descriptors refl
-
-  pub lookups_same : (linked : List Placed) → contributions machine linked Lookups (placed_from b (xs ++ taken_null machine ∷ ys)) ≡ contributions machine linked Lookups (placed_from b (xs ++ ys))
-  unfolding with_section_symbols object_of null_descriptor entries_of name_text
-  lookups_same linked = contributions_same linked Lookups refl
-
-  pub addresses_same : (linked : List Placed) → contributions machine linked Addresses (placed_from b (xs ++ taken_null machine ∷ ys)) ≡ contributions machine linked Addresses (placed_from b (xs ++ ys))
-  unfolding with_section_symbols object_of null_descriptor entries_of name_text
-  addresses_same linked = contributions_same linked Addresses refl
-
-  pub hint_names_same : (linked : List Placed) → contributions machine linked HintNames (placed_from b (xs ++ taken_null machine ∷ ys)) ≡ contributions machine linked HintNames (placed_from b (xs ++ ys))
-  unfolding with_section_symbols object_of null_descriptor entries_of name_text
-  hint_names_same linked = contributions_same linked HintNames refl
-
-  pub dll_names_same : (linked : List Placed) → contributions machine linked DllNames (placed_from b (xs ++ taken_null machine ∷ ys)) ≡ contributions machine linked DllNames (placed_from b (xs ++ ys))
-  unfolding with_section_symbols object_of null_descriptor entries_of name_text
-  dll_names_same linked = contributions_same linked DllNames refl
+  group_same linked Descriptors is = contributions_same linked Descriptors refl
+  group_same linked DirectoryEnds is = cc
+  group_same linked Lookups is = contributions_same linked Lookups refl
+  group_same linked Addresses is = contributions_same linked Addresses refl
+  group_same linked HintNames is = contributions_same linked HintNames refl
+  group_same linked DllNames is = contributions_same linked DllNames refl
 
   -- the null descriptor alone is in `.idata$3`
   ends_are : (linked : List Placed) → contributions machine linked DirectoryEnds (placed_from b (xs ++ taken_null machine ∷ ys)) ≡ record { address = b.directory_ends; bytes = zeros 20 } ∷ []

@@ -38,7 +38,7 @@ use Rattle.implib_link.proofs.Flavors.Blocks.{AllSuit, EachIn, even_all, rest_of
 use Rattle.implib_link.proofs.Gnu.Claims.{claimed_placed}
 use Rattle.implib_link.proofs.Flavors.Claims.{all_claim_listed, claimed_with_null}
 use Rattle.implib_link.proofs.Flavors.Inputs.{block_in, inputs_link, inputs_objects, inputs_plainly, inputs_symbols, inputs_taken, null_object, objects_with_null}
-use Rattle.implib_link.proofs.Flavors.NullDescriptor.{EndsNothing, all_insert, addresses_same, among_same, descriptors_end_same, descriptors_same, dll_names_same, finds_same, hint_names_same, lookups_same, null_filled, null_once, others_same, undefined_same}
+use Rattle.implib_link.proofs.Flavors.NullDescriptor.{EndsNothing, all_insert, among_same, descriptors_end_same, finds_same, null_filled, null_once, others_same, undefined_same, group_same}
 use Rattle.implib_link.proofs.Gnu.Others.{contributions_kept, definitions_kept, placed_kept}
 use Rattle.implib_link.proofs.Gnu.Packed.{end_kept}
 use Rattle.implib_link.proofs.Gnu.Program.{all_claim, gets_address, once_of}
@@ -219,16 +219,6 @@ pub record Stand (machine : MachineType) (ending : Ending) (b : Bases) (inputs :
   pub finds : AllByRecursion (AllFind (placed_from b objects)) (placed_from b (all_objects machine (map block_in inputs) (rest_of ending))) →
       AllByRecursion (AllFind (placed_from b objects)) (with_tables (placed_from b objects))
   pub undefined : undefined_names (with_tables (placed_from b objects)) ≡ undefined_names (placed_from b (all_objects machine (map block_in inputs) (rest_of ending)))
-
--- a group that no member's null descriptor is in
-group_same : (machine : MachineType) (b : Bases) (xs ys : List Object) (none : AllByRecursion EndsNothing (xs ++ ys)) (even : b.directory_ends % 4 ≡ 0) (linked : List Placed) (group : Group) →
-    same_group group DirectoryEnds ≡ false → contributions machine linked group (placed_from b (xs ++ taken_null machine ∷ ys)) ≡ contributions machine linked group (placed_from b (xs ++ ys))
-group_same machine b xs ys none even linked Descriptors is = descriptors_same machine b xs ys none even linked
-group_same machine b xs ys none even linked DirectoryEnds is = cc
-group_same machine b xs ys none even linked Lookups is = lookups_same machine b xs ys none even linked
-group_same machine b xs ys none even linked Addresses is = addresses_same machine b xs ys none even linked
-group_same machine b xs ys none even linked HintNames is = hint_names_same machine b xs ys none even linked
-group_same machine b xs ys none even linked DllNames is = dll_names_same machine b xs ys none even linked
 
 pub stand : (machine : MachineType) (ending : Ending) (b : Bases) (inputs : List FlavorInput) (objects : List Object) → AllByRecursion (IsMadeFor machine) inputs →
     IsProgramOf machine ending b inputs objects → Stand machine ending b inputs objects

@@ -9,7 +9,6 @@ use Rattle.std.proofs.lemmas.Slice.Eq.{bytes_eq-Decides}
 use Rattle.implib.specs.declared.coff.object.Relocation.{Relocation}
 use Rattle.implib.specs.declared.machine.MachineType.{MachineType}
 use Rattle.implib.specs.Formats.Bytes.{u32_bytes}
-use Rattle.implib.specs.Formats.Constants.{image_relative}
 use Rattle.implib.specs.Formats.File.{is_defined_external}
 use Rattle.implib.specs.Formats.Object.{ASymbol, Auxiliary, Entry, Object, ObjectSection, before_nul, section_numbered, u32_at}
 use Rattle.implib.specs.Import.{Ask}
@@ -31,7 +30,7 @@ use Rattle.implib_link.proofs.Gnu.Packed.{end_of_sections}
 use Rattle.implib_link.proofs.Gnu.Runs.{located_behind}
 use Rattle.implib_link.proofs.Gnu.Sized.{IsSized}
 use Rattle.implib_link.proofs.Parts.Sections.{none_ends, one_address, one_ends, one_is}
-use Rattle.implib_link.proofs.Parts.Texts.{ended_is, named_located, null_located, only_located, thunk_located}
+use Rattle.implib_link.proofs.Parts.Texts.{ended_is, named_located, null_located, only_located, thunk_located, field_is}
 use Rattle.implib_link.proofs.Gnu.Loaded.{plus_none, times_next, times_none}
 use Rattle.implib_link.proofs.Flavors.Program.{later_even}
 
@@ -226,20 +225,15 @@ module _ (machine : MachineType) (linked : List Placed) (image : List Range) (st
     filled_row lookups name addresses =
         u32_bytes ((0 + lookups) % 2 ^ 32) ++ (zeros 4 ++ (zeros 4 ++ (u32_bytes ((0 + name) % 2 ^ 32) ++ u32_bytes ((0 + addresses) % 2 ^ 32))))
 
-    is_relative : (offset : ℕ) (r : Relocation) → is_field machine offset r ≡ true → ((r.kind == image_relative machine) ≡ true) × (r.offset ≡ offset)
-    is_relative offset r is =
-        let parts = and_parts (r.kind == image_relative machine) (r.offset == offset) is in
-        (parts.0, eqb-true r.offset offset parts.1)
-
     in_order : (r q n : Relocation) → (is_field machine 0 r && (is_field machine 12 q && is_field machine 16 n)) ≡ true →
         relocated machine linked p (r ∷ q ∷ n ∷ []) (zeros 20) ≡ filled_row (target_address linked p r.symbol) (target_address linked p q.symbol) (target_address linked p n.symbol)
     unfolding with_address u32_bytes u32_at
     in_order r q n are =
         let first = and_parts (is_field machine 0 r) (is_field machine 12 q && is_field machine 16 n) are in
         let later = and_parts (is_field machine 12 q) (is_field machine 16 n) first.1 in
-        let x = is_relative 0 r first.0 in
-        let y = is_relative 12 q later.0 in
-        let z = is_relative 16 n later.1 in
+        let x = field_is machine 0 r first.0 in
+        let y = field_is machine 12 q later.0 in
+        let z = field_is machine 16 n later.1 in
         rw (x.0, y.0, z.0, x.1, y.1, z.1) refl
 
     name_last : (r q n : Relocation) → (is_field machine 0 r && (is_field machine 16 q && is_field machine 12 n)) ≡ true →
@@ -248,9 +242,9 @@ module _ (machine : MachineType) (linked : List Placed) (image : List Range) (st
     name_last r q n are =
         let first = and_parts (is_field machine 0 r) (is_field machine 16 q && is_field machine 12 n) are in
         let later = and_parts (is_field machine 16 q) (is_field machine 12 n) first.1 in
-        let x = is_relative 0 r first.0 in
-        let y = is_relative 16 q later.0 in
-        let z = is_relative 12 n later.1 in
+        let x = field_is machine 0 r first.0 in
+        let y = field_is machine 16 q later.0 in
+        let z = field_is machine 12 n later.1 in
         rw (x.0, y.0, z.0, x.1, y.1, z.1) refl
 
     row_filled : (relocations : List Relocation) (row : Row) → row_of machine relocations ≡ Some row →

@@ -86,21 +86,18 @@ pub not_taken : List MemberView → List MemberView → ℕ
 not_taken [] taken = 0
 not_taken (m ∷ archive) taken = (if is_taken taken m then 0 else 1) + not_taken archive taken
 
+count_more : (same is : Bool) → (if same || is then 0 else 1) ≤ (if is then 0 else 1)
+count_more true true = omega arith
+count_more true false = omega arith
+count_more false is = omega arith
+
 not_more : (archive taken : List MemberView) (t : MemberView) → not_taken archive (t ∷ taken) ≤ not_taken archive taken
 unfolding not_taken is_taken
 not_more [] taken t = omega arith
 not_more (m ∷ archive) taken t =
+    let own = count_more (is_same m t) (is_taken taken m) in
     let behind : not_taken archive (t ∷ taken) ≤ not_taken archive taken = not_more archive taken t in
-    elim (cases_Bool (is_same m t)) [
-      | inl same ↦ elim (cases_Bool (is_taken taken m)) [
-        | inl is ↦ rw (same, is) (omega arith)
-        | inr none ↦ rw (same, none) (omega arith)
-      ]
-      | inr other ↦ elim (cases_Bool (is_taken taken m)) [
-        | inl is ↦ rw (other, is) (omega arith)
-        | inr none ↦ rw (other, none) (omega arith)
-      ]
-    ]
+    omega arith
 
 pub fewer : (archive taken : List MemberView) (t : MemberView) → Among t archive → is_taken taken t ≡ false → not_taken archive (t ∷ taken) < not_taken archive taken
 unfolding not_taken is_taken Among
@@ -111,17 +108,9 @@ fewer (m ∷ archive) taken t (inl e) new =
     let first : is_taken taken m ≡ false = subst (λ y. is_taken taken y ≡ false) e new in
     rw (same, first) (omega arith)
 fewer (m ∷ archive) taken t (inr held) new =
+    let own = count_more (is_same m t) (is_taken taken m) in
     let behind : not_taken archive (t ∷ taken) < not_taken archive taken = fewer archive taken t held new in
-    elim (cases_Bool (is_same m t)) [
-      | inl same ↦ elim (cases_Bool (is_taken taken m)) [
-        | inl is ↦ rw (same, is) (omega arith)
-        | inr none ↦ rw (same, none) (omega arith)
-      ]
-      | inr other ↦ elim (cases_Bool (is_taken taken m)) [
-        | inl is ↦ rw (other, is) (omega arith)
-        | inr none ↦ rw (other, none) (omega arith)
-      ]
-    ]
+    omega arith
 
 -- whether a name finds a member that is not taken
 pub first_new : (archive taken : List MemberView) (name : List ℕ) → ((m : MemberView) × (first_listed archive name ≡ Some m) × (Contains taken m → ⊥)) ⊎
