@@ -22,11 +22,11 @@ pub mod MsvcArchives
 pub mod MsvcRooms
 pub mod NamedApart
 pub mod Roles
+pub mod FlavorGroups
 pub mod GnuAlone
 pub mod Taken
 pub mod Chosen
 pub mod Found
-pub mod BothMembers
 pub mod MsvcOne
 pub mod BothArranged
 pub mod BothClosed

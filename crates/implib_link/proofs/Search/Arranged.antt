@@ -1,7 +1,7 @@
 -- What is linked of an archive of libraries, where the libraries may be in another order.
-use Rattle.std.proofs.Common.{◌≡◌, ℕ, ◌+◌, ◌≤◌, Bool, List, [], ◌∷◌, ◌++◌, Option, Some, None, ◌⊎◌, refl, ap, sym, ◌∙◌, subst, inl, inr, arith}
+use Rattle.std.proofs.Common.{◌≡◌, ℕ, ◌+◌, ◌≤◌, Bool, List, [], ◌∷◌, ◌++◌, refl, ap, sym, ◌∙◌, subst, inl, inr, arith}
 use Rattle.std.specs.Prelude.{IsPermutation, reverse}
-use Rattle.std.specs.List.{AllByRecursion, cons_option, filter, filter_map, flat_map}
+use Rattle.std.specs.List.{AllByRecursion, cons_option, filter, flat_map}
 use Rattle.std.proofs.lemmas.Bool.{cases_Bool}
 use Rattle.std.proofs.lemmas.List.Sorted.{Contains-permutation, IsPermutation-reverse, IsPermutation-sym}
 use Rattle.implib.specs.declared.machine.MachineType.{MachineType}
@@ -11,7 +11,7 @@ use Rattle.implib.specs.Link.LinkedMembers.{IsMade, LinkInput, all_linked, chose
 use Rattle.implib.specs.Members.Gnu.{archive_symbols, head_symbol, iname_symbol}
 use Rattle.implib.proofs.Link.LinkedBlocks.{linked_symbols}
 use Rattle.implib.proofs.Link.LinkedMembers.{among_contains}
-use Rattle.implib.proofs.Link.Ranges.{Among, all_among, among_first, among_later}
+use Rattle.implib.proofs.Link.Ranges.{Among, all_among}
 use Rattle.implib_link.specs.Search.Archives.{IsArchive, IsLibrary, Library, exports_of, input_if_any, inputs_wanted, symbols_of_export, symbols_of_library}
 use Rattle.implib_link.specs.Search.Search.{exports_wanted, is_wanted, linked_if_any}
 use Rattle.implib_link.proofs.Search.Lists.{all_from as all_each, contains_among}
@@ -57,37 +57,6 @@ archive_moved machine libraries arranged moved archive = record {
 
 pub chosen_are : (l : Library) (wanted : List (List ℕ)) → chosen_exports l.definition (exports_wanted l.definition wanted) ≡ filter (is_wanted wanted) (exports_of l)
 chosen_are l wanted = passing_chosen (is_wanted wanted) [] (exports_of l)
-
--- What is kept of a list, in another order.
-
-pub input_front : {X : Type 0} (o : Option X) (x : X) (xs : List X) → o ≡ Some x → Among x (cons_option o xs)
-input_front None x xs is = cc
-input_front (Some y) x xs is = (let same : x ≡ y = cc in subst (λ z. Among x (z ∷ xs)) same (among_first x xs))
-
-pub input_behind : {X : Type 0} (o : Option X) (x : X) (xs : List X) → Among x xs → Among x (cons_option o xs)
-input_behind None x xs held = held
-input_behind (Some y) x xs held = among_later x y xs held
-
-pub input_from : {X : Type 0} (o : Option X) (x : X) (xs : List X) → Among x (cons_option o xs) → (o ≡ Some x) ⊎ Among x xs
-unfolding Among
-input_from None x xs held = inr held
-input_from (Some y) x xs (inl e) = inl (ap Some (sym e))
-input_from (Some y) x xs (inr held) = inr held
-
-pub kept_from : {X Y : Type 0} (keep : X → Option Y) (xs : List X) (y : Y) → Among y (filter_map keep xs) → (x : X) × Among x xs × (keep x ≡ Some y)
-unfolding Among
-kept_from keep [] y held = absurd held
-kept_from keep (x ∷ rest) y held =
-    elim (input_from (keep x) y (filter_map keep rest) held) [
-      | inl is ↦ (x, inl refl, is)
-      | inr behind ↦ let later = kept_from keep rest y behind in (later.0, inr later.1, later.2)
-    ]
-
-pub kept_into : {X Y : Type 0} (keep : X → Option Y) (xs : List X) (y : Y) (x : X) → Among x xs → keep x ≡ Some y → Among y (filter_map keep xs)
-unfolding Among
-kept_into keep [] y x held is = absurd held
-kept_into keep (z ∷ rest) y x (inl same) is = input_front (keep z) y (filter_map keep rest) (subst (λ w. keep w ≡ Some y) same is)
-kept_into keep (z ∷ rest) y x (inr held) is = input_behind (keep z) y (filter_map keep rest) (kept_into keep rest y x held is)
 
 -- The input of a library that is wanted, and what is chosen by an input.
 

@@ -1,9 +1,8 @@
 -- What is linked of an archive of both flavours, where the libraries may be in another order: its symbols differ, since those do
 -- that the archive lists.
-use Rattle.std.proofs.Common.{◌≡◌, ℕ, ◌+◌, ◌≤◌, false, List, [], ◌∷◌, ◌++◌, map, sym, ◌∙◌, subst, refl, inl, inr, arith}
+use Rattle.std.proofs.Common.{◌≡◌, ℕ, ◌+◌, ◌≤◌, List, [], ◌∷◌, ◌++◌, map, sym, subst, arith}
 use Rattle.std.specs.Prelude.{IsPermutation, bytes_eq}
-use Rattle.std.specs.List.{AllByRecursion, IsDistinct, cons_option, flat_map, list_any}
-use Rattle.std.proofs.lemmas.Bool.{cases_Bool}
+use Rattle.std.specs.List.{AllByRecursion, IsDistinct, cons_option, flat_map}
 use Rattle.std.proofs.lemmas.List.Sorted.{IsPermutation-sym}
 use Rattle.implib.specs.declared.flavor.Flavor.{Flavor}
 use Rattle.implib.specs.declared.flavor.Flavor.TheVariants.{Gnu, Msvc}
@@ -11,110 +10,57 @@ use Rattle.implib.specs.declared.machine.MachineType.{MachineType}
 use Rattle.implib.specs.LibraryName.{names_for}
 use Rattle.implib.specs.Link.LinkedMembers.{chosen_exports}
 use Rattle.implib.specs.Members.MsvcObjects.{null_descriptor_symbol}
-use Rattle.implib.proofs.Link.Ranges.{Among, all_among}
+use Rattle.implib.proofs.Link.Ranges.{Among}
 use Rattle.implib_link.specs.Flavors.Program.{FlavorInput, IsFoundByName, IsMadeFor, all_members, dll_names_in, symbols_listed}
-use Rattle.implib_link.specs.Search.Archives.{Library, symbols_of_library}
-use Rattle.implib_link.specs.Search.BothFlavors.{FlavorLibrary, IsFlavorArchive, flavor_input, flavor_inputs, gnu_among, if_gnu, if_msvc, msvc_among}
-use Rattle.implib_link.specs.Search.MsvcArchives.{symbols_of_all_shorts, symbols_of_shorts}
+use Rattle.implib_link.specs.Search.Archives.{Library}
+use Rattle.implib_link.specs.Search.BothFlavors.{FlavorLibrary, IsFlavorArchive, flavor_input, flavor_inputs, msvc_among}
 use Rattle.implib_link.proofs.Flavors.Block.{symbols_of}
 use Rattle.implib_link.proofs.Flavors.Blocks.{FlavorBlock}
 use Rattle.implib_link.proofs.Flavors.Inputs.{block_in, inputs_symbols}
 use Rattle.implib_link.proofs.Search.Arranged.{among_moved, library_fewer as gnu_fewer}
 use Rattle.implib_link.proofs.Search.Chosen.{if_any, input_if, input_is, numbers_in}
-use Rattle.implib_link.proofs.Search.Counts.{distinct_from, few_from, none_times, times, times_both, times_moved}
-use Rattle.implib_link.proofs.Search.Found.{by_name, made_of}
-use Rattle.implib_link.proofs.Search.Lists.{all_from as all_each, any_among, distinct_later}
+use Rattle.implib_link.proofs.Search.Counts.{distinct_from, times, times_both, times_moved}
+use Rattle.implib_link.proofs.Search.FlavorGroups.{few, made_of, null_of, of_libraries, of_library}
+use Rattle.implib_link.proofs.Search.Found.{by_name}
+use Rattle.implib_link.proofs.Search.Lists.{all_from as all_each, distinct_later}
 use Rattle.implib_link.proofs.Search.MsvcArchives.{library_fewer as short_fewer}
 
 module _ (machine : MachineType) where
-  abbrev of_library : Flavor → Library → List (List ℕ)
-  of_library Msvc l = symbols_of_shorts l
-  of_library Gnu l = symbols_of_library machine l
-
-  abbrev of_libraries : List FlavorLibrary → List (List ℕ)
-  of_libraries libraries = flat_map (λ (l : FlavorLibrary). of_library l.flavor l.library) libraries
-
   abbrev of_inputs : List FlavorInput → List (List ℕ)
   of_inputs inputs = flat_map (λ (k : FlavorBlock). symbols_of machine k.flavor k.dll k.exports) (map block_in inputs)
 
   abbrev IsFewer : List ℕ → Flavor → Library → List ℕ → Type 0
-  IsFewer name flavor l chosen = times name (symbols_of machine flavor (names_for flavor l.definition) (chosen_exports l.definition chosen)) ≤ times name (of_library flavor l)
+  IsFewer name flavor l chosen = times name (symbols_of machine flavor (names_for flavor l.definition) (chosen_exports l.definition chosen)) ≤ times name (of_library machine flavor l)
 
   library_fewer : (name : List ℕ) (names : List (List ℕ)) (flavor : Flavor) (l : Library) → IsFewer name flavor l (numbers_in flavor names l)
   library_fewer name names Msvc l = short_fewer machine name l names
   library_fewer name names Gnu l = gnu_fewer machine name l names
 
   one_more : (name : List ℕ) (names : List (List ℕ)) (flavor : Flavor) (l : Library) (others : List FlavorInput) →
-      times name (of_inputs (cons_option (flavor_input names flavor l) others)) ≤ times name (of_library flavor l) + times name (of_inputs others)
+      times name (of_inputs (cons_option (flavor_input names flavor l) others)) ≤ times name (of_library machine flavor l) + times name (of_inputs others)
   one_more name names flavor l others =
-      subst (λ o. times name (of_inputs (cons_option o others)) ≤ times name (of_library flavor l) + times name (of_inputs others)) (sym (input_if flavor names l))
+      subst (λ o. times name (of_inputs (cons_option o others)) ≤ times name (of_library machine flavor l) + times name (of_inputs others)) (sym (input_if flavor names l))
       (by (numbers_in flavor names l) (library_fewer name names flavor l))
     where
-      by : (chosen : List ℕ) → IsFewer name flavor l chosen → times name (of_inputs (cons_option (if_any flavor l chosen) others)) ≤ times name (of_library flavor l) + times name (of_inputs others)
+      by : (chosen : List ℕ) → IsFewer name flavor l chosen → times name (of_inputs (cons_option (if_any flavor l chosen) others)) ≤ times name (of_library machine flavor l) + times name (of_inputs others)
       by [] few = omega arith
       by (n ∷ chosen) few =
           (let both = times_both name (symbols_of machine flavor (names_for flavor l.definition) (chosen_exports l.definition (n ∷ chosen))) (of_inputs others) in omega arith)
 
-  inputs_fewer : (name : List ℕ) (libraries : List FlavorLibrary) (names : List (List ℕ)) → times name (of_inputs (flavor_inputs libraries names)) ≤ times name (of_libraries libraries)
+  inputs_fewer : (name : List ℕ) (libraries : List FlavorLibrary) (names : List (List ℕ)) → times name (of_inputs (flavor_inputs libraries names)) ≤ times name (of_libraries machine libraries)
   unfolding times
   inputs_fewer name [] names = omega arith
   inputs_fewer name (l ∷ rest) names =
-      let first : times name (of_inputs (cons_option (flavor_input names l.flavor l.library) (flavor_inputs rest names))) ≤ times name (of_library l.flavor l.library) + times name (of_inputs (flavor_inputs rest names)) =
+      let first : times name (of_inputs (cons_option (flavor_input names l.flavor l.library) (flavor_inputs rest names))) ≤ times name (of_library machine l.flavor l.library) + times name (of_inputs (flavor_inputs rest names)) =
       one_more name names l.flavor l.library (flavor_inputs rest names) in
-      let behind : times name (of_inputs (flavor_inputs rest names)) ≤ times name (of_libraries rest) = inputs_fewer name rest names in
-      let all : times name (of_library l.flavor l.library ++ of_libraries rest) ≡ times name (of_library l.flavor l.library) + times name (of_libraries rest) =
-      times_both name (of_library l.flavor l.library) (of_libraries rest) in
+      let behind : times name (of_inputs (flavor_inputs rest names)) ≤ times name (of_libraries machine rest) = inputs_fewer name rest names in
+      let all : times name (of_library machine l.flavor l.library ++ of_libraries machine rest) ≡ times name (of_library machine l.flavor l.library) + times name (of_libraries machine rest) =
+      times_both name (of_library machine l.flavor l.library) (of_libraries machine rest) in
       omega arith
-
-  sums_first : (name : List ℕ) (flavor : Flavor) (l : Library) (rest : List FlavorLibrary) →
-      times name (of_libraries rest) ≡ times name (flat_map (symbols_of_library machine) (gnu_among rest)) + times name (flat_map symbols_of_shorts (msvc_among rest)) →
-      times name (of_library flavor l) + times name (of_libraries rest)
-      ≡ times name (flat_map (symbols_of_library machine) (cons_option (if_gnu flavor l) (gnu_among rest))) + times name (flat_map symbols_of_shorts (cons_option (if_msvc flavor l) (msvc_among rest)))
-  sums_first name Msvc l rest later =
-      (let both = times_both name (symbols_of_shorts l) (flat_map symbols_of_shorts (msvc_among rest)) in omega arith)
-  sums_first name Gnu l rest later =
-      (let both = times_both name (symbols_of_library machine l) (flat_map (symbols_of_library machine) (gnu_among rest)) in omega arith)
-
-  sums : (name : List ℕ) (libraries : List FlavorLibrary) →
-      times name (of_libraries libraries) ≡ times name (flat_map (symbols_of_library machine) (gnu_among libraries)) + times name (flat_map symbols_of_shorts (msvc_among libraries))
-  unfolding times
-  sums name [] = refl
-  sums name (l ∷ rest) = times_both name (of_library l.flavor l.library) (of_libraries rest) ∙ sums_first name l.flavor l.library rest (sums name rest)
-
-  -- the null descriptor's symbol, where there is a library for Microsoft's linker
-  abbrev null_of : List Library → List (List ℕ)
-  null_of [] = []
-  null_of (l ∷ shorts) = null_descriptor_symbol ∷ []
 
   module _ (libraries : List FlavorLibrary) (archive : IsFlavorArchive machine libraries) where
     abbrev shorts : List Library
     shorts = msvc_among libraries
-
-    shorts_differ : (ls : List Library) → IsDistinct bytes_eq (null_descriptor_symbol ∷ flat_map symbols_of_shorts ls) → IsDistinct bytes_eq (symbols_of_all_shorts ls)
-    unfolding IsDistinct
-    shorts_differ [] distinct = tt
-    shorts_differ (l ∷ ls) distinct = distinct
-
-    with_null : (name : List ℕ) (ls : List Library) → times name (symbols_of_all_shorts ls) ≡ times name (null_of ls) + times name (flat_map symbols_of_shorts ls)
-    unfolding times
-    with_null name [] = refl
-    with_null name (l ∷ ls) = times_both name (null_descriptor_symbol ∷ []) (flat_map symbols_of_shorts (l ∷ ls))
-
-    -- the symbols of all libraries and the null descriptor's
-    few : (name : List ℕ) → times name (null_of shorts) + times name (of_libraries libraries) ≤ 1
-    few name =
-        let gnu : List (List ℕ) = flat_map (symbols_of_library machine) (gnu_among libraries) in
-        let total : times name (of_libraries libraries) ≡ times name gnu + times name (flat_map symbols_of_shorts (msvc_among libraries)) = sums name libraries in
-        let split : times name (symbols_of_all_shorts (msvc_among libraries)) ≡ times name (null_of shorts) + times name (flat_map symbols_of_shorts (msvc_among libraries)) = with_null name shorts in
-        let gnu_once : times name gnu ≤ 1 = few_from gnu archive.gnu.distinct name in
-        let short_once : times name (symbols_of_all_shorts (msvc_among libraries)) ≤ 1 = few_from (symbols_of_all_shorts shorts) (shorts_differ shorts archive.msvc.distinct) name in
-        elim (cases_Bool (list_any (bytes_eq name) gnu)) [
-          | inl there ↦
-              (let none : times name (symbols_of_all_shorts (msvc_among libraries)) ≡ 0 =
-              none_times name (symbols_of_all_shorts shorts) (all_among (λ k. list_any (bytes_eq k) (symbols_of_all_shorts (msvc_among libraries)) ≡ false) name gnu (any_among name gnu there) archive.apart) in
-              omega arith)
-          | inr none_there ↦ (let none : times name gnu ≡ 0 = none_times name gnu none_there in omega arith)
-        ]
 
     module _ (arranged : List FlavorLibrary) (moved : IsPermutation libraries arranged) (names : List (List ℕ)) where
       back : (l : FlavorLibrary) → Among l arranged → Among l libraries
@@ -132,9 +78,9 @@ module _ (machine : MachineType) where
 
       few_linked : (name : List ℕ) → times name (null_of shorts ++ of_inputs (flavor_inputs arranged names)) ≤ 1
       few_linked name =
-          let most : times name (null_of shorts) + times name (of_libraries libraries) ≤ 1 = few name in
-          let turned : times name (of_libraries arranged) ≡ times name (of_libraries libraries) = times_moved (λ (l : FlavorLibrary). of_library l.flavor l.library) name libraries arranged moved in
-          let less : times name (of_inputs (flavor_inputs arranged names)) ≤ times name (of_libraries arranged) = inputs_fewer name arranged names in
+          let most : times name (null_of shorts) + times name (of_libraries machine libraries) ≤ 1 = few machine libraries archive name in
+          let turned : times name (of_libraries machine arranged) ≡ times name (of_libraries machine libraries) = times_moved (λ (l : FlavorLibrary). of_library machine l.flavor l.library) name libraries arranged moved in
+          let less : times name (of_inputs (flavor_inputs arranged names)) ≤ times name (of_libraries machine arranged) = inputs_fewer name arranged names in
           let some : times name (null_of shorts ++ of_inputs (flavor_inputs arranged names)) ≡ times name (null_of shorts) + times name (of_inputs (flavor_inputs arranged names)) =
           times_both name (null_of shorts) (of_inputs (flavor_inputs arranged names)) in
           omega arith

@@ -2,7 +2,7 @@
 use Rattle.std.proofs.Common.{◌≡◌, ℕ, ◌+◌, ◌*◌, ◌⊎◌, Bool, true, false, List, [], ◌∷◌, ◌++◌, Option, Some, refl, ap, sym, ◌∙◌, subst, inl, inr}
 use Rattle.std.specs.Prelude.{◌<◌, ◌^◌, IsPermutation, not, slice_get}
 use Rattle.std.specs.List.{AllByRecursion, Contains, filter}
-use Rattle.std.proofs.lemmas.Bool.{cases_Bool, true≢false}
+use Rattle.std.proofs.lemmas.Bool.{cases_Bool, true≢false, not_from_false}
 use Rattle.std.proofs.lemmas.List.Sorted.{IsPermutation-sym}
 use Rattle.implib.specs.declared.flavor.Flavor.{Flavor}
 use Rattle.implib.specs.declared.flavor.Flavor.TheVariants.{Gnu, Msvc}
@@ -35,9 +35,10 @@ use Rattle.implib_link.proofs.Flavors.Program.{program_links}
 use Rattle.implib_link.proofs.Search.Arranged.{among_moved}
 use Rattle.implib_link.proofs.Search.BothArranged.{both_distinct, both_found, both_made}
 use Rattle.implib_link.proofs.Search.Chosen.{AnOwn, AnyOf, TheLast, TheTop, chosen_are, chosen_by, chosen_name, export_chosen, input_held, input_in, input_is, is_chosen, linked_from, linked_into, some_short}
-use Rattle.implib_link.proofs.Search.Closing.{IsFirstAs, IsListed, at_index, first_of, listed_other, none_left, others_claim_none, reached, still_named, takes_apart}
-use Rattle.implib_link.proofs.Search.Found.{IsReader, expands, first_held, found, made_of, there_msvc, weak_by_role}
-use Rattle.implib_link.proofs.Search.Lists.{among_at, among_either, among_flat_map, contains_among, from_not, passes, passing, to_not}
+use Rattle.implib_link.proofs.Search.Closing.{IsFirstAs, IsListed, first_of, listed_other, none_left, others_claim_none, reached, still_named, takes_apart}
+use Rattle.implib_link.proofs.Search.FlavorGroups.{first_held, made_of, there_msvc}
+use Rattle.implib_link.proofs.Search.Found.{IsReader, expands, found, weak_by_role}
+use Rattle.implib_link.proofs.Search.Lists.{among_at, among_either, among_flat_map, contains_among, from_not, passes, passing, at_index}
 use Rattle.implib_link.proofs.Search.MsvcArchives.{by_symbol, null_tables}
 use Rattle.implib_link.proofs.Search.MsvcMembers.{null_is, null_of}
 use Rattle.implib_link.proofs.Search.Roles.{IsRole, Last, Null, Own, Role, Top, Weak, in_flavor, is_weak_role, listed_as, member, symbols}
@@ -96,7 +97,7 @@ module _ (machine : MachineType) (libraries : List FlavorLibrary) (archive : IsF
   -- What is linked is what is taken but for weak externals, and may be a null descriptor.
 
   other : (m : MemberView) → Among m taken × (weak m ≡ false) → Among m (filter (λ y. not (weak y)) taken)
-  other m both = passes (λ y. not (weak y)) m taken both.0 (to_not (weak m) both.1)
+  other m both = passes (λ y. not (weak y)) m taken both.0 (not_from_false (weak m) both.1)
 
   pub member_other : (m : MemberView) → Among m (all_members machine inputs) → Among m (filter (λ y. not (weak y)) taken)
   member_other m held =

@@ -1,7 +1,7 @@
 -- There is a closed program of an archive of both flavours: packed placement of what a linker takes for given objects, however it
 -- reads members.
 use Rattle.std.proofs.Common.{◌≡◌, ℕ, ◌^◌, ◌<◌, ◌≤◌, Bool, true, false, List, [], ◌∷◌, ◌++◌, length, Option, Some, refl, ap, sym, ◌∙◌, subst, inl, inr, arith}
-use Rattle.std.specs.Prelude.{not}
+use Rattle.std.specs.Prelude.{IsPermutation, not}
 use Rattle.std.specs.List.{AllByRecursion, Contains, filter}
 use Rattle.std.proofs.lemmas.List.{append-nil, append_assoc}
 use Rattle.std.proofs.lemmas.List.Elements.{filter-append}
@@ -15,12 +15,12 @@ use Rattle.implib.specs.Members.MemberSpec.{MemberView}
 use Rattle.implib.proofs.Link.Placement.{at_least}
 use Rattle.implib.proofs.Link.Ranges.{Among}
 use Rattle.implib_link.specs.Flavors.Expansion.{expanded_in}
-use Rattle.implib_link.specs.Flavors.Program.{AreProgramObjects, FlavorInput, IsMadeFor, OfMember, all_members, objects_taken}
+use Rattle.implib_link.specs.Flavors.Program.{AreEnded, Ending, IsMadeFor, OfMember, all_members, objects_taken}
 use Rattle.implib_link.specs.Gnu.Packed.{packed, packed_descriptors, packed_end}
 use Rattle.implib_link.specs.Gnu.Program.{HaveSame, has_tables}
 use Rattle.implib_link.specs.Search.Archives.{Library}
 use Rattle.implib_link.specs.Search.BothExists.{HasClosedForBoth, objects_closed_of_both, tables_end_of_both}
-use Rattle.implib_link.specs.Search.BothFlavors.{AreClosedForBoth, AreGivenForBoth, FlavorLibrary, IsClosedForBoth, IsFlavorArchive, archive_of_both, inputs_of_both, msvc_among}
+use Rattle.implib_link.specs.Search.BothFlavors.{AreClosedForBoth, AreGivenForBoth, FlavorLibrary, IsClosedForBoth, IsFlavorArchive, archive_of_both, flavor_inputs, inputs_of_both, msvc_among}
 use Rattle.implib_link.specs.Search.Closed.{TakesIntoAs, unresolved}
 use Rattle.implib_link.specs.Search.Exists.{LieWithin}
 use Rattle.implib_link.specs.Search.MsvcArchives.{first_null, is_weak_in, short_inputs, weak_in}
@@ -32,14 +32,16 @@ use Rattle.implib_link.proofs.Gnu.Packed.{lies_within}
 use Rattle.implib_link.proofs.Search.BothArranged.{both_made}
 use Rattle.implib_link.proofs.Search.BothClosed.{both_held, closed_links_of_both, packed_both}
 use Rattle.implib_link.proofs.Search.BothGiven.{both_given_closes, both_given_ends}
-use Rattle.implib_link.proofs.Search.BothRooms.{both_tables_near}
+use Rattle.implib_link.proofs.Search.BothRooms.{tables_near}
 use Rattle.implib_link.proofs.Search.Chosen.{AnOwn, IsLinked, TheLast, TheTop, linked_from, own_chosen}
 use Rattle.implib_link.proofs.Search.Closing.{each_read, in_turn_for, pulled}
-use Rattle.implib_link.proofs.Search.Found.{HasRole, IsReader, expands, first_held, found, tables_by_role, there_msvc, weak_by_role}
+use Rattle.implib_link.proofs.Search.FlavorGroups.{first_held, there_msvc}
+use Rattle.implib_link.proofs.Search.Found.{HasRole, IsReader, expands, found, tables_by_role, weak_by_role}
 use Rattle.implib_link.proofs.Search.Lists.{among_either, passing}
 use Rattle.implib_link.proofs.Search.MsvcMembers.{null_of}
 use Rattle.implib_link.proofs.Search.Roles.{Last, Null, Own, Top, in_flavor, is_weak_role}
 use Rattle.implib_link.proofs.Search.Search.{only_one}
+use Rattle.implib.proofs.Link.Linked.{all_append}
 
 -- Packed tables lie within the room of the libraries.
 
@@ -55,10 +57,6 @@ within_by first low high end (r ∷ rs) above below all =
 abbrev pub NoneHave : List Object → Type 0
 NoneHave objects = AllByRecursion (λ o. has_tables o ≡ false) objects
 
-pub both_none : (xs ys : List Object) → NoneHave xs → NoneHave ys → NoneHave (xs ++ ys)
-both_none [] ys own behind = behind
-both_none (x ∷ xs) ys own behind = (own.0, both_none xs ys own.1 behind)
-
 pub plain_left : (objects : List Object) → NoneHave objects → filter (λ o. not (has_tables o)) objects ≡ objects
 plain_left [] none = refl
 plain_left (o ∷ objects) none = rw none.0 (ap (λ others. o ∷ others) (plain_left objects none.1))
@@ -73,7 +71,7 @@ pub tables_last : (own weak tables : List Object) → NoneHave own → NoneHave 
 tables_last own weak tables plain none all =
     ap (filter has_tables) (sym (append_assoc own weak tables))
     ∙ filter-append has_tables (own ++ weak) tables
-    ∙ ap (λ front. front ++ filter has_tables tables) (none_kept (own ++ weak) (both_none own weak plain none))
+    ∙ ap (λ front. front ++ filter has_tables tables) (none_kept (own ++ weak) (all_append (λ o. has_tables o ≡ false) own weak plain none))
     ∙ all_kept tables all
 
 pub others_first : (own weak tables : List Object) → NoneHave own → NoneHave weak → AllByRecursion (λ o. has_tables o ≡ true) tables →
@@ -84,34 +82,38 @@ others_first own weak tables plain none all =
     ∙ filter-append (λ o. not (has_tables o)) (own ++ weak) tables
     ∙ ap (λ behind. filter (λ o. not (has_tables o)) (own ++ weak) ++ behind) (none_left tables all)
     ∙ append-nil (filter (λ o. not (has_tables o)) (own ++ weak))
-    ∙ plain_left (own ++ weak) (both_none own weak plain none) in
+    ∙ plain_left (own ++ weak) (all_append (λ o. has_tables o ≡ false) own weak plain none) in
     λ o. (λ held. subst (λ zs. Contains zs o) are held, λ held. subst (λ zs. Contains zs o) (sym are) held)
 
--- Objects that close a program, packed.
-module _ (machine : MachineType) (libraries : List FlavorLibrary) (own : List Object) (taken : List MemberView) (arranged : List FlavorLibrary) (first : ℕ) (objects : List Object)
-    (archive : IsFlavorArchive machine libraries) (closed : AreClosedForBoth machine libraries own taken arranged objects) (above : 0 < first) where
-  abbrev inputs : List FlavorInput
-  inputs = inputs_of_both machine arranged own taken
+-- The objects of a program, packed where there is room for the libraries' tables.
+module _ (machine : MachineType) (ending : Ending) (libraries arranged : List FlavorLibrary) (names : List (List ℕ)) (first : ℕ) (objects : List Object) (made : AllByRecursion (IsMadeFor machine) (flavor_inputs arranged names))
+    (ended : AreEnded ending machine (flavor_inputs arranged names) objects) (order : IsPermutation libraries arranged) (above : 0 < first) (room : tables_end_of_both first libraries < 2 ^ 31) where
+  near : packed_end first objects ≤ tables_end_of_both first libraries
+  near = tables_near machine ending first libraries arranged names objects made ended order
 
-  made : AllByRecursion (IsMadeFor machine) inputs
+  pub tables_below : packed_end first objects < 2 ^ 31
+  tables_below = (let end = near in omega arith)
+
+  pub tables_within : LieWithin first (tables_end_of_both first libraries) (image_of machine (packed first objects) (placed_from (packed first objects) objects))
+  tables_within =
+      within_by first (packed_descriptors first) (packed_end first objects) (tables_end_of_both first libraries) (image_of machine (packed first objects) (placed_from (packed first objects) objects))
+      (at_least 8 first) near (lies_within machine first objects (kept_sized machine ending (flavor_inputs arranged names) objects made ended) above tables_below)
+
+module _ (machine : MachineType) (libraries : List FlavorLibrary) (own : List Object) (taken : List MemberView) (arranged : List FlavorLibrary) (first : ℕ) (objects : List Object)
+    (archive : IsFlavorArchive machine libraries) (closed : AreClosedForBoth machine libraries own taken arranged objects) (above : 0 < first) (room : tables_end_of_both first libraries < 2 ^ 31) where
+  made : AllByRecursion (IsMadeFor machine) (inputs_of_both machine arranged own taken)
   made = both_made machine libraries archive arranged closed.order (wanted_for machine own taken)
 
-  are : AreProgramObjects machine OfMember (inputs_of_both machine arranged own taken) objects
-  are = both_held machine libraries archive own taken arranged objects closed
+  ended : AreEnded OfMember machine (inputs_of_both machine arranged own taken) objects
+  ended = (both_held machine libraries archive own taken arranged objects closed).ended
 
-  near : packed_end first objects ≤ tables_end_of_both first libraries
-  near = both_tables_near machine first libraries arranged (wanted_for machine own taken) objects made are closed.order
+  pub placed_closed : IsClosedForBoth machine libraries own taken arranged (packed first objects) objects
+  placed_closed =
+      packed_both machine libraries own taken arranged first objects archive closed above
+      (tables_below machine OfMember libraries arranged (wanted_for machine own taken) first objects made ended closed.order above room)
 
-  -- where there is room for the libraries' tables
-  pub placed_closed : tables_end_of_both first libraries < 2 ^ 31 → IsClosedForBoth machine libraries own taken arranged (packed first objects) objects
-  placed_closed room = packed_both machine libraries own taken arranged first objects archive closed above (let end = near in omega arith)
-
-  pub placed_within : tables_end_of_both first libraries < 2 ^ 31 →
-      LieWithin first (tables_end_of_both first libraries) (image_of machine (packed first objects) (placed_from (packed first objects) objects))
-  placed_within room =
-      within_by first (packed_descriptors first) (packed_end first objects) (tables_end_of_both first libraries) (image_of machine (packed first objects) (placed_from (packed first objects) objects))
-      (at_least 8 first) near
-      (lies_within machine first objects (kept_sized machine OfMember inputs objects made are.ended) above (let end = near in omega arith))
+  pub placed_within : LieWithin first (tables_end_of_both first libraries) (image_of machine (packed first objects) (placed_from (packed first objects) objects))
+  placed_within = tables_within machine OfMember libraries arranged (wanted_for machine own taken) first objects made ended closed.order above room
 
 -- What members are taken for holds import tables, but for weak externals.
 module _ (machine : MachineType) (libraries : List FlavorLibrary) (archive : IsFlavorArchive machine libraries) where

@@ -31,7 +31,8 @@ use Rattle.implib_link.specs.Search.Search.{AreTakenInTurnAs, NamesNoHeadOrTail,
 use Rattle.implib_link.proofs.Search.Chosen.{any_too, chosen_too, is_chosen, short_some, some_short}
 use Rattle.implib_link.proofs.Search.Closing.{claims_apart, in_turn_for, none_claimed, not_there, pulled, takes_into, there_not}
 use Rattle.implib_link.proofs.Search.Ends.{search_ends}
-use Rattle.implib_link.proofs.Search.Found.{IsReader, expands, found, gnu_there, left_by_role, msvc_there, weak_by_role}
+use Rattle.implib_link.proofs.Search.FlavorGroups.{gnu_there, msvc_there}
+use Rattle.implib_link.proofs.Search.Found.{IsReader, expands, found, left_by_role, weak_by_role}
 use Rattle.implib_link.proofs.Search.Lists.{all_from as all_each, among_at, among_either, name_as, passes, passing}
 use Rattle.implib_link.proofs.Search.Roles.{IsRole, Last, Null, Own, Role, Top, Weak, in_flavor, is_weak_role, last_symbol, left, listed_as, symbols, top_symbol, weak_target}
 use Rattle.implib_link.proofs.Search.Search.{only_one}

@@ -22,12 +22,12 @@ use Rattle.implib_link.specs.Search.BothFlavors.{FlavorLibrary, flavor_input, fl
 use Rattle.implib_link.specs.Search.MsvcArchives.{imports_wanted, is_import_wanted, short_input_if_any, short_inputs}
 use Rattle.implib_link.specs.Search.Search.{exports_wanted, is_wanted}
 use Rattle.implib_link.proofs.Flavors.GnuPrograms.{gnu_members}
-use Rattle.implib_link.proofs.Search.Arranged.{chosen_are as gnu_chosen_are, kept_from, kept_into}
-use Rattle.implib_link.proofs.Search.Closing.{at_index}
-use Rattle.implib_link.proofs.Search.Lists.{among_at, among_either, among_flat_map, among_mapped, passes, passing}
+use Rattle.implib_link.proofs.Search.Arranged.{chosen_are as gnu_chosen_are}
+use Rattle.implib_link.proofs.Search.Lists.{among_at, among_either, among_flat_map, among_mapped, passes, passing, at_index, kept_from, kept_into}
 use Rattle.implib_link.proofs.Search.MsvcArchives.{both_parts, first_one, import_parts, imports_are}
 use Rattle.implib_link.proofs.Search.Roles.{IsOwn, Last, Own, Top, in_flavor, member}
-use Rattle.implib_link.proofs.Search.Search.{Chosen, in_nothing, member_spec_chosen, member_spec_linked, numbers_are_wanted, only_one, same_export, some_export, wanted_name, wants}
+use Rattle.implib_link.proofs.Search.Search.{Chosen, in_nothing, member_spec_chosen, member_spec_linked, numbers_are_wanted, only_one, some_export, wanted_name, wants}
+use Rattle.std.proofs.lemmas.Option.{same_Some}
 
 -- whether an export's own member is taken for names
 abbrev pub is_chosen : Flavor → List (List ℕ) → ExportView → Bool
@@ -188,7 +188,7 @@ module _ (machine : MachineType) (names : List (List ℕ)) where
       by (inr (inl is)) = TheLast (same ∙ ap member_of is)
       by (inr (inr c)) =
           let found = (numbers_are_wanted (exports_of l) names).only c.0 c.2 in
-          let own : found.0 ≡ c.1 = sym (same_export c.1 found.0 (sym c.3 ∙ found.1)) in
+          let own : found.0 ≡ c.1 = sym (same_Some c.1 found.0 (sym c.3 ∙ found.1)) in
           AnOwn c.0 c.1 c.3 (same ∙ ap member_of c.4) (subst (λ e. is_wanted names e ≡ true) own found.2)
 
   -- what is linked of libraries is linked of one of which some export is chosen

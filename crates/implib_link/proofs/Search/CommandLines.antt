@@ -2,7 +2,7 @@
 use Rattle.std.proofs.Common.{◌≡◌, ℕ, ◌⊎◌, zero, suc, Bool, false, List, [], ◌∷◌, ◌++◌, length, Option, Some, None, refl, ap, sym, ◌∙◌, subst, inl, inr, arith}
 use Rattle.std.specs.Prelude.{◌==◌, bytes_eq, not, slice_get}
 use Rattle.std.specs.List.{AllByRecursion, Contains, IsDistinct, cons_option, filter, flat_map, list_any}
-use Rattle.std.proofs.lemmas.Bool.{cases_Bool, true≢false}
+use Rattle.std.proofs.lemmas.Bool.{cases_Bool, true≢false, not_from_false}
 use Rattle.std.proofs.lemmas.Grind.{flat_map-append}
 use Rattle.std.proofs.lemmas.List.{append-nil, append_assoc}
 use Rattle.implib.specs.Formats.Object.{Object, object_in}
@@ -22,8 +22,10 @@ use Rattle.implib_link.proofs.Search.ArchiveGroups.{found_or_not}
 use Rattle.implib_link.proofs.Search.Closed.{closed_links}
 use Rattle.implib_link.proofs.Search.Given.{given_closes}
 use Rattle.implib_link.proofs.Search.Closing.{unresolved_from, unresolved_parts}
-use Rattle.implib_link.proofs.Search.Lists.{all_listed, among_any, any_among, among_either, among_flat_map, among_listed, as_name, contains_among, listed_is, listed_once, name_as, passes, passing, same_member, to_not}
-use Rattle.implib_link.proofs.Search.Sweeps.{IsFirstAt, Lifts, all_there, among_number, entries_of, entry_there, member_at, first_at, none_first, none_left, number_among, number_of, number_taken, swept_adds, sweeps_in_turn, sweeps_keep, taken_number, once_by}
+use Rattle.implib_link.proofs.Search.Lists.{all_listed, among_any, any_among, among_either, among_flat_map, among_listed, as_name, contains_among, listed_is, listed_once, name_as, passes, passing, among_at, at_index}
+use Rattle.implib_link.proofs.Search.Sweeps.{IsFirstAt, Lifts, all_there, among_number, entries_of, entry_there, first_at, none_first, none_left, number_among, number_taken, swept_adds, sweeps_in_turn, sweeps_keep, taken_number, once_by}
+use Rattle.std.proofs.lemmas.Option.{same_Some, none-some}
+use Rattle.implib_link.proofs.Search.Search.{only_one}
 
 -- What was read first counts on: references and claims of some objects are those of more.
 
@@ -277,7 +279,7 @@ module _ (reads : List ℕ → Option Object) (members : List MemberView) where
   but_these : (some : List ℕ) (n : ℕ) (m : MemberView) (name : List ℕ) → slice_get members n ≡ Some m → Among name m.symbols → (Among n some → ⊥) → Among name (listed_at members (numbers_but members some))
   but_these some n m name at listed none =
       listed_name members (numbers_but members some) n m name at
-      (passes (λ number. not (list_any (λ other. other == number) some)) n (numbers_from (length members) 0) (all_there members n m at) (to_not (list_any (λ other. other == n) some) (not_number n some none))) listed
+      (passes (λ number. not (list_any (λ other. other == number) some)) n (numbers_from (length members) 0) (all_there members n m at) (not_from_false (list_any (λ other. other == n) some) (not_number n some none))) listed
     where
       not_number : (k : ℕ) (ns : List ℕ) → (Among k ns → ⊥) → list_any (λ other. other == k) ns ≡ false
       not_number k ns free = elim (cases_Bool (list_any (λ other. other == k) ns)) [ inl there ↦ absurd (free (number_among k ns there)) | inr is ↦ is ]
@@ -386,7 +388,7 @@ module _ (reads : List ℕ → Option Object) (members : List MemberView) where
     in_turn = searches_in_turn (objects_given inputs) taken once [] inputs [] [] taken refl none is (λ n held. held) tt;
     ended = λ name m pulls.
         let from = listed_is members name m pulls.listed in
-        let at = number_of members m from.0 in
+        let at = at_index m members from.0 in
         let left = contains_among name (unresolved (objects_given inputs ++ objects_as reads (members_at members taken))) pulls.named in
         pulls.new (among_contains m (members_at members taken) (number_taken members taken at.0 m
         (elim (cases_Bool (list_any (λ other. other == at.0) (numbers_in inputs))) [
@@ -404,18 +406,15 @@ module _ (reads : List ℕ → Option Object) (members : List MemberView) where
   gnu_completes inputs taken once none complete is = record {
     in_turn = searches_in_turn (objects_given inputs) taken once [] inputs [] [] taken refl none is (λ n held. held) tt;
     ended = λ name m pulls.
-        nowhere m (sym (all_among (λ n. first_listed members n ≡ None) name (unresolved (objects_given inputs ++ objects_as reads (members_at members taken)))
+        none-some m (sym (all_among (λ n. first_listed members n ≡ None) name (unresolved (objects_given inputs ++ objects_as reads (members_at members taken)))
         (contains_among name (unresolved (objects_given inputs ++ objects_as reads (members_at members taken))) pulls.named) complete) ∙ pulls.listed);
   }
-    where
-      nowhere : (m : MemberView) → None ≡ Some m → ⊥
-      nowhere m is_none = cc
 
   -- lld's searches.
 
   -- members of some numbers are members
   of_all : (numbers : List ℕ) (m : MemberView) → Among m (members_at members numbers) → Among m members
-  of_all numbers m held = (let from = taken_number members numbers m held in member_at members from.0 m from.2)
+  of_all numbers m held = (let from = taken_number members numbers m held in among_at m members from.0 from.2)
 
   behind_are : (numbers : List ℕ) (own : List Object) (before more : List MemberView) → AreTakenBehind reads (members_at members numbers) own before more → ((x : MemberView) → Among x before → Among x members) →
       (x : MemberView) → Among x (more ++ before) → Among x members
@@ -507,19 +506,16 @@ module _ (reads : List ℕ → Option Object) (members : List MemberView) where
           | inl nothing ↦ none_first name (members_at members (numbers_in inputs)) m nothing there from.1
           | inr found ↦
               let listed = listed_is (members_at members (numbers_in inputs)) name found.0 found.1 in
-              lld_done [] [] inputs [] taken is (λ n x empty. nowhere n x empty.listed) name found.0 (record {
+              lld_done [] [] inputs [] taken is (λ n x empty. none-some x empty.listed) name found.0 (record {
                 named = pulls.named;
                 listed = found.1;
                 new = λ held.
-                    let one : found.0 ≡ m = same_member found.0 m (sym (first name found.0
+                    let one : found.0 ≡ m = same_Some found.0 m (sym (first name found.0
                     (name_in_end (objects_given inputs) taken (objects_given inputs) [] (append-nil (objects_given inputs)) taken (λ x among. among) name left) held (among_contains name found.0.symbols listed.1)) ∙ pulls.listed) in
                     pulls.new (subst (Contains taken) one held);
               })
         ];
   }
-    where
-      nowhere : (n : List ℕ) (x : MemberView) → None ≡ Some x → ⊥
-      nowhere n x is_none = cc
 
   -- Two searches of one list take the same.
 
@@ -549,11 +545,7 @@ module _ (reads : List ℕ → Option Object) (members : List MemberView) where
     unfolding claimed_as Among
     claims_there some m name held there listed =
         let from = name_as reads claimed_names name (m ∷ []) (claims_listed m name there listed) in
-        as_name reads claimed_names name some m from.object held (subst (λ (x : MemberView). reads x.bytes ≡ Some from.object) (alone from.member m from.held) from.taken) from.among
-      where
-        alone : (x y : MemberView) → Among x (y ∷ []) → x ≡ y
-        alone x y (inl is) = is
-        alone x y (inr nothing) = absurd nothing
+        as_name reads claimed_names name some m from.object held (subst (λ (x : MemberView). reads x.bytes ≡ Some from.object) (only_one from.member m from.held) from.taken) from.among
 
     taken_are : (taken : List MemberView) → AreTakenIntoAs reads members own taken → (x : MemberView) → Among x taken → Among x members
     unfolding AreTakenIntoAs Among
@@ -579,7 +571,7 @@ module _ (reads : List ℕ → Option Object) (members : List MemberView) where
         elim (cases_Bool (list_any (bytes_eq name) (flat_map claimed_names (objects_as reads other)))) [
           | inl claimed ↦
               let by = claimer other name others (any_among name (flat_map claimed_names (objects_as reads other)) claimed) in
-              let one : by.0 ≡ m = same_member by.0 m (sym (first name by.0 in_other (among_contains by.0 other by.1) (among_contains name by.0.symbols by.2)) ∙ pulls.listed) in
+              let one : by.0 ≡ m = same_Some by.0 m (sym (first name by.0 in_other (among_contains by.0 other by.1) (among_contains name by.0.symbols by.2)) ∙ pulls.listed) in
               subst (λ y. Among y other) one by.1
           | inr free ↦
               let none : Among name (flat_map claimed_names (objects_as reads other)) → ⊥ = λ claimed. true≢false (sym (among_any name (flat_map claimed_names (objects_as reads other)) claimed) ∙ free) in
@@ -629,7 +621,7 @@ module _ (reads : List ℕ → Option Object) (members : List MemberView) where
       first_kept (x ∷ some) name m other is =
           elim (cases_Bool (is_listed_for name x)) [
             | inl here ↦
-                let same : x ≡ m = same_member x m (rw here at is) in
+                let same : x ≡ m = same_Some x m (rw here at is) in
                 let kept : is_given x ≡ false = ap is_given same ∙ other in
                 rw (kept, here) (ap Some same)
             | inr none ↦ elim (cases_Bool (is_given x)) [
@@ -643,7 +635,7 @@ module _ (reads : List ℕ → Option Object) (members : List MemberView) where
       given_or_not some x held =
           elim (cases_Bool (is_given x)) [
             | inl is ↦ inl (passes is_given x some held is)
-            | inr is ↦ inr (passes (λ m. not (is_given m)) x some held (to_not (is_given x) is))
+            | inr is ↦ inr (passes (λ m. not (is_given m)) x some held (not_from_false (is_given x) is))
           ]
 
       -- names of members' objects, by which list they are in
@@ -686,7 +678,7 @@ module _ (reads : List ℕ → Option Object) (members : List MemberView) where
                     let by = claimer (filter is_given full) name (λ x among. are_members x (passing is_given x full among).0) given in
                     let kept = passing is_given by.0 full by.1 in
                     let there = name_in_end own full own [] (append-nil own) taken are name left in
-                    let same : by.0 ≡ m = same_member by.0 m (sym (first name by.0 there (among_contains by.0 full kept.0) (among_contains name by.0.symbols by.2)) ∙ first name m there (among_contains m full held) (among_contains name m.symbols listed)) in
+                    let same : by.0 ≡ m = same_Some by.0 m (sym (first name by.0 there (among_contains by.0 full kept.0) (among_contains name by.0.symbols by.2)) ∙ first name m there (among_contains m full held) (among_contains name m.symbols listed)) in
                     true≢false (sym kept.1 ∙ (ap is_given same ∙ other))
               ]
               | inr there ↦ parts.1 (refs_back claimed_names own (objects_as reads taken) name (names_within claimed_names (λ m. not (is_given m)) taken name there))

@@ -1,59 +1,74 @@
 -- There is a closed program: packed placement of what a linker takes for given objects.
-use Rattle.std.proofs.Common.{◌≡◌, ℕ, ◌^◌, ◌<◌, ◌≤◌, true, false, List, [], ◌∷◌, ◌++◌, sym, subst, arith, map}
+use Rattle.std.proofs.Common.{◌≡◌, ℕ, ◌+◌, ◌^◌, ◌<◌, true, false, List, [], ◌∷◌, ◌++◌, ap, sym, ◌∙◌, subst}
+use Rattle.std.specs.Prelude.{IsPermutation}
+use Rattle.std.specs.List.{sum}
 use Rattle.std.specs.List.{AllByRecursion}
-use Rattle.std.proofs.lemmas.List.Sorted.{IsPermutation-refl}
+use Rattle.std.proofs.lemmas.List.Sorted.{IsPermutation-map, IsPermutation-refl}
+use Rattle.std.proofs.lemmas.List.Sums.{sum-map}
+use Rattle.implib.specs.declared.flavor.Flavor.TheVariants.{Gnu}
 use Rattle.implib.specs.declared.machine.MachineType.{MachineType}
 use Rattle.implib.specs.Formats.Object.{Object, object_in}
 use Rattle.implib.specs.Link.Image.{image_of}
-use Rattle.implib.specs.Link.LinkedMembers.{IsMade, LinkInput, all_linked, objects_in}
+use Rattle.implib.specs.Link.LinkedMembers.{all_linked, objects_in}
 use Rattle.implib.specs.Link.Placement.{placed_from}
 use Rattle.implib.specs.Members.MemberSpec.{MemberView}
-use Rattle.implib.proofs.Link.Placement.{at_least}
-use Rattle.implib_link.specs.Gnu.Packed.{packed, packed_descriptors, packed_end}
+use Rattle.implib.proofs.Members.MemberReadings.{map_after}
+use Rattle.implib_link.specs.Gnu.Packed.{packed}
 use Rattle.implib_link.specs.Gnu.Program.{has_tables, null_descriptor}
-use Rattle.implib_link.specs.Search.Archives.{IsArchive, Library, archive_of, inputs_wanted, is_weak, weak_among}
+use Rattle.implib_link.specs.Search.Archives.{IsArchive, Library, archive_of, is_weak, weak_among}
+use Rattle.implib_link.specs.Search.BothExists.{room_of, tables_end_of_both}
+use Rattle.implib_link.specs.Search.BothFlavors.{flavor_inputs}
 use Rattle.implib_link.specs.Search.Closed.{AreLinkedFor, IsClosed, TakesInto, TakesIntoAs, inputs_in, wanted_in}
-use Rattle.implib_link.specs.Search.Exists.{AreChosenFor, HasClosed, LieWithin, objects_closed, tables_end}
+use Rattle.implib_link.specs.Search.Exists.{AreChosenFor, HasClosed, LieWithin, library_room, objects_closed, tables_end}
 use Rattle.implib_link.specs.Search.Given.{AreGiven}
 use Rattle.implib_link.proofs.Gnu.Alone.{members_have}
-use Rattle.implib_link.specs.Flavors.Program.{OfLinker, gnu_input}
-use Rattle.implib_link.proofs.Flavors.GnuPrograms.{gnu_ended, gnu_made}
-use Rattle.implib_link.proofs.Flavors.Packed.{kept_sized, packed_admissible}
-use Rattle.implib_link.proofs.Gnu.Packed.{lies_within}
-use Rattle.implib_link.proofs.Search.Arranged.{archive_moved, inputs_made}
-use Rattle.implib_link.proofs.Search.BothExists.{NoneHave, others_first, tables_last, weak_have_none, within_by}
+use Rattle.implib_link.specs.Flavors.Program.{AreEnded, IsMadeFor, OfLinker}
+use Rattle.implib_link.proofs.Flavors.GnuPrograms.{gnu_ended}
+use Rattle.implib_link.proofs.Flavors.Packed.{packed_admissible}
+use Rattle.implib_link.proofs.Search.Arranged.{inputs_made}
+use Rattle.implib_link.proofs.Search.BothArranged.{both_made}
+use Rattle.implib_link.proofs.Search.BothExists.{NoneHave, others_first, tables_below, tables_last, tables_within, weak_have_none}
+use Rattle.implib_link.proofs.Search.Chosen.{exports_are}
 use Rattle.implib_link.proofs.Search.Closed.{closed_links}
 use Rattle.implib_link.proofs.Search.Given.{given_closes, given_ends}
 use Rattle.implib_link.proofs.Search.GnuAlone.{archive_alone, gnu_libraries, members_alone, reads_plainly}
-use Rattle.implib_link.proofs.Search.Rooms.{tables_near}
+use Rattle.implib_link.proofs.Search.Roles.{in_flavor}
+
+-- the libraries' tables end where they do in an archive of libraries in either flavour
+tables_alone : (first : ℕ) (libraries : List Library) → tables_end_of_both first (gnu_libraries libraries) ≡ tables_end first libraries
+tables_alone first libraries =
+    ap (λ n. first + 72 + n) (sym (sum-map room_of (gnu_libraries libraries)) ∙ ap sum (map_after room_of (in_flavor Gnu) libraries) ∙ sum-map library_room libraries)
 
 module _ (machine : MachineType) (libraries : List Library) (own : List Object) (taken : List MemberView) (arranged : List Library) (first : ℕ) (objects : List Object)
     (archive : IsArchive machine libraries) (chosen : AreChosenFor machine libraries own taken arranged objects) (above : 0 < first) (room : tables_end first libraries < 2 ^ 31) where
-  abbrev inputs : List LinkInput
-  inputs = inputs_wanted arranged (wanted_in own taken)
+  abbrev wanted : List (List ℕ)
+  wanted = wanted_in own taken
 
-  made : AllByRecursion (IsMade machine) inputs
-  made = inputs_made machine arranged (wanted_in own taken) (archive_moved machine libraries arranged chosen.order archive).made
+  order : IsPermutation (gnu_libraries libraries) (gnu_libraries arranged)
+  order = IsPermutation-map (in_flavor Gnu) libraries arranged chosen.order
 
-  near : packed_end first objects ≤ tables_end first libraries
-  near = tables_near machine first libraries arranged (wanted_in own taken) objects (archive_moved machine libraries arranged chosen.order archive).made chosen.order chosen.tables
+  made : AllByRecursion (IsMadeFor machine) (flavor_inputs (gnu_libraries arranged) (wanted_in own taken))
+  made = both_made machine (gnu_libraries libraries) (archive_alone machine libraries archive) (gnu_libraries arranged) order wanted
 
-  below : packed_end first objects < 2 ^ 31
-  below = (let end = near in omega arith)
+  ended : AreEnded OfLinker machine (flavor_inputs (gnu_libraries arranged) (wanted_in own taken)) objects
+  ended = subst (λ ps. AreEnded OfLinker machine ps objects) (sym (exports_are arranged wanted)) (gnu_ended machine (inputs_in arranged own taken) objects chosen.tables)
+
+  there : tables_end_of_both first (gnu_libraries libraries) < 2 ^ 31
+  there = subst (λ n. n < 2 ^ 31) (sym (tables_alone first libraries)) room
 
   pub packed_for : AreLinkedFor machine libraries own taken arranged (packed first objects) objects
   packed_for = record {
     order = chosen.order;
     others = chosen.others;
     tables = chosen.tables;
-    admissible = packed_admissible machine OfLinker first (map gnu_input inputs) objects (gnu_made machine inputs made) (gnu_ended machine inputs objects chosen.tables) above below;
+    admissible = packed_admissible machine OfLinker first (flavor_inputs (gnu_libraries arranged) wanted) objects made ended above
+        (tables_below machine OfLinker (gnu_libraries libraries) (gnu_libraries arranged) wanted first objects made ended order above there);
   }
 
   pub packed_within : LieWithin first (tables_end first libraries) (image_of machine (packed first objects) (placed_from (packed first objects) objects))
   packed_within =
-      within_by first (packed_descriptors first) (packed_end first objects) (tables_end first libraries) (image_of machine (packed first objects) (placed_from (packed first objects) objects))
-      (at_least 8 first) near
-      (lies_within machine first objects (kept_sized machine OfLinker (map gnu_input inputs) objects (gnu_made machine inputs made) (gnu_ended machine inputs objects chosen.tables)) above below)
+      subst (λ end. LieWithin first end (image_of machine (packed first objects) (placed_from (packed first objects) objects))) (tables_alone first libraries)
+      (tables_within machine OfLinker (gnu_libraries libraries) (gnu_libraries arranged) wanted first objects made ended order above there)
 
 pub packed_closes : (machine : MachineType) (libraries : List Library) (own : List Object) (taken : List MemberView) (arranged : List Library) (first : ℕ) (objects : List Object) →
     IsArchive machine libraries → AreGiven machine libraries own → TakesInto (archive_of libraries) own taken → AreChosenFor machine libraries own taken arranged objects →

@@ -1,8 +1,8 @@
 -- Archives of libraries for Microsoft's linker: which exports are wanted, what is linked of them, and the null descriptor that they share.
-use Rattle.std.proofs.Common.{◌≡◌, ℕ, Bool, true, false, List, [], ◌∷◌, ◌++◌, Some, refl, ap, sym, ◌∙◌, subst, inl, inr, ◌⊎◌, ◌<◌, length, arith, ◌+◌, ◌≤◌}
+use Rattle.std.proofs.Common.{◌≡◌, ℕ, true, false, List, [], ◌∷◌, ◌++◌, Some, refl, ap, sym, ◌∙◌, subst, inl, inr, ◌⊎◌, ◌<◌, length, arith, ◌+◌, ◌≤◌}
 use Rattle.std.specs.Prelude.{not}
 use Rattle.std.specs.List.{filter, flat_map}
-use Rattle.std.proofs.lemmas.Bool.{and_parts, true≢false, cases_Bool}
+use Rattle.std.proofs.lemmas.Bool.{and_parts, cases_Bool}
 use Rattle.implib.specs.declared.machine.MachineType.{MachineType}
 use Rattle.implib.specs.declared.flavor.Flavor.TheVariants.{Msvc}
 use Rattle.implib.specs.Definition.{ExportView}
@@ -19,7 +19,7 @@ use Rattle.implib_link.specs.Search.Msvc.{is_short_wanted}
 use Rattle.implib_link.specs.Search.MsvcArchives.{IsMsvcArchive, IsMsvcLibrary, first_null, imports_wanted, is_import_wanted, is_short_alias, with_first_null, symbols_of_short, symbols_of_shorts}
 use Rattle.implib_link.proofs.Flavors.Block.{symbols_of}
 use Rattle.implib_link.proofs.Flavors.Expanded.{taken_null}
-use Rattle.implib_link.proofs.Search.Lists.{among_either}
+use Rattle.implib_link.proofs.Search.Lists.{among_either, from_not}
 use Rattle.implib_link.proofs.Search.MsvcMembers.{null_is}
 use Rattle.implib_link.proofs.Search.Search.{passing_chosen, only_one, in_nothing}
 use Rattle.implib.specs.LibraryName.{NamesOfDll, linked_dll, names_for}
@@ -30,10 +30,6 @@ pub import_parts : (names : List (List ℕ)) (e : ExportView) → is_import_want
 import_parts names e want =
     let parts = and_parts (is_short_wanted names e) (not (is_short_alias e)) want in
     (parts.0, from_not (is_short_alias e) parts.1)
-  where
-    from_not : (b : Bool) → not b ≡ true → b ≡ false
-    from_not true is = absurd (true≢false (sym is))
-    from_not false is = refl
 
 pub both_parts : (names : List (List ℕ)) (e : ExportView) → is_short_wanted names e ≡ true → is_short_alias e ≡ false → is_import_wanted names e ≡ true
 both_parts names e want none = rw (want, none) refl

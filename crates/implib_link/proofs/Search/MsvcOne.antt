@@ -34,7 +34,7 @@ use Rattle.implib_link.specs.Search.Search.{left_as, numbers_passing}
 use Rattle.implib_link.proofs.Flavors.Inputs.{read_of, short_at}
 use Rattle.implib_link.proofs.Search.Closing.{pulled}
 use Rattle.implib_link.proofs.Search.Found.{expands, found as found_in, weak_by_role}
-use Rattle.implib_link.proofs.Search.Lists.{all_listed, among_at, listed_mapped, one_member}
+use Rattle.implib_link.proofs.Search.Lists.{all_listed, among_at, listed_mapped, none_passes, one_member}
 use Rattle.implib_link.proofs.Search.Roles.{IsRole, Last, Null, Own, Role, Top, Weak, in_flavor, is_weak_role}
 use Rattle.implib_link.proofs.Search.Search.{only_one}
 use Rattle.implib_link.proofs.Search.Taken.{both_taken}
@@ -67,13 +67,6 @@ numbers_same wanted number [] none = refl
 numbers_same wanted number (e ∷ exports) none =
     let later = numbers_same wanted (number + 1) exports none.1 in
     elim (cases_Bool (is_short_wanted wanted e)) [ inl is ↦ rw (is, none.0) (ap (λ ns. number ∷ ns) later) | inr is ↦ rw is later ]
-
-all_plain : (machine : MachineType) (members : List MemberView) → ((m : MemberView) → Among m members → is_weak_in machine m ≡ false) → (weak_in machine members ≡ []) × (others_in machine members ≡ members)
-all_plain machine [] plain = (refl, refl)
-all_plain machine (m ∷ members) plain =
-    let own : is_weak_in machine m ≡ false = plain m (among_first m members) in
-    let later = all_plain machine members (λ x held. plain x (among_later x m members held)) in
-    (rw own later.0, rw own (ap (λ ms. m ∷ ms) later.1))
 
 module _ (d : DefinitionView) (machine : MachineType) (members : List MemberView) (made : AreMembersOf d machine Msvc members) (distinct : IsDistinct bytes_eq (all_listed members))
     (found : descriptor_symbol_by_name d.import_name ≡ descriptor_symbol (linked_dll d)) where
@@ -163,7 +156,7 @@ module _ (d : DefinitionView) (machine : MachineType) (members : List MemberView
     of_one = subst (λ ms. TakesFor machine ms wanted taken) (sym (append-nil members)) takes
 
     plain : (weak_in machine taken ≡ []) × (others_in machine taken ≡ taken)
-    plain = all_plain machine taken (λ m held.
+    plain = none_passes (is_weak_in machine) taken (λ m held.
         let by = pulled (expanded_in machine) (archive_of_both libraries) wanted taken of_one.in_turn m held in
         let x = (found_in machine libraries archive by.0 m by.1).has in
         weak_by_role machine libraries archive (expanded_in machine) (is_weak_in machine) (expands machine libraries archive) m x ∙ not_weak x.library x.role x.held x.is)

@@ -13,7 +13,8 @@ use Rattle.implib.specs.Link.LinkedMembers.{objects_in}
 use Rattle.implib.specs.Link.Placement.{Bases}
 use Rattle.implib.specs.Members.Gnu.{archive_symbols, head_symbol, iname_symbol}
 use Rattle.implib.specs.Members.MemberSpec.{MemberView}
-use Rattle.implib.proofs.Link.LinkedMembers.{among_contains}
+use Rattle.implib.specs.Members.MsvcObjects.{null_descriptor_symbol}
+use Rattle.implib.proofs.Link.LinkedMembers.{among_contains, among_map}
 use Rattle.implib.proofs.Link.Ranges.{Among, all_among, among_back, among_first, among_flat, among_front, among_later}
 use Rattle.implib_link.specs.Flavors.Expansion.{expanded_in}
 use Rattle.implib_link.specs.Flavors.Program.{objects_taken}
@@ -22,23 +23,51 @@ use Rattle.implib_link.specs.Search.Archives.{Library, archive_of, exports_of, i
 use Rattle.implib_link.specs.Search.BothFlavors.{AreGivenForBoth, FlavorLibrary, IsFlavorArchive, archive_of_both, gnu_among, kept_of_both, msvc_among, targets_of_both, wanted_of_both}
 use Rattle.implib_link.specs.Search.Closed.{AreLinkedFor, AreTakenInto, IsClosed, LinksClosed, PullsInto, TakesInto, listed_in, unresolved, AreTakenIntoAs}
 use Rattle.implib_link.specs.Search.Given.{AreGiven, alias_targets, heads_of, symbols_kept, symbols_wanted, tails_of, wanted_at_most}
-use Rattle.implib_link.specs.Search.MsvcArchives.{symbols_of_all_shorts}
+use Rattle.implib_link.specs.Search.MsvcArchives.{symbols_of_all_shorts, symbols_of_short, symbols_of_shorts}
 use Rattle.implib_link.specs.Search.MsvcClosed.{AreTakenIntoFor, PullsIntoFor, TakesIntoFor}
 use Rattle.implib_link.specs.Search.MsvcGiven.{headers_of, short_targets}
 use Rattle.implib_link.specs.Search.NoShorts.{WantsNoShort}
 use Rattle.implib_link.specs.Search.Search.{NamesNoHeadOrTail, first_listed, is_wanted, undefined_in}
-use Rattle.implib_link.proofs.Search.Lists.{all_from as all_each, passing, among_either, among_flat_map, contains_among, listed_is, name_as}
+use Rattle.implib_link.proofs.Search.Lists.{among_at, all_from as all_each, passing, among_either, among_flat_map, contains_among, listed_is, name_as}
 use Rattle.implib_link.proofs.Search.BothGiven.{data_target, header_kept, own_kept, target_kept}
-use Rattle.implib_link.proofs.Search.BothMembers.{found_either, gnu_in_both, msvc_symbol, symbols_apart}
 use Rattle.implib_link.proofs.Search.Chosen.{chosen_too}
 use Rattle.implib_link.proofs.Search.Closed.{closed_links, left_there}
-use Rattle.implib_link.proofs.Search.Found.{HasRole, found, gnu_there, left_by_role, there_gnu}
+use Rattle.implib_link.proofs.Search.FlavorGroups.{gnu_there, msvc_there, there_gnu}
+use Rattle.implib_link.proofs.Search.Found.{HasRole, finds, found, left_by_role}
 use Rattle.implib_link.proofs.Search.Given.{given_closes}
 use Rattle.implib_link.proofs.Search.GnuAlone.{archive_alone, gnu_alone, gnu_libraries, members_alone, no_short, read_same, reads_plainly}
-use Rattle.implib_link.proofs.Search.MsvcMembers.{found as msvc_found}
-use Rattle.implib_link.proofs.Search.Roles.{IsRole, Last, Null, Own, Role, Top, Weak, in_flavor, left}
+use Rattle.implib_link.proofs.Search.MsvcMembers.{pair_symbol, short_symbol}
+use Rattle.implib_link.proofs.Search.Roles.{IsRole, Last, Null, Own, Role, Top, Weak, in_flavor, left, member, pair, symbols, weak_symbol, weak_target}
 use Rattle.implib_link.proofs.Search.Search.{only_one}
 use Rattle.implib_link.proofs.Search.Closing.{first_of, unresolved_from, unresolved_parts, claims_none, claims_apart, there_not, not_there}
+
+-- roles of a library for GNU's linker do not depend on the others
+gnu_role : (libraries others : List FlavorLibrary) (l : Library) (r : Role) → IsRole libraries (in_flavor Gnu l) r → IsRole others (in_flavor Gnu l) r
+gnu_role libraries others l Top is = tt
+gnu_role libraries others l Last is = tt
+gnu_role libraries others l Null is = absurd is
+gnu_role libraries others l (Own n e) is = is
+gnu_role libraries others l (Weak n e b) is = is
+
+-- a library's symbols in its members' roles are among those of all libraries for Microsoft's linker
+short_symbols : (machine : MachineType) (libraries : List FlavorLibrary) (l : Library) (r : Role) (name : List ℕ) → Among l (msvc_among libraries) → IsRole libraries (in_flavor Msvc l) r →
+    Among name (symbols machine Msvc l r) → Among name (symbols_of_all_shorts (msvc_among libraries))
+unfolding symbols_of_shorts Among
+short_symbols machine libraries l r name held is listed = by r (msvc_among libraries) held is listed
+  where
+    own : (ls : List Library) → Among l ls → Among name (null_descriptor_symbol ∷ flat_map symbols_of_shorts ls) → Among name (symbols_of_all_shorts ls)
+    own [] none there = absurd none
+    own (x ∷ ls) some there = there
+
+    by : (r : Role) (ls : List Library) → Among l ls → IsRole libraries (in_flavor Msvc l) r → Among name (symbols machine Msvc l r) → Among name (symbols_of_all_shorts ls)
+    by Null ls there so named = own ls there (inl (only_one name _ named))
+    by Top ls there so named = own ls there (inr (among_flat symbols_of_shorts l ls name there (inl (only_one name _ named))))
+    by Last ls there so named = own ls there (inr (among_flat symbols_of_shorts l ls name there (inr (inl (only_one name _ named)))))
+    by (Own n e) ls there so named =
+        own ls there (inr (among_flat symbols_of_shorts l ls name there (inr (inr (among_flat symbols_of_short e (exports_of l) name (among_at e (exports_of l) n so.0) (short_symbol e name so.1 named))))))
+    by (Weak n e b) ls there so named =
+        own ls there (inr (among_flat symbols_of_shorts l ls name there (inr (inr (among_flat symbols_of_short e (exports_of l) name (among_at e (exports_of l) n so.0)
+        (subst (λ k. Among k (symbols_of_short e)) (sym (only_one name _ named)) (pair_symbol e (weak_symbol Msvc e b) (weak_target e b) so.1 (pair e b))))))))
 
 module _ (machine : MachineType) (libraries : List FlavorLibrary) (archive : IsFlavorArchive machine libraries) where
   abbrev shorts : List (List ℕ)
@@ -53,6 +82,18 @@ module _ (machine : MachineType) (libraries : List FlavorLibrary) (archive : IsF
   -- a name that finds a member of the libraries for GNU's linker finds it in its role
   role_of : (by : List ℕ) (m : MemberView) → first_listed (archive_of (gnu_among libraries)) by ≡ Some m → HasRole machine (gnu_libraries (gnu_among libraries)) (archive_alone machine (gnu_among libraries) archive.gnu) m
   role_of by m is = (found machine gnu_only of_alone by m (ap (λ ms. first_listed ms by) (members_alone (gnu_among libraries)) ∙ is)).has
+
+  -- and so it does in the whole archive
+  gnu_in_both : (name : List ℕ) (m : MemberView) → first_listed (archive_of (gnu_among libraries)) name ≡ Some m → first_listed (archive_of_both libraries) name ≡ Some m
+  gnu_in_both name m is =
+      let x = found machine gnu_only of_alone name m (ap (λ ms. first_listed ms name) (members_alone (gnu_among libraries)) ∙ is) in
+      by x.has.library.flavor x.has.library.library x.has.role x.has.held x.has.is x.has.same x.listed
+    where
+      by : (flavor : Flavor) (l : Library) (r : Role) → Among (in_flavor flavor l) gnu_only → IsRole gnu_only (in_flavor flavor l) r → m ≡ member machine flavor l r → Among name (symbols machine flavor l r) →
+          first_listed (archive_of_both libraries) name ≡ Some m
+      by Msvc l r there so same listed = absurd (no_short (gnu_among libraries) l there)
+      by Gnu l r there so same listed =
+          finds machine libraries archive Gnu l r name (there_gnu libraries l (subst (Among l) (gnu_alone (gnu_among libraries)) (gnu_there gnu_only l there))) (gnu_role gnu_only libraries l r so) listed ∙ ap Some (sym same)
 
   -- names find these members in the archive of the libraries for GNU's linker
   abbrev AllFound : List MemberView → Type 0
@@ -69,6 +110,9 @@ module _ (machine : MachineType) (libraries : List FlavorLibrary) (archive : IsF
     abbrev most : List (List ℕ)
     most = wanted_at_most (gnu_among libraries) own
 
+    apart_from : (name : List ℕ) → Among name (flat_map (symbols_of_library machine) (gnu_among libraries)) → Among name shorts → ⊥
+    apart_from name gnu short = there_not name shorts (all_among (λ k. list_any (bytes_eq k) (symbols_of_all_shorts (msvc_among libraries)) ≡ false) name (flat_map (symbols_of_library machine) (gnu_among libraries)) gnu archive.apart) short
+
     there : (l : Library) → Among (in_flavor Gnu l) gnu_only → Among l (gnu_among libraries)
     there l held = subst (Among l) (gnu_alone (gnu_among libraries)) (gnu_there gnu_only l held)
 
@@ -79,9 +123,9 @@ module _ (machine : MachineType) (libraries : List FlavorLibrary) (archive : IsF
     left_short : (flavor : Flavor) (l : Library) (r : Role) (name : List ℕ) → Among (in_flavor flavor l) gnu_only → IsRole gnu_only (in_flavor flavor l) r → Among name (left machine flavor l r) → Among name shorts → ⊥
     unfolding symbols_of_library Among
     left_short Msvc l r name held is named short = no_short (gnu_among libraries) l held
-    left_short Gnu l Top name held is named short = symbols_apart machine libraries archive name (among_flat (symbols_of_library machine) l (gnu_among libraries) name (there l held) (inl (only_one name _ named))) short
+    left_short Gnu l Top name held is named short = apart_from name (among_flat (symbols_of_library machine) l (gnu_among libraries) name (there l held) (inl (only_one name _ named))) short
     left_short Gnu l (Own n e) name held is named short =
-        symbols_apart machine libraries archive name (among_flat (symbols_of_library machine) l (gnu_among libraries) name (there l held) (inr (inl (only_one name _ named)))) short
+        apart_from name (among_flat (symbols_of_library machine) l (gnu_among libraries) name (there l held) (inr (inl (only_one name _ named)))) short
     left_short Gnu l Last name held is named short = absurd named
     left_short Gnu l Null name held is named short = absurd named
     left_short Gnu l (Weak n e true) name held is named short = is.1
@@ -109,10 +153,15 @@ module _ (machine : MachineType) (libraries : List FlavorLibrary) (archive : IsF
     finds_gnu : (members : List MemberView) → AllFound members → (name : List ℕ) → Among name (unresolved (own ++ objects_in members)) → (m : MemberView) →
         first_listed (archive_of_both libraries) name ≡ Some m → first_listed (archive_of (gnu_among libraries)) name ≡ Some m
     finds_gnu members all name held m is =
-        elim (found_either libraries name m is) [
-          | inl gnu ↦ gnu
-          | inr msvc ↦ absurd (unresolved_short members all name held (msvc_symbol machine libraries archive name m (msvc_found machine (msvc_among libraries) archive.msvc name m msvc)))
-        ]
+        let x = found machine libraries archive name m is in
+        by x.has.library.flavor x.has.library.library x.has.role x.has.held x.has.is x.has.same x.listed
+      where
+        by : (flavor : Flavor) (l : Library) (r : Role) → Among (in_flavor flavor l) libraries → IsRole libraries (in_flavor flavor l) r → m ≡ member machine flavor l r → Among name (symbols machine flavor l r) →
+            first_listed (archive_of (gnu_among libraries)) name ≡ Some m
+        by Msvc l r there so same listed = absurd (unresolved_short members all name held (short_symbols machine libraries l r name (msvc_there libraries l there) so listed))
+        by Gnu l r there so same listed =
+            ap (λ ms. first_listed ms name) (sym (members_alone (gnu_among libraries)))
+            ∙ finds machine gnu_only of_alone Gnu l r name (among_map (in_flavor Gnu) l (gnu_among libraries) (gnu_there libraries l there)) (gnu_role libraries gnu_only l r so) listed ∙ ap Some (sym same)
 
     pulls_alone : (members : List MemberView) → AllFound members → (name : List ℕ) (m : MemberView) → PullsIntoFor machine (archive_of_both libraries) own members name m →
         PullsInto (archive_of (gnu_among libraries)) own members name m
@@ -128,7 +177,7 @@ module _ (machine : MachineType) (libraries : List FlavorLibrary) (archive : IsF
         PullsIntoFor machine (archive_of_both libraries) own members name m
     pulls_of_both members all name m pulls = record {
       named = subst (λ os. Contains (unresolved (own ++ os)) name) (sym (objects_same members all)) pulls.named;
-      listed = gnu_in_both machine libraries archive name m pulls.listed;
+      listed = gnu_in_both name m pulls.listed;
       new = pulls.new;
     }
 

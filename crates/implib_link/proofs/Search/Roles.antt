@@ -39,7 +39,7 @@ use Rattle.implib_link.proofs.Flavors.Inputs.{export_plain, head_plain, object_t
 use Rattle.implib_link.proofs.Gnu.Alone.{export_has, head_has, tail_has}
 use Rattle.implib_link.proofs.Gnu.Claims.{claimed_export, claimed_head, claimed_tail}
 use Rattle.implib_link.proofs.Search.ArchiveGroups.{export_of, head_of, tail_of}
-use Rattle.implib_link.proofs.Search.ArchiveMembers.{export_entries, export_object_is, head_object_is, tail_object_is, weak_object_is}
+use Rattle.implib_link.proofs.Search.ArchiveMembers.{export_entries, export_object_is, head_object_is, tail_object_is, weak_object_is, weak_there}
 use Rattle.implib_link.proofs.Search.Lists.{among_at}
 use Rattle.implib_link.proofs.Search.Msvc.{asking_has, asking_not_weak, descriptor_has, descriptor_not_weak, left_asking, left_descriptor, left_null, left_thunk, null_has, null_not_weak, thunk_has, thunk_not_weak, weak_has_none, weak_is_weak}
 use Rattle.implib_link.proofs.Search.MsvcMembers.{IsPair, claims_weak, descriptor_is, descriptor_of, left_weak, null_is, null_of, short_is, short_of, taken_weak, thunk_is, thunk_of, weak_is}
@@ -242,11 +242,6 @@ module _ (machine : MachineType) (l : Library) (made : IsLibrary machine l) wher
       among_later _ _ _ (among_later _ _ _ (among_reverse p (numbered_specs machine (linked_name l.definition) 0 (exports_of l))
       (numbered_in machine (linked_name l.definition) (exports_of l) 0 n e p is (subst (λ k. Among p (numbered_specs_of machine (linked_name l.definition) k e)) (sym position) own))))
 
-  weak_there : (n : ℕ) (e : ExportView) → is_alias e.alias_target e.name ≡ true →
-      Among (weak_spec machine (weak_name (linked_name l.definition) n) e.name e.alias_target) (numbered_specs_of machine (linked_name l.definition) n e)
-  unfolding alias_specs
-  weak_there n e alias = rw alias (among_first _ _)
-
   weak_plain : (weak target : List ℕ) → taken_weak machine weak target ≡ object_of (weak_object machine weak target)
   unfolding with_section_symbols weak_object object_of entries_of name_text
   weak_plain weak target = refl
@@ -271,7 +266,7 @@ module _ (machine : MachineType) (l : Library) (made : IsLibrary machine l) wher
       ∙ ap Some (export_plain machine (names_for Gnu l.definition) e)
   gnu_taken libraries (Weak n e true) is = absurd is.1
   gnu_taken libraries (Weak n e false) is =
-      spec_taken (weak_spec machine (weak_name (linked_name l.definition) n) e.name e.alias_target) _ _ refl (spec_held n e _ is.0 (weak_there n e is.1.0)) (weak_object_is machine l made n e is.0 is.1.0)
+      spec_taken (weak_spec machine (weak_name (linked_name l.definition) n) e.name e.alias_target) _ _ refl (spec_held n e _ is.0 (weak_there machine l made n e is.1.0)) (weak_object_is machine l made n e is.0 is.1.0)
 
 -- What a linker for a machine takes members for.
 

@@ -20,8 +20,9 @@ use Rattle.implib.proofs.Link.LinkedMembers.{among_map, among_reverse}
 use Rattle.implib.proofs.Link.Placement.{export, head, tail}
 use Rattle.implib.proofs.Link.Ranges.{Among, among_back, among_first, among_front, among_later}
 use Rattle.implib_link.specs.Search.Search.{is_wanted, undefined_in, linked_if_any, numbers_passing}
-use Rattle.implib_link.proofs.Search.Lists.{all_listed, among_any, among_either, among_mapped, among_reversed, any_among, one_member}
+use Rattle.implib_link.proofs.Search.Lists.{all_listed, among_any, among_either, among_mapped, any_among, one_member, among_option}
 use Rattle.implib.specs.LibraryName.{NamesOfDll, linked_name, names_for}
+use Rattle.std.proofs.lemmas.Option.{same_Some}
 
 -- What specifications there are.
 
@@ -38,40 +39,6 @@ numbered_in machine dll (x ∷ exports) start (suc n) e p is held =
     let position : start + suc n ≡ start + 1 + n = omega arith in
     among_back p (numbered_specs_of machine dll start x) (numbered_specs machine dll (start + 1) exports)
     (numbered_in machine dll exports (start + 1) n e p is (subst (λ n. Among p (numbered_specs_of machine dll n e)) position held))
-
--- a specification of an export: of its member, or it has an alias
-abbrev pub OfExport : MachineType → List ℕ → List ExportView → ℕ → MemberSpec → Type 0
-OfExport machine dll exports start p =
-    (n : ℕ) × (e : ExportView) × (slice_get exports n ≡ Some e) × ((p ≡ export_spec machine dll (start + n) e) ⊎ (is_alias e.alias_target e.name ≡ true))
-
-pub numbered_is : (machine : MachineType) (dll : List ℕ) (exports : List ExportView) (start : ℕ) (p : MemberSpec) → Among p (numbered_specs machine dll start exports) →
-    OfExport machine dll exports start p
-unfolding Among alias_specs
-numbered_is machine dll [] start p held = absurd held
-numbered_is machine dll (x ∷ exports) start p held =
-    elim (among_either p (numbered_specs_of machine dll start x) (numbered_specs machine dll (start + 1) exports) held) [
-      | inl own ↦ elim (cases_Bool (is_alias x.alias_target x.name)) [
-        | inl alias ↦ (0, x, refl, inr alias)
-        | inr none ↦
-            let position : start ≡ start + 0 = omega arith in
-            let only : Among p (export_spec machine dll start x ∷ []) = rw none at own in
-            elim only [
-              | inl is ↦ (0, x, refl, inl (subst (λ n. p ≡ export_spec machine dll n x) position is))
-              | inr nothing ↦ absurd nothing
-            ]
-      ]
-      | inr behind ↦
-          let later = numbered_is machine dll exports (start + 1) p behind in
-          let position : start + 1 + later.0 ≡ start + suc later.0 = omega arith in (
-            suc later.0,
-            later.1,
-            later.2,
-            elim later.3 [
-              | inl is ↦ inl (subst (λ n. p ≡ export_spec machine dll n later.1) position is)
-              | inr alias ↦ inr alias
-            ],
-          )
-    ]
 
 pub name_differs : (n m : ℕ) → n ≡ m → m < n → ⊥
 name_differs n m same below = omega arith
@@ -153,11 +120,6 @@ wanted_name wanted (n ∷ names) is =
 
 -- The specifications of chosen exports.
 
-among_option : {X : Type 0} (x : X) (o : Option X) (xs : List X) → Among x xs → Among x (cons_option o xs)
-unfolding Among
-among_option x None xs held = held
-among_option x (Some y) xs held = inr held
-
 pub member_spec_chosen : (machine : MachineType) (dll : List ℕ) (exports : List ExportView) (chosen : List ℕ) (n : ℕ) (e : ExportView) → Among n chosen →
     slice_get exports n ≡ Some e → Among (export_spec machine dll n e) (filter_map (numbered_spec machine dll exports) chosen)
 unfolding Among
@@ -166,7 +128,7 @@ member_spec_chosen machine dll exports (k ∷ chosen) n e (inl same) is =
     let here : slice_get exports k ≡ Some e = subst (λ m. slice_get exports m ≡ Some e) same is in
     rw here (inl (ap (λ m. export_spec machine dll m e) same))
 member_spec_chosen machine dll exports (k ∷ chosen) n e (inr held) is =
-    among_option (export_spec machine dll n e) (numbered_spec machine dll exports k) (filter_map (numbered_spec machine dll exports) chosen)
+    among_option (numbered_spec machine dll exports k) (export_spec machine dll n e) (filter_map (numbered_spec machine dll exports) chosen)
     (member_spec_chosen machine dll exports chosen n e held is)
 
 -- a specification of a chosen export
@@ -203,14 +165,6 @@ pub left_export : (machine : MachineType) (dll : NamesOfDll) (e : ExportView) �
 unfolding undefined_in export_object
 left_export machine dll e = elim (cases_Bool e.is_data) [ inl is ↦ rw is refl | inr is ↦ rw is refl ]
 
-pub listed_tail : (machine : MachineType) (dll : NamesOfDll) → (member_of (tail_spec machine dll)).symbols ≡ iname_symbol machine dll.linked ∷ []
-unfolding tail_spec
-listed_tail machine dll = refl
-
-pub listed_head : (machine : MachineType) (dll : List ℕ) → (member_of (head_spec machine dll)).symbols ≡ head_symbol machine dll ∷ []
-unfolding head_spec
-listed_head machine dll = refl
-
 pub listed_export : (machine : MachineType) (dll : List ℕ) (n : ℕ) (e : ExportView) → (member_of (export_spec machine dll n e)).symbols ≡ archive_symbols e
 unfolding export_spec
 listed_export machine dll n e = refl
@@ -227,9 +181,6 @@ only_one x y (inr nothing) = absurd nothing
 pub in_nothing : {X : Type 0} (x : X) → Among x [] → ⊥
 unfolding Among
 in_nothing x held = held
-
-pub same_export : (e other : ExportView) → Some e ≡ Some other → e ≡ other
-same_export e other same = cc
 
 names_apart : (dll : List ℕ) (n : ℕ) → weak_address_name dll n ≡ export_name dll n → ⊥
 unfolding numbered_name
@@ -248,11 +199,6 @@ pub record IsExport (machine : MachineType) (dll : List ℕ) (exports : List Exp
   pub export : ExportView
   pub is : slice_get exports number ≡ Some export
   pub same : m ≡ member_of (export_spec machine dll number export)
-
-pub data Kind (machine : MachineType) (dll : NamesOfDll) (exports : List ExportView) (m : MemberView) : Type 0 where
-  IsTail : m ≡ member_of (tail_spec machine dll) → Kind machine dll exports m
-  IsHead : m ≡ member_of (head_spec machine dll.linked) → Kind machine dll exports m
-  OfAnExport : IsExport machine dll.linked exports m → Kind machine dll exports m
 
 -- a member that is needed for wanted names
 pub data Needed (machine : MachineType) (dll : NamesOfDll) (exports : List ExportView) (wanted : List (List ℕ)) (m : MemberView) : Type 0 where
@@ -297,23 +243,6 @@ module _ (d : DefinitionView) (machine : MachineType) (members : List MemberView
       (one_member members (imp_symbol e.name) (member_of (alias_of n e)) (the_export n e) distinct
       (member_spec_held n e (alias_of n e) is (among_front (alias_of n e) (alias_specs machine (linked_name d) n e) (export_spec machine (linked_name d) n e ∷ []) (alias_there n e alias)))
       (export_held n e is) (among_first _ _) (address_listed e)))
-
-  kind_specified : (m : MemberView) (p : MemberSpec) → m ≡ member_of p → Among p (gnu_specs machine (names_for Gnu d) public) → Kind machine (names_for Gnu d) public m
-  unfolding Among
-  kind_specified m p same (inl e) = IsTail (same ∙ ap member_of e)
-  kind_specified m p same (inr (inl e)) = IsHead (same ∙ ap member_of e)
-  kind_specified m p same (inr (inr held)) =
-      let own = numbered_is machine (linked_name d) public 0 p (among_reversed p (numbered_specs machine (linked_name d) 0 public) held) in
-      let position : 0 + own.0 ≡ own.0 = omega arith in
-      elim own.3 [
-        | inl e ↦ OfAnExport (record { number = own.0; export = own.1; is = own.2; same = same ∙ ap member_of (e ∙ ap (λ n. export_spec machine (linked_name d) n own.1) position) })
-        | inr alias ↦ absurd (no_alias own.0 own.1 own.2 alias)
-      ]
-
-  pub kind : (m : MemberView) → Among m members → Kind machine (names_for Gnu d) public m
-  kind m held =
-      let p = among_mapped member_of m (gnu_specs machine (names_for Gnu d) public) (subst (Among m) made.made held) in
-      kind_specified m p.0 p.2 p.1
 
 -- What is linked of chosen exports.
 
@@ -385,7 +314,7 @@ module _ (d : DefinitionView) (machine : MachineType) (wanted : List (List ℕ))
   needed_member_spec m p same any (inr (inl e)) = TheTail (same ∙ ap member_of e) any
   needed_member_spec m p same any (inr (inr c)) =
       let found = are.only c.0 c.2 in
-      let own : c.1 ≡ found.0 = same_export c.1 found.0 (sym c.3 ∙ found.1) in
+      let own : c.1 ≡ found.0 = same_Some c.1 found.0 (sym c.3 ∙ found.1) in
       AnExport (record { number = c.0; export = c.1; is = c.3; same = same ∙ ap member_of c.4 }) (subst (λ e. is_wanted wanted e ≡ true) (sym own) found.2)
 
   pub needed_if_linked : (m : MemberView) → Among m (linked_if_any d machine chosen) → Needed machine (names_for Gnu d) (public_exports (renamed d)) wanted m

@@ -2,7 +2,7 @@
 use Rattle.std.proofs.Common.{◌≡◌, ℕ, ◌⊎◌, Bool, true, false, List, [], ◌∷◌, ◌++◌, map, Option, Some, refl, ap, sym, ◌∙◌, subst, inl, inr}
 use Rattle.std.specs.Prelude.{not}
 use Rattle.std.specs.List.{AllByRecursion, filter, flat_map}
-use Rattle.std.proofs.lemmas.Bool.{cases_Bool, true≢false}
+use Rattle.std.proofs.lemmas.Bool.{cases_Bool, true≢false, not_from_false}
 use Rattle.implib.specs.declared.flavor.Flavor.{Flavor}
 use Rattle.implib.specs.declared.flavor.Flavor.TheVariants.{Gnu, Msvc}
 use Rattle.implib.specs.declared.machine.MachineType.{MachineType}
@@ -25,8 +25,9 @@ use Rattle.implib_link.specs.Search.MsvcArchives.{first_null, is_weak_in, short_
 use Rattle.implib_link.specs.Search.Search.{AreTakenInTurnAs, NamesNoHeadOrTail, TakesAs, first_listed, left_as, objects_as, undefined_in}
 use Rattle.implib_link.proofs.Search.Chosen.{AnOwn, AnyOf, IsLinked, TheLast, TheTop, chosen_by, chosen_name, is_chosen, linked_are, linked_from, linked_into, own_chosen, shorts_are}
 use Rattle.implib_link.proofs.Search.Closing.{IsFirstAs, left_by as left_as_by, pulled, reached as reached_as, still_named as still_as, there_not}
-use Rattle.implib_link.proofs.Search.Found.{Found, HasRole, IsReader, by_name, expands, finds, first_by_role, first_held, found, gnu_there, left_by_role, msvc_there, there_gnu, there_msvc, weak_by_role}
-use Rattle.implib_link.proofs.Search.Lists.{all_from as all_each, among_at, among_either, among_mapped, as_name, contains_among, from_not, name_as, passes, passing, to_not}
+use Rattle.implib_link.proofs.Search.FlavorGroups.{first_held, gnu_there, msvc_there, there_gnu, there_msvc}
+use Rattle.implib_link.proofs.Search.Found.{Found, HasRole, IsReader, by_name, expands, finds, first_by_role, found, left_by_role, weak_by_role}
+use Rattle.implib_link.proofs.Search.Lists.{all_from as all_each, among_at, among_either, among_mapped, as_name, contains_among, from_not, name_as, passes, passing}
 use Rattle.implib_link.proofs.Search.MsvcArchives.{member_with, null_or_member, null_with}
 use Rattle.implib_link.proofs.Search.MsvcMembers.{null_of}
 use Rattle.implib_link.proofs.Search.Roles.{IsNull, IsRole, Last, Null, Own, Role, Top, Weak, in_flavor, is_weak_role, last_symbol, left, left_as_role, left_top, member, object, symbols, weak_symbol}
@@ -288,7 +289,7 @@ module _ (machine : MachineType) (libraries : List FlavorLibrary) (archive : IsF
               (sym (weak_by_role machine libraries archive reads weak reader m x.has) ∙ from_not (weak m) kept.1)),
           λ linked.
               let other = other_if_linked m (contains_among m (shorts ++ exports) linked) in
-              among_contains m (filter (λ y. not (weak y)) taken) (passes (λ y. not (weak y)) m taken other.0 (to_not (weak m) other.1)),
+              among_contains m (filter (λ y. not (weak y)) taken) (passes (λ y. not (weak y)) m taken other.0 (not_from_false (weak m) other.1)),
         )
 
         weak_in_role : (m : MemberView) (flavor : Flavor) (l : Library) (r : Role) → Among (in_flavor flavor l) libraries → IsRole libraries (in_flavor flavor l) r → Why all_wanted (in_flavor flavor l) r →
