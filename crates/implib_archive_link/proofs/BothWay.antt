@@ -1,5 +1,5 @@
 -- The whole way for libraries of both flavours, by the laws on it.
-use Rattle.std.proofs.Common.{◌<◌, ◌+◌, ◌*◌, List, length, map, ◌∙◌}
+use Rattle.std.proofs.Common.{◌<◌, ◌+◌, ◌*◌, Bool, List, ℕ, length, map, ◌∙◌}
 use Rattle.std.specs.List.{AllByRecursion}
 use Rattle.implib.specs.declared.machine.MachineType.{MachineType}
 use Rattle.implib.specs.Formats.Object.{Object}
@@ -8,6 +8,10 @@ use Rattle.implib.specs.Members.ImportTables.{thunk_width}
 use Rattle.implib.specs.Members.MemberSpec.{MemberView}
 use Rattle.implib_archive.specs.declared.kind.Kind.{Kind}
 use Rattle.implib_archive_link.specs.BothWay.{AreLinkedForBoth, BothArrive}
+use Rattle.implib_archive_link.specs.Files.{ArchiveFile, members_in_files}
+use Rattle.implib_link.specs.Search.CommandLines.{Input, SearchesFlavors, given_with, objects_given, others_of}
+use Rattle.implib_link.specs.Search.Sweeps.{members_at}
+use Rattle.implib_link.proofs.Search.CommandLines.{takes_of_libraries}
 use Rattle.implib_archive_link.specs.InBytes.{LinkerMember, asks_with_on}
 use Rattle.implib_archive_link.specs.Results.{HaveArchive, IsEnding, TakesJust}
 use Rattle.implib_archive_link.proofs.Corollaries.{are_found_in_bytes, ending, given_taken}
@@ -37,7 +41,7 @@ both_arrive machine libraries own taken arranged bases objects archive given som
     closed_links_of_both machine libraries own taken arranged bases objects archive
     (record { closed = closed; admissible = linked.admissible; lookups = linked.lookups; addresses = linked.addresses; follows = linked.follows }) in
     let inputs : List FlavorInput = inputs_of_both machine arranged own taken in
-    let made : AllByRecursion (IsMadeFor machine) inputs = both_made machine libraries arranged linked.order archive (wanted_for machine own taken) in
+    let made : AllByRecursion (IsMadeFor machine) inputs = both_made machine libraries archive arranged linked.order (wanted_for machine own taken) in
     let own_tables : Tables = tables_at machine bases objects (map (block_of_flavor machine) inputs) in
     let tables : AreTables machine own_tables = program_tables machine OfMember bases inputs objects made links.program in
     record {
@@ -63,3 +67,15 @@ pub ends_for_both : (kind : Kind) (linker : LinkerMember) (machine : MachineType
 ends_for_both kind linker machine libraries own ready archive given =
     let found = both_given_ends machine libraries own archive given in
     ending kind linker (archive_of_both libraries) (asks_with_on machine own) found.0 ((are_found_in_bytes kind linker (archive_of_both libraries) ready).given_short machine own found.0 found.1)
+
+-- The files of a command line.
+pub files_lead_to_both : (machine : MachineType) (libraries : List FlavorLibrary) (files : List ArchiveFile) (inputs : List Input) (is_given : MemberView → Bool) (taken : List ℕ) (arranged : List FlavorLibrary) (bases : Bases) (objects : List Object) →
+    SearchesFlavors machine libraries (members_in_files files) inputs is_given taken → IsFlavorArchive machine libraries →
+    AreGivenForBoth machine libraries (given_with (expanded_in machine) is_given (objects_given inputs) (members_at (members_in_files files) taken)) →
+    0 < length (short_inputs (msvc_among libraries) (unresolved (given_with (expanded_in machine) is_given (objects_given inputs) (members_at (members_in_files files) taken)))) →
+    AreLinkedForBoth machine libraries (given_with (expanded_in machine) is_given (objects_given inputs) (members_at (members_in_files files) taken)) (others_of is_given (members_at (members_in_files files) taken)) arranged bases objects →
+    BothArrive machine libraries (given_with (expanded_in machine) is_given (objects_given inputs) (members_at (members_in_files files) taken)) (others_of is_given (members_at (members_in_files files) taken)) arranged bases objects
+files_lead_to_both machine libraries files inputs is_given taken arranged bases objects searches archive given some linked =
+    let members = members_in_files files in
+    both_arrive machine libraries (given_with (expanded_in machine) is_given (objects_given inputs) (members_at members taken)) (others_of is_given (members_at members taken)) arranged bases objects archive given some
+    (takes_of_libraries (expanded_in machine) (archive_of_both libraries) members inputs is_given taken searches) linked

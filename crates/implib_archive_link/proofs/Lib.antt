@@ -5,3 +5,4 @@ pub mod LldEnds
 pub mod LldWay
 pub mod BothWay
 pub mod Files
+pub mod LldFiles

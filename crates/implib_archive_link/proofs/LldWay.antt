@@ -1,11 +1,12 @@
 -- The way for lld, from the bytes of an archive to the DLL.
 use Rattle.std.proofs.Common.{◌≡◌, ℕ, ◌+◌, Bool, true, false, List, [], ◌∷◌, ◌++◌, map, Option, None, Some, refl, ap, sym, ◌∙◌, subst, inl, inr}
 use Rattle.std.specs.Prelude.{bytes_eq, nat_le, not, if◌then◌else◌}
-use Rattle.std.specs.List.{AllByRecursion, Contains, IsDistinct, cons_option, filter, filter_map, flat_map, list_any}
+use Rattle.std.specs.List.{AllByRecursion, Contains, IsDistinct, cons_option, filter, flat_map, list_any}
 use Rattle.std.specs.Option.{option_and_then}
 use Rattle.std.proofs.lemmas.Bool.{cases_Bool, false_from_ne_true, le-leb, or_parts}
 use Rattle.implib.specs.declared.machine.MachineType.{MachineType}
-use Rattle.implib.specs.declared.flavor.Flavor.TheVariants.{Msvc}
+use Rattle.implib.specs.declared.flavor.Flavor.{Flavor}
+use Rattle.implib.specs.declared.flavor.Flavor.TheVariants.{Gnu, Msvc}
 use Rattle.implib.specs.Definition.{ExportView}
 use Rattle.std.proofs.lemmas.Slice.Eq.{bytes_eq-Decides}
 use Rattle.implib.specs.Formats.File.{ObjectFile, ShortImportFile, file_in, short_import_or_object}
@@ -15,14 +16,16 @@ use Rattle.implib.specs.Import.{Ask, Name, Ordinal, imp_symbol}
 use Rattle.implib.specs.Link.Image.{Range}
 use Rattle.implib.specs.Link.Placement.{Placed}
 use Rattle.implib.specs.LibraryName.{NamesOfDll, linked_dll, names_for}
-use Rattle.implib.specs.Members.MemberSpec.{MemberSpec, MemberView}
+use Rattle.implib.specs.Members.MemberSpec.{MemberSpec, MemberView, member_of}
+use Rattle.implib.specs.Members.Members.{member_specs}
+use Rattle.implib.specs.Members.ReadBack.{file_of}
+use Rattle.implib.specs.Renaming.{renamed}
 use Rattle.implib.specs.Members.Msvc.{name_type_of, short_import_symbol, short_import_symbols}
 use Rattle.implib.specs.Members.MsvcMembers.{descriptor_spec, export_specs, header_specs, null_descriptor_spec, null_thunk_spec, short_import_spec, weak_specs}
-use Rattle.implib.specs.Members.MsvcObjects.{descriptor_symbol, null_descriptor_symbol, null_thunk_symbol}
 use Rattle.implib.specs.Members.WeakExternal.{weak_spec}
 use Rattle.implib.proofs.Members.NotRefused.{Sound, exports_sound, import_name_is_free}
 use Rattle.implib.proofs.Members.Import.{name_type_is_ordinal, name_type_of_fits}
-use Rattle.implib.proofs.Link.LinkedMembers.{among_contains}
+use Rattle.implib.proofs.Link.LinkedMembers.{among_contains, among_map}
 use Rattle.implib.proofs.Link.Ranges.{Among, all_among, among_back, among_first, among_flat, among_front, among_later}
 use Rattle.implib_archive.specs.declared.kind.Kind.{Kind}
 use Rattle.implib_archive_link.specs.InBytes.{LinkerMember, objects_for}
@@ -38,23 +41,27 @@ use Rattle.implib_link.specs.Gnu.Program.{claimed_names}
 use Rattle.implib_link.specs.Gnu.Operands.{AllLead}
 use Rattle.implib_link.specs.Search.Archives.{Library, archive_of, exports_of}
 use Rattle.implib_link.specs.Search.Closed.{claims_of, references_of, unresolved}
-use Rattle.implib_link.specs.Search.MsvcArchives.{IsMsvcArchive, IsMsvcLibrary}
+use Rattle.implib_link.specs.Search.BothFlavors.{FlavorLibrary, IsFlavorArchive}
+use Rattle.implib_link.specs.Search.MsvcArchives.{IsMsvcArchive, IsMsvcLibrary, is_weak_in}
 use Rattle.implib_link.specs.Search.Search.{first_listed, is_listed_for}
-use Rattle.implib_link.proofs.Flavors.Claims.{claims_asking, claims_descriptor, claims_null, claims_thunk}
-use Rattle.implib_link.proofs.Flavors.Block.{FitsIn, asking}
-use Rattle.implib_link.proofs.Flavors.Expanded.{AskFits, taken_descriptor, taken_null, taken_null_thunk}
+use Rattle.implib_link.proofs.Flavors.Block.{FitsIn}
+use Rattle.implib_link.proofs.Flavors.Expanded.{AskFits}
 use Rattle.implib_link.proofs.Flavors.Inputs.{descriptor_at, export_fits, null_at, read_of, short_at, thunk_at, same_machine as own_machine}
 use Rattle.implib_link.proofs.Flavors.LldPrograms.{lld_calls, lld_count, lld_leads}
-use Rattle.implib_link.proofs.Search.ArchiveGroups.{first_is}
-use Rattle.implib_link.proofs.Search.Lists.{any_among, any_member, contains_among, none_listed, name_as}
-use Rattle.implib_link.proofs.Search.Lists.{passes}
-use Rattle.implib_link.proofs.Search.Lists.{passing}
-use Rattle.implib_link.proofs.Search.MsvcArchives.{made_of}
-use Rattle.implib_link.proofs.Search.MsvcMembers.{Found, FoundDescriptor, FoundNull, FoundShort, FoundThunk, FoundWeak, claims_weak, descriptor_found, descriptor_is, descriptor_of, found, null_found, null_is, null_of, pair_there, short_found, short_is, short_of, taken_weak, thunk_found, thunk_is, thunk_of, weak_found, weak_is, weak_of}
-use Rattle.implib_link.proofs.Search.Search.{only_one}
+use Rattle.implib_link.proofs.Search.Closing.{IsFirstAs}
+use Rattle.implib_link.proofs.Search.FlavorGroups.{gnu_there, made_of, msvc_there}
+use Rattle.implib_link.proofs.Search.Found.{HasRole, expands, finds, first_by_role, found}
+use Rattle.implib_link.proofs.Search.GnuAlone.{no_gnu, short_libraries, short_members, shorts_alone, shorts_archive}
+use Rattle.implib_link.proofs.Search.Lists.{among_at, any_among, any_member, contains_among, listed_is, name_as, none_listed, passes, passing, from_not, kept_into, at_index}
+use Rattle.implib_link.proofs.Search.Roles.{IsRole, Last, Null, Own, Role, Top, Weak, in_flavor, member, pair, weak_symbol, weak_target}
+use Rattle.implib_link.proofs.Search.MsvcMembers.{pair_there, short_of}
+use Rattle.implib_link.proofs.Search.Search.{in_nothing}
 use Rattle.implib_link.proofs.TablesInMemory.{tables_load_in_memory}
 use Rattle.implib_link.proofs.TablesOfPrograms.{lld_tables}
 use Rattle.implib_link.specs.Tables.{tables_of_lld}
+use Rattle.implib_link.proofs.Search.MsvcArchives.{made_of as short_made}
+use Rattle.std.proofs.lemmas.Option.{same_Some}
+use Rattle.implib_link.proofs.Gnu.Texts.{all_filter}
 
 -- The short import of an export, read in its member's bytes.
 
@@ -79,81 +86,33 @@ short_is_read machine l e made there =
     (read_of l.definition machine l.members [] made (short_import_spec machine (names_for Msvc l.definition) e) (short_at l.definition machine l.members [] made e there)) in
     ap (option_and_then (if_for machine)) read ∙ ap (λ b. if b then Some (short_of_export machine l e) else None) (is_for machine l e)
 
--- what a member is read as is among what members are read as
-among_read : {X Y : Type 0} (f : X → Option Y) (x : X) (y : Y) (xs : List X) → Among x xs → f x ≡ Some y → Among y (filter_map f xs)
-unfolding Among
-among_read f x y [] held is = absurd held
-among_read f x y (z ∷ xs) (inl same) is = subst (λ o. Among y (cons_option o (filter_map f xs))) (sym (ap f (sym same) ∙ is)) (inl refl)
-among_read {X} {Y} f x y (z ∷ xs) (inr held) is = behind (f z) (among_read f x y xs held is)
-  where
-    behind : (o : Option Y) → Among y (filter_map f xs) → Among y (cons_option o (filter_map f xs))
-    behind None later = later
-    behind (Some w) later = inr later
-
 -- What is taken of an archive of libraries.
 module _ (machine : MachineType) (libraries : List Library) (archive : IsMsvcArchive machine libraries) where
-  -- names of what a member is taken for
-  names_of : (names : List (List ℕ)) (name : List ℕ) (m x : MemberView) (o own : Object) → m ≡ x → expanded_in machine x.bytes ≡ Some own → expanded_in machine m.bytes ≡ Some o → claimed_names own ≡ names →
-      Among name (claimed_names o) → Among name names
-  names_of names name m x o own same is read are held =
-      let object : o ≡ own = (let e : Some o ≡ Some own = sym read ∙ ap (λ (y : MemberView). expanded_in machine y.bytes) same ∙ is in cc) in
-      subst (Among name) are (subst (λ t. Among name (claimed_names t)) object held)
+  abbrev in_msvc : List FlavorLibrary
+  in_msvc = short_libraries libraries
 
-  first_held : (l : Library) (rest : List Library) → libraries ≡ l ∷ rest → Among l libraries
-  unfolding Among
-  first_held l rest is = subst (Among l) (sym is) (inl refl)
-
-  -- a member that a name finds claims only what it is listed for
-  claims_listed : (other : List ℕ) (m : MemberView) (o : Object) (name : List ℕ) → Found machine libraries archive other m → expanded_in machine m.bytes ≡ Some o → Among name (claimed_names o) → Among name m.symbols
-  unfolding descriptor_spec null_descriptor_spec null_thunk_spec
-  claims_listed other m o name (FoundDescriptor l held same is) read claimed =
-      subst (λ (y : MemberView). Among name y.symbols) (sym same)
-      (names_of (descriptor_symbol (linked_dll l.definition) ∷ []) name m (descriptor_of machine l) o (taken_descriptor machine (names_for Msvc l.definition)) same
-      (descriptor_is machine l (made_of machine libraries archive l held)) read (claims_descriptor machine (names_for Msvc l.definition)) claimed)
-  claims_listed other m o name (FoundThunk l held same is) read claimed =
-      subst (λ (y : MemberView). Among name y.symbols) (sym same)
-      (names_of (null_thunk_symbol (linked_dll l.definition) ∷ []) name m (thunk_of machine l) o (taken_null_thunk machine (names_for Msvc l.definition)) same
-      (thunk_is machine l (made_of machine libraries archive l held)) read (claims_thunk machine (names_for Msvc l.definition)) claimed)
-  claims_listed other m o name (FoundShort l held e there none same listed) read claimed =
-      subst (λ (y : MemberView). Among name y.symbols) (sym same)
-      (names_of (short_import_symbols e) name m (short_of machine l e) o (asking machine (names_for Msvc l.definition) e) same
-      (short_is machine l (made_of machine libraries archive l held) e there) read (claims_asking machine (names_for Msvc l.definition) (short_import_symbol e) (ask_in Msvc machine e) e.is_data e.constant) claimed)
-  claims_listed other m o name (FoundNull l rest first same is) read claimed =
-      subst (λ (y : MemberView). Among name y.symbols) (sym same)
-      (names_of (null_descriptor_symbol ∷ []) name m (null_of machine l) o (taken_null machine) same
-      (null_is machine l (made_of machine libraries archive l (first_held l rest first))) read (claims_null machine) claimed)
-  claims_listed other m o name (FoundWeak l held e there alias weak target pair same named) read claimed =
-      subst (λ (y : MemberView). Among name y.symbols) (sym same)
-      (names_of (weak ∷ []) name m (weak_of machine l weak target) o (taken_weak machine weak target) same
-      (weak_is machine l (made_of machine libraries archive l held) e weak target there alias pair) read (claims_weak machine weak target) claimed)
-
-  -- and each name that it is listed for finds it
-  finds_itself : (other : List ℕ) (m : MemberView) (name : List ℕ) → Found machine libraries archive other m → Among name m.symbols → first_listed (archive_of libraries) name ≡ Some m
-  unfolding descriptor_spec null_descriptor_spec null_thunk_spec
-  finds_itself other m name (FoundDescriptor l held same is) listed =
-      let one : name ≡ descriptor_symbol (linked_dll l.definition) = only_one name _ (subst (λ (y : MemberView). Among name y.symbols) same listed) in
-      ap (first_listed (archive_of libraries)) one ∙ descriptor_found machine libraries archive l held ∙ ap Some (sym same)
-  finds_itself other m name (FoundThunk l held same is) listed =
-      let one : name ≡ null_thunk_symbol (linked_dll l.definition) = only_one name _ (subst (λ (y : MemberView). Among name y.symbols) same listed) in
-      ap (first_listed (archive_of libraries)) one ∙ thunk_found machine libraries archive l held ∙ ap Some (sym same)
-  finds_itself other m name (FoundShort l held e there none same own) listed =
-      short_found machine libraries archive l e name held there none (subst (λ (y : MemberView). Among name y.symbols) same listed) ∙ ap Some (sym same)
-  finds_itself other m name (FoundNull l rest first same is) listed =
-      let one : name ≡ null_descriptor_symbol = only_one name _ (subst (λ (y : MemberView). Among name y.symbols) same listed) in
-      ap (first_listed (archive_of libraries)) one ∙ null_found machine libraries archive l rest first ∙ ap Some (sym same)
-  finds_itself other m name (FoundWeak l held e there alias weak target pair same named) listed =
-      let one : name ≡ weak = only_one name _ (subst (λ (y : MemberView). Among name y.symbols) same listed) in
-      ap (first_listed (archive_of libraries)) one ∙ weak_found machine libraries archive l e weak target held there alias pair ∙ ap Some (sym same)
+  abbrev of_all : IsFlavorArchive machine in_msvc
+  of_all = shorts_archive machine libraries archive
 
   -- a member that is taken was found by some name
   record Pulled (m : MemberView) : Type 0 where
     name : List ℕ
-    by : Found machine libraries archive name m
+    by : first_listed (archive_of libraries) name ≡ Some m
+
+  -- its role
+  role_of : (m : MemberView) → Pulled m → HasRole machine (short_libraries libraries) (shorts_archive machine libraries archive) m
+  role_of m from = (found machine in_msvc of_all from.name m (ap (λ ms. first_listed ms from.name) (short_members libraries) ∙ from.by)).has
+
+  -- it claims what it is listed for, and each name that it is listed for finds it
+  is_first : (m : MemberView) → Pulled m → IsFirstAs (expanded_in machine) (archive_of libraries) m
+  is_first m from =
+      subst (λ ms. IsFirstAs (expanded_in machine) ms m) (short_members libraries)
+      (first_by_role machine in_msvc of_all (expanded_in machine) (is_weak_in machine) (expands machine in_msvc of_all) m (role_of m from))
 
   pulled : (own : List Object) (taken : List MemberView) → AreTakenBy (archive_of libraries) (asks_of_lld machine own) taken → (m : MemberView) → Among m taken → Pulled m
   unfolding AreTakenBy Among
   pulled own [] turn m held = absurd held
-  pulled own (t ∷ taken) turn m (inl same) = record { name = turn.0.0; by = found machine libraries archive turn.0.0 m (turn.0.1.listed ∙ ap Some (sym same)) }
+  pulled own (t ∷ taken) turn m (inl same) = record { name = turn.0.0; by = turn.0.1.listed ∙ ap Some (sym same) }
   pulled own (t ∷ taken) turn m (inr held) = pulled own taken turn.1 m held
 
   objects_same : (taken : List MemberView) → objects_for machine (map (λ m. m.bytes) taken) ≡ objects_taken machine taken
@@ -168,34 +127,31 @@ module _ (machine : MachineType) (libraries : List Library) (archive : IsMsvcArc
       let m : MemberView = short_of machine l e in
       let held : Among l libraries = contains_among l libraries wanted.library in
       let there : Among e (exports_of l) = contains_among e (exports_of l) wanted.export in
-      let is : first_listed (archive_of libraries) name ≡ Some m = short_found machine libraries archive l e name held there wanted.plain (contains_among name (short_import_symbols e) wanted.listed) in
+      let at = at_index e (exports_of l) there in
+      let is : first_listed (archive_of libraries) name ≡ Some m =
+      ap (λ ms. first_listed ms name) (sym (short_members libraries))
+      ∙ finds machine in_msvc of_all Msvc l (Own at.0 e) name (among_map (in_flavor Msvc) l libraries held) (at.1, wanted.plain) (contains_among name (short_import_symbols e) wanted.listed) in
       let parts = passing (λ n. not (list_any (bytes_eq n) (claims_of own))) name (references_of own) (contains_among name (unresolved own) wanted.left) in
       elim (cases_Bool (list_any (is_listed_for name) taken)) [
         | inl some ↦
             let t = any_member name taken some in
-            let same : t.0 ≡ m = one_first name t.0 m (finds_itself (pulled own taken takes.in_turn t.0 t.1).name t.0 name (pulled own taken takes.in_turn t.0 t.1).by t.2) is in
+            let same : t.0 ≡ m = same_Some t.0 m (sym ((is_first t.0 (pulled own taken takes.in_turn t.0 t.1)).first name t.2) ∙ is) in
             subst (λ x. Among x taken) same t.1
         | inr none ↦ absurd (takes.ended name m (record {
           asked = (
             among_contains name (references_of own ++ references_of (objects_for machine (not_shorts (map (λ x. x.bytes) taken)))) (among_front name (references_of own) _ parts.0),
-            none_claims name (claims_of own) (claims_of (objects_for machine (map (λ x. x.bytes) taken))) (not_true (list_any (bytes_eq name) (claims_of own)) parts.1)
+            none_claims name (claims_of own) (claims_of (objects_for machine (map (λ x. x.bytes) taken))) (from_not (list_any (bytes_eq name) (claims_of own)) parts.1)
                 (false_from_ne_true (list_any (bytes_eq name) (claims_of (objects_for machine (map (λ x. x.bytes) taken)))) (λ claimed.
                 let by = name_as (expanded_in machine) claimed_names name taken (any_among name _ (subst (λ objects. list_any (bytes_eq name) (flat_map claimed_names objects) ≡ true) (objects_same taken) claimed)) in
-                none_listed name by.member taken none by.held
-                (claims_listed (pulled own taken takes.in_turn by.member by.held).name by.member by.object name (pulled own taken takes.in_turn by.member by.held).by by.taken by.among))),
+                let one = is_first by.member (pulled own taken takes.in_turn by.member by.held) in
+                let same : by.object ≡ one.object = (let e : Some by.object ≡ Some one.object = sym by.taken ∙ one.read in cc) in
+                none_listed name by.member taken none by.held (subst (Among name) one.claims (subst (λ o. Among name (claimed_names o)) same by.among)))),
           );
           listed = is;
-          new = λ has. none_listed name m taken none (contains_among m taken has) (first_is name (archive_of libraries) m is).1;
+          new = λ has. none_listed name m taken none (contains_among m taken has) (listed_is (archive_of libraries) name m is).1;
         }))
       ]
     where
-      one_first : (name : List ℕ) (t m : MemberView) → first_listed (archive_of libraries) name ≡ Some t → first_listed (archive_of libraries) name ≡ Some m → t ≡ m
-      one_first name t m first second = (let e : Some t ≡ Some m = sym first ∙ second in cc)
-
-      not_true : (b : Bool) → not b ≡ true → b ≡ false
-      not_true true is = cc
-      not_true false is = refl
-
       none_claims : (name : List ℕ) (xs ys : List (List ℕ)) → list_any (bytes_eq name) xs ≡ false → list_any (bytes_eq name) ys ≡ false → list_any (bytes_eq name) (xs ++ ys) ≡ false
       none_claims name [] ys first second = second
       none_claims name (x ∷ xs) ys first second =
@@ -216,36 +172,36 @@ module _ (machine : MachineType) (libraries : List Library) (archive : IsMsvcArc
   no_short_in None object o is = refl
 
   -- an object is read as none
-  object_is_none : (m x : MemberView) (o : Object) (r : ShortImport) → m ≡ x → file_in x.bytes ≡ Some (ObjectFile o) → short_for machine m.bytes ≡ Some r → ⊥
+  object_is_none : (l : Library) (p : MemberSpec) (m : MemberView) (o : Object) (r : ShortImport) → IsMsvcLibrary machine l → m ≡ member_of p → Among p (member_specs (renamed l.definition) machine Msvc) →
+      file_of p.contents ≡ ObjectFile o → short_for machine m.bytes ≡ Some r → ⊥
   unfolding short_for
-  object_is_none m x o r same read short =
-      let none : short_import_in x.bytes ≡ None = no_short_in (short_import_in x.bytes) (object_in x.bytes) o read in
-      let is : None ≡ Some r = sym (ap (option_and_then (if_for machine)) none) ∙ ap (λ (y : MemberView). short_for machine y.bytes) (sym same) ∙ short in
+  object_is_none l p m o r made same held is short =
+      let read : file_in (member_of p).bytes ≡ Some (ObjectFile o) = read_of l.definition machine l.members [] made p held ∙ ap Some is in
+      let none : short_import_in (member_of p).bytes ≡ None = no_short_in (short_import_in (member_of p).bytes) (object_in (member_of p).bytes) o read in
+      let clash : None ≡ Some r = sym (ap (option_and_then (if_for machine)) none) ∙ ap (λ (y : MemberView). short_for machine y.bytes) (sym same) ∙ short in
       cc
 
-  of_export : (other : List ℕ) (m : MemberView) (r : ShortImport) → Found machine libraries archive other m → short_for machine m.bytes ≡ Some r → OfExport m r
+  of_export : (m : MemberView) (r : ShortImport) → Pulled m → short_for machine m.bytes ≡ Some r → OfExport m r
   unfolding descriptor_spec null_descriptor_spec null_thunk_spec
-  of_export other m r (FoundDescriptor l held same is) short =
-      absurd (object_is_none m (descriptor_of machine l) _ r same
-      (read_of l.definition machine l.members [] (made_of machine libraries archive l held) (descriptor_spec machine (names_for Msvc l.definition)) (descriptor_at l.definition machine l.members [] (made_of machine libraries archive l held))) short)
-  of_export other m r (FoundThunk l held same is) short =
-      absurd (object_is_none m (thunk_of machine l) _ r same
-      (read_of l.definition machine l.members [] (made_of machine libraries archive l held) (null_thunk_spec machine (linked_dll l.definition)) (thunk_at l.definition machine l.members [] (made_of machine libraries archive l held))) short)
-  of_export other m r (FoundNull l rest first same is) short =
-      absurd (object_is_none m (null_of machine l) _ r same
-      (read_of l.definition machine l.members [] (made_of machine libraries archive l (first_held l rest first)) (null_descriptor_spec machine (linked_dll l.definition))
-      (null_at l.definition machine l.members [] (made_of machine libraries archive l (first_held l rest first)))) short)
-  of_export other m r (FoundWeak l held e there alias weak target pair same named) short =
-      let made = made_of machine libraries archive l held in
-      let dll : NamesOfDll = names_for Msvc l.definition in
-      let p : MemberSpec = weak_spec machine dll.linked weak target in
-      absurd (object_is_none m (weak_of machine l weak target) _ r same
-      (read_of l.definition machine l.members [] made p
-      (among_back p (header_specs machine dll) (flat_map (export_specs machine dll) (exports_of l))
-      (among_flat (export_specs machine dll) e (exports_of l) p there (among_front p (weak_specs machine dll.linked e) (short_import_spec machine dll e ∷ []) (pair_there machine l made e weak target alias pair))))) short)
-  of_export other m r (FoundShort l held e there none same listed) short =
-      let is : Some (short_of_export machine l e) ≡ Some r = sym (short_is_read machine l e (made_of machine libraries archive l held) there) ∙ ap (λ (y : MemberView). short_for machine y.bytes) (sym same) ∙ short in
-      record { library = l; held = held; export = e; there = there; is_member = same; is_short_import = (let own : short_of_export machine l e ≡ r = cc in sym own) }
+  of_export m r from short = let x = role_of m from in by x.library.flavor x.library.library x.role x.held x.is x.same
+    where
+      by : (flavor : Flavor) (l : Library) (s : Role) → Among (in_flavor flavor l) in_msvc → IsRole in_msvc (in_flavor flavor l) s → m ≡ member machine flavor l s → OfExport m r
+      by Gnu l s held is same = absurd (in_nothing l (subst (Among l) (no_gnu libraries) (gnu_there in_msvc l held)))
+      by Msvc l Top held is same = absurd (object_is_none l (descriptor_spec machine (names_for Msvc l.definition)) m _ r (made_of machine in_msvc of_all Msvc l held) same (descriptor_at l.definition machine l.members [] (made_of machine in_msvc of_all Msvc l held)) refl short)
+      by Msvc l Last held is same = absurd (object_is_none l (null_thunk_spec machine (linked_dll l.definition)) m _ r (made_of machine in_msvc of_all Msvc l held) same (thunk_at l.definition machine l.members [] (made_of machine in_msvc of_all Msvc l held)) refl short)
+      by Msvc l Null held is same = absurd (object_is_none l (null_descriptor_spec machine (linked_dll l.definition)) m _ r (made_of machine in_msvc of_all Msvc l held) same (null_at l.definition machine l.members [] (made_of machine in_msvc of_all Msvc l held)) refl short)
+      by Msvc l (Weak n e b) held is same =
+          let dll : NamesOfDll = names_for Msvc l.definition in
+          let p : MemberSpec = weak_spec machine dll.linked (weak_symbol Msvc e b) (weak_target e b) in
+          absurd (object_is_none l p m _ r (made_of machine in_msvc of_all Msvc l held) same
+          (among_back p (header_specs machine dll) (flat_map (export_specs machine dll) (exports_of l))
+          (among_flat (export_specs machine dll) e (exports_of l) p (among_at e (exports_of l) n is.0) (among_front p (weak_specs machine dll.linked e) (short_import_spec machine dll e ∷ [])
+          (pair_there machine l (made_of machine in_msvc of_all Msvc l held) e (weak_symbol Msvc e b) (weak_target e b) is.1 (pair e b))))) refl short)
+      by Msvc l (Own n e) held is same =
+          let there : Among e (exports_of l) = among_at e (exports_of l) n is.0 in
+          let read : Some (short_of_export machine l e) ≡ Some r = sym (short_is_read machine l e (made_of machine in_msvc of_all Msvc l held) there) ∙ ap (λ (y : MemberView). short_for machine y.bytes) (sym same) ∙ short in
+          let own : short_of_export machine l e ≡ r = cc in
+          record { library = l; held = subst (Among l) (shorts_alone libraries) (msvc_there in_msvc l held); export = e; there = there; is_member = same; is_short_import = sym own }
 
   -- which can be written
   as_askable : (ask : Ask) → AskFits ask → IsAskable ask
@@ -256,12 +212,12 @@ module _ (machine : MachineType) (libraries : List Library) (archive : IsMsvcArc
   writable : (m : MemberView) (r : ShortImport) → OfExport m r → IsImportable (record { dll = r.dll; asks = ask_of_short_import r ∷ [] })
   unfolding FitsIn
   writable m r of =
-      let made = made_of machine libraries archive of.library of.held in
+      let own = short_made machine libraries archive of.library of.held in
       let fits : AskFits (ask_in Msvc machine of.export) =
-      export_fits machine of.export (all_among Sound of.export (exports_of of.library) of.there (exports_sound of.library.definition machine Msvc of.library.members made)) in
+      export_fits machine of.export (all_among Sound of.export (exports_of of.library) of.there (exports_sound of.library.definition machine Msvc of.library.members own)) in
       subst (λ (s : ShortImport). IsImportable (record { dll = s.dll; asks = ask_of_short_import s ∷ [] })) (sym of.is_short_import)
       (record {
-        name = import_name_is_free of.library.definition machine Msvc of.library.members made;
+        name = import_name_is_free of.library.definition machine Msvc of.library.members own;
         asks = (as_askable (ask_of_short_import (short_of_export machine of.library of.export)) (subst AskFits (sym (asks_so machine of.library of.export)) fits), tt);
       })
 
@@ -280,7 +236,7 @@ module _ (machine : MachineType) (libraries : List Library) (archive : IsMsvcArc
       by : (o : Option ShortImport) → short_for machine m.bytes ≡ o → AllByRecursion (λ r. (x : MemberView) × OfExport x r) (shorts_in machine ms) →
           AllByRecursion (λ r. (x : MemberView) × OfExport x r) (cons_option o (shorts_in machine ms))
       by None is later = later
-      by (Some r) is later = ((m, of_export (each m (among_first m ms)).name m r (each m (among_first m ms)).by is), later)
+      by (Some r) is later = ((m, of_export m r (each m (among_first m ms)) is), later)
 
   module _ (own : List Object) where
     apart_from : (t : MemberView) (r : ShortImport) (from : Pulled t) → short_for machine t.bytes ≡ Some r → (ms : List MemberView) → (Among t ms → ⊥) → ((m : MemberView) → Among m ms → Pulled m) →
@@ -297,9 +253,9 @@ module _ (machine : MachineType) (libraries : List Library) (archive : IsMsvcArc
               let name : List ℕ = imp_symbol r.symbol in
               let same : name ≡ imp_symbol s.symbol = (bytes_eq-Decides name (imp_symbol s.symbol)).0 equal in
               let other = each m (among_first m ms) in
-              let first : first_listed (archive_of libraries) name ≡ Some t = finds_itself from.name t name from.by (lists_imp t r (of_export from.name t r from.by is)) in
+              let first : first_listed (archive_of libraries) name ≡ Some t = (is_first t from).first name (lists_imp t r (of_export t r from is)) in
               let second : first_listed (archive_of libraries) name ≡ Some m =
-              finds_itself other.name m name other.by (subst (λ n. Among n m.symbols) (sym same) (lists_imp m s (of_export other.name m s other.by at))) in
+              (is_first m other).first name (subst (λ n. Among n m.symbols) (sym same) (lists_imp m s (of_export m s other at))) in
               let one : Some t ≡ Some m = sym first ∙ second in
               let member : t ≡ m = cc in
               new (subst (λ x. Among x (m ∷ ms)) (sym member) (among_first m ms))),
@@ -310,7 +266,7 @@ module _ (machine : MachineType) (libraries : List Library) (archive : IsMsvcArc
     unfolding AreTakenBy IsDistinct
     shorts_distinct [] turn = tt
     shorts_distinct (t ∷ taken) turn =
-        let from : Pulled t = record { name = turn.0.0; by = found machine libraries archive turn.0.0 t turn.0.1.listed } in
+        let from : Pulled t = record { name = turn.0.0; by = turn.0.1.listed } in
         by from (short_for machine t.bytes) refl (shorts_distinct taken turn.1)
       where
         by : Pulled t → (o : Option ShortImport) → short_for machine t.bytes ≡ o → IsDistinct bytes_eq (imp_symbols_of (shorts_in machine taken)) →
@@ -320,11 +276,6 @@ module _ (machine : MachineType) (libraries : List Library) (archive : IsMsvcArc
             (apart_from t r from is taken (λ held. turn.0.1.new (among_contains t taken held)) (λ m held. pulled own taken turn.1 m held), later)
 
   -- and of those that are live.
-  live_all : (P : ShortImport → Type 0) (is_live : ShortImport → Bool) (rs : List ShortImport) → AllByRecursion P rs → AllByRecursion P (filter is_live rs)
-  live_all P is_live [] all = tt
-  live_all P is_live (r ∷ rs) all =
-      elim (cases_Bool (is_live r)) [ inl is ↦ rw is (all.0, live_all P is_live rs all.1) | inr is ↦ rw is (live_all P is_live rs all.1) ]
-
   live_apart : (name : List ℕ) (is_live : ShortImport → Bool) (rs : List ShortImport) → AllByRecursion (λ other. bytes_eq name other ≡ false) (imp_symbols_of rs) →
       AllByRecursion (λ other. bytes_eq name other ≡ false) (imp_symbols_of (filter is_live rs))
   live_apart name is_live [] all = tt
@@ -357,7 +308,7 @@ module _ (machine : MachineType) (libraries : List Library) (archive : IsMsvcArc
   is_program : AreCalledAlike libraries → (own : List Object) (taken : List MemberView) → TakesBy (archive_of libraries) (asks_of_lld machine own) taken → (is_live : ShortImport → Bool) (descriptors addresses : ℕ) (image : List Range) (linked : List Placed) →
       IsBuiltByLld machine descriptors addresses (filter is_live (shorts_in machine taken)) image linked → IsLldProgram machine descriptors addresses (filter is_live (shorts_in machine taken)) image linked
   is_program alike own taken takes is_live descriptors addresses image linked built =
-      let from = live_all (λ r. (m : MemberView) × OfExport m r) is_live (shorts_in machine taken) (shorts_from taken (λ m held. pulled own taken takes.in_turn m held)) in
+      let from = all_filter (λ r. (m : MemberView) × OfExport m r) is_live (shorts_in machine taken) (shorts_from taken (λ m held. pulled own taken takes.in_turn m held)) in
       record {
         writable = each_writable (filter is_live (shorts_in machine taken)) from;
         distinct = live_distinct is_live (shorts_in machine taken) (shorts_distinct own taken takes.in_turn);
@@ -397,8 +348,8 @@ module _ (machine : MachineType) (libraries : List Library) (archive : IsMsvcArc
       short_taken : (l : Library) (e : ExportView) → IsWantedBy libraries own l e → Contains (shorts_in machine taken) (short_of_export machine l e)
       short_taken l e wanted =
           among_contains (short_of_export machine l e) (shorts_in machine taken)
-          (among_read (λ (m : MemberView). short_for machine m.bytes) (short_of machine l e) (short_of_export machine l e) taken (member_taken own taken l e takes wanted)
-          (short_is_read machine l e (made_of machine libraries archive l (contains_among l libraries wanted.library)) (contains_among e (exports_of l) wanted.export)))
+          (kept_into (λ (m : MemberView). short_for machine m.bytes) taken (short_of_export machine l e) (short_of machine l e) (member_taken own taken l e takes wanted)
+          (short_is_read machine l e (short_made machine libraries archive l (contains_among l libraries wanted.library)) (contains_among e (exports_of l) wanted.export)))
 
       live_taken : (is_live : ShortImport → Bool) (l : Library) (e : ExportView) → IsWantedBy libraries own l e → is_live (short_of_export machine l e) ≡ true →
           Contains (filter is_live (shorts_in machine taken)) (short_of_export machine l e)

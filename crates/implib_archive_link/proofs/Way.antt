@@ -19,14 +19,14 @@ use Rattle.implib_link.specs.Search.Closed.{AreLinkedFor, LinksClosed, TakesInto
 use Rattle.implib_link.specs.Search.CommandLines.{Input, SearchesLibraries, given_with, objects_given, others_of}
 use Rattle.implib_link.specs.Search.Given.{AreGiven}
 use Rattle.implib_link.specs.Search.Sweeps.{members_at}
-use Rattle.implib_link.proofs.Search.CommandLines.{of_libraries}
+use Rattle.implib_link.proofs.Search.CommandLines.{takes_of_libraries}
 use Rattle.implib_link.proofs.Flavors.Steady.{program_tables_none}
 use Rattle.implib_link.proofs.Flavors.GnuPrograms.{gnu_made}
 use Rattle.implib_link.specs.Flavors.Program.{FlavorInput, IsMadeFor, OfLinker, gnu_input, thunks_of}
 use Rattle.std.proofs.lemmas.List.{length-map}
 use Rattle.std.proofs.lemmas.Option.{slice_get-map}
 use Rattle.std.specs.Prelude.{option_map}
-use Rattle.implib_link.proofs.Search.Archives.{inputs_made}
+use Rattle.implib_link.proofs.Search.Arranged.{inputs_made}
 use Rattle.implib_link.proofs.Search.Arranged.{archive_moved}
 use Rattle.implib_link.proofs.Search.Closed.{closed_links}
 use Rattle.implib_link.proofs.Search.Given.{given_closes}
@@ -76,4 +76,4 @@ pub files_lead_to_calls : (machine : MachineType) (libraries : List Library) (fi
 files_lead_to_calls machine libraries files inputs is_given taken arranged bases objects searches archive given linked =
     let members = flat_map members_read files in
     calls_arrive machine libraries (given_with object_in is_given (objects_given inputs) (members_at members taken)) (others_of is_given (members_at members taken)) arranged bases objects archive given
-    (of_libraries machine libraries members inputs is_given taken searches) linked
+    (takes_of_libraries object_in (archive_of libraries) members inputs is_given taken searches) linked

@@ -4,3 +4,4 @@ pub mod Way
 pub mod LldWay
 pub mod BothWay
 pub mod Files
+pub mod LldFiles

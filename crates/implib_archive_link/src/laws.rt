@@ -11,17 +11,19 @@ ghost use Rattle.implib.specs.declared.flavor.Flavor.TheVariants.{Gnu, Msvc};
 ghost use Rattle.implib.specs.declared.machine.MachineType.{MachineType};
 ghost use Rattle.implib_archive.specs.Archive.{archive_of as archive_bytes};
 ghost use Rattle.implib_archive.specs.Refusal.{refusal_of};
-ghost use Rattle.implib_archive.specs.declared.kind.Kind.TheVariants.{Gnu as GnuKind};
+ghost use Rattle.implib_archive.specs.declared.kind.Kind.TheVariants.{Coff, Gnu as GnuKind};
 ghost use Rattle.implib_archive.specs.declared.kind.Kind.{Kind};
 ghost use Rattle.implib_archive_link.specs.BothWay.{AreLinkedForBoth, BothArrive};
-ghost use Rattle.implib_archive_link.specs.Files.{HasMembers, members_read};
+ghost use Rattle.implib_archive_link.specs.Files.{ArchiveFile, HasMembers, HasMembersAs};
+ghost use Rattle.implib_archive_link.specs.Files.{members_in_files, members_read};
 ghost use Rattle.implib_archive_link.specs.InBytes.{LinkerMember, asks_for, asks_on, asks_with};
 ghost use Rattle.implib_archive_link.specs.InBytes.{asks_with_on};
+ghost use Rattle.implib_archive_link.specs.LldFiles.{SearchesByLld, read_by_lld};
 ghost use Rattle.implib_archive_link.specs.LldWay.{AreCalledAlike, LldArrives, asks_of_lld};
 ghost use Rattle.implib_archive_link.specs.Results.{AreFoundInBytes, AreSearched, HaveArchive};
 ghost use Rattle.implib_archive_link.specs.Results.{IsEnding, TakesJust};
 ghost use Rattle.implib_archive_link.specs.Way.{CallsArrive};
-ghost use Rattle.implib_link.specs.Flavors.Expansion.{descriptor_symbol_by_name};
+ghost use Rattle.implib_link.specs.Flavors.Expansion.{descriptor_symbol_by_name, expanded_in};
 ghost use Rattle.implib_link.specs.Gnu.Program.{ClaimsNone};
 ghost use Rattle.implib_link.specs.Search.Archives.{IsArchive, Library, NamesNoHeadOrTailOf};
 ghost use Rattle.implib_link.specs.Search.Archives.{TakesOfLibraries, archive_of, wanted_with};
@@ -29,7 +31,8 @@ ghost use Rattle.implib_link.specs.Search.BothFlavors.{AreGivenForBoth, FlavorLi
 ghost use Rattle.implib_link.specs.Search.BothFlavors.{IsFlavorArchive, archive_of_both, msvc_among};
 ghost use Rattle.implib_link.specs.Search.Closed.{AreLinkedFor, LinksClosed, listed_in, unresolved};
 ghost use Rattle.implib_link.specs.Search.Closed.{wanted_in};
-ghost use Rattle.implib_link.specs.Search.CommandLines.{Input, SearchesLibraries, given_with};
+ghost use Rattle.implib_link.specs.Search.CommandLines.{Input, SearchesFlavors, SearchesLibraries};
+ghost use Rattle.implib_link.specs.Search.CommandLines.{given_with};
 ghost use Rattle.implib_link.specs.Search.CommandLines.{objects_given, others_of};
 ghost use Rattle.implib_link.specs.Search.Given.{AreGiven};
 ghost use Rattle.implib_link.specs.Search.Sweeps.{members_at};
@@ -51,13 +54,18 @@ pub fn archives_are_searched()
         HaveArchive kind linker members → AreFoundInBytes kind linker members }
 {}
 
-/// The bytes of an archive of the GNU kind have its members, with the symbols of each in the order of
+/// The bytes of an archive of either kind have its members, with the symbols of each in the order of
 /// the index: what a linker finds in the files of a command line are the members that the laws of
-/// command lines speak of. Some member lists a symbol.
+/// command lines speak of. Some member lists a symbol. An archive of the COFF kind, whose index has of
+/// each symbol the first entry alone, has them where all symbols differ.
 pub fn archives_have_their_members()
-    ensures { (members : List MemberView) → refusal_of GnuKind members ≡ None →
+    ensures gnu { (members : List MemberView) → refusal_of GnuKind members ≡ None →
         0 < length (flat_map (λ m. m.symbols) members) →
         HasMembers (archive_bytes GnuKind members) members }
+    ensures coff { (members : List MemberView) → refusal_of Coff members ≡ None →
+        0 < length (flat_map (λ m. m.symbols) members) →
+        IsDistinct bytes_eq (flat_map (λ m. m.symbols) members) →
+        HasMembersAs Coff (archive_bytes Coff members) members }
 {}
 
 /// A search in the bytes comes to an end, whichever name the linker takes up first: for any names,
@@ -233,4 +241,46 @@ pub fn bytes_of_both_flavors_lead_to_calls()
         IsFlavorArchive machine libraries →
         AreGivenForBoth machine libraries own →
         IsEnding kind linker (archive_of_both libraries) (asks_with_on machine own) }
+{}
+
+/// The whole way for a linker that expands short imports, of the files of a command line: what it
+/// takes in the order of the command line, of archives of libraries for either linker and of anything
+/// else, for the given objects, closes the program; and in the memory that a loader leaves each call
+/// through an import's `__imp_` symbol goes to what its DLL gives. Some short import is wanted.
+pub fn files_of_both_flavors_lead_to_calls()
+    ensures { (machine : MachineType) (libraries : List FlavorLibrary) (files : List ArchiveFile)
+        (inputs : List Input) (is_given : MemberView → Bool) (taken : List ℕ)
+        (arranged : List FlavorLibrary) (bases : Bases) (objects : List Object) →
+        SearchesFlavors machine libraries (members_in_files files) inputs is_given taken →
+        IsFlavorArchive machine libraries →
+        AreGivenForBoth machine libraries
+        (given_with (expanded_in machine) is_given (objects_given inputs)
+        (members_at (members_in_files files) taken)) →
+        0 < length (short_inputs (msvc_among libraries) (unresolved
+        (given_with (expanded_in machine) is_given (objects_given inputs)
+        (members_at (members_in_files files) taken)))) →
+        AreLinkedForBoth machine libraries
+        (given_with (expanded_in machine) is_given (objects_given inputs)
+        (members_at (members_in_files files) taken))
+        (others_of is_given (members_at (members_in_files files) taken))
+        arranged bases objects →
+        BothArrive machine libraries
+        (given_with (expanded_in machine) is_given (objects_given inputs)
+        (members_at (members_in_files files) taken))
+        (others_of is_given (members_at (members_in_files files) taken))
+        arranged bases objects }
+{}
+
+/// The whole way for lld, of the files of a command line: what it takes of archives of libraries for
+/// Microsoft's linker and of anything else, in whatever order, has the short import of each export that
+/// the given objects, with the members of the other archives that are taken, leave unresolved; and what
+/// it writes of them arrives as `bytes_lead_to_lld_calls` says.
+pub fn files_lead_to_lld_calls()
+    ensures { (machine : MachineType) (libraries : List Library) (files : List ArchiveFile)
+        (inputs : List Input) (is_given : MemberView → Bool) (taken : List MemberView) →
+        SearchesByLld machine libraries (members_in_files files) inputs is_given taken →
+        IsMsvcArchive machine libraries → AreCalledAlike libraries →
+        LldArrives machine libraries
+        (given_with (read_by_lld machine) is_given (objects_given inputs) taken)
+        (others_of is_given taken) }
 {}

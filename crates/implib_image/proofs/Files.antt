@@ -27,7 +27,7 @@ use Rattle.implib_link.proofs.Gnu.Keeps.{Keeps, bytes_kept, keeps_written, memor
 use Rattle.implib_link.proofs.Gnu.Memory.{Covers, byte_front, within_bounds, written_covers}
 use Rattle.implib_link.proofs.Gnu.Operands.{all_lead}
 use Rattle.implib_link.proofs.Gnu.Stored.{holds_address, settled_by_code}
-use Rattle.implib_link.proofs.Search.Lists.{contains_among}
+use Rattle.implib_link.proofs.Search.Lists.{contains_among, all_parts}
 use Rattle.implib_link.proofs.Tables.{tables_load}
 use Rattle.implib_link.proofs.TablesInMemory.{entry_in, entry_reached, written_read}
 
@@ -122,11 +122,7 @@ module _ (machine : MachineType) (t : Tables) (codes : List LinkedCode) (targets
   all_kept = holds_keep file.image linked_memory own.holds
 
   own_tables : IsFileOf machine t.directory t.image bytes file
-  own_tables = record { mapped = own.mapped; made_for = own.made_for; width = own.width; directory = own.directory; holds = all_front t.image (ranges_of_codes codes) own.holds }
-    where
-      all_front : (xs ys : List Range) → AllByRecursion (λ (r : Range). BytesAt file.image r.start r.bytes) (xs ++ ys) → AllByRecursion (λ (r : Range). BytesAt file.image r.start r.bytes) xs
-      all_front [] ys all = tt
-      all_front (x ∷ xs) ys all = (all.0, all_front xs ys all.1)
+  own_tables = record { mapped = own.mapped; made_for = own.made_for; width = own.width; directory = own.directory; holds = (all_parts (λ (r : Range). BytesAt file.image r.start r.bytes) t.image (ranges_of_codes codes) own.holds).0 }
 
   writes : Writes t.image (thunk_width machine) gives t.directory (map imported_by_table t.tables) written
   writes = (read machine t bytes file gives tables own_tables wide n written loads).1

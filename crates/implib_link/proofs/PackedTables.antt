@@ -2,7 +2,6 @@
 use Rattle.std.proofs.Common.{◌≡◌, ℕ, zero, suc, ◌+◌, ◌*◌, ◌%◌, ◌^◌, ◌<◌, ◌≤◌, List, [], ◌∷◌, length, map, Option, Some, refl, ap, sym, ◌∙◌, subst, arith}
 use Rattle.std.specs.Prelude.{slice_get}
 use Rattle.std.specs.List.{AllByRecursion}
-use Rattle.std.proofs.Math.Nat.{mul-add}
 use Rattle.implib.specs.declared.machine.MachineType.{MachineType}
 use Rattle.implib.specs.declared.machine.MachineType.TheVariants.{I386, ARMNT, AMD64, ARM64}
 use Rattle.implib.specs.Import.{Ask}
@@ -13,6 +12,9 @@ use Rattle.implib.specs.Link.Resolution.{definitions_of}
 use Rattle.implib.specs.Members.ImportTables.{thunk_width}
 use Rattle.implib_link.specs.Directory.{DirectoryAt, Imported}
 use Rattle.implib_link.specs.Tables.{AreTables, Block, CanReadFrom, RiseFrom, Table, TableEntry, Tables, imported_by_table, packed_tables}
+use Rattle.implib_link.proofs.Gnu.Filling.{before_next}
+use Rattle.implib_link.proofs.Gnu.Blocks.{table_sum}
+use Rattle.implib_link.proofs.Gnu.Loaded.{times_none}
 
 -- what is imported by a block
 abbrev pub imported_by_block : Block → Imported
@@ -34,17 +36,11 @@ module _ (width : ℕ) where
   packed_imports [] address = refl
   packed_imports (b ∷ blocks) address = ap (λ is. imported_by_block b ∷ is) (packed_imports blocks (address + width * (length b.entries + 1)))
 
-  past_null : (address n : ℕ) → address + width * n ≤ address + width * (n + 1)
-  past_null address n = (let split : width * (n + 1) ≡ width * n + width * 1 = mul-add width n 1 in omega arith)
-
   pub packed_rise : (blocks : List Block) (low address : ℕ) → low ≤ address → RiseFrom width low (packed_tables width address blocks)
   unfolding RiseFrom
   packed_rise [] low address above = tt
   packed_rise (b ∷ blocks) low address above =
-      (above, packed_rise blocks (address + width * length b.entries) (address + width * (length b.entries + 1)) (past_null address (length b.entries)))
-
-  pub next_sum : (address n m : ℕ) → address + width * n + width * m ≡ address + width * (n + m)
-  next_sum address n m = (let split : width * (n + m) ≡ width * n + width * m = mul-add width n m in omega arith)
+      (above, packed_rise blocks (address + width * length b.entries) (address + width * (length b.entries + 1)) (before_next address width (length b.entries)))
 
   -- the table of a block
   pub packed_at : (blocks : List Block) (address i : ℕ) (x : Table) → slice_get (packed_tables width address blocks) i ≡ Some x →
@@ -56,7 +52,7 @@ module _ (width : ℕ) where
       (b, (refl, ap (λ a. record { dll = b.dll; address = a; entries = b.entries }) none ∙ same))
   packed_at (b ∷ blocks) address (suc i) x is =
       let later = packed_at blocks (address + width * (length b.entries + 1)) i x is in
-      (later.0, (later.1.0, ap (λ a. record { dll = later.0.dll; address = a; entries = later.0.entries }) (sym (next_sum address (length b.entries + 1) (entries_until i blocks))) ∙ later.1.1))
+      (later.0, (later.1.0, ap (λ a. record { dll = later.0.dll; address = a; entries = later.0.entries }) (sym (table_sum address width (length b.entries + 1) (entries_until i blocks))) ∙ later.1.1))
 
 -- What packed tables have of what is known of their blocks.
 pub are_packed : (machine : MachineType) (image : List Range) (linked : List Placed) (directory addresses : ℕ) (blocks : List Block) →
@@ -81,19 +77,16 @@ are_packed machine image linked directory addresses blocks starts ends is_direct
 
 -- Where a table of packed ones is.
 
-none_yet : (width address : ℕ) → address ≡ address + width * 0
-none_yet width address = omega arith
-
 pub packed_get : (width : ℕ) (blocks : List Block) (address i : ℕ) (b : Block) → slice_get blocks i ≡ Some b →
     slice_get (packed_tables width address blocks) i ≡ Some (record { dll = b.dll; address = address + width * entries_until i blocks; entries = b.entries })
 packed_get width [] address i b is = cc
 packed_get width (c ∷ blocks) address zero b is =
     let same : c ≡ b = cc in
     ap (λ (x : Block). Some (record { dll = x.dll; address = address; entries = x.entries })) same
-    ∙ ap (λ a. Some (record { dll = b.dll; address = a; entries = b.entries })) (none_yet width address)
+    ∙ ap (λ a. Some (record { dll = b.dll; address = a; entries = b.entries })) (times_none address width)
 packed_get width (c ∷ blocks) address (suc i) b is =
     packed_get width blocks (address + width * (length c.entries + 1)) i b is
-    ∙ ap (λ a. Some (record { dll = b.dll; address = a; entries = b.entries })) (next_sum width address (length c.entries + 1) (entries_until i blocks))
+    ∙ ap (λ a. Some (record { dll = b.dll; address = a; entries = b.entries })) (table_sum address width (length c.entries + 1) (entries_until i blocks))
 
 -- a machine that can read from an address on can read each packed table
 pub eights : (a n : ℕ) → a % 8 ≡ 0 → (a + 8 * n) % 8 ≡ 0

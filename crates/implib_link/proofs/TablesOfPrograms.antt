@@ -22,13 +22,15 @@ use Rattle.implib_link.specs.Flavors.Program.{Ending, FlavorInput, IsMadeFor, as
 use Rattle.implib_link.specs.Gnu.Rebased.{table_places, table_places_in}
 use Rattle.implib_link.specs.Stub.{CanJump}
 use Rattle.implib_link.specs.Tables.{AreSteady, AreTables, Block, CanReadFrom, DefineEntries, Table, TableEntry, block_of_flavor, block_of_group, entry_of_short, imported_by_table, packed_tables, tables_at, tables_of_lld}
-use Rattle.implib_link.proofs.Flavors.LldImports.{all_at, all_define, defined_once, get_map, lld_links, nth_stands, only, stand}
+use Rattle.implib_link.proofs.Flavors.LldImports.{all_define, defined_once, get_map, lld_links, nth_stands, only, stand}
 use Rattle.implib_link.proofs.Flavors.LldTables.{pieces_directory, pieces_stand}
 use Rattle.implib_link.proofs.Flavors.Loaded.{entry_of}
 use Rattle.implib_link.proofs.Flavors.Program.{program_links}
 use Rattle.implib_link.proofs.Gnu.Loaded.{mapped_at}
-use Rattle.implib_link.proofs.PackedTables.{HasEntry, are_packed, asks_again, block_entry, entries_until, imported_by_block, next_sum, packed_count, packed_rise, reads_further}
+use Rattle.implib_link.proofs.PackedTables.{HasEntry, are_packed, asks_again, block_entry, entries_until, imported_by_block, packed_count, packed_rise, reads_further}
 use Rattle.implib_link.proofs.Search.Lists.{contains_among}
+use Rattle.implib.proofs.Link.LinkedMembers.{all_at}
+use Rattle.implib_link.proofs.Gnu.Blocks.{table_sum}
 
 -- The blocks of programs.
 
@@ -96,7 +98,7 @@ packed_until width (b ∷ blocks) address zero x is =
 packed_until width (b ∷ blocks) address (suc i) x is =
     let behind = map imported_by_table (packed_tables width (address + width * (length b.entries + 1)) blocks) in
     ap (λ n. address + width * (n + 1 + thunks_until i behind)) (length-map b.entries (λ (e : TableEntry). e.ask))
-    ∙ sym (next_sum width address (length b.entries + 1) (thunks_until i behind))
+    ∙ sym (table_sum address width (length b.entries + 1) (thunks_until i behind))
     ∙ packed_until width blocks (address + width * (length b.entries + 1)) i x is
 
 pub pieces_tables : (machine : MachineType) (image : List Range) (linked : List Placed) (descriptors lookups addresses hints names : ℕ) (blocks : List Block) →

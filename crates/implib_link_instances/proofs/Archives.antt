@@ -7,3 +7,4 @@ pub mod WorkedBothWay
 pub mod NearMisses
 pub mod NearBothWay
 pub mod Files
+pub mod FileLines

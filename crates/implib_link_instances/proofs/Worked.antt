@@ -16,6 +16,7 @@ pub mod Loads
 pub mod Searched
 pub mod Sweeps
 pub mod CommandLines
+pub mod FlavorLines
 pub mod FlavorLoads
 pub mod Packed
 pub mod GnuPacked

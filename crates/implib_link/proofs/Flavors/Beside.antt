@@ -31,8 +31,9 @@ use Rattle.implib_link.proofs.Gnu.Blocks.{addresses_after}
 use Rattle.implib_link.proofs.Gnu.Filling.{DescriptorBeside, DirectoryBeside}
 use Rattle.implib_link.proofs.Flavors.Block.{AreEven, FitsIn, Suits, behind_descriptor, definitions-in, definitions_in, ends_in, ends_of_askings, even_aligned, even_in, even_wide, objects_of, use_for}
 use Rattle.implib_link.proofs.Flavors.Blocks.{AllSuit, BlocksIn, CanLink, FlavorBlock, addresses_one, all_objects, descriptors_one, ends_all, ends_one, imported_of, rest_of, thunks_in}
-use Rattle.implib_link.proofs.Flavors.Expanded.{AreWide, AskFits, descriptor_is, descriptor_linked, ends_of_asking, ends_of_descriptor, ends_of_null_thunk, length-descriptor, length-thunk_linked, placed-asking, placed-descriptor, placed-null_thunk, placed_asking, placed_descriptor, plus_none, step, taken_descriptor, taken_null_thunk, thunk_linked, thunk_of_name, wide_asking, wide_descriptor}
+use Rattle.implib_link.proofs.Flavors.Expanded.{AreWide, AskFits, descriptor_is, descriptor_linked, ends_of_asking, ends_of_descriptor, ends_of_null_thunk, length-descriptor, length-thunk_linked, placed-asking, placed-descriptor, placed-null_thunk, placed_asking, placed_descriptor, step, taken_descriptor, taken_null_thunk, thunk_linked, thunk_of_name, wide_asking, wide_descriptor}
 use Rattle.implib.specs.LibraryName.{NamesOfDll}
+use Rattle.implib_link.proofs.Gnu.Loaded.{plus_none}
 
 module _ (machine : MachineType) (dll : NamesOfDll) (linked : List Placed) (beside : List Range)
     (starts : AllByRecursion (λ r. 0 < r.start) beside) (ends : AllByRecursion (λ r. range_end r < 2 ^ 31) beside) where

@@ -22,7 +22,7 @@ use Rattle.implib.proofs.Link.Ranges.{Among, among_back, among_front}
 use Rattle.implib_link.specs.Directory.{DirectoryAt, Imported}
 use Rattle.implib_link.specs.Flavors.Program.{Ending, IsFoundByName, OfLinker, OfMember, ask_in}
 use Rattle.implib_link.specs.Gnu.Program.{null_descriptor}
-use Rattle.implib_link.proofs.Gnu.Blocks.{addresses_after, descriptors_after, table_sum, plus_twice}
+use Rattle.implib_link.proofs.Gnu.Blocks.{addresses_after, descriptors_after, table_sum, plus_twice, plus_sum}
 use Rattle.implib_link.proofs.Flavors.Block.{AreEven, FitsIn, NullDefined, OneLinks, Suits, definitions-in, definitions_in, ends_in, ends_of_askings, even_in, names-in, objects_of, one_links, symbols_of}
 use Rattle.implib_link.proofs.Flavors.Expanded.{ends_of_asking, ends_of_descriptor}
 use Rattle.implib.specs.LibraryName.{NamesOfDll}
@@ -54,10 +54,6 @@ pub record CanLink (machine : MachineType) (ending : Ending) (k : FlavorBlock) :
 -- linkers of this kind take all members
 abbrev pub AllSuit : Ending → List FlavorBlock → Type 0
 AllSuit ending blocks = AllByRecursion (λ k. Suits ending k.flavor) blocks
-
-pub all_suit : (machine : MachineType) (ending : Ending) (blocks : List FlavorBlock) → AllByRecursion (CanLink machine ending) blocks → AllSuit ending blocks
-all_suit machine ending [] fit = tt
-all_suit machine ending (k ∷ blocks) fit = (fit.0.suits, all_suit machine ending blocks fit.1)
 
 abbrev pub ends_one : MachineType → Bases → FlavorBlock → Bases
 ends_one machine b k = ends_in machine k.flavor k.dll b k.exports
@@ -153,9 +149,6 @@ module _ (machine : MachineType) (ending : Ending) (linked : List Placed) (image
         targets = λ all. one.targets (others.targets all);
         located = others.located;
       }
-
-pub plus_sum : (a n : ℕ) → a + 20 + 20 * n ≡ a + 20 * suc n
-plus_sum a n = omega arith
 
 -- the thunks of the first few blocks, with the null thunks that end them
 abbrev pub thunks_in : ℕ → List FlavorBlock → ℕ

@@ -19,6 +19,7 @@ use Rattle.implib.proofs.Link.Thunks.{StrictThunkAt, length-address, name_locate
 use Rattle.implib_link.specs.Flavors.Expansion.{Use, import_object, hint_and_name, relocations_asking, thunk_asking}
 use Rattle.implib_link.specs.Flavors.SectionSymbols.{with_section_symbols}
 use Rattle.implib.specs.LibraryName.{NamesOfDll}
+use Rattle.implib_link.proofs.Gnu.Loaded.{plus_none}
 
 -- the ends of the directory and of the tables, these at multiples of a thunk's width
 pub record AreWide (machine : MachineType) (b : Bases) : Type 0 where
@@ -44,9 +45,6 @@ wide_next ARM64 n even = omega arith
 
 pub wide_aligned : (machine : MachineType) (b : Bases) → AreWide machine b → AreAligned b
 wide_aligned machine b even = record { descriptors = even.descriptors; lookups = of_four machine b.lookups even.lookups; addresses = of_four machine b.addresses even.addresses }
-
-pub plus_none : (n : ℕ) → n + 0 ≡ n
-plus_none n = omega arith
 
 -- The objects.
 

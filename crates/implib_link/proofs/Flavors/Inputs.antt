@@ -5,7 +5,7 @@ use Rattle.std.specs.List.{AllByRecursion, Contains, cons_option, filter_map, fl
 use Rattle.std.specs.Option.{option_and_then, option_map}
 use Rattle.std.proofs.lemmas.Bool.{cases_Bool, le-leb, ltb-true, or_parts}
 use Rattle.std.proofs.lemmas.Grind.{flat_map-append}
-use Rattle.std.proofs.lemmas.List.{append-nil, append_assoc}
+use Rattle.std.proofs.lemmas.List.{append-nil, append_assoc, map_push}
 use Rattle.std.proofs.lemmas.List.Elements.{filter_map-append}
 use Rattle.implib.specs.declared.machine.MachineType.{MachineType}
 use Rattle.implib.specs.declared.machine.MachineType.TheVariants.{I386, ARMNT, AMD64, ARM64}
@@ -46,6 +46,7 @@ use Rattle.implib_link.proofs.Flavors.Blocks.{AllSuit, CanLink, FlavorBlock, all
 use Rattle.implib_link.proofs.Flavors.Expanded.{AskFits, taken_descriptor, taken_null, taken_null_thunk}
 use Rattle.implib_link.proofs.Gnu.Texts.{all_chosen}
 use Rattle.implib.specs.LibraryName.{NamesOfDll, linked_dll, names_for}
+use Rattle.implib.proofs.Link.Linked.{all_append}
 
 -- Short imports.
 
@@ -140,10 +141,6 @@ all_read : {X Y : Type 0} (f : X → Option Y) (g : X → Y) (xs : List X) → A
 all_read f g [] all = refl
 all_read f g (x ∷ xs) all = let first : f x ≡ Some (g x) = all.0 in let rest : map f xs ≡ map Some (map g xs) = all_read f g xs all.1 in cc
 
-map-append-last : {X Y : Type 0} (f : X → Y) (xs : List X) (last : X) → map f (xs ++ last ∷ []) ≡ map f xs ++ f last ∷ []
-map-append-last f [] last = refl
-map-append-last f (x ∷ xs) last = ap (λ ys. f x ∷ ys) (map-append-last f xs last)
-
 all_contained : {X Y : Type 0} (f : X → Y) (all : List X) (xs : List X) → AllByRecursion (λ x. Among x all) xs → AllByRecursion (Contains (map f all)) (map f xs)
 all_contained f all [] among = tt
 all_contained f all (x ∷ xs) among = (among_contains (f x) (map f all) (among_map f x all among.0), all_contained f all xs among.1)
@@ -216,28 +213,24 @@ module _ (d : DefinitionView) (machine : MachineType) (members : List MemberView
       map_after (λ (m : MemberView). expanded_in machine m.bytes) member_of (specs_in Msvc d machine chosen)
       ∙ ap (λ o. o ∷ map reading (shorts ++ last ∷ [])) descriptor_taken
       ∙ ap (λ os. Some (taken_descriptor machine (names_for Msvc d)) ∷ os) (
-      map-append-last reading shorts last
+      map_push reading shorts last
       ∙ ap (λ o. map reading shorts ++ o ∷ []) thunk_taken
       ∙ ap (λ os. os ++ Some (taken_null_thunk machine (names_for Msvc d)) ∷ [])
       (map_after reading (short_import_spec machine (names_for Msvc d)) (chosen_exports d chosen)
       ∙ all_read (λ e. reading (short_import_spec machine (names_for Msvc d) e)) (asking machine (names_for Msvc d)) (chosen_exports d chosen) shorts_taken)
-      ∙ sym (map-append-last Some (map (asking machine (names_for Msvc d)) (chosen_exports d chosen)) (taken_null_thunk machine (names_for Msvc d))))
+      ∙ sym (map_push Some (map (asking machine (names_for Msvc d)) (chosen_exports d chosen)) (taken_null_thunk machine (names_for Msvc d))))
 
   all_mapped : {X Y : Type 0} (f : X → Y) (P : Y → Type 0) (xs : List X) → AllByRecursion (λ x. P (f x)) xs → AllByRecursion P (map f xs)
   all_mapped f P [] all = tt
   all_mapped f P (x ∷ xs) all = (all.0, all_mapped f P xs all.1)
-
-  all_last : {X : Type 0} (P : X → Type 0) (xs : List X) (last : X) → AllByRecursion P xs → P last → AllByRecursion P (xs ++ last ∷ [])
-  all_last P [] last all here = (here, tt)
-  all_last P (x ∷ xs) last all here = (all.0, all_last P xs last all.1 here)
 
   pub msvc_from : AllByRecursion (Contains members) (map member_of (specs_in Msvc d machine chosen))
   msvc_from =
       subst (λ ms. AllByRecursion (Contains ms) (map member_of (specs_in Msvc d machine chosen))) (sym made.made)
       (all_contained member_of (member_specs (renamed d) machine Msvc) (specs_in Msvc d machine chosen) (
         descriptor_at,
-        all_last (λ p. Among p (member_specs (renamed d) machine Msvc)) shorts (null_thunk_spec machine (linked_dll d))
-            (all_mapped (short_import_spec machine (names_for Msvc d)) (λ p. Among p (member_specs (renamed d) machine Msvc)) (chosen_exports d chosen) (chosen_all (λ e. Among (short_import_spec machine (names_for Msvc d) e) (member_specs (renamed d) machine Msvc)) short_at)) thunk_at,
+        all_append (λ p. Among p (member_specs (renamed d) machine Msvc)) shorts (null_thunk_spec machine (linked_dll d) ∷ [])
+            (all_mapped (short_import_spec machine (names_for Msvc d)) (λ p. Among p (member_specs (renamed d) machine Msvc)) (chosen_exports d chosen) (chosen_all (λ e. Among (short_import_spec machine (names_for Msvc d) e) (member_specs (renamed d) machine Msvc)) short_at)) (thunk_at, tt),
       ))
 
   pub null_from : Contains members (null_member machine (linked_dll d))

@@ -14,7 +14,7 @@ use Rattle.implib.specs.Link.Resolution.{SymbolDefinition, defined_by_entry, def
 use Rattle.implib.specs.Members.ImportTables.{thunk_width}
 use Rattle.implib.proofs.Link.Definitions.{only_definition}
 use Rattle.implib.proofs.Link.Descriptors.{LoadsFrom}
-use Rattle.implib.proofs.Link.LinkedMembers.{among_contains, among_map}
+use Rattle.implib.proofs.Link.LinkedMembers.{among_contains, among_map, all_at}
 use Rattle.implib.proofs.Link.Ranges.{Among, all_among, among_back, among_first, among_front, among_later}
 use Rattle.implib_link.specs.Directory.{Imported}
 use Rattle.implib_link.specs.Flavors.LldImports.{IsImportedBy, IsLldProgram, LldLinks, dll_of_group, entries_of_groups, group_entries, grouped, imp_symbols_of, imported_by, imports_of_lld, in_small, placed_by_lld}
@@ -26,13 +26,8 @@ use Rattle.implib_link.proofs.Gnu.OtherLibraries.{definitions_parts}
 use Rattle.implib_link.proofs.Gnu.Program.{gets_address}
 use Rattle.implib_link.proofs.Search.Counts.{distinct_from, few_from}
 use Rattle.implib_link.proofs.Search.Lists.{contains_among}
-use Rattle.implib_link.proofs.Flavors.Blocks.{plus_sum as next_row}
-use Rattle.implib_link.proofs.Gnu.Loaded.{times_none as nothing_before, times_next as next_entry}
-
-pub all_at : {X : Type 0} (P : X → Type 0) (xs : List X) (i : ℕ) (x : X) → AllByRecursion P xs → slice_get xs i ≡ Some x → P x
-all_at P [] i x all is = cc
-all_at P (y ∷ xs) zero x all is = (let same : y ≡ x = cc in subst P same all.0)
-all_at P (y ∷ xs) (suc i) x all is = all_at P xs i x all.1 is
+use Rattle.implib_link.proofs.Gnu.Blocks.{plus_sum as next_row}
+use Rattle.implib_link.proofs.Gnu.Loaded.{times_none as nothing_before, times_next as next_entry, plus_none}
 
 pub get_map : {X Y : Type 0} (f : X → Y) (xs : List X) (i : ℕ) (x : X) → slice_get xs i ≡ Some x → slice_get (map f xs) i ≡ Some (f x)
 get_map f [] i x is = cc
@@ -172,9 +167,6 @@ all_define width address (g ∷ groups) (suc i) j group r at is =
     (all_define width later groups i j group r at is))
 
 -- The law.
-
-plus_none : (a : ℕ) → a + 0 ≡ a
-plus_none a = omega arith
 
 module _ (machine : MachineType) (descriptors addresses : ℕ) (taken : List ShortImport) (image : List Range) (linked : List Placed)
     (program : IsLldProgram machine descriptors addresses taken image linked) where

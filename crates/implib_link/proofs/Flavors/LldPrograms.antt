@@ -17,11 +17,12 @@ use Rattle.implib_link.specs.Gnu.Operands.{AllLead, HasBranch}
 use Rattle.implib_link.specs.Gnu.Reading.{ReadsAndWrites}
 use Rattle.implib_link.specs.Tables.{AreSteady, AreTables, Block, CanReadFrom, Table, TableEntry, block_of_group, entry_of_short, tables_of_lld}
 use Rattle.implib_link.proofs.Flavors.LldGroups.{grouped_holds, in_place}
-use Rattle.implib_link.proofs.Flavors.LldImports.{all_at, get_map, only}
+use Rattle.implib_link.proofs.Flavors.LldImports.{get_map, only}
 use Rattle.implib_link.proofs.Search.Lists.{contains_among}
 use Rattle.implib_link.proofs.TablesInMemory.{entry_leads, thunk_called_in_memory}
 use Rattle.implib_link.proofs.PackedTables.{HasEntry, block_entry, entries_until, packed_count, reads_further}
 use Rattle.implib_link.proofs.TablesOfPrograms.{lld_tables}
+use Rattle.implib.proofs.Link.LinkedMembers.{all_at}
 
 module _ (machine : MachineType) (descriptors addresses : ℕ) (taken : List ShortImport) (image : List Range) (linked : List Placed)
     (program : IsLldProgram machine descriptors addresses taken image linked) where

@@ -1,5 +1,5 @@
 -- lld's thunks in memory jump through their entries.
-use Rattle.std.proofs.Common.{◌≡◌, ℕ, ◌+◌, ◌*◌, List, [], ◌∷◌, ◌++◌, length, take, drop, Some, refl, ap, sym, ◌∙◌, subst, arith}
+use Rattle.std.proofs.Common.{◌≡◌, ℕ, ◌+◌, List, [], ◌∷◌, ◌++◌, length, take, drop, Some, refl, ap, sym, ◌∙◌, subst, arith}
 use Rattle.std.specs.Prelude.{false}
 use Rattle.std.specs.List.{Contains, list_any}
 use Rattle.std.proofs.lemmas.List.{length-append}
@@ -17,10 +17,11 @@ use Rattle.implib.proofs.Link.Ranges.{among_first}
 use Rattle.implib_link.specs.Flavors.LldThunks.{IsThunk, ThunkArrives, placed_thunk, thunk_code, thunk_relocations, thunk_section}
 use Rattle.implib_link.specs.Gnu.Fields.{DefinesIn, LinkedCode, MeetsAlone, field_at, meets}
 use Rattle.implib_link.specs.Gnu.Operands.{AllLead, AreKept, InstructionArrives, IsOperand, Names, PairArrives}
-use Rattle.implib_link.specs.Stub.{adrp_immediate, bits_of, jump_reads, ldr_immediate, page, plus_signed, with_adrp, with_bits}
+use Rattle.implib_link.specs.Stub.{adrp_immediate, bits_of, jump_reads, ldr_immediate, plus_signed, with_adrp, with_bits}
 use Rattle.implib_link.specs.Tables.{CanReadFrom}
-use Rattle.implib_link.proofs.Gnu.MovedCode.{four_of, joined}
+use Rattle.implib_link.proofs.Gnu.MovedCode.{four_of}
 use Rattle.implib_link.proofs.Gnu.OperandStubs.{arm64_jump}
+use Rattle.implib_link.proofs.Gnu.UsualCode.{pair_read}
 
 i386_jump : (address : ℕ) (field : List ℕ) → length field ≡ 4 → jump_reads I386 address (0xFF ∷ 0x25 ∷ (field ++ [])) ≡ Some (number_in field)
 i386_jump address field four = (let f = four_of field four in subst (λ xs. jump_reads I386 address (0xFF ∷ 0x25 ∷ (xs ++ [])) ≡ Some (number_in xs)) (sym f.is) refl)
@@ -126,24 +127,8 @@ module _ (image_base : ℕ) (linked : List Placed) (codes : List LinkedCode) (me
       let branch : BytesAt memory (d.position + 8) (0 ∷ 2 ∷ 0x1F ∷ 0xD6 ∷ []) =
       subst (BytesAt memory (d.position + 8)) (ap (λ xs. take 4 (drop 8 xs)) code)
       (kept d 8 4 held (subst (λ rs. list_any (meets ARM64 8 4) rs ≡ false) (sym relocations) refl)) in
-      let adrp : List ℕ = x.adrp_there.bytes in
-      let load : List ℕ = x.load_there.bytes in
-      let first : length adrp ≡ 4 = x.adrp_there.count in
-      let second : length load ≡ 4 = x.load_there.count in
       let plain : d.position + 0 ≡ d.position = omega arith in
-      let load_place : d.position + 4 ≡ d.position + length adrp = omega arith in
-      let branch_place : d.position + 8 ≡ d.position + length adrp + length load = omega arith in
-      record {
-        code = adrp ++ (load ++ 0 ∷ 2 ∷ 0x1F ∷ 0xD6 ∷ []);
-        there = joined memory adrp (load ++ 0 ∷ 2 ∷ 0x1F ∷ 0xD6 ∷ []) d.position (subst (λ a. BytesAt memory a adrp) plain x.adrp_there.located)
-            (joined memory load (0 ∷ 2 ∷ 0x1F ∷ 0xD6 ∷ []) (d.position + length adrp) (subst (λ a. BytesAt memory a load) load_place x.load_there.located)
-            (subst (λ a. BytesAt memory a (0 ∷ 2 ∷ 0x1F ∷ 0xD6 ∷ [])) branch_place branch));
-        whole = omega (arith, length-append adrp (load ++ 0 ∷ 2 ∷ 0x1F ∷ 0xD6 ∷ []), length-append load (0 ∷ 2 ∷ 0x1F ∷ 0xD6 ∷ []));
-        entry = x.entry;
-        reads = arm64_jump (image_base + d.position) adrp load first second
-            (ap (with_adrp 0) x.adrp_there.value ∙ x.is_adrp ∙ ap (with_adrp 0) page_code) (ap (with_bits 10 12 0) x.load_there.value ∙ x.is_load ∙ ap (with_bits 10 12 0) load_code)
-            ∙ ap Some (ap (λ n. plus_signed 21 4096 (adrp_immediate n) (page (image_base + d.position) * 4096) + ldr_immediate (number_in load)) x.adrp_there.value
-            ∙ ap (λ n. plus_signed 21 4096 (adrp_immediate x.adrp) (page (image_base + d.position) * 4096) + ldr_immediate n) x.load_there.value
-            ∙ ap (λ a. plus_signed 21 4096 (adrp_immediate x.adrp) (page (image_base + a) * 4096) + ldr_immediate x.load) (sym plain) ∙ x.leads);
-        located = x.located;
-      }
+      let read = pair_read (jump_reads ARM64) 0x9000_0010 0xF940_0210 (0 ∷ 2 ∷ 0x1F ∷ 0xD6 ∷ []) arm64_jump image_base linked memory d.position (field_at d.code.bytes 0 4) (field_at d.code.bytes 4 4) (imp_symbol r.symbol) bytes
+      (ap (with_adrp 0) page_code) (ap (with_bits 10 12 0) load_code)
+      (subst (λ a. PairArrives image_base linked memory a (d.position + 4) (field_at d.code.bytes 0 4) (field_at d.code.bytes 4 4) (imp_symbol r.symbol) bytes) plain x) branch in
+      record { code = read.code; there = read.there; whole = read.whole; entry = read.entry; reads = read.leads; located = read.located }

@@ -19,6 +19,9 @@ use Rattle.implib.proofs.Link.Ranges.{Among}
 use Rattle.implib_link.specs.Gnu.Packed.{group_end, sections_end}
 use Rattle.implib_link.specs.Flavors.SectionSymbols.{with_section_symbols}
 use Rattle.implib_link.proofs.Flavors.Expanded.{taken_null}
+use Rattle.implib_link.specs.Gnu.OtherLibraries.{ends_behind}
+use Rattle.implib_link.proofs.Gnu.Runs.{placed_parts}
+use Rattle.implib_link.proofs.Search.Lists.{all_parts}
 
 -- whether a group is that of `.idata$3`
 abbrev is_end : Option Group → Bool
@@ -92,20 +95,10 @@ ends_kept b [] none = refl
 ends_kept b (s ∷ sections) none =
     ends_kept (end_after b (section_address_of b s) (length s.bytes)) sections none.1 ∙ end_kept b s.flags (length s.bytes) (group_named s.name) none.0
 
--- the ends after objects
-ends_behind : Bases → List Object → Bases
-ends_behind b [] = b
-ends_behind b (o ∷ objects) = ends_behind (ends_after b o.sections) objects
-
 ends_behind_kept : (b : Bases) (objects : List Object) → AllByRecursion EndsNothing objects → (ends_behind b objects).directory_ends ≡ b.directory_ends
 unfolding ends_behind
 ends_behind_kept b [] none = refl
 ends_behind_kept b (o ∷ objects) none = ends_behind_kept (ends_after b o.sections) objects none.1 ∙ ends_kept b o.sections none.0
-
-placed-append : (b : Bases) (xs ys : List Object) → placed_from b (xs ++ ys) ≡ placed_from b xs ++ placed_from (ends_behind b xs) ys
-unfolding ends_behind
-placed-append b [] ys = refl
-placed-append b (o ∷ xs) ys = ap (λ ps. record { object = o; section_addresses = section_addresses_of b o.sections } ∷ ps) (placed-append (ends_after b o.sections) xs ys)
 
 -- nothing of `.idata$3` is in such objects
 contribution_none : (b : Bases) (flags : ℕ) (bytes : List ℕ) (g : Option Group) → is_end g ≡ false → contribution_at DirectoryEnds (address_after b flags g) bytes ≡ []
@@ -168,14 +161,6 @@ among_insert x [] ys n m = inr m
 among_insert x (y ∷ xs) ys n (inl e) = inl e
 among_insert x (y ∷ xs) ys n (inr m) = inr (among_insert x xs ys n m)
 
-pub all_front : {X : Type 0} (P : X → Type 0) (xs ys : List X) → AllByRecursion P (xs ++ ys) → AllByRecursion P xs
-all_front P [] ys all = tt
-all_front P (x ∷ xs) ys all = (all.0, all_front P xs ys all.1)
-
-pub all_back : {X : Type 0} (P : X → Type 0) (xs ys : List X) → AllByRecursion P (xs ++ ys) → AllByRecursion P ys
-all_back P [] ys all = all
-all_back P (x ∷ xs) ys all = all_back P xs ys all.1
-
 abbrev pub null_definition : Bases → SymbolDefinition
 null_definition b = record { name = null_descriptor_symbol; address = Some b.directory_ends }
 
@@ -193,16 +178,16 @@ module _ (machine : MachineType) (b : Bases) (xs ys : List Object) (none : AllBy
   back = placed_from (ends_behind b xs) ys
 
   without : placed_from b (xs ++ ys) ≡ front ++ back
-  without = placed-append b xs ys
+  without = placed_parts b xs ys
 
   with_null : placed_from b (xs ++ taken_null machine ∷ ys) ≡ front ++ own ∷ back
   unfolding with_section_symbols object_of null_descriptor entries_of name_text ends_behind
   with_null =
       let place : ℕ = next_multiple 4 last.directory_ends in
       let same : next_multiple 4 last.directory_ends ≡ b.directory_ends =
-      ap (next_multiple 4) (ends_behind_kept b xs (all_front EndsNothing xs ys none)) ∙ aligned b.directory_ends even in
-      placed-append b xs (taken_null machine ∷ ys)
-      ∙ ap (λ ps. front ++ record { object = taken_null machine; section_addresses = At DirectoryEnds place ∷ [] } ∷ ps) (placed_same (place + 20) last ys (all_back EndsNothing xs ys none))
+      ap (next_multiple 4) (ends_behind_kept b xs (all_parts EndsNothing xs ys none).0) ∙ aligned b.directory_ends even in
+      placed_parts b xs (taken_null machine ∷ ys)
+      ∙ ap (λ ps. front ++ record { object = taken_null machine; section_addresses = At DirectoryEnds place ∷ [] } ∷ ps) (placed_same (place + 20) last ys (all_parts EndsNothing xs ys none).1)
       ∙ ap (λ n. front ++ record { object = taken_null machine; section_addresses = At DirectoryEnds n ∷ [] } ∷ back) same
 
   contributions_same : (linked : List Placed) (group : Group) → contributions_of machine linked group own ≡ [] →
@@ -210,25 +195,16 @@ module _ (machine : MachineType) (b : Bases) (xs ys : List Object) (none : AllBy
   contributions_same linked group empty =
       ap (contributions machine linked group) with_null ∙ flat_none (contributions_of machine linked group) front back own empty ∙ sym (ap (contributions machine linked group) without)
 
-  pub descriptors_same : (linked : List Placed) → contributions machine linked Descriptors (placed_from b (xs ++ taken_null machine ∷ ys)) ≡ contributions machine linked Descriptors (placed_from b (xs ++ ys))
+  -- a group that the null descriptor is not in
+  pub group_same : (linked : List Placed) (group : Group) → same_group group DirectoryEnds ≡ false →
+      contributions machine linked group (placed_from b (xs ++ taken_null machine ∷ ys)) ≡ contributions machine linked group (placed_from b (xs ++ ys))
   unfolding with_section_symbols object_of null_descriptor entries_of name_text
-  descriptors_same linked = contributions_same linked Descriptors refl
-
-  pub lookups_same : (linked : List Placed) → contributions machine linked Lookups (placed_from b (xs ++ taken_null machine ∷ ys)) ≡ contributions machine linked Lookups (placed_from b (xs ++ ys))
-  unfolding with_section_symbols object_of null_descriptor entries_of name_text
-  lookups_same linked = contributions_same linked Lookups refl
-
-  pub addresses_same : (linked : List Placed) → contributions machine linked Addresses (placed_from b (xs ++ taken_null machine ∷ ys)) ≡ contributions machine linked Addresses (placed_from b (xs ++ ys))
-  unfolding with_section_symbols object_of null_descriptor entries_of name_text
-  addresses_same linked = contributions_same linked Addresses refl
-
-  pub hint_names_same : (linked : List Placed) → contributions machine linked HintNames (placed_from b (xs ++ taken_null machine ∷ ys)) ≡ contributions machine linked HintNames (placed_from b (xs ++ ys))
-  unfolding with_section_symbols object_of null_descriptor entries_of name_text
-  hint_names_same linked = contributions_same linked HintNames refl
-
-  pub dll_names_same : (linked : List Placed) → contributions machine linked DllNames (placed_from b (xs ++ taken_null machine ∷ ys)) ≡ contributions machine linked DllNames (placed_from b (xs ++ ys))
-  unfolding with_section_symbols object_of null_descriptor entries_of name_text
-  dll_names_same linked = contributions_same linked DllNames refl
+  group_same linked Descriptors is = contributions_same linked Descriptors refl
+  group_same linked DirectoryEnds is = cc
+  group_same linked Lookups is = contributions_same linked Lookups refl
+  group_same linked Addresses is = contributions_same linked Addresses refl
+  group_same linked HintNames is = contributions_same linked HintNames refl
+  group_same linked DllNames is = contributions_same linked DllNames refl
 
   -- the null descriptor alone is in `.idata$3`
   ends_are : (linked : List Placed) → contributions machine linked DirectoryEnds (placed_from b (xs ++ taken_null machine ∷ ys)) ≡ record { address = b.directory_ends; bytes = zeros 20 } ∷ []
@@ -237,8 +213,8 @@ module _ (machine : MachineType) (b : Bases) (xs ys : List Object) (none : AllBy
       ap (contributions machine linked DirectoryEnds) with_null
       ∙ flat_insert (contributions_of machine linked DirectoryEnds) front back own
       ∙ ap (λ cs. cs ++ (record { address = b.directory_ends; bytes = zeros 20 } ∷ contributions machine linked DirectoryEnds back))
-      (objects_none machine linked b xs (all_front EndsNothing xs ys none))
-      ∙ ap (λ cs. record { address = b.directory_ends; bytes = zeros 20 } ∷ cs) (objects_none machine linked last ys (all_back EndsNothing xs ys none))
+      (objects_none machine linked b xs (all_parts EndsNothing xs ys none).0)
+      ∙ ap (λ cs. record { address = b.directory_ends; bytes = zeros 20 } ∷ cs) (objects_none machine linked last ys (all_parts EndsNothing xs ys none).1)
 
   pub null_filled : (linked : List Placed) →
       filled b.directory_ends (contributions machine linked DirectoryEnds (placed_from b (xs ++ taken_null machine ∷ ys))) ≡ zeros 20

@@ -34,17 +34,19 @@ use Rattle.implib_link.specs.Gnu.Packed.{group_end, sections_end}
 use Rattle.implib_link.specs.Gnu.Program.{claimed_names, has_tables, names_claimed_in, null_descriptor, with_tables, HaveSame}
 use Rattle.implib_link.specs.Flavors.SectionSymbols.{with_section_symbols}
 use Rattle.implib_link.proofs.Flavors.Block.{AreEven, NullDefined, OneLinks, behind_descriptor, objects_of, use_for}
-use Rattle.implib_link.proofs.Flavors.Blocks.{AllSuit, EachIn, even_all, rest_of, FlavorBlock, all_objects, definitions-all, definitions_all, descriptors_all, directory_in, each_in, ends_all, imported_of, names-all, nth_in, thunks_in, plus_sum}
+use Rattle.implib_link.proofs.Flavors.Blocks.{AllSuit, EachIn, even_all, rest_of, FlavorBlock, all_objects, definitions-all, definitions_all, descriptors_all, directory_in, each_in, ends_all, imported_of, names-all, nth_in, thunks_in}
 use Rattle.implib_link.proofs.Gnu.Claims.{claimed_placed}
 use Rattle.implib_link.proofs.Flavors.Claims.{all_claim_listed, claimed_with_null}
 use Rattle.implib_link.proofs.Flavors.Inputs.{block_in, inputs_link, inputs_objects, inputs_plainly, inputs_symbols, inputs_taken, null_object, objects_with_null}
-use Rattle.implib_link.proofs.Flavors.NullDescriptor.{EndsNothing, all_insert, addresses_same, among_same, descriptors_end_same, descriptors_same, dll_names_same, finds_same, hint_names_same, lookups_same, null_filled, null_once, others_same, undefined_same}
+use Rattle.implib_link.proofs.Flavors.NullDescriptor.{EndsNothing, all_insert, among_same, descriptors_end_same, finds_same, null_filled, null_once, others_same, undefined_same, group_same}
 use Rattle.implib_link.proofs.Gnu.Others.{contributions_kept, definitions_kept, placed_kept}
 use Rattle.implib_link.proofs.Gnu.Packed.{end_kept}
 use Rattle.implib_link.proofs.Gnu.Program.{all_claim, gets_address, once_of}
 use Rattle.implib_link.proofs.Search.Lists.{contains_among}
 use Rattle.implib_link.proofs.Flavors.Expanded.{taken_null}
 use Rattle.implib.specs.LibraryName.{NamesOfDll, linked_dll}
+use Rattle.implib_link.proofs.Gnu.Blocks.{plus_sum}
+use Rattle.implib_link.proofs.Gnu.Loaded.{times_none}
 
 -- The objects of the members have no `.idata$3`.
 
@@ -101,15 +103,12 @@ one_end machine Msvc dll es rest n even =
 one_end machine Gnu dll es rest n even =
     ap (λ m. group_end Descriptors (m + 20) (map (export machine dll) es ++ tail machine dll ∷ rest)) (aligned n even) ∙ exports_keep machine dll es rest (n + 20)
 
-later_even : (n : ℕ) → n % 4 ≡ 0 → (n + 20) % 4 ≡ 0
+pub later_even : (n : ℕ) → n % 4 ≡ 0 → (n + 20) % 4 ≡ 0
 later_even n even = omega arith
-
-plus_none : (n : ℕ) → n ≡ n + 20 * 0
-plus_none n = omega arith
 
 pub blocks_group_end : (machine : MachineType) (blocks : List FlavorBlock) (n : ℕ) → n % 4 ≡ 0 → group_end Descriptors n (all_objects machine blocks []) ≡ n + 20 * length blocks
 unfolding group_end
-blocks_group_end machine [] n even = plus_none n
+blocks_group_end machine [] n even = times_none n 20
 blocks_group_end machine (k ∷ blocks) n even =
     one_end machine k.flavor k.dll k.exports (all_objects machine blocks []) n even
     ∙ blocks_group_end machine blocks (n + 20) (later_even n even) ∙ plus_sum n (length blocks)
@@ -179,7 +178,7 @@ module _ (machine : MachineType) (inputs : List FlavorInput) (objects : List Obj
   none = subst (AllByRecursion EndsNothing) (sym parts_are) (blocks_end machine (map block_in inputs))
 
 -- Where the linker's null descriptor does.
-linker_kept : (machine : MachineType) (inputs : List FlavorInput) (objects : List Object) → AllByRecursion (IsMadeFor machine) inputs → AreEndedByLinker machine inputs objects →
+pub linker_kept : (machine : MachineType) (inputs : List FlavorInput) (objects : List Object) → AllByRecursion (IsMadeFor machine) inputs → AreEndedByLinker machine inputs objects →
     filter has_tables objects ≡ all_objects machine (map block_in inputs) (null_descriptor ∷ [])
 linker_kept machine inputs objects made ended = ended.tables ∙ inputs_plainly machine inputs (null_descriptor ∷ []) made ended.gnu
 
@@ -220,16 +219,6 @@ pub record Stand (machine : MachineType) (ending : Ending) (b : Bases) (inputs :
   pub finds : AllByRecursion (AllFind (placed_from b objects)) (placed_from b (all_objects machine (map block_in inputs) (rest_of ending))) →
       AllByRecursion (AllFind (placed_from b objects)) (with_tables (placed_from b objects))
   pub undefined : undefined_names (with_tables (placed_from b objects)) ≡ undefined_names (placed_from b (all_objects machine (map block_in inputs) (rest_of ending)))
-
--- a group that no member's null descriptor is in
-group_same : (machine : MachineType) (b : Bases) (xs ys : List Object) (none : AllByRecursion EndsNothing (xs ++ ys)) (even : b.directory_ends % 4 ≡ 0) (linked : List Placed) (group : Group) →
-    same_group group DirectoryEnds ≡ false → contributions machine linked group (placed_from b (xs ++ taken_null machine ∷ ys)) ≡ contributions machine linked group (placed_from b (xs ++ ys))
-group_same machine b xs ys none even linked Descriptors is = descriptors_same machine b xs ys none even linked
-group_same machine b xs ys none even linked DirectoryEnds is = cc
-group_same machine b xs ys none even linked Lookups is = lookups_same machine b xs ys none even linked
-group_same machine b xs ys none even linked Addresses is = addresses_same machine b xs ys none even linked
-group_same machine b xs ys none even linked HintNames is = hint_names_same machine b xs ys none even linked
-group_same machine b xs ys none even linked DllNames is = dll_names_same machine b xs ys none even linked
 
 pub stand : (machine : MachineType) (ending : Ending) (b : Bases) (inputs : List FlavorInput) (objects : List Object) → AllByRecursion (IsMadeFor machine) inputs →
     IsProgramOf machine ending b inputs objects → Stand machine ending b inputs objects

@@ -23,7 +23,7 @@ use Rattle.implib.proofs.Link.Linked.{address_found}
 use Rattle.implib.proofs.Link.LinkedBlocks.{ends, starts}
 use Rattle.implib.proofs.Link.LinkedMembers.{among_contains, among_map}
 use Rattle.implib.proofs.Link.Placement.{AreAligned, after_head, aligned_head, ends_of_head, placed-head, placed_export}
-use Rattle.implib.proofs.Link.Ranges.{Among, all_among, among_first, among_front, among_later}
+use Rattle.implib.proofs.Link.Ranges.{Among, all_among, among_first, among_front, among_later, among_flat}
 use Rattle.implib_link.specs.Flavors.Expansion.{Code, Constant, Data, Use, import_object}
 use Rattle.implib_link.specs.Flavors.Program.{Ending, FlavorInput, IsCode, IsMadeFor, all_members, ask_in, exports_chosen, symbol_in, symbols_listed, thunks_of, IsProgramOf, dll_names_in}
 use Rattle.implib_link.specs.Gnu.Program.{has_tables}
@@ -34,7 +34,7 @@ use Rattle.implib_link.proofs.Flavors.Blocks.{AllSuit, FlavorBlock, addresses_on
 use Rattle.implib_link.proofs.Flavors.Inputs.{block_in, inputs_symbols}
 use Rattle.implib_link.proofs.Flavors.Program.{even, placed_among, program_links, suit, thunks_are}
 use Rattle.implib_link.proofs.Gnu.Loaded.{times_next, times_none}
-use Rattle.implib_link.proofs.Search.Lists.{among_at, flat_map_among, among_filter}
+use Rattle.implib_link.proofs.Search.Lists.{among_at, among_filter}
 use Rattle.implib_link.proofs.Gnu.Stubs.{behind_exports, code_bytes, code_defined, code_here, code_relocations, export_placed, first_sum, jump_by, later_sum, target_is, thunk_below, wide_thunk}
 use Rattle.implib_link.proofs.Flavors.Expanded.{AreWide, ends_of_asking, ends_of_descriptor, placed-asking, placed-descriptor, placed-null_thunk, placed_asking, wide_asking, wide_descriptor}
 use Rattle.implib.specs.LibraryName.{NamesOfDll}
@@ -203,16 +203,16 @@ unfolding Among
 listed_in machine Msvc dll es j e at is =
     let code : e.is_data ≡ false = is.0 in
     let own : Among (short_import_symbol e) (short_import_symbols e) = rw code (inr (inl refl)) in
-    among_later _ _ _ (among_front (short_import_symbol e) (flat_map short_import_symbols es) _ (flat_map_among short_import_symbols (short_import_symbol e) es e (among_at e es j at) own))
+    among_later _ _ _ (among_front (short_import_symbol e) (flat_map short_import_symbols es) _ (among_flat short_import_symbols e es (short_import_symbol e) (among_at e es j at) own))
 listed_in machine Gnu dll es j e at is =
     let own : Among e.name (archive_symbols e) = rw is (inl refl) in
-    among_later _ _ _ (among_front e.name (flat_map archive_symbols es) _ (flat_map_among archive_symbols e.name es e (among_at e es j at) own))
+    among_later _ _ _ (among_front e.name (flat_map archive_symbols es) _ (among_flat archive_symbols e es e.name (among_at e es j at) own))
 
 name_listed : (machine : MachineType) (inputs : List FlavorInput) (i j : ℕ) (p : FlavorInput) (e : ExportView) → AllByRecursion (IsMadeFor machine) inputs →
     slice_get inputs i ≡ Some p → slice_get (exports_chosen p) j ≡ Some e → IsCode p.flavor e → Among (symbol_in p.flavor e) (symbols_listed (all_members machine inputs))
 name_listed machine inputs i j p e made input chosen is =
     subst (Among (symbol_in p.flavor e)) (sym (inputs_symbols machine inputs made))
-    (flat_map_among (λ (k : FlavorBlock). symbols_of machine k.flavor k.dll k.exports) (symbol_in p.flavor e) (map block_in inputs) (block_in p)
+    (among_flat (λ (k : FlavorBlock). symbols_of machine k.flavor k.dll k.exports) (block_in p) (map block_in inputs) (symbol_in p.flavor e)
     (among_map block_in p inputs (among_at p inputs i input)) (listed_in machine p.flavor (dll_names_in p) (exports_chosen p) j e chosen is))
 
 pub name_once : (machine : MachineType) (ending : Ending) (bases : Bases) (inputs : List FlavorInput) (objects : List Object) (i j : ℕ) (p : FlavorInput) (e : ExportView) → AllByRecursion (IsMadeFor machine) inputs →

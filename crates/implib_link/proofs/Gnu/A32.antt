@@ -1,5 +1,5 @@
 -- ARMNT's stub in memory at any base reads its target at a distance, and never at its entry.
-use Rattle.std.proofs.Common.{◌≡◌, ℕ, ◌+◌, ◌*◌, ◌^◌, ◌<◌, ◌≤◌, false, List, [], ◌∷◌, ◌++◌, length, map, take, drop, None, Some, refl, ap, sym, ◌∙◌, subst, arith}
+use Rattle.std.proofs.Common.{◌≡◌, ℕ, ◌+◌, ◌*◌, ◌^◌, ◌<◌, ◌≤◌, false, List, [], ◌∷◌, ◌++◌, length, map, take, drop, Some, refl, ap, sym, ◌∙◌, subst, arith}
 use Rattle.std.specs.Prelude.{slice_get}
 use Rattle.std.specs.List.{AllByRecursion, Contains, list_any}
 use Rattle.std.proofs.lemmas.Bool.{false_from_ne_true}
@@ -33,17 +33,15 @@ use Rattle.implib_link.proofs.Flavors.Steady.{program_tables_none}
 use Rattle.implib_link.proofs.Search.Lists.{contains_among}
 use Rattle.implib_link.proofs.TablesInMemory.{code_from, code_section, covering, entry_known, resting}
 use Rattle.implib_link.proofs.TablesOfPrograms.{program_entry, program_tables}
+use Rattle.std.proofs.lemmas.Option.{none-some}
 
 -- No field of ARMNT's is said to store an address whole.
-
-no_width : (n : ℕ) → None ≡ Some n → ⊥
-no_width n is = cc
 
 armnt_clear : (position k : ℕ) (rs : List Relocation) → list_any (covers (position + k)) (places_at ARMNT position rs) ≡ false
 armnt_clear position k rs =
     false_from_ne_true (list_any (covers (position + k)) (places_at ARMNT position rs)) (λ covered.
     let found = covering_one ARMNT position k rs covered in
-    no_width found.1.1.1.0 found.1.1.1.1)
+    none-some found.1.1.1.0 found.1.1.1.1)
 
 -- the two jumps at one address read at one address
 pub jumps_once : (memory : List Range) (address first second : ℕ) → A32JumpReads memory address first → A32JumpReads memory address second → first ≡ second

@@ -7,7 +7,7 @@ use Rattle.implib.specs.Formats.Object.{u32_at}
 use Rattle.implib.specs.Link.Placement.{Placed, SectionAddress}
 use Rattle.implib.specs.Members.WeakExternal.{weak_object}
 use Rattle.implib_link.specs.Gnu.Aliases.{weak_target}
-use Rattle.implib_link.proofs.Gnu.Choices.{same_text}
+use Rattle.implib.proofs.Link.Definitions.{same_text}
 
 -- the members that are weak externals are so
 pub weak_is_weak : (machine : MachineType) (weak target : List ℕ) (section_addresses : List SectionAddress) (linked : List Placed) →

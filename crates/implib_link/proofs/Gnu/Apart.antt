@@ -15,6 +15,8 @@ use Rattle.implib_link.proofs.Gnu.Keeps.{Keeps}
 use Rattle.implib_link.proofs.Gnu.Loaded.{kept_outside}
 use Rattle.implib_link.proofs.Gnu.Memory.{holder, not_in_both}
 use Rattle.implib_link.proofs.Gnu.Moved.{apart_back as back_apart}
+use Rattle.implib_link.proofs.Search.Lists.{all_parts, among_either}
+use Rattle.implib.proofs.Link.Linked.{all_append}
 
 -- Ranges between others.
 
@@ -32,12 +34,6 @@ any_among a (r ∷ rs) any =
       | inr outside ↦ let later = any_among a rs (rw outside at any) in (later.0, (inr later.1.0, later.1.1))
     ]
 
-among_parts : (r : Range) (xs zs : List Range) → Among r (xs ++ zs) → Among r xs ⊎ Among r zs
-unfolding Among
-among_parts r [] zs m = inr m
-among_parts r (x ∷ xs) zs (inl e) = inl (inl e)
-among_parts r (x ∷ xs) zs (inr m) = elim (among_parts r xs zs m) [ inl front ↦ inl (inr front) | inr back ↦ inr back ]
-
 -- where a range before or after these ones is, none of these is
 none_between : (xs ys zs : List Range) (r : Range) (a : ℕ) → AllApart (xs ++ (ys ++ zs)) → Among r xs ⊎ Among r zs → is_in a r ≡ true → list_any (is_in a) ys ≡ false
 none_between xs ys zs r a apart m within =
@@ -48,20 +44,8 @@ none_between xs ys zs r a apart m within =
 without : (xs ys zs : List Range) (a : ℕ) → list_any (is_in a) ys ≡ false → byte_at (xs ++ (ys ++ zs)) a ≡ byte_at (xs ++ zs) a
 without xs ys zs a none = same_behind xs (ys ++ zs) zs a (kept_outside ys zs a none)
 
-all_front : (P : Range → Type 0) (xs ys : List Range) → AllByRecursion P (xs ++ ys) → AllByRecursion P xs
-all_front P [] ys all = tt
-all_front P (x ∷ xs) ys all = (all.0, all_front P xs ys all.1)
-
-all_back : (P : Range → Type 0) (xs ys : List Range) → AllByRecursion P (xs ++ ys) → AllByRecursion P ys
-all_back P [] ys all = all
-all_back P (x ∷ xs) ys all = all_back P xs ys all.1
-
-pub all_both : (P : Range → Type 0) (xs ys : List Range) → AllByRecursion P xs → AllByRecursion P ys → AllByRecursion P (xs ++ ys)
-all_both P [] ys first second = second
-all_both P (x ∷ xs) ys first second = (first.0, all_both P xs ys first.1 second)
-
 all_without : (P : Range → Type 0) (xs ys zs : List Range) → AllByRecursion P (xs ++ (ys ++ zs)) → AllByRecursion P (xs ++ zs)
-all_without P xs ys zs all = all_both P xs zs (all_front P xs (ys ++ zs) all) (all_back P ys zs (all_back P xs (ys ++ zs) all))
+all_without P xs ys zs all = let parts = all_parts P xs (ys ++ zs) all in all_append P xs zs parts.0 (all_parts P ys zs parts.1).1
 
 -- a range of what is filled in, where it has an address
 range_around : (base : ℕ) (cs : List Contribution) (a : ℕ) → base ≤ a → a < base + length (filled base cs) → Among (record { start = base; bytes = filled base cs }) (range_of base cs)
@@ -114,7 +98,7 @@ module _ (machine : MachineType) (b : Bases) (objects : List Object) (admissible
   unfolding Keeps beside_of
   keeps_beside a byte is =
       let found = holder (front ++ back) a byte is in
-      let none = none_between front (ranges Addresses) back found.0 a apart (among_parts found.0 front back found.1.0) found.1.1 in
+      let none = none_between front (ranges Addresses) back found.0 a apart (among_either found.0 front back found.1.0) found.1.1 in
       subst (λ rs. byte_at rs a ≡ Some byte) (sym image_is) (without front (ranges Addresses) back a none ∙ is)
 
   pub avoids_addresses : (high : ℕ) → high ≤ b.addresses + length (filled b.addresses (contributions machine (placed_from b objects) Addresses (placed_from b objects))) → Avoids beside_of b.addresses high
@@ -122,7 +106,7 @@ module _ (machine : MachineType) (b : Bases) (objects : List Object) (admissible
   avoids_addresses high most a byte is from below =
       let found = holder (front ++ back) a byte is in
       let table : Range = record { start = b.addresses; bytes = filled_in Addresses } in
-      not_between front (ranges Addresses) back found.0 table a apart (among_parts found.0 front back found.1.0)
+      not_between front (ranges Addresses) back found.0 table a apart (among_either found.0 front back found.1.0)
       (range_around b.addresses (contributions machine linked Addresses linked) a from (omega arith)) found.1.1 (is_in_from a table from (omega arith))
 
   -- bytes of a range before or after

@@ -65,8 +65,8 @@ null_located machine linked image b even located =
     let same : all ≡ zeros 20 = rw (position, none) refl in
     subst (BytesAt image b.descriptors) same located.descriptors
 
-plus_sum : (a n m : ℕ) → a + 20 + 20 * n ≡ a + 20 * suc n
-plus_sum a n m = omega arith
+pub plus_sum : (a n : ℕ) → a + 20 + 20 * n ≡ a + 20 * suc n
+plus_sum a n = omega arith
 
 pub table_sum : (a w n m : ℕ) → a + w * n + w * m ≡ a + w * (n + m)
 table_sum a w n m = let split : w * (n + m) ≡ w * n + w * m = mul-add w n m in omega arith
@@ -95,7 +95,7 @@ nth_block machine linked image (q ∷ inputs) b links (suc i) p is =
     let later : Bases = ends_of_block machine dll b exports in
     let found = nth_block machine linked image inputs later links.1 i p is in
     let at_descriptor : later.descriptors + 20 * i ≡ b.descriptors + 20 * suc i =
-    ap (λ n. n + 20 * i) (sym (descriptors_after machine dll b exports)) ∙ plus_sum b.descriptors i 0 in
+    ap (λ n. n + 20 * i) (sym (descriptors_after machine dll b exports)) ∙ plus_sum b.descriptors i in
     let at_table : later.addresses + thunk_width machine * thunks_before i inputs ≡ b.addresses + thunk_width machine * (length exports + 1 + thunks_before i inputs) =
     ap (λ n. n + thunk_width machine * thunks_before i inputs) (addresses_after machine dll (ends_of_head machine dll b) exports)
     ∙ table_sum b.addresses (thunk_width machine) (length exports + 1) (thunks_before i inputs) in

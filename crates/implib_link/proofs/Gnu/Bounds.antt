@@ -32,13 +32,9 @@ use Rattle.implib_link.proofs.Flavors.Writing.{table_filled}
 use Rattle.implib_link.proofs.Gnu.Sized.{length-relocated}
 use Rattle.implib.specs.LibraryName.{NamesOfDll, names_for}
 use Rattle.implib.specs.declared.flavor.Flavor.TheVariants.{Gnu}
+use Rattle.std.proofs.lemmas.Option.{slice_get_within}
 
 -- Which entry an address is in.
-
-pub index_below : {X : Type 0} (xs : List X) (j : ℕ) (x : X) → slice_get xs j ≡ Some x → j < length xs
-index_below [] j x is = cc
-index_below (y ∷ xs) zero x is = omega arith
-index_below (y ∷ xs) (suc j) x is = let later = index_below xs j x is in omega arith
 
 -- the thunks of a DLL are among those of all
 pub count_below : (inputs : List LinkInput) (i : ℕ) (p : LinkInput) → slice_get inputs i ≡ Some p →
@@ -244,7 +240,7 @@ tables_are_bounded machine b inputs objects made program some =
       below = all_among (λ r. range_end r < 2 ^ 31) table image there (ends machine b objects program.admissible);
       entries = λ i j p e input chosen.
           let start : ℕ = b.addresses + thunk_width machine * thunks_before i inputs in
-          let j_below : j < length (chosen_exports p.definition p.chosen) = index_below (chosen_exports p.definition p.chosen) j e chosen in
+          let j_below : j < length (chosen_exports p.definition p.chosen) = slice_get_within (chosen_exports p.definition p.chosen) j e chosen in
           let counted = count_below inputs i p input in
           let sum : start + thunk_width machine * j ≡ b.addresses + thunk_width machine * (thunks_before i inputs + j) = table_sum b.addresses (thunk_width machine) (thunks_before i inputs) j in
           let next = next_entry machine b.addresses (thunks_before i inputs + j) total (omega arith) in (

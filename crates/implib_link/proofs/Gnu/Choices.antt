@@ -23,8 +23,9 @@ use Rattle.implib_link.proofs.Gnu.Keeps.{Keeps, bytes_kept}
 use Rattle.implib_link.proofs.Gnu.Loaded.{kept_outside}
 use Rattle.implib_link.proofs.Gnu.Memory.{byte_front}
 use Rattle.implib_link.proofs.Gnu.Moved.{covered_bounds}
-use Rattle.implib_link.proofs.Search.Lists.{among_at, among_either, contains_among}
-use Rattle.implib_link.proofs.Gnu.Apart.{all_both as all_joined}
+use Rattle.implib_link.proofs.Search.Lists.{among_at, among_either, contains_among, all_parts}
+use Rattle.implib.proofs.Link.Definitions.{same_text}
+use Rattle.implib.proofs.Link.Linked.{all_append}
 
 -- Where code defines a name.
 
@@ -60,9 +61,6 @@ record DefinedAt (name : List ℕ) (codes : List PlacedCode) (address : ℕ) : T
 
 same_names : (name other : List ℕ) → bytes_eq name other ≡ true → name ≡ other
 same_names name other is = (bytes_eq-Decides name other).0 is
-
-pub same_text : (name : List ℕ) → bytes_eq name name ≡ true
-same_text name = (bytes_eq-Decides name name).1 refl
 
 defines_from : (name : List ℕ) (c : PlacedCode) (t : ObjectSymbol) → Among (ASymbol t) c.from.object.entries → is_here name c t ≡ true → Defines c t × (t.name ≡ name)
 defines_from name c t m is =
@@ -186,15 +184,11 @@ codes_apart : {X : Type 0} (f g : X → Range) (codes : List X) → AllByRecursi
 codes_apart f g [] alike apart = tt
 codes_apart f g (c ∷ codes) alike apart = (apart_from_all f g (f c) (g c) alike.0 codes alike.1 apart.0, codes_apart f g codes alike.1 apart.1)
 
-all_split : (P : Range → Type 0) (xs ys : List Range) → AllByRecursion P (xs ++ ys) → AllByRecursion P xs × AllByRecursion P ys
-all_split P [] ys all = (tt, all)
-all_split P (x ∷ xs) ys all = let later = all_split P xs ys all.1 in ((all.0, later.0), later.1)
-
 pub memory_apart : {X : Type 0} (f g : X → Range) (codes : List X) → AllByRecursion (AlikeFor f g) codes → (image : List Range) → AllApart (image ++ map f codes) → AllApart (image ++ map g codes)
 memory_apart f g codes alike [] apart = codes_apart f g codes alike apart
 memory_apart f g codes alike (r ∷ image) apart =
-    let parts = all_split (AreApart r) image (map f codes) apart.0 in
-    (all_joined (AreApart r) image (map g codes) parts.0 (apart_from_all f g r r (λ a is. is) codes alike parts.1), memory_apart f g codes alike image apart.1)
+    let parts = all_parts (AreApart r) image (map f codes) apart.0 in
+    (all_append (AreApart r) image (map g codes) parts.0 (apart_from_all f g r r (λ a is. is) codes alike parts.1), memory_apart f g codes alike image apart.1)
 
 -- Memory at another base: in front of what was linked, the moved numbers.
 
@@ -322,19 +316,15 @@ places_widths machine position (r ∷ rs) =
       | Some width ↦ λ is. rw is (four_or_eight machine r.kind width is, places_widths machine position rs)
     ] refl
 
-places_joined : (P : Place → Type 0) (xs ys : List Place) → AllByRecursion P xs → AllByRecursion P ys → AllByRecursion P (xs ++ ys)
-places_joined P [] ys first second = second
-places_joined P (x ∷ xs) ys first second = (first.0, places_joined P xs ys first.1 second)
-
 pub all_widths : {X : Type 0} (places : X → List Place) → ((x : X) → AllByRecursion (λ (p : Place). (p.width ≡ 4) ⊎ (p.width ≡ 8)) (places x)) → (codes : List X) →
     AllByRecursion (λ (p : Place). (p.width ≡ 4) ⊎ (p.width ≡ 8)) (flat_map places codes)
 all_widths places each [] = tt
-all_widths places each (c ∷ codes) = places_joined (λ (p : Place). (p.width ≡ 4) ⊎ (p.width ≡ 8)) (places c) (flat_map places codes) (each c) (all_widths places each codes)
+all_widths places each (c ∷ codes) = all_append (λ (p : Place). (p.width ≡ 4) ⊎ (p.width ≡ 8)) (places c) (flat_map places codes) (each c) (all_widths places each codes)
 
 apart_joined : (xs ys : List Place) → ArePlacesApart xs → ArePlacesApart ys → AllByRecursion (λ (p : Place). AllByRecursion (λ (q : Place). (a : ℕ) → covers a p ≡ true → covers a q ≡ true → ⊥) ys) xs → ArePlacesApart (xs ++ ys)
 apart_joined [] ys first second cross = second
 apart_joined (x ∷ xs) ys first second cross =
-    (places_joined (λ (q : Place). (a : ℕ) → covers a x ≡ true → covers a q ≡ true → ⊥) xs ys first.0 cross.0, apart_joined xs ys first.1 second cross.1)
+    (all_append (λ (q : Place). (a : ℕ) → covers a x ≡ true → covers a q ≡ true → ⊥) xs ys first.0 cross.0, apart_joined xs ys first.1 second cross.1)
 
 -- a place of code is in the code's range
 pub record PlaceIn (r : Range) (p : Place) : Type 0 where
@@ -369,7 +359,7 @@ cross_join : (ps qs rest : List Place) → AllByRecursion (λ (p : Place). AllBy
     AllByRecursion (λ (p : Place). AllByRecursion (λ (q : Place). (a : ℕ) → covers a p ≡ true → covers a q ≡ true → ⊥) (qs ++ rest)) ps
 cross_join [] qs rest first second = tt
 cross_join (p ∷ ps) qs rest first second =
-    (places_joined (λ (q : Place). (a : ℕ) → covers a p ≡ true → covers a q ≡ true → ⊥) qs rest first.0 second.0, cross_join ps qs rest first.1 second.1)
+    (all_append (λ (q : Place). (a : ℕ) → covers a p ≡ true → covers a q ≡ true → ⊥) qs rest first.0 second.0, cross_join ps qs rest first.1 second.1)
 
 none_crossed : (ps : List Place) → AllByRecursion (λ (p : Place). AllByRecursion (λ (q : Place). (a : ℕ) → covers a p ≡ true → covers a q ≡ true → ⊥) []) ps
 none_crossed [] = tt

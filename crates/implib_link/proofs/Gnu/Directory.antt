@@ -33,7 +33,7 @@ directory_walk image width address (i ∷ imports) directory = (
   directory_walk image width (address + 20) imports directory.1,
 )
 
-nonzero : (n m : ℕ) → n ≡ m → 0 < n → m ≡ 0 → ⊥
+pub nonzero : (n m : ℕ) → n ≡ m → 0 < n → m ≡ 0 → ⊥
 nonzero n m same above none = omega arith
 
 pub same_imports : (first second : Imported) (firsts seconds : List Imported) → first.dll ≡ second.dll → first.asks ≡ second.asks → firsts ≡ seconds →

@@ -4,7 +4,7 @@ use Rattle.std.specs.Prelude.{slice_get}
 use Rattle.std.specs.List.{AllByRecursion, Contains, list_any}
 use Rattle.std.proofs.lemmas.Bool.{cases_Bool, false_from_ne_true}
 use Rattle.std.proofs.lemmas.List.{length-drop, length-take, length-take-le}
-use Rattle.std.proofs.lemmas.Option.{slice_get_within}
+use Rattle.std.proofs.lemmas.Option.{slice_get_within, none-some}
 use Rattle.implib.specs.declared.coff.object.Relocation.{Relocation}
 use Rattle.implib.specs.declared.machine.MachineType.{MachineType}
 use Rattle.implib.specs.declared.machine.MachineType.TheVariants.{I386, ARMNT, AMD64, ARM64}
@@ -191,9 +191,6 @@ any_meets machine k count (r ∷ rs) s (inr m) is =
       | inr none ↦ rw none (any_meets machine k count rs s m is)
     ]
 
-not_some : (n : ℕ) → None ≡ Some n → ⊥
-not_some n is = cc
-
 -- Code in the memory of a loaded program.
 module _ (machine : MachineType) (image_base : ℕ) (image : List Range) (linked : List Placed) (codes : List LinkedCode) (targets : LinkedCode → ℕ → ℕ) (memory : List Range)
     (at : Rests machine image_base image linked codes targets memory) (written : List Range) (covers_it : AllByRecursion (Covers image) written) (c : LinkedCode) (m : Among c codes) where
@@ -293,7 +290,7 @@ module _ (machine : MachineType) (image_base : ℕ) (image : List Range) (linked
               let high : offset + i < s.0.offset + field_width machine s.0.kind = bounds.1 in
               let same : s.0 ≡ r = alone_same machine c.code.relocations offset (field_width machine type) r alone s.0 s.1.0 (meets_from machine offset (field_width machine type) s.0 (omega arith) (omega arith)) in
               let other : absolute_width machine type ≡ Some s.1.1.1.0 = subst (λ (x : Relocation). absolute_width machine x.kind ≡ Some s.1.1.1.0) same s.1.1.1.1 in
-              not_some s.1.1.1.0 (sym none ∙ other)) in
+              none-some s.1.1.1.0 (sym none ∙ other)) in
               subst (λ a. byte_at memory a ≡ Some b) (sym place) (at.code_kept c (offset + i) b m found.0 clear));
           count = bytes_count;
           value = refl;

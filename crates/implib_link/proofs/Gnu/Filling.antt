@@ -14,7 +14,7 @@ use Rattle.implib.proofs.Link.Loading.{number_once, text_led_to, text_once}
 use Rattle.implib_link.specs.Directory.{DirectoryAt, Imported, StopsAt, WalkFinds}
 use Rattle.implib_link.specs.Gnu.Loaded.{Writes, entries_written}
 use Rattle.implib_link.specs.Gnu.Writing.{AreAlike, FillsTable, WritesAsItGoes}
-use Rattle.implib_link.proofs.Gnu.Directory.{directory_walk, same_imports}
+use Rattle.implib_link.proofs.Gnu.Directory.{directory_walk, same_imports, nonzero}
 use Rattle.implib_link.proofs.Gnu.Keeps.{Keeps, number_kept, text_kept, thunk_kept}
 use Rattle.implib_link.proofs.Gnu.Loaded.{entries_within, thunks_asked, times_next}
 use Rattle.implib_link.proofs.Gnu.Memory.{within_bounds}
@@ -71,13 +71,10 @@ thunk_once image width a first second x y =
 same_asks : (x y : Ask) (xs ys : List Ask) → x ≡ y → xs ≡ ys → x ∷ xs ≡ y ∷ ys
 same_asks x y xs ys first rest = cc
 
-not_zero : (n m : ℕ) → n ≡ m → 0 < n → m ≡ 0 → ⊥
-not_zero n m same above none = omega arith
-
 table_next : (a w n m : ℕ) → a + w * (n + 1) + w * m ≡ a + w * (n + 1 + m)
 table_next a w n m = let split : w * (n + 1 + m) ≡ w * (n + 1) + w * m = mul-add w (n + 1) m in omega arith
 
-before_next : (a w n : ℕ) → a + w * n ≤ a + w * (n + 1)
+pub before_next : (a w n : ℕ) → a + w * n ≤ a + w * (n + 1)
 before_next a w n = let split : w * (n + 1) ≡ w * n + w * 1 = mul-add w n 1 in omega arith
 
 module _ (beside : List Range) (low high width : ℕ) (avoids : Avoids beside low high) where
@@ -150,13 +147,13 @@ module _ (beside : List Range) (low high width : ℕ) (avoids : Avoids beside lo
     runs_once [] (y ∷ found) descriptor table memory after keeps from to directory (between, (by, later)) =
         let stops : StopsAt beside descriptor = null_stops descriptor directory in
         elim stops [
-          | inl none ↦ absurd (not_zero by.name by.name refl by.has_name (number_once memory 4 (descriptor + 12) by.name 0 by.name_field (number_kept beside memory keeps 4 (descriptor + 12) 0 none)))
-          | inr none ↦ absurd (not_zero by.addresses by.addresses refl by.has_addresses (number_once memory 4 (descriptor + 16) by.addresses 0 by.addresses_field (number_kept beside memory keeps 4 (descriptor + 16) 0 none)))
+          | inl none ↦ absurd (nonzero by.name by.name refl by.has_name (number_once memory 4 (descriptor + 12) by.name 0 by.name_field (number_kept beside memory keeps 4 (descriptor + 12) 0 none)))
+          | inr none ↦ absurd (nonzero by.addresses by.addresses refl by.has_addresses (number_once memory 4 (descriptor + 16) by.addresses 0 by.addresses_field (number_kept beside memory keeps 4 (descriptor + 16) 0 none)))
         ]
     runs_once (i ∷ imports) [] descriptor table memory after keeps from to (own, others) runs =
         elim runs.0 [
-          | inl none ↦ absurd (not_zero own.name own.name refl own.has_name (number_once memory 4 (descriptor + 12) own.name 0 (number_kept beside memory keeps 4 (descriptor + 12) own.name own.name_field) none))
-          | inr none ↦ absurd (not_zero table table refl own.has_addresses (number_once memory 4 (descriptor + 16) table 0 (number_kept beside memory keeps 4 (descriptor + 16) table own.addresses_field) none))
+          | inl none ↦ absurd (nonzero own.name own.name refl own.has_name (number_once memory 4 (descriptor + 12) own.name 0 (number_kept beside memory keeps 4 (descriptor + 12) own.name own.name_field) none))
+          | inr none ↦ absurd (nonzero table table refl own.has_addresses (number_once memory 4 (descriptor + 16) table 0 (number_kept beside memory keeps 4 (descriptor + 16) table own.addresses_field) none))
         ]
     runs_once (i ∷ imports) (y ∷ found) descriptor table memory after keeps from to (own, others) (between, (by, later)) =
         let dll : y.dll ≡ i.dll =

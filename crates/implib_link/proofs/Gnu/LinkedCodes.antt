@@ -13,6 +13,8 @@ use Rattle.implib_link.specs.Gnu.Fields.{AreBeside, AreLinkedBeside, IsRelocated
 use Rattle.implib_link.proofs.Gnu.Choices.{AlikeFor, choice, choice_resolves, is_in_same, memory_apart}
 use Rattle.implib_link.proofs.Gnu.LinkedBytes.{linked_bytes}
 use Rattle.implib_link.proofs.Search.Lists.{contains_among}
+use Rattle.implib.proofs.Link.LinkedInputs.{all_of_map}
+use Rattle.implib.proofs.Members.MemberReadings.{map_after}
 
 module _ (machine : MachineType) (image_base : ℕ) (targets : PlacedCode → ℕ → ℕ) where
   link : (c : PlacedCode) → AllByRecursion (λ b. b < 256) c.code.bytes → LinkedCode
@@ -52,14 +54,6 @@ takes_from linked placed codes targets same resolves =
           resolves.code (placed_code c) (placed_code d) index s t (held c m) (held d n) at undefined (record { held = defines.held; external = defines.external; here = defines.here }) named;
     }
 
-pub all_mapped : {X Y : Type 0} (f : X → Y) (P : Y → Type 0) (xs : List X) → AllByRecursion P (map f xs) → AllByRecursion (λ x. P (f x)) xs
-all_mapped f P [] all = tt
-all_mapped f P (x ∷ xs) all = (all.0, all_mapped f P xs all.1)
-
-pub mapped_twice : {X Y Z : Type 0} (f : X → Y) (g : Y → Z) (xs : List X) → map g (map f xs) ≡ map (λ x. g (f x)) xs
-mapped_twice f g [] = refl
-mapped_twice f g (x ∷ xs) = ap (λ ys. g (f x) ∷ ys) (mapped_twice f g xs)
-
 -- however placed code is relocated with addresses that its symbols can have, it is linked beside the tables
 pub linked_beside : (machine : MachineType) (image_base : ℕ) (bases : Bases) (objects : List Object) (placed : List PlacedCode) → AreSections machine bases objects placed → (targets : PlacedCode → ℕ → ℕ) →
     Resolves (placed_from bases objects) placed targets → (codes : List LinkedCode) → map placed_code codes ≡ placed →
@@ -68,13 +62,13 @@ linked_beside machine image_base bases objects placed are targets resolves codes
     let linked : List Placed = placed_from bases objects in
     let image : List Range = image_of machine bases linked in
     let each : (Q : PlacedCode → Type 0) → AllByRecursion Q placed → AllByRecursion (λ (c : LinkedCode). Q (placed_code c)) codes = λ Q all.
-    all_mapped placed_code Q codes (subst (AllByRecursion Q) (sym same) all) in
+    all_of_map placed_code Q codes (subst (AllByRecursion Q) (sym same) all) in
     record {
       held = each (λ (c : PlacedCode). Contains linked c.from) are.held;
       sections = each (λ (c : PlacedCode). section_numbered c.from.object.sections c.number ≡ Some c.code) are.sections;
       ends = each (λ (c : PlacedCode). c.position + length c.code.bytes + 16 ≤ 2 ^ 31) are.ends;
       apart = memory_apart (λ (c : LinkedCode). plain_range (placed_code c)) range_of_code codes (all_alike machine image_base (λ c. targets (placed_code c)) codes relocated) image
-          (subst (λ rs. AllApart (image ++ rs)) (ap (map plain_range) (sym same) ∙ mapped_twice placed_code plain_range codes) are.apart);
+          (subst (λ rs. AllApart (image ++ rs)) (ap (map plain_range) (sym same) ∙ map_after plain_range placed_code codes) are.apart);
       relocated = relocated;
       resolved = takes_from linked placed codes targets same resolves;
     }

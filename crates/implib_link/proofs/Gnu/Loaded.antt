@@ -51,6 +51,9 @@ kept_outside (r ∷ written) ranges a none =
 
 -- The entries of one table.
 
+pub plus_none : (n : ℕ) → n + 0 ≡ n
+plus_none n = omega arith
+
 pub times_next : (a w n : ℕ) → a + w + w * n ≡ a + w * suc n
 times_next a w n = let product : w * suc n ≡ w * n + w = mul-suc w n in omega arith
 

@@ -1,5 +1,5 @@
 -- The stub of an export in memory jumps through the entry.
-use Rattle.std.proofs.Common.{◌≡◌, ℕ, ◌+◌, ◌*◌, ◌^◌, ◌<◌, false, List, [], ◌∷◌, ◌++◌, length, take, drop, Some, refl, ap, sym, ◌∙◌, subst, arith}
+use Rattle.std.proofs.Common.{◌≡◌, ℕ, ◌+◌, ◌^◌, ◌<◌, false, List, [], ◌∷◌, ◌++◌, length, take, drop, Some, refl, ap, sym, ◌∙◌, subst, arith}
 use Rattle.std.specs.List.{AllByRecursion, Contains, list_any}
 use Rattle.std.proofs.lemmas.List.{length-append}
 use Rattle.implib.specs.declared.coff.object.Relocation.{Relocation}
@@ -16,22 +16,21 @@ use Rattle.implib_link.specs.Gnu.Calls.{StubAt}
 use Rattle.implib_link.specs.Gnu.Fields.{LinkedCode, MeetsAlone, field_at, meets, placed_code}
 use Rattle.implib_link.specs.Gnu.Operands.{InstructionArrives, PairArrives}
 use Rattle.implib_link.specs.Gnu.Rebased.{StubArrives}
-use Rattle.implib_link.specs.Stub.{adrp_immediate, bits_of, jump_reads, ldr_immediate, page, plus_signed, with_adrp, with_bits}
+use Rattle.implib_link.specs.Stub.{adrp_immediate, bits_of, jump_reads, ldr_immediate, plus_signed, with_adrp, with_bits}
 use Rattle.implib_link.proofs.Gnu.CallReads.{CanReach}
 use Rattle.implib_link.proofs.Gnu.FieldsInMemory.{Rests, part_there, settled_in_tables}
 use Rattle.implib_link.proofs.Gnu.Memory.{Covers}
 use Rattle.implib_link.proofs.Gnu.MovedCode.{four_of, joined, jump_field}
 use Rattle.implib_link.proofs.Gnu.Operands.{instruction_at, pair_at}
 use Rattle.implib_link.proofs.Search.Lists.{contains_among}
+use Rattle.implib_link.proofs.Gnu.UsualCode.{ReadsPair, pair_read}
 
 amd64_jump : (address : ℕ) (field : List ℕ) → length field ≡ 4 → jump_reads AMD64 address (0xFF ∷ 0x25 ∷ (field ++ 0x90 ∷ 0x90 ∷ [])) ≡ Some (plus_signed 32 1 (number_in field) (address + 6))
 amd64_jump address field four =
     let f = four_of field four in
     subst (λ xs. jump_reads AMD64 address (0xFF ∷ 0x25 ∷ (xs ++ 0x90 ∷ 0x90 ∷ [])) ≡ Some (plus_signed 32 1 (number_in xs) (address + 6))) (sym f.is) refl
 
-pub arm64_jump : (address : ℕ) (adrp load : List ℕ) → length adrp ≡ 4 → length load ≡ 4 → with_adrp 0 (number_in adrp) ≡ 0x9000_0010 → with_bits 10 12 0 (number_in load) ≡ 0xF940_0210 →
-    jump_reads ARM64 address (adrp ++ (load ++ 0 ∷ 2 ∷ 0x1F ∷ 0xD6 ∷ []))
-    ≡ Some (plus_signed 21 4096 (adrp_immediate (number_in adrp)) (page address * 4096) + ldr_immediate (number_in load))
+pub arm64_jump : ReadsPair (jump_reads ARM64) 0x9000_0010 0xF940_0210 (0 ∷ 2 ∷ 0x1F ∷ 0xD6 ∷ [])
 arm64_jump address adrp load four also is_adrp is_load =
     let f = four_of adrp four in
     let g = four_of load also in
@@ -101,24 +100,8 @@ stub_arrives ARM64 image_base image linked codes targets memory at written cover
     (settled_in_tables ARM64 image_base image linked codes targets memory at d 2 entry stub.symbol held stub.held stub.placed) (settled_in_tables ARM64 image_base image linked codes targets memory at d 2 entry stub.symbol held stub.held stub.placed) in
     let branch = stub_part ARM64 image_base image linked codes targets memory at written covers_it d held (stub_relocations ARM64 2) 8 4 (0 ∷ 2 ∷ 0x1F ∷ 0xD6 ∷ [])
     (subst (λ xs. take 4 (drop 8 xs) ≡ 0 ∷ 2 ∷ 0x1F ∷ 0xD6 ∷ []) (sym stub.bytes) refl) stub.relocations refl in
-    let adrp : List ℕ = x.adrp_there.bytes in
-    let load : List ℕ = x.load_there.bytes in
-    let first : length adrp ≡ 4 = x.adrp_there.count in
-    let second : length load ≡ 4 = x.load_there.count in
     let plain : d.position + 0 ≡ d.position = omega arith in
-    let load_place : d.position + 4 ≡ d.position + length adrp = omega arith in
-    let branch_place : d.position + 8 ≡ d.position + length adrp + length load = omega arith in
-    record {
-      code = adrp ++ (load ++ 0 ∷ 2 ∷ 0x1F ∷ 0xD6 ∷ []);
-      there = joined (written ++ memory) adrp (load ++ 0 ∷ 2 ∷ 0x1F ∷ 0xD6 ∷ []) d.position (subst (λ a. BytesAt (written ++ memory) a adrp) plain x.adrp_there.located)
-          (joined (written ++ memory) load (0 ∷ 2 ∷ 0x1F ∷ 0xD6 ∷ []) (d.position + length adrp) (subst (λ a. BytesAt (written ++ memory) a load) load_place x.load_there.located)
-          (subst (λ a. BytesAt (written ++ memory) a (0 ∷ 2 ∷ 0x1F ∷ 0xD6 ∷ [])) branch_place branch));
-      whole = omega (arith, length-append adrp (load ++ 0 ∷ 2 ∷ 0x1F ∷ 0xD6 ∷ []), length-append load (0 ∷ 2 ∷ 0x1F ∷ 0xD6 ∷ []));
-      entry = x.entry;
-      reads = arm64_jump (image_base + d.position) adrp load first second
-          (ap (with_adrp 0) x.adrp_there.value ∙ x.is_adrp ∙ ap (with_adrp 0) page_code) (ap (with_bits 10 12 0) x.load_there.value ∙ x.is_load ∙ ap (with_bits 10 12 0) load_code)
-          ∙ ap Some (ap (λ n. plus_signed 21 4096 (adrp_immediate n) (page (image_base + d.position) * 4096) + ldr_immediate (number_in load)) x.adrp_there.value
-          ∙ ap (λ n. plus_signed 21 4096 (adrp_immediate x.adrp) (page (image_base + d.position) * 4096) + ldr_immediate n) x.load_there.value
-          ∙ ap (λ a. plus_signed 21 4096 (adrp_immediate x.adrp) (page (image_base + a) * 4096) + ldr_immediate x.load) (sym plain) ∙ x.leads);
-      located = x.located;
-    }
+    let read = pair_read (jump_reads ARM64) 0x9000_0010 0xF940_0210 (0 ∷ 2 ∷ 0x1F ∷ 0xD6 ∷ []) arm64_jump image_base linked (written ++ memory) d.position (field_at d.code.bytes 0 4) (field_at d.code.bytes 4 4) name bytes
+    (ap (with_adrp 0) page_code) (ap (with_bits 10 12 0) load_code)
+    (subst (λ a. PairArrives image_base linked (written ++ memory) a (d.position + 4) (field_at d.code.bytes 0 4) (field_at d.code.bytes 4 4) name bytes) plain x) branch in
+    record { code = read.code; there = read.there; whole = read.whole; entry = read.entry; reads = read.leads; located = read.located }

@@ -38,13 +38,10 @@ use Rattle.implib_link.proofs.Gnu.Sized.{IsSized, exports_sized, head_sized, tai
 use Rattle.implib_link.proofs.Gnu.Whole.{whole_ends}
 use Rattle.implib.specs.LibraryName.{NamesOfDll, names_for}
 use Rattle.implib.specs.declared.flavor.Flavor.TheVariants.{Gnu}
-use Rattle.implib_link.proofs.Flavors.Blocks.{plus_sum as plus_row}
+use Rattle.implib_link.proofs.Gnu.Blocks.{plus_sum as plus_row}
+use Rattle.implib_link.proofs.Search.Lists.{all_parts}
 
 -- Lists in two parts.
-
-all_parts : {X : Type 0} (P : X → Type 0) (xs ys : List X) → AllByRecursion P (xs ++ ys) → AllByRecursion P xs × AllByRecursion P ys
-all_parts P [] ys all = (tt, all)
-all_parts P (x ∷ xs) ys all = let parts = all_parts P xs ys all.1 in ((all.0, parts.0), parts.1)
 
 -- the symbols of members in two parts
 symbols_parts : (machine : MachineType) (xs ys : List LinkInput) → linked_symbols machine (xs ++ ys) ≡ linked_symbols machine xs ++ linked_symbols machine ys

@@ -47,12 +47,6 @@ no_contributions machine linked p group b (s ∷ sections) none =
     let parts = or_parts (is_table s) (list_any is_table sections) none in
     rw (nowhere b s parts.0) (no_contributions machine linked p group b sections parts.1)
 
-abbrev kept : List Object → List Object
-kept objects = filter has_tables objects
-
-abbrev left : List Object → List Object
-left objects = filter (λ o. not (has_tables o)) objects
-
 pub contributions_kept : (machine : MachineType) (linked : List Placed) (group : Group) (b : Bases) (objects : List Object) →
     contributions machine linked group (placed_from b objects) ≡ contributions machine linked group (placed_from b (filter has_tables objects))
 unfolding has_tables

@@ -1,5 +1,5 @@
 -- Objects after others, of which is known only that their relocations are within their sections.
-use Rattle.std.proofs.Common.{◌≡◌, ℕ, ◌+◌, ◌-◌, List, [], ◌∷◌, ◌++◌, length, Option, Some, None, refl, ap, sym, ◌∙◌, subst, inl, inr, false, arith}
+use Rattle.std.proofs.Common.{◌≡◌, ℕ, ◌+◌, ◌-◌, List, [], ◌∷◌, ◌++◌, length, Option, Some, None, refl, ap, sym, ◌∙◌, subst, inl, inr, false}
 use Rattle.std.specs.Prelude.{bytes_eq}
 use Rattle.std.specs.List.{AllByRecursion, filter_map, list_any}
 use Rattle.std.proofs.lemmas.Bool.{cases_Bool}
@@ -27,6 +27,7 @@ use Rattle.implib_link.proofs.Gnu.Others.{defines_none}
 use Rattle.implib_link.proofs.Gnu.Packed.{end_of_section, end_of_sections, same_base, span, span_objects}
 use Rattle.implib_link.proofs.Gnu.Sized.{AreWithin, IsSized, length-relocated}
 use Rattle.implib.specs.LibraryName.{NamesOfDll}
+use Rattle.implib_link.proofs.Gnu.Loaded.{plus_none}
 
 pub placed_parts : (b : Bases) (front rest : List Object) → placed_from b (front ++ rest) ≡ placed_from b front ++ placed_from (ends_behind b front) rest
 unfolding ends_behind
@@ -155,9 +156,6 @@ none_defined name b (o ∷ objects) none =
     ∙ none_defined name (ends_after b o.sections) objects none.1
 
 -- The ends after members.
-
-plus_none : (n : ℕ) → n + 0 ≡ n
-plus_none n = omega arith
 
 head_ends : (machine : MachineType) (dll : NamesOfDll) (b : Bases) → AreAligned b → ends_after b (head machine dll).sections ≡ ends_of_head machine dll b
 unfolding head_object

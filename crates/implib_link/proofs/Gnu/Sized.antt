@@ -16,9 +16,7 @@ use Rattle.implib.specs.Members.ImportTables.{thunk_width}
 use Rattle.implib.specs.Formats.Object.{Object, u32_at}
 use Rattle.implib.specs.Link.Placement.{Placed}
 use Rattle.implib.specs.Link.Resolution.{target_address}
-use Rattle.implib.proofs.Link.LinkedBlocks.{Block, blocks_objects}
 use Rattle.implib.proofs.Link.Placement.{export, head, length-thunk, tail}
-use Rattle.implib_link.specs.Gnu.Program.{null_descriptor}
 use Rattle.implib.specs.LibraryName.{NamesOfDll}
 
 -- the relocations of so many bytes are within them
@@ -88,8 +86,3 @@ export_sized machine dll e = (stub_within machine e, (tt, (tt, ((omega arith, tt
 pub exports_sized : (machine : MachineType) (dll : NamesOfDll) (es : List ExportView) (rest : List Object) → AllByRecursion IsSized rest → AllByRecursion IsSized (map (export machine dll) es ++ rest)
 exports_sized machine dll [] rest all = all
 exports_sized machine dll (e ∷ es) rest all = (export_sized machine dll e, exports_sized machine dll es rest all)
-
-pub blocks_sized : (machine : MachineType) (blocks : List Block) → AllByRecursion IsSized (blocks_objects machine blocks (null_descriptor ∷ []))
-blocks_sized machine [] = ((tt, tt), tt)
-blocks_sized machine (k ∷ blocks) =
-    (head_sized machine k.dll, exports_sized machine k.dll k.exports _ (tail_sized machine k.dll, blocks_sized machine blocks))

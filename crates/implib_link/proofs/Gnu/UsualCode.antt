@@ -1,8 +1,8 @@
 -- The usual calls and loads through a pointer are cases of instructions with an operand, and of pages and offsets.
-use Rattle.std.proofs.Common.{◌≡◌, ℕ, ◌+◌, ◌*◌, ◌%◌, ◌^◌, ◌<◌, ◌≤◌, Bool, false, List, [], ◌∷◌, ◌++◌, length, map, take, drop, Some, refl, ap, sym, ◌∙◌, subst, inl, inr, arith}
+use Rattle.std.proofs.Common.{◌≡◌, ℕ, ◌+◌, ◌*◌, ◌%◌, ◌^◌, ◌<◌, ◌≤◌, Bool, false, List, [], ◌∷◌, ◌++◌, length, map, take, drop, Some, refl, ap, sym, ◌∙◌, subst, inl, inr, arith, Option}
 use Rattle.std.specs.List.{AllByRecursion, Contains, filter, list_any}
 use Rattle.std.proofs.lemmas.Bool.{false_from_ne_true}
-use Rattle.std.proofs.lemmas.List.{append-nil, append_assoc, drop-drop, drop_at, length-append, take_at}
+use Rattle.std.proofs.lemmas.List.{append-nil, drop-drop, drop_at, length-append, take_at}
 use Rattle.std.proofs.lemmas.List.Elements.{filter-append}
 use Rattle.std.proofs.lemmas.List.Folds.{list_any-append}
 use Rattle.implib.specs.declared.coff.object.Relocation.{Relocation}
@@ -117,20 +117,6 @@ amd64_load : (address : ℕ) (field : List ℕ) → length field ≡ 4 → load_
 amd64_load address field four =
     let f = four_of field four in subst (λ xs. load_reads AMD64 address (0x48 ∷ 0x8B ∷ 5 ∷ (xs ++ [])) ≡ Some (plus_signed 32 1 (number_in xs) (address + 7))) (sym f.is) refl
 
-arm64_call : (address : ℕ) (adrp load : List ℕ) → length adrp ≡ 4 → length load ≡ 4 → with_adrp 0 (number_in adrp) ≡ 0x9000_0010 → with_bits 10 12 0 (number_in load) ≡ 0xF940_0210 →
-    call_reads ARM64 address (adrp ++ (load ++ 0 ∷ 2 ∷ 0x3F ∷ 0xD6 ∷ [])) ≡ Some (plus_signed 21 4096 (adrp_immediate (number_in adrp)) (page address * 4096) + ldr_immediate (number_in load))
-arm64_call address adrp load four also is_adrp is_load =
-    let f = four_of adrp four in
-    let g = four_of load also in
-    rw (f.is, g.is) (rw (ap (λ xs. with_adrp 0 (number_in xs)) (sym f.is) ∙ is_adrp, ap (λ xs. with_bits 10 12 0 (number_in xs)) (sym g.is) ∙ is_load) refl)
-
-arm64_load : (address : ℕ) (adrp load : List ℕ) → length adrp ≡ 4 → length load ≡ 4 → with_adrp 0 (number_in adrp) ≡ 0x9000_0008 → with_bits 10 12 0 (number_in load) ≡ 0xF940_0108 →
-    load_reads ARM64 address (adrp ++ load) ≡ Some (plus_signed 21 4096 (adrp_immediate (number_in adrp)) (page address * 4096) + ldr_immediate (number_in load))
-arm64_load address adrp load four also is_adrp is_load =
-    let f = four_of adrp four in
-    let g = four_of load also in
-    rw (f.is, g.is) (rw (ap (λ xs. with_adrp 0 (number_in xs)) (sym f.is) ∙ is_adrp, ap (λ xs. with_bits 10 12 0 (number_in xs)) (sym g.is) ∙ is_load) refl)
-
 -- ARM64's two fields, at the beginning of the instructions and 4 bytes on.
 
 pair_met : (offset index : ℕ) → filter (meets ARM64 offset 4) (map (moved_by offset) (record { offset = 0; symbol = index; kind = arm64_pagebase_rel21 } ∷ record { offset = 4; symbol = index; kind = arm64_pageoffset_12l } ∷ []))
@@ -208,17 +194,53 @@ tail_met offset index =
     false_from_ne_true (meets ARM64 (offset + 8) 4 second) (λ met. let bounds = meets_bounds ARM64 (offset + 8) 4 second met in let high : offset + 8 < offset + 4 + 4 = bounds.1 in omega arith) in
     rw (one, two) refl
 
-module _ (image_base : ℕ) (linked : List Placed) (memory : List Range) (address : ℕ) (old_adrp old_load : ℕ) (name bytes : List ℕ) (x : PairArrives image_base linked memory address (address + 4) old_adrp old_load name bytes) where
-  pair_sum : plus_signed 21 4096 (adrp_immediate (number_in x.adrp_there.bytes)) (page (image_base + address) * 4096) + ldr_immediate (number_in x.load_there.bytes) ≡ image_base + x.entry
-  pair_sum =
-      ap (λ n. plus_signed 21 4096 (adrp_immediate n) (page (image_base + address) * 4096) + ldr_immediate (number_in x.load_there.bytes)) x.adrp_there.value
-      ∙ ap (λ n. plus_signed 21 4096 (adrp_immediate x.adrp) (page (image_base + address) * 4096) + ldr_immediate n) x.load_there.value ∙ x.leads
+-- What instructions with the two fields read, and others behind them, by their rule.
+abbrev pub ReadsPair : (ℕ → List ℕ → Option ℕ) → ℕ → ℕ → List ℕ → Type 0
+ReadsPair reads page_code load_code behind =
+    (address : ℕ) (adrp load : List ℕ) → length adrp ≡ 4 → length load ≡ 4 → with_adrp 0 (number_in adrp) ≡ page_code → with_bits 10 12 0 (number_in load) ≡ load_code →
+    reads address (adrp ++ (load ++ behind)) ≡ Some (plus_signed 21 4096 (adrp_immediate (number_in adrp)) (page address * 4096) + ldr_immediate (number_in load))
 
-  pair_there : BytesAt memory address (x.adrp_there.bytes ++ x.load_there.bytes)
-  pair_there =
-      let first : length x.adrp_there.bytes ≡ 4 = x.adrp_there.count in
-      let place : address + 4 ≡ address + length x.adrp_there.bytes = omega arith in
-      joined memory x.adrp_there.bytes x.load_there.bytes address x.adrp_there.located (subst (λ a. BytesAt memory a x.load_there.bytes) place x.load_there.located)
+pub record PairRead (reads : ℕ → List ℕ → Option ℕ) (image_base : ℕ) (memory : List Range) (address : ℕ) (behind bytes : List ℕ) : Type 0 where
+  pub code : List ℕ
+  pub there : BytesAt memory address code
+  pub whole : length code ≡ 8 + length behind
+  pub entry : ℕ
+  pub leads : reads (image_base + address) code ≡ Some (image_base + entry)
+  pub located : BytesAt memory entry bytes
+
+pub pair_read : (reads : ℕ → List ℕ → Option ℕ) (page_code load_code : ℕ) (behind : List ℕ) → ReadsPair reads page_code load_code behind →
+    (image_base : ℕ) (linked : List Placed) (memory : List Range) (address old_adrp old_load : ℕ) (name bytes : List ℕ) → with_adrp 0 old_adrp ≡ page_code → with_bits 10 12 0 old_load ≡ load_code →
+    PairArrives image_base linked memory address (address + 4) old_adrp old_load name bytes → BytesAt memory (address + 8) behind → PairRead reads image_base memory address behind bytes
+pair_read reads page_code load_code behind rule image_base linked memory address old_adrp old_load name bytes is_adrp is_load x there =
+    let adrp : List ℕ = x.adrp_there.bytes in
+    let load : List ℕ = x.load_there.bytes in
+    let first : length adrp ≡ 4 = x.adrp_there.count in
+    let second : length load ≡ 4 = x.load_there.count in
+    let load_place : address + 4 ≡ address + length adrp = omega arith in
+    let place : address + 8 ≡ address + length adrp + length load = omega arith in
+    record {
+      code = adrp ++ (load ++ behind);
+      there = joined memory adrp (load ++ behind) address x.adrp_there.located
+          (joined memory load behind (address + length adrp) (subst (λ a. BytesAt memory a load) load_place x.load_there.located) (subst (λ a. BytesAt memory a behind) place there));
+      whole = omega (arith, length-append adrp (load ++ behind), length-append load behind);
+      entry = x.entry;
+      leads = rule (image_base + address) adrp load first second (ap (with_adrp 0) x.adrp_there.value ∙ x.is_adrp ∙ is_adrp) (ap (with_bits 10 12 0) x.load_there.value ∙ x.is_load ∙ is_load)
+          ∙ ap Some (ap (λ n. plus_signed 21 4096 (adrp_immediate n) (page (image_base + address) * 4096) + ldr_immediate (number_in load)) x.adrp_there.value
+          ∙ ap (λ n. plus_signed 21 4096 (adrp_immediate x.adrp) (page (image_base + address) * 4096) + ldr_immediate n) x.load_there.value ∙ x.leads);
+      located = x.located;
+    }
+
+arm64_call : ReadsPair (call_reads ARM64) 0x9000_0010 0xF940_0210 (0 ∷ 2 ∷ 0x3F ∷ 0xD6 ∷ [])
+arm64_call address adrp load four also is_adrp is_load =
+    let f = four_of adrp four in
+    let g = four_of load also in
+    rw (f.is, g.is) (rw (ap (λ xs. with_adrp 0 (number_in xs)) (sym f.is) ∙ is_adrp, ap (λ xs. with_bits 10 12 0 (number_in xs)) (sym g.is) ∙ is_load) refl)
+
+arm64_load : ReadsPair (load_reads ARM64) 0x9000_0008 0xF940_0108 []
+arm64_load address adrp load four also is_adrp is_load =
+    let f = four_of adrp four in
+    let g = four_of load also in
+    rw (f.is, g.is) (rw (ap (λ xs. with_adrp 0 (number_in xs)) (sym f.is) ∙ is_adrp, ap (λ xs. with_bits 10 12 0 (number_in xs)) (sym g.is) ∙ is_load) refl)
 
 pub usual_calls : (machine : MachineType) (image_base : ℕ) (linked : List Placed) (codes : List LinkedCode) (memory : List Range) (called name bytes : List ℕ) (c : LinkedCode) (offset : ℕ) → (machine ≡ ARMNT → ⊥) →
     AllLeadTo machine image_base linked codes memory called name bytes → AreKept machine codes memory → Contains codes c → HasCall machine (placed_code c) offset called → CallArrives machine image_base memory (c.position + offset) bytes
@@ -238,33 +260,21 @@ usual_calls ARM64 image_base linked codes memory called name bytes c offset othe
     let offset_field : HasOffsetField c (offset + 4) called = offset_has c offset called 0x10 0 0 0x90 0x10 2 0x40 0xF9 (0 ∷ 2 ∷ 0x3F ∷ 0xD6 ∷ []) has refl refl in
     let x : PairArrives image_base linked memory at (at + 4) (field_at c.code.bytes offset 4) (field_at c.code.bytes (offset + 4) 4) name bytes =
     subst (λ a. PairArrives image_base linked memory at a (field_at c.code.bytes offset 4) (field_at c.code.bytes (offset + 4) 4) name bytes) second_place (lead.pairs c c offset (offset + 4) refl held held page_field offset_field) in
-    let old_adrp = first_is c offset called 0x10 0 0 0x90 0x10 2 0x40 0xF9 (0 ∷ 2 ∷ 0x3F ∷ 0xD6 ∷ []) has in
-    let old_load = second_is c offset called 0x10 0 0 0x90 0x10 2 0x40 0xF9 (0 ∷ 2 ∷ 0x3F ∷ 0xD6 ∷ []) has in
-    let first : length x.adrp_there.bytes ≡ 4 = x.adrp_there.count in
-    let second : length x.load_there.bytes ≡ 4 = x.load_there.count in
     let branch_code : take 4 (drop (offset + 8) c.code.bytes) ≡ 0 ∷ 2 ∷ 0x3F ∷ 0xD6 ∷ [] =
     ap (take 4) (sym (drop-drop 8 offset c.code.bytes) ∙ ap (drop 8) (own_code ARM64 c offset called (call_bytes ARM64) (call_relocations ARM64) has)) in
     let branch : BytesAt memory (c.position + (offset + 8)) (0 ∷ 2 ∷ 0x3F ∷ 0xD6 ∷ []) =
     subst (BytesAt memory (c.position + (offset + 8))) branch_code
     (kept c (offset + 8) 4 held (own_any ARM64 c offset called (call_bytes ARM64) (call_relocations ARM64) has (offset + 8) 4 (omega arith) (omega arith) (tail_met offset has.index))) in
-    let pair : List ℕ = x.adrp_there.bytes ++ x.load_there.bytes in
-    let pair_long : length (x.adrp_there.bytes ++ x.load_there.bytes) ≡ 8 = omega (arith, length-append x.adrp_there.bytes x.load_there.bytes) in
-    let branch_place : c.position + (offset + 8) ≡ at + length (x.adrp_there.bytes ++ x.load_there.bytes) = omega arith in
-    record {
-      instructions = x.adrp_there.bytes ++ (x.load_there.bytes ++ 0 ∷ 2 ∷ 0x3F ∷ 0xD6 ∷ []);
-      here = subst (BytesAt memory at) (append_assoc x.adrp_there.bytes x.load_there.bytes (0 ∷ 2 ∷ 0x3F ∷ 0xD6 ∷ []))
-          (joined memory pair (0 ∷ 2 ∷ 0x3F ∷ 0xD6 ∷ []) at (pair_there image_base linked memory at (field_at c.code.bytes offset 4) (field_at c.code.bytes (offset + 4) 4) name bytes x)
-          (subst (λ a. BytesAt memory a (0 ∷ 2 ∷ 0x3F ∷ 0xD6 ∷ [])) branch_place branch));
-      whole = omega (arith, length-append x.adrp_there.bytes (x.load_there.bytes ++ 0 ∷ 2 ∷ 0x3F ∷ 0xD6 ∷ []), length-append x.load_there.bytes (0 ∷ 2 ∷ 0x3F ∷ 0xD6 ∷ []));
-      entry = x.entry;
-      reads = arm64_call (image_base + at) x.adrp_there.bytes x.load_there.bytes first second (ap (with_adrp 0) x.adrp_there.value ∙ x.is_adrp ∙ ap (with_adrp 0) old_adrp)
-          (ap (with_bits 10 12 0) x.load_there.value ∙ x.is_load ∙ ap (with_bits 10 12 0) old_load)
-          ∙ ap Some (pair_sum image_base linked memory at (field_at c.code.bytes offset 4) (field_at c.code.bytes (offset + 4) 4) name bytes x);
-      located = x.located;
-    }
+    let branch_place : c.position + (offset + 8) ≡ at + 8 = omega arith in
+    let code : List ℕ = 0 ∷ 2 ∷ 0x3F ∷ 0xD6 ∷ [] in
+    let read = pair_read (call_reads ARM64) 0x9000_0010 0xF940_0210 code arm64_call image_base linked memory at (field_at c.code.bytes offset 4) (field_at c.code.bytes (offset + 4) 4) name bytes
+    (ap (with_adrp 0) (first_is c offset called 0x10 0 0 0x90 0x10 2 0x40 0xF9 code has)) (ap (with_bits 10 12 0) (second_is c offset called 0x10 0 0 0x90 0x10 2 0x40 0xF9 code has))
+    x (subst (λ a. BytesAt memory a (0 ∷ 2 ∷ 0x3F ∷ 0xD6 ∷ [])) branch_place branch) in
+    record { instructions = read.code; here = read.there; whole = read.whole; entry = read.entry; reads = read.leads; located = read.located }
 
 pub usual_loads : (machine : MachineType) (image_base : ℕ) (linked : List Placed) (codes : List LinkedCode) (memory : List Range) (called name bytes : List ℕ) (c : LinkedCode) (offset : ℕ) → (machine ≡ ARMNT → ⊥) →
     AllLeadTo machine image_base linked codes memory called name bytes → Contains codes c → HasLoad machine (placed_code c) offset called → LoadArrives machine image_base memory (c.position + offset) bytes
+unfolding BytesAt
 usual_loads I386 image_base linked codes memory called name bytes c offset other lead held has =
     let x = lead.instructions c offset (0xA1 ∷ []) [] held (x86_instruction I386 c offset i386_dir32 5 (0xA1 ∷ []) called refl refl refl (refl, refl) has) in
     let four : length x.field ≡ 4 = x.four in
@@ -296,19 +306,9 @@ usual_loads ARM64 image_base linked codes memory called name bytes c offset othe
     let offset_field : HasOffsetField c (offset + 4) called = offset_has c offset called 8 0 0 0x90 8 1 0x40 0xF9 [] has refl refl in
     let x : PairArrives image_base linked memory at (at + 4) (field_at c.code.bytes offset 4) (field_at c.code.bytes (offset + 4) 4) name bytes =
     subst (λ a. PairArrives image_base linked memory at a (field_at c.code.bytes offset 4) (field_at c.code.bytes (offset + 4) 4) name bytes) second_place (lead.pairs c c offset (offset + 4) refl held held page_field offset_field) in
-    let first : length x.adrp_there.bytes ≡ 4 = x.adrp_there.count in
-    let second : length x.load_there.bytes ≡ 4 = x.load_there.count in
-    record {
-      instructions = x.adrp_there.bytes ++ x.load_there.bytes;
-      here = pair_there image_base linked memory at (field_at c.code.bytes offset 4) (field_at c.code.bytes (offset + 4) 4) name bytes x;
-      whole = omega (arith, length-append x.adrp_there.bytes x.load_there.bytes);
-      entry = x.entry;
-      reads = arm64_load (image_base + at) x.adrp_there.bytes x.load_there.bytes first second
-          (ap (with_adrp 0) x.adrp_there.value ∙ x.is_adrp ∙ ap (with_adrp 0) (first_is c offset called 8 0 0 0x90 8 1 0x40 0xF9 [] has))
-          (ap (with_bits 10 12 0) x.load_there.value ∙ x.is_load ∙ ap (with_bits 10 12 0) (second_is c offset called 8 0 0 0x90 8 1 0x40 0xF9 [] has))
-          ∙ ap Some (pair_sum image_base linked memory at (field_at c.code.bytes offset 4) (field_at c.code.bytes (offset + 4) 4) name bytes x);
-      located = x.located;
-    }
+    let read = pair_read (load_reads ARM64) 0x9000_0008 0xF940_0108 [] arm64_load image_base linked memory at (field_at c.code.bytes offset 4) (field_at c.code.bytes (offset + 4) 4) name bytes
+    (ap (with_adrp 0) (first_is c offset called 8 0 0 0x90 8 1 0x40 0xF9 [] has)) (ap (with_bits 10 12 0) (second_is c offset called 8 0 0 0x90 8 1 0x40 0xF9 [] has)) x tt in
+    record { instructions = read.code; here = read.there; whole = read.whole; entry = read.entry; reads = read.leads; located = read.located }
 
 -- Pages and offsets by any registers.
 

@@ -87,20 +87,6 @@ descriptors_next s (Some DllNames) n keeps even = (omega arith, omega arith)
 abbrev keep_fours : List ObjectSection → Type 0
 keep_fours sections = list_all (λ s. keeps_fours s (group_named s.name)) sections ≡ true
 
-sections_lookups : (n : ℕ) (sections : List ObjectSection) → keep_fours sections → n % 4 ≡ 0 → sections_end Lookups n sections % 4 ≡ 0
-unfolding sections_end
-sections_lookups n [] keeps even = even
-sections_lookups n (s ∷ sections) keeps even =
-    let parts = and_parts (keeps_fours s (group_named s.name)) (list_all (λ s. keeps_fours s (group_named s.name)) sections) keeps in
-    sections_lookups (end_with Lookups n s (group_named s.name)) sections parts.1 (lookups_even s (group_named s.name) n parts.0 even)
-
-sections_addresses : (n : ℕ) (sections : List ObjectSection) → keep_fours sections → n % 4 ≡ 0 → sections_end Addresses n sections % 4 ≡ 0
-unfolding sections_end
-sections_addresses n [] keeps even = even
-sections_addresses n (s ∷ sections) keeps even =
-    let parts = and_parts (keeps_fours s (group_named s.name)) (list_all (λ s. keeps_fours s (group_named s.name)) sections) keeps in
-    sections_addresses (end_with Addresses n s (group_named s.name)) sections parts.1 (addresses_even s (group_named s.name) n parts.0 even)
-
 sections_descriptors : (n : ℕ) (sections : List ObjectSection) → keep_fours sections → n % 4 ≡ 0 →
     (sections_end Descriptors n sections ≡ n + rows_of_sections sections) × ((n + rows_of_sections sections) % 4 ≡ 0)
 unfolding sections_end
@@ -116,19 +102,21 @@ sections_descriptors n (s ∷ sections) keeps even =
 abbrev all_keep_fours : List Object → Type 0
 all_keep_fours objects = list_all (λ o. list_all (λ s. keeps_fours s (group_named s.name)) o.sections) objects ≡ true
 
-objects_lookups : (n : ℕ) (objects : List Object) → all_keep_fours objects → n % 4 ≡ 0 → group_end Lookups n objects % 4 ≡ 0
-unfolding group_end
-objects_lookups n [] keeps even = even
-objects_lookups n (o ∷ objects) keeps even =
-    let parts = and_parts (list_all (λ s. keeps_fours s (group_named s.name)) o.sections) (list_all (λ o. list_all (λ s. keeps_fours s (group_named s.name)) o.sections) objects) keeps in
-    objects_lookups (sections_end Lookups n o.sections) objects parts.1 (sections_lookups n o.sections parts.0 even)
+-- a group whose end each section keeps a multiple of 4
+module _ (group : Group) (each : (s : ObjectSection) (named : Option Group) (n : ℕ) → keeps_fours s named ≡ true → n % 4 ≡ 0 → end_with group n s named % 4 ≡ 0) where
+  sections_even : (n : ℕ) (sections : List ObjectSection) → keep_fours sections → n % 4 ≡ 0 → sections_end group n sections % 4 ≡ 0
+  unfolding sections_end
+  sections_even n [] keeps even = even
+  sections_even n (s ∷ sections) keeps even =
+      let parts = and_parts (keeps_fours s (group_named s.name)) (list_all (λ s. keeps_fours s (group_named s.name)) sections) keeps in
+      sections_even (end_with group n s (group_named s.name)) sections parts.1 (each s (group_named s.name) n parts.0 even)
 
-objects_addresses : (n : ℕ) (objects : List Object) → all_keep_fours objects → n % 4 ≡ 0 → group_end Addresses n objects % 4 ≡ 0
-unfolding group_end
-objects_addresses n [] keeps even = even
-objects_addresses n (o ∷ objects) keeps even =
-    let parts = and_parts (list_all (λ s. keeps_fours s (group_named s.name)) o.sections) (list_all (λ o. list_all (λ s. keeps_fours s (group_named s.name)) o.sections) objects) keeps in
-    objects_addresses (sections_end Addresses n o.sections) objects parts.1 (sections_addresses n o.sections parts.0 even)
+  objects_even : (n : ℕ) (objects : List Object) → all_keep_fours objects → n % 4 ≡ 0 → group_end group n objects % 4 ≡ 0
+  unfolding group_end
+  objects_even n [] keeps even = even
+  objects_even n (o ∷ objects) keeps even =
+      let parts = and_parts (list_all (λ s. keeps_fours s (group_named s.name)) o.sections) (list_all (λ o. list_all (λ s. keeps_fours s (group_named s.name)) o.sections) objects) keeps in
+      objects_even (sections_end group n o.sections) objects parts.1 (sections_even n o.sections parts.0 even)
 
 objects_descriptors : (n : ℕ) (objects : List Object) → all_keep_fours objects → n % 4 ≡ 0 →
     (group_end Descriptors n objects ≡ n + rows_of_objects objects) × ((n + rows_of_objects objects) % 4 ≡ 0)
@@ -150,7 +138,7 @@ whole_ends b objects imports even whole =
       end ∙ ap (λ n. b.descriptors + n) whole.rows,
       record {
         descriptors = ap (λ n. n % 4) end ∙ rows.1;
-        lookups = ap (λ n. n % 4) (end_behind Lookups b objects) ∙ objects_lookups b.lookups objects whole.fours even.lookups;
-        addresses = ap (λ n. n % 4) (end_behind Addresses b objects) ∙ objects_addresses b.addresses objects whole.fours even.addresses;
+        lookups = ap (λ n. n % 4) (end_behind Lookups b objects) ∙ objects_even Lookups lookups_even b.lookups objects whole.fours even.lookups;
+        addresses = ap (λ n. n % 4) (end_behind Addresses b objects) ∙ objects_even Addresses addresses_even b.addresses objects whole.fours even.addresses;
       },
     )

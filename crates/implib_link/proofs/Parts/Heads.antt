@@ -4,13 +4,11 @@ use Rattle.std.specs.Prelude.{◌&&◌, ◌||◌, ◌==◌, bytes_eq, not, slice
 use Rattle.std.specs.List.{AllByRecursion, filter_map, list_any}
 use Rattle.std.specs.Option.{option_and_then}
 use Rattle.std.proofs.lemmas.Bool.{and_parts, cases_Bool, eqb-true}
-use Rattle.std.proofs.Math.Nat.{mul-suc}
 use Rattle.std.proofs.lemmas.List.{append_assoc, length-replicate}
 use Rattle.std.proofs.lemmas.Slice.Eq.{bytes_eq-Decides}
 use Rattle.implib.specs.declared.coff.object.Relocation.{Relocation}
 use Rattle.implib.specs.declared.machine.MachineType.{MachineType}
 use Rattle.implib.specs.Formats.Bytes.{u32_bytes}
-use Rattle.implib.specs.Formats.Constants.{image_relative}
 use Rattle.implib.specs.Formats.File.{is_defined_external}
 use Rattle.implib.specs.Formats.Object.{ASymbol, Auxiliary, Entry, Object, ObjectSection, before_nul, section_numbered, u32_at}
 use Rattle.implib.specs.Import.{Ask}
@@ -32,7 +30,9 @@ use Rattle.implib_link.proofs.Gnu.Packed.{end_of_sections}
 use Rattle.implib_link.proofs.Gnu.Runs.{located_behind}
 use Rattle.implib_link.proofs.Gnu.Sized.{IsSized}
 use Rattle.implib_link.proofs.Parts.Sections.{none_ends, one_address, one_ends, one_is}
-use Rattle.implib_link.proofs.Parts.Texts.{ended_is, named_located, null_located, only_located, plus_none, thunk_located}
+use Rattle.implib_link.proofs.Parts.Texts.{ended_is, named_located, null_located, only_located, thunk_located, field_is}
+use Rattle.implib_link.proofs.Gnu.Loaded.{plus_none, times_next, times_none}
+use Rattle.implib_link.proofs.Flavors.Program.{later_even}
 
 -- The address of a symbol in the only section of a group.
 module _ (group : Group) (o : Object) (b : Bases) (s : ObjectSection) (is : only_section group o ≡ Some s) (even : base_of group b % 4 ≡ 0) where
@@ -80,14 +80,8 @@ pub has_section : (machine : MachineType) (o : Object) (ask : Ask) (found : Opti
 has_section machine o ask None is = cc
 has_section machine o ask (Some s) is = (s, refl)
 
-next_entry : (a w j : ℕ) → a + w + w * j ≡ a + w * suc j
-next_entry a w j = let split : w * suc j ≡ w * j + w = mul-suc w j in omega arith
-
 next_table : (a w n : ℕ) → a + w + w * (n + 1) ≡ a + w * (suc n + 1)
-next_table a w n = let count : suc (n + 1) ≡ suc n + 1 = omega arith in next_entry a w (n + 1) ∙ ap (λ k. a + w * k) count
-
-no_entry : (a w : ℕ) → a ≡ a + w * 0
-no_entry a w = omega arith
+next_table a w n = let count : suc (n + 1) ≡ suc n + 1 = omega arith in times_next a w (n + 1) ∙ ap (λ k. a + w * k) count
 
 one_null : (a w : ℕ) → a + w ≡ a + w * (0 + 1)
 one_null a w = omega arith
@@ -190,11 +184,11 @@ module _ (machine : MachineType) (linked : List Placed) (image : List Range) (st
           let own_entry : e ≡ x = cc in
           let section = has_section machine o e.ask (only_section Addresses o) entry.address in
           let here = entry_defined o b section.0 section.1 even.addresses name o.entries (subst (λ found. names_entry o found ≡ true) (ap (λ (y : TableEntry). y.symbol) own_entry ∙ named) entry.symbol) in
-          subst (λ n. Among (record { name = name; address = Some n }) ((filter_map (defined_by_entry (section_addresses_of b o.sections)) o.entries) ++ (definitions (placed_from (ends_after b o.sections) (objects ++ later))))) (no_entry b.addresses (thunk_width machine)) (among_front _ (filter_map (defined_by_entry (section_addresses_of b o.sections)) o.entries) (definitions (placed_from (ends_after b o.sections) (objects ++ later))) here)
+          subst (λ n. Among (record { name = name; address = Some n }) ((filter_map (defined_by_entry (section_addresses_of b o.sections)) o.entries) ++ (definitions (placed_from (ends_after b o.sections) (objects ++ later))))) (times_none b.addresses (thunk_width machine)) (among_front _ (filter_map (defined_by_entry (section_addresses_of b o.sections)) o.entries) (definitions (placed_from (ends_after b o.sections) (objects ++ later))) here)
       symbols same rest (suc j) x name is named =
           among_back _ (filter_map (defined_by_entry (section_addresses_of b o.sections)) o.entries) (definitions (placed_from (ends_after b o.sections) (objects ++ later)))
           (subst (λ n. Among (record { name = name; address = Some n }) (definitions (placed_from (ends_after b o.sections) (objects ++ later))))
-          (ap (λ n. n + thunk_width machine * j) same ∙ next_entry b.addresses (thunk_width machine) j) (rest j x name is named))
+          (ap (λ n. n + thunk_width machine * j) same ∙ times_next b.addresses (thunk_width machine) j) (rest j x name is named))
 
       at : (ends_after b o.sections).addresses ≡ b.addresses + thunk_width machine →
           ((j : ℕ) (q : Object) (e : TableEntry) → slice_get objects j ≡ Some q → slice_get entries j ≡ Some e →
@@ -207,7 +201,7 @@ module _ (machine : MachineType) (linked : List Placed) (image : List Range) (st
             bases = b;
             held = among_first _ _;
             aligned = even;
-            addresses = no_entry b.addresses (thunk_width machine);
+            addresses = times_none b.addresses (thunk_width machine);
             section = section.0;
             only = section.1;
           })
@@ -217,7 +211,7 @@ module _ (machine : MachineType) (linked : List Placed) (image : List Range) (st
             bases = found.bases;
             held = among_later _ _ _ found.held;
             aligned = found.aligned;
-            addresses = found.addresses ∙ ap (λ n. n + thunk_width machine * j) same ∙ next_entry b.addresses (thunk_width machine) j;
+            addresses = found.addresses ∙ ap (λ n. n + thunk_width machine * j) same ∙ times_next b.addresses (thunk_width machine) j;
             section = found.section;
             only = found.only;
           }
@@ -231,20 +225,15 @@ module _ (machine : MachineType) (linked : List Placed) (image : List Range) (st
     filled_row lookups name addresses =
         u32_bytes ((0 + lookups) % 2 ^ 32) ++ (zeros 4 ++ (zeros 4 ++ (u32_bytes ((0 + name) % 2 ^ 32) ++ u32_bytes ((0 + addresses) % 2 ^ 32))))
 
-    is_relative : (offset : ℕ) (r : Relocation) → is_field machine offset r ≡ true → ((r.kind == image_relative machine) ≡ true) × (r.offset ≡ offset)
-    is_relative offset r is =
-        let parts = and_parts (r.kind == image_relative machine) (r.offset == offset) is in
-        (parts.0, eqb-true r.offset offset parts.1)
-
     in_order : (r q n : Relocation) → (is_field machine 0 r && (is_field machine 12 q && is_field machine 16 n)) ≡ true →
         relocated machine linked p (r ∷ q ∷ n ∷ []) (zeros 20) ≡ filled_row (target_address linked p r.symbol) (target_address linked p q.symbol) (target_address linked p n.symbol)
     unfolding with_address u32_bytes u32_at
     in_order r q n are =
         let first = and_parts (is_field machine 0 r) (is_field machine 12 q && is_field machine 16 n) are in
         let later = and_parts (is_field machine 12 q) (is_field machine 16 n) first.1 in
-        let x = is_relative 0 r first.0 in
-        let y = is_relative 12 q later.0 in
-        let z = is_relative 16 n later.1 in
+        let x = field_is machine 0 r first.0 in
+        let y = field_is machine 12 q later.0 in
+        let z = field_is machine 16 n later.1 in
         rw (x.0, y.0, z.0, x.1, y.1, z.1) refl
 
     name_last : (r q n : Relocation) → (is_field machine 0 r && (is_field machine 16 q && is_field machine 12 n)) ≡ true →
@@ -253,9 +242,9 @@ module _ (machine : MachineType) (linked : List Placed) (image : List Range) (st
     name_last r q n are =
         let first = and_parts (is_field machine 0 r) (is_field machine 16 q && is_field machine 12 n) are in
         let later = and_parts (is_field machine 16 q) (is_field machine 12 n) first.1 in
-        let x = is_relative 0 r first.0 in
-        let y = is_relative 16 q later.0 in
-        let z = is_relative 12 n later.1 in
+        let x = field_is machine 0 r first.0 in
+        let y = field_is machine 16 q later.0 in
+        let z = field_is machine 12 n later.1 in
         rw (x.0, y.0, z.0, x.1, y.1, z.1) refl
 
     row_filled : (relocations : List Relocation) (row : Row) → row_of machine relocations ≡ Some row →
@@ -334,9 +323,6 @@ module _ (machine : MachineType) (linked : List Placed) (image : List Range) (st
               one_ends group o.sections (base_of group b) s one.0 one.1 level ∙ ap (λ n. base_of group b + n) (ap length same) ∙ plus_none (base_of group b),
             )
 
-    level_next : (n : ℕ) → n % 4 ≡ 0 → (n + 20) % 4 ≡ 0
-    level_next n level = omega arith
-
     name_found : (dll : List ℕ) (others later : List Object) (found : Option Entry) → AllByRecursion IsSized others → LocatedFrom machine linked image (ends_after b o.sections) (others ++ later) →
         ((d : SymbolDefinition) → Among d (definitions (placed_from (ends_after b o.sections) (others ++ later))) → definitions_of d.name linked ≡ d ∷ []) → dll_text others found ≡ Some dll →
         (a : ℕ) × ((address_or_zero (option_and_then (symbol_address linked p) found) ≡ a) × TextAt image a dll)
@@ -384,7 +370,7 @@ module _ (machine : MachineType) (linked : List Placed) (image : List Range) (st
       let lookups_are : next.lookups ≡ b.lookups = end_of_sections Lookups b head.sections ∙ lookups.1 in
       let addresses_are : next.addresses ≡ b.addresses = end_of_sections Addresses b head.sections ∙ addresses.1 in
       let later_even : AreAligned next = record {
-        descriptors = ap (λ n. n % 4) descriptors_are ∙ level_next head b rest sized.0 even located b.descriptors even.descriptors;
+        descriptors = ap (λ n. n % 4) descriptors_are ∙ later_even b.descriptors even.descriptors;
         lookups = ap (λ n. n % 4) lookups_are ∙ even.lookups;
         addresses = ap (λ n. n % 4) addresses_are ∙ even.addresses;
       } in

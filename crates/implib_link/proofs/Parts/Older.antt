@@ -3,7 +3,7 @@ use Rattle.std.proofs.Common.{◌≡◌, ℕ, ◌+◌, ◌<◌, ◌≤◌, ◌^�
 use Rattle.std.specs.Prelude.{Bool, bytes_eq, slice_get, if◌then◌else◌}
 use Rattle.std.specs.List.{AllByRecursion, Contains, cons_option, filter_map, list_all, list_any}
 use Rattle.std.specs.Option.{option_map}
-use Rattle.std.proofs.lemmas.Bool.{cases_Bool, ltb-true, or_parts}
+use Rattle.std.proofs.lemmas.Bool.{cases_Bool, ltb-true}
 use Rattle.implib.specs.declared.coff.object.Place.TheVariants.{Section}
 use Rattle.implib.specs.declared.flavor.Flavor.TheVariants.{Gnu}
 use Rattle.implib.specs.declared.machine.MachineType.{MachineType}
@@ -34,18 +34,13 @@ use Rattle.implib.proofs.Members.GnuObjects.{Fits-head_object, Fits-older_object
 use Rattle.implib.proofs.Members.NotRefused.{Sound, first_none, if_none, linked_free_by_names, name_asked_free, short_enough, sound_by_names, text_free_by_names}
 use Rattle.implib_link.specs.Parts.{IsPart, names_entry, older_linked, older_numbered, older_part_of, stores_none}
 use Rattle.implib_link.proofs.Parts.Members.{after_by, exported, part_is, part_stores_none, names_are}
+use Rattle.implib_link.proofs.Search.Lists.{none_among}
 
 -- what a writer wrote reads as what it holds
 held_reads : (h : WriterState) → Fits (layout_of h) → encoded_size (layout_of h) ≤ 0xFFFF_FFFF → object_in (encoded (layout_of h)) ≡ Some (written_object h)
 held_reads h fits short =
     let below : encoded_size (layout_of h) < 2 ^ 32 = omega arith in
     object_in-encoded (layout_of h) fits below ∙ ap Some (object_of-layout_of h)
-
-not_among : (p : MemberSpec) (specs : List MemberSpec) → Among p specs → list_any is_too_long specs ≡ false → is_too_long p ≡ false
-unfolding Among
-not_among p [] m none = absurd m
-not_among p (q ∷ specs) (inl e) none = rw e (or_parts (is_too_long q) (list_any is_too_long specs) none).0
-not_among p (q ∷ specs) (inr m) none = not_among p specs m (or_parts (is_too_long q) (list_any is_too_long specs) none).1
 
 -- the specification of each export is among those of the definition
 numbered_among : (machine : MachineType) (dll : List ℕ) (exports : List ExportView) (start n : ℕ) (e : ExportView) → slice_get exports n ≡ Some e →
@@ -102,7 +97,7 @@ module _ (machine : MachineType) (p : LinkInput) (made : AreOlderMembersOf p.def
   sound = sound_by_names p.definition machine Gnu refusals.0 made.ordinals
 
   size_of : (s : MemberSpec) → Among s specs → file_size s.contents ≤ 0xFFFF_FFFF
-  size_of s m = short_enough s (not_among s specs m (if_none (list_any is_too_long specs) MemberTooLong None refusals.1).0)
+  size_of s m = short_enough s (none_among is_too_long s specs m (if_none (list_any is_too_long specs) MemberTooLong None refusals.1).0)
 
   tail_among : Among (tail_spec machine dll) specs
   tail_among = among_first _ _

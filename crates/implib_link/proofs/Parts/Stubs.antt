@@ -30,8 +30,8 @@ use Rattle.implib_link.proofs.Parts.Heads.{group_address}
 use Rattle.implib_link.proofs.Parts.Members.{after_by, exported, members_objects}
 use Rattle.implib_link.proofs.Parts.Older.{further, name_by, older_objects}
 use Rattle.implib_link.proofs.Parts.Programs.{defined_once, entry_placed, kept_is_linked}
-use Rattle.implib_link.proofs.Parts.Texts.{plus_none}
 use Rattle.implib_link.proofs.Search.Lists.{contains_among}
+use Rattle.implib_link.proofs.Gnu.Loaded.{plus_none}
 
 -- an external that an object defines is a definition
 definition_held : (addresses : List SectionAddress) (s : ObjectSymbol) (entries : List Entry) → is_defined_external s ≡ true → Among (ASymbol s) entries →

@@ -28,6 +28,7 @@ use Rattle.implib_link.specs.Gnu.Packed.{sections_end}
 use Rattle.implib_link.specs.Parts.{ask_of, bytes_at_symbol, bytes_from, has_none, hint_and_name, holds_texts, is_field, is_of, named_bytes_in, null_thunk_of, only_section, ordinal_with, own_bytes, sections_of, thunk_ask}
 use Rattle.implib_link.proofs.Gnu.Sized.{IsSized}
 use Rattle.implib_link.proofs.Parts.Sections.{nth_placed, one_ends, one_is, one_placed}
+use Rattle.implib_link.proofs.Gnu.Loaded.{plus_none}
 
 -- The groups whose bytes are located.
 
@@ -94,8 +95,10 @@ u16_is low high small below =
 hint_small : (low high : ℕ) → low < 256 → high < 256 → low + 256 * high < 2 ^ 16
 hint_small low high small below = omega arith
 
-pub plus_none : (n : ℕ) → n + 0 ≡ n
-plus_none n = omega arith
+pub field_is : (machine : MachineType) (offset : ℕ) (r : Relocation) → is_field machine offset r ≡ true → ((r.kind == image_relative machine) ≡ true) × (r.offset ≡ offset)
+field_is machine offset r is =
+    let parts = and_parts (r.kind == image_relative machine) (r.offset == offset) is in
+    (parts.0, eqb-true r.offset offset parts.1)
 
 -- Sections of an object that is placed first from bases on.
 module _ (machine : MachineType) (linked : List Placed) (image : List Range) (starts : AllByRecursion (λ r. 0 < r.start) image) (ends : AllByRecursion (λ r. range_end r < 2 ^ 31) image)
@@ -203,11 +206,6 @@ module _ (machine : MachineType) (linked : List Placed) (image : List Range) (st
           subst (StrictThunkAt image (thunk_width machine) a) same
           (name_located machine image starts ends text (low + 256 * high) place a (hint_small low high small below) ended.1.1 here front.0)
 
-  field_is : (offset : ℕ) (r : Relocation) → is_field machine offset r ≡ true → ((r.kind == image_relative machine) ≡ true) × (r.offset ≡ offset)
-  field_is offset r is =
-      let parts = and_parts (r.kind == image_relative machine) (r.offset == offset) is in
-      (parts.0, eqb-true r.offset offset parts.1)
-
   asked : (a : ℕ) (bytes : List ℕ) (relocations : List Relocation) (ask : Ask) → ask_of machine o bytes relocations ≡ Some ask → BytesAt image a (relocated machine linked p relocations bytes) →
       StrictThunkAt image (thunk_width machine) a ask × (length bytes ≡ thunk_width machine)
   asked a bytes [] ask is held = ordinal (number_in (take 2 bytes)) is
@@ -230,7 +228,7 @@ module _ (machine : MachineType) (linked : List Placed) (image : List Range) (st
       elim (cases_Bool (is_field machine 0 r && bytes_eq bytes (zeros (thunk_width machine)))) [
         | inl both ↦
             let parts = and_parts (is_field machine 0 r) (bytes_eq bytes (zeros (thunk_width machine))) both in
-            let field = field_is 0 r parts.0 in
+            let field = field_is machine 0 r parts.0 in
             let same : bytes ≡ zeros (thunk_width machine) = (bytes_eq-Decides bytes (zeros (thunk_width machine))).0 parts.1 in
             let plain : relocated machine linked p (r ∷ []) bytes ≡ with_address (zeros (thunk_width machine)) 0 (target_address linked p r.symbol) =
             ap (relocated machine linked p (r ∷ [])) same ∙ rw (field.0, field.1) refl in

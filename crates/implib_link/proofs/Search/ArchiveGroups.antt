@@ -8,15 +8,15 @@ use Rattle.std.proofs.lemmas.List.{append-nil, map-append, reverse-append}
 use Rattle.std.proofs.lemmas.Grind.{flat_map-append}
 use Rattle.implib.specs.declared.machine.MachineType.{MachineType}
 use Rattle.implib.specs.Definition.{ExportView}
-use Rattle.implib.specs.Members.Gnu.{head_symbol, iname_symbol, weak_address_name, weak_name}
+use Rattle.implib.specs.Members.Gnu.{weak_address_name, weak_name}
 use Rattle.implib.specs.Members.GnuMembers.{export_spec, head_spec, numbered_specs, numbered_specs_of, tail_spec}
 use Rattle.implib.specs.Members.WeakExternal.{weak_spec}
 use Rattle.implib.specs.Import.{imp_symbol}
 use Rattle.implib.specs.Members.MemberSpec.{MemberSpec, MemberView, member_of}
-use Rattle.implib.proofs.Link.Ranges.{Among, among_back, among_first, among_front, among_later}
-use Rattle.implib_link.specs.Search.Archives.{IsLibrary, Library, archive_of, exports_of, symbols_of_export, symbols_of_library}
+use Rattle.implib.proofs.Link.Ranges.{Among, among_back, among_flat, among_front}
+use Rattle.implib_link.specs.Search.Archives.{Library, symbols_of_export}
 use Rattle.implib_link.specs.Search.Search.{first_listed, is_listed_for}
-use Rattle.implib_link.proofs.Search.Lists.{among_either, any_among, distinct_apart, distinct_later}
+use Rattle.implib_link.proofs.Search.Lists.{among_either, distinct_apart, distinct_later, listed_is}
 use Rattle.implib.specs.LibraryName.{linked_name, names_for, NamesOfDll}
 use Rattle.implib.specs.declared.flavor.Flavor.TheVariants.{Gnu}
 
@@ -52,18 +52,6 @@ first_here name (x ∷ members) rest m found =
       | inr other ↦ rw other (first_here name members rest m (rw other at found))
     ]
 
--- a first member is one of the members, and is listed for the name
-pub first_is : (name : List ℕ) (members : List MemberView) (m : MemberView) → first_listed members name ≡ Some m → Among m members × Among name m.symbols
-unfolding Among
-first_is name [] m found = cc
-first_is name (x ∷ members) m found =
-    elim (cases_Bool (is_listed_for name x)) [
-      | inl is ↦
-          let same : x ≡ m = (let e : Some x ≡ Some m = rw is at found in cc) in
-          (inl (sym same), subst (λ (y : MemberView). Among name y.symbols) same (any_among name x.symbols is))
-      | inr other ↦ let later = first_is name members m (rw other at found) in (inr later.0, later.1)
-    ]
-
 -- what is found among some members, or nothing
 pub found_or_not : (name : List ℕ) (members : List MemberView) → (first_listed members name ≡ None) ⊎ ((m : MemberView) × (first_listed members name ≡ Some m))
 found_or_not name members = by (first_listed members name) refl
@@ -71,12 +59,6 @@ found_or_not name members = by (first_listed members name) refl
     by : (o : Option MemberView) → first_listed members name ≡ o → (first_listed members name ≡ None) ⊎ ((m : MemberView) × (first_listed members name ≡ Some m))
     by None is = inl is
     by (Some m) is = inr (m, is)
-
-among_symbols : (name : List ℕ) (groups : List Group) (g : Group) → Among g groups → Among name g.symbols → Among name (symbols_of_groups groups)
-unfolding Among
-among_symbols name [] g held is = absurd held
-among_symbols name (x ∷ groups) g (inl e) is = among_front name x.symbols (symbols_of_groups groups) (subst (λ (y : Group). Among name y.symbols) e is)
-among_symbols name (x ∷ groups) g (inr held) is = among_back name x.symbols (symbols_of_groups groups) (among_symbols name groups g held is)
 
 -- what is found in a name's own group is found first of all
 pub first_in_group : (name : List ℕ) (groups : List Group) (g : Group) (m : MemberView) → AllByRecursion IsWithin groups → IsDistinct bytes_eq (symbols_of_groups groups) →
@@ -91,8 +73,8 @@ first_in_group name (x ∷ groups) g m within distinct (inr held) is found =
           first_behind name x.members (members_of_groups groups) none
           ∙ first_in_group name groups g m within.1 (distinct_later x.symbols (symbols_of_groups groups) distinct) held is found
       | inr here ↦
-          let there = first_is name x.members here.0 here.1 in
-          absurd (distinct_apart x.symbols (symbols_of_groups groups) name distinct (within.0 here.0 name there.0 there.1) (among_symbols name groups g held is))
+          let there = listed_is x.members name here.0 here.1 in
+          absurd (distinct_apart x.symbols (symbols_of_groups groups) name distinct (within.0 here.0 name there.0 there.1) (among_flat (λ (y : Group). y.symbols) g groups name held is))
     ]
 
 -- what is found at all is found in some group
@@ -129,12 +111,6 @@ module _ (machine : MachineType) where
   weak_address_of l n e =
       member_of (weak_spec machine (weak_address_name (linked_name l.definition) n) (imp_symbol e.name) (imp_symbol e.alias_target))
 
-  abbrev pub tail_group : Library → Group
-  tail_group l = record { members = tail_of l ∷ []; symbols = iname_symbol machine (linked_name l.definition) ∷ [] }
-
-  abbrev pub head_group : Library → Group
-  head_group l = record { members = head_of l ∷ []; symbols = head_symbol machine (linked_name l.definition) ∷ [] }
-
   abbrev pub export_group : Library → ℕ → ExportView → Group
   export_group l n e = record {
     members = map member_of (reverse (numbered_specs_of machine (linked_name l.definition) n e));
@@ -145,13 +121,7 @@ module _ (machine : MachineType) where
   export_groups l start [] = []
   export_groups l start (e ∷ exports) = export_groups l (start + 1) exports ++ export_group l start e ∷ []
 
-  abbrev pub groups_of : Library → List Group
-  groups_of l = tail_group l ∷ head_group l ∷ export_groups l 0 (exports_of l)
-
-  abbrev pub all_groups : List Library → List Group
-  all_groups libraries = flat_map groups_of libraries
-
-  members_of_exports : (l : Library) (start : ℕ) (exports : List ExportView) →
+  pub members_of_exports : (l : Library) (start : ℕ) (exports : List ExportView) →
       map member_of (reverse (numbered_specs machine (linked_name l.definition) start exports)) ≡ members_of_groups (export_groups l start exports)
   unfolding export_groups
   members_of_exports l start [] = refl
@@ -165,7 +135,7 @@ module _ (machine : MachineType) where
       ∙ ap (λ ms. members_of_groups (export_groups l (start + 1) exports) ++ ms) (sym (append-nil (map member_of (reverse own))))
       ∙ sym (flat_map-append (λ (g : Group). g.members) (export_groups l (start + 1) exports) (export_group l start e ∷ []))
 
-  symbols_of_exports : (l : Library) (start : ℕ) (exports : List ExportView) →
+  pub symbols_of_exports : (l : Library) (start : ℕ) (exports : List ExportView) →
       symbols_of_groups (export_groups l start exports) ≡ flat_map symbols_of_export (reverse exports)
   unfolding export_groups
   symbols_of_exports l start [] = refl
@@ -175,30 +145,7 @@ module _ (machine : MachineType) where
       ∙ sym (flat_map-append symbols_of_export (reverse exports) (e ∷ []))
       ∙ ap (flat_map symbols_of_export) (sym (reverse-append (e ∷ []) exports))
 
-  pub archive_groups : (libraries : List Library) → AllByRecursion (IsLibrary machine) libraries → archive_of libraries ≡ members_of_groups (all_groups libraries)
-  unfolding archive_of
-  archive_groups [] made = refl
-  archive_groups (l ∷ libraries) made =
-      ap (λ ms. ms ++ archive_of libraries) (made.0.made ∙ ap (λ ms. tail_of l ∷ head_of l ∷ ms) (members_of_exports l 0 (exports_of l)))
-      ∙ ap (λ ms. members_of_groups (groups_of l) ++ ms) (archive_groups libraries made.1)
-      ∙ sym (flat_map-append (λ (g : Group). g.members) (groups_of l) (all_groups libraries))
-
-  pub symbols_groups : (libraries : List Library) → symbols_of_groups (all_groups libraries) ≡ flat_map (symbols_of_library machine) libraries
-  unfolding symbols_of_library
-  symbols_groups [] = refl
-  symbols_groups (l ∷ libraries) =
-      let dll : NamesOfDll = names_for Gnu l.definition in
-      flat_map-append (λ (g : Group). g.symbols) (groups_of l) (all_groups libraries)
-      ∙ ap (λ names. iname_symbol machine dll.linked ∷ head_symbol machine dll.linked ∷ (names ++ symbols_of_groups (all_groups libraries))) (symbols_of_exports l 0 (exports_of l))
-      ∙ ap (λ names. symbols_of_library machine l ++ names) (symbols_groups libraries)
-
-  -- which group a group is
-  pub data Kind (libraries : List Library) (g : Group) : Type 0 where
-    OfTail : (l : Library) → Among l libraries → g ≡ tail_group l → Kind libraries g
-    OfHead : (l : Library) → Among l libraries → g ≡ head_group l → Kind libraries g
-    OfExport : (l : Library) → Among l libraries → (n : ℕ) (e : ExportView) → slice_get (exports_of l) n ≡ Some e → g ≡ export_group l n e → Kind libraries g
-
-  export_group_is : (l : Library) (exports : List ExportView) (start : ℕ) (g : Group) → Among g (export_groups l start exports) →
+  pub export_group_is : (l : Library) (exports : List ExportView) (start : ℕ) (g : Group) → Among g (export_groups l start exports) →
       (n : ℕ) × (e : ExportView) × (slice_get exports n ≡ Some e) × (g ≡ export_group l (start + n) e)
   unfolding Among export_groups
   export_group_is l [] start g held = absurd held
@@ -214,7 +161,7 @@ module _ (machine : MachineType) where
         ]
       ]
 
-  group_is_export : (l : Library) (exports : List ExportView) (start n : ℕ) (e : ExportView) → slice_get exports n ≡ Some e → Among (export_group l (start + n) e) (export_groups l start exports)
+  pub group_is_export : (l : Library) (exports : List ExportView) (start n : ℕ) (e : ExportView) → slice_get exports n ≡ Some e → Among (export_group l (start + n) e) (export_groups l start exports)
   unfolding Among export_groups
   group_is_export l [] start n e is = cc
   group_is_export l (x ∷ exports) start zero e is =
@@ -226,46 +173,3 @@ module _ (machine : MachineType) where
       let position : start + 1 + n ≡ start + suc n = omega arith in
       among_front _ (export_groups l (start + 1) exports) (export_group l start x ∷ [])
       (subst (λ k. Among (export_group l k e) (export_groups l (start + 1) exports)) position (group_is_export l exports (start + 1) n e is))
-
-  -- a library further back
-  further : (l : Library) (libraries : List Library) (g : Group) → Kind libraries g → Kind (l ∷ libraries) g
-  unfolding Among
-  further l libraries g (OfTail own held is) = OfTail own (inr held) is
-  further l libraries g (OfHead own held is) = OfHead own (inr held) is
-  further l libraries g (OfExport own held n e at is) = OfExport own (inr held) n e at is
-
-  pub group_kind : (libraries : List Library) (g : Group) → Among g (all_groups libraries) → Kind libraries g
-  unfolding Among
-  group_kind [] g held = absurd held
-  group_kind (l ∷ libraries) g held =
-      elim (among_either g (groups_of l) (all_groups libraries) held) [
-        | inl own ↦ first own
-        | inr behind ↦ further l libraries g (group_kind libraries g behind)
-      ]
-    where
-      first : Among g (groups_of l) → Kind (l ∷ libraries) g
-      first (inl e) = OfTail l (inl refl) e
-      first (inr (inl e)) = OfHead l (inl refl) e
-      first (inr (inr there)) =
-          let found = export_group_is l (exports_of l) 0 g there in
-          let position : 0 + found.0 ≡ found.0 = omega arith in
-          OfExport l (inl refl) found.0 found.1 found.2 (found.3 ∙ ap (λ n. export_group l n found.1) position)
-
-  own_groups : (libraries : List Library) (l : Library) (g : Group) → Among l libraries → Among g (groups_of l) → Among g (all_groups libraries)
-  unfolding Among
-  own_groups [] l g held own = absurd held
-  own_groups (x ∷ libraries) l g (inl e) own = among_front g (groups_of x) (all_groups libraries) (subst (λ (y : Library). Among g (groups_of y)) e own)
-  own_groups (x ∷ libraries) l g (inr held) own = among_back g (groups_of x) (all_groups libraries) (own_groups libraries l g held own)
-
-  pub tail_group_held : (libraries : List Library) (l : Library) → Among l libraries → Among (tail_group l) (all_groups libraries)
-  tail_group_held libraries l held = own_groups libraries l (tail_group l) held (among_first _ _)
-
-  pub head_group_held : (libraries : List Library) (l : Library) → Among l libraries → Among (head_group l) (all_groups libraries)
-  head_group_held libraries l held = own_groups libraries l (head_group l) held (among_later _ _ _ (among_first _ _))
-
-  pub export_group_held : (libraries : List Library) (l : Library) (n : ℕ) (e : ExportView) → Among l libraries → slice_get (exports_of l) n ≡ Some e →
-      Among (export_group l n e) (all_groups libraries)
-  export_group_held libraries l n e held is =
-      let position : 0 + n ≡ n = omega arith in
-      own_groups libraries l (export_group l n e) held
-      (among_later _ _ _ (among_later _ _ _ (subst (λ k. Among (export_group l k e) (export_groups l 0 (exports_of l))) position (group_is_export l (exports_of l) 0 n e is))))

@@ -1,66 +1,55 @@
--- A closed program of an archive of both flavours links.
-use Rattle.std.proofs.Common.{◌≡◌, ℕ, ◌+◌, ◌*◌, ◌⊎◌, true, false, List, [], ◌∷◌, ◌++◌, Some, refl, ap, sym, ◌∙◌, subst, inl, inr}
-use Rattle.std.specs.Prelude.{◌<◌, ◌^◌, IsPermutation, bytes_eq, not, slice_get}
-use Rattle.std.specs.List.{AllByRecursion, Contains, filter, list_any}
-use Rattle.std.proofs.lemmas.Bool.{cases_Bool}
+-- A closed program of an archive of both flavours links, however a linker reads members.
+use Rattle.std.proofs.Common.{◌≡◌, ℕ, ◌+◌, ◌*◌, ◌⊎◌, Bool, true, false, List, [], ◌∷◌, ◌++◌, Option, Some, refl, ap, sym, ◌∙◌, subst, inl, inr}
+use Rattle.std.specs.Prelude.{◌<◌, ◌^◌, IsPermutation, not, slice_get}
+use Rattle.std.specs.List.{AllByRecursion, Contains, filter}
+use Rattle.std.proofs.lemmas.Bool.{cases_Bool, true≢false, not_from_false}
 use Rattle.std.proofs.lemmas.List.Sorted.{IsPermutation-sym}
-use Rattle.implib.specs.declared.flavor.Flavor.TheVariants.{Msvc}
+use Rattle.implib.specs.declared.flavor.Flavor.{Flavor}
+use Rattle.implib.specs.declared.flavor.Flavor.TheVariants.{Gnu, Msvc}
 use Rattle.implib.specs.declared.machine.MachineType.{MachineType}
 use Rattle.implib.specs.Definition.{ExportView}
 use Rattle.implib.specs.Formats.Object.{Object}
 use Rattle.implib.specs.Import.{imp_symbol}
-use Rattle.implib.specs.LibraryName.{linked_dll, linked_name, names_for}
+use Rattle.implib.specs.LibraryName.{names_for}
 use Rattle.implib.specs.Link.Linked.{IsDefinedOnce}
-use Rattle.implib.specs.Link.LinkedMembers.{all_linked}
 use Rattle.implib.specs.Link.Placement.{Bases, placed_from}
 use Rattle.implib.specs.Link.Resolution.{definitions_of}
-use Rattle.implib.specs.Members.Gnu.{archive_symbols, head_symbol, iname_symbol}
 use Rattle.implib.specs.Members.ImportTables.{thunk_width}
 use Rattle.implib.specs.Members.MemberSpec.{MemberView}
-use Rattle.implib.specs.Members.Msvc.{short_import_symbols}
-use Rattle.implib.specs.Members.MsvcMembers.{null_descriptor_spec}
-use Rattle.implib.specs.Members.MsvcObjects.{descriptor_symbol, null_descriptor_symbol, null_thunk_symbol}
+use Rattle.implib.specs.Members.MsvcObjects.{null_descriptor_symbol}
 use Rattle.implib.proofs.Link.LinkedMembers.{among_contains}
 use Rattle.implib.proofs.Link.Ranges.{Among, all_among, among_back, among_first, among_flat, among_front}
 use Rattle.implib_link.specs.Flavors.Expansion.{expanded_in}
-use Rattle.implib_link.specs.Flavors.Program.{OfMember, FlavorInput, IsMadeFor, all_members, exports_chosen, null_member, objects_taken, symbols_listed, thunks_of, ProgramLinks, IsProgramOf, AreProgramObjects, gnu_input}
-use Rattle.implib_link.specs.Gnu.Program.{has_tables}
-use Rattle.implib_link.specs.Search.Archives.{Library, exports_of, inputs_wanted}
-use Rattle.implib_link.specs.Search.BothFlavors.{AreClosedForBoth, FlavorLibrary, IsClosedForBoth, IsFlavorArchive, IsImportedOfBoth, IsUsedIn, LinksClosedForBoth, TakesOfBoth, archive_of_both, gnu_among, inputs_of_both, msvc_among}
-use Rattle.implib_link.specs.Search.Closed.{listed_in, unresolved}
-use Rattle.implib_link.specs.Search.Msvc.{NamesNoHeader, TakesFor}
-use Rattle.implib_link.specs.Search.MsvcArchives.{first_null, is_import_wanted, is_short_alias, is_weak_in, others_in, short_inputs, shorts_linked, weak_in}
-use Rattle.implib_link.specs.Search.MsvcClosed.{IsWeakTaken, wanted_for}
-use Rattle.implib_link.specs.Search.Search.{NamesNoHeadOrTail, exports_wanted, first_listed, is_wanted}
-use Rattle.implib_link.proofs.Flavors.Expanded.{taken_null}
-use Rattle.implib_link.proofs.Flavors.Inputs.{null_object}
+use Rattle.implib_link.specs.Flavors.Program.{AreProgramObjects, Ending, FlavorInput, IsMadeFor, IsProgramOf, OfMember, ProgramLinks, all_members, exports_chosen, symbol_in, symbols_listed, thunks_of}
+use Rattle.implib_link.specs.Gnu.Packed.{packed, packed_end}
+use Rattle.implib_link.specs.Gnu.Program.{ClaimsNone, HaveSame, has_tables}
+use Rattle.implib_link.specs.Search.Archives.{Library, exports_of}
+use Rattle.implib_link.specs.Search.BothFlavors.{AreClosedForBoth, FlavorLibrary, IsClosedForBoth, IsFlavorArchive, IsImportedOfBoth, IsUsedIn, LinksClosedForBoth, NamesNoMembers, archive_of_both, flavor_inputs, inputs_of_both, msvc_among, symbols_in}
+use Rattle.implib_link.specs.Search.Closed.{TakesIntoAs, listed_in, unresolved}
+use Rattle.implib_link.specs.Search.MsvcArchives.{first_null, is_weak_in}
+use Rattle.implib_link.specs.Search.MsvcClosed.{wanted_for}
+use Rattle.implib_link.specs.Search.Search.{TakesAs, first_listed, left_as, objects_as}
 use Rattle.implib_link.proofs.Flavors.Loaded.{entry_of}
 use Rattle.implib_link.proofs.Flavors.Packed.{packed_objects}
 use Rattle.implib_link.proofs.Flavors.Program.{program_links}
-use Rattle.implib_link.specs.Gnu.Packed.{packed, packed_end}
-use Rattle.implib_link.proofs.Search.ArchiveGroups.{export_of, weak_of as data_weak_of}
-use Rattle.implib_link.proofs.Search.ArchiveMembers.{FoundExport, FoundHead, FoundTail, FoundWeak as FoundDataWeak}
-use Rattle.implib_link.proofs.Search.Archives.{linked_of as data_linked_of, of_linked as of_data_linked}
-use Rattle.implib_link.proofs.Search.Closing.{IsFirstAs, IsListed, first_of, listed_other, none_left, others_claim_none, reached, still_named, takes_apart, pulled, there_not, at_index}
-use Rattle.implib_link.proofs.Search.Lists.{passes, passing, among_at, among_either, among_flat_map, contains_among}
-use Rattle.implib_link.proofs.Search.Arranged.{chosen_are, input_for, input_held, input_is}
-use Rattle.implib_link.proofs.Search.BothArchives.{both_taken, data_alias_weak, plain_gnu, plain_short, short_alias_weak}
-use Rattle.implib_link.proofs.Search.BothArranged.{both_distinct, both_found, both_made, exports_join, gnu_joins, gnu_moved, members_of_each, msvc_moved, of_each, short_joins, shorts_join}
-use Rattle.implib_link.proofs.Search.BothMembers.{FoundInBoth, first_held, found_in_both, found_is_first}
-use Rattle.implib_link.proofs.Search.MsvcArchives.{AShort, AnyImport, TheDescriptor, both_parts, import_parts, imports_are, linked_of, linked_there, member_with, null_or_member, null_with, of_linked}
-use Rattle.implib_link.proofs.Search.MsvcArranged.{short_input_for, short_input_held, short_input_is}
-use Rattle.implib_link.proofs.Search.MsvcClosed.{by_symbol, first_one, null_tables}
-use Rattle.implib_link.proofs.Search.MsvcMembers.{FoundDescriptor, FoundNull, FoundShort, FoundThunk, FoundWeak as FoundShortWeak, descriptor_of, null_of, short_of, weak_of as short_weak_of}
-use Rattle.implib_link.proofs.Search.Search.{AnExport, linked_if_needed, listed_export, numbers_are_wanted, only_one, wanted_name, wants}
-
-no_library : (l : Library) → Among l [] → ⊥
-unfolding Among
-no_library l held = held
+use Rattle.implib_link.proofs.Search.Arranged.{among_moved}
+use Rattle.implib_link.proofs.Search.BothArranged.{both_distinct, both_found, both_made}
+use Rattle.implib_link.proofs.Search.Chosen.{AnOwn, AnyOf, TheLast, TheTop, chosen_are, chosen_by, chosen_name, export_chosen, input_held, input_in, input_is, is_chosen, linked_from, linked_into, some_short}
+use Rattle.implib_link.proofs.Search.Closing.{IsFirstAs, IsListed, first_of, listed_other, none_left, others_claim_none, reached, still_named, takes_apart}
+use Rattle.implib_link.proofs.Search.FlavorGroups.{first_held, made_of, there_msvc}
+use Rattle.implib_link.proofs.Search.Found.{IsReader, expands, found, weak_by_role}
+use Rattle.implib_link.proofs.Search.Lists.{among_at, among_either, among_flat_map, contains_among, from_not, passes, passing, at_index}
+use Rattle.implib_link.proofs.Search.MsvcArchives.{by_symbol, null_tables}
+use Rattle.implib_link.proofs.Search.MsvcMembers.{null_is, null_of}
+use Rattle.implib_link.proofs.Search.Roles.{IsRole, Last, Null, Own, Role, Top, Weak, in_flavor, is_weak_role, listed_as, member, symbols}
+use Rattle.implib_link.proofs.Search.Search.{only_one}
+use Rattle.implib_link.proofs.Search.Taken.{Why, as_other, both_taken, each_first, linked_other, needed, not_wanted}
 
 -- a symbol of an export's own member is that of its address, or its name, where it is no data
-by_gnu_symbol : (e : ExportView) (name : List ℕ) → Among name (archive_symbols e) → (name ≡ imp_symbol e.name) ⊎ ((name ≡ e.name) × (e.is_data ≡ false))
+of_symbol : (flavor : Flavor) (e : ExportView) (name : List ℕ) → Among name (symbols_in flavor e) → (name ≡ imp_symbol (symbol_in flavor e)) ⊎ ((name ≡ symbol_in flavor e) × (e.is_data ≡ false))
 unfolding Among
-by_gnu_symbol e name listed =
+of_symbol Msvc e name listed = by_symbol e name listed
+of_symbol Gnu e name listed =
     elim (cases_Bool e.is_data) [
       | inl is ↦ (let one : Among name (imp_symbol e.name ∷ []) = rw is at listed in inl (only_one name (imp_symbol e.name) one))
       | inr is ↦ (
@@ -72,234 +61,130 @@ by_gnu_symbol e name listed =
           )
     ]
 
-module _ (machine : MachineType) (libraries : List FlavorLibrary) (archive : IsFlavorArchive machine libraries) (own : List Object) (taken : List MemberView) (arranged : List FlavorLibrary)
-    (objects : List Object) (is : AreClosedForBoth machine libraries own taken arranged objects) where
-  abbrev wanted : List (List ℕ)
-  wanted = wanted_for machine own taken
+-- What is taken for given objects, and what is linked with them, wherever it is placed.
+pub record AreClosedAs (machine : MachineType) (reads : List ℕ → Option Object) (weak : MemberView → Bool) (libraries : List FlavorLibrary) (own : List Object) (taken : List MemberView) (arranged : List FlavorLibrary)
+    (objects : List Object) : Type 0 where
+  pub takes : TakesIntoAs reads (archive_of_both libraries) own taken
+  pub order : IsPermutation libraries arranged
+  pub others : HaveSame (filter (λ o. not (has_tables o)) objects) (own ++ objects_as reads (filter weak taken))
+  pub claims : AllByRecursion (ClaimsNone (listed_in taken ++ left_as reads taken)) own
+  pub names : NamesNoMembers machine libraries (unresolved own ++ left_as reads (filter weak taken))
 
-  abbrev inputs : List FlavorInput
-  inputs = inputs_of_both machine arranged own taken
+module _ (machine : MachineType) (libraries : List FlavorLibrary) (archive : IsFlavorArchive machine libraries) (reads : List ℕ → Option Object) (weak : MemberView → Bool)
+    (reader : IsReader machine libraries archive reads weak) (own : List Object) (taken : List MemberView) (arranged : List FlavorLibrary) (objects : List Object)
+    (is : AreClosedAs machine reads weak libraries own taken arranged objects) where
+  abbrev pub wanted : List (List ℕ)
+  wanted = unresolved own ++ left_as reads (filter weak taken)
 
-  abbrev shorts : List Library
-  shorts = msvc_among libraries
+  abbrev pub inputs : List FlavorInput
+  inputs = flavor_inputs arranged wanted
 
-  back : IsPermutation arranged libraries
-  back = IsPermutation-sym libraries arranged is.order
+  abbrev members : List MemberView
+  members = archive_of_both libraries
 
-  takes : TakesFor machine (archive_of_both libraries) (unresolved own) taken
-  takes = takes_apart (expanded_in machine) (archive_of_both libraries) own taken is.claims is.takes
+  pub takes : TakesAs reads (archive_of_both libraries) (unresolved own) taken
+  takes = takes_apart reads members own taken is.claims is.takes
 
-  each_first : (m : MemberView) → Among m taken → IsFirstAs (expanded_in machine) (archive_of_both libraries) m
-  each_first m held =
-      let by = pulled (expanded_in machine) (archive_of_both libraries) (unresolved own) taken takes.in_turn m held in
-      found_is_first machine libraries archive by.0 m by.1
+  pub first_each : (m : MemberView) → Among m taken → IsFirstAs reads (archive_of_both libraries) m
+  first_each = each_first machine libraries archive reads weak reader (unresolved own) taken takes
 
-  taken_is : TakesOfBoth machine libraries (unresolved own) taken
-  taken_is = both_taken machine libraries archive (unresolved own) taken is.names takes
+  into : (l : FlavorLibrary) → Among l libraries → Among l arranged
+  into l held = among_moved l libraries arranged is.order held
 
-  -- one input for Microsoft's linker, and its library
-  abbrev one_input : (p : FlavorInput) × Among p (short_inputs (msvc_among libraries) wanted)
-  one_input = first_one (short_inputs (msvc_among libraries) wanted) is.some
+  from : (l : FlavorLibrary) → Among l arranged → Among l libraries
+  from l held = among_moved l arranged libraries (IsPermutation-sym libraries arranged is.order) held
 
-  abbrev one_library : (l : Library) × Among l (msvc_among libraries) × (one_input.0 ≡ short_input_for l wanted) × AnyImport (exports_of l) wanted
-  one_library = short_input_is (msvc_among libraries) wanted one_input.0 one_input.1
+  -- What is linked is what is taken but for weak externals, and may be a null descriptor.
 
-  one_there : Among one_input.0 inputs
-  one_there =
-      let any = one_library.3 in
-      short_joins arranged wanted one_input.0
-      (subst (λ p. Among p (short_inputs (msvc_among arranged) wanted)) (sym one_library.2)
-      (short_input_held (msvc_among arranged) wanted one_library.0 any.export (msvc_moved libraries arranged one_library.0 is.order one_library.1) any.held any.want))
+  other : (m : MemberView) → Among m taken × (weak m ≡ false) → Among m (filter (λ y. not (weak y)) taken)
+  other m both = passes (λ y. not (weak y)) m taken both.0 (not_from_false (weak m) both.1)
 
-  -- What is linked is what is taken but for weak externals.
-
-  abbrev taken_shorts : List MemberView
-  taken_shorts = shorts_linked machine (msvc_among libraries) wanted
-
-  abbrev taken_exports : List MemberView
-  taken_exports = all_linked machine (inputs_wanted (gnu_among libraries) wanted)
-
-  into_others : (m : MemberView) → Among m (taken_shorts ++ taken_exports) → Among m (others_in machine taken)
-  into_others m held = contains_among m (others_in machine taken) ((taken_is.inputs m).1 (among_contains m (taken_shorts ++ taken_exports) held))
-
-  member_other : (m : MemberView) → Among m (all_members machine inputs) → Among m (others_in machine taken)
+  pub member_other : (m : MemberView) → Among m (all_members machine inputs) → Among m (filter (λ y. not (weak y)) taken)
   member_other m held =
-      into_others m (elim (members_of_each machine arranged wanted m held) [
-        | inl short ↦
-            let from = linked_of machine (msvc_among arranged) wanted m short in
-            among_front m taken_shorts taken_exports (member_with machine (msvc_among libraries) m (all_members machine (short_inputs (msvc_among libraries) wanted))
-            (of_linked machine (msvc_among libraries) wanted m from.0 (msvc_moved arranged libraries from.0 back from.1) from.2))
-        | inr export ↦
-            let from = data_linked_of machine (gnu_among arranged) wanted m export in
-            among_back m taken_shorts taken_exports (of_data_linked machine (gnu_among libraries) wanted m from.0 (gnu_moved arranged libraries from.0 back from.1) from.2)
-      ])
+      let l = linked_from machine wanted arranged m held in
+      other m (linked_other machine libraries archive reads weak reader (unresolved own) taken takes m l.0 (from l.0 l.1) l.2 l.3)
 
-  null_other : (m : MemberView) → Among m (first_null machine (msvc_among libraries)) → Among m (others_in machine taken)
-  null_other m held =
-      let l : Library = one_library.0 in
-      let there : Among (descriptor_of machine l) (all_members machine (short_inputs (msvc_among libraries) wanted)) =
-      of_linked machine (msvc_among libraries) wanted (descriptor_of machine l) l one_library.1 (linked_there machine l wanted (descriptor_of machine l) (TheDescriptor refl one_library.3)) in
-      into_others m (among_front m taken_shorts taken_exports
-      (null_with machine (msvc_among libraries) m (descriptor_of machine l) (all_members machine (short_inputs (msvc_among libraries) wanted)) held there))
-
-  from_parts : (m : MemberView) → Among m is.before ⊎ Among m is.behind → Among m (all_members machine inputs)
-  from_parts m (inl front) = subst (Among m) is.members (among_front m is.before is.behind front)
-  from_parts m (inr rest) = subst (Among m) is.members (among_back m is.before is.behind rest)
-
-  abbrev linked : List MemberView
-  linked = is.before ++ (first_null machine (msvc_among libraries) ++ is.behind)
-
-  linked_other : (m : MemberView) → Among m linked → Among m (others_in machine taken)
-  linked_other m held =
-      elim (among_either m is.before (first_null machine (msvc_among libraries) ++ is.behind) held) [
-        | inl front ↦ member_other m (from_parts m (inl front))
-        | inr rest ↦ elim (among_either m (first_null machine (msvc_among libraries)) is.behind rest) [
-          | inl null ↦ null_other m null
-          | inr last ↦ member_other m (from_parts m (inr last))
-        ]
-      ]
-
-  into_linked : (m : MemberView) → Among m (all_members machine inputs) → Among m linked
-  into_linked m held =
-      elim (among_either m is.before is.behind (subst (Among m) (sym is.members) held)) [
-        | inl front ↦ among_front m is.before (first_null machine (msvc_among libraries) ++ is.behind) front
-        | inr last ↦ among_back m is.before (first_null machine (msvc_among libraries) ++ is.behind) (among_back m (first_null machine (msvc_among libraries)) is.behind last)
-      ]
-
-  short_linked : (m : MemberView) → Among m taken_shorts → Among m linked
-  short_linked m held =
-      elim (null_or_member machine (msvc_among libraries) m (all_members machine (short_inputs (msvc_among libraries) wanted)) held) [
-        | inl null ↦ among_back m is.before (first_null machine (msvc_among libraries) ++ is.behind) (among_front m (first_null machine (msvc_among libraries)) is.behind null.0)
-        | inr member ↦
-            let from = linked_of machine (msvc_among libraries) wanted m member in
-            into_linked m (shorts_join machine arranged wanted m (of_linked machine (msvc_among arranged) wanted m from.0 (msvc_moved libraries arranged from.0 is.order from.1) from.2))
-      ]
-
-  export_linked : (m : MemberView) → Among m taken_exports → Among m linked
-  export_linked m held =
-      let from = data_linked_of machine (gnu_among libraries) wanted m held in
-      into_linked m (exports_join machine arranged wanted m (of_data_linked machine (gnu_among arranged) wanted m from.0 (gnu_moved libraries arranged from.0 is.order from.1) from.2))
-
-  other_linked : (m : MemberView) → Among m (others_in machine taken) → Among m linked
-  other_linked m held =
-      elim (among_either m taken_shorts taken_exports (contains_among m (taken_shorts ++ taken_exports) ((taken_is.inputs m).0 (among_contains m (others_in machine taken) held)))) [
-        | inl short ↦ short_linked m short
-        | inr export ↦ export_linked m export
-      ]
-
-  -- a listed name of a program is listed for a member that is taken and is no weak external
-  abbrev Listed : List ℕ → Type 0
-  Listed = IsListed (expanded_in machine) (archive_of_both libraries) (is_weak_in machine) taken each_first
-
-  of_other : (name : List ℕ) (m : MemberView) → Among m (others_in machine taken) → Among name m.symbols → Listed name
-  of_other = listed_other (expanded_in machine) (archive_of_both libraries) (is_weak_in machine) taken each_first
-
-  null_among : (name : List ℕ) → name ≡ null_descriptor_symbol → Listed name
-  unfolding null_descriptor_spec
-  null_among name named = by (msvc_among libraries) refl one_library.1
-    where
-      by : (ls : List Library) → msvc_among libraries ≡ ls → Among one_library.0 ls → Listed name
-      by [] same there = absurd (no_library one_library.0 there)
-      by (x ∷ rest) same there =
-          of_other name (null_of machine x) (null_other (null_of machine x) (subst (λ (ls : List Library). Among (null_of machine x) (first_null machine ls)) (sym same) (among_first _ _)))
-          (subst (λ n. Among n (null_descriptor_symbol ∷ [])) (sym named) (among_first _ _))
-
-  listed_name : (name : List ℕ) → Among name (null_descriptor_symbol ∷ symbols_listed (all_members machine inputs)) → Listed name
+  pub null_other : (x : Library) → Among (in_flavor Msvc x) libraries → AnyOf wanted (in_flavor Msvc x) → (m : MemberView) → Among m (first_null machine (msvc_among libraries)) → Among m (filter (λ y. not (weak y)) taken)
   unfolding Among
-  listed_name name (inl null) = null_among name null
-  listed_name name (inr held) =
-      let from = among_flat_map (λ (m : MemberView). m.symbols) name (all_members machine inputs) held in
-      of_other name from.0 (member_other from.0 from.1) from.2
+  null_other x there any m held = by (msvc_among libraries) refl held
+    where
+      by : (ls : List Library) → msvc_among libraries ≡ ls → Among m (first_null machine ls) → Among m (filter (λ y. not (weak y)) taken)
+      by [] first null = absurd null
+      by (l ∷ rest) first null =
+          other m (as_other machine libraries archive reads weak reader (unresolved own) taken takes m (in_flavor Msvc l) Null (there_msvc libraries l (first_held libraries l rest first)) (rest, first) (x, there, any)
+          (only_one m (null_of machine l) null) refl)
 
-  abbrev others : List Object
-  others = filter (λ o. not (has_tables o)) objects
+  -- a null descriptor that is taken is the first library's for Microsoft's linker
+  abbrev pub IsNullTaken : MemberView → Type 0
+  IsNullTaken m = ((x : Library) × Among (in_flavor Msvc x) libraries) × Among m (first_null machine (msvc_among libraries))
 
-  abbrev weak_objects : List Object
-  weak_objects = objects_taken machine (weak_in machine taken)
+  pub other_from : (m : MemberView) → Among m (filter (λ y. not (weak y)) taken) → IsNullTaken m ⊎ Among m (all_members machine inputs)
+  other_from m held =
+      let kept = passing (λ y. not (weak y)) m taken held in
+      let x = needed machine libraries archive reads weak reader (unresolved own) taken is.names taken (λ y there. there) takes.in_turn m kept.0 in
+      by x.has.library x.has.role x.has.held x.has.is x.why x.has.same (sym (weak_by_role machine libraries archive reads weak reader m x.has) ∙ from_not (weak m) kept.1)
+    where
+      null_in : (flavor : Flavor) (l : Library) → IsRole libraries (in_flavor flavor l) Null → m ≡ null_of machine l → Among m (first_null machine (msvc_among libraries))
+      null_in Gnu l null same = absurd null
+      null_in Msvc l null same = subst (λ ls. Among m (first_null machine ls)) (sym null.1) (subst (λ y. Among y (null_of machine l ∷ [])) (sym same) (among_first _ _))
 
-  inputs_are_made : AllByRecursion (IsMadeFor machine) inputs
-  inputs_are_made = both_made machine libraries arranged is.order archive wanted
+      by : (l : FlavorLibrary) (r : Role) → Among l libraries → IsRole libraries l r → Why machine libraries archive wanted l r → m ≡ member machine l.flavor l.library r → is_weak_role r ≡ false →
+          IsNullTaken m ⊎ Among m (all_members machine inputs)
+      by l Top there so why same plain = inr (linked_into machine wanted arranged m l (into l there) why (TheTop same))
+      by l Last there so why same plain = inr (linked_into machine wanted arranged m l (into l there) why (TheLast same))
+      by l Null there so why same plain = inl ((why.0, why.1), null_in l.flavor l.library so same)
+      by l (Own n e) there so why same plain = inr (linked_into machine wanted arranged m l (into l there) (record { number = n; export = e; is = so.0; want = why }) (AnOwn n e so.0 same why))
+      by l (Weak n e b) there so why same plain = absurd (true≢false plain)
 
-  flavor_is : one_input.0.flavor ≡ Msvc
-  flavor_is = ap (λ (p : FlavorInput). p.flavor) one_library.2
+  -- a listed name of what is linked is listed for a member that is taken and is no weak external
+  abbrev pub Listed : List ℕ → Type 0
+  Listed = IsListed reads (archive_of_both libraries) weak taken first_each
 
-  null_read : expanded_in machine (null_member machine (linked_dll one_input.0.input.definition)).bytes ≡ Some (taken_null machine)
-  null_read = null_object machine one_input.0 (all_among (IsMadeFor machine) one_input.0 inputs one_there inputs_are_made) flavor_is
+  pub of_other : (name : List ℕ) (m : MemberView) → Among m (filter (λ y. not (weak y)) taken) → Among name m.symbols → Listed name
+  of_other = listed_other reads members weak taken first_each
 
-  pub both_held : AreProgramObjects machine OfMember (inputs_of_both machine arranged own taken) objects
-  both_held = record {
-    distinct = both_distinct machine libraries arranged is.order archive wanted;
-    ended = record {
-      null_from = one_input.0;
-      null_held = among_contains one_input.0 inputs one_there;
-      null_flavor = flavor_is;
-      before = is.before;
-      behind = is.behind;
-      members = is.members;
-      tables = is.tables ∙ null_tables machine (msvc_among libraries) archive.msvc is.before is.behind (names_for Msvc one_input.0.input.definition) one_library.0 one_library.1 null_read;
-    };
-    others = others_claim_none (expanded_in machine) (archive_of_both libraries) (is_weak_in machine) taken each_first own others (null_descriptor_symbol ∷ symbols_listed (all_members machine inputs)) is.claims is.others listed_name;
-    found = both_found machine libraries arranged is.order archive wanted;
-  }
+  pub listed_linked : (name : List ℕ) → Among name (symbols_listed (all_members machine inputs)) → Listed name
+  listed_linked name held =
+      let m = among_flat_map (λ (y : MemberView). y.symbols) name (all_members machine inputs) held in
+      of_other name m.0 (member_other m.0 m.1) m.2
+
+  pub others_claim : (names : List (List ℕ)) → ((name : List ℕ) → Among name names → Listed name) → AllByRecursion (ClaimsNone names) (filter (λ o. not (has_tables o)) objects)
+  others_claim names listed = others_claim_none reads members weak taken first_each own (filter (λ o. not (has_tables o)) objects) names is.claims is.others listed
+
+  inputs_are_made : AllByRecursion (IsMadeFor machine) (flavor_inputs arranged wanted)
+  inputs_are_made = both_made machine libraries archive arranged is.order wanted
 
   -- placed at bases
-  module _ (bases : Bases) (program : IsProgramOf machine OfMember bases (inputs_of_both machine arranged own taken) objects) where
-    links : ProgramLinks machine OfMember bases (inputs_of_both machine arranged own taken) objects
-    links = program_links machine OfMember bases inputs objects inputs_are_made program
+  module _ (ending : Ending) (bases : Bases) (program : IsProgramOf machine ending bases (flavor_inputs arranged wanted) objects) where
+    pub links : ProgramLinks machine ending bases (flavor_inputs arranged wanted) objects
+    links = program_links machine ending bases inputs objects inputs_are_made program
 
     -- each import is used
-
-    used_in : (p q : FlavorInput) (e : ExportView) → p ≡ q → IsUsedIn q.flavor wanted e → IsUsedIn p.flavor wanted e
-    used_in p q e same uses = subst (λ (x : FlavorInput). IsUsedIn x.flavor wanted e) (sym same) uses
-
-    used : (i j : ℕ) (p : FlavorInput) (e : ExportView) → slice_get inputs i ≡ Some p → slice_get (exports_chosen p) j ≡ Some e → IsUsedIn p.flavor wanted e
+    pub used : (i j : ℕ) (p : FlavorInput) (e : ExportView) → slice_get (flavor_inputs arranged wanted) i ≡ Some p → slice_get (exports_chosen p) j ≡ Some e → IsUsedIn p.flavor wanted e
     used i j p e at there =
-        elim (of_each arranged wanted p (among_at p inputs i at)) [
-          | inl short ↦
-              let from = short_input_is (msvc_among arranged) wanted p short in
-              let chosen : exports_chosen p ≡ filter (is_import_wanted wanted) (exports_of from.0) = ap exports_chosen from.2 ∙ imports_are from.0 wanted in
-              let kept = passing (is_import_wanted wanted) e (exports_of from.0) (subst (Among e) chosen (among_at e (exports_chosen p) j there)) in
-              let name = wanted_name wanted (short_import_symbols e) (import_parts wanted e kept.1).0 in
-              used_in p (short_input_for from.0 wanted) e from.2 (name.0, among_contains name.0 (short_import_symbols e) name.1, among_contains name.0 wanted name.2)
-          | inr gnu ↦
-              let from = input_is (gnu_among arranged) wanted gnu.0 gnu.1 in
-              let same : p ≡ gnu_input (input_for from.0 wanted) = gnu.2 ∙ ap gnu_input from.2 in
-              let chosen : exports_chosen p ≡ filter (is_wanted wanted) (exports_of from.0) = ap exports_chosen same ∙ chosen_are from.0 wanted in
-              let kept = passing (is_wanted wanted) e (exports_of from.0) (subst (Among e) chosen (among_at e (exports_chosen p) j there)) in
-              let name = wanted_name wanted (archive_symbols e) kept.1 in
-              used_in p (gnu_input (input_for from.0 wanted)) e same (name.0, among_contains name.0 (archive_symbols e) name.1, among_contains name.0 wanted name.2)
-        ]
-
-    -- A name that is wanted and listed.
-
-    -- the first member that is listed for it is taken
-    taken_for : (name : List ℕ) (m : MemberView) → Among name wanted → first_listed (archive_of_both libraries) name ≡ Some m → Among m taken
-    taken_for name m want at =
-        reached (expanded_in machine) (archive_of_both libraries) (is_weak_in machine) taken each_first (unresolved own) takes name m at (still_named (expanded_in machine) (archive_of_both libraries) (is_weak_in machine) taken each_first (unresolved own) name want)
+        let l = input_is wanted arranged p (among_at p inputs i at) in
+        let chosen : exports_chosen p ≡ filter (is_chosen l.0.flavor wanted) (exports_of l.0.library) = ap exports_chosen l.2 ∙ chosen_are l.0.flavor wanted l.0.library in
+        let kept = passing (is_chosen l.0.flavor wanted) e (exports_of l.0.library) (subst (Among e) chosen (among_at e (exports_chosen p) j there)) in
+        let name = chosen_name l.0.flavor wanted e kept.1 in
+        subst (λ (q : FlavorInput). IsUsedIn q.flavor wanted e) (sym l.2) (name.0, among_contains name.0 (symbols_in l.0.flavor e) name.1, among_contains name.0 wanted name.2)
 
     abbrev AtEntry : ℕ → ℕ → List ℕ → Type 0
     AtEntry i j name =
         definitions_of name (placed_from bases objects)
         ≡ record { name = name; address = Some (bases.addresses + thunk_width machine * thunks_of i inputs + thunk_width machine * j) } ∷ []
 
-    defined_once : (name : List ℕ) (m : MemberView) → Among m (all_members machine inputs) → Among name m.symbols → IsDefinedOnce (placed_from bases objects) name
-    defined_once name m member listed =
-        all_among (IsDefinedOnce (placed_from bases objects)) name (symbols_listed (all_members machine inputs))
-        (among_flat (λ (y : MemberView). y.symbols) m (all_members machine inputs) name member listed) links.listed
+    -- A name that is wanted and listed.
 
-    of_short : (l : Library) (e : ExportView) (name : List ℕ) → Among l (msvc_among libraries) → Among e (exports_of l) → is_short_alias e ≡ false → Among name (short_import_symbols e) → Among name wanted →
+    of_own : (l : FlavorLibrary) (n : ℕ) (e : ExportView) (name : List ℕ) → Among l libraries → IsRole libraries l (Own n e) → Among name (symbols_in l.flavor e) → Among name wanted →
         IsImportedOfBoth machine (placed_from bases objects) bases inputs name
-    of_short l e name held there none listed want =
-        let is_want : is_import_wanted wanted e ≡ true = both_parts wanted e (wants wanted (short_import_symbols e) name listed want) none in
-        let in_order : Among l (msvc_among arranged) = msvc_moved libraries arranged l is.order held in
-        let p : FlavorInput = short_input_for l wanted in
-        let input : Among p inputs = short_joins arranged wanted p (short_input_held (msvc_among arranged) wanted l e in_order there is_want) in
-        let i = at_index p inputs input in
-        let chosen : Among e (exports_chosen p) = subst (Among e) (sym (imports_are l wanted)) (passes (is_import_wanted wanted) e (exports_of l) there is_want) in
-        let j = at_index e (exports_chosen p) chosen in
-        let member : Among (short_of machine l e) (all_members machine inputs) =
-        shorts_join machine arranged wanted (short_of machine l e)
-        (of_linked machine (msvc_among arranged) wanted (short_of machine l e) l in_order (linked_there machine l wanted (short_of machine l e) (AShort e there refl is_want))) in
+    of_own l n e name held so listed want =
+        let is_want : is_chosen l.flavor wanted e ≡ true = chosen_by l.flavor wanted e name so.1 listed want in
+        let any : AnyOf wanted l = record { number = n; export = e; is = so.0; want = is_want } in
+        let p : FlavorInput = input_in wanted l in
+        let i = at_index p inputs (input_held wanted arranged l (into l held) any) in
+        let j = at_index e (exports_chosen p) (export_chosen wanted l n e so.0 is_want) in
+        let m : MemberView = member machine l.flavor l.library (Own n e) in
+        let linked : Among m (all_members machine inputs) = linked_into machine wanted arranged m l (into l held) any (AnOwn n e so.0 refl is_want) in
         record {
           number = i.0;
           input = p;
@@ -307,89 +192,142 @@ module _ (machine : MachineType) (libraries : List FlavorLibrary) (archive : IsF
           index = j.0;
           export = e;
           export_is = j.1;
-          by = elim (by_symbol e name listed) [
-            | inl same ↦ inl (same, subst (AtEntry i.0 j.0) (sym same) (entry_of machine OfMember bases inputs objects i.0 j.0 p e links i.1 j.1))
-            | inr bare ↦ inr (bare.0, bare.1, defined_once name (short_of machine l e) member listed)
+          by = elim (of_symbol l.flavor e name listed) [
+            | inl same ↦ inl (same, subst (AtEntry i.0 j.0) (sym same) (entry_of machine ending bases inputs objects i.0 j.0 p e links i.1 j.1))
+            | inr bare ↦ inr (
+              bare.0,
+              bare.1,
+              all_among (IsDefinedOnce (placed_from bases objects)) name (symbols_listed (all_members machine inputs))
+                  (among_flat (λ (y : MemberView). y.symbols) m (all_members machine inputs) name linked (subst (Among name) (sym (listed_as machine l.flavor l.library (Own n e))) listed)) links.listed,
+            )
           ];
         }
 
-    of_gnu : (l : Library) (n : ℕ) (e : ExportView) (name : List ℕ) → Among l (gnu_among libraries) → slice_get (exports_of l) n ≡ Some e → Among name (archive_symbols e) → Among name wanted →
-        IsImportedOfBoth machine (placed_from bases objects) bases inputs name
-    of_gnu l n e name held at listed want =
-        let is_want : is_wanted wanted e ≡ true = wants wanted (archive_symbols e) name listed want in
-        let k : Among n (exports_wanted l.definition wanted) = (numbers_are_wanted (exports_of l) wanted).all n e at is_want in
-        let in_order : Among l (gnu_among arranged) = gnu_moved libraries arranged l is.order held in
-        let p : FlavorInput = gnu_input (input_for l wanted) in
-        let input : Among p inputs = gnu_joins arranged wanted (input_for l wanted) (input_held (gnu_among arranged) wanted l n in_order k) in
-        let i = at_index p inputs input in
-        let chosen : Among e (exports_chosen p) = subst (Among e) (sym (chosen_are l wanted)) (passes (is_wanted wanted) e (exports_of l) (among_at e (exports_of l) n at) is_want) in
-        let j = at_index e (exports_chosen p) chosen in
-        let member : Among (export_of machine l n e) (all_members machine inputs) =
-        exports_join machine arranged wanted (export_of machine l n e)
-        (of_data_linked machine (gnu_among arranged) wanted (export_of machine l n e) l in_order
-        (linked_if_needed l.definition machine wanted (exports_wanted l.definition wanted) (numbers_are_wanted (exports_of l) wanted) (export_of machine l n e)
-        (AnExport (record { number = n; export = e; is = at; same = refl }) is_want))) in
-        let own_listed : Among name (export_of machine l n e).symbols = subst (Among name) (sym (listed_export machine (linked_name l.definition) n e)) listed in
-        record {
-          number = i.0;
-          input = p;
-          input_is = i.1;
-          index = j.0;
-          export = e;
-          export_is = j.1;
-          by = elim (by_gnu_symbol e name listed) [
-            | inl same ↦ inl (same, subst (AtEntry i.0 j.0) (sym same) (entry_of machine OfMember bases inputs objects i.0 j.0 p e links i.1 j.1))
-            | inr bare ↦ inr (bare.0, bare.1, defined_once name (export_of machine l n e) member own_listed)
-          ];
-        }
+    abbrev pub Resolved : List ℕ → Type 0
+    Resolved name = IsImportedOfBoth machine (placed_from bases objects) bases (flavor_inputs arranged wanted) name ⊎ ((m : MemberView) × Contains (filter weak taken) m × (m.symbols ≡ name ∷ []))
 
-    abbrev Resolved : List ℕ → Type 0
-    Resolved name = IsImportedOfBoth machine (placed_from bases objects) bases inputs name ⊎ IsWeakTaken machine taken name
+    resolved_by : (l : FlavorLibrary) (r : Role) (name : List ℕ) (m : MemberView) → Among name wanted → first_listed members name ≡ Some m → Among l libraries → IsRole libraries l r →
+        m ≡ member machine l.flavor l.library r → Among name (symbols machine l.flavor l.library r) → weak m ≡ is_weak_role r → Resolved name
+    resolved_by l Top name m want at held so same listed weak_one = absurd (not_wanted machine libraries archive wanted is.names l.flavor l.library Top name held so tt listed want)
+    resolved_by l Last name m want at held so same listed weak_one = absurd (not_wanted machine libraries archive wanted is.names l.flavor l.library Last name held so tt listed want)
+    resolved_by l Null name m want at held so same listed weak_one = absurd (not_wanted machine libraries archive wanted is.names l.flavor l.library Null name held so tt listed want)
+    resolved_by l (Own n e) name m want at held so same listed weak_one = inl (of_own l n e name held so listed want)
+    resolved_by l (Weak n e b) name m want at held so same listed weak_one =
+        let there : Among m taken = reached reads members weak taken first_each (unresolved own) takes name m at (still_named reads members weak taken first_each (unresolved own) name want) in
+        inr (
+          m,
+          among_contains m (filter weak taken) (passes weak m taken there weak_one),
+          ap (λ (y : MemberView). y.symbols) same ∙ listed_as machine l.flavor l.library (Weak n e b) ∙ ap (λ x. x ∷ []) (sym (only_one name _ listed)),
+        )
 
-    -- a weak external that a wanted name finds
-    of_weak : (name weak : List ℕ) (m x : MemberView) → Among name wanted → first_listed (archive_of_both libraries) name ≡ Some m → is_weak_in machine m ≡ true → m ≡ x → x.symbols ≡ weak ∷ [] → name ≡ weak →
-        Resolved name
-    of_weak name weak m x want at is_weak_one same listed named = inr (
-      m,
-      among_contains m (weak_in machine taken) (passes (is_weak_in machine) m taken (taken_for name m want at) is_weak_one),
-      ap (λ (y : MemberView). y.symbols) same ∙ listed ∙ ap (λ n. n ∷ []) (sym named),
-    )
-
-    no_member : (name fixed : List ℕ) → Among name wanted → name ≡ fixed → list_any (bytes_eq fixed) wanted ≡ false → ⊥
-    no_member name fixed want named none = there_not fixed wanted none (subst (λ n. Among n wanted) named want)
-
-    short_header : (l : Library) → Among l (msvc_among libraries) → NamesNoHeader (linked_dll l.definition) wanted
-    short_header l there = plain_short machine libraries archive (unresolved own) taken is.names l there
-
-    gnu_header : (l : Library) → Among l (gnu_among libraries) → NamesNoHeadOrTail machine (linked_name l.definition) wanted
-    gnu_header l there = plain_gnu machine libraries archive (unresolved own) taken is.names l there
-
-    resolved_by : (name : List ℕ) (m : MemberView) → Among name wanted → first_listed (archive_of_both libraries) name ≡ Some m → FoundInBoth machine libraries archive name m → Resolved name
-    resolved_by name m want at (inl (FoundTail l there same named)) = absurd (no_member name (iname_symbol machine (linked_name l.definition)) want named (gnu_header l there).name)
-    resolved_by name m want at (inl (FoundHead l there same named)) = absurd (no_member name (head_symbol machine (linked_name l.definition)) want named (gnu_header l there).head)
-    resolved_by name m want at (inl (FoundExport l there n e among same listed)) = inl (of_gnu l n e name there among listed want)
-    resolved_by name m want at (inl (FoundDataWeak l there n e among alias is_data same named)) =
-        of_weak name e.name m (data_weak_of machine l n e) want at (data_alias_weak machine libraries archive m l there n e among alias same) same refl named
-    resolved_by name m want at (inr (FoundDescriptor l there same named)) = absurd (no_member name (descriptor_symbol (linked_dll l.definition)) want named (short_header l there).descriptor)
-    resolved_by name m want at (inr (FoundNull l rest first same named)) =
-        absurd (no_member name null_descriptor_symbol want named (short_header l (first_held machine libraries archive l rest first)).null_descriptor)
-    resolved_by name m want at (inr (FoundThunk l there same named)) = absurd (no_member name (null_thunk_symbol (linked_dll l.definition)) want named (short_header l there).null_thunk)
-    resolved_by name m want at (inr (FoundShort l there e among none same listed)) = inl (of_short l e name there among none listed want)
-    resolved_by name m want at (inr (FoundShortWeak l there e among alias weak target pair same named)) =
-        of_weak name weak m (short_weak_of machine l weak target) want at (short_alias_weak machine libraries archive m l there e among alias weak target pair same) same refl named
-
-    resolved : (name : List ℕ) → Contains wanted name → Contains (listed_in (archive_of_both libraries)) name → Resolved name
+    pub resolved : (name : List ℕ) → Contains wanted name → Contains (listed_in (archive_of_both libraries)) name → Resolved name
     resolved name want listed =
-        let at = first_of name (archive_of_both libraries) (contains_among name (listed_in (archive_of_both libraries)) listed) in
-        resolved_by name at.0 (contains_among name wanted want) at.1 (found_in_both machine libraries archive name at.0 at.1)
+        let at = first_of name members (contains_among name (listed_in members) listed) in
+        let x = found machine libraries archive name at.0 at.1 in
+        resolved_by x.has.library x.has.role name at.0 (contains_among name wanted want) at.1 x.has.held x.has.is x.has.same x.listed (weak_by_role machine libraries archive reads weak reader at.0 x.has)
 
-    closed : (name : List ℕ) → Contains (unresolved objects) name → Contains (listed_in (archive_of_both libraries)) name → ⊥
-    closed =
-        none_left (expanded_in machine) (archive_of_both libraries) (is_weak_in machine) taken each_first own objects linked is.others (λ o held. inl (subst (Among o) is.tables held)) (λ o held. subst (Among o) (sym is.tables) held)
-        linked_other other_linked is.takes
+-- Closed by a null descriptor of a library.
 
-    pub both_links : LinksClosedForBoth machine libraries own taken arranged bases objects
-    both_links = record { taken_is = taken_is; program = program; links = links; used = used; resolved = resolved; closed = closed }
+module _ (machine : MachineType) (libraries : List FlavorLibrary) (archive : IsFlavorArchive machine libraries) (own : List Object) (taken : List MemberView) (arranged : List FlavorLibrary)
+    (objects : List Object) (is : AreClosedForBoth machine libraries own taken arranged objects) where
+  abbrev reads : List ℕ → Option Object
+  reads = expanded_in machine
+
+  abbrev weak : MemberView → Bool
+  weak = is_weak_in machine
+
+  closed_as : AreClosedAs machine (expanded_in machine) (is_weak_in machine) libraries own taken arranged objects
+  closed_as = record { takes = is.takes; order = is.order; others = is.others; claims = is.claims; names = is.names }
+
+  -- a library that an import is wanted of
+  abbrev one_library : (x : Library) × Among x (msvc_among libraries) × AnyOf (wanted_for machine own taken) (in_flavor Msvc x)
+  one_library = some_short (msvc_among libraries) (wanted_for machine own taken) is.some
+
+  abbrev null : List MemberView
+  null = first_null machine (msvc_among libraries)
+
+  abbrev linked : List MemberView
+  linked = is.before ++ (null ++ is.behind)
+
+  null_there : (m : MemberView) → Among m null → Among m (filter (λ y. not (weak y)) taken)
+  null_there = null_other machine libraries archive reads weak (expands machine libraries archive) own taken arranged objects closed_as one_library.0 (there_msvc libraries one_library.0 one_library.1) one_library.2
+
+  member_there : (m : MemberView) → Among m (is.before ++ is.behind) → Among m (filter (λ y. not (weak y)) taken)
+  member_there m held = member_other machine libraries archive reads weak (expands machine libraries archive) own taken arranged objects closed_as m (subst (Among m) is.members held)
+
+  linked_taken : (m : MemberView) → Among m linked → Among m (filter (λ y. not (weak y)) taken)
+  linked_taken m held =
+      elim (among_either m is.before (null ++ is.behind) held) [
+        | inl front ↦ member_there m (among_front m is.before is.behind front)
+        | inr rest ↦ elim (among_either m null is.behind rest) [
+          | inl own_null ↦ null_there m own_null
+          | inr last ↦ member_there m (among_back m is.before is.behind last)
+        ]
+      ]
+
+  taken_linked : (m : MemberView) → Among m (filter (λ y. not (weak y)) taken) → Among m linked
+  taken_linked m held =
+      elim (other_from machine libraries archive reads weak (expands machine libraries archive) own taken arranged objects closed_as m held) [
+        | inl own_null ↦ among_back m is.before (null ++ is.behind) (among_front m null is.behind own_null.1)
+        | inr all ↦ elim (among_either m is.before is.behind (subst (Among m) (sym is.members) all)) [
+          | inl front ↦ among_front m is.before (null ++ is.behind) front
+          | inr last ↦ among_back m is.before (null ++ is.behind) (among_back m null is.behind last)
+        ]
+      ]
+
+  abbrev IsListedHere : List ℕ → Type 0
+  IsListedHere = Listed machine libraries archive reads weak (expands machine libraries archive) own taken arranged objects closed_as
+
+  null_among : (name : List ℕ) → name ≡ null_descriptor_symbol → IsListedHere name
+  unfolding Among
+  null_among name named = by (msvc_among libraries) refl one_library.1
+    where
+      by : (ls : List Library) → msvc_among libraries ≡ ls → Among one_library.0 ls → IsListedHere name
+      by [] same there = absurd there
+      by (x ∷ rest) same there =
+          of_other machine libraries archive reads weak (expands machine libraries archive) own taken arranged objects closed_as name (null_of machine x)
+          (null_there (null_of machine x) (subst (λ (ls : List Library). Among (null_of machine x) (first_null machine ls)) (sym same) (inl refl)))
+          (subst (Among name) (sym (listed_as machine Msvc x Null)) (inl named))
+
+  listed_name : (name : List ℕ) → Among name (null_descriptor_symbol ∷ symbols_listed (all_members machine (inputs_of_both machine arranged own taken))) → IsListedHere name
+  unfolding Among
+  listed_name name (inl one) = null_among name one
+  listed_name name (inr held) = listed_linked machine libraries archive reads weak (expands machine libraries archive) own taken arranged objects closed_as name held
+
+  pub both_held : AreProgramObjects machine OfMember (inputs_of_both machine arranged own taken) objects
+  both_held =
+      let x : Library = one_library.0 in
+      let there : Among (in_flavor Msvc x) libraries = there_msvc libraries x one_library.1 in
+      let wanted : List (List ℕ) = wanted_for machine own taken in
+      record {
+        distinct = both_distinct machine libraries archive arranged is.order wanted x one_library.1;
+        ended = record {
+          null_from = input_in wanted (in_flavor Msvc x);
+          null_held = among_contains (input_in wanted (in_flavor Msvc x)) (inputs_of_both machine arranged own taken)
+              (input_held wanted arranged (in_flavor Msvc x) (among_moved (in_flavor Msvc x) libraries arranged is.order there) one_library.2);
+          null_flavor = refl;
+          before = is.before;
+          behind = is.behind;
+          members = is.members;
+          tables = is.tables ∙ null_tables machine (msvc_among libraries) archive.msvc is.before is.behind (names_for Msvc x.definition) x one_library.1 (null_is machine x (made_of machine libraries archive Msvc x there));
+        };
+        others = others_claim machine libraries archive reads weak (expands machine libraries archive) own taken arranged objects closed_as
+            (null_descriptor_symbol ∷ symbols_listed (all_members machine (inputs_of_both machine arranged own taken))) listed_name;
+        found = both_found machine libraries archive arranged is.order wanted;
+      }
+
+  pub both_links : (bases : Bases) → IsProgramOf machine OfMember bases (inputs_of_both machine arranged own taken) objects → LinksClosedForBoth machine libraries own taken arranged bases objects
+  both_links bases program =
+      let reader : IsReader machine libraries archive reads weak = expands machine libraries archive in
+      record {
+        taken_is = both_taken machine libraries archive (unresolved own) taken is.names (takes machine libraries archive reads weak reader own taken arranged objects closed_as);
+        program = program;
+        links = links machine libraries archive reads weak reader own taken arranged objects closed_as OfMember bases program;
+        used = used machine libraries archive reads weak reader own taken arranged objects closed_as OfMember bases program;
+        resolved = resolved machine libraries archive reads weak reader own taken arranged objects closed_as OfMember bases program;
+        closed = none_left reads (archive_of_both libraries) weak taken (first_each machine libraries archive reads weak reader own taken arranged objects closed_as) own objects linked is.others
+            (λ o held. inl (subst (Among o) is.tables held)) (λ o held. subst (Among o) (sym is.tables) held) linked_taken taken_linked is.takes;
+      }
 
 pub closed_links_of_both : (machine : MachineType) (libraries : List FlavorLibrary) (own : List Object) (taken : List MemberView) (arranged : List FlavorLibrary) (bases : Bases) (objects : List Object) →
     IsFlavorArchive machine libraries → IsClosedForBoth machine libraries own taken arranged bases objects → LinksClosedForBoth machine libraries own taken arranged bases objects
@@ -408,7 +346,7 @@ pub packed_both : (machine : MachineType) (libraries : List FlavorLibrary) (own 
     IsClosedForBoth machine libraries own taken arranged (packed first objects) objects
 packed_both machine libraries own taken arranged first objects archive closed above below =
     let inputs : List FlavorInput = inputs_of_both machine arranged own taken in
-    let made : AllByRecursion (IsMadeFor machine) inputs = both_made machine libraries arranged closed.order archive (wanted_for machine own taken) in
+    let made : AllByRecursion (IsMadeFor machine) inputs = both_made machine libraries archive arranged closed.order (wanted_for machine own taken) in
     let program : IsProgramOf machine OfMember (packed first objects) inputs objects =
     packed_objects machine OfMember first inputs objects made (both_held machine libraries archive own taken arranged objects closed) above below in
     record { closed = closed; admissible = program.admissible; lookups = program.lookups; addresses = program.addresses; follows = program.follows }

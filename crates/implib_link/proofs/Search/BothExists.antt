@@ -1,104 +1,154 @@
--- There is a closed program of an archive of both flavours: packed placement of what a linker takes for given objects.
-use Rattle.std.proofs.Common.{◌≡◌, ℕ, ◌^◌, ◌<◌, ◌≤◌, true, false, List, [], ◌++◌, length, Some, refl, sym, ◌∙◌, inl, inr, arith}
-use Rattle.std.specs.List.{AllByRecursion}
-use Rattle.std.proofs.lemmas.Bool.{true≢false}
+-- There is a closed program of an archive of both flavours: packed placement of what a linker takes for given objects, however it
+-- reads members.
+use Rattle.std.proofs.Common.{◌≡◌, ℕ, ◌^◌, ◌<◌, ◌≤◌, Bool, true, false, List, [], ◌∷◌, ◌++◌, length, Option, Some, refl, ap, sym, ◌∙◌, subst, inl, inr, arith}
+use Rattle.std.specs.Prelude.{IsPermutation, not}
+use Rattle.std.specs.List.{AllByRecursion, Contains, filter}
+use Rattle.std.proofs.lemmas.List.{append-nil, append_assoc}
+use Rattle.std.proofs.lemmas.List.Elements.{filter-append}
 use Rattle.std.proofs.lemmas.List.Sorted.{IsPermutation-refl}
-use Rattle.implib.specs.declared.flavor.Flavor.TheVariants.{Gnu}
+use Rattle.implib.specs.declared.flavor.Flavor.TheVariants.{Msvc}
 use Rattle.implib.specs.declared.machine.MachineType.{MachineType}
 use Rattle.implib.specs.Formats.Object.{Object}
-use Rattle.implib.specs.LibraryName.{names_for}
-use Rattle.implib.specs.Link.Image.{image_of}
+use Rattle.implib.specs.Link.Image.{Range, image_of, range_end}
 use Rattle.implib.specs.Link.Placement.{placed_from}
 use Rattle.implib.specs.Members.MemberSpec.{MemberView}
-use Rattle.implib.proofs.Link.Placement.{at_least, export, head, tail}
+use Rattle.implib.proofs.Link.Placement.{at_least}
 use Rattle.implib.proofs.Link.Ranges.{Among}
 use Rattle.implib_link.specs.Flavors.Expansion.{expanded_in}
-use Rattle.implib_link.specs.Flavors.Program.{OfMember, FlavorInput, IsMadeFor, all_members, objects_taken, AreProgramObjects}
+use Rattle.implib_link.specs.Flavors.Program.{AreEnded, Ending, IsMadeFor, OfMember, all_members, objects_taken}
 use Rattle.implib_link.specs.Gnu.Packed.{packed, packed_descriptors, packed_end}
-use Rattle.implib_link.specs.Gnu.Program.{has_tables}
-use Rattle.implib_link.specs.Search.Archives.{Library, exports_of}
+use Rattle.implib_link.specs.Gnu.Program.{HaveSame, has_tables}
+use Rattle.implib_link.specs.Search.Archives.{Library}
 use Rattle.implib_link.specs.Search.BothExists.{HasClosedForBoth, objects_closed_of_both, tables_end_of_both}
-use Rattle.implib_link.specs.Search.BothFlavors.{AreClosedForBoth, AreGivenForBoth, FlavorLibrary, IsClosedForBoth, IsFlavorArchive, archive_of_both, gnu_among, inputs_of_both, msvc_among}
-use Rattle.implib_link.specs.Search.Closed.{unresolved}
+use Rattle.implib_link.specs.Search.BothFlavors.{AreClosedForBoth, AreGivenForBoth, FlavorLibrary, IsClosedForBoth, IsFlavorArchive, archive_of_both, flavor_inputs, inputs_of_both, msvc_among}
+use Rattle.implib_link.specs.Search.Closed.{TakesIntoAs, unresolved}
 use Rattle.implib_link.specs.Search.Exists.{LieWithin}
-use Rattle.implib_link.specs.Search.Msvc.{AreTakenInTurn}
 use Rattle.implib_link.specs.Search.MsvcArchives.{first_null, is_weak_in, short_inputs, weak_in}
 use Rattle.implib_link.specs.Search.MsvcClosed.{TakesIntoFor, wanted_for}
+use Rattle.implib_link.specs.Search.Search.{objects_as}
 use Rattle.implib_link.proofs.Flavors.Packed.{kept_sized}
-use Rattle.implib_link.proofs.Gnu.Alone.{export_has, head_has, tail_has}
+use Rattle.implib_link.proofs.Gnu.Alone.{all_kept, none_left}
 use Rattle.implib_link.proofs.Gnu.Packed.{lies_within}
-use Rattle.implib_link.proofs.Search.ArchiveGroups.{export_of, head_of, tail_of, weak_of as data_weak_of}
-use Rattle.implib_link.proofs.Search.ArchiveMembers.{FoundExport, FoundHead, FoundTail, FoundWeak as FoundDataWeak, export_entries}
-use Rattle.implib_link.proofs.Search.Archives.{linked_of as data_linked_of}
-use Rattle.implib_link.proofs.Search.BothArchives.{head_has_none, tail_has_none}
-use Rattle.implib_link.proofs.Search.BothArranged.{both_made, members_of_each}
+use Rattle.implib_link.proofs.Search.BothArranged.{both_made}
 use Rattle.implib_link.proofs.Search.BothClosed.{both_held, closed_links_of_both, packed_both}
 use Rattle.implib_link.proofs.Search.BothGiven.{both_given_closes, both_given_ends}
-use Rattle.implib_link.proofs.Search.BothMembers.{FoundInBoth, found_in_both, gnu_export_is, gnu_head_is, gnu_made, gnu_tail_is, gnu_weak_is}
-use Rattle.implib_link.proofs.Search.BothRooms.{both_tables_near}
-use Rattle.implib_link.proofs.Search.Closing.{each_read, tables_read, pulled, in_turn_for}
-use Rattle.implib_link.proofs.Search.Lists.{passing, among_either}
-use Rattle.implib_link.proofs.Search.Exists.{NoneHave, others_first, tables_last, within_by}
-use Rattle.implib_link.proofs.Search.MsvcArchives.{linked_of, there_linked, weak_by}
-use Rattle.implib_link.proofs.Search.MsvcExists.{first_has, linked_has, none_of, weak_has_none}
-use Rattle.implib_link.proofs.Search.MsvcMembers.{taken_weak}
-use Rattle.implib_link.proofs.Search.Search.{AnExport, Needed, TheHead, TheTail, needed_if_linked, numbers_are_wanted}
+use Rattle.implib_link.proofs.Search.BothRooms.{tables_near}
+use Rattle.implib_link.proofs.Search.Chosen.{AnOwn, IsLinked, TheLast, TheTop, linked_from, own_chosen}
+use Rattle.implib_link.proofs.Search.Closing.{each_read, in_turn_for, pulled}
+use Rattle.implib_link.proofs.Search.FlavorGroups.{first_held, there_msvc}
+use Rattle.implib_link.proofs.Search.Found.{HasRole, IsReader, expands, found, tables_by_role, weak_by_role}
+use Rattle.implib_link.proofs.Search.Lists.{among_either, passing}
+use Rattle.implib_link.proofs.Search.MsvcMembers.{null_of}
+use Rattle.implib_link.proofs.Search.Roles.{Last, Null, Own, Top, in_flavor, is_weak_role}
+use Rattle.implib_link.proofs.Search.Search.{only_one}
+use Rattle.implib.proofs.Link.Linked.{all_append}
 
--- Objects that close a program, packed.
-module _ (machine : MachineType) (libraries : List FlavorLibrary) (own : List Object) (taken : List MemberView) (arranged : List FlavorLibrary) (first : ℕ) (objects : List Object)
-    (archive : IsFlavorArchive machine libraries) (closed : AreClosedForBoth machine libraries own taken arranged objects) (above : 0 < first) where
-  abbrev inputs : List FlavorInput
-  inputs = inputs_of_both machine arranged own taken
+-- Packed tables lie within the room of the libraries.
 
-  made : AllByRecursion (IsMadeFor machine) inputs
-  made = both_made machine libraries arranged closed.order archive (wanted_for machine own taken)
+pub within_by : (first low high end : ℕ) (rs : List Range) → first ≤ low → high ≤ end → AllByRecursion (λ r. (low ≤ r.start) × (range_end r ≤ high)) rs → LieWithin first end rs
+within_by first low high end [] above below all = tt
+within_by first low high end (r ∷ rs) above below all =
+    let starts : low ≤ r.start = all.0.0 in
+    let ends : range_end r ≤ high = all.0.1 in
+    ((omega arith, omega arith), within_by first low high end rs above below all.1)
 
-  are : AreProgramObjects machine OfMember (inputs_of_both machine arranged own taken) objects
-  are = both_held machine libraries archive own taken arranged objects closed
+-- What is given and what is taken, in one order.
 
+abbrev pub NoneHave : List Object → Type 0
+NoneHave objects = AllByRecursion (λ o. has_tables o ≡ false) objects
+
+pub plain_left : (objects : List Object) → NoneHave objects → filter (λ o. not (has_tables o)) objects ≡ objects
+plain_left [] none = refl
+plain_left (o ∷ objects) none = rw none.0 (ap (λ others. o ∷ others) (plain_left objects none.1))
+
+pub none_kept : (objects : List Object) → NoneHave objects → filter has_tables objects ≡ []
+none_kept [] none = refl
+none_kept (o ∷ objects) none = rw none.0 (none_kept objects none.1)
+
+-- Objects without tables, and behind them those with tables.
+
+pub tables_last : (own weak tables : List Object) → NoneHave own → NoneHave weak → AllByRecursion (λ o. has_tables o ≡ true) tables → filter has_tables (own ++ (weak ++ tables)) ≡ tables
+tables_last own weak tables plain none all =
+    ap (filter has_tables) (sym (append_assoc own weak tables))
+    ∙ filter-append has_tables (own ++ weak) tables
+    ∙ ap (λ front. front ++ filter has_tables tables) (none_kept (own ++ weak) (all_append (λ o. has_tables o ≡ false) own weak plain none))
+    ∙ all_kept tables all
+
+pub others_first : (own weak tables : List Object) → NoneHave own → NoneHave weak → AllByRecursion (λ o. has_tables o ≡ true) tables →
+    HaveSame (filter (λ o. not (has_tables o)) (own ++ (weak ++ tables))) (own ++ weak)
+others_first own weak tables plain none all =
+    let are : filter (λ o. not (has_tables o)) (own ++ (weak ++ tables)) ≡ own ++ weak =
+    ap (filter (λ o. not (has_tables o))) (sym (append_assoc own weak tables))
+    ∙ filter-append (λ o. not (has_tables o)) (own ++ weak) tables
+    ∙ ap (λ behind. filter (λ o. not (has_tables o)) (own ++ weak) ++ behind) (none_left tables all)
+    ∙ append-nil (filter (λ o. not (has_tables o)) (own ++ weak))
+    ∙ plain_left (own ++ weak) (all_append (λ o. has_tables o ≡ false) own weak plain none) in
+    λ o. (λ held. subst (λ zs. Contains zs o) are held, λ held. subst (λ zs. Contains zs o) (sym are) held)
+
+-- The objects of a program, packed where there is room for the libraries' tables.
+module _ (machine : MachineType) (ending : Ending) (libraries arranged : List FlavorLibrary) (names : List (List ℕ)) (first : ℕ) (objects : List Object) (made : AllByRecursion (IsMadeFor machine) (flavor_inputs arranged names))
+    (ended : AreEnded ending machine (flavor_inputs arranged names) objects) (order : IsPermutation libraries arranged) (above : 0 < first) (room : tables_end_of_both first libraries < 2 ^ 31) where
   near : packed_end first objects ≤ tables_end_of_both first libraries
-  near = both_tables_near machine first libraries arranged (wanted_for machine own taken) objects made are closed.order
+  near = tables_near machine ending first libraries arranged names objects made ended order
 
-  -- where there is room for the libraries' tables
-  pub placed_closed : tables_end_of_both first libraries < 2 ^ 31 → IsClosedForBoth machine libraries own taken arranged (packed first objects) objects
-  placed_closed room = packed_both machine libraries own taken arranged first objects archive closed above (let end = near in omega arith)
+  pub tables_below : packed_end first objects < 2 ^ 31
+  tables_below = (let end = near in omega arith)
 
-  pub placed_within : tables_end_of_both first libraries < 2 ^ 31 →
-      LieWithin first (tables_end_of_both first libraries) (image_of machine (packed first objects) (placed_from (packed first objects) objects))
-  placed_within room =
+  pub tables_within : LieWithin first (tables_end_of_both first libraries) (image_of machine (packed first objects) (placed_from (packed first objects) objects))
+  tables_within =
       within_by first (packed_descriptors first) (packed_end first objects) (tables_end_of_both first libraries) (image_of machine (packed first objects) (placed_from (packed first objects) objects))
-      (at_least 8 first) near
-      (lies_within machine first objects (kept_sized machine OfMember inputs objects made are.ended) above (let end = near in omega arith))
+      (at_least 8 first) near (lies_within machine first objects (kept_sized machine ending (flavor_inputs arranged names) objects made ended) above tables_below)
+
+module _ (machine : MachineType) (libraries : List FlavorLibrary) (own : List Object) (taken : List MemberView) (arranged : List FlavorLibrary) (first : ℕ) (objects : List Object)
+    (archive : IsFlavorArchive machine libraries) (closed : AreClosedForBoth machine libraries own taken arranged objects) (above : 0 < first) (room : tables_end_of_both first libraries < 2 ^ 31) where
+  made : AllByRecursion (IsMadeFor machine) (inputs_of_both machine arranged own taken)
+  made = both_made machine libraries archive arranged closed.order (wanted_for machine own taken)
+
+  ended : AreEnded OfMember machine (inputs_of_both machine arranged own taken) objects
+  ended = (both_held machine libraries archive own taken arranged objects closed).ended
+
+  pub placed_closed : IsClosedForBoth machine libraries own taken arranged (packed first objects) objects
+  placed_closed =
+      packed_both machine libraries own taken arranged first objects archive closed above
+      (tables_below machine OfMember libraries arranged (wanted_for machine own taken) first objects made ended closed.order above room)
+
+  pub placed_within : LieWithin first (tables_end_of_both first libraries) (image_of machine (packed first objects) (placed_from (packed first objects) objects))
+  placed_within = tables_within machine OfMember libraries arranged (wanted_for machine own taken) first objects made ended closed.order above room
 
 -- What members are taken for holds import tables, but for weak externals.
 module _ (machine : MachineType) (libraries : List FlavorLibrary) (archive : IsFlavorArchive machine libraries) where
-  none_of_both : (by : List ℕ) (m : MemberView) (o : Object) → is_weak_in machine m ≡ true → FoundInBoth machine libraries archive by m → expanded_in machine m.bytes ≡ Some o → has_tables o ≡ false
-  none_of_both by m o weak (inr short) read = none_of machine (msvc_among libraries) archive.msvc by m o weak short read
-  none_of_both by m o weak (inl (FoundTail l held same is)) read =
-      absurd (true≢false (sym weak ∙ weak_by machine m (tail_of machine l) (tail machine (names_for Gnu l.definition)) false same (gnu_tail_is machine l (gnu_made machine libraries archive l held)) (tail_has_none machine (names_for Gnu l.definition))))
-  none_of_both by m o weak (inl (FoundHead l held same is)) read =
-      absurd (true≢false (sym weak ∙ weak_by machine m (head_of machine l) (head machine (names_for Gnu l.definition)) false same (gnu_head_is machine l (gnu_made machine libraries archive l held)) (head_has_none machine (names_for Gnu l.definition))))
-  none_of_both by m o weak (inl (FoundExport l held n e is same listed)) read =
-      absurd (true≢false (sym weak ∙ weak_by machine m (export_of machine l n e) (export machine (names_for Gnu l.definition) e) false same (gnu_export_is machine l (gnu_made machine libraries archive l held) n e is)
-      (export_entries machine (names_for Gnu l.definition) e)))
-  none_of_both by m o weak (inl (FoundDataWeak l held n e is alias is_data same named)) read =
-      tables_read (expanded_in machine) false m (data_weak_of machine l n e) o (taken_weak machine e.name e.alias_target) same (gnu_weak_is machine l (gnu_made machine libraries archive l held) n e is alias) read
-      (weak_has_none machine e.name e.alias_target)
+  pub weak_have_none : (reads : List ℕ → Option Object) (weak : MemberView → Bool) → IsReader machine libraries archive reads weak → (own : List Object) (taken : List MemberView) →
+      TakesIntoAs reads (archive_of_both libraries) own taken → NoneHave (objects_as reads (filter weak taken))
+  weak_have_none reads weak reader own taken takes = each_read reads (λ o. has_tables o ≡ false) (filter weak taken) (λ m o there read.
+      let kept = passing weak m taken there in
+      let by = pulled reads (archive_of_both libraries) (unresolved own) taken (in_turn_for reads (archive_of_both libraries) own taken takes.in_turn) m kept.0 in
+      let x = (found machine libraries archive by.0 m by.1).has in
+      tables_by_role machine libraries archive reads weak reader m x o read ∙ ap not (sym (weak_by_role machine libraries archive reads weak reader m x) ∙ kept.1))
 
-  gnu_has : (l : Library) → Among l (gnu_among libraries) → (names : List (List ℕ)) (m : MemberView) (o : Object) → Needed machine (names_for Gnu l.definition) (exports_of l) names m →
-      expanded_in machine m.bytes ≡ Some o → has_tables o ≡ true
-  gnu_has l held names m o (TheTail same any) read =
-      tables_read (expanded_in machine) true m (tail_of machine l) o (tail machine (names_for Gnu l.definition)) same (gnu_tail_is machine l (gnu_made machine libraries archive l held)) read (tail_has machine (names_for Gnu l.definition))
-  gnu_has l held names m o (TheHead same any) read =
-      tables_read (expanded_in machine) true m (head_of machine l) o (head machine (names_for Gnu l.definition)) same (gnu_head_is machine l (gnu_made machine libraries archive l held)) read (head_has machine (names_for Gnu l.definition))
-  gnu_has l held names m o (AnExport x want) read =
-      tables_read (expanded_in machine) true m (export_of machine l x.number x.export) o (export machine (names_for Gnu l.definition) x.export) x.same
-      (gnu_export_is machine l (gnu_made machine libraries archive l held) x.number x.export x.is) read (export_has machine (names_for Gnu l.definition) x.export)
+  has : (m : MemberView) (o : Object) (x : HasRole machine libraries archive m) → expanded_in machine m.bytes ≡ Some o → has_tables o ≡ not (is_weak_role x.role)
+  has m o x read = tables_by_role machine libraries archive (expanded_in machine) (is_weak_in machine) (expands machine libraries archive) m x o read
+
+  linked_has : (names : List (List ℕ)) (l : FlavorLibrary) (m : MemberView) (o : Object) → Among l libraries → IsLinked machine names l m → expanded_in machine m.bytes ≡ Some o → has_tables o ≡ true
+  linked_has names l m o held (TheTop same) read = has m o (record { library = l; held = held; role = Top; is = tt; same = same }) read
+  linked_has names l m o held (TheLast same) read = has m o (record { library = l; held = held; role = Last; is = tt; same = same }) read
+  linked_has names l m o held (AnOwn n e is same want) read = has m o (record { library = l; held = held; role = Own n e; is = (is, own_chosen l.flavor names e want); same = same }) read
+
+  null_has : (m : MemberView) (o : Object) → Among m (first_null machine (msvc_among libraries)) → expanded_in machine m.bytes ≡ Some o → has_tables o ≡ true
+  unfolding Among
+  null_has m o there read = by (msvc_among libraries) refl there
+    where
+      by : (ls : List Library) → msvc_among libraries ≡ ls → Among m (first_null machine ls) → has_tables o ≡ true
+      by [] first none = absurd none
+      by (l ∷ rest) first some =
+          has m o (record {
+            library = in_flavor Msvc l;
+            held = there_msvc libraries l (first_held libraries l rest first);
+            role = Null;
+            is = (rest, first);
+            same = only_one m (null_of machine l) some;
+          }) read
 
   module _ (own : List Object) (plain : NoneHave own) (taken : List MemberView) (takes : TakesIntoFor machine (archive_of_both libraries) own taken) where
-    turn : AreTakenInTurn machine (archive_of_both libraries) (unresolved own) taken
-    turn = in_turn_for (expanded_in machine) (archive_of_both libraries) own taken takes.in_turn
-
     abbrev members : List MemberView
     members = all_members machine (inputs_of_both machine libraries own taken)
 
@@ -109,24 +159,13 @@ module _ (machine : MachineType) (libraries : List FlavorLibrary) (archive : IsF
     tables = objects_taken machine (first_null machine (msvc_among libraries) ++ members)
 
     weak_none : NoneHave weak
-    weak_none = each_read (expanded_in machine) (λ o. has_tables o ≡ false) (weak_in machine taken) (λ m o there read.
-        let kept = passing (is_weak_in machine) m taken there in
-        let by = pulled (expanded_in machine) (archive_of_both libraries) (unresolved own) taken turn m kept.0 in
-        none_of_both by.0 m o kept.1 (found_in_both machine libraries archive by.0 m by.1) read)
+    weak_none = weak_have_none (expanded_in machine) (is_weak_in machine) (expands machine libraries archive) own taken takes
 
     all_have : AllByRecursion (λ o. has_tables o ≡ true) tables
     all_have = each_read (expanded_in machine) (λ o. has_tables o ≡ true) (first_null machine (msvc_among libraries) ++ members) (λ m o there read.
         elim (among_either m (first_null machine (msvc_among libraries)) members there) [
-          | inl null ↦ first_has machine (msvc_among libraries) archive.msvc (msvc_among libraries) refl m o null read
-          | inr member ↦ elim (members_of_each machine libraries (wanted_for machine own taken) m member) [
-            | inl short ↦
-                let from = linked_of machine (msvc_among libraries) (wanted_for machine own taken) m short in
-                linked_has machine (msvc_among libraries) archive.msvc from.0 from.1 (wanted_for machine own taken) m o (there_linked machine from.0 (wanted_for machine own taken) m from.2) read
-            | inr gnu ↦
-                let from = data_linked_of machine (gnu_among libraries) (wanted_for machine own taken) m gnu in
-                gnu_has from.0 from.1 (wanted_for machine own taken) m o
-                (needed_if_linked from.0.definition machine (wanted_for machine own taken) _ (numbers_are_wanted (exports_of from.0) (wanted_for machine own taken)) m from.2) read
-          ]
+          | inl null ↦ null_has m o null read
+          | inr member ↦ let from = linked_from machine (wanted_for machine own taken) libraries m member in linked_has (wanted_for machine own taken) from.0 m o from.1 from.3 read
         ])
 
     pub closed_of_both : AreGivenForBoth machine libraries own → 0 < length (short_inputs (msvc_among libraries) (unresolved own)) →

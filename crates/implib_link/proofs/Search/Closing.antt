@@ -1,8 +1,8 @@
 -- What a linker takes for given objects, and a program of both: for any way to read members.
-use Rattle.std.proofs.Common.{◌≡◌, ℕ, suc, ◌⊎◌, Bool, false, List, [], ◌∷◌, ◌++◌, Option, Some, None, refl, ap, sym, ◌∙◌, subst, inl, inr}
-use Rattle.std.specs.Prelude.{bytes_eq, not, slice_get}
+use Rattle.std.proofs.Common.{◌≡◌, ℕ, ◌⊎◌, Bool, false, List, [], ◌∷◌, ◌++◌, Option, Some, None, refl, ap, sym, ◌∙◌, subst, inl, inr}
+use Rattle.std.specs.Prelude.{bytes_eq, not}
 use Rattle.std.specs.List.{AllByRecursion, Contains, cons_option, filter, flat_map, list_any}
-use Rattle.std.proofs.lemmas.Bool.{cases_Bool, false_from_ne_true, true≢false}
+use Rattle.std.proofs.lemmas.Bool.{cases_Bool, false_from_ne_true, true≢false, not_from_false}
 use Rattle.std.proofs.lemmas.Grind.{flat_map-append}
 use Rattle.implib.specs.Formats.Object.{Object}
 use Rattle.implib.specs.Members.MemberSpec.{MemberView}
@@ -11,16 +11,11 @@ use Rattle.implib.proofs.Link.Ranges.{Among, all_among, among_back, among_first,
 use Rattle.implib_link.specs.Gnu.Program.{ClaimsNone, HaveSame, claimed_names, has_tables, null_descriptor}
 use Rattle.implib_link.specs.Search.Closed.{claims_of, listed_in, references_of, unresolved, AreTakenIntoAs, PullsIntoAs, TakesIntoAs}
 use Rattle.implib_link.specs.Search.Search.{first_listed, is_listed_for, undefined_in, left_as, claimed_as, AreTakenInTurnAs, objects_as, PullsInAs, TakesAs}
-use Rattle.implib_link.proofs.Search.Lists.{all_from as all_each, among_any, among_either, among_flat_map, any_among, any_member, contains_among, listed_is, none_listed, name_as, as_name, NameAs, passing, passes, from_not, to_not}
+use Rattle.implib_link.proofs.Search.Lists.{all_from as all_each, among_any, among_either, among_flat_map, any_among, any_member, contains_among, listed_is, none_listed, name_as, as_name, NameAs, passing, passes, from_not}
 use Rattle.implib_link.proofs.Search.Search.{in_nothing}
+use Rattle.std.proofs.lemmas.Option.{same_Some}
 
 -- Lists.
-
-pub at_index : {X : Type 0} (x : X) (xs : List X) → Among x xs → (n : ℕ) × (slice_get xs n ≡ Some x)
-unfolding Among
-at_index x [] held = absurd held
-at_index x (y ∷ xs) (inl e) = (0, ap Some (sym e))
-at_index x (y ∷ xs) (inr held) = let later = at_index x xs held in (suc later.0, later.1)
 
 -- a name is not among these
 pub not_there : (name : List ℕ) (names : List (List ℕ)) → (Among name names → ⊥) → list_any (bytes_eq name) names ≡ false
@@ -54,7 +49,7 @@ pub unresolved_from : (objects : List Object) (name : List ℕ) → Among name (
 unfolding references_of claims_of
 unresolved_from objects name left none =
     passes (λ n. not (list_any (bytes_eq n) (claims_of objects))) name (references_of objects) left
-    (to_not (list_any (bytes_eq name) (claims_of objects)) (not_there name (flat_map claimed_names objects) none))
+    (not_from_false (list_any (bytes_eq name) (claims_of objects)) (not_there name (flat_map claimed_names objects) none))
 
 -- The search for given objects is one for what they leave unresolved.
 
@@ -175,9 +170,6 @@ first_of name (m ∷ members) held =
       ]
     ]
 
-same_first : (m x : MemberView) (found : Option MemberView) → found ≡ Some m → found ≡ Some x → m ≡ x
-same_first m x found one other = (let e : Some m ≡ Some x = sym one ∙ other in cc)
-
 -- What is so of the object that a member is read as, where the member is another.
 module _ (reads : List ℕ → Option Object) where
   read_as : (m x : MemberView) (o one : Object) → m ≡ x → reads x.bytes ≡ Some one → reads m.bytes ≡ Some o → o ≡ one
@@ -248,7 +240,7 @@ module _ (reads : List ℕ → Option Object) (archive : List MemberView) where
     weak_apart name m claimed =
         let x = claimed_listed name (filter weak taken) (λ y held. (passing weak y taken held).0) claimed in
         let is_weak_one = passing weak x.0 taken x.1 in
-        let same : m.0 ≡ x.0 = same_first m.0 x.0 (first_listed archive name) ((each_first m.0 m.1).first name m.3) ((each_first x.0 is_weak_one.0).first name x.2) in
+        let same : m.0 ≡ x.0 = same_Some m.0 x.0 (sym ((each_first m.0 m.1).first name m.3) ∙ (each_first x.0 is_weak_one.0).first name x.2) in
         true≢false (sym is_weak_one.1 ∙ sym (ap weak same) ∙ m.2)
 
     -- objects that are given or of weak externals claim none of such names, where the given ones do not
@@ -273,7 +265,7 @@ module _ (reads : List ℕ → Option Object) (archive : List MemberView) where
           elim (cases_Bool (list_any (is_listed_for name) taken)) [
             | inl some ↦
                 let t = any_member name taken some in
-                subst (λ x. Among x taken) (same_first t.0 m (first_listed archive name) ((each_first t.0 t.1).first name t.2) at) t.1
+                subst (λ x. Among x taken) (same_Some t.0 m (sym ((each_first t.0 t.1).first name t.2) ∙ at)) t.1
             | inr none ↦ absurd (takes.ended name m (record {
               named = among_contains name (wanted ++ left_as reads taken) named;
               undefined = not_there name (flat_map claimed_names (objects_as reads taken)) (λ claimed.
@@ -318,7 +310,7 @@ module _ (reads : List ℕ → Option Object) (archive : List MemberView) where
           as_name reads f name taken by.member by.object (there by.member by.held) by.taken by.among
 
       -- a name of an object of the program is one of a given object, or of a member that is taken
-      pub from_sources : (f : Object → List (List ℕ)) → f null_descriptor ≡ [] → (name : List ℕ) → Among name (flat_map f objects) → Among name (flat_map f (own ++ objects_as reads taken))
+      from_sources : (f : Object → List (List ℕ)) → f null_descriptor ≡ [] → (name : List ℕ) → Among name (flat_map f objects) → Among name (flat_map f (own ++ objects_as reads taken))
       from_sources f nothing name named =
           let by = among_flat_map f name objects named in
           subst (Among name) (sym (flat_map-append f own (objects_as reads taken)))
@@ -329,7 +321,7 @@ module _ (reads : List ℕ → Option Object) (archive : List MemberView) where
                   | inr null ↦ absurd (in_nothing name (subst (Among name) nothing (subst (λ o. Among name (f o)) null by.2)))
                 ])
             | inr plain ↦ (
-                let kept : Among by.0 (filter (λ o. not (has_tables o)) objects) = passes (λ o. not (has_tables o)) by.0 objects by.1 (to_not (has_tables by.0) plain) in
+                let kept : Among by.0 (filter (λ o. not (has_tables o)) objects) = passes (λ o. not (has_tables o)) by.0 objects by.1 (not_from_false (has_tables by.0) plain) in
                 elim (among_either by.0 own weak_objects (contains_among by.0 (own ++ weak_objects) ((others by.0).0 (among_contains by.0 (filter (λ o. not (has_tables o)) objects) kept)))) [
                   | inl given ↦ among_front name (flat_map f own) (flat_map f (objects_as reads taken)) (among_flat f by.0 own name given by.2)
                   | inr of_weak ↦ among_back name (flat_map f own) (flat_map f (objects_as reads taken))
@@ -348,13 +340,13 @@ module _ (reads : List ℕ → Option Object) (archive : List MemberView) where
                 let x = among_flat_map f name weak_objects (as_name reads f name (filter weak taken) by.member by.object (passes weak by.member taken by.held is_weak_one) by.taken by.among) in
                 among_flat f x.0 objects name (plain_held x.0 (among_back x.0 own weak_objects x.1)) x.2
             | inr plain ↦
-                let all : Among by.member linked = other_linked by.member (passes (λ y. not (weak y)) by.member taken by.held (to_not (weak by.member) plain)) in
+                let all : Among by.member linked = other_linked by.member (passes (λ y. not (weak y)) by.member taken by.held (not_from_false (weak by.member) plain)) in
                 let x = among_flat_map f name (objects_as reads linked) (as_name reads f name linked by.member by.object all by.taken by.among) in
                 among_flat f x.0 objects name (passing has_tables x.0 objects (tables_into x.0 x.1)).0 x.2
           ]
 
       -- and the other way round
-      pub into_objects : (f : Object → List (List ℕ)) (name : List ℕ) → Among name (flat_map f (own ++ objects_as reads taken)) → Among name (flat_map f objects)
+      into_objects : (f : Object → List (List ℕ)) (name : List ℕ) → Among name (flat_map f (own ++ objects_as reads taken)) → Among name (flat_map f objects)
       into_objects f name named =
           elim (among_either name (flat_map f own) (flat_map f (objects_as reads taken)) (subst (Among name) (flat_map-append f own (objects_as reads taken)) named)) [
             | inl given ↦
@@ -363,17 +355,22 @@ module _ (reads : List ℕ → Option Object) (archive : List MemberView) where
             | inr member ↦ member_object f name (name_as reads f name taken member)
           ]
 
+      -- a name that the program leaves is left by what is given and taken
+      pub still_unresolved : (name : List ℕ) → Contains (unresolved objects) name → Among name (unresolved (own ++ objects_as reads taken))
+      unfolding undefined_in
+      still_unresolved name left =
+          let parts = unresolved_parts objects name (contains_among name (unresolved objects) left) in
+          unresolved_from (own ++ objects_as reads taken) name (from_sources undefined_in refl name parts.0) (λ claimed. parts.1 (into_objects claimed_names name claimed))
+
       -- no name is left that the archive lists
       pub none_left : TakesIntoAs reads archive own taken → (name : List ℕ) → Contains (unresolved objects) name → Contains (listed_in archive) name → ⊥
-      unfolding undefined_in
       none_left takes name left listed =
-          let parts = unresolved_parts objects name (contains_among name (unresolved objects) left) in
           let at = first_of name archive (contains_among name (listed_in archive) listed) in
-          let none : Among name (flat_map claimed_names (own ++ objects_as reads taken)) → ⊥ = λ claimed. parts.1 (into_objects claimed_names name claimed) in
+          let named : Among name (unresolved (own ++ objects_as reads taken)) = still_unresolved name left in
           takes.ended name at.0 (record {
-            named = among_contains name (unresolved (own ++ objects_as reads taken)) (unresolved_from (own ++ objects_as reads taken) name (from_sources undefined_in refl name parts.0) none);
+            named = among_contains name (unresolved (own ++ objects_as reads taken)) named;
             listed = at.1;
-            new = λ has. none (subst (Among name) (sym (flat_map-append claimed_names own (objects_as reads taken)))
+            new = λ has. (unresolved_parts (own ++ objects_as reads taken) name named).1 (subst (Among name) (sym (flat_map-append claimed_names own (objects_as reads taken)))
                 (among_back name (flat_map claimed_names own) (flat_map claimed_names (objects_as reads taken))
                 (listed_claimed name at.0 (contains_among at.0 taken has) (listed_is archive name at.0 at.1).1)));
           })

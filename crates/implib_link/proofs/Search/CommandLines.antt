@@ -1,8 +1,8 @@
 -- Searches of several archives, in the order of a command line, take what one search of all of them takes.
-use Rattle.std.proofs.Common.{◌≡◌, ◌≤◌, ℕ, ◌⊎◌, zero, suc, Bool, false, List, [], ◌∷◌, ◌++◌, length, Option, Some, None, refl, ap, sym, ◌∙◌, subst, inl, inr, arith}
+use Rattle.std.proofs.Common.{◌≡◌, ℕ, ◌⊎◌, zero, suc, Bool, false, List, [], ◌∷◌, ◌++◌, length, Option, Some, None, refl, ap, sym, ◌∙◌, subst, inl, inr, arith}
 use Rattle.std.specs.Prelude.{◌==◌, bytes_eq, not, slice_get}
 use Rattle.std.specs.List.{AllByRecursion, Contains, IsDistinct, cons_option, filter, flat_map, list_any}
-use Rattle.std.proofs.lemmas.Bool.{cases_Bool, true≢false}
+use Rattle.std.proofs.lemmas.Bool.{cases_Bool, true≢false, not_from_false}
 use Rattle.std.proofs.lemmas.Grind.{flat_map-append}
 use Rattle.std.proofs.lemmas.List.{append-nil, append_assoc}
 use Rattle.implib.specs.Formats.Object.{Object, object_in}
@@ -15,15 +15,17 @@ use Rattle.implib_link.specs.Gnu.Program.{ClaimsNone, HaveSame, claimed_names}
 use Rattle.implib_link.specs.Search.Archives.{IsArchive, Library, archive_of}
 use Rattle.implib_link.specs.Search.Closed.{AreLinkedFor, AreTakenIntoAs, LinksClosed, PullsIntoAs, TakesInto, TakesIntoAs, references_of, unresolved}
 use Rattle.implib_link.specs.Search.Given.{AreGiven}
-use Rattle.implib_link.specs.Search.CommandLines.{AnObject, Archives, AreFirst, AreListedWhole, AreRounds, AreSwept, AreTakenBehind, AreUnclaimedBehind, HaveAll, Input, IsOrdered, IsSwept, LeavesNone, LldSearches, LldSearchesFrom, NoneIsLost, SearchesLibraries, TakesFirst, SearchesCommandLine, SearchesFrom, listed_at, names_left, numbers_but, numbers_in, numbers_of, object_of, objects_given, others_of, given_with}
+use Rattle.implib_link.specs.Search.CommandLines.{AnObject, Archives, AreFirst, AreListedWhole, AreRounds, AreSwept, AreTakenBehind, AreUnclaimedBehind, HaveAll, Input, IsOrdered, IsSwept, LeavesNone, LldSearches, LldSearchesFrom, NoneIsLost, SearchesFor, SearchesLibraries, TakesFirst, SearchesCommandLine, SearchesFrom, listed_at, names_left, numbers_but, numbers_in, numbers_of, object_of, objects_given, others_of, given_with}
 use Rattle.implib_link.specs.Search.Search.{claimed_as, first_listed, is_listed_for, objects_as, undefined_in}
 use Rattle.implib_link.specs.Search.Sweeps.{IndexEntry, index_at, members_at, numbers_from, sweeps, swept}
 use Rattle.implib_link.proofs.Search.ArchiveGroups.{found_or_not}
 use Rattle.implib_link.proofs.Search.Closed.{closed_links}
 use Rattle.implib_link.proofs.Search.Given.{given_closes}
 use Rattle.implib_link.proofs.Search.Closing.{unresolved_from, unresolved_parts}
-use Rattle.implib_link.proofs.Search.Lists.{all_listed, among_any, any_among, among_either, among_flat_map, among_listed, as_name, contains_among, listed_is, listed_once, name_as, passes, passing, same_member, to_not}
-use Rattle.implib_link.proofs.Search.Sweeps.{IsFirstAt, Lifts, all_there, among_number, entries_of, entry_there, member_at, first_at, none_first, none_left, number_among, number_of, number_taken, swept_adds, sweeps_in_turn, sweeps_keep, taken_number, once_by}
+use Rattle.implib_link.proofs.Search.Lists.{all_listed, among_any, any_among, among_either, among_flat_map, among_listed, as_name, contains_among, listed_is, listed_once, name_as, passes, passing, among_at, at_index}
+use Rattle.implib_link.proofs.Search.Sweeps.{IsFirstAt, Lifts, all_there, among_number, entries_of, entry_there, first_at, none_first, none_left, number_among, number_taken, swept_adds, sweeps_in_turn, sweeps_keep, taken_number, once_by}
+use Rattle.std.proofs.lemmas.Option.{same_Some, none-some}
+use Rattle.implib_link.proofs.Search.Search.{only_one}
 
 -- What was read first counts on: references and claims of some objects are those of more.
 
@@ -277,7 +279,7 @@ module _ (reads : List ℕ → Option Object) (members : List MemberView) where
   but_these : (some : List ℕ) (n : ℕ) (m : MemberView) (name : List ℕ) → slice_get members n ≡ Some m → Among name m.symbols → (Among n some → ⊥) → Among name (listed_at members (numbers_but members some))
   but_these some n m name at listed none =
       listed_name members (numbers_but members some) n m name at
-      (passes (λ number. not (list_any (λ other. other == number) some)) n (numbers_from (length members) 0) (all_there members n m at) (to_not (list_any (λ other. other == n) some) (not_number n some none))) listed
+      (passes (λ number. not (list_any (λ other. other == number) some)) n (numbers_from (length members) 0) (all_there members n m at) (not_from_false (list_any (λ other. other == n) some) (not_number n some none))) listed
     where
       not_number : (k : ℕ) (ns : List ℕ) → (Among k ns → ⊥) → list_any (λ other. other == k) ns ≡ false
       not_number k ns free = elim (cases_Bool (list_any (λ other. other == k) ns)) [ inl there ↦ absurd (free (number_among k ns there)) | inr is ↦ is ]
@@ -386,7 +388,7 @@ module _ (reads : List ℕ → Option Object) (members : List MemberView) where
     in_turn = searches_in_turn (objects_given inputs) taken once [] inputs [] [] taken refl none is (λ n held. held) tt;
     ended = λ name m pulls.
         let from = listed_is members name m pulls.listed in
-        let at = number_of members m from.0 in
+        let at = at_index m members from.0 in
         let left = contains_among name (unresolved (objects_given inputs ++ objects_as reads (members_at members taken))) pulls.named in
         pulls.new (among_contains m (members_at members taken) (number_taken members taken at.0 m
         (elim (cases_Bool (list_any (λ other. other == at.0) (numbers_in inputs))) [
@@ -404,18 +406,15 @@ module _ (reads : List ℕ → Option Object) (members : List MemberView) where
   gnu_completes inputs taken once none complete is = record {
     in_turn = searches_in_turn (objects_given inputs) taken once [] inputs [] [] taken refl none is (λ n held. held) tt;
     ended = λ name m pulls.
-        nowhere m (sym (all_among (λ n. first_listed members n ≡ None) name (unresolved (objects_given inputs ++ objects_as reads (members_at members taken)))
+        none-some m (sym (all_among (λ n. first_listed members n ≡ None) name (unresolved (objects_given inputs ++ objects_as reads (members_at members taken)))
         (contains_among name (unresolved (objects_given inputs ++ objects_as reads (members_at members taken))) pulls.named) complete) ∙ pulls.listed);
   }
-    where
-      nowhere : (m : MemberView) → None ≡ Some m → ⊥
-      nowhere m is_none = cc
 
   -- lld's searches.
 
   -- members of some numbers are members
   of_all : (numbers : List ℕ) (m : MemberView) → Among m (members_at members numbers) → Among m members
-  of_all numbers m held = (let from = taken_number members numbers m held in member_at members from.0 m from.2)
+  of_all numbers m held = (let from = taken_number members numbers m held in among_at m members from.0 from.2)
 
   behind_are : (numbers : List ℕ) (own : List Object) (before more : List MemberView) → AreTakenBehind reads (members_at members numbers) own before more → ((x : MemberView) → Among x before → Among x members) →
       (x : MemberView) → Among x (more ++ before) → Among x members
@@ -507,19 +506,16 @@ module _ (reads : List ℕ → Option Object) (members : List MemberView) where
           | inl nothing ↦ none_first name (members_at members (numbers_in inputs)) m nothing there from.1
           | inr found ↦
               let listed = listed_is (members_at members (numbers_in inputs)) name found.0 found.1 in
-              lld_done [] [] inputs [] taken is (λ n x empty. nowhere n x empty.listed) name found.0 (record {
+              lld_done [] [] inputs [] taken is (λ n x empty. none-some x empty.listed) name found.0 (record {
                 named = pulls.named;
                 listed = found.1;
                 new = λ held.
-                    let one : found.0 ≡ m = same_member found.0 m (sym (first name found.0
+                    let one : found.0 ≡ m = same_Some found.0 m (sym (first name found.0
                     (name_in_end (objects_given inputs) taken (objects_given inputs) [] (append-nil (objects_given inputs)) taken (λ x among. among) name left) held (among_contains name found.0.symbols listed.1)) ∙ pulls.listed) in
                     pulls.new (subst (Contains taken) one held);
               })
         ];
   }
-    where
-      nowhere : (n : List ℕ) (x : MemberView) → None ≡ Some x → ⊥
-      nowhere n x is_none = cc
 
   -- Two searches of one list take the same.
 
@@ -549,11 +545,7 @@ module _ (reads : List ℕ → Option Object) (members : List MemberView) where
     unfolding claimed_as Among
     claims_there some m name held there listed =
         let from = name_as reads claimed_names name (m ∷ []) (claims_listed m name there listed) in
-        as_name reads claimed_names name some m from.object held (subst (λ (x : MemberView). reads x.bytes ≡ Some from.object) (alone from.member m from.held) from.taken) from.among
-      where
-        alone : (x y : MemberView) → Among x (y ∷ []) → x ≡ y
-        alone x y (inl is) = is
-        alone x y (inr nothing) = absurd nothing
+        as_name reads claimed_names name some m from.object held (subst (λ (x : MemberView). reads x.bytes ≡ Some from.object) (only_one from.member m from.held) from.taken) from.among
 
     taken_are : (taken : List MemberView) → AreTakenIntoAs reads members own taken → (x : MemberView) → Among x taken → Among x members
     unfolding AreTakenIntoAs Among
@@ -579,7 +571,7 @@ module _ (reads : List ℕ → Option Object) (members : List MemberView) where
         elim (cases_Bool (list_any (bytes_eq name) (flat_map claimed_names (objects_as reads other)))) [
           | inl claimed ↦
               let by = claimer other name others (any_among name (flat_map claimed_names (objects_as reads other)) claimed) in
-              let one : by.0 ≡ m = same_member by.0 m (sym (first name by.0 in_other (among_contains by.0 other by.1) (among_contains name by.0.symbols by.2)) ∙ pulls.listed) in
+              let one : by.0 ≡ m = same_Some by.0 m (sym (first name by.0 in_other (among_contains by.0 other by.1) (among_contains name by.0.symbols by.2)) ∙ pulls.listed) in
               subst (λ y. Among y other) one by.1
           | inr free ↦
               let none : Among name (flat_map claimed_names (objects_as reads other)) → ⊥ = λ claimed. true≢false (sym (among_any name (flat_map claimed_names (objects_as reads other)) claimed) ∙ free) in
@@ -629,7 +621,7 @@ module _ (reads : List ℕ → Option Object) (members : List MemberView) where
       first_kept (x ∷ some) name m other is =
           elim (cases_Bool (is_listed_for name x)) [
             | inl here ↦
-                let same : x ≡ m = same_member x m (rw here at is) in
+                let same : x ≡ m = same_Some x m (rw here at is) in
                 let kept : is_given x ≡ false = ap is_given same ∙ other in
                 rw (kept, here) (ap Some same)
             | inr none ↦ elim (cases_Bool (is_given x)) [
@@ -643,7 +635,7 @@ module _ (reads : List ℕ → Option Object) (members : List MemberView) where
       given_or_not some x held =
           elim (cases_Bool (is_given x)) [
             | inl is ↦ inl (passes is_given x some held is)
-            | inr is ↦ inr (passes (λ m. not (is_given m)) x some held (to_not (is_given x) is))
+            | inr is ↦ inr (passes (λ m. not (is_given m)) x some held (not_from_false (is_given x) is))
           ]
 
       -- names of members' objects, by which list they are in
@@ -686,7 +678,7 @@ module _ (reads : List ℕ → Option Object) (members : List MemberView) where
                     let by = claimer (filter is_given full) name (λ x among. are_members x (passing is_given x full among).0) given in
                     let kept = passing is_given by.0 full by.1 in
                     let there = name_in_end own full own [] (append-nil own) taken are name left in
-                    let same : by.0 ≡ m = same_member by.0 m (sym (first name by.0 there (among_contains by.0 full kept.0) (among_contains name by.0.symbols by.2)) ∙ first name m there (among_contains m full held) (among_contains name m.symbols listed)) in
+                    let same : by.0 ≡ m = same_Some by.0 m (sym (first name by.0 there (among_contains by.0 full kept.0) (among_contains name by.0.symbols by.2)) ∙ first name m there (among_contains m full held) (among_contains name m.symbols listed)) in
                     true≢false (sym kept.1 ∙ (ap is_given same ∙ other))
               ]
               | inr there ↦ parts.1 (refs_back claimed_names own (objects_as reads taken) name (names_within claimed_names (λ m. not (is_given m)) taken name there))
@@ -766,14 +758,14 @@ first_by_numbers members names taken first name m left held listed =
 
 -- GNU `ld`'s command lines of libraries and of anything else.
 
-module _ (machine : MachineType) (libraries : List Library) (members : List MemberView) (inputs : List Input) (is_given : MemberView → Bool) (taken : List ℕ) (s : SearchesLibraries machine libraries members inputs is_given taken) where
-  pub of_libraries : TakesInto (archive_of libraries) (given_with object_in is_given (objects_given inputs) (members_at members taken)) (others_of is_given (members_at members taken))
-  of_libraries =
-      subst (λ archive. TakesIntoAs object_in archive (given_with object_in is_given (objects_given inputs) (members_at members taken)) (others_of is_given (members_at members taken))) s.libraries_are
-      (taken_as_given object_in members (objects_given inputs) s.whole is_given (members_at members taken) (first_by_numbers members (names_left object_in (objects_given inputs) (members_at members taken)) taken s.first)
+module _ (reads : List ℕ → Option Object) (of_libraries members : List MemberView) (inputs : List Input) (is_given : MemberView → Bool) (taken : List ℕ) (s : SearchesFor reads of_libraries members inputs is_given taken) where
+  pub takes_of_libraries : TakesIntoAs reads of_libraries (given_with reads is_given (objects_given inputs) (members_at members taken)) (others_of is_given (members_at members taken))
+  takes_of_libraries =
+      subst (λ archive. TakesIntoAs reads archive (given_with reads is_given (objects_given inputs) (members_at members taken)) (others_of is_given (members_at members taken))) s.libraries_are
+      (taken_as_given reads members (objects_given inputs) s.whole is_given (members_at members taken) (first_by_numbers members (names_left reads (objects_given inputs) (members_at members taken)) taken s.first)
       (elim s.ordered [
-        | inl ordered ↦ gnu_searches object_in members inputs taken s.first s.unclaimed ordered s.searches
-        | inr complete ↦ gnu_completes object_in members inputs taken s.first s.unclaimed complete s.searches
+        | inl ordered ↦ gnu_searches reads members inputs taken s.first s.unclaimed ordered s.searches
+        | inr complete ↦ gnu_completes reads members inputs taken s.first s.unclaimed complete s.searches
       ]))
 
 pub command_line_closes : (machine : MachineType) (libraries : List Library) (members : List MemberView) (inputs : List Input) (taken : List ℕ) (is_given : MemberView → Bool)
@@ -782,7 +774,7 @@ pub command_line_closes : (machine : MachineType) (libraries : List Library) (me
     AreLinkedFor machine libraries (given_with object_in is_given (objects_given inputs) (members_at members taken)) (others_of is_given (members_at members taken)) arranged bases objects →
     LinksClosed machine libraries (given_with object_in is_given (objects_given inputs) (members_at members taken)) (others_of is_given (members_at members taken)) arranged bases objects
 command_line_closes machine libraries members inputs taken is_given arranged bases objects searches archive given linked =
-    let takes = of_libraries machine libraries members inputs is_given taken searches in
+    let takes = takes_of_libraries object_in (archive_of libraries) members inputs is_given taken searches in
     closed_links machine libraries (given_with object_in is_given (objects_given inputs) (members_at members taken)) (others_of is_given (members_at members taken)) arranged bases objects archive
     (given_closes machine libraries (given_with object_in is_given (objects_given inputs) (members_at members taken)) (others_of is_given (members_at members taken)) arranged bases objects archive given takes linked)
 

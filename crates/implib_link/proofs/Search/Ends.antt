@@ -8,10 +8,11 @@ use Rattle.implib.specs.Members.MemberSpec.{MemberView}
 use Rattle.implib.proofs.Link.LinkedMembers.{among_contains}
 use Rattle.implib.proofs.Link.Ranges.{Among}
 use Rattle.implib_link.specs.Search.Search.{AreTakenInTurnAs, first_listed, PullsInAs, TakesAs, left_as, claimed_as}
-use Rattle.implib_link.proofs.Search.ArchiveGroups.{first_is, found_or_not}
+use Rattle.implib_link.proofs.Search.ArchiveGroups.{found_or_not}
 use Rattle.implib.specs.Formats.Object.{Object}
-use Rattle.implib_link.proofs.Search.Lists.{contains_among}
-use Rattle.implib_link.proofs.Gnu.Choices.{same_text}
+use Rattle.implib_link.proofs.Search.Lists.{contains_among, listed_is}
+use Rattle.implib.proofs.Link.Definitions.{same_text}
+use Rattle.std.proofs.lemmas.Option.{same_Some}
 
 -- Whether two members are the same.
 
@@ -85,21 +86,18 @@ pub not_taken : List MemberView → List MemberView → ℕ
 not_taken [] taken = 0
 not_taken (m ∷ archive) taken = (if is_taken taken m then 0 else 1) + not_taken archive taken
 
+count_more : (same is : Bool) → (if same || is then 0 else 1) ≤ (if is then 0 else 1)
+count_more true true = omega arith
+count_more true false = omega arith
+count_more false is = omega arith
+
 not_more : (archive taken : List MemberView) (t : MemberView) → not_taken archive (t ∷ taken) ≤ not_taken archive taken
 unfolding not_taken is_taken
 not_more [] taken t = omega arith
 not_more (m ∷ archive) taken t =
+    let own = count_more (is_same m t) (is_taken taken m) in
     let behind : not_taken archive (t ∷ taken) ≤ not_taken archive taken = not_more archive taken t in
-    elim (cases_Bool (is_same m t)) [
-      | inl same ↦ elim (cases_Bool (is_taken taken m)) [
-        | inl is ↦ rw (same, is) (omega arith)
-        | inr none ↦ rw (same, none) (omega arith)
-      ]
-      | inr other ↦ elim (cases_Bool (is_taken taken m)) [
-        | inl is ↦ rw (other, is) (omega arith)
-        | inr none ↦ rw (other, none) (omega arith)
-      ]
-    ]
+    omega arith
 
 pub fewer : (archive taken : List MemberView) (t : MemberView) → Among t archive → is_taken taken t ≡ false → not_taken archive (t ∷ taken) < not_taken archive taken
 unfolding not_taken is_taken Among
@@ -110,20 +108,9 @@ fewer (m ∷ archive) taken t (inl e) new =
     let first : is_taken taken m ≡ false = subst (λ y. is_taken taken y ≡ false) e new in
     rw (same, first) (omega arith)
 fewer (m ∷ archive) taken t (inr held) new =
+    let own = count_more (is_same m t) (is_taken taken m) in
     let behind : not_taken archive (t ∷ taken) < not_taken archive taken = fewer archive taken t held new in
-    elim (cases_Bool (is_same m t)) [
-      | inl same ↦ elim (cases_Bool (is_taken taken m)) [
-        | inl is ↦ rw (same, is) (omega arith)
-        | inr none ↦ rw (same, none) (omega arith)
-      ]
-      | inr other ↦ elim (cases_Bool (is_taken taken m)) [
-        | inl is ↦ rw (other, is) (omega arith)
-        | inr none ↦ rw (other, none) (omega arith)
-      ]
-    ]
-
-same_first : (m other : MemberView) → Some m ≡ Some other → m ≡ other
-same_first m other e = cc
+    omega arith
 
 -- whether a name finds a member that is not taken
 pub first_new : (archive taken : List MemberView) (name : List ℕ) → ((m : MemberView) × (first_listed archive name ≡ Some m) × (Contains taken m → ⊥)) ⊎
@@ -133,7 +120,7 @@ first_new archive taken name =
       | inl none ↦ inr (λ m listed new. (let found : None ≡ Some m = sym none ∙ listed in cc))
       | inr found ↦ elim (cases_Bool (is_taken taken found.0)) [
         | inl is ↦ inr (λ m listed new.
-            let same : m ≡ found.0 = same_first m found.0 (sym listed ∙ found.1) in
+            let same : m ≡ found.0 = same_Some m found.0 (sym listed ∙ found.1) in
             new (among_contains m taken (subst (λ x. Among x taken) (sym same) (taken_among taken found.0 is))))
         | inr none ↦ inl (found.0, found.1, λ has. true≢false (sym (among_taken taken found.0 (contains_among found.0 taken has)) ∙ none))
       ]
@@ -175,7 +162,7 @@ module _ (archive : List MemberView) (Pulls : List MemberView → List ℕ → M
   fewer_left : (taken : List MemberView) (name : List ℕ) (m : MemberView) → Pulls taken name m → not_taken archive (m ∷ taken) < not_taken archive taken
   fewer_left taken name m pulls =
       let own = fresh taken name m pulls in
-      fewer archive taken m (first_is name archive m own.0).0 (false_from_ne_true (is_taken taken m) (λ is. own.1 (among_contains m taken (taken_among taken m is))))
+      fewer archive taken m (listed_is archive name m own.0).0 (false_from_ne_true (is_taken taken m) (λ is. own.1 (among_contains m taken (taken_among taken m is))))
 
   -- from members that are taken, with at most so many left
   ends_from : (most : ℕ) (taken : List MemberView) → not_taken archive taken ≤ most → Turn taken →
@@ -226,7 +213,7 @@ module _ (reads : List ℕ → Option Object) (archive : List MemberView) (wante
   taken_and_left [] turn = omega arith
   taken_and_left (m ∷ earlier) turn =
       let less : not_taken archive (m ∷ earlier) < not_taken archive earlier =
-      fewer archive earlier m (first_is turn.0.0 archive m turn.0.1.listed).0 (false_from_ne_true (is_taken earlier m) (λ is. turn.0.1.new (among_contains m earlier (taken_among earlier m is)))) in
+      fewer archive earlier m (listed_is archive turn.0.0 m turn.0.1.listed).0 (false_from_ne_true (is_taken earlier m) (λ is. turn.0.1.new (among_contains m earlier (taken_among earlier m is)))) in
       let before : length earlier + not_taken archive earlier ≤ not_taken archive [] = taken_and_left earlier turn.1 in
       let counted : length (m ∷ earlier) ≡ suc (length earlier) = refl in
       omega arith

@@ -1,7 +1,7 @@
 -- An archive whose listed symbols differ: each name has one member, and what members leave and claim.
 use Rattle.std.proofs.Common.{◌≡◌, ℕ, zero, suc, true, false, List, [], ◌∷◌, ◌++◌, map, Option, Some, None, refl, ap, sym, ◌∙◌, subst, inl, inr, ◌⊎◌, arith, Bool}
 use Rattle.std.specs.Prelude.{bytes_eq, reverse, slice_get, not}
-use Rattle.std.specs.List.{AllByRecursion, Contains, IsDistinct, cons_option, flat_map, list_any, list_all, filter}
+use Rattle.std.specs.List.{AllByRecursion, Contains, IsDistinct, cons_option, flat_map, list_any, list_all, filter, filter_map}
 use Rattle.std.proofs.lemmas.Bool.{cases_Bool, false_from_ne_true, or_parts, true≢false, and_parts}
 use Rattle.std.proofs.lemmas.List.{reverse-append}
 use Rattle.std.proofs.lemmas.Grind.{flat_map-append}
@@ -9,8 +9,9 @@ use Rattle.std.proofs.lemmas.Slice.Eq.{bytes_eq-Decides}
 use Rattle.implib.specs.Members.MemberSpec.{MemberSpec, MemberView, member_of}
 use Rattle.implib.specs.Formats.Object.{Object}
 use Rattle.implib.proofs.Link.LinkedMembers.{among_map, among_reverse}
-use Rattle.implib.proofs.Link.Ranges.{Among, all_among, among_back, among_first, among_front, among_later}
+use Rattle.implib.proofs.Link.Ranges.{Among, all_among, among_back, among_first, among_front, among_later, among_flat}
 use Rattle.implib_link.specs.Search.Search.{first_listed, is_listed_for, objects_as}
+use Rattle.std.proofs.lemmas.Option.{same_Some}
 
 pub all_from : {X : Type 0} (P : X → Type 0) (xs : List X) → ((x : X) → Among x xs → P x) → AllByRecursion P xs
 all_from P [] each = tt
@@ -34,14 +35,33 @@ among_either x [] ys m = inr m
 among_either x (y ∷ xs) ys (inl e) = inl (inl e)
 among_either x (y ∷ xs) ys (inr m) = elim (among_either x xs ys m) [ inl first ↦ inl (inr first) | inr later ↦ inr later ]
 
-pub among_reversed : {X : Type 0} (x : X) (xs : List X) → Among x (reverse xs) → Among x xs
+pub at_index : {X : Type 0} (x : X) (xs : List X) → Among x xs → (n : ℕ) × (slice_get xs n ≡ Some x)
 unfolding Among
-among_reversed x [] m = m
-among_reversed x (y ∷ xs) m =
-    elim (among_either x (reverse xs) (y ∷ []) (subst (Among x) (reverse-append (y ∷ []) xs) m)) [
-      | inl first ↦ inr (among_reversed x xs first)
-      | inr last ↦ elim last [ inl e ↦ inl e | inr none ↦ absurd none ]
-    ]
+at_index x [] held = absurd held
+at_index x (y ∷ xs) (inl e) = (0, ap Some (sym e))
+at_index x (y ∷ xs) (inr held) = let later = at_index x xs held in (suc later.0, later.1)
+
+pub among_option : {X : Type 0} (o : Option X) (x : X) (xs : List X) → Among x xs → Among x (cons_option o xs)
+unfolding Among
+among_option None x xs held = held
+among_option (Some y) x xs held = inr held
+
+pub from_option : {X : Type 0} (o : Option X) (x : X) (xs : List X) → Among x (cons_option o xs) → (o ≡ Some x) ⊎ Among x xs
+unfolding Among
+from_option None x xs held = inr held
+from_option (Some y) x xs (inl e) = inl (ap Some (sym e))
+from_option (Some y) x xs (inr held) = inr held
+
+pub all_parts : {X : Type 0} (P : X → Type 0) (xs ys : List X) → AllByRecursion P (xs ++ ys) → AllByRecursion P xs × AllByRecursion P ys
+all_parts P [] ys all = (tt, all)
+all_parts P (x ∷ xs) ys all = let parts = all_parts P xs ys all.1 in ((all.0, parts.0), parts.1)
+
+-- where a test passes none
+pub none_among : {X : Type 0} (test : X → Bool) (x : X) (xs : List X) → Among x xs → list_any test xs ≡ false → test x ≡ false
+unfolding Among
+none_among test x [] held none = absurd held
+none_among test x (y ∷ xs) (inl e) none = subst (λ z. test z ≡ false) (sym e) (or_parts (test y) (list_any test xs) none).0
+none_among test x (y ∷ xs) (inr held) none = none_among test x xs held (or_parts (test y) (list_any test xs) none).1
 
 pub among_mapped : {X Y : Type 0} (f : X → Y) (y : Y) (xs : List X) → Among y (map f xs) → (x : X) × Among x xs × (y ≡ f x)
 unfolding Among
@@ -90,10 +110,7 @@ abbrev pub all_listed : List MemberView → List (List ℕ)
 all_listed members = flat_map (λ m. m.symbols) members
 
 pub among_listed : (name : List ℕ) (m : MemberView) (archive : List MemberView) → Among m archive → Among name m.symbols → Among name (all_listed archive)
-unfolding Among
-among_listed name m [] held is = absurd held
-among_listed name m (x ∷ archive) (inl e) is = among_front name x.symbols (all_listed archive) (subst (λ (y : MemberView). Among name y.symbols) e is)
-among_listed name m (x ∷ archive) (inr held) is = among_back name x.symbols (all_listed archive) (among_listed name m archive held is)
+among_listed name m archive held is = among_flat (λ (x : MemberView). x.symbols) m archive name held is
 
 -- the member that a name is listed for is the first
 pub listed_once : (archive : List MemberView) (name : List ℕ) (m : MemberView) → IsDistinct bytes_eq (all_listed archive) →
@@ -108,9 +125,6 @@ listed_once (x ∷ archive) name m distinct (inr held) is =
       | inr other ↦ rw other (listed_once archive name m (distinct_later x.symbols (all_listed archive) distinct) held is)
     ]
 
-pub same_member : (x m : MemberView) → Some x ≡ Some m → x ≡ m
-same_member x m e = cc
-
 -- the first member that a name is listed for is a member that it is listed for
 pub listed_is : (archive : List MemberView) (name : List ℕ) (m : MemberView) → first_listed archive name ≡ Some m → Among m archive × Among name m.symbols
 unfolding Among
@@ -118,7 +132,7 @@ listed_is [] name m is = cc
 listed_is (x ∷ archive) name m is =
     elim (cases_Bool (is_listed_for name x)) [
       | inl found ↦
-          let same : x ≡ m = same_member x m (rw found at is) in
+          let same : x ≡ m = same_Some x m (rw found at is) in
           (inl (sym same), subst (λ (y : MemberView). Among name y.symbols) same (any_among name x.symbols found))
       | inr other ↦ let later = listed_is archive name m (rw other at is) in (inr later.0, later.1)
     ]
@@ -127,7 +141,36 @@ listed_is (x ∷ archive) name m is =
 pub one_member : (archive : List MemberView) (name : List ℕ) (m other : MemberView) → IsDistinct bytes_eq (all_listed archive) →
     Among m archive → Among other archive → Among name m.symbols → Among name other.symbols → m ≡ other
 one_member archive name m other distinct held held_too is is_too =
-    same_member m other (sym (listed_once archive name m distinct held is) ∙ listed_once archive name other distinct held_too is_too)
+    same_Some m other (sym (listed_once archive name m distinct held is) ∙ listed_once archive name other distinct held_too is_too)
+
+pub among_flat_map : {X Y : Type 0} (f : X → List Y) (name : Y) (xs : List X) → Among name (flat_map f xs) → (x : X) × Among x xs × Among name (f x)
+unfolding Among
+among_flat_map f name [] held = absurd held
+among_flat_map f name (x ∷ xs) held =
+    elim (among_either name (f x) (flat_map f xs) held) [
+      | inl here ↦ (x, inl refl, here)
+      | inr behind ↦ let later = among_flat_map f name xs behind in (later.0, inr later.1, later.2)
+    ]
+
+-- what is kept of a list
+pub input_front : {X : Type 0} (o : Option X) (x : X) (xs : List X) → o ≡ Some x → Among x (cons_option o xs)
+input_front None x xs is = cc
+input_front (Some y) x xs is = (let same : x ≡ y = cc in subst (λ z. Among x (z ∷ xs)) same (among_first x xs))
+
+pub kept_from : {X Y : Type 0} (keep : X → Option Y) (xs : List X) (y : Y) → Among y (filter_map keep xs) → (x : X) × Among x xs × (keep x ≡ Some y)
+unfolding Among
+kept_from keep [] y held = absurd held
+kept_from keep (x ∷ rest) y held =
+    elim (from_option (keep x) y (filter_map keep rest) held) [
+      | inl is ↦ (x, inl refl, is)
+      | inr behind ↦ let later = kept_from keep rest y behind in (later.0, inr later.1, later.2)
+    ]
+
+pub kept_into : {X Y : Type 0} (keep : X → Option Y) (xs : List X) (y : Y) (x : X) → Among x xs → keep x ≡ Some y → Among y (filter_map keep xs)
+unfolding Among
+kept_into keep [] y x held is = absurd held
+kept_into keep (z ∷ rest) y x (inl same) is = input_front (keep z) y (filter_map keep rest) (subst (λ w. keep w ≡ Some y) same is)
+kept_into keep (z ∷ rest) y x (inr held) is = among_option (keep z) y (filter_map keep rest) (kept_into keep rest y x held is)
 
 -- a name of what a linker reads a member as
 pub record NameAs (reads : List ℕ → Option Object) (f : Object → List (List ℕ)) (name : List ℕ) (members : List MemberView) : Type 0 where
@@ -137,39 +180,17 @@ pub record NameAs (reads : List ℕ → Option Object) (f : Object → List (Lis
   pub taken : reads member.bytes ≡ Some object
   pub among : Among name (f object)
 
-module _ (reads : List ℕ → Option Object) (f : Object → List (List ℕ)) (name : List ℕ) where
-  later_name : (m : MemberView) (members : List MemberView) → NameAs reads f name members → NameAs reads f name (m ∷ members)
-  unfolding Among
-  later_name m members t = record { member = t.member; held = inr t.held; object = t.object; taken = t.taken; among = t.among }
+-- a name of the objects that members are read as is one of the object of some member
+pub name_as : (reads : List ℕ → Option Object) (f : Object → List (List ℕ)) (name : List ℕ) (members : List MemberView) → Among name (flat_map f (objects_as reads members)) → NameAs reads f name members
+name_as reads f name members held =
+    let of = among_flat_map f name (objects_as reads members) held in
+    let by = kept_from (λ (m : MemberView). reads m.bytes) members of.0 of.1 in
+    record { member = by.0; held = by.1; object = of.0; taken = by.2; among = of.2 }
 
-  first_name : (x : MemberView) (members : List MemberView) (read : Option Object) → reads x.bytes ≡ read → (Among name (flat_map f (objects_as reads members)) → NameAs reads f name members) →
-      Among name (flat_map f (cons_option read (objects_as reads members))) → NameAs reads f name (x ∷ members)
-  unfolding Among
-  first_name x members None is next held = later_name x members (next held)
-  first_name x members (Some o) is next held =
-      elim (among_either name (f o) (flat_map f (objects_as reads members)) held) [
-        | inl here ↦ record { member = x; held = inl refl; object = o; taken = is; among = here }
-        | inr behind ↦ later_name x members (next behind)
-      ]
-
-  -- a name of the objects that members are read as is one of the object of some member
-  pub name_as : (members : List MemberView) → Among name (flat_map f (objects_as reads members)) → NameAs reads f name members
-  unfolding Among
-  name_as [] held = absurd held
-  name_as (x ∷ members) held = first_name x members (reads x.bytes) refl (name_as members) held
-
-  read_behind : (objects : List Object) (read : Option Object) → Among name (flat_map f objects) → Among name (flat_map f (cons_option read objects))
-  read_behind objects None held = held
-  read_behind objects (Some o) held = among_back name (f o) (flat_map f objects) held
-
-  -- and a name of the object of a member is one of theirs
-  pub as_name : (members : List MemberView) (m : MemberView) (o : Object) → Among m members → reads m.bytes ≡ Some o → Among name (f o) → Among name (flat_map f (objects_as reads members))
-  unfolding Among
-  as_name [] m o held is there = absurd held
-  as_name (x ∷ members) m o (inl e) is there =
-      let read : reads x.bytes ≡ Some o = subst (λ (y : MemberView). reads y.bytes ≡ Some o) e is in
-      rw read (among_front name (f o) (flat_map f (objects_as reads members)) there)
-  as_name (x ∷ members) m o (inr held) is there = read_behind (objects_as reads members) (reads x.bytes) (as_name members m o held is there)
+-- and a name of the object of a member is one of theirs
+pub as_name : (reads : List ℕ → Option Object) (f : Object → List (List ℕ)) (name : List ℕ) (members : List MemberView) (m : MemberView) (o : Object) → Among m members → reads m.bytes ≡ Some o → Among name (f o) →
+    Among name (flat_map f (objects_as reads members))
+as_name reads f name members m o held is there = among_flat f o (objects_as reads members) name (kept_into (λ (x : MemberView). reads x.bytes) members o m held is) there
 
 -- a name that some of these is listed for
 pub any_member : (name : List ℕ) (members : List MemberView) → list_any (is_listed_for name) members ≡ true →
@@ -184,24 +205,14 @@ any_member name (x ∷ members) is =
 
 pub none_listed : (name : List ℕ) (m : MemberView) (members : List MemberView) → list_any (is_listed_for name) members ≡ false → Among m members →
     Among name m.symbols → ⊥
-unfolding Among
-none_listed name m [] none held is = absurd held
-none_listed name m (x ∷ members) none (inl e) is =
-    let here : is_listed_for name x ≡ false = (or_parts (is_listed_for name x) (list_any (is_listed_for name) members) none).0 in
-    true≢false (sym (among_any name x.symbols (subst (λ (y : MemberView). Among name y.symbols) e is)) ∙ here)
-none_listed name m (x ∷ members) none (inr held) is =
-    none_listed name m members (or_parts (is_listed_for name x) (list_any (is_listed_for name) members) none).1 held is
+none_listed name m members none held is = true≢false (sym (among_any name m.symbols is) ∙ none_among (is_listed_for name) m members held none)
 
 -- Names that differ, put together and apart.
-
-all_first : (first later : List (List ℕ)) (P : List ℕ → Type 0) → AllByRecursion P (first ++ later) → AllByRecursion P first
-all_first [] later P all = tt
-all_first (x ∷ first) later P all = (all.0, all_first first later P all.1)
 
 distinct_first : (first later : List (List ℕ)) → IsDistinct bytes_eq (first ++ later) → IsDistinct bytes_eq first
 unfolding IsDistinct
 distinct_first [] later distinct = tt
-distinct_first (x ∷ first) later distinct = (all_first first later (λ other. bytes_eq x other ≡ false) distinct.0, distinct_first first later distinct.1)
+distinct_first (x ∷ first) later distinct = ((all_parts (λ other. bytes_eq x other ≡ false) first later distinct.0).0, distinct_first first later distinct.1)
 
 none_same : (x : List ℕ) (names : List (List ℕ)) → (Among x names → ⊥) → AllByRecursion (λ other. bytes_eq x other ≡ false) names
 unfolding Among
@@ -220,21 +231,6 @@ distinct_join (x ∷ first) later own behind apart =
     ] in
     (none_same x (first ++ later) none, distinct_join first later own.1 behind (λ name held. apart name (inr held)))
 
-pub among_flat_map : {X Y : Type 0} (f : X → List Y) (name : Y) (xs : List X) → Among name (flat_map f xs) → (x : X) × Among x xs × Among name (f x)
-unfolding Among
-among_flat_map f name [] held = absurd held
-among_flat_map f name (x ∷ xs) held =
-    elim (among_either name (f x) (flat_map f xs) held) [
-      | inl here ↦ (x, inl refl, here)
-      | inr behind ↦ let later = among_flat_map f name xs behind in (later.0, inr later.1, later.2)
-    ]
-
-pub flat_map_among : {X : Type 0} (f : X → List (List ℕ)) (name : List ℕ) (xs : List X) (x : X) → Among x xs → Among name (f x) → Among name (flat_map f xs)
-unfolding Among
-flat_map_among f name [] x held is = absurd held
-flat_map_among f name (y ∷ xs) x (inl e) is = among_front name (f y) (flat_map f xs) (subst (λ z. Among name (f z)) e is)
-flat_map_among f name (y ∷ xs) x (inr held) is = among_back name (f y) (flat_map f xs) (flat_map_among f name xs x held is)
-
 -- names of a list in the other order
 pub distinct_reversed : {X : Type 0} (f : X → List (List ℕ)) (xs : List X) → IsDistinct bytes_eq (flat_map f (reverse xs)) → IsDistinct bytes_eq (flat_map f xs)
 distinct_reversed f [] distinct = distinct
@@ -246,7 +242,7 @@ distinct_reversed f (x ∷ xs) distinct =
     (λ name here there.
     let from = among_flat_map f name xs there in
     distinct_apart (flat_map f (reverse xs)) (f x ++ []) name parts
-    (flat_map_among f name (reverse xs) from.0 (among_reverse from.0 xs from.1) from.2) (among_front name (f x) [] here))
+    (among_flat f from.0 (reverse xs) name (among_reverse from.0 xs from.1) from.2) (among_front name (f x) [] here))
 
 -- the symbols of one member differ
 pub own_distinct : (archive : List MemberView) (m : MemberView) → IsDistinct bytes_eq (all_listed archive) → Among m archive → IsDistinct bytes_eq m.symbols
@@ -310,8 +306,13 @@ pub from_not : (b : Bool) → not b ≡ true → b ≡ false
 from_not true is = absurd (true≢false (sym is))
 from_not false is = refl
 
-pub to_not : (b : Bool) → b ≡ false → not b ≡ true
-to_not b is = rw is refl
-
 pub among_filter : {X : Type 0} (test : X → Bool) (x : X) (xs : List X) → Among x (filter test xs) → Among x xs
 among_filter test x xs held = (passing test x xs held).0
+
+-- where none passes a test
+pub none_passes : {X : Type 0} (test : X → Bool) (xs : List X) → ((x : X) → Among x xs → test x ≡ false) → (filter test xs ≡ []) × (filter (λ x. not (test x)) xs ≡ xs)
+none_passes test [] none = (refl, refl)
+none_passes test (x ∷ xs) none =
+    let own : test x ≡ false = none x (among_first x xs) in
+    let later = none_passes test xs (λ y held. none y (among_later y x xs held)) in
+    (rw own later.0, rw own (ap (λ ys. x ∷ ys) later.1))

@@ -26,20 +26,18 @@ use Rattle.implib.proofs.Link.Ranges.{Among, among_back, among_first, among_flat
 use Rattle.implib_link.specs.Flavors.Expansion.{descriptor_symbol_by_name, expanded_in}
 use Rattle.implib_link.specs.Flavors.Program.{all_members, specs_in}
 use Rattle.implib_link.specs.Gnu.Program.{HaveSame}
-use Rattle.implib_link.specs.Search.Archives.{Library, archive_of, exports_of}
+use Rattle.implib_link.specs.Search.Archives.{Library, archive_of}
 use Rattle.implib_link.specs.Search.BothFlavors.{FlavorLibrary, IsFlavorArchive, NamesNoMembers, archive_of_both}
-use Rattle.implib_link.specs.Search.Msvc.{NamesNoHeader, TakesFor, is_short_wanted, msvc_if_any, numbers_passing, shorts_wanted}
+use Rattle.implib_link.specs.Search.Msvc.{NamesNoHeader, TakesFor, is_short_wanted, msvc_if_any, shorts_wanted}
 use Rattle.implib_link.specs.Search.MsvcArchives.{imports_wanted, is_import_wanted, is_short_alias, is_weak_in, others_in, short_input_if_any, shorts_linked, symbols_of_short, symbols_of_shorts, wanted_with_weak, weak_in, with_first_null}
-use Rattle.implib_link.specs.Search.Search.{left_as}
+use Rattle.implib_link.specs.Search.Search.{left_as, numbers_passing}
 use Rattle.implib_link.proofs.Flavors.Inputs.{read_of, short_at}
-use Rattle.implib_link.proofs.Search.ArchiveMembers.{FoundExport, FoundHead, FoundTail, FoundWeak as FoundDataWeak}
-use Rattle.implib_link.proofs.Search.BothArchives.{both_taken}
-use Rattle.implib_link.proofs.Search.BothMembers.{FoundInBoth, first_held, found_in_both, msvc_made}
 use Rattle.implib_link.proofs.Search.Closing.{pulled}
-use Rattle.implib_link.proofs.Search.Lists.{all_listed, listed_mapped, one_member}
-use Rattle.implib_link.proofs.Search.MsvcArchives.{descriptor_plain, null_plain, short_plain, thunk_plain}
-use Rattle.implib_link.proofs.Search.MsvcMembers.{FoundDescriptor, FoundNull, FoundShort, FoundThunk, FoundWeak as FoundShortWeak}
-use Rattle.implib_link.proofs.Search.Search.{in_nothing, only_one}
+use Rattle.implib_link.proofs.Search.Found.{expands, found as found_in, weak_by_role}
+use Rattle.implib_link.proofs.Search.Lists.{all_listed, among_at, listed_mapped, none_passes, one_member}
+use Rattle.implib_link.proofs.Search.Roles.{IsRole, Last, Null, Own, Role, Top, Weak, in_flavor, is_weak_role}
+use Rattle.implib_link.proofs.Search.Search.{only_one}
+use Rattle.implib_link.proofs.Search.Taken.{both_taken}
 
 -- Exports without aliases.
 
@@ -69,13 +67,6 @@ numbers_same wanted number [] none = refl
 numbers_same wanted number (e ∷ exports) none =
     let later = numbers_same wanted (number + 1) exports none.1 in
     elim (cases_Bool (is_short_wanted wanted e)) [ inl is ↦ rw (is, none.0) (ap (λ ns. number ∷ ns) later) | inr is ↦ rw is later ]
-
-all_plain : (machine : MachineType) (members : List MemberView) → ((m : MemberView) → Among m members → is_weak_in machine m ≡ false) → (weak_in machine members ≡ []) × (others_in machine members ≡ members)
-all_plain machine [] plain = (refl, refl)
-all_plain machine (m ∷ members) plain =
-    let own : is_weak_in machine m ≡ false = plain m (among_first m members) in
-    let later = all_plain machine members (λ x held. plain x (among_later x m members held)) in
-    (rw own later.0, rw own (ap (λ ms. m ∷ ms) later.1))
 
 module _ (d : DefinitionView) (machine : MachineType) (members : List MemberView) (made : AreMembersOf d machine Msvc members) (distinct : IsDistinct bytes_eq (all_listed members))
     (found : descriptor_symbol_by_name d.import_name ≡ descriptor_symbol (linked_dll d)) where
@@ -143,19 +134,15 @@ module _ (d : DefinitionView) (machine : MachineType) (members : List MemberView
     apart = tt;
   }
 
-  alone : (l : Library) → Among l (record { definition = d; members = members } ∷ []) → (e : ExportView) → Among e (exports_of l) → is_short_alias e ≡ true → ⊥
-  alone l held e there alias = no_alias e (subst (λ (x : Library). Among e (exports_of x)) (only_one l one held) there) alias
-
-  not_weak : (name : List ℕ) (m : MemberView) → FoundInBoth machine (record { flavor = Msvc; library = record { definition = d; members = members } } ∷ []) archive name m → is_weak_in machine m ≡ false
-  not_weak name m (inl (FoundTail l held same is)) = absurd (in_nothing l held)
-  not_weak name m (inl (FoundHead l held same is)) = absurd (in_nothing l held)
-  not_weak name m (inl (FoundExport l held n e is same listed)) = absurd (in_nothing l held)
-  not_weak name m (inl (FoundDataWeak l held n e is alias is_data same named)) = absurd (in_nothing l held)
-  not_weak name m (inr (FoundDescriptor l held same is)) = descriptor_plain machine m l (msvc_made machine libraries archive l held) same
-  not_weak name m (inr (FoundNull l rest first same is)) = null_plain machine m l (msvc_made machine libraries archive l (first_held machine libraries archive l rest first)) same
-  not_weak name m (inr (FoundThunk l held same is)) = thunk_plain machine m l (msvc_made machine libraries archive l held) same
-  not_weak name m (inr (FoundShort l held e there none same listed)) = short_plain machine m l (msvc_made machine libraries archive l held) e there same
-  not_weak name m (inr (FoundShortWeak l held e there alias weak target pair same named)) = absurd (alone l held e there alias)
+  not_weak : (l : FlavorLibrary) (r : Role) → Among l (record { flavor = Msvc; library = record { definition = d; members = members } } ∷ []) →
+      IsRole (record { flavor = Msvc; library = record { definition = d; members = members } } ∷ []) l r → is_weak_role r ≡ false
+  not_weak l Top held is = refl
+  not_weak l Last held is = refl
+  not_weak l Null held is = refl
+  not_weak l (Own n e) held is = refl
+  not_weak l (Weak n e b) held is =
+      let so : IsRole libraries (in_flavor Msvc one) (Weak n e b) = subst (λ x. IsRole libraries x (Weak n e b)) (only_one l (in_flavor Msvc one) held) is in
+      absurd (no_alias e (among_at e exports n so.0) so.1)
 
   -- what is linked of the library, and the null descriptor
   linked_by : (numbers : List ℕ) → with_first_null machine (record { definition = d; members = members } ∷ []) (all_members machine (cons_option (short_input_if_any (record { definition = d; members = members }) numbers) []))
@@ -169,9 +156,10 @@ module _ (d : DefinitionView) (machine : MachineType) (members : List MemberView
     of_one = subst (λ ms. TakesFor machine ms wanted taken) (sym (append-nil members)) takes
 
     plain : (weak_in machine taken ≡ []) × (others_in machine taken ≡ taken)
-    plain = all_plain machine taken (λ m held.
+    plain = none_passes (is_weak_in machine) taken (λ m held.
         let by = pulled (expanded_in machine) (archive_of_both libraries) wanted taken of_one.in_turn m held in
-        not_weak by.0 m (found_in_both machine libraries archive by.0 m by.1))
+        let x = (found_in machine libraries archive by.0 m by.1).has in
+        weak_by_role machine libraries archive (expanded_in machine) (is_weak_in machine) (expands machine libraries archive) m x ∙ not_weak x.library x.role x.held x.is)
 
     wanted_alone : wanted_with_weak machine wanted taken ≡ wanted
     unfolding left_as

@@ -1,9 +1,11 @@
 -- How far packed import tables of libraries for Microsoft's linker reach, by the definitions alone.
-use Rattle.std.proofs.Common.{◌≡◌, ℕ, zero, suc, take, ◌+◌, ◌≤◌, Bool, true, false, List, [], ◌∷◌, ◌++◌, length, map, refl, ap, sym, ◌∙◌, subst, inl, inr, arith, if◌then◌else◌}
-use Rattle.std.specs.Prelude.{◌==◌}
-use Rattle.std.specs.List.{AllByRecursion, before_first, cons_option, filter, position_or_len, sum_by}
+use Rattle.std.proofs.Common.{◌≡◌, ℕ, ◌+◌, ◌≤◌, Bool, true, false, List, [], ◌∷◌, ◌++◌, length, refl, sym, subst, inl, inr, arith, if◌then◌else◌}
+use Rattle.std.specs.Prelude.{not, ◌==◌}
+use Rattle.std.specs.List.{before_first, position_or_len, sum_by}
 use Rattle.std.proofs.lemmas.Bool.{cases_Bool}
 use Rattle.std.proofs.lemmas.List.{length-append}
+use Rattle.std.proofs.lemmas.List.Filters.{sum_by-filter_both}
+use Rattle.std.proofs.lemmas.List.Sums.{sum_by-cons}
 use Rattle.implib.specs.declared.flavor.Flavor.TheVariants.{Msvc}
 use Rattle.implib.specs.declared.machine.MachineType.{MachineType}
 use Rattle.implib.specs.declared.machine.MachineType.TheVariants.{I386, ARMNT, AMD64, ARM64}
@@ -18,30 +20,22 @@ use Rattle.implib.specs.Link.LinkedMembers.{chosen_exports}
 use Rattle.implib.specs.Members.Msvc.{name_type_of, short_import_symbol}
 use Rattle.implib.specs.Members.MsvcObjects.{descriptor, null_descriptor, null_thunk}
 use Rattle.implib_link.specs.Flavors.Expansion.{Use, import_object}
-use Rattle.implib_link.specs.Flavors.Program.{FlavorInput, IsMadeFor, ask_in, objects_taken, AreEndedByMember}
+use Rattle.implib_link.specs.Flavors.Program.{ask_in}
 use Rattle.implib_link.specs.Flavors.SectionSymbols.{with_section_symbols}
-use Rattle.implib_link.specs.Gnu.Packed.{packed_end}
 use Rattle.implib_link.specs.Search.Archives.{Library, exports_of}
-use Rattle.implib_link.specs.Search.MsvcArchives.{imports_wanted, is_import_wanted, short_input_if_any}
+use Rattle.implib_link.specs.Search.MsvcArchives.{imports_wanted, is_import_wanted}
 use Rattle.implib_link.specs.Search.MsvcExists.{msvc_library_room, short_room}
 use Rattle.implib_link.proofs.Flavors.Block.{behind_descriptor, use_for}
-use Rattle.implib_link.proofs.Flavors.Blocks.{all_objects}
 use Rattle.implib_link.proofs.Flavors.Expanded.{taken_descriptor, taken_null, taken_null_thunk}
-use Rattle.implib_link.proofs.Flavors.Inputs.{block_in}
-use Rattle.implib_link.proofs.Flavors.Program.{kept_are, parts_are}
 use Rattle.implib_link.proofs.Search.MsvcArchives.{imports_are}
-use Rattle.implib_link.proofs.Search.Rooms.{all_rooms, own_rooms, packed_end_kept, packed_near, sections_room, sum_next, without_near}
-use Rattle.implib.specs.LibraryName.{NamesOfDll, names_for}
+use Rattle.implib_link.proofs.Search.Rooms.{all_rooms, own_rooms, sections_room, without_near}
+use Rattle.implib.specs.LibraryName.{NamesOfDll}
+use Rattle.implib.proofs.Text.Advanced.{take_shorter}
 
 -- The name that is asked for is no longer than the symbol.
 
-take_near : (n : ℕ) (xs : List ℕ) → length (take n xs) ≤ length xs
-take_near zero xs = omega arith
-take_near (suc n) [] = omega arith
-take_near (suc n) (x ∷ xs) = (let behind = take_near n xs in omega arith)
-
 before_near : (p : ℕ → Bool) (name : List ℕ) → length (before_first p name) ≤ length name
-before_near p name = take_near (position_or_len p name) name
+before_near p name = take_shorter (position_or_len p name) name
 
 prefix_near : (symbol : List ℕ) → length (without_prefix symbol) ≤ length symbol
 prefix_near symbol =
@@ -99,7 +93,7 @@ thunk_near ARMNT dll = omega arith
 thunk_near AMD64 dll = omega arith
 thunk_near ARM64 dll = omega arith
 
-null_near : (machine : MachineType) → own_rooms (taken_null machine) ≤ 24
+pub null_near : (machine : MachineType) → own_rooms (taken_null machine) ≤ 24
 unfolding own_rooms sections_room with_section_symbols object_of null_descriptor entries_of name_text
 null_near machine = omega arith
 
@@ -109,54 +103,20 @@ askings_near machine dll [] rest = (let thunk = thunk_near machine dll in omega 
 askings_near machine dll (e ∷ es) rest =
     let first = asking_near machine dll (short_import_symbol e) (ask_in Msvc machine e) (use_for e) in
     let name = ask_near machine e in
-    let next : sum_by short_room (e ∷ es) ≡ short_room e + sum_by short_room es = sum_next short_room e es in
+    let next : sum_by short_room (e ∷ es) ≡ short_room e + sum_by short_room es = sum_by-cons short_room e es in
     let behind = askings_near machine dll es rest in
     omega arith
 
--- The rooms of libraries.
+-- the imports of a library that are wanted
+pub imports_near : (l : Library) (names : List (List ℕ)) → 67 + length l.definition.import_name + sum_by short_room (chosen_exports l.definition (imports_wanted l names)) ≤ msvc_library_room l
+imports_near l names =
+    let parts = sum_by-filter_both (is_import_wanted names) (λ e. not (is_import_wanted names e)) (λ e. refl) short_room (exports_of l) in
+    subst (λ (es : List ExportView). 67 + length l.definition.import_name + sum_by short_room es ≤ msvc_library_room l) (sym (imports_are l names)) (omega arith)
 
-library_near : (machine : MachineType) (l : Library) (chosen : List ℕ) (others : List FlavorInput) (n m : ℕ) → all_rooms (all_objects machine (map block_in others) []) ≤ n →
-    67 + length l.definition.import_name + sum_by short_room (chosen_exports l.definition chosen) ≤ m →
-    all_rooms (all_objects machine (map block_in (cons_option (short_input_if_any l chosen) others)) []) ≤ m + n
+-- what is linked of one DLL, and others after it
+pub shorts_near : (machine : MachineType) (dll : NamesOfDll) (es : List ExportView) (rest : List Object) → all_rooms (taken_descriptor machine dll ∷ behind_descriptor machine dll es rest) ≤ 67 + length dll.text + sum_by short_room es + all_rooms rest
 unfolding all_rooms
-library_near machine l [] others n m behind own = omega arith
-library_near machine l (c ∷ chosen) others n m behind own =
-    let dll : NamesOfDll = names_for Msvc l.definition in
+shorts_near machine dll es rest =
     let first = descriptor_near machine dll in
-    let rest = askings_near machine dll (chosen_exports l.definition (c ∷ chosen)) (all_objects machine (map block_in others) []) in
+    let behind = askings_near machine dll es rest in
     omega arith
-
-some_near : (test : ExportView → Bool) (es : List ExportView) → sum_by short_room (filter test es) ≤ sum_by short_room es
-some_near test [] = omega arith
-some_near test (e ∷ es) =
-    let behind = some_near test es in
-    let all : sum_by short_room (e ∷ es) ≡ short_room e + sum_by short_room es = sum_next short_room e es in
-    let some : sum_by short_room (e ∷ filter test es) ≡ short_room e + sum_by short_room (filter test es) = sum_next short_room e (filter test es) in
-    elim (cases_Bool (test e)) [ inl is ↦ rw is (omega arith) | inr is ↦ rw is (omega arith) ]
-
--- what is linked of a library, if any import is wanted, and of others
-pub short_library_near : (machine : MachineType) (l : Library) (names : List (List ℕ)) (others : List FlavorInput) (n : ℕ) → all_rooms (all_objects machine (map block_in others) []) ≤ n →
-    all_rooms (all_objects machine (map block_in (cons_option (short_input_if_any l (imports_wanted l names)) others)) []) ≤ msvc_library_room l + n
-short_library_near machine l names others n behind =
-    let some : sum_by short_room (filter (is_import_wanted names) (exports_of l)) ≤ sum_by short_room (exports_of l) = some_near (is_import_wanted names) (exports_of l) in
-    let own : 67 + length l.definition.import_name + sum_by short_room (chosen_exports l.definition (imports_wanted l names)) ≤ msvc_library_room l =
-    subst (λ (es : List ExportView). 67 + length l.definition.import_name + sum_by short_room es ≤ msvc_library_room l) (sym (imports_are l names)) (omega arith) in
-    library_near machine l (imports_wanted l names) others n (msvc_library_room l) behind own
-
--- an object put in among others
-rooms_put : (front back : List Object) (o : Object) → all_rooms (front ++ o ∷ back) ≡ own_rooms o + all_rooms (front ++ back)
-unfolding all_rooms
-rooms_put [] back o = refl
-rooms_put (x ∷ front) back o = (let behind = rooms_put front back o in omega arith)
-
--- What is linked of any inputs, and a null descriptor among it, packed: as far as its room reaches.
-pub flavor_tables_near : (machine : MachineType) (first : ℕ) (inputs : List FlavorInput) (objects : List Object) (room : ℕ) → AllByRecursion (IsMadeFor machine) inputs →
-    AreEndedByMember machine inputs objects → all_rooms (all_objects machine (map block_in inputs) []) ≤ room → packed_end first objects ≤ first + 72 + room
-flavor_tables_near machine first inputs objects room made held rooms =
-    let front : List Object = objects_taken machine held.before in
-    let back : List Object = objects_taken machine held.behind in
-    let near : packed_end first (front ++ taken_null machine ∷ back) ≤ first + 38 + all_rooms (front ++ taken_null machine ∷ back) = packed_near first (front ++ taken_null machine ∷ back) in
-    let put : all_rooms (front ++ taken_null machine ∷ back) ≡ own_rooms (taken_null machine) + all_rooms (front ++ back) = rooms_put front back (taken_null machine) in
-    let parts : all_rooms (front ++ back) ≡ all_rooms (all_objects machine (map block_in inputs) []) = ap all_rooms (parts_are machine inputs objects made held) in
-    let null = null_near machine in
-    subst (λ n. n ≤ first + 72 + room) (sym (packed_end_kept first objects ∙ ap (packed_end first) (kept_are machine inputs objects made held))) (omega arith)

@@ -1,11 +1,12 @@
 -- For objects that want no short import, a linker takes of an archive of both flavours what it takes of the libraries for GNU's
 -- linker alone.
-use Rattle.std.proofs.Common.{◌≡◌, ℕ, false, List, [], ◌∷◌, ◌++◌, Some, refl, ap, sym, ◌∙◌, subst, inl, inr}
+use Rattle.std.proofs.Common.{◌≡◌, ℕ, true, false, List, [], ◌∷◌, ◌++◌, Some, refl, ap, sym, ◌∙◌, subst, inl, inr}
 use Rattle.std.specs.Prelude.{bytes_eq}
 use Rattle.std.specs.List.{Contains, cons_option, filter, flat_map, list_any}
 use Rattle.std.proofs.lemmas.Grind.{flat_map-append}
+use Rattle.implib.specs.declared.flavor.Flavor.{Flavor}
+use Rattle.implib.specs.declared.flavor.Flavor.TheVariants.{Gnu, Msvc}
 use Rattle.implib.specs.declared.machine.MachineType.{MachineType}
-use Rattle.implib.specs.Formats.Layout.{entries_of, name_text, object_of}
 use Rattle.implib.specs.Formats.Object.{Object, object_in}
 use Rattle.implib.specs.LibraryName.{linked_name}
 use Rattle.implib.specs.Link.LinkedMembers.{objects_in}
@@ -13,55 +14,86 @@ use Rattle.implib.specs.Link.Placement.{Bases}
 use Rattle.implib.specs.Members.Gnu.{archive_symbols, head_symbol, iname_symbol}
 use Rattle.implib.specs.Members.MemberSpec.{MemberView}
 use Rattle.implib.specs.Members.MsvcObjects.{null_descriptor_symbol}
-use Rattle.implib.specs.Members.WeakExternal.{weak_object}
-use Rattle.implib.proofs.Link.LinkedMembers.{among_contains}
+use Rattle.implib.proofs.Link.LinkedMembers.{among_contains, among_map}
 use Rattle.implib.proofs.Link.Ranges.{Among, all_among, among_back, among_first, among_flat, among_front, among_later}
 use Rattle.implib_link.specs.Flavors.Expansion.{expanded_in}
 use Rattle.implib_link.specs.Flavors.Program.{objects_taken}
-use Rattle.implib_link.specs.Flavors.SectionSymbols.{with_section_symbols}
 use Rattle.implib_link.specs.Gnu.Program.{ClaimsNone, claimed_names}
-use Rattle.implib_link.specs.Search.Archives.{Library, archive_of, exports_of, symbols_of_library}
+use Rattle.implib_link.specs.Search.Archives.{Library, archive_of, exports_of, is_weak, symbols_of_library}
 use Rattle.implib_link.specs.Search.BothFlavors.{AreGivenForBoth, FlavorLibrary, IsFlavorArchive, archive_of_both, gnu_among, kept_of_both, msvc_among, targets_of_both, wanted_of_both}
 use Rattle.implib_link.specs.Search.Closed.{AreLinkedFor, AreTakenInto, IsClosed, LinksClosed, PullsInto, TakesInto, listed_in, unresolved, AreTakenIntoAs}
 use Rattle.implib_link.specs.Search.Given.{AreGiven, alias_targets, heads_of, symbols_kept, symbols_wanted, tails_of, wanted_at_most}
-use Rattle.implib_link.specs.Search.MsvcArchives.{symbols_of_shorts}
+use Rattle.implib_link.specs.Search.MsvcArchives.{symbols_of_all_shorts, symbols_of_short, symbols_of_shorts}
 use Rattle.implib_link.specs.Search.MsvcClosed.{AreTakenIntoFor, PullsIntoFor, TakesIntoFor}
 use Rattle.implib_link.specs.Search.MsvcGiven.{headers_of, short_targets}
 use Rattle.implib_link.specs.Search.NoShorts.{WantsNoShort}
 use Rattle.implib_link.specs.Search.Search.{NamesNoHeadOrTail, first_listed, is_wanted, undefined_in}
-use Rattle.implib_link.proofs.Search.ArchiveMembers.{Found, FoundExport, FoundHead, FoundTail, FoundWeak, export_object_is, found, head_object_is, tail_object_is, weak_object_is}
-use Rattle.implib_link.proofs.Search.Lists.{all_from as all_each, passing, among_either, among_flat_map, contains_among, listed_is, name_as}
+use Rattle.implib_link.proofs.Search.Lists.{among_at, all_from as all_each, passing, among_either, among_flat_map, contains_among, listed_is, name_as}
+use Rattle.implib_link.proofs.Search.BothGiven.{data_target, header_kept, own_kept, target_kept}
+use Rattle.implib_link.proofs.Search.Chosen.{chosen_too}
+use Rattle.implib_link.proofs.Search.Closed.{closed_links, left_there}
+use Rattle.implib_link.proofs.Search.FlavorGroups.{gnu_there, msvc_there, there_gnu}
+use Rattle.implib_link.proofs.Search.Found.{HasRole, finds, found, left_by_role}
+use Rattle.implib_link.proofs.Search.Given.{given_closes}
+use Rattle.implib_link.proofs.Search.GnuAlone.{archive_alone, gnu_alone, gnu_libraries, members_alone, no_short, read_same, reads_plainly}
+use Rattle.implib_link.proofs.Search.MsvcMembers.{pair_symbol, short_symbol}
+use Rattle.implib_link.proofs.Search.Roles.{IsRole, Last, Null, Own, Role, Top, Weak, in_flavor, left, member, pair, symbols, weak_symbol, weak_target}
+use Rattle.implib_link.proofs.Search.Search.{only_one}
 use Rattle.implib_link.proofs.Search.Closing.{first_of, unresolved_from, unresolved_parts, claims_none, claims_apart, there_not, not_there}
-use Rattle.implib_link.proofs.Search.BothGiven.{export_kept, export_wanted_too, header_kept, target_kept}
-use Rattle.implib_link.proofs.Search.BothMembers.{found_either, gnu_export_is, gnu_head_is, gnu_in_both, gnu_made, gnu_tail_is, gnu_weak_is, msvc_symbol, symbols_apart}
-use Rattle.implib_link.proofs.Search.Closed.{closed_links, from_sources, into_objects}
-use Rattle.implib_link.proofs.Search.Given.{Left, LeftByExport, LeftByHead, LeftByWeak, given_closes, left_by}
-use Rattle.implib_link.proofs.Search.MsvcMembers.{found as msvc_found, taken_weak}
 
--- a weak external is taken as it is
-weak_plain : (machine : MachineType) (weak target : List ℕ) → taken_weak machine weak target ≡ object_of (weak_object machine weak target)
-unfolding with_section_symbols weak_object object_of entries_of name_text
-weak_plain machine weak target = refl
+-- roles of a library for GNU's linker do not depend on the others
+gnu_role : (libraries others : List FlavorLibrary) (l : Library) (r : Role) → IsRole libraries (in_flavor Gnu l) r → IsRole others (in_flavor Gnu l) r
+gnu_role libraries others l Top is = tt
+gnu_role libraries others l Last is = tt
+gnu_role libraries others l Null is = absurd is
+gnu_role libraries others l (Own n e) is = is
+gnu_role libraries others l (Weak n e b) is = is
+
+-- a library's symbols in its members' roles are among those of all libraries for Microsoft's linker
+short_symbols : (machine : MachineType) (libraries : List FlavorLibrary) (l : Library) (r : Role) (name : List ℕ) → Among l (msvc_among libraries) → IsRole libraries (in_flavor Msvc l) r →
+    Among name (symbols machine Msvc l r) → Among name (symbols_of_all_shorts (msvc_among libraries))
+unfolding symbols_of_shorts Among
+short_symbols machine libraries l r name held is listed = by r (msvc_among libraries) held is listed
+  where
+    own : (ls : List Library) → Among l ls → Among name (null_descriptor_symbol ∷ flat_map symbols_of_shorts ls) → Among name (symbols_of_all_shorts ls)
+    own [] none there = absurd none
+    own (x ∷ ls) some there = there
+
+    by : (r : Role) (ls : List Library) → Among l ls → IsRole libraries (in_flavor Msvc l) r → Among name (symbols machine Msvc l r) → Among name (symbols_of_all_shorts ls)
+    by Null ls there so named = own ls there (inl (only_one name _ named))
+    by Top ls there so named = own ls there (inr (among_flat symbols_of_shorts l ls name there (inl (only_one name _ named))))
+    by Last ls there so named = own ls there (inr (among_flat symbols_of_shorts l ls name there (inr (inl (only_one name _ named)))))
+    by (Own n e) ls there so named =
+        own ls there (inr (among_flat symbols_of_shorts l ls name there (inr (inr (among_flat symbols_of_short e (exports_of l) name (among_at e (exports_of l) n so.0) (short_symbol e name so.1 named))))))
+    by (Weak n e b) ls there so named =
+        own ls there (inr (among_flat symbols_of_shorts l ls name there (inr (inr (among_flat symbols_of_short e (exports_of l) name (among_at e (exports_of l) n so.0)
+        (subst (λ k. Among k (symbols_of_short e)) (sym (only_one name _ named)) (pair_symbol e (weak_symbol Msvc e b) (weak_target e b) so.1 (pair e b))))))))
 
 module _ (machine : MachineType) (libraries : List FlavorLibrary) (archive : IsFlavorArchive machine libraries) where
   abbrev shorts : List (List ℕ)
-  shorts = null_descriptor_symbol ∷ flat_map symbols_of_shorts (msvc_among libraries)
+  shorts = symbols_of_all_shorts (msvc_among libraries)
 
-  -- A linker takes a member for GNU's linker for the object in its bytes.
+  abbrev gnu_only : List FlavorLibrary
+  gnu_only = gnu_libraries (gnu_among libraries)
 
-  read_same : (m x : MemberView) → m ≡ x → expanded_in machine x.bytes ≡ object_in x.bytes → expanded_in machine m.bytes ≡ object_in m.bytes
-  read_same m x same is = subst (λ (y : MemberView). expanded_in machine y.bytes ≡ object_in y.bytes) (sym same) is
+  abbrev of_alone : IsFlavorArchive machine gnu_only
+  of_alone = archive_alone machine (gnu_among libraries) archive.gnu
 
-  found_same : (by : List ℕ) (m : MemberView) → Found machine (gnu_among libraries) archive.gnu by m → expanded_in machine m.bytes ≡ object_in m.bytes
-  found_same by m (FoundTail l held same is) =
-      read_same m _ same (gnu_tail_is machine l (gnu_made machine libraries archive l held) ∙ sym (tail_object_is machine l (gnu_made machine libraries archive l held)))
-  found_same by m (FoundHead l held same is) =
-      read_same m _ same (gnu_head_is machine l (gnu_made machine libraries archive l held) ∙ sym (head_object_is machine l (gnu_made machine libraries archive l held)))
-  found_same by m (FoundExport l held n e is same listed) =
-      read_same m _ same (gnu_export_is machine l (gnu_made machine libraries archive l held) n e is ∙ sym (export_object_is machine l (gnu_made machine libraries archive l held) n e is))
-  found_same by m (FoundWeak l held n e is alias is_data same named) =
-      read_same m _ same (gnu_weak_is machine l (gnu_made machine libraries archive l held) n e is alias ∙ ap Some (weak_plain machine e.name e.alias_target)
-      ∙ sym (weak_object_is machine l (gnu_made machine libraries archive l held) n e is alias))
+  -- a name that finds a member of the libraries for GNU's linker finds it in its role
+  role_of : (by : List ℕ) (m : MemberView) → first_listed (archive_of (gnu_among libraries)) by ≡ Some m → HasRole machine (gnu_libraries (gnu_among libraries)) (archive_alone machine (gnu_among libraries) archive.gnu) m
+  role_of by m is = (found machine gnu_only of_alone by m (ap (λ ms. first_listed ms by) (members_alone (gnu_among libraries)) ∙ is)).has
+
+  -- and so it does in the whole archive
+  gnu_in_both : (name : List ℕ) (m : MemberView) → first_listed (archive_of (gnu_among libraries)) name ≡ Some m → first_listed (archive_of_both libraries) name ≡ Some m
+  gnu_in_both name m is =
+      let x = found machine gnu_only of_alone name m (ap (λ ms. first_listed ms name) (members_alone (gnu_among libraries)) ∙ is) in
+      by x.has.library.flavor x.has.library.library x.has.role x.has.held x.has.is x.has.same x.listed
+    where
+      by : (flavor : Flavor) (l : Library) (r : Role) → Among (in_flavor flavor l) gnu_only → IsRole gnu_only (in_flavor flavor l) r → m ≡ member machine flavor l r → Among name (symbols machine flavor l r) →
+          first_listed (archive_of_both libraries) name ≡ Some m
+      by Msvc l r there so same listed = absurd (no_short (gnu_among libraries) l there)
+      by Gnu l r there so same listed =
+          finds machine libraries archive Gnu l r name (there_gnu libraries l (subst (Among l) (gnu_alone (gnu_among libraries)) (gnu_there gnu_only l there))) (gnu_role gnu_only libraries l r so) listed ∙ ap Some (sym same)
 
   -- names find these members in the archive of the libraries for GNU's linker
   abbrev AllFound : List MemberView → Type 0
@@ -71,24 +103,35 @@ module _ (machine : MachineType) (libraries : List FlavorLibrary) (archive : IsF
   objects_same [] all = refl
   objects_same (m ∷ members) all =
       let by = all m (among_first m members) in
-      let first : expanded_in machine m.bytes ≡ object_in m.bytes = found_same by.0 m (found machine (gnu_among libraries) archive.gnu by.0 m by.1) in
+      let first : expanded_in machine m.bytes ≡ object_in m.bytes = read_same machine (gnu_among libraries) archive.gnu m (role_of by.0 m by.1) in
       ap (λ o. cons_option o (objects_taken machine members)) first ∙ ap (cons_option (object_in m.bytes)) (objects_same members (λ x held. all x (among_later x m members held)))
 
   module _ (own : List Object) (none : WantsNoShort libraries own) where
     abbrev most : List (List ℕ)
     most = wanted_at_most (gnu_among libraries) own
 
+    apart_from : (name : List ℕ) → Among name (flat_map (symbols_of_library machine) (gnu_among libraries)) → Among name shorts → ⊥
+    apart_from name gnu short = there_not name shorts (all_among (λ k. list_any (bytes_eq k) (symbols_of_all_shorts (msvc_among libraries)) ≡ false) name (flat_map (symbols_of_library machine) (gnu_among libraries)) gnu archive.apart) short
+
+    there : (l : Library) → Among (in_flavor Gnu l) gnu_only → Among l (gnu_among libraries)
+    there l held = subst (Among l) (gnu_alone (gnu_among libraries)) (gnu_there gnu_only l held)
+
     not_wanted : (name : List ℕ) → Among name shorts → Among name most → ⊥
     not_wanted name short want = there_not name most (all_among (λ k. list_any (bytes_eq k) most ≡ false) name shorts short none) want
 
     -- what such a member leaves to others is no symbol for Microsoft's linker
-    left_short : (name : List ℕ) (m : MemberView) → Left machine (gnu_among libraries) archive.gnu name m → Among name shorts → ⊥
+    left_short : (flavor : Flavor) (l : Library) (r : Role) (name : List ℕ) → Among (in_flavor flavor l) gnu_only → IsRole gnu_only (in_flavor flavor l) r → Among name (left machine flavor l r) → Among name shorts → ⊥
     unfolding symbols_of_library Among
-    left_short name m (LeftByHead l held is) short =
-        symbols_apart machine libraries archive name (among_flat (symbols_of_library machine) l (gnu_among libraries) name held (inl is)) short
-    left_short name m (LeftByExport l held is) short =
-        symbols_apart machine libraries archive name (among_flat (symbols_of_library machine) l (gnu_among libraries) name held (inr (inl is))) short
-    left_short name m (LeftByWeak target) short = not_wanted name short (among_back name (unresolved own) (alias_targets (gnu_among libraries)) target)
+    left_short Msvc l r name held is named short = no_short (gnu_among libraries) l held
+    left_short Gnu l Top name held is named short = apart_from name (among_flat (symbols_of_library machine) l (gnu_among libraries) name (there l held) (inl (only_one name _ named))) short
+    left_short Gnu l (Own n e) name held is named short =
+        apart_from name (among_flat (symbols_of_library machine) l (gnu_among libraries) name (there l held) (inr (inl (only_one name _ named)))) short
+    left_short Gnu l Last name held is named short = absurd named
+    left_short Gnu l Null name held is named short = absurd named
+    left_short Gnu l (Weak n e true) name held is named short = is.1
+    left_short Gnu l (Weak n e false) name held is named short =
+        not_wanted name short (among_back name (unresolved own) (alias_targets (gnu_among libraries))
+        (subst (λ x. Among x (alias_targets (gnu_among libraries))) (sym (only_one name _ named)) (data_target (gnu_among libraries) l n e (there l held) is.0 is.1.0 is.1.1)))
 
     unresolved_short : (members : List MemberView) → AllFound members → (name : List ℕ) → Among name (unresolved (own ++ objects_in members)) → Among name shorts → ⊥
     unresolved_short members all name held short =
@@ -101,17 +144,24 @@ module _ (machine : MachineType) (libraries : List FlavorLibrary) (archive : IsF
           | inr left ↦
               let from = name_as object_in undefined_in name members left in
               let by = all from.member from.held in
-              left_short name from.member (left_by machine (gnu_among libraries) archive.gnu by.0 name from.member from.object (found machine (gnu_among libraries) archive.gnu by.0 from.member by.1) from.taken from.among) short
+              let x = role_of by.0 from.member by.1 in
+              left_short x.library.flavor x.library.library x.role name x.held x.is
+              (left_by_role machine gnu_only of_alone object_in is_weak (reads_plainly machine (gnu_among libraries) archive.gnu) from.member x from.object name from.taken from.among) short
         ]
 
     -- so an unresolved name finds what it finds in the libraries for GNU's linker
     finds_gnu : (members : List MemberView) → AllFound members → (name : List ℕ) → Among name (unresolved (own ++ objects_in members)) → (m : MemberView) →
         first_listed (archive_of_both libraries) name ≡ Some m → first_listed (archive_of (gnu_among libraries)) name ≡ Some m
     finds_gnu members all name held m is =
-        elim (found_either libraries name m is) [
-          | inl gnu ↦ gnu
-          | inr msvc ↦ absurd (unresolved_short members all name held (msvc_symbol machine libraries archive name m (msvc_found machine (msvc_among libraries) archive.msvc name m msvc)))
-        ]
+        let x = found machine libraries archive name m is in
+        by x.has.library.flavor x.has.library.library x.has.role x.has.held x.has.is x.has.same x.listed
+      where
+        by : (flavor : Flavor) (l : Library) (r : Role) → Among (in_flavor flavor l) libraries → IsRole libraries (in_flavor flavor l) r → m ≡ member machine flavor l r → Among name (symbols machine flavor l r) →
+            first_listed (archive_of (gnu_among libraries)) name ≡ Some m
+        by Msvc l r there so same listed = absurd (unresolved_short members all name held (short_symbols machine libraries l r name (msvc_there libraries l there) so listed))
+        by Gnu l r there so same listed =
+            ap (λ ms. first_listed ms name) (sym (members_alone (gnu_among libraries)))
+            ∙ finds machine gnu_only of_alone Gnu l r name (among_map (in_flavor Gnu) l (gnu_among libraries) (gnu_there libraries l there)) (gnu_role libraries gnu_only l r so) listed ∙ ap Some (sym same)
 
     pulls_alone : (members : List MemberView) → AllFound members → (name : List ℕ) (m : MemberView) → PullsIntoFor machine (archive_of_both libraries) own members name m →
         PullsInto (archive_of (gnu_among libraries)) own members name m
@@ -127,7 +177,7 @@ module _ (machine : MachineType) (libraries : List FlavorLibrary) (archive : IsF
         PullsIntoFor machine (archive_of_both libraries) own members name m
     pulls_of_both members all name m pulls = record {
       named = subst (λ os. Contains (unresolved (own ++ os)) name) (sym (objects_same members all)) pulls.named;
-      listed = gnu_in_both machine libraries archive name m pulls.listed;
+      listed = gnu_in_both name m pulls.listed;
       new = pulls.new;
     }
 
@@ -175,14 +225,10 @@ module _ (machine : MachineType) (libraries : List FlavorLibrary) (archive : IsF
 
       -- no name is left that the whole archive lists
       pub none_unresolved : (name : List ℕ) → Contains (unresolved objects) name → Contains (listed_in (archive_of_both libraries)) name → ⊥
-      unfolding undefined_in
       none_unresolved name left listed =
-          let parts = unresolved_parts objects name (contains_among name (unresolved objects) left) in
-          let from : Among name (unresolved (own ++ objects_in taken)) =
-          unresolved_from (own ++ objects_in taken) name (from_sources machine (gnu_among libraries) archive.gnu own taken arranged bases objects is undefined_in refl name parts.0)
-          (λ claimed. parts.1 (into_objects machine (gnu_among libraries) archive.gnu own taken arranged bases objects is claimed_names name claimed)) in
           let at = first_of name (archive_of_both libraries) (contains_among name (listed_in (archive_of_both libraries)) listed) in
-          let gnu = listed_is (archive_of (gnu_among libraries)) name at.0 (finds_gnu taken (turn_alone taken takes.in_turn).1 name from at.0 at.1) in
+          let gnu = listed_is (archive_of (gnu_among libraries)) name at.0
+          (finds_gnu taken (turn_alone taken takes.in_turn).1 name (left_there machine (gnu_among libraries) archive.gnu own taken arranged bases objects is name left) at.0 at.1) in
           links_alone.closed name left
           (among_contains name (listed_in (archive_of (gnu_among libraries))) (among_flat (λ (m : MemberView). m.symbols) at.0 (archive_of (gnu_among libraries)) name gnu.0 gnu.1))
 
@@ -215,7 +261,7 @@ module _ (machine : MachineType) (libraries : List FlavorLibrary) (archive : IsF
                 let l = among_flat_map (λ (x : Library). flat_map archive_symbols (filter (is_wanted fewer) (exports_of x))) name alone want in
                 let e = among_flat_map archive_symbols name (filter (is_wanted fewer) (exports_of l.0)) l.2 in
                 let there = passing (is_wanted fewer) e.0 (exports_of l.0) e.1 in
-                export_kept machine libraries archive own given l.0 e.0 name l.1 there.0 (export_wanted_too fewer (wanted_of_both libraries own) e.0 within there.1) e.2
+                own_kept machine libraries archive own given Gnu l.0 e.0 name (there_gnu libraries l.0 l.1) there.0 (chosen_too Gnu fewer (wanted_of_both libraries own) e.0 within there.1) e.2
           ]
         ]
       ]

@@ -13,10 +13,11 @@ use Rattle.implib.specs.Members.Members.{AreMembersOf}
 use Rattle.implib.specs.Members.MemberSpec.{MemberView, MemberSpec, member_of}
 use Rattle.implib.specs.Members.GnuMembers.{alias_specs, export_spec, head_spec, numbered_specs, numbered_specs_of, tail_spec}
 use Rattle.implib.specs.Renaming.{renamed}
-use Rattle.implib.proofs.Link.Ranges.{Among, among_back, among_first}
-use Rattle.implib_link.proofs.Search.Lists.{all_listed, listed_mapped, distinct_apart, distinct_later, distinct_reversed, flat_map_among}
-use Rattle.implib_link.proofs.Search.Search.{address_listed, listed_export, name_differs, numbered_in, same_export}
+use Rattle.implib.proofs.Link.Ranges.{Among, among_back, among_first, among_flat}
+use Rattle.implib_link.proofs.Search.Lists.{all_listed, listed_mapped, distinct_apart, distinct_later, distinct_reversed}
+use Rattle.implib_link.proofs.Search.Search.{address_listed, listed_export, name_differs, numbered_in}
 use Rattle.implib.specs.LibraryName.{NamesOfDll, linked_name, names_for}
+use Rattle.std.proofs.lemmas.Option.{same_Some}
 
 head_apart : (dll : List ℕ) (n : ℕ) → head_name dll ≡ export_name dll n → ⊥
 unfolding head_name numbered_name
@@ -40,14 +41,14 @@ listed_own : (machine : MachineType) (dll : List ℕ) (n : ℕ) (e : ExportView)
     Among name (flat_map (λ (p : MemberSpec). p.symbols) (numbered_specs_of machine dll n e))
 unfolding export_spec
 listed_own machine dll n e name listed =
-    flat_map_among (λ (p : MemberSpec). p.symbols) name (numbered_specs_of machine dll n e) (export_spec machine dll n e)
+    among_flat (λ (p : MemberSpec). p.symbols) (export_spec machine dll n e) (numbered_specs_of machine dll n e) name
     (among_back (export_spec machine dll n e) (alias_specs machine dll n e) (export_spec machine dll n e ∷ []) (among_first _ _)) listed
 
 listed_later : (machine : MachineType) (dll : List ℕ) (exports : List ExportView) (start k : ℕ) (e : ExportView) (name : List ℕ) → slice_get exports k ≡ Some e →
     Among name (archive_symbols e) → Among name (flat_map (λ (p : MemberSpec). p.symbols) (numbered_specs machine dll start exports))
 unfolding export_spec
 listed_later machine dll exports start k e name is listed =
-    flat_map_among (λ (p : MemberSpec). p.symbols) name (numbered_specs machine dll start exports) (export_spec machine dll (start + k) e)
+    among_flat (λ (p : MemberSpec). p.symbols) (export_spec machine dll (start + k) e) (numbered_specs machine dll start exports) name
     (numbered_in machine dll exports start k e (export_spec machine dll (start + k) e) is
     (among_back (export_spec machine dll (start + k) e) (alias_specs machine dll (start + k) e) (export_spec machine dll (start + k) e ∷ []) (among_first _ _))) listed
 
@@ -61,7 +62,7 @@ member_specs_apart machine dll x exports start k e name distinct is here there =
     (listed_own machine dll start x name here) (listed_later machine dll exports (start + 1) k e name is there)
 
 same_listed : (name : List ℕ) (x e : ExportView) → Some x ≡ Some e → Among name (archive_symbols e) → Among name (archive_symbols x)
-same_listed name x e same = λ listed. subst (λ y. Among name (archive_symbols y)) (sym (same_export x e same)) listed
+same_listed name x e same = λ listed. subst (λ y. Among name (archive_symbols y)) (sym (same_Some x e same)) listed
 
 one_place : (machine : MachineType) (dll : List ℕ) (exports : List ExportView) (start n k : ℕ) (e other : ExportView) (name : List ℕ) →
     IsDistinct bytes_eq (flat_map (λ (p : MemberSpec). p.symbols) (numbered_specs machine dll start exports)) →

@@ -1,11 +1,12 @@
 -- What a linker takes of the members of one definition without aliases: what it takes of an archive of one library.
-use Rattle.std.proofs.Common.{◌≡◌, ℕ, suc, ◌+◌, false, List, [], ◌∷◌, ◌++◌, Some, refl, ap, sym, ◌∙◌, subst, inl, inr}
+use Rattle.std.proofs.Common.{◌≡◌, ℕ, suc, ◌+◌, true, false, List, [], ◌∷◌, ◌++◌, Some, refl, ap, sym, ◌∙◌, subst, inl, inr}
 use Rattle.std.specs.Prelude.{bytes_eq, reverse, slice_get}
 use Rattle.std.specs.List.{AllByRecursion, IsDistinct, flat_map}
 use Rattle.std.proofs.lemmas.Bool.{cases_Bool, false_from_ne_true}
 use Rattle.std.proofs.lemmas.List.{append-nil, reverse-append}
 use Rattle.std.proofs.lemmas.Grind.{flat_map-append}
-use Rattle.implib.specs.declared.flavor.Flavor.TheVariants.{Gnu}
+use Rattle.implib.specs.declared.flavor.Flavor.{Flavor}
+use Rattle.implib.specs.declared.flavor.Flavor.TheVariants.{Gnu, Msvc}
 use Rattle.implib.specs.declared.machine.MachineType.{MachineType}
 use Rattle.implib.specs.Definition.{DefinitionView, ExportView}
 use Rattle.implib.specs.Members.Gnu.{archive_symbols, head_symbol, iname_symbol}
@@ -18,13 +19,18 @@ use Rattle.implib.specs.Formats.Object.{object_in}
 use Rattle.implib.specs.Renaming.{renamed}
 use Rattle.implib.proofs.Link.LinkedMembers.{among_contains}
 use Rattle.implib.proofs.Link.Ranges.{Among}
-use Rattle.implib_link.specs.Search.Archives.{IsArchive, Library, NamesNoHeadOrTailOf, archive_of, inputs_wanted, is_weak, others_among, symbols_of_export, symbols_of_library, wanted_with, weak_among}
-use Rattle.implib_link.specs.Search.Search.{IsTakenInTurn, NamesNoHeadOrTail, Takes, exports_wanted, linked_if_any, left_as, AreTakenInTurnAs}
+use Rattle.implib_link.specs.Search.Archives.{IsArchive, Library, exports_of, NamesNoHeadOrTailOf, archive_of, inputs_wanted, is_weak, others_among, symbols_of_export, symbols_of_library, wanted_with, weak_among}
+use Rattle.implib_link.specs.Search.BothFlavors.{FlavorLibrary}
+use Rattle.implib_link.specs.Search.Search.{first_listed, IsTakenInTurn, NamesNoHeadOrTail, Takes, exports_wanted, linked_if_any, left_as, AreTakenInTurnAs}
 use Rattle.implib_link.specs.Gnu.Program.{HaveSame}
-use Rattle.implib_link.proofs.Search.ArchiveMembers.{export_not_weak, export_object_is, head_not_weak, head_object_is, tail_not_weak, tail_object_is}
-use Rattle.implib_link.proofs.Search.Archives.{input_linked, libraries_taken}
-use Rattle.implib_link.proofs.Search.Search.{IsHead, IsTail, Kind, Needed, OfAnExport, kind, linked_if_needed, needed_if_linked, no_alias, numbers_are_wanted}
-use Rattle.implib_link.proofs.Search.Lists.{all_from, all_listed, contains_among, listed_is, listed_mapped}
+use Rattle.implib_link.proofs.Search.Archives.{libraries_taken}
+use Rattle.implib_link.proofs.Search.Arranged.{input_linked}
+use Rattle.implib_link.proofs.Search.Closing.{pulled}
+use Rattle.implib_link.proofs.Search.Found.{found, weak_by_role}
+use Rattle.implib_link.proofs.Search.GnuAlone.{archive_alone, gnu_libraries, members_alone, no_short, reads_plainly}
+use Rattle.implib_link.proofs.Search.Roles.{IsRole, Last, Null, Own, Role, Top, Weak, in_flavor, is_weak_role}
+use Rattle.implib_link.proofs.Search.Search.{only_one, Needed, linked_if_needed, needed_if_linked, no_alias, numbers_are_wanted}
+use Rattle.implib_link.proofs.Search.Lists.{all_listed, none_passes, contains_among, listed_is, listed_mapped}
 use Rattle.implib.specs.LibraryName.{linked_name, names_for}
 
 -- members that are taken are members of the archive
@@ -70,14 +76,6 @@ exports_listed machine dll start (e ∷ exports) none =
     ∙ sym (flat_map-append symbols_of_export (reverse exports) (e ∷ []))
     ∙ ap (flat_map symbols_of_export) (sym (reverse-append (e ∷ []) exports))
 
-none_weak : (members : List MemberView) → AllByRecursion (λ m. is_weak m ≡ false) members → weak_among members ≡ []
-none_weak [] none = refl
-none_weak (m ∷ members) none = rw none.0 (none_weak members none.1)
-
-all_others : (members : List MemberView) → AllByRecursion (λ m. is_weak m ≡ false) members → others_among members ≡ members
-all_others [] none = refl
-all_others (m ∷ members) none = rw none.0 (ap (λ ms. m ∷ ms) (all_others members none.1))
-
 module _ (d : DefinitionView) (machine : MachineType) (members : List MemberView) (made : AreMembersOf d machine Gnu members)
     (distinct : IsDistinct bytes_eq (all_listed members)) where
   abbrev one : Library
@@ -99,27 +97,38 @@ module _ (d : DefinitionView) (machine : MachineType) (members : List MemberView
   archive : IsArchive machine (record { definition = d; members = members } ∷ [])
   archive = record { made = (made, tt); distinct = subst (IsDistinct bytes_eq) (symbols_are ∙ sym (append-nil (symbols_of_library machine one))) distinct }
 
-  not_weak : (m : MemberView) → Kind machine (names_for Gnu d) (public_exports (renamed d)) m → is_weak m ≡ false
-  not_weak m (IsTail same) = tail_not_weak machine m (names_for Gnu d) (ap (λ (y : MemberView). object_in y.bytes) same ∙ tail_object_is machine one made)
-  not_weak m (IsHead same) = head_not_weak machine m (names_for Gnu d) (ap (λ (y : MemberView). object_in y.bytes) same ∙ head_object_is machine one made)
-  not_weak m (OfAnExport x) =
-      export_not_weak machine m (names_for Gnu d) x.export (ap (λ (y : MemberView). object_in y.bytes) x.same ∙ export_object_is machine one made x.number x.export x.is)
+  abbrev one_in : List FlavorLibrary
+  one_in = gnu_libraries (one ∷ [])
+
+  not_weak : (flavor : Flavor) (l : Library) (r : Role) → Among (in_flavor flavor l) (gnu_libraries (record { definition = d; members = members } ∷ [])) →
+      IsRole (gnu_libraries (record { definition = d; members = members } ∷ [])) (in_flavor flavor l) r → is_weak_role r ≡ false
+  not_weak flavor l Top held is = refl
+  not_weak flavor l Last held is = refl
+  not_weak flavor l Null held is = refl
+  not_weak flavor l (Own n e) held is = refl
+  not_weak Msvc l (Weak n e b) held is = absurd (no_short (one ∷ []) l held)
+  not_weak Gnu l (Weak n e true) held is = absurd is.1
+  not_weak Gnu l (Weak n e false) held is =
+      let same : l ≡ one = ap (λ (x : FlavorLibrary). x.library) (only_one (in_flavor Gnu l) (in_flavor Gnu one) held) in
+      absurd (no_alias d machine members made distinct n e (subst (λ (x : Library). slice_get (exports_of x) n ≡ Some e) same is.0) is.1.0)
 
   module _ (wanted : List (List ℕ)) (plain : NamesNoHeadOrTail machine (linked_name d) wanted) (taken : List MemberView) (takes : Takes members wanted taken) where
-    none : AllByRecursion (λ m. is_weak m ≡ false) taken
-    none = all_from (λ m. is_weak m ≡ false) taken
-        (λ m held. not_weak m (kind d machine members made distinct m (taken_held members wanted taken takes.in_turn m held)))
-
-    wanted_alone : wanted_with wanted taken ≡ wanted
-    unfolding left_as
-    wanted_alone = rw (none_weak taken none) (append-nil wanted)
-
-    plain_of_one : NamesNoHeadOrTailOf machine (record { definition = d; members = members } ∷ []) (wanted_with wanted taken)
-    plain_of_one = (subst (NamesNoHeadOrTail machine (linked_name d)) (sym wanted_alone) plain, tt)
-
     one_archive : archive_of (record { definition = d; members = members } ∷ []) ≡ members
     unfolding archive_of
     one_archive = append-nil members
+
+    none : (weak_among taken ≡ []) × (others_among taken ≡ taken)
+    none = none_passes is_weak taken (λ m held.
+        let by = pulled object_in members wanted taken takes.in_turn m held in
+        let x = (found machine one_in (archive_alone machine (one ∷ []) archive) by.0 m (ap (λ ms. first_listed ms by.0) (members_alone (one ∷ []) ∙ one_archive) ∙ by.1)).has in
+        weak_by_role machine one_in (archive_alone machine (one ∷ []) archive) object_in is_weak (reads_plainly machine (one ∷ []) archive) m x ∙ not_weak x.library.flavor x.library.library x.role x.held x.is)
+
+    wanted_alone : wanted_with wanted taken ≡ wanted
+    unfolding left_as
+    wanted_alone = rw none.0 (append-nil wanted)
+
+    plain_of_one : NamesNoHeadOrTailOf machine (record { definition = d; members = members } ∷ []) (wanted_with wanted taken)
+    plain_of_one = (subst (NamesNoHeadOrTail machine (linked_name d)) (sym wanted_alone) plain, tt)
 
     linked_one : all_linked machine (inputs_wanted (record { definition = d; members = members } ∷ []) wanted) ≡ linked_if_any d machine (exports_wanted d wanted)
     linked_one = input_linked machine one (exports_wanted d wanted) [] ∙ append-nil (linked_if_any d machine (exports_wanted d wanted))
@@ -127,7 +136,7 @@ module _ (d : DefinitionView) (machine : MachineType) (members : List MemberView
     pub takes_just : HaveSame taken (linked_if_any d machine (exports_wanted d wanted))
     takes_just =
         let all = libraries_taken machine (one ∷ []) taken wanted archive plain_of_one (subst (λ ms. Takes ms wanted taken) (sym one_archive) takes) in
-        subst (λ ms. HaveSame ms (linked_if_any d machine (exports_wanted d wanted))) (all_others taken none)
+        subst (λ ms. HaveSame ms (linked_if_any d machine (exports_wanted d wanted))) none.1
         (subst (HaveSame (others_among taken)) linked_one (subst (λ names. HaveSame (others_among taken) (all_linked machine (inputs_wanted (one ∷ []) names))) wanted_alone all.inputs))
 
     pub needed : (m : MemberView) → Among m taken → Needed machine (names_for Gnu d) (public_exports (renamed d)) wanted m

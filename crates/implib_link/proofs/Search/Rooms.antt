@@ -1,39 +1,34 @@
 -- How far packed import tables of libraries reach, by the definitions alone.
-use Rattle.std.proofs.Common.{◌≡◌, ℕ, ◌+◌, ◌-◌, ◌%◌, ◌<◌, ◌≤◌, Bool, List, [], ◌∷◌, ◌++◌, length, map, Option, Some, None, refl, ap, sym, ◌∙◌, subst, inl, inr, arith, if◌then◌else◌}
-use Rattle.std.specs.Prelude.{IsPermutation, unwrap_or}
-use Rattle.std.specs.List.{AllByRecursion, cons_option, filter, sum_by}
+use Rattle.std.proofs.Common.{◌≡◌, ℕ, ◌+◌, ◌-◌, ◌%◌, ◌<◌, ◌≤◌, List, [], ◌∷◌, ◌++◌, length, map, Option, Some, None, refl, ap, sym, ◌∙◌, subst, inl, inr, arith, if◌then◌else◌}
+use Rattle.std.specs.Prelude.{not, unwrap_or}
+use Rattle.std.specs.List.{filter, sum_by}
 use Rattle.std.proofs.Math.Nat.{mod-lt}
 use Rattle.std.proofs.lemmas.Bool.{cases_Bool}
 use Rattle.std.proofs.lemmas.List.{length-append, length-replicate}
-use Rattle.std.proofs.lemmas.List.Sorted.{sum_by-IsPermutation}
-use Rattle.std.proofs.lemmas.List.Sums.{sum_by-append}
+use Rattle.std.proofs.lemmas.List.Filters.{sum_by-filter_both}
+use Rattle.std.proofs.lemmas.List.Sums.{sum_by-cons}
 use Rattle.std.proofs.lemmas.Nat.{pow_pos}
 use Rattle.implib.specs.declared.machine.MachineType.{MachineType}
 use Rattle.implib.specs.declared.machine.MachineType.TheVariants.{I386, ARMNT, AMD64, ARM64}
 use Rattle.implib.specs.Definition.{ExportView}
 use Rattle.implib.specs.Formats.Bytes.{u16_bytes}
 use Rattle.implib.specs.Formats.Object.{Object, ObjectSection}
-use Rattle.implib.specs.Link.LinkedMembers.{LinkInput, all_linked, chosen_exports, objects_in}
+use Rattle.implib.specs.Link.LinkedMembers.{chosen_exports}
 use Rattle.implib.specs.Link.Placement.{Addresses, Descriptors, DirectoryEnds, DllNames, Group, HintNames, Lookups, alignment, group_named, next_multiple, same_group}
 use Rattle.implib.specs.Members.Gnu.{export_object, head_object, hint_name, tail_object}
 use Rattle.implib.specs.Members.ImportTables.{thunk_width}
 use Rattle.implib.specs.Ascii.{without_first}
 use Rattle.implib.specs.Import.{name_asked}
 use Rattle.implib.specs.Underscore.{asked_name, has_underscore}
-use Rattle.implib.proofs.Link.LinkedBlocks.{blocks_objects}
-use Rattle.implib.proofs.Link.LinkedInputs.{block_of, gnu_inputs_objects}
 use Rattle.implib.proofs.Link.Placement.{after_head, export, head, length-thunk, tail}
 use Rattle.implib_link.specs.Gnu.Packed.{end_with, group_end, packed_addresses, packed_descriptors, packed_directory_ends, packed_dll_names, packed_end, packed_hint_names, packed_lookups, sections_end}
 use Rattle.implib_link.specs.Gnu.Program.{has_tables, null_descriptor}
-use Rattle.implib_link.specs.Search.Archives.{IsLibrary, Library, exports_of, input_if_any, inputs_wanted}
-use Rattle.implib_link.specs.Search.Exists.{export_room, library_room, tables_end}
+use Rattle.implib_link.specs.Search.Archives.{Library, exports_of}
+use Rattle.implib_link.specs.Search.Exists.{export_room, library_room}
 use Rattle.implib_link.specs.Search.Search.{exports_wanted, is_wanted}
-use Rattle.implib_link.proofs.Gnu.Blocks.{objects_behind}
 use Rattle.implib_link.proofs.Gnu.Packed.{end_kept}
-use Rattle.implib_link.proofs.Search.Archives.{inputs_made}
 use Rattle.implib_link.proofs.Search.Arranged.{chosen_are}
-use Rattle.implib.specs.LibraryName.{NamesOfDll, names_for}
-use Rattle.implib.specs.declared.flavor.Flavor.TheVariants.{Gnu}
+use Rattle.implib.specs.LibraryName.{NamesOfDll}
 
 -- The room of a group in objects: for each section its bytes and its alignment.
 
@@ -175,19 +170,16 @@ tail_near machine dll =
     let thunk = length-replicate {A = ℕ} (thunk_width machine) 0 in
     rw thunk (omega arith)
 
-null_near : own_rooms null_descriptor ≡ 24
+pub linker_null_near : own_rooms null_descriptor ≡ 24
 unfolding own_rooms sections_room
-null_near = refl
-
-pub sum_next : {X : Type 0} (f : X → ℕ) (x : X) (xs : List X) → sum_by f (x ∷ xs) ≡ f x + sum_by f xs
-sum_next f x xs = (let both : sum_by f (x ∷ xs) ≡ 0 + f x + sum_by f xs = sum_by-append f (x ∷ []) xs in omega arith)
+linker_null_near = refl
 
 exports_near : (machine : MachineType) (dll : NamesOfDll) (es : List ExportView) (rest : List Object) → all_rooms (map (export machine dll) es ++ rest) ≤ sum_by export_room es + all_rooms rest
 unfolding all_rooms
 exports_near machine dll [] rest = omega arith
 exports_near machine dll (e ∷ es) rest =
     let first = export_near machine dll e in
-    let next : sum_by export_room (e ∷ es) ≡ export_room e + sum_by export_room es = sum_next export_room e es in
+    let next : sum_by export_room (e ∷ es) ≡ export_room e + sum_by export_room es = sum_by-cons export_room e es in
     let behind = exports_near machine dll es rest in
     omega arith
 
@@ -200,50 +192,8 @@ block_near machine dll es rest =
     let between = exports_near machine dll es (tail machine dll ∷ rest) in
     omega arith
 
--- Some exports need no more room than all.
-
-some_near : (test : ExportView → Bool) (es : List ExportView) → sum_by export_room (filter test es) ≤ sum_by export_room es
-some_near test [] = omega arith
-some_near test (e ∷ es) =
-    let behind = some_near test es in
-    let all : sum_by export_room (e ∷ es) ≡ export_room e + sum_by export_room es = sum_next export_room e es in
-    let some : sum_by export_room (e ∷ filter test es) ≡ export_room e + sum_by export_room (filter test es) = sum_next export_room e (filter test es) in
-    elim (cases_Bool (test e)) [ inl is ↦ rw is (omega arith) | inr is ↦ rw is (omega arith) ]
-
--- the exports of a library that are wanted
+-- the exports of a library that are wanted: some exports need no more room than all
 pub wanted_near : (l : Library) (wanted : List (List ℕ)) → 61 + length l.definition.import_name + sum_by export_room (chosen_exports l.definition (exports_wanted l.definition wanted)) ≤ library_room l
 wanted_near l wanted =
-    let some : sum_by export_room (filter (is_wanted wanted) (exports_of l)) ≤ sum_by export_room (exports_of l) = some_near (is_wanted wanted) (exports_of l) in
+    let parts = sum_by-filter_both (is_wanted wanted) (λ e. not (is_wanted wanted e)) (λ e. refl) export_room (exports_of l) in
     subst (λ (es : List ExportView). 61 + length l.definition.import_name + sum_by export_room es ≤ library_room l) (sym (chosen_are l wanted)) (omega arith)
-
-abbrev linked_rooms : MachineType → List LinkInput → ℕ
-linked_rooms machine inputs = all_rooms (blocks_objects machine (map block_of inputs) (null_descriptor ∷ []))
-
-input_near : (machine : MachineType) (l : Library) (chosen : List ℕ) (others : List LinkInput) (n m : ℕ) → linked_rooms machine others ≤ n →
-    61 + length l.definition.import_name + sum_by export_room (chosen_exports l.definition chosen) ≤ m → linked_rooms machine (cons_option (input_if_any l chosen) others) ≤ m + n
-input_near machine l [] others n m behind own = omega arith
-input_near machine l (c ∷ chosen) others n m behind own =
-    (let first = block_near machine (names_for Gnu l.definition) (chosen_exports l.definition (c ∷ chosen)) (blocks_objects machine (map block_of others) (null_descriptor ∷ [])) in omega arith)
-
-libraries_near : (machine : MachineType) (libraries : List Library) (wanted : List (List ℕ)) → linked_rooms machine (inputs_wanted libraries wanted) ≤ sum_by library_room libraries + 24
-unfolding all_rooms
-libraries_near machine [] wanted = (let null = null_near in omega arith)
-libraries_near machine (l ∷ libraries) wanted =
-    let all : sum_by library_room (l ∷ libraries) ≡ library_room l + sum_by library_room libraries = sum_next library_room l libraries in
-    let near : linked_rooms machine (inputs_wanted (l ∷ libraries) wanted) ≤ library_room l + (sum_by library_room libraries + 24) =
-    input_near machine l (exports_wanted l.definition wanted) (inputs_wanted libraries wanted) (sum_by library_room libraries + 24) (library_room l) (libraries_near machine libraries wanted) (wanted_near l wanted) in
-    omega arith
-
-pub tables_near : (machine : MachineType) (first : ℕ) (libraries arranged : List Library) (wanted : List (List ℕ)) (objects : List Object) → AllByRecursion (IsLibrary machine) arranged →
-    IsPermutation libraries arranged → filter has_tables objects ≡ objects_in (all_linked machine (inputs_wanted arranged wanted)) ++ null_descriptor ∷ [] →
-    packed_end first objects ≤ tables_end first libraries
-tables_near machine first libraries arranged wanted objects made order tables =
-    let inputs : List LinkInput = inputs_wanted arranged wanted in
-    let blocks : List Object = blocks_objects machine (map block_of inputs) (null_descriptor ∷ []) in
-    let are : filter has_tables objects ≡ blocks =
-    tables ∙ ap (λ members. members ++ null_descriptor ∷ []) (gnu_inputs_objects machine inputs (inputs_made machine arranged wanted made))
-    ∙ objects_behind machine (map block_of inputs) (null_descriptor ∷ []) in
-    let near : packed_end first blocks ≤ first + 38 + all_rooms blocks = packed_near first blocks in
-    let rooms : all_rooms blocks ≤ sum_by library_room arranged + 24 = libraries_near machine arranged wanted in
-    let moved : sum_by library_room arranged ≡ sum_by library_room libraries = sum_by-IsPermutation library_room libraries arranged order in
-    subst (λ n. n ≤ tables_end first libraries) (sym (packed_end_kept first objects ∙ ap (packed_end first) are)) (omega arith)

@@ -1,9 +1,9 @@
 -- What a linker takes of the members for GNU's linker.
-use Rattle.std.proofs.Common.{◌≡◌, ℕ, zero, suc, ◌+◌, ◌<◌, true, List, [], ◌∷◌, ◌++◌, Option, Some, None, refl, ap, sym, ◌∙◌, subst, inl, inr, ◌⊎◌, arith}
+use Rattle.std.proofs.Common.{◌≡◌, ℕ, zero, suc, ◌+◌, ◌<◌, Bool, length, true, List, [], ◌∷◌, ◌++◌, Option, Some, None, refl, ap, sym, ◌∙◌, subst, inl, inr, ◌⊎◌, arith}
 use Rattle.std.specs.Prelude.{bytes_eq, slice_get, slice_index}
-use Rattle.std.specs.List.{IsDistinct, cons_option, filter_map, list_any}
+use Rattle.std.specs.List.{IsDistinct, cons_option, filter, filter_map, list_any}
 use Rattle.std.proofs.lemmas.Bool.{cases_Bool, true≢false}
-use Rattle.std.proofs.lemmas.List.{append_cancel_left}
+use Rattle.std.proofs.lemmas.List.{append_assoc, append_cancel_left, length-append}
 use Rattle.implib.specs.declared.flavor.Flavor.TheVariants.{Gnu}
 use Rattle.implib.specs.declared.machine.MachineType.{MachineType}
 use Rattle.implib.specs.Definition.{DefinitionView, ExportView}
@@ -19,9 +19,10 @@ use Rattle.implib.specs.Renaming.{renamed}
 use Rattle.implib.proofs.Link.LinkedMembers.{among_map, among_reverse}
 use Rattle.implib.proofs.Link.Placement.{export, head, tail}
 use Rattle.implib.proofs.Link.Ranges.{Among, among_back, among_first, among_front, among_later}
-use Rattle.implib_link.specs.Search.Search.{is_wanted, undefined_in, linked_if_any, numbers_wanted}
-use Rattle.implib_link.proofs.Search.Lists.{all_listed, among_any, among_either, among_mapped, among_reversed, any_among, one_member}
+use Rattle.implib_link.specs.Search.Search.{is_wanted, undefined_in, linked_if_any, numbers_passing}
+use Rattle.implib_link.proofs.Search.Lists.{all_listed, among_any, among_either, among_mapped, any_among, one_member, among_option}
 use Rattle.implib.specs.LibraryName.{NamesOfDll, linked_name, names_for}
+use Rattle.std.proofs.lemmas.Option.{same_Some}
 
 -- What specifications there are.
 
@@ -39,47 +40,13 @@ numbered_in machine dll (x ∷ exports) start (suc n) e p is held =
     among_back p (numbered_specs_of machine dll start x) (numbered_specs machine dll (start + 1) exports)
     (numbered_in machine dll exports (start + 1) n e p is (subst (λ n. Among p (numbered_specs_of machine dll n e)) position held))
 
--- a specification of an export: of its member, or it has an alias
-abbrev pub OfExport : MachineType → List ℕ → List ExportView → ℕ → MemberSpec → Type 0
-OfExport machine dll exports start p =
-    (n : ℕ) × (e : ExportView) × (slice_get exports n ≡ Some e) × ((p ≡ export_spec machine dll (start + n) e) ⊎ (is_alias e.alias_target e.name ≡ true))
-
-pub numbered_is : (machine : MachineType) (dll : List ℕ) (exports : List ExportView) (start : ℕ) (p : MemberSpec) → Among p (numbered_specs machine dll start exports) →
-    OfExport machine dll exports start p
-unfolding Among alias_specs
-numbered_is machine dll [] start p held = absurd held
-numbered_is machine dll (x ∷ exports) start p held =
-    elim (among_either p (numbered_specs_of machine dll start x) (numbered_specs machine dll (start + 1) exports) held) [
-      | inl own ↦ elim (cases_Bool (is_alias x.alias_target x.name)) [
-        | inl alias ↦ (0, x, refl, inr alias)
-        | inr none ↦
-            let position : start ≡ start + 0 = omega arith in
-            let only : Among p (export_spec machine dll start x ∷ []) = rw none at own in
-            elim only [
-              | inl is ↦ (0, x, refl, inl (subst (λ n. p ≡ export_spec machine dll n x) position is))
-              | inr nothing ↦ absurd nothing
-            ]
-      ]
-      | inr behind ↦
-          let later = numbered_is machine dll exports (start + 1) p behind in
-          let position : start + 1 + later.0 ≡ start + suc later.0 = omega arith in (
-            suc later.0,
-            later.1,
-            later.2,
-            elim later.3 [
-              | inl is ↦ inl (subst (λ n. p ≡ export_spec machine dll n later.1) position is)
-              | inr alias ↦ inr alias
-            ],
-          )
-    ]
-
 pub name_differs : (n m : ℕ) → n ≡ m → m < n → ⊥
 name_differs n m same below = omega arith
 
 -- The numbers of wanted exports.
 
 pub number_wanted : (wanted : List (List ℕ)) (exports : List ExportView) (start n : ℕ) (e : ExportView) → slice_get exports n ≡ Some e → is_wanted wanted e ≡ true →
-    Among (start + n) (numbers_wanted wanted start exports)
+    Among (start + n) (numbers_passing (is_wanted wanted) start exports)
 unfolding Among
 number_wanted wanted [] start n e is want = cc
 number_wanted wanted (x ∷ exports) start zero e is want =
@@ -88,18 +55,18 @@ number_wanted wanted (x ∷ exports) start zero e is want =
     rw (subst (λ y. is_wanted wanted y ≡ true) same want) (inl position)
 number_wanted wanted (x ∷ exports) start (suc n) e is want =
     let position : start + 1 + n ≡ start + suc n = omega arith in
-    let later : Among (start + suc n) (numbers_wanted wanted (start + 1) exports) =
-    subst (λ n. Among n (numbers_wanted wanted (start + 1) exports)) position (number_wanted wanted exports (start + 1) n e is want) in
+    let later : Among (start + suc n) (numbers_passing (is_wanted wanted) (start + 1) exports) =
+    subst (λ n. Among n (numbers_passing (is_wanted wanted) (start + 1) exports)) position (number_wanted wanted exports (start + 1) n e is want) in
     elim (cases_Bool (is_wanted wanted x)) [ inl here ↦ rw here (inr later) | inr none ↦ rw none later ]
 
-pub wanted_number : (wanted : List (List ℕ)) (exports : List ExportView) (start k : ℕ) → Among k (numbers_wanted wanted start exports) →
+pub wanted_number : (wanted : List (List ℕ)) (exports : List ExportView) (start k : ℕ) → Among k (numbers_passing (is_wanted wanted) start exports) →
     (n : ℕ) × (e : ExportView) × (k ≡ start + n) × (slice_get exports n ≡ Some e) × (is_wanted wanted e ≡ true)
 unfolding Among
 wanted_number wanted [] start k held = absurd held
 wanted_number wanted (x ∷ exports) start k held =
     elim (cases_Bool (is_wanted wanted x)) [
       | inl here ↦
-          let either : Among k (start ∷ numbers_wanted wanted (start + 1) exports) = rw here at held in
+          let either : Among k (start ∷ numbers_passing (is_wanted wanted) (start + 1) exports) = rw here at held in
           elim either [
             | inl is ↦ let position : start ≡ start + 0 = omega arith in (0, x, is ∙ position, refl, here)
             | inr behind ↦ next (wanted_number wanted exports (start + 1) k behind)
@@ -110,6 +77,29 @@ wanted_number wanted (x ∷ exports) start k held =
     next : ((n : ℕ) × (e : ExportView) × (k ≡ start + 1 + n) × (slice_get exports n ≡ Some e) × (is_wanted wanted e ≡ true)) →
         (n : ℕ) × (e : ExportView) × (k ≡ start + n) × (slice_get (x ∷ exports) n ≡ Some e) × (is_wanted wanted e ≡ true)
     next later = let position : start + 1 + later.0 ≡ start + suc later.0 = omega arith in (suc later.0, later.1, later.2 ∙ position, later.3, later.4)
+
+pub at_end : {X : Type 0} (front : List X) (x : X) (behind : List X) → slice_get (front ++ x ∷ behind) (length front) ≡ Some x
+at_end [] x behind = refl
+at_end (y ∷ front) x behind = at_end front x behind
+
+pub passing_chosen : (test : ExportView → Bool) (front exports : List ExportView) → filter_map (slice_get (front ++ exports)) (numbers_passing test (length front) exports) ≡ filter test exports
+passing_chosen test front [] = refl
+passing_chosen test front (e ∷ exports) =
+    let later : filter_map (slice_get (front ++ e ∷ exports)) (numbers_passing test (length front + 1) exports) ≡ filter test exports =
+    subst (λ (all : List ExportView). filter_map (slice_get all) (numbers_passing test (length front + 1) exports) ≡ filter test exports) (append_assoc front (e ∷ []) exports)
+    (subst (λ n. filter_map (slice_get ((front ++ e ∷ []) ++ exports)) (numbers_passing test n exports) ≡ filter test exports) (length-append front (e ∷ [])) (passing_chosen test (front ++ e ∷ []) exports)) in
+    elim (cases_Bool (test e)) [
+      | inl is ↦ rw (is, at_end front e exports) (ap (λ es. e ∷ es) later)
+      | inr is ↦ rw is later
+    ]
+
+pub some_export : (test : ExportView → Bool) (number : ℕ) (exports : List ExportView) (n : ℕ) (chosen : List ℕ) → numbers_passing test number exports ≡ n ∷ chosen → (e : ExportView) × (Among e exports × (test e ≡ true))
+some_export test number [] n chosen is = cc
+some_export test number (e ∷ exports) n chosen is =
+    elim (cases_Bool (test e)) [
+      | inl passes ↦ (e, (among_first e exports, passes))
+      | inr fails ↦ let later = some_export test (number + 1) exports n chosen (rw fails at is) in (later.0, (among_later later.0 e exports later.1.0, later.1.1))
+    ]
 
 -- a name of some names is wanted
 pub wants : (wanted names : List (List ℕ)) (name : List ℕ) → Among name names → Among name wanted → list_any (λ n. list_any (bytes_eq n) wanted) names ≡ true
@@ -130,11 +120,6 @@ wanted_name wanted (n ∷ names) is =
 
 -- The specifications of chosen exports.
 
-among_option : {X : Type 0} (x : X) (o : Option X) (xs : List X) → Among x xs → Among x (cons_option o xs)
-unfolding Among
-among_option x None xs held = held
-among_option x (Some y) xs held = inr held
-
 pub member_spec_chosen : (machine : MachineType) (dll : List ℕ) (exports : List ExportView) (chosen : List ℕ) (n : ℕ) (e : ExportView) → Among n chosen →
     slice_get exports n ≡ Some e → Among (export_spec machine dll n e) (filter_map (numbered_spec machine dll exports) chosen)
 unfolding Among
@@ -143,7 +128,7 @@ member_spec_chosen machine dll exports (k ∷ chosen) n e (inl same) is =
     let here : slice_get exports k ≡ Some e = subst (λ m. slice_get exports m ≡ Some e) same is in
     rw here (inl (ap (λ m. export_spec machine dll m e) same))
 member_spec_chosen machine dll exports (k ∷ chosen) n e (inr held) is =
-    among_option (export_spec machine dll n e) (numbered_spec machine dll exports k) (filter_map (numbered_spec machine dll exports) chosen)
+    among_option (numbered_spec machine dll exports k) (export_spec machine dll n e) (filter_map (numbered_spec machine dll exports) chosen)
     (member_spec_chosen machine dll exports chosen n e held is)
 
 -- a specification of a chosen export
@@ -180,14 +165,6 @@ pub left_export : (machine : MachineType) (dll : NamesOfDll) (e : ExportView) �
 unfolding undefined_in export_object
 left_export machine dll e = elim (cases_Bool e.is_data) [ inl is ↦ rw is refl | inr is ↦ rw is refl ]
 
-pub listed_tail : (machine : MachineType) (dll : NamesOfDll) → (member_of (tail_spec machine dll)).symbols ≡ iname_symbol machine dll.linked ∷ []
-unfolding tail_spec
-listed_tail machine dll = refl
-
-pub listed_head : (machine : MachineType) (dll : List ℕ) → (member_of (head_spec machine dll)).symbols ≡ head_symbol machine dll ∷ []
-unfolding head_spec
-listed_head machine dll = refl
-
 pub listed_export : (machine : MachineType) (dll : List ℕ) (n : ℕ) (e : ExportView) → (member_of (export_spec machine dll n e)).symbols ≡ archive_symbols e
 unfolding export_spec
 listed_export machine dll n e = refl
@@ -204,9 +181,6 @@ only_one x y (inr nothing) = absurd nothing
 pub in_nothing : {X : Type 0} (x : X) → Among x [] → ⊥
 unfolding Among
 in_nothing x held = held
-
-pub same_export : (e other : ExportView) → Some e ≡ Some other → e ≡ other
-same_export e other same = cc
 
 names_apart : (dll : List ℕ) (n : ℕ) → weak_address_name dll n ≡ export_name dll n → ⊥
 unfolding numbered_name
@@ -226,21 +200,11 @@ pub record IsExport (machine : MachineType) (dll : List ℕ) (exports : List Exp
   pub is : slice_get exports number ≡ Some export
   pub same : m ≡ member_of (export_spec machine dll number export)
 
-pub data Kind (machine : MachineType) (dll : NamesOfDll) (exports : List ExportView) (m : MemberView) : Type 0 where
-  IsTail : m ≡ member_of (tail_spec machine dll) → Kind machine dll exports m
-  IsHead : m ≡ member_of (head_spec machine dll.linked) → Kind machine dll exports m
-  OfAnExport : IsExport machine dll.linked exports m → Kind machine dll exports m
-
 -- a member that is needed for wanted names
 pub data Needed (machine : MachineType) (dll : NamesOfDll) (exports : List ExportView) (wanted : List (List ℕ)) (m : MemberView) : Type 0 where
   TheTail : m ≡ member_of (tail_spec machine dll) → AnyWanted exports wanted → Needed machine dll exports wanted m
   TheHead : m ≡ member_of (head_spec machine dll.linked) → AnyWanted exports wanted → Needed machine dll exports wanted m
   AnExport : (x : IsExport machine dll.linked exports m) → is_wanted wanted x.export ≡ true → Needed machine dll exports wanted m
-
-pub any_wanted : (machine : MachineType) (dll : NamesOfDll) (exports : List ExportView) (wanted : List (List ℕ)) (m : MemberView) → Needed machine dll exports wanted m → AnyWanted exports wanted
-any_wanted machine dll exports wanted m (TheTail same any) = any
-any_wanted machine dll exports wanted m (TheHead same any) = any
-any_wanted machine dll exports wanted m (AnExport x want) = record { number = x.number; export = x.export; is = x.is; want = want }
 
 module _ (d : DefinitionView) (machine : MachineType) (members : List MemberView) (made : AreMembersOf d machine Gnu members)
     (distinct : IsDistinct bytes_eq (all_listed members)) where
@@ -280,23 +244,6 @@ module _ (d : DefinitionView) (machine : MachineType) (members : List MemberView
       (member_spec_held n e (alias_of n e) is (among_front (alias_of n e) (alias_specs machine (linked_name d) n e) (export_spec machine (linked_name d) n e ∷ []) (alias_there n e alias)))
       (export_held n e is) (among_first _ _) (address_listed e)))
 
-  kind_specified : (m : MemberView) (p : MemberSpec) → m ≡ member_of p → Among p (gnu_specs machine (names_for Gnu d) public) → Kind machine (names_for Gnu d) public m
-  unfolding Among
-  kind_specified m p same (inl e) = IsTail (same ∙ ap member_of e)
-  kind_specified m p same (inr (inl e)) = IsHead (same ∙ ap member_of e)
-  kind_specified m p same (inr (inr held)) =
-      let own = numbered_is machine (linked_name d) public 0 p (among_reversed p (numbered_specs machine (linked_name d) 0 public) held) in
-      let position : 0 + own.0 ≡ own.0 = omega arith in
-      elim own.3 [
-        | inl e ↦ OfAnExport (record { number = own.0; export = own.1; is = own.2; same = same ∙ ap member_of (e ∙ ap (λ n. export_spec machine (linked_name d) n own.1) position) })
-        | inr alias ↦ absurd (no_alias own.0 own.1 own.2 alias)
-      ]
-
-  pub kind : (m : MemberView) → Among m members → Kind machine (names_for Gnu d) public m
-  kind m held =
-      let p = among_mapped member_of m (gnu_specs machine (names_for Gnu d) public) (subst (Among m) made.made held) in
-      kind_specified m p.0 p.2 p.1
-
 -- What is linked of chosen exports.
 
 -- numbers are of exactly the wanted exports
@@ -304,7 +251,7 @@ pub record AreWanted (exports : List ExportView) (wanted : List (List ℕ)) (cho
   pub only : (k : ℕ) → Among k chosen → (e : ExportView) × (slice_get exports k ≡ Some e) × (is_wanted wanted e ≡ true)
   pub all : (k : ℕ) (e : ExportView) → slice_get exports k ≡ Some e → is_wanted wanted e ≡ true → Among k chosen
 
-pub numbers_are_wanted : (exports : List ExportView) (wanted : List (List ℕ)) → AreWanted exports wanted (numbers_wanted wanted 0 exports)
+pub numbers_are_wanted : (exports : List ExportView) (wanted : List (List ℕ)) → AreWanted exports wanted (numbers_passing (is_wanted wanted) 0 exports)
 numbers_are_wanted exports wanted = record {
   only = λ k held.
       let found = wanted_number wanted exports 0 k held in
@@ -312,13 +259,13 @@ numbers_are_wanted exports wanted = record {
       (found.1, subst (λ n. slice_get exports n ≡ Some found.1) (sym (found.2 ∙ same)) found.3, found.4);
   all = λ k e is want.
       let same : 0 + k ≡ k = omega arith in
-      subst (λ n. Among n (numbers_wanted wanted 0 exports)) same (number_wanted wanted exports 0 k e is want);
+      subst (λ n. Among n (numbers_passing (is_wanted wanted) 0 exports)) same (number_wanted wanted exports 0 k e is want);
 }
 
 abbrev member_specs_linked : MachineType → NamesOfDll → List ExportView → List ℕ → List MemberSpec
 member_specs_linked machine dll exports chosen = head_spec machine dll.linked ∷ (filter_map (numbered_spec machine dll.linked exports) chosen ++ tail_spec machine dll ∷ [])
 
-member_spec_linked : (machine : MachineType) (dll : NamesOfDll) (exports : List ExportView) (chosen : List ℕ) (p : MemberSpec) → Among p (member_specs_linked machine dll exports chosen) →
+pub member_spec_linked : (machine : MachineType) (dll : NamesOfDll) (exports : List ExportView) (chosen : List ℕ) (p : MemberSpec) → Among p (member_specs_linked machine dll exports chosen) →
     (p ≡ head_spec machine dll.linked) ⊎ ((p ≡ tail_spec machine dll) ⊎ Chosen machine dll.linked exports chosen p)
 unfolding Among
 member_spec_linked machine dll exports chosen p (inl e) = inl e
@@ -367,7 +314,7 @@ module _ (d : DefinitionView) (machine : MachineType) (wanted : List (List ℕ))
   needed_member_spec m p same any (inr (inl e)) = TheTail (same ∙ ap member_of e) any
   needed_member_spec m p same any (inr (inr c)) =
       let found = are.only c.0 c.2 in
-      let own : c.1 ≡ found.0 = same_export c.1 found.0 (sym c.3 ∙ found.1) in
+      let own : c.1 ≡ found.0 = same_Some c.1 found.0 (sym c.3 ∙ found.1) in
       AnExport (record { number = c.0; export = c.1; is = c.3; same = same ∙ ap member_of c.4 }) (subst (λ e. is_wanted wanted e ≡ true) (sym own) found.2)
 
   pub needed_if_linked : (m : MemberView) → Among m (linked_if_any d machine chosen) → Needed machine (names_for Gnu d) (public_exports (renamed d)) wanted m

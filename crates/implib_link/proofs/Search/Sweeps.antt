@@ -1,33 +1,20 @@
 -- GNU `ld`'s sweeps of an archive take what a search takes that goes by the first member, where no two members list one
 -- name.
-use Rattle.std.proofs.Common.{◌≡◌, ℕ, ◌⊎◌, zero, suc, ◌+◌, ◌<◌, ◌≤◌, Bool, true, false, List, [], ◌∷◌, ◌++◌, length, map, Option, Some, None, refl, ap, sym, ◌∙◌, subst, inl, inr, arith}
+use Rattle.std.proofs.Common.{◌≡◌, ℕ, ◌⊎◌, zero, suc, ◌+◌, ◌<◌, ◌≤◌, Bool, true, false, List, [], ◌∷◌, ◌++◌, length, Option, Some, None, refl, ap, sym, ◌∙◌, subst, inl, inr, arith}
 use Rattle.std.specs.Prelude.{◌&&◌, ◌==◌, bytes_eq, not, slice_get}
 use Rattle.std.specs.List.{IsDistinct, cons_option, list_any}
 use Rattle.std.proofs.lemmas.Bool.{and_parts, cases_Bool, eq-eqb, eqb-true, true≢false}
 use Rattle.implib.specs.Formats.Object.{Object}
 use Rattle.implib.specs.Members.MemberSpec.{MemberView}
-use Rattle.implib.proofs.Link.LinkedMembers.{among_contains}
+use Rattle.implib.proofs.Link.LinkedMembers.{among_contains, among_map}
 use Rattle.implib.proofs.Link.Ranges.{Among, among_first, among_flat, among_later}
 use Rattle.implib_link.specs.Search.Closed.{AreTakenIntoAs, PullsIntoAs, TakesIntoAs, unresolved}
 use Rattle.implib_link.specs.Search.Search.{first_listed, is_listed_for, objects_as}
 use Rattle.implib_link.specs.Search.Sweeps.{IndexEntry, SweepsTake, entries_at, index_at, index_of, is_due, is_left, members_at, numbers_from, sweeps, swept}
-use Rattle.implib_link.proofs.Gnu.Bounds.{index_below}
-use Rattle.implib_link.proofs.Search.ArchiveGroups.{first_is, found_or_not}
-use Rattle.implib_link.proofs.Search.Lists.{all_listed, same_member, among_any, among_flat_map, among_listed, among_mapped, any_among, contains_among, distinct_apart, distinct_later}
+use Rattle.implib_link.proofs.Search.Lists.{all_listed, among_any, among_flat_map, among_listed, among_mapped, any_among, contains_among, distinct_apart, distinct_later, listed_is, among_at, at_index, from_option, among_option}
+use Rattle.std.proofs.lemmas.Option.{same_Some, slice_get_within}
 
 -- Numbers and members.
-
-pub member_at : (archive : List MemberView) (n : ℕ) (m : MemberView) → slice_get archive n ≡ Some m → Among m archive
-unfolding Among
-member_at [] n m is = cc
-member_at (x ∷ archive) zero m is = (let same : x ≡ m = cc in inl (sym same))
-member_at (x ∷ archive) (suc n) m is = inr (member_at archive n m is)
-
-pub number_of : (archive : List MemberView) (m : MemberView) → Among m archive → (n : ℕ) × (slice_get archive n ≡ Some m)
-unfolding Among
-number_of [] m held = absurd held
-number_of (x ∷ archive) m (inl same) = (0, ap Some (sym same))
-number_of (x ∷ archive) m (inr held) = (let later = number_of archive m held in (suc later.0, later.1))
 
 -- a symbol has one number, where all symbols differ
 pub one_number : (archive : List MemberView) (name : List ℕ) (n k : ℕ) (m x : MemberView) → IsDistinct bytes_eq (all_listed archive) → slice_get archive n ≡ Some m → slice_get archive k ≡ Some x →
@@ -36,10 +23,10 @@ one_number [] name n k m x distinct at other listed again = cc
 one_number (y ∷ archive) name zero zero m x distinct at other listed again = refl
 one_number (y ∷ archive) name zero (suc k) m x distinct at other listed again =
     let same : y ≡ m = cc in
-    absurd (distinct_apart y.symbols (all_listed archive) name distinct (subst (λ (z : MemberView). Among name z.symbols) (sym same) listed) (among_listed name x archive (member_at archive k x other) again))
+    absurd (distinct_apart y.symbols (all_listed archive) name distinct (subst (λ (z : MemberView). Among name z.symbols) (sym same) listed) (among_listed name x archive (among_at x archive k other) again))
 one_number (y ∷ archive) name (suc n) zero m x distinct at other listed again =
     let same : y ≡ x = cc in
-    absurd (distinct_apart y.symbols (all_listed archive) name distinct (subst (λ (z : MemberView). Among name z.symbols) (sym same) again) (among_listed name m archive (member_at archive n m at) listed))
+    absurd (distinct_apart y.symbols (all_listed archive) name distinct (subst (λ (z : MemberView). Among name z.symbols) (sym same) again) (among_listed name m archive (among_at m archive n at) listed))
 one_number (y ∷ archive) name (suc n) (suc k) m x distinct at other listed again =
     ap suc (one_number archive name n k m x (distinct_later y.symbols (all_listed archive) distinct) at other listed again)
 
@@ -75,7 +62,7 @@ IsFirstAt archive name n = (k : ℕ) (m x : MemberView) → slice_get archive n 
 pub first_at : (archive : List MemberView) (name : List ℕ) (n : ℕ) (m : MemberView) → IsFirstAt archive name n → slice_get archive n ≡ Some m → Among name m.symbols → first_listed archive name ≡ Some m
 first_at [] name n m first at listed = absurd (cc)
 first_at (y ∷ archive) name zero m first at listed =
-    let same : y ≡ m = same_member y m at in
+    let same : y ≡ m = same_Some y m at in
     rw (among_any name y.symbols (subst (λ (z : MemberView). Among name z.symbols) (sym same) listed)) (ap Some same)
 first_at (y ∷ archive) name (suc n) m first at listed =
     elim (cases_Bool (is_listed_for name y)) [
@@ -106,31 +93,21 @@ among_number n (k ∷ numbers) (inr held) = elim (cases_Bool (k == n)) [ inl sam
 pub members_next : (archive : List MemberView) (n : ℕ) (m : MemberView) (numbers : List ℕ) → slice_get archive n ≡ Some m → members_at archive (n ∷ numbers) ≡ m ∷ members_at archive numbers
 members_next archive n m numbers at = ap (λ o. cons_option o (members_at archive numbers)) at
 
-taken_option : (o : Option MemberView) (m : MemberView) (rest : List MemberView) → Among m (cons_option o rest) → (o ≡ Some m) ⊎ Among m rest
-unfolding Among
-taken_option None m rest held = inr held
-taken_option (Some x) m rest (inl same) = inl (ap Some (sym same))
-taken_option (Some x) m rest (inr held) = inr held
-
 pub taken_number : (archive : List MemberView) (numbers : List ℕ) (m : MemberView) → Among m (members_at archive numbers) → (n : ℕ) × Among n numbers × (slice_get archive n ≡ Some m)
 unfolding Among
 taken_number archive [] m held = absurd held
 taken_number archive (n ∷ numbers) m held =
-    elim (taken_option (slice_get archive n) m (members_at archive numbers) held) [
+    elim (from_option (slice_get archive n) m (members_at archive numbers) held) [
       | inl here ↦ (n, among_first n numbers, here)
       | inr behind ↦ let later = taken_number archive numbers m behind in (later.0, among_later later.0 n numbers later.1, later.2)
     ]
-
-taken_behind : (o : Option MemberView) (m : MemberView) (rest : List MemberView) → Among m rest → Among m (cons_option o rest)
-taken_behind None m rest held = held
-taken_behind (Some x) m rest held = among_later m x rest held
 
 pub number_taken : (archive : List MemberView) (numbers : List ℕ) (n : ℕ) (m : MemberView) → Among n numbers → slice_get archive n ≡ Some m → Among m (members_at archive numbers)
 unfolding Among
 number_taken archive [] n m held at = absurd held
 number_taken archive (k ∷ numbers) n m (inl same) at =
     subst (Among m) (sym (members_next archive k m numbers (subst (λ j. slice_get archive j ≡ Some m) same at))) (among_first m (members_at archive numbers))
-number_taken archive (k ∷ numbers) n m (inr held) at = taken_behind (slice_get archive k) m (members_at archive numbers) (number_taken archive numbers n m held at)
+number_taken archive (k ∷ numbers) n m (inr held) at = among_option (slice_get archive k) m (members_at archive numbers) (number_taken archive numbers n m held at)
 
 -- The index.
 
@@ -174,21 +151,15 @@ number_there (suc count) first n from below =
       | inr other ↦ (let differ : n ≡ first → ⊥ = λ same. true≢false (sym (eq-eqb n first same) ∙ other) in inr (number_there count (suc first) n (omega arith) (omega arith)))
     ]
 
-among_map_of : {X Y : Type 0} (f : X → Y) (x : X) (xs : List X) → Among x xs → Among (f x) (map f xs)
-unfolding Among
-among_map_of f x [] held = absurd held
-among_map_of f x (y ∷ xs) (inl same) = inl (ap f same)
-among_map_of f x (y ∷ xs) (inr held) = inr (among_map_of f x xs held)
-
 -- a member of these numbers has an entry for each symbol
 pub entry_there : (archive : List MemberView) (numbers : List ℕ) (n : ℕ) (m : MemberView) (name : List ℕ) → slice_get archive n ≡ Some m → Among n numbers → Among name m.symbols →
     Among (record { name = name; number = n }) (index_at archive numbers)
 entry_there archive numbers n m name at held listed =
     among_flat (λ (number : ℕ). entries_at number (slice_get archive number)) n numbers (record { name = name; number = n }) held
-    (subst (λ o. Among (record { name = name; number = n }) (entries_at n o)) (sym at) (among_map_of (λ (x : List ℕ). record { name = x; number = n }) name m.symbols listed))
+    (subst (λ o. Among (record { name = name; number = n }) (entries_at n o)) (sym at) (among_map (λ (x : List ℕ). record { name = x; number = n }) name m.symbols listed))
 
 pub all_there : (archive : List MemberView) (n : ℕ) (m : MemberView) → slice_get archive n ≡ Some m → Among n (numbers_from (length archive) 0)
-all_there archive n m at = (let below : n < length archive = index_below archive n m at in number_there (length archive) 0 n (omega arith) (omega arith))
+all_there archive n m at = (let below : n < length archive = slice_get_within archive n m at in number_there (length archive) 0 n (omega arith) (omega arith))
 
 -- Sweeps.
 
@@ -334,8 +305,8 @@ module _ (reads : List ℕ → Option Object) (archive : List MemberView) (own :
       in_turn = subst (λ ns. AreTakenIntoAs reads archive own (members_at archive ns)) takes.taken
           (sweeps_in_turn own (λ n. Unit {0}) (λ ns kept name left n held k m x at listed other again. same_less n k (once_by archive name distinct n k m x at listed other again)) (index_of archive) (λ e held. (all_entries archive e held, λ ns pulls. pulls)) count [] (λ n held. tt) tt);
       ended = λ name m pulls.
-          let from = first_is name archive m pulls.listed in
-          let at = number_of archive m from.0 in
+          let from = listed_is archive name m pulls.listed in
+          let at = at_index m archive from.0 in
           let there = none_left (index_of archive) numbers takes.ended (record { name = name; number = at.0 })
           (entry_there archive (numbers_from (length archive) 0) at.0 m name at.1 (all_there archive at.0 m at.1) from.1)
           (contains_among name (unresolved (own ++ objects_as reads (members_at archive numbers))) pulls.named) in

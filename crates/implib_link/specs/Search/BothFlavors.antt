@@ -18,7 +18,6 @@ use Rattle.implib.specs.Members.Gnu.{archive_symbols}
 use Rattle.implib.specs.Members.ImportTables.{thunk_width}
 use Rattle.implib.specs.Members.MemberSpec.{MemberView}
 use Rattle.implib.specs.Members.Msvc.{short_import_symbols}
-use Rattle.implib.specs.Members.MsvcObjects.{null_descriptor_symbol}
 use Rattle.implib_link.specs.Flavors.Program.{OfMember, FlavorInput, all_members, exports_chosen, gnu_input, objects_taken, symbol_in, thunks_of, ProgramLinks, IsProgramOf, gnu_input}
 use Rattle.implib_link.specs.Gnu.Packed.{group_end}
 use Rattle.implib_link.specs.Gnu.Program.{ClaimsNone, has_tables, HaveSame}
@@ -26,7 +25,7 @@ use Rattle.implib_link.specs.Search.Archives.{IsArchive, IsWeakData, Library, Na
 use Rattle.implib_link.specs.Search.Closed.{listed_in, unresolved}
 use Rattle.implib_link.specs.Search.Given.{alias_targets, heads_of, symbols_wanted, tails_of}
 use Rattle.implib_link.specs.Search.Msvc.{left_in}
-use Rattle.implib_link.specs.Search.MsvcArchives.{IsMsvcArchive, IsWeakShort, NamesNoHeaderOf, first_null, imports_wanted, others_in, short_input_if_any, short_inputs, shorts_linked, symbols_of_shorts, wanted_with_weak, weak_in}
+use Rattle.implib_link.specs.Search.MsvcArchives.{IsMsvcArchive, IsWeakShort, NamesNoHeaderOf, first_null, imports_wanted, others_in, short_input_if_any, short_inputs, shorts_linked, symbols_of_all_shorts, wanted_with_weak, weak_in}
 use Rattle.implib_link.specs.Search.MsvcGiven.{headers_of, import_symbols_wanted, short_targets}
 use Rattle.implib_link.specs.Search.MsvcClosed.{IsWeakTaken, TakesIntoFor, wanted_for}
 use Rattle.implib_link.specs.Search.Search.{exports_wanted}
@@ -62,7 +61,7 @@ pub record IsFlavorArchive (machine : MachineType) (libraries : List FlavorLibra
   pub gnu : IsArchive machine (gnu_among libraries)
   pub msvc : IsMsvcArchive machine (msvc_among libraries)
   pub apart : AllByRecursion
-      (λ name. list_any (bytes_eq name) (null_descriptor_symbol ∷ flat_map symbols_of_shorts (msvc_among libraries)) ≡ false)
+      (λ name. list_any (bytes_eq name) (symbols_of_all_shorts (msvc_among libraries)) ≡ false)
       (flat_map (symbols_of_library machine) (gnu_among libraries))
 
 -- no name is one by which only members name each other

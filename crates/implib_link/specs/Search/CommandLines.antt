@@ -13,6 +13,8 @@ use Rattle.implib.specs.Formats.Object.{Object, object_in}
 use Rattle.implib.specs.declared.machine.MachineType.{MachineType}
 use Rattle.implib.specs.Members.MemberSpec.{MemberView}
 use Rattle.implib_link.specs.Gnu.Program.{ClaimsNone, HaveSame}
+use Rattle.implib_link.specs.Flavors.Expansion.{expanded_in}
+use Rattle.implib_link.specs.Search.BothFlavors.{FlavorLibrary, archive_of_both}
 use Rattle.implib_link.specs.Search.Archives.{Library, archive_of}
 use Rattle.implib_link.specs.Search.Closed.{PullsIntoAs, listed_in, references_of, unresolved}
 use Rattle.implib_link.specs.Search.Search.{claimed_as, first_listed, objects_as, undefined_in}
@@ -180,16 +182,24 @@ given_with reads is_given own taken = own ++ objects_as reads (filter is_given t
 abbrev pub others_of : (MemberView → Bool) → List MemberView → List MemberView
 others_of is_given members = filter (λ m. not (is_given m)) members
 
--- What GNU `ld` takes of a command line's archives:
+-- What GNU `ld` takes of a command line's archives, by what it reads members as:
 -- `libraries_are`: the members that are not as given are those of libraries, archive by archive;
 -- `first`, `unclaimed`, `ordered`, `whole`: what is asked of the command line;
 -- `searches`: the search.
-pub record SearchesLibraries (machine : MachineType) (libraries : List Library) (members : List MemberView)
-    (inputs : List Input) (is_given : MemberView → Bool) (taken : List ℕ) : Type 0 where
-  pub libraries_are : others_of is_given members ≡ archive_of libraries
-  pub first : TakesFirst members (names_left object_in (objects_given inputs) (members_at members taken)) taken
+pub record SearchesFor (reads : List ℕ → Option Object) (of_libraries members : List MemberView) (inputs : List Input)
+    (is_given : MemberView → Bool) (taken : List ℕ) : Type 0 where
+  pub libraries_are : others_of is_given members ≡ of_libraries
+  pub first : TakesFirst members (names_left reads (objects_given inputs) (members_at members taken)) taken
   pub unclaimed : AreUnclaimedBehind members [] inputs
-  pub ordered : IsOrdered object_in members inputs
-      ⊎ NoneIsLost object_in members (objects_given inputs) (members_at members taken)
-  pub whole : AreListedWhole object_in members
-  pub searches : SearchesCommandLine object_in members inputs taken
+  pub ordered : IsOrdered reads members inputs
+      ⊎ NoneIsLost reads members (objects_given inputs) (members_at members taken)
+  pub whole : AreListedWhole reads members
+  pub searches : SearchesCommandLine reads members inputs taken
+
+-- of libraries for it
+abbrev pub SearchesLibraries : MachineType → List Library → List MemberView → List Input → (MemberView → Bool) → List ℕ → Type 0
+SearchesLibraries machine libraries = SearchesFor object_in (archive_of libraries)
+
+-- of libraries of which some are for it and others for Microsoft's linker, whose short imports it expands
+abbrev pub SearchesFlavors : MachineType → List FlavorLibrary → List MemberView → List Input → (MemberView → Bool) → List ℕ → Type 0
+SearchesFlavors machine libraries = SearchesFor (expanded_in machine) (archive_of_both libraries)

@@ -1,7 +1,7 @@
 -- Archive search of members for Microsoft's linker. The archive lists symbols for each member; what a member
 -- leaves to others is read in what a linker takes it for.
 use Rattle.implib_link.specs.Flavors.Expansion.{expanded_in}
-use Rattle.std.specs.Prelude.{◌≡◌, ℕ, ◌+◌, Bool, false, List, [], ◌∷◌, bytes_eq, map, if◌then◌else◌}
+use Rattle.std.specs.Prelude.{◌≡◌, ℕ, Bool, false, List, [], ◌∷◌, bytes_eq, map}
 use Rattle.std.specs.List.{list_any}
 use Rattle.implib.specs.declared.machine.MachineType.{MachineType}
 use Rattle.implib.specs.declared.flavor.Flavor.TheVariants.{Msvc}
@@ -12,7 +12,7 @@ use Rattle.implib.specs.Members.Msvc.{short_import_symbols}
 use Rattle.implib.specs.Members.MsvcObjects.{descriptor_symbol, null_descriptor_symbol, null_thunk_symbol}
 use Rattle.implib.specs.Renaming.{renamed}
 use Rattle.implib_link.specs.Flavors.Program.{null_member, specs_in}
-use Rattle.implib_link.specs.Search.Search.{AreTakenInTurnAs, PullsInAs, TakesAs, claimed_as, left_as}
+use Rattle.implib_link.specs.Search.Search.{AreTakenInTurnAs, PullsInAs, TakesAs, claimed_as, left_as, numbers_passing}
 use Rattle.implib.specs.LibraryName.{linked_dll}
 
 -- The same for a linker for a machine, which reads short imports, too, as what it takes them for: the names that
@@ -39,13 +39,6 @@ TakesFor machine = TakesAs (expanded_in machine)
 -- whether an export is wanted: one of the symbols that its short import is listed for is
 abbrev pub is_short_wanted : List (List ℕ) → ExportView → Bool
 is_short_wanted wanted e = list_any (λ name. list_any (bytes_eq name) wanted) (short_import_symbols e)
-
--- the numbers of the exports that pass a test, the first one of this number
-abbrev pub numbers_passing : (ExportView → Bool) → ℕ → List ExportView → List ℕ
-numbers_passing test number [] = []
-numbers_passing test number (e ∷ exports) =
-    if test e then number ∷ numbers_passing test (number + 1) exports
-    else numbers_passing test (number + 1) exports
 
 -- the numbers of a definition's exports that are wanted, which count those that are not private from 0
 abbrev pub shorts_wanted : DefinitionView → List (List ℕ) → List ℕ

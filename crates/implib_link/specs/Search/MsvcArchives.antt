@@ -15,7 +15,8 @@ use Rattle.implib.specs.Members.MsvcObjects.{descriptor_symbol, null_descriptor_
 use Rattle.implib_link.specs.Flavors.Expansion.{descriptor_symbol_by_name, expanded_in}
 use Rattle.implib_link.specs.Flavors.Program.{FlavorInput, all_members, null_member}
 use Rattle.implib_link.specs.Search.Archives.{Library, exports_of, has_weak}
-use Rattle.implib_link.specs.Search.Msvc.{NamesNoHeader, is_short_wanted, left_in, numbers_passing}
+use Rattle.implib_link.specs.Search.Msvc.{NamesNoHeader, is_short_wanted, left_in}
+use Rattle.implib_link.specs.Search.Search.{numbers_passing}
 use Rattle.implib.specs.LibraryName.{linked_dll}
 
 -- a library's members are its members for Microsoft's linker
@@ -39,6 +40,11 @@ symbols_of_shorts l =
     descriptor_symbol (linked_dll l.definition)
     ∷ null_thunk_symbol (linked_dll l.definition)
     ∷ flat_map symbols_of_short (exports_of l)
+
+-- those for all libraries, with the null descriptor's; none, where there is no library
+abbrev pub symbols_of_all_shorts : List Library → List (List ℕ)
+symbols_of_all_shorts [] = []
+symbols_of_all_shorts (l ∷ libraries) = null_descriptor_symbol ∷ flat_map symbols_of_shorts (l ∷ libraries)
 
 -- An archive of libraries for Microsoft's linker: the listed symbols are distinct, but for those that one
 -- export's members share, and for the null descriptor's; each DLL's name leads linkers to its descriptor.

@@ -9,13 +9,14 @@ use Rattle.implib_link.specs.Search.Archives.{Library, exports_of}
 use Rattle.implib_link.specs.Search.MsvcArchives.{is_import_wanted, is_short_alias}
 use Rattle.implib.specs.LibraryName.{linked_dll}
 
--- the symbols by which only members name each other
+-- the symbols by which only members name each other; none, where there is no library
 abbrev pub headers_of : List Library → List (List ℕ)
-headers_of libraries =
+headers_of [] = []
+headers_of (l ∷ libraries) =
     null_descriptor_symbol
     ∷ flat_map
-    (λ l. descriptor_symbol (linked_dll l.definition) ∷ null_thunk_symbol (linked_dll l.definition) ∷ [])
-    libraries
+    (λ x. descriptor_symbol (linked_dll x.definition) ∷ null_thunk_symbol (linked_dll x.definition) ∷ [])
+    (l ∷ libraries)
 
 -- the targets of aliases, in all libraries: those of their symbols, and of their addresses
 abbrev pub short_targets : List Library → List (List ℕ)

@@ -91,16 +91,16 @@ Takes = TakesAs object_in
 abbrev pub is_wanted : List (List ℕ) → ExportView → Bool
 is_wanted wanted e = list_any (λ name. list_any (bytes_eq name) wanted) (archive_symbols e)
 
--- the numbers of the exports that are wanted, the first one of this number
-abbrev pub numbers_wanted : List (List ℕ) → ℕ → List ExportView → List ℕ
-numbers_wanted wanted number [] = []
-numbers_wanted wanted number (e ∷ exports) =
-    if is_wanted wanted e then number ∷ numbers_wanted wanted (number + 1) exports
-    else numbers_wanted wanted (number + 1) exports
+-- the numbers of the exports that pass a test, the first one of this number
+abbrev pub numbers_passing : (ExportView → Bool) → ℕ → List ExportView → List ℕ
+numbers_passing test number [] = []
+numbers_passing test number (e ∷ exports) =
+    if test e then number ∷ numbers_passing test (number + 1) exports
+    else numbers_passing test (number + 1) exports
 
 -- the numbers of a definition's exports that are wanted, which count those that are not private from 0
 abbrev pub exports_wanted : DefinitionView → List (List ℕ) → List ℕ
-exports_wanted d wanted = numbers_wanted wanted 0 (public_exports (renamed d))
+exports_wanted d wanted = numbers_passing (is_wanted wanted) 0 (public_exports (renamed d))
 
 -- the head, the members of chosen exports and the tail; nothing where no export is chosen
 abbrev pub linked_if_any : DefinitionView → MachineType → List ℕ → List MemberView

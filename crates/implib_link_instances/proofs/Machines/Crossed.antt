@@ -13,7 +13,7 @@ use Rattle.implib_link.specs.Search.Msvc.{TakesFor, left_in}
 use Rattle.implib_link.specs.Search.MsvcArchives.{wanted_with_weak, short_inputs, weak_in, first_null}
 use Rattle.implib_link.specs.Search.MsvcClosed.{wanted_for}
 use Rattle.implib_link_instances.specs.Worked.Programs.{symbol_on}
-use Rattle.implib_link.proofs.Search.BothArchives.{both_taken}
+use Rattle.implib_link.proofs.Search.Taken.{both_taken}
 use Rattle.implib_link.proofs.Search.BothClosed.{closed_links_of_both, packed_both}
 use Rattle.implib_link.proofs.Search.Closing.{takes_into, claims_apart}
 use Rattle.implib_link_instances.proofs.Worked.BothFlavors.{archive_by, closed_by}

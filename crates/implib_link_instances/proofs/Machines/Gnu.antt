@@ -18,7 +18,7 @@ use Rattle.implib_link.specs.Search.MsvcArchives.{symbols_of_shorts}
 use Rattle.implib_link.specs.Search.NoShorts.{WantsNoShort}
 use Rattle.implib_link.specs.Search.Search.{Takes, names_undefined, left_as, AreTakenInTurnAs}
 use Rattle.implib_link_instances.proofs.Worked.GnuPacked.{packed_is_admissible}
-use Rattle.implib_link.proofs.Search.Archives.{inputs_made}
+use Rattle.implib_link.proofs.Search.Arranged.{inputs_made}
 use Rattle.implib_link.proofs.Search.Closed.{closed_links}
 use Rattle.implib_link.proofs.Search.Closing.{takes_into, claims_apart}
 use Rattle.implib_link.proofs.Search.Exists.{closed_exists}

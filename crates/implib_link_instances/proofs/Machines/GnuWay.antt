@@ -34,7 +34,7 @@ use Rattle.implib_link_instances.specs.Worked.Calls.{calling_code, given_on}
 use Rattle.implib_link.proofs.Gnu.Choices.{found, found_in}
 use Rattle.implib_link.proofs.Gnu.LinkedCodes.{codes_can_be_linked}
 use Rattle.implib_link_instances.proofs.Worked.GnuPacked.{packed_is_admissible}
-use Rattle.implib_link.proofs.Search.Archives.{inputs_made}
+use Rattle.implib_link.proofs.Search.Arranged.{inputs_made}
 use Rattle.implib_link.proofs.Search.Closing.{takes_into, claims_apart}
 use Rattle.implib_link_instances.proofs.Worked.Calls.{wide}
 use Rattle.implib_link_instances.proofs.Worked.Choices.{once_by}

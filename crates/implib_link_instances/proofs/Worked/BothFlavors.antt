@@ -26,7 +26,7 @@ use Rattle.implib_link.specs.Search.Archives.{IsArchive, symbols_of_library, IsL
 use Rattle.implib_link.specs.Search.BothFlavors.{AreClosedForBoth, AreGivenForBoth, FlavorLibrary, IsClosedForBoth, IsFlavorArchive, NamesNoMembers, archive_of_both, gnu_among, kept_of_both, msvc_among, inputs_of_both}
 use Rattle.implib_link.specs.Search.Closed.{listed_in, unresolved}
 use Rattle.implib_link.specs.Search.Msvc.{TakesFor, left_in}
-use Rattle.implib_link.specs.Search.MsvcArchives.{IsMsvcArchive, first_null, symbols_of_shorts, wanted_with_weak, IsMsvcLibrary, short_inputs, weak_in}
+use Rattle.implib_link.specs.Search.MsvcArchives.{IsMsvcArchive, first_null, symbols_of_all_shorts, symbols_of_shorts, wanted_with_weak, IsMsvcLibrary, short_inputs, weak_in}
 use Rattle.implib_link.specs.Search.MsvcClosed.{PullsIntoFor, TakesIntoFor, wanted_for}
 use Rattle.implib_link.specs.Search.Search.{undefined_in, left_as, AreTakenInTurnAs}
 use Rattle.implib_link_instances.specs.Worked.BothFlavors.{NearAreClosedForBoth, NearAreGivenForBoth, NearIsClosedForBoth, NearIsFlavorArchive, NearIsImportedOfBoth, NearIsUsedIn, NearLinksClosedForBoth, NearNamesNoMembers, NearTakesOfBoth, WorkedBoth, WorkedGivenForBoth, foo_and_zed, mixed_bases, mixed_inputs, mixed_objects, mixed_taken, mixed_without_last, zed_and_foo}
@@ -34,7 +34,7 @@ use Rattle.implib_link_instances.specs.Worked.Closed.{choosing, clashing, foo_al
 use Rattle.implib_link_instances.specs.Worked.MsvcArchives.{thunk_named}
 use Rattle.implib_link_instances.specs.Worked.MsvcClosed.{zed_members}
 use Rattle.implib_link_instances.specs.Worked.NearSearches.{again}
-use Rattle.implib_link.proofs.Search.BothArchives.{both_taken}
+use Rattle.implib_link.proofs.Search.Taken.{both_taken}
 use Rattle.implib_link.proofs.Search.BothClosed.{closed_links_of_both, packed_both}
 use Rattle.implib_link.proofs.Search.BothGiven.{both_given_ends}
 use Rattle.implib_link.proofs.Search.Closing.{takes_into, unresolved_parts, claims_apart}
@@ -65,12 +65,12 @@ apart_by others (name ∷ texts) all =
 pub archive_by : {machine : MachineType} {libraries : List FlavorLibrary} → AllByRecursion (IsLibrary machine) (gnu_among libraries) → AllByRecursion (IsMsvcLibrary machine) (msvc_among libraries) →
     AllByRecursion (λ l. descriptor_symbol_by_name l.definition.import_name ≡ descriptor_symbol (linked_dll l.definition)) (msvc_among libraries) →
     all_differ (flat_map (symbols_of_library machine) (gnu_among libraries)) ≡ true → all_differ (null_descriptor_symbol ∷ flat_map symbols_of_shorts (msvc_among libraries)) ≡ true →
-    list_all (λ name. not (list_any (bytes_eq name) (null_descriptor_symbol ∷ flat_map symbols_of_shorts (msvc_among libraries)))) (flat_map (symbols_of_library machine) (gnu_among libraries)) ≡ true →
+    list_all (λ name. not (list_any (bytes_eq name) (symbols_of_all_shorts (msvc_among libraries)))) (flat_map (symbols_of_library machine) (gnu_among libraries)) ≡ true →
     IsFlavorArchive machine libraries
 archive_by {machine} {libraries} gnu_made msvc_made found gnu_differ msvc_differ apart = record {
   gnu = record { made = gnu_made; distinct = distinct_by (flat_map (symbols_of_library machine) (gnu_among libraries)) gnu_differ };
   msvc = record { made = msvc_made; distinct = distinct_by (null_descriptor_symbol ∷ flat_map symbols_of_shorts (msvc_among libraries)) msvc_differ; found = found };
-  apart = apart_by (null_descriptor_symbol ∷ flat_map symbols_of_shorts (msvc_among libraries)) (flat_map (symbols_of_library machine) (gnu_among libraries)) apart;
+  apart = apart_by (symbols_of_all_shorts (msvc_among libraries)) (flat_map (symbols_of_library machine) (gnu_among libraries)) apart;
 }
 
 same_elements : {X : Type 0} (first second : List X) → first ≡ second → HaveSame first second

@@ -15,7 +15,7 @@ use Rattle.implib_link.specs.Search.MsvcClosed.{TakesIntoFor, wanted_for}
 use Rattle.implib_link_instances.specs.Worked.BothFlavors.{foo_and_zed, mixed_taken, zed_and_foo}
 use Rattle.implib_link_instances.specs.Worked.Closed.{choosing, foo_linked}
 use Rattle.implib_link_instances.specs.Worked.MsvcClosed.{zed_members}
-use Rattle.implib_link.proofs.Search.BothArchives.{both_taken}
+use Rattle.implib_link.proofs.Search.Taken.{both_taken}
 use Rattle.implib_link.proofs.Search.BothClosed.{closed_links_of_both, packed_both}
 use Rattle.implib_link_instances.proofs.Worked.NearSearches.{searched}
 use Rattle.implib_link_instances.proofs.Worked.Searched.{below_limit}

@@ -23,7 +23,7 @@ use Rattle.implib_link.specs.Search.Search.{names_undefined, undefined_in, left_
 use Rattle.implib_link_instances.specs.Worked.Archives.{two_libraries}
 use Rattle.implib_link_instances.specs.Worked.Closed.{WorkedClosed, WorkedGiven, choosing, clashing, closed_bases, closed_objects, closed_taken, without_last, zed_first}
 use Rattle.implib_link_instances.proofs.Worked.GnuPacked.{packed_is_admissible}
-use Rattle.implib_link.proofs.Search.Archives.{inputs_made}
+use Rattle.implib_link.proofs.Search.Arranged.{inputs_made}
 use Rattle.implib_link.proofs.Search.Closed.{closed_links}
 use Rattle.implib_link.proofs.Search.Closing.{takes_into, unresolved_parts, claims_apart}
 use Rattle.implib_link.proofs.Search.Given.{given_closes, given_ends}

@@ -21,25 +21,25 @@ use Rattle.implib_link.specs.Search.Search.{claimed_as, first_listed, objects_as
 use Rattle.implib_link.specs.Search.Sweeps.{IndexEntry, index_at, members_at, sweeps, swept}
 use Rattle.implib_link.proofs.Search.CommandLines.{are_first_of_distinct, first_of_distinct, gnu_searches, lld_members, searches_keep, takes_alike}
 use Rattle.implib_link.proofs.Search.Lists.{among_any, any_among, contains_among}
-use Rattle.implib_link_instances.specs.Worked.CommandLines.{NearIsClosedOver, NearIsGroupSearched, NearIsSwept, NearSearchesLibraries, RefusedCommandLines, WorkedCommandLine, WorkedCommandLines, WorkedLibraries, all_taken, amd64_members, i386_members, i386_wants_bytes, in_group, is_quit, kernel_on, library_first, library_last, library_twice, of_kernel, of_quit, other_spare, quit_bytes, quit_member, read_or_none, spare_member, wants_bytes, with_spares}
+use Rattle.implib_link_instances.specs.Worked.CommandLines.{NearIsClosedOver, NearIsGroupSearched, NearIsSwept, NearSearchesFor, RefusedCommandLines, WorkedCommandLine, WorkedCommandLines, WorkedLibraries, all_taken, amd64_members, i386_members, i386_wants_bytes, in_group, is_quit, kernel_on, library_first, library_last, library_twice, of_kernel, of_quit, other_spare, quit_bytes, quit_member, read_or_none, spare_member, wants_bytes, with_spares}
 use Rattle.implib_link_instances.specs.Worked.Programs.{code_object}
 use Rattle.implib_link_instances.proofs.Worked.RefusedLinks.{differ}
 use Rattle.implib_link_instances.proofs.Worked.Programs.{claims_none_by, distinct_by, opened}
 
 -- a member that claims what it is listed for, by computing
-whole_at : (m : MemberView) → claimed_as object_in (m ∷ []) ≡ m.symbols → HaveSame (claimed_as object_in (m ∷ [])) m.symbols
-whole_at m is x = (λ held. subst (λ names. Contains names x) is held, λ held. subst (λ names. Contains names x) (sym is) held)
+pub whole_at : (reads : List ℕ → Option Object) (m : MemberView) → claimed_as reads (m ∷ []) ≡ m.symbols → HaveSame (claimed_as reads (m ∷ [])) m.symbols
+whole_at reads m is x = (λ held. subst (λ names. Contains names x) is held, λ held. subst (λ names. Contains names x) (sym is) held)
 
-abbrev member_or_none : Option MemberView → MemberView
+abbrev pub member_or_none : Option MemberView → MemberView
 member_or_none None = record { name = []; bytes = []; symbols = [] }
 member_or_none (Some m) = m
 
-abbrev object_at : List Object → ℕ → Object
+abbrev pub object_at : List Object → ℕ → Object
 object_at [] n = code_object []
 object_at (o ∷ objects) zero = o
 object_at (o ∷ objects) (suc n) = object_at objects n
 
-abbrev first_byte : List ℕ → ℕ
+abbrev pub first_byte : List ℕ → ℕ
 first_byte [] = 0
 first_byte (byte ∷ bytes) = byte
 
@@ -59,20 +59,20 @@ ended_here archive (n ∷ names) name m all (inl is) listed =
 ended_here archive (n ∷ names) name m all (inr held) listed =
     ended_here archive names name m (and_parts (is_none (first_listed archive n)) (list_all (λ k. is_none (first_listed archive k)) names) all).1 held listed
 
-ended_by : (archive : List MemberView) (own : List Object) (taken : List MemberView) → list_all (λ n. is_none (first_listed archive n)) (unresolved (own ++ objects_as object_in taken)) ≡ true →
-    (name : List ℕ) (m : MemberView) → PullsIntoAs object_in archive own taken name m → ⊥
-ended_by archive own taken all name m pulls =
-    ended_here archive (unresolved (own ++ objects_as object_in taken)) name m all (contains_among name (unresolved (own ++ objects_as object_in taken)) pulls.named) pulls.listed
+pub ended_by : (reads : List ℕ → Option Object) (archive : List MemberView) (own : List Object) (taken : List MemberView) → list_all (λ n. is_none (first_listed archive n)) (unresolved (own ++ objects_as reads taken)) ≡ true →
+    (name : List ℕ) (m : MemberView) → PullsIntoAs reads archive own taken name m → ⊥
+ended_by reads archive own taken all name m pulls =
+    ended_here archive (unresolved (own ++ objects_as reads taken)) name m all (contains_among name (unresolved (own ++ objects_as reads taken)) pulls.named) pulls.listed
 
-pulls_by : (archive : List MemberView) (own : List Object) (taken : List MemberView) (name : List ℕ) (m : MemberView) → list_any (bytes_eq name) (unresolved (own ++ objects_as object_in taken)) ≡ true →
-    first_listed archive name ≡ Some m → list_any (bytes_eq m.name) (map (λ (x : MemberView). x.name) taken) ≡ false → PullsIntoAs object_in archive own taken name m
-pulls_by archive own taken name m left listed new = record {
-  named = among_contains name (unresolved (own ++ objects_as object_in taken)) (any_among name (unresolved (own ++ objects_as object_in taken)) left);
+pub pulls_by : (reads : List ℕ → Option Object) (archive : List MemberView) (own : List Object) (taken : List MemberView) (name : List ℕ) (m : MemberView) → list_any (bytes_eq name) (unresolved (own ++ objects_as reads taken)) ≡ true →
+    first_listed archive name ≡ Some m → list_any (bytes_eq m.name) (map (λ (x : MemberView). x.name) taken) ≡ false → PullsIntoAs reads archive own taken name m
+pulls_by reads archive own taken name m left listed new = record {
+  named = among_contains name (unresolved (own ++ objects_as reads taken)) (any_among name (unresolved (own ++ objects_as reads taken)) left);
   listed = listed;
   new = λ has. true≢false (sym (among_any m.name (map (λ (x : MemberView). x.name) taken) (among_map (λ (x : MemberView). x.name) m taken (contains_among m taken has))) ∙ new);
 }
 
-none_there : (members : List MemberView) (x : MemberView) → Among x [] → Among x members
+pub none_there : (members : List MemberView) (x : MemberView) → Among x [] → Among x members
 unfolding Among
 none_there members x none = absurd none
 
@@ -87,7 +87,7 @@ distinct = distinct_by (listed_in amd64_members) refl
 
 whole : AreListedWhole object_in amd64_members
 unfolding opened alias_specs encoded_size claimed_as
-whole = (whole_at (member_or_none (slice_get amd64_members 0)) refl, (whole_at (member_or_none (slice_get amd64_members 1)) refl, (whole_at (member_or_none (slice_get amd64_members 2)) refl, (whole_at (member_or_none (slice_get amd64_members 3)) refl, tt))))
+whole = (whole_at object_in (member_or_none (slice_get amd64_members 0)) refl, (whole_at object_in (member_or_none (slice_get amd64_members 1)) refl, (whole_at object_in (member_or_none (slice_get amd64_members 2)) refl, (whole_at object_in (member_or_none (slice_get amd64_members 3)) refl, tt))))
 
 searched_first : SearchesCommandLine object_in amd64_members (library_first own) of_quit
 unfolding opened alias_specs encoded_size swept sweeps references_of claims_of undefined_in AreSwept AreRounds SearchesFrom
@@ -129,26 +129,26 @@ by_lld : LldSearches object_in amd64_members (library_first own) amd64_members
 unfolding opened alias_specs encoded_size references_of claims_of undefined_in AreTakenBehind LldSearchesFrom
 by_lld = (
   [],
-  record { more = []; taken = refl; in_turn = tt; ended = ended_by [] own [] refl },
+  record { more = []; taken = refl; in_turn = tt; ended = ended_by object_in [] own [] refl },
   (
     [],
-    record { more = []; taken = refl; in_turn = tt; ended = ended_by (kernel_on AMD64 (codes "ExitProcess")).members own [] refl },
+    record { more = []; taken = refl; in_turn = tt; ended = ended_by object_in (kernel_on AMD64 (codes "ExitProcess")).members own [] refl },
     (
       amd64_members,
       record {
         more = amd64_members;
         taken = refl;
         in_turn = (
-          (name_at 0, pulls_by amd64_members own (drop 1 amd64_members) (name_at 0) (member_or_none (slice_get amd64_members 0)) refl refl refl),
+          (name_at 0, pulls_by object_in amd64_members own (drop 1 amd64_members) (name_at 0) (member_or_none (slice_get amd64_members 0)) refl refl refl),
           (
-            (name_at 1, pulls_by amd64_members own (drop 2 amd64_members) (name_at 1) (member_or_none (slice_get amd64_members 1)) refl refl refl),
+            (name_at 1, pulls_by object_in amd64_members own (drop 2 amd64_members) (name_at 1) (member_or_none (slice_get amd64_members 1)) refl refl refl),
             (
-              (codes "ExitProcess", pulls_by amd64_members own (drop 3 amd64_members) (codes "ExitProcess") (member_or_none (slice_get amd64_members 2)) refl refl refl),
-              ((codes "quit", pulls_by amd64_members own [] (codes "quit") (member_or_none (slice_get amd64_members 3)) refl refl refl), tt),
+              (codes "ExitProcess", pulls_by object_in amd64_members own (drop 3 amd64_members) (codes "ExitProcess") (member_or_none (slice_get amd64_members 2)) refl refl refl),
+              ((codes "quit", pulls_by object_in amd64_members own [] (codes "quit") (member_or_none (slice_get amd64_members 3)) refl refl refl), tt),
             ),
           ),
         );
-        ended = ended_by amd64_members own amd64_members refl;
+        ended = ended_by object_in amd64_members own amd64_members refl;
       },
       refl,
     ),
@@ -208,7 +208,7 @@ i386_distinct = distinct_by (listed_in i386_members) refl
 
 i386_whole : AreListedWhole object_in i386_members
 unfolding opened alias_specs encoded_size claimed_as
-i386_whole = (whole_at (member_or_none (slice_get i386_members 0)) refl, (whole_at (member_or_none (slice_get i386_members 1)) refl, (whole_at (member_or_none (slice_get i386_members 2)) refl, (whole_at (member_or_none (slice_get i386_members 3)) refl, tt))))
+i386_whole = (whole_at object_in (member_or_none (slice_get i386_members 0)) refl, (whole_at object_in (member_or_none (slice_get i386_members 1)) refl, (whole_at object_in (member_or_none (slice_get i386_members 2)) refl, (whole_at object_in (member_or_none (slice_get i386_members 3)) refl, tt))))
 
 i386_searched_first : SearchesCommandLine object_in i386_members (library_first i386_own) of_quit
 unfolding opened alias_specs encoded_size swept sweeps references_of claims_of undefined_in AreSwept AreRounds SearchesFrom
@@ -250,26 +250,26 @@ i386_by_lld : LldSearches object_in i386_members (library_first i386_own) i386_m
 unfolding opened alias_specs encoded_size references_of claims_of undefined_in AreTakenBehind LldSearchesFrom
 i386_by_lld = (
   [],
-  record { more = []; taken = refl; in_turn = tt; ended = ended_by [] i386_own [] refl },
+  record { more = []; taken = refl; in_turn = tt; ended = ended_by object_in [] i386_own [] refl },
   (
     [],
-    record { more = []; taken = refl; in_turn = tt; ended = ended_by (kernel_on I386 (codes "_ExitProcess@4")).members i386_own [] refl },
+    record { more = []; taken = refl; in_turn = tt; ended = ended_by object_in (kernel_on I386 (codes "_ExitProcess@4")).members i386_own [] refl },
     (
       i386_members,
       record {
         more = i386_members;
         taken = refl;
         in_turn = (
-          (name_at 0, pulls_by i386_members i386_own (drop 1 i386_members) (name_at 0) (member_or_none (slice_get i386_members 0)) refl refl refl),
+          (name_at 0, pulls_by object_in i386_members i386_own (drop 1 i386_members) (name_at 0) (member_or_none (slice_get i386_members 0)) refl refl refl),
           (
-            (name_at 1, pulls_by i386_members i386_own (drop 2 i386_members) (name_at 1) (member_or_none (slice_get i386_members 1)) refl refl refl),
+            (name_at 1, pulls_by object_in i386_members i386_own (drop 2 i386_members) (name_at 1) (member_or_none (slice_get i386_members 1)) refl refl refl),
             (
-              (codes "_ExitProcess@4", pulls_by i386_members i386_own (drop 3 i386_members) (codes "_ExitProcess@4") (member_or_none (slice_get i386_members 2)) refl refl refl),
-              ((codes "_quit", pulls_by i386_members i386_own [] (codes "_quit") (member_or_none (slice_get i386_members 3)) refl refl refl), tt),
+              (codes "_ExitProcess@4", pulls_by object_in i386_members i386_own (drop 3 i386_members) (codes "_ExitProcess@4") (member_or_none (slice_get i386_members 2)) refl refl refl),
+              ((codes "_quit", pulls_by object_in i386_members i386_own [] (codes "_quit") (member_or_none (slice_get i386_members 3)) refl refl refl), tt),
             ),
           ),
         );
-        ended = ended_by i386_members i386_own i386_members refl;
+        ended = ended_by object_in i386_members i386_own i386_members refl;
       },
       refl,
     ),
@@ -373,7 +373,7 @@ first_pulled archive objects (x ∷ taken) m is = first_pulled archive objects t
 
 no_pull : (name : List ℕ) (m : MemberView) → PullsIntoAs object_in (kernel_on AMD64 (codes "ExitProcess")).members own [] name m → ⊥
 unfolding opened alias_specs encoded_size references_of claims_of undefined_in
-no_pull = ended_by (kernel_on AMD64 (codes "ExitProcess")).members own [] refl
+no_pull = ended_by object_in (kernel_on AMD64 (codes "ExitProcess")).members own [] refl
 
 pub near_is_closed_over : NearIsClosedOver
 unfolding opened alias_specs encoded_size references_of claims_of undefined_in
@@ -385,7 +385,7 @@ near_is_closed_over = record {
       subst (AreTakenBehind object_in (kernel_on AMD64 (codes "ExitProcess")).members own []) all is.in_turn in
       let pulled = first_pulled (kernel_on AMD64 (codes "ExitProcess")).members own (take 2 amd64_members) (member_or_none (slice_get amd64_members 2)) turn in
       no_pull pulled.0 (member_or_none (slice_get amd64_members 2)) pulled.1;
-  ended = λ is. is.ended (codes "quit") (member_or_none (slice_get amd64_members 3)) (pulls_by amd64_members own [] (codes "quit") (member_or_none (slice_get amd64_members 3)) refl refl refl);
+  ended = λ is. is.ended (codes "quit") (member_or_none (slice_get amd64_members 3)) (pulls_by object_in amd64_members own [] (codes "quit") (member_or_none (slice_get amd64_members 3)) refl refl refl);
 }
 
 -- what is taken in the end is nothing, so nothing was
@@ -394,7 +394,7 @@ unfolding Among
 nothing_before [] none = refl
 nothing_before (n ∷ between) none = absurd (none n (inl refl))
 
-pub near_searches_libraries : NearSearchesLibraries
+pub near_searches_libraries : NearSearchesFor
 unfolding opened alias_specs encoded_size IsDistinct claimed_as swept references_of claims_of undefined_in IsOrdered AreUnclaimedBehind SearchesFrom archive_of Among
 near_searches_libraries = record {
   libraries_are = λ x. differ 0 3 (sym (ap length x.libraries_are)) (omega arith);

@@ -10,8 +10,9 @@ use Rattle.implib.specs.Link.Placement.{Bases, Placed, placed_from}
 use Rattle.implib_link.specs.Gnu.Calls.{PlacedCode, Resolves}
 use Rattle.implib_link.specs.Gnu.Fields.{IsRelocated, LinkedCode, placed_code, range_of_code, ranges_of_codes}
 use Rattle.implib_link_instances.specs.Worked.Relocated.{CodesBeside, as_placed, code_ranges, code_relocated_by, linked_by, linked_codes}
-use Rattle.implib_link.proofs.Gnu.LinkedCodes.{mapped_twice, takes_from}
+use Rattle.implib_link.proofs.Gnu.LinkedCodes.{takes_from}
 use Rattle.implib_link_instances.proofs.Worked.LinkedCode.{relocated_by, relocated_test}
+use Rattle.implib.proofs.Members.MemberReadings.{map_after}
 
 -- What is computed of placed code beside the tables.
 
@@ -43,7 +44,7 @@ module _ (machine : MachineType) (image_base : ℕ) (targets : PlacedCode → �
   all_linked P (c ∷ codes) all = (all.0, all_linked P codes all.1)
 
   pub ranges_are : (codes : List PlacedCode) → ranges_of_codes (linked_codes machine image_base targets codes) ≡ code_ranges machine image_base targets codes
-  ranges_are codes = mapped_twice (linked_by machine image_base targets) range_of_code codes
+  ranges_are codes = map_after range_of_code (linked_by machine image_base targets) codes
 
   placed_again : (codes : List PlacedCode) → map placed_code (linked_codes machine image_base targets codes) ≡ codes
   placed_again [] = refl

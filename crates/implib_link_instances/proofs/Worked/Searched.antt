@@ -22,7 +22,8 @@ use Rattle.implib_link_instances.specs.Worked.Programs.{chosen_input, code_objec
 use Rattle.implib_link_instances.specs.Worked.Search.{members_of, three, wanted}
 use Rattle.implib_link_instances.specs.Worked.Searched.{WorkedLibraries, WorkedSearched, as_taken, bar_member, by_name, head_member, libraries_objects, qux_member, searched_objects, tail_member}
 use Rattle.implib_link_instances.proofs.Worked.GnuPacked.{packed_is_admissible, packed_is_program}
-use Rattle.implib_link.proofs.Search.Archives.{inputs_made, libraries_link, libraries_taken}
+use Rattle.implib_link.proofs.Search.Archives.{libraries_link, libraries_taken}
+use Rattle.implib_link.proofs.Search.Arranged.{inputs_made}
 use Rattle.implib_link.proofs.Search.Ends.{search_bounded, search_ends}
 use Rattle.implib_link.proofs.Search.Lists.{contains_among}
 use Rattle.implib_link.proofs.Search.One.{takes_wanted}

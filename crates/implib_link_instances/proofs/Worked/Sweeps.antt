@@ -7,7 +7,7 @@ use Rattle.implib.proofs.Link.Ranges.{Among}
 use Rattle.implib_link.specs.Search.Closed.{AreTakenIntoAs, claims_of, references_of}
 use Rattle.implib_link.specs.Search.Search.{first_listed, undefined_in}
 use Rattle.implib_link.specs.Search.Sweeps.{SweepsTake, sweeps, swept}
-use Rattle.implib_link.proofs.Search.ArchiveGroups.{first_is}
+use Rattle.implib_link.proofs.Search.Lists.{listed_is}
 use Rattle.implib_link.proofs.Search.Sweeps.{sweeps_take}
 use Rattle.implib_link_instances.specs.Worked.Sweeps.{NearSweepsTake, WorkedSweeps, first_x, given_f, reads_by_hand, second_x, wants_x}
 use Rattle.implib_link_instances.proofs.Worked.Programs.{distinct_by}
@@ -28,7 +28,7 @@ behind = record { taken = refl; ended = refl }
 -- the second member that lists `x` is not the first
 not_first : (name : List ℕ) → first_listed (first_x ∷ wants_x ∷ second_x ∷ []) name ≡ Some second_x → ⊥
 unfolding Among
-not_first name is = named (first_is name (first_x ∷ wants_x ∷ second_x ∷ []) second_x is).1
+not_first name is = named (listed_is (first_x ∷ wants_x ∷ second_x ∷ []) name second_x is).1
   where
     other : (m : MemberView) → Some first_x ≡ Some m → m ≡ second_x → ⊥
     other m same again = (let one : first_x ≡ m = cc in differ 1 2 (ap (λ (y : MemberView). length y.bytes) (one ∙ again)) (omega arith))

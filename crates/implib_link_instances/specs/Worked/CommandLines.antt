@@ -217,7 +217,7 @@ quitting = code_object (symbol_of_class (codes "quit") 1 class_external ∷ [])
 -- a command line of libraries, but for one thing: there are no libraries; the second of two members that are listed
 -- for a name is taken; an object behind
 -- the archive claims its name; the library is first; the member is listed for a name more; it is not taken
-pub record NearSearchesLibraries : Type 0 where
+pub record NearSearchesFor : Type 0 where
   pub libraries_are : SearchesLibraries AMD64 [] amd64_members (library_last wanting_own) is_quit all_taken → ⊥
   pub first : SearchesLibraries AMD64 (kernel_on AMD64 (codes "ExitProcess") ∷ [])
       (amd64_members ++ quit_member (codes "quit") quit_bytes ∷ [])

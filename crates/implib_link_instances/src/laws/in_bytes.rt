@@ -1,6 +1,7 @@
 //! Searches in the bytes of archives, and ways from these to calls, worked by hand, and near misses.
 
-ghost use Rattle.implib_link_instances.specs.Archives.Files.{NearHasMembers, WorkedFiles};
+ghost use Rattle.implib_link_instances.specs.Archives.FileLines.{NearSearchesByLld, WorkedFileLines};
+ghost use Rattle.implib_link_instances.specs.Archives.Files.{NearHasMembersAs, WorkedFiles};
 ghost use Rattle.implib_link_instances.specs.Archives.NearMisses.{NearAreSearched, NearCallsArrive, NearIsBuiltByLld};
 ghost use Rattle.implib_link_instances.specs.Archives.NearMisses.{NearIsWantedBy, NearLeadsToFirst, NearLldArrives};
 ghost use Rattle.implib_link_instances.specs.Archives.NearMisses.{NearAreMembersAt, NearHaveArchive, NearIsHeaderOf};
@@ -18,10 +19,13 @@ pub fn worked_searches()
     ensures libraries { WorkedLibraries }
 {}
 
-/// The members in the bytes of archives that GNU `ar` wrote, and near misses.
+/// The members in the bytes of archives that GNU `ar` wrote, and of libraries of llvm-dlltool 19; command
+/// lines of these files, by lld to its program and by GNU `ld`; and near misses.
 pub fn worked_files()
     ensures worked { WorkedFiles }
-    ensures near { NearHasMembers }
+    ensures lines { WorkedFileLines }
+    ensures near { NearHasMembersAs }
+    ensures near_lines { NearSearchesByLld }
 {}
 
 /// The whole way by hand: from the bytes of the archive of foo.dll, which exports `bar`, to the

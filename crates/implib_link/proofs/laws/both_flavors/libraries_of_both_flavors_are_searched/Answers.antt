@@ -1,4 +1,4 @@
-use Rattle.implib_link.proofs.Search.BothArchives.{both_taken}
+use Rattle.implib_link.proofs.Search.Taken.{both_taken}
 use Rattle.implib_link.proofs.laws.both_flavors.libraries_of_both_flavors_are_searched.Goals as goal
 
 pub returns : goal.returns

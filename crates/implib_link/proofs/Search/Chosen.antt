@@ -1,0 +1,243 @@
+-- What is linked of libraries in either flavour, for names that want their exports.
+use Rattle.std.proofs.Common.{◌≡◌, ℕ, ◌<◌, Bool, length, arith, true, List, [], ◌∷◌, map, Option, Some, None, refl, ap, sym, ◌∙◌, subst, inl, inr, ◌⊎◌}
+use Rattle.std.specs.Prelude.{slice_get}
+use Rattle.std.specs.List.{cons_option, filter, filter_map}
+use Rattle.std.specs.Option.{option_map}
+use Rattle.implib.specs.declared.flavor.Flavor.{Flavor}
+use Rattle.implib.specs.declared.flavor.Flavor.TheVariants.{Gnu, Msvc}
+use Rattle.implib.specs.declared.machine.MachineType.{MachineType}
+use Rattle.implib.specs.Definition.{ExportView}
+use Rattle.implib.specs.LibraryName.{linked_dll, linked_name, names_for}
+use Rattle.implib.specs.Link.LinkedMembers.{LinkInput, all_linked, chosen_exports, numbered_spec}
+use Rattle.implib.specs.Members.Gnu.{archive_symbols}
+use Rattle.implib.specs.Members.GnuMembers.{export_spec, head_spec, tail_spec}
+use Rattle.implib.specs.Members.MemberSpec.{MemberSpec, MemberView, member_of}
+use Rattle.implib.specs.Members.Msvc.{short_import_symbols}
+use Rattle.implib.specs.Members.MsvcMembers.{descriptor_spec, null_thunk_spec, short_import_spec}
+use Rattle.implib.proofs.Link.LinkedMembers.{among_map}
+use Rattle.implib.proofs.Link.Ranges.{Among, among_back, among_first, among_flat, among_front, among_later}
+use Rattle.implib_link.specs.Flavors.Program.{FlavorInput, all_members, gnu_input, members_linked, specs_in}
+use Rattle.implib_link.specs.Search.Archives.{Library, exports_of, input_if_any, inputs_wanted}
+use Rattle.implib_link.specs.Search.BothFlavors.{FlavorLibrary, flavor_input, flavor_inputs, symbols_in}
+use Rattle.implib_link.specs.Search.MsvcArchives.{imports_wanted, is_import_wanted, short_input_if_any, short_inputs}
+use Rattle.implib_link.specs.Search.Search.{exports_wanted, is_wanted}
+use Rattle.implib_link.proofs.Flavors.GnuPrograms.{gnu_members}
+use Rattle.implib_link.proofs.Search.Arranged.{chosen_are as gnu_chosen_are}
+use Rattle.implib_link.proofs.Search.Lists.{among_at, among_either, among_flat_map, among_mapped, passes, passing, at_index, kept_from, kept_into}
+use Rattle.implib_link.proofs.Search.MsvcArchives.{both_parts, first_one, import_parts, imports_are}
+use Rattle.implib_link.proofs.Search.Roles.{IsOwn, Last, Own, Top, in_flavor, member}
+use Rattle.implib_link.proofs.Search.Search.{Chosen, in_nothing, member_spec_chosen, member_spec_linked, numbers_are_wanted, only_one, some_export, wanted_name, wants}
+use Rattle.std.proofs.lemmas.Option.{same_Some}
+
+-- whether an export's own member is taken for names
+abbrev pub is_chosen : Flavor → List (List ℕ) → ExportView → Bool
+is_chosen Msvc names e = is_import_wanted names e
+is_chosen Gnu names e = is_wanted names e
+
+pub own_chosen : (flavor : Flavor) (names : List (List ℕ)) (e : ExportView) → is_chosen flavor names e ≡ true → IsOwn flavor e
+own_chosen Msvc names e want = (import_parts names e want).1
+own_chosen Gnu names e want = tt
+
+pub chosen_name : (flavor : Flavor) (names : List (List ℕ)) (e : ExportView) → is_chosen flavor names e ≡ true → (name : List ℕ) × Among name (symbols_in flavor e) × Among name names
+chosen_name Msvc names e want = wanted_name names (short_import_symbols e) (import_parts names e want).0
+chosen_name Gnu names e want = wanted_name names (archive_symbols e) want
+
+pub chosen_by : (flavor : Flavor) (names : List (List ℕ)) (e : ExportView) (name : List ℕ) → IsOwn flavor e → Among name (symbols_in flavor e) → Among name names → is_chosen flavor names e ≡ true
+chosen_by Msvc names e name own listed want = both_parts names e (wants names (short_import_symbols e) name listed want) own
+chosen_by Gnu names e name own listed want = wants names (archive_symbols e) name listed want
+
+-- names that want an export want it with more names
+pub chosen_too : (flavor : Flavor) (names more : List (List ℕ)) (e : ExportView) → ((name : List ℕ) → Among name names → Among name more) → is_chosen flavor names e ≡ true →
+    is_chosen flavor more e ≡ true
+chosen_too flavor names more e within want =
+    let name = chosen_name flavor names e want in
+    chosen_by flavor more e name.0 (own_chosen flavor names e want) name.1 (within name.0 name.2)
+
+-- some export of a library is chosen
+pub record AnyOf (names : List (List ℕ)) (l : FlavorLibrary) : Type 0 where
+  pub number : ℕ
+  pub export : ExportView
+  pub is : slice_get (exports_of l.library) number ≡ Some export
+  pub want : is_chosen l.flavor names export ≡ true
+
+pub any_too : (names more : List (List ℕ)) (l : FlavorLibrary) → ((name : List ℕ) → Among name names → Among name more) → AnyOf names l → AnyOf more l
+any_too names more l within any = record { number = any.number; export = any.export; is = any.is; want = chosen_too l.flavor names more any.export within any.want }
+
+-- The input of a library.
+
+abbrev pub numbers_in : Flavor → List (List ℕ) → Library → List ℕ
+numbers_in Msvc names l = imports_wanted l names
+numbers_in Gnu names l = exports_wanted l.definition names
+
+abbrev input_with : Flavor → Library → List ℕ → FlavorInput
+input_with flavor l chosen = record { flavor = flavor; input = record { definition = l.definition; members = l.members; chosen = chosen } }
+
+abbrev pub input_in : List (List ℕ) → FlavorLibrary → FlavorInput
+input_in names l = record { flavor = l.flavor; input = record { definition = l.library.definition; members = l.library.members; chosen = numbers_in l.flavor names l.library } }
+
+pub chosen_are : (flavor : Flavor) (names : List (List ℕ)) (l : Library) → chosen_exports l.definition (numbers_in flavor names l) ≡ filter (is_chosen flavor names) (exports_of l)
+chosen_are Msvc names l = imports_are l names
+chosen_are Gnu names l = gnu_chosen_are l names
+
+pub export_chosen : (names : List (List ℕ)) (l : FlavorLibrary) (n : ℕ) (e : ExportView) → slice_get (exports_of l.library) n ≡ Some e → is_chosen l.flavor names e ≡ true →
+    Among e (chosen_exports l.library.definition (numbers_in l.flavor names l.library))
+export_chosen names l n e is want =
+    subst (Among e) (sym (chosen_are l.flavor names l.library)) (passes (is_chosen l.flavor names) e (exports_of l.library) (among_at e (exports_of l.library) n is) want)
+
+abbrev pub if_any : Flavor → Library → List ℕ → Option FlavorInput
+if_any flavor l [] = None
+if_any flavor l (n ∷ chosen) = Some (input_with flavor l (n ∷ chosen))
+
+pub input_if : (flavor : Flavor) (names : List (List ℕ)) (l : Library) → flavor_input names flavor l ≡ if_any flavor l (numbers_in flavor names l)
+input_if Msvc names l = by (imports_wanted l names)
+  where
+    by : (chosen : List ℕ) → short_input_if_any l chosen ≡ if_any Msvc l chosen
+    by [] = refl
+    by (n ∷ chosen) = refl
+input_if Gnu names l = by (exports_wanted l.definition names)
+  where
+    by : (chosen : List ℕ) → option_map gnu_input (input_if_any l chosen) ≡ if_any Gnu l chosen
+    by [] = refl
+    by (n ∷ chosen) = refl
+
+some_input : (names : List (List ℕ)) (l : FlavorLibrary) → AnyOf names l → flavor_input names l.flavor l.library ≡ Some (input_in names l)
+unfolding Among
+some_input names l any =
+    input_if l.flavor names l.library ∙ by (numbers_in l.flavor names l.library) any.export (export_chosen names l any.number any.export any.is any.want)
+  where
+    by : (chosen : List ℕ) (e : ExportView) → Among e (chosen_exports l.library.definition chosen) → if_any l.flavor l.library chosen ≡ Some (input_with l.flavor l.library chosen)
+    by [] e held = absurd held
+    by (n ∷ chosen) e held = refl
+
+some_number : (flavor : Flavor) (names : List (List ℕ)) (l : Library) (n : ℕ) (chosen : List ℕ) → numbers_in flavor names l ≡ n ∷ chosen →
+    (e : ExportView) × (Among e (exports_of l) × (is_chosen flavor names e ≡ true))
+some_number Msvc names l n chosen is = some_export (is_import_wanted names) 0 (exports_of l) n chosen is
+some_number Gnu names l n chosen is = some_export (is_wanted names) 0 (exports_of l) n chosen is
+
+input_some : (names : List (List ℕ)) (l : FlavorLibrary) (p : FlavorInput) → flavor_input names l.flavor l.library ≡ Some p → (p ≡ input_in names l) × AnyOf names l
+input_some names l p is = by (numbers_in l.flavor names l.library) refl (sym (input_if l.flavor names l.library) ∙ is)
+  where
+    by : (chosen : List ℕ) → numbers_in l.flavor names l.library ≡ chosen → if_any l.flavor l.library chosen ≡ Some p → (p ≡ input_in names l) × AnyOf names l
+    by [] are some = cc
+    by (n ∷ chosen) are some =
+        let one = some_number l.flavor names l.library n chosen are in
+        let at = at_index one.0 (exports_of l.library) one.1.0 in
+        let same : p ≡ input_with l.flavor l.library (n ∷ chosen) = (let e : Some (input_with l.flavor l.library (n ∷ chosen)) ≡ Some p = some in cc) in
+        (same ∙ ap (input_with l.flavor l.library) (sym are), record { number = at.0; export = one.0; is = at.1; want = one.1.1 })
+
+pub input_held : (names : List (List ℕ)) (libraries : List FlavorLibrary) (l : FlavorLibrary) → Among l libraries → AnyOf names l → Among (input_in names l) (flavor_inputs libraries names)
+input_held names libraries l held any = kept_into (λ (x : FlavorLibrary). flavor_input names x.flavor x.library) libraries (input_in names l) l held (some_input names l any)
+
+pub input_is : (names : List (List ℕ)) (libraries : List FlavorLibrary) (p : FlavorInput) → Among p (flavor_inputs libraries names) →
+    (l : FlavorLibrary) × Among l libraries × (p ≡ input_in names l) × AnyOf names l
+input_is names libraries p held =
+    let from = kept_from (λ (x : FlavorLibrary). flavor_input names x.flavor x.library) libraries p held in
+    let own = input_some names from.0 p from.2 in
+    (from.0, from.1, own.0, own.1)
+
+-- What is linked of a library.
+
+pub data IsLinked (machine : MachineType) (names : List (List ℕ)) (l : FlavorLibrary) (m : MemberView) : Type 0 where
+  TheTop : m ≡ member machine l.flavor l.library Top → IsLinked machine names l m
+  TheLast : m ≡ member machine l.flavor l.library Last → IsLinked machine names l m
+  AnOwn : (n : ℕ) (e : ExportView) → slice_get (exports_of l.library) n ≡ Some e → m ≡ member machine l.flavor l.library (Own n e) → is_chosen l.flavor names e ≡ true → IsLinked machine names l m
+
+module _ (machine : MachineType) (names : List (List ℕ)) where
+  abbrev specs : Flavor → Library → List MemberSpec
+  specs flavor l = specs_in flavor l.definition machine (numbers_in flavor names l)
+
+  as_spec : (flavor : Flavor) (l : Library) (m : MemberView) (p : MemberSpec) → m ≡ member_of p → Among p (specs flavor l) → Among m (members_linked machine (input_in names (in_flavor flavor l)))
+  as_spec flavor l m p same held = subst (λ x. Among x (map member_of (specs flavor l))) (sym same) (among_map member_of p (specs flavor l) held)
+
+  linked_in : (flavor : Flavor) (l : Library) (m : MemberView) → IsLinked machine names (in_flavor flavor l) m → Among m (members_linked machine (input_in names (in_flavor flavor l)))
+  linked_in Msvc l m (TheTop same) = as_spec Msvc l m (descriptor_spec machine (names_for Msvc l.definition)) same (among_first _ _)
+  linked_in Gnu l m (TheTop same) = as_spec Gnu l m (head_spec machine (linked_name l.definition)) same (among_first _ _)
+  linked_in Msvc l m (TheLast same) =
+      as_spec Msvc l m (null_thunk_spec machine (linked_dll l.definition)) same (among_later _ _ _
+      (among_back _ (map (short_import_spec machine (names_for Msvc l.definition)) (chosen_exports l.definition (imports_wanted l names))) _ (among_first _ _)))
+  linked_in Gnu l m (TheLast same) =
+      as_spec Gnu l m (tail_spec machine (names_for Gnu l.definition)) same (among_later _ _ _
+      (among_back _ (filter_map (numbered_spec machine (linked_name l.definition) (exports_of l)) (exports_wanted l.definition names)) _ (among_first _ _)))
+  linked_in Msvc l m (AnOwn n e is same want) =
+      let all : List MemberSpec = map (short_import_spec machine (names_for Msvc l.definition)) (chosen_exports l.definition (imports_wanted l names)) in
+      as_spec Msvc l m (short_import_spec machine (names_for Msvc l.definition) e) same (among_later _ _ _ (among_front _ all _
+      (among_map (short_import_spec machine (names_for Msvc l.definition)) e _ (export_chosen names (in_flavor Msvc l) n e is want))))
+  linked_in Gnu l m (AnOwn n e is same want) =
+      let all : List MemberSpec = filter_map (numbered_spec machine (linked_name l.definition) (exports_of l)) (exports_wanted l.definition names) in
+      as_spec Gnu l m (export_spec machine (linked_name l.definition) n e) same (among_later _ _ _ (among_front _ all _
+      (member_spec_chosen machine (linked_name l.definition) (exports_of l) (exports_wanted l.definition names) n e ((numbers_are_wanted (exports_of l) names).all n e is want) is)))
+
+  spec_linked : (flavor : Flavor) (l : Library) (m : MemberView) (p : MemberSpec) → m ≡ member_of p → Among p (specs flavor l) → IsLinked machine names (in_flavor flavor l) m
+  unfolding Among
+  spec_linked Msvc l m p same (inl is) = TheTop (same ∙ ap member_of is)
+  spec_linked Msvc l m p same (inr held) =
+      let spec : ExportView → MemberSpec = short_import_spec machine (names_for Msvc l.definition) in
+      elim (among_either p (map spec (chosen_exports l.definition (imports_wanted l names))) (null_thunk_spec machine (linked_dll l.definition) ∷ []) held) [
+        | inl own ↦
+            let e = among_mapped spec p (chosen_exports l.definition (imports_wanted l names)) own in
+            let kept = passing (is_import_wanted names) e.0 (exports_of l) (subst (Among e.0) (imports_are l names) e.1) in
+            let at = at_index e.0 (exports_of l) kept.0 in
+            AnOwn at.0 e.0 at.1 (same ∙ ap member_of e.2) kept.1
+        | inr last ↦ TheLast (same ∙ ap member_of (only_one p (null_thunk_spec machine (linked_dll l.definition)) last))
+      ]
+  spec_linked Gnu l m p same held = by (member_spec_linked machine (names_for Gnu l.definition) (exports_of l) (exports_wanted l.definition names) p held)
+    where
+      by : (p ≡ head_spec machine (linked_name l.definition)) ⊎ ((p ≡ tail_spec machine (names_for Gnu l.definition)) ⊎ Chosen machine (linked_name l.definition) (exports_of l) (exports_wanted l.definition names) p) →
+          IsLinked machine names (in_flavor Gnu l) m
+      by (inl is) = TheTop (same ∙ ap member_of is)
+      by (inr (inl is)) = TheLast (same ∙ ap member_of is)
+      by (inr (inr c)) =
+          let found = (numbers_are_wanted (exports_of l) names).only c.0 c.2 in
+          let own : found.0 ≡ c.1 = sym (same_Some c.1 found.0 (sym c.3 ∙ found.1)) in
+          AnOwn c.0 c.1 c.3 (same ∙ ap member_of c.4) (subst (λ e. is_wanted names e ≡ true) own found.2)
+
+  -- what is linked of libraries is linked of one of which some export is chosen
+  pub linked_from : (libraries : List FlavorLibrary) (m : MemberView) → Among m (all_members machine (flavor_inputs libraries names)) →
+      (l : FlavorLibrary) × Among l libraries × AnyOf names l × IsLinked machine names l m
+  linked_from libraries m held =
+      let p = among_flat_map (members_linked machine) m (flavor_inputs libraries names) held in
+      let from = input_is names libraries p.0 p.1 in
+      let spec = among_mapped member_of m (specs from.0.flavor from.0.library) (subst (λ (q : FlavorInput). Among m (members_linked machine q)) from.2 p.2) in
+      (from.0, from.1, from.3, spec_linked from.0.flavor from.0.library m spec.0 spec.2 spec.1)
+
+  pub linked_into : (libraries : List FlavorLibrary) (m : MemberView) (l : FlavorLibrary) → Among l libraries → AnyOf names l → IsLinked machine names l m →
+      Among m (all_members machine (flavor_inputs libraries names))
+  linked_into libraries m l held any own =
+      among_flat (members_linked machine) (input_in names l) (flavor_inputs libraries names) m (input_held names libraries l held any) (linked_in l.flavor l.library m own)
+
+-- Libraries of one flavour.
+
+pub shorts_are : (libraries : List Library) (names : List (List ℕ)) → flavor_inputs (map (in_flavor Msvc) libraries) names ≡ short_inputs libraries names
+shorts_are [] names = refl
+shorts_are (l ∷ libraries) names = ap (cons_option (short_input_if_any l (imports_wanted l names))) (shorts_are libraries names)
+
+pub exports_are : (libraries : List Library) (names : List (List ℕ)) → flavor_inputs (map (in_flavor Gnu) libraries) names ≡ map gnu_input (inputs_wanted libraries names)
+exports_are [] names = refl
+exports_are (l ∷ libraries) names =
+    ap (cons_option (option_map gnu_input (input_if_any l (exports_wanted l.definition names)))) (exports_are libraries names)
+    ∙ first (input_if_any l (exports_wanted l.definition names)) (inputs_wanted libraries names)
+  where
+    first : (o : Option LinkInput) (inputs : List LinkInput) → cons_option (option_map gnu_input o) (map gnu_input inputs) ≡ map gnu_input (cons_option o inputs)
+    first None inputs = refl
+    first (Some p) inputs = refl
+
+pub linked_are : (machine : MachineType) (libraries : List Library) (names : List (List ℕ)) →
+    all_members machine (flavor_inputs (map (in_flavor Gnu) libraries) names) ≡ all_linked machine (inputs_wanted libraries names)
+linked_are machine libraries names = ap (all_members machine) (exports_are libraries names) ∙ gnu_members machine (inputs_wanted libraries names)
+
+-- some export of them is chosen exactly where some input is linked
+pub some_short : (libraries : List Library) (names : List (List ℕ)) → 0 < length (short_inputs libraries names) → (x : Library) × Among x libraries × AnyOf names (in_flavor Msvc x)
+some_short libraries names some =
+    let one = first_one (short_inputs libraries names) some in
+    let from = input_is names (map (in_flavor Msvc) libraries) one.0 (subst (Among one.0) (sym (shorts_are libraries names)) one.1) in
+    let x = among_mapped (in_flavor Msvc) from.0 libraries from.1 in
+    (x.0, x.1, subst (AnyOf names) x.2 from.3)
+
+pub short_some : (libraries : List Library) (names : List (List ℕ)) (x : Library) → Among x libraries → AnyOf names (in_flavor Msvc x) → 0 < length (short_inputs libraries names)
+short_some libraries names x held any =
+    by (short_inputs libraries names) (subst (Among (input_in names (in_flavor Msvc x))) (shorts_are libraries names)
+    (input_held names (map (in_flavor Msvc) libraries) (in_flavor Msvc x) (among_map (in_flavor Msvc) x libraries held) any))
+  where
+    by : (inputs : List FlavorInput) → Among (input_in names (in_flavor Msvc x)) inputs → 0 < length inputs
+    by [] none = absurd (in_nothing (input_in names (in_flavor Msvc x)) none)
+    by (p ∷ inputs) some = omega arith

@@ -1,0 +1,355 @@
+-- An archive of both flavours as groups of members: of each library the member with its descriptor, the one that ends its tables, and
+-- the members of each export. The null descriptors are apart.
+use Rattle.std.proofs.Common.{◌≡◌, ℕ, ◌+◌, ◌≤◌, true, false, List, [], ◌∷◌, ◌++◌, map, Some, refl, ap, sym, ◌∙◌, subst, inl, inr, arith}
+use Rattle.std.specs.Prelude.{bytes_eq, slice_get}
+use Rattle.std.specs.List.{AllByRecursion, IsDistinct, cons_option, flat_map, list_any}
+use Rattle.std.proofs.lemmas.Bool.{cases_Bool, false_from_ne_true, true≢false}
+use Rattle.std.proofs.lemmas.Grind.{flat_map-append}
+use Rattle.std.proofs.lemmas.Slice.Eq.{bytes_eq-Decides}
+use Rattle.implib.specs.declared.flavor.Flavor.{Flavor}
+use Rattle.implib.specs.declared.flavor.Flavor.TheVariants.{Gnu, Msvc}
+use Rattle.implib.specs.declared.machine.MachineType.{MachineType}
+use Rattle.implib.specs.Definition.{ExportView}
+use Rattle.implib.specs.LibraryName.{linked_dll, linked_name}
+use Rattle.implib.specs.Members.Gnu.{head_symbol, iname_symbol}
+use Rattle.implib.specs.Members.Members.{AreMembersOf}
+use Rattle.implib.specs.Members.MemberSpec.{MemberView}
+use Rattle.implib.specs.Members.MsvcMembers.{descriptor_spec, null_descriptor_spec}
+use Rattle.implib.specs.Members.MsvcObjects.{descriptor_symbol, null_descriptor_symbol, null_thunk_symbol}
+use Rattle.implib.proofs.Link.LinkedMembers.{among_map}
+use Rattle.implib.proofs.Link.Ranges.{Among, all_among, among_first, among_flat, among_later}
+use Rattle.implib_link.specs.Search.Archives.{Library, archive_of, exports_of, symbols_of_library}
+use Rattle.implib_link.specs.Search.BothFlavors.{FlavorLibrary, IsFlavorArchive, archive_of_both, gnu_among, if_gnu, if_msvc, msvc_among}
+use Rattle.implib_link.specs.Search.MsvcArchives.{symbols_of_all_shorts, symbols_of_shorts}
+use Rattle.implib_link.specs.Search.Search.{first_listed, is_listed_for}
+use Rattle.implib_link.proofs.Search.ArchiveGroups.{Group, IsWithin, export_group, export_group_is, export_groups, first_behind, first_in_group, found_or_not, group_is_export, group_of_first, head_of, members_of_exports, members_of_groups, symbols_of_exports, symbols_of_groups, tail_of}
+use Rattle.implib_link.proofs.Search.ArchiveMembers.{within_export as within_gnu}
+use Rattle.implib_link.proofs.Search.Counts.{distinct_from, few_from, none_times, times, times_both}
+use Rattle.implib_link.proofs.Search.Lists.{all_from, among_at, among_flat_map, among_any, among_mapped, any_among, distinct_apart, distinct_later, listed_is, at_index, kept_from, kept_into}
+use Rattle.implib_link.proofs.Search.MsvcMembers.{descriptor_of, members_are, null_of as null_member_of, short_group, symbols_of_groups_of, thunk_of, within_export as within_short}
+use Rattle.implib_link.proofs.Search.Roles.{Last, Null, Own, Role, Top, Weak, in_flavor, listed_as, member, symbols}
+use Rattle.implib_link.proofs.Search.Search.{in_nothing, only_one}
+
+-- A library of a flavour is among all.
+
+gnu_is : (flavor : Flavor) (l x : Library) → if_gnu flavor l ≡ Some x → in_flavor Gnu x ≡ in_flavor flavor l
+gnu_is Gnu l x is = (let same : l ≡ x = cc in ap (in_flavor Gnu) (sym same))
+gnu_is Msvc l x is = cc
+
+msvc_is : (flavor : Flavor) (l x : Library) → if_msvc flavor l ≡ Some x → in_flavor Msvc x ≡ in_flavor flavor l
+msvc_is Msvc l x is = (let same : l ≡ x = cc in ap (in_flavor Msvc) (sym same))
+msvc_is Gnu l x is = cc
+
+module _ (libraries : List FlavorLibrary) where
+  pub gnu_there : (l : Library) → Among (in_flavor Gnu l) libraries → Among l (gnu_among libraries)
+  gnu_there l held = kept_into (λ (x : FlavorLibrary). if_gnu x.flavor x.library) libraries l (in_flavor Gnu l) held refl
+
+  pub msvc_there : (l : Library) → Among (in_flavor Msvc l) libraries → Among l (msvc_among libraries)
+  msvc_there l held = kept_into (λ (x : FlavorLibrary). if_msvc x.flavor x.library) libraries l (in_flavor Msvc l) held refl
+
+  pub there_gnu : (l : Library) → Among l (gnu_among libraries) → Among (in_flavor Gnu l) libraries
+  there_gnu l held =
+      let from = kept_from (λ (x : FlavorLibrary). if_gnu x.flavor x.library) libraries l held in
+      subst (λ (x : FlavorLibrary). Among x libraries) (sym (gnu_is from.0.flavor from.0.library l from.2)) from.1
+
+  pub there_msvc : (l : Library) → Among l (msvc_among libraries) → Among (in_flavor Msvc l) libraries
+  there_msvc l held =
+      let from = kept_from (λ (x : FlavorLibrary). if_msvc x.flavor x.library) libraries l held in
+      subst (λ (x : FlavorLibrary). Among x libraries) (sym (msvc_is from.0.flavor from.0.library l from.2)) from.1
+
+  pub first_held : (l : Library) (rest : List Library) → msvc_among libraries ≡ l ∷ rest → Among l (msvc_among libraries)
+  first_held l rest is = subst (Among l) (sym is) (among_first l rest)
+
+-- the null descriptor's symbol, where there is a library for Microsoft's linker
+abbrev pub null_of : List Library → List (List ℕ)
+null_of [] = []
+null_of (l ∷ shorts) = null_descriptor_symbol ∷ []
+
+module _ (machine : MachineType) where
+  abbrev pub of_library : Flavor → Library → List (List ℕ)
+  of_library Msvc l = symbols_of_shorts l
+  of_library Gnu l = symbols_of_library machine l
+
+  abbrev pub of_libraries : List FlavorLibrary → List (List ℕ)
+  of_libraries libraries = flat_map (λ (l : FlavorLibrary). of_library l.flavor l.library) libraries
+
+  -- The groups of a library.
+
+  abbrev pub role_group : Flavor → Library → Role → Group
+  role_group flavor l r = record { members = member machine flavor l r ∷ []; symbols = symbols machine flavor l r }
+
+  abbrev pub group_of : Flavor → Library → ℕ → ExportView → Group
+  group_of Msvc l n e = short_group machine l e
+  group_of Gnu l n e = export_group machine l n e
+
+  abbrev pub groups_in : Flavor → Library → List Group
+  groups_in Msvc l = role_group Msvc l Top ∷ role_group Msvc l Last ∷ map (short_group machine l) (exports_of l)
+  groups_in Gnu l = role_group Gnu l Last ∷ role_group Gnu l Top ∷ export_groups machine l 0 (exports_of l)
+
+  abbrev pub all_groups : List FlavorLibrary → List Group
+  all_groups libraries = flat_map (λ (l : FlavorLibrary). groups_in l.flavor l.library) libraries
+
+  symbols_in_groups : (flavor : Flavor) (l : Library) → symbols_of_groups (groups_in flavor l) ≡ of_library flavor l
+  unfolding symbols_of_shorts symbols_of_library
+  symbols_in_groups Msvc l = ap (λ names. descriptor_symbol (linked_dll l.definition) ∷ null_thunk_symbol (linked_dll l.definition) ∷ names) (symbols_of_groups_of machine l (exports_of l))
+  symbols_in_groups Gnu l = ap (λ names. iname_symbol machine (linked_name l.definition) ∷ head_symbol machine (linked_name l.definition) ∷ names) (symbols_of_exports machine l 0 (exports_of l))
+
+  symbols_groups : (libraries : List FlavorLibrary) → symbols_of_groups (all_groups libraries) ≡ of_libraries libraries
+  symbols_groups [] = refl
+  symbols_groups (l ∷ libraries) =
+      flat_map-append (λ (g : Group). g.symbols) (groups_in l.flavor l.library) (all_groups libraries)
+      ∙ ap (λ names. names ++ symbols_of_groups (all_groups libraries)) (symbols_in_groups l.flavor l.library)
+      ∙ ap (λ names. of_library l.flavor l.library ++ names) (symbols_groups libraries)
+
+  abbrev pub IsEnd : Role → Type 0
+  IsEnd Top = Unit {0}
+  IsEnd Last = Unit {0}
+  IsEnd Null = ⊥
+  IsEnd (Own n e) = ⊥
+  IsEnd (Weak n e b) = ⊥
+
+  -- which group of a library a group is
+  pub data IsGroup (flavor : Flavor) (l : Library) (g : Group) : Type 0 where
+    OfRole : (r : Role) → IsEnd r → g ≡ role_group flavor l r → IsGroup flavor l g
+    OfExport : (n : ℕ) (e : ExportView) → slice_get (exports_of l) n ≡ Some e → g ≡ group_of flavor l n e → IsGroup flavor l g
+
+  pub group_is : (flavor : Flavor) (l : Library) (g : Group) → Among g (groups_in flavor l) → IsGroup flavor l g
+  unfolding Among
+  group_is Msvc l g (inl is) = OfRole Top tt is
+  group_is Msvc l g (inr (inl is)) = OfRole Last tt is
+  group_is Msvc l g (inr (inr behind)) =
+      let e = among_mapped (short_group machine l) g (exports_of l) behind in
+      let at = at_index e.0 (exports_of l) e.1 in
+      OfExport at.0 e.0 at.1 e.2
+  group_is Gnu l g (inl is) = OfRole Last tt is
+  group_is Gnu l g (inr (inl is)) = OfRole Top tt is
+  group_is Gnu l g (inr (inr behind)) =
+      let own = export_group_is machine l (exports_of l) 0 g behind in
+      let position : 0 + own.0 ≡ own.0 = omega arith in
+      OfExport own.0 own.1 own.2 (own.3 ∙ ap (λ n. export_group machine l n own.1) position)
+
+  role_there : (flavor : Flavor) (l : Library) (r : Role) → IsEnd r → Among (role_group flavor l r) (groups_in flavor l)
+  role_there Msvc l Top end = among_first _ _
+  role_there Msvc l Last end = among_later _ _ _ (among_first _ _)
+  role_there Gnu l Last end = among_first _ _
+  role_there Gnu l Top end = among_later _ _ _ (among_first _ _)
+  role_there flavor l Null end = absurd end
+  role_there flavor l (Own n e) end = absurd end
+  role_there flavor l (Weak n e b) end = absurd end
+
+  export_there : (flavor : Flavor) (l : Library) (n : ℕ) (e : ExportView) → slice_get (exports_of l) n ≡ Some e → Among (group_of flavor l n e) (groups_in flavor l)
+  export_there Msvc l n e is = among_later _ _ _ (among_later _ _ _ (among_map (short_group machine l) e (exports_of l) (among_at e (exports_of l) n is)))
+  export_there Gnu l n e is =
+      let position : 0 + n ≡ n = omega arith in
+      among_later _ _ _ (among_later _ _ _ (subst (λ k. Among (export_group machine l k e) (export_groups machine l 0 (exports_of l))) position (group_is_export machine l (exports_of l) 0 n e is)))
+
+  within : (flavor : Flavor) (l : Library) (g : Group) → IsGroup flavor l g → IsWithin g
+  within flavor l g (OfRole r end is) = subst IsWithin (sym is) (λ m name held listed.
+      subst (Among name) (listed_as machine flavor l r) (subst (λ (y : MemberView). Among name y.symbols) (only_one m (member machine flavor l r) held) listed))
+  within Msvc l g (OfExport n e at is) = subst IsWithin (sym is) (within_short machine l e)
+  within Gnu l g (OfExport n e at is) = subst IsWithin (sym is) (within_gnu machine l n e)
+
+  all_within : (libraries : List FlavorLibrary) → AllByRecursion IsWithin (all_groups libraries)
+  all_within libraries = all_from IsWithin (all_groups libraries) (λ g held.
+      let l = among_flat_map (λ (x : FlavorLibrary). groups_in x.flavor x.library) g libraries held in
+      within l.0.flavor l.0.library g (group_is l.0.flavor l.0.library g l.2))
+
+  -- What is found among a library's members, and among its groups: the same, but for the null descriptor.
+
+  abbrev NotNull : List ℕ → Flavor → Type 0
+  NotNull name Msvc = bytes_eq name null_descriptor_symbol ≡ false
+  NotNull name Gnu = Unit {0}
+
+  same_behind : (name : List ℕ) (front rest other : List MemberView) → first_listed rest name ≡ first_listed other name → first_listed (front ++ rest) name ≡ first_listed (front ++ other) name
+  same_behind name [] rest other same = same
+  same_behind name (m ∷ front) rest other same =
+      elim (cases_Bool (is_listed_for name m)) [ inl is ↦ rw is refl | inr none ↦ rw none (same_behind name front rest other same) ]
+
+  without_null : (name : List ℕ) (l : Library) (d t : MemberView) (rest : List MemberView) → bytes_eq name null_descriptor_symbol ≡ false →
+      first_listed (d ∷ null_member_of machine l ∷ t ∷ rest) name ≡ first_listed (d ∷ t ∷ rest) name
+  unfolding null_descriptor_spec
+  without_null name l d t rest none = elim (cases_Bool (is_listed_for name d)) [ inl is ↦ rw is refl | inr other ↦ rw (other, none) refl ]
+
+  gnu_members_are : (l : Library) → AreMembersOf l.definition machine Gnu l.members → l.members ≡ members_of_groups (groups_in Gnu l)
+  gnu_members_are l made = made.made ∙ ap (λ ms. tail_of machine l ∷ head_of machine l ∷ ms) (members_of_exports machine l 0 (exports_of l))
+
+  library_groups : (name : List ℕ) (flavor : Flavor) (l : Library) (rest : List MemberView) → AreMembersOf l.definition machine flavor l.members → NotNull name flavor →
+      first_listed (l.members ++ rest) name ≡ first_listed (members_of_groups (groups_in flavor l) ++ rest) name
+  library_groups name Msvc l rest made none =
+      ap (λ ms. first_listed (ms ++ rest) name) (members_are machine l made)
+      ∙ without_null name l (descriptor_of machine l) (thunk_of machine l) (members_of_groups (map (short_group machine l) (exports_of l)) ++ rest) none
+  library_groups name Gnu l rest made none = ap (λ ms. first_listed (ms ++ rest) name) (gnu_members_are l made)
+
+  abbrev AreMade : List FlavorLibrary → Type 0
+  AreMade libraries = AllByRecursion (λ (l : FlavorLibrary). AreMembersOf l.library.definition machine l.flavor l.library.members) libraries
+
+  archive_groups : (name : List ℕ) (libraries : List FlavorLibrary) → AreMade libraries → AllByRecursion (λ (l : FlavorLibrary). NotNull name l.flavor) libraries →
+      first_listed (archive_of_both libraries) name ≡ first_listed (members_of_groups (all_groups libraries)) name
+  unfolding archive_of
+  archive_groups name [] made none = refl
+  archive_groups name (l ∷ libraries) made none =
+      library_groups name l.flavor l.library (archive_of_both libraries) made.0 none.0
+      ∙ same_behind name (members_of_groups (groups_in l.flavor l.library)) (archive_of_both libraries) (members_of_groups (all_groups libraries)) (archive_groups name libraries made.1 none.1)
+      ∙ ap (λ ms. first_listed ms name) (sym (flat_map-append (λ (g : Group). g.members) (groups_in l.flavor l.library) (all_groups libraries)))
+
+  -- The null descriptor is the first library's for Microsoft's linker, where no library lists its symbol otherwise.
+
+  null_found : (name : List ℕ) (l : Library) (rest : List MemberView) → name ≡ null_descriptor_symbol → (Among name (of_library Msvc l) → ⊥) →
+      first_listed (descriptor_of machine l ∷ null_member_of machine l ∷ rest) name ≡ Some (null_member_of machine l)
+  unfolding descriptor_spec null_descriptor_spec symbols_of_shorts Among
+  null_found name l rest named none =
+      let other : is_listed_for name (descriptor_of machine l) ≡ false =
+      false_from_ne_true (is_listed_for name (descriptor_of machine l)) (λ is. none (inl (only_one name (descriptor_symbol (linked_dll l.definition)) (any_among name (descriptor_of machine l).symbols is)))) in
+      let own : is_listed_for name (null_member_of machine l) ≡ true = among_any name (null_member_of machine l).symbols (inl named) in
+      rw (other, own) refl
+
+  listed_in_library : (name : List ℕ) (l : Library) (m : MemberView) → AreMembersOf l.definition machine Gnu l.members → first_listed l.members name ≡ Some m → Among name (of_library Gnu l)
+  listed_in_library name l m made found =
+      let at = group_of_first name (groups_in Gnu l) m (subst (λ ms. first_listed ms name ≡ Some m) (gnu_members_are l made) found) in
+      let there = listed_is at.0.members name m at.2 in
+      subst (Among name) (symbols_in_groups Gnu l)
+      (among_flat (λ (g : Group). g.symbols) at.0 (groups_in Gnu l) name at.1 (within Gnu l at.0 (group_is Gnu l at.0 at.1) m name there.0 there.1))
+
+  first_null : (name : List ℕ) → name ≡ null_descriptor_symbol → (libraries : List FlavorLibrary) → AreMade libraries → ((flavor : Flavor) (l : Library) → Among (in_flavor flavor l) libraries → Among name (of_library flavor l) → ⊥) →
+      (x : Library) (rest : List Library) → msvc_among libraries ≡ x ∷ rest → first_listed (archive_of_both libraries) name ≡ Some (null_member_of machine x)
+  unfolding archive_of
+  first_null name named [] made apart x rest is = cc
+  first_null name named (l ∷ libraries) made apart x rest is =
+      by l.flavor l.library made.0 (apart l.flavor l.library (among_first l libraries)) is (first_null name named libraries made.1 (λ flavor y held. apart flavor y (among_later _ l libraries held)) x rest)
+    where
+      by : (flavor : Flavor) (y : Library) → AreMembersOf y.definition machine flavor y.members → (Among name (of_library flavor y) → ⊥) → cons_option (if_msvc flavor y) (msvc_among libraries) ≡ x ∷ rest →
+          (msvc_among libraries ≡ x ∷ rest → first_listed (archive_of_both libraries) name ≡ Some (null_member_of machine x)) → first_listed (y.members ++ archive_of_both libraries) name ≡ Some (null_member_of machine x)
+      by Gnu y own none first later =
+          elim (found_or_not name y.members) [
+            | inl nothing ↦ first_behind name y.members (archive_of_both libraries) nothing ∙ later first
+            | inr some ↦ absurd (none (listed_in_library name y some.0 own some.1))
+          ]
+      by Msvc y own none first later =
+          let same : y ≡ x = cc in
+          let behind : List MemberView = thunk_of machine y ∷ members_of_groups (map (short_group machine y) (exports_of y)) in
+          ap (λ ms. first_listed (ms ++ archive_of_both libraries) name) (members_are machine y own) ∙ null_found name y (behind ++ archive_of_both libraries) named none
+          ∙ ap (λ z. Some (null_member_of machine z)) same
+
+  sums_first : (name : List ℕ) (flavor : Flavor) (l : Library) (rest : List FlavorLibrary) →
+      times name (of_libraries rest) ≡ times name (flat_map (symbols_of_library machine) (gnu_among rest)) + times name (flat_map symbols_of_shorts (msvc_among rest)) →
+      times name (of_library flavor l) + times name (of_libraries rest)
+      ≡ times name (flat_map (symbols_of_library machine) (cons_option (if_gnu flavor l) (gnu_among rest))) + times name (flat_map symbols_of_shorts (cons_option (if_msvc flavor l) (msvc_among rest)))
+  sums_first name Msvc l rest later =
+      (let both = times_both name (symbols_of_shorts l) (flat_map symbols_of_shorts (msvc_among rest)) in omega arith)
+  sums_first name Gnu l rest later =
+      (let both = times_both name (symbols_of_library machine l) (flat_map (symbols_of_library machine) (gnu_among rest)) in omega arith)
+
+  sums : (name : List ℕ) (libraries : List FlavorLibrary) →
+      times name (of_libraries libraries) ≡ times name (flat_map (symbols_of_library machine) (gnu_among libraries)) + times name (flat_map symbols_of_shorts (msvc_among libraries))
+  unfolding times
+  sums name [] = refl
+  sums name (l ∷ rest) = times_both name (of_library l.flavor l.library) (of_libraries rest) ∙ sums_first name l.flavor l.library rest (sums name rest)
+
+module _ (machine : MachineType) (libraries : List FlavorLibrary) (archive : IsFlavorArchive machine libraries) where
+  abbrev shorts : List Library
+  shorts = msvc_among libraries
+
+  shorts_differ : (ls : List Library) → IsDistinct bytes_eq (null_descriptor_symbol ∷ flat_map symbols_of_shorts ls) → IsDistinct bytes_eq (symbols_of_all_shorts ls)
+  unfolding IsDistinct
+  shorts_differ [] distinct = tt
+  shorts_differ (l ∷ ls) distinct = distinct
+
+  with_null : (name : List ℕ) (ls : List Library) → times name (symbols_of_all_shorts ls) ≡ times name (null_of ls) + times name (flat_map symbols_of_shorts ls)
+  unfolding times
+  with_null name [] = refl
+  with_null name (l ∷ ls) = times_both name (null_descriptor_symbol ∷ []) (flat_map symbols_of_shorts (l ∷ ls))
+
+  -- the symbols of all libraries and the null descriptor's
+  pub few : (name : List ℕ) → times name (null_of shorts) + times name (of_libraries machine libraries) ≤ 1
+  few name =
+      let gnu : List (List ℕ) = flat_map (symbols_of_library machine) (gnu_among libraries) in
+      let total : times name (of_libraries machine libraries) ≡ times name gnu + times name (flat_map symbols_of_shorts (msvc_among libraries)) = sums machine name libraries in
+      let split : times name (symbols_of_all_shorts (msvc_among libraries)) ≡ times name (null_of shorts) + times name (flat_map symbols_of_shorts (msvc_among libraries)) = with_null name shorts in
+      let gnu_once : times name gnu ≤ 1 = few_from gnu archive.gnu.distinct name in
+      let short_once : times name (symbols_of_all_shorts (msvc_among libraries)) ≤ 1 = few_from (symbols_of_all_shorts shorts) (shorts_differ shorts archive.msvc.distinct) name in
+      elim (cases_Bool (list_any (bytes_eq name) gnu)) [
+        | inl there ↦
+            (let none : times name (symbols_of_all_shorts (msvc_among libraries)) ≡ 0 =
+            none_times name (symbols_of_all_shorts shorts) (all_among (λ k. list_any (bytes_eq k) (symbols_of_all_shorts (msvc_among libraries)) ≡ false) name gnu (any_among name gnu there) archive.apart) in
+            omega arith)
+        | inr none_there ↦ (let none : times name gnu ≡ 0 = none_times name gnu none_there in omega arith)
+      ]
+
+  symbols_differ : IsDistinct bytes_eq (null_of (msvc_among libraries) ++ of_libraries machine libraries)
+  symbols_differ = distinct_from (null_of shorts ++ of_libraries machine libraries) (λ name.
+      (let both = times_both name (null_of shorts) (of_libraries machine libraries) in let most : times name (null_of shorts) + times name (of_libraries machine libraries) ≤ 1 = few name in omega arith))
+
+  pub made_of : (flavor : Flavor) (l : Library) → Among (in_flavor flavor l) libraries → AreMembersOf l.definition machine flavor l.members
+  made_of Gnu l held = all_among (λ (x : Library). AreMembersOf x.definition machine Gnu x.members) l (gnu_among libraries) (gnu_there libraries l held) archive.gnu.made
+  made_of Msvc l held = all_among (λ (x : Library). AreMembersOf x.definition machine Msvc x.members) l (msvc_among libraries) (msvc_there libraries l held) archive.msvc.made
+
+  all_made : AreMade machine libraries
+  all_made = all_from _ libraries (λ l held. made_of l.flavor l.library held)
+
+  -- no symbol of a library is the null descriptor's
+  pub symbol_apart : (name : List ℕ) → Among name (of_libraries machine libraries) → (l : Library) → Among l (msvc_among libraries) → name ≡ null_descriptor_symbol → ⊥
+  unfolding Among
+  symbol_apart name held l there same =
+      distinct_apart (null_of shorts) (of_libraries machine libraries) name symbols_differ (by (msvc_among libraries) there) held
+    where
+      by : (ls : List Library) → Among l ls → Among name (null_of ls)
+      by [] none = absurd none
+      by (x ∷ ls) some = inl same
+
+  none_null : (name : List ℕ) → ((l : Library) → Among l (msvc_among libraries) → name ≡ null_descriptor_symbol → ⊥) → AllByRecursion (λ (l : FlavorLibrary). NotNull machine name l.flavor) libraries
+  none_null name none = all_from _ libraries (λ l held. by l.flavor l.library held)
+    where
+      by : (flavor : Flavor) (l : Library) → Among (in_flavor flavor l) libraries → NotNull machine name flavor
+      by Gnu l held = tt
+      by Msvc l held = false_from_ne_true (bytes_eq name null_descriptor_symbol) (λ is. none l (msvc_there libraries l held) ((bytes_eq-Decides name null_descriptor_symbol).0 is))
+
+  of_group : (flavor : Flavor) (l : Library) (g : Group) (name : List ℕ) → Among (in_flavor flavor l) libraries → Among g (groups_in machine flavor l) → Among name g.symbols → Among name (of_libraries machine libraries)
+  of_group flavor l g name held own listed =
+      among_flat (λ (x : FlavorLibrary). of_library machine x.flavor x.library) (in_flavor flavor l) libraries name held
+      (subst (Among name) (symbols_in_groups machine flavor l) (among_flat (λ (x : Group). x.symbols) g (groups_in machine flavor l) name own listed))
+
+  -- what a name finds in its group, it finds in the archive
+  group_finds : (flavor : Flavor) (l : Library) (g : Group) (name : List ℕ) (m : MemberView) → Among (in_flavor flavor l) libraries → Among g (groups_in machine flavor l) → Among name g.symbols →
+      first_listed g.members name ≡ Some m → first_listed (archive_of_both libraries) name ≡ Some m
+  group_finds flavor l g name m held own listed is =
+      archive_groups machine name libraries all_made (none_null name (symbol_apart name (of_group flavor l g name held own listed)))
+      ∙ first_in_group name (all_groups machine libraries) g m (all_within machine libraries)
+      (subst (IsDistinct bytes_eq) (sym (symbols_groups machine libraries)) (distinct_later (null_of shorts) (of_libraries machine libraries) symbols_differ))
+      (among_flat (λ (x : FlavorLibrary). groups_in machine x.flavor x.library) (in_flavor flavor l) libraries g held own) listed is
+
+  pub role_finds : (flavor : Flavor) (l : Library) (r : Role) (name : List ℕ) → Among (in_flavor flavor l) libraries → IsEnd machine r → Among name (symbols machine flavor l r) →
+      first_listed (archive_of_both libraries) name ≡ Some (member machine flavor l r)
+  role_finds flavor l r name held end listed =
+      let is : is_listed_for name (member machine flavor l r) ≡ true = among_any name _ (subst (Among name) (sym (listed_as machine flavor l r)) listed) in
+      group_finds flavor l (role_group machine flavor l r) name (member machine flavor l r) held (role_there machine flavor l r end) listed (rw is refl)
+
+  pub export_finds : (flavor : Flavor) (l : Library) (n : ℕ) (e : ExportView) (name : List ℕ) (m : MemberView) → Among (in_flavor flavor l) libraries → slice_get (exports_of l) n ≡ Some e →
+      Among name (group_of machine flavor l n e).symbols → first_listed (group_of machine flavor l n e).members name ≡ Some m → first_listed (archive_of_both libraries) name ≡ Some m
+  export_finds flavor l n e name m held at listed is = group_finds flavor l (group_of machine flavor l n e) name m held (export_there machine flavor l n e at) listed is
+
+  pub null_finds : (name : List ℕ) → name ≡ null_descriptor_symbol → (x : Library) (rest : List Library) → msvc_among libraries ≡ x ∷ rest → first_listed (archive_of_both libraries) name ≡ Some (null_member_of machine x)
+  null_finds name named x rest is =
+      first_null machine name named libraries all_made (λ flavor l held own.
+      symbol_apart name (among_flat (λ (y : FlavorLibrary). of_library machine y.flavor y.library) (in_flavor flavor l) libraries name held own) x (subst (Among x) (sym is) (among_first x rest)) named) x rest is
+
+  -- what a name finds, it finds in a group, or it is the null descriptor's
+  pub data FoundIn (name : List ℕ) (m : MemberView) : Type 0 where
+    InGroup : (flavor : Flavor) (l : Library) (g : Group) → Among (in_flavor flavor l) libraries → IsGroup machine flavor l g → first_listed g.members name ≡ Some m → FoundIn name m
+    InNull : (x : Library) (rest : List Library) → msvc_among libraries ≡ x ∷ rest → m ≡ null_member_of machine x → name ≡ null_descriptor_symbol → FoundIn name m
+
+  pub found_in : (name : List ℕ) (m : MemberView) → first_listed (archive_of_both libraries) name ≡ Some m → FoundIn name m
+  found_in name m found =
+      elim (cases_Bool (bytes_eq name null_descriptor_symbol)) [
+        | inl is ↦ by ((bytes_eq-Decides name null_descriptor_symbol).0 is) (msvc_among libraries) refl
+        | inr other ↦ in_group (λ l held is. true≢false (sym ((bytes_eq-Decides name null_descriptor_symbol).1 is) ∙ other))
+      ]
+    where
+      in_group : ((l : Library) → Among l (msvc_among libraries) → name ≡ null_descriptor_symbol → ⊥) → FoundIn name m
+      in_group none =
+          let at = group_of_first name (all_groups machine libraries) m (sym (archive_groups machine name libraries all_made (none_null name none)) ∙ found) in
+          let l = among_flat_map (λ (x : FlavorLibrary). groups_in machine x.flavor x.library) at.0 libraries at.1 in
+          InGroup l.0.flavor l.0.library at.0 l.1 (group_is machine l.0.flavor l.0.library at.0 l.2) at.2
+
+      by : name ≡ null_descriptor_symbol → (ls : List Library) → msvc_among libraries ≡ ls → FoundIn name m
+      by named [] none = in_group (λ l held is. in_nothing l (subst (Among l) none held))
+      by named (x ∷ rest) first = InNull x rest first (let e : Some m ≡ Some (null_member_of machine x) = sym found ∙ null_finds name named x rest first in cc) named

@@ -1,0 +1,339 @@
+-- What a linker takes of an archive of libraries, however it reads members: what is wanted, and what that leaves.
+use Rattle.std.proofs.Common.{◌≡◌, ℕ, ◌⊎◌, Bool, true, false, List, [], ◌∷◌, ◌++◌, map, Option, Some, refl, ap, sym, ◌∙◌, subst, inl, inr}
+use Rattle.std.specs.Prelude.{not}
+use Rattle.std.specs.List.{AllByRecursion, filter, flat_map}
+use Rattle.std.proofs.lemmas.Bool.{cases_Bool, true≢false, not_from_false}
+use Rattle.implib.specs.declared.flavor.Flavor.{Flavor}
+use Rattle.implib.specs.declared.flavor.Flavor.TheVariants.{Gnu, Msvc}
+use Rattle.implib.specs.declared.machine.MachineType.{MachineType}
+use Rattle.implib.specs.Definition.{ExportView}
+use Rattle.implib.specs.Formats.Object.{Object}
+use Rattle.implib.specs.Import.{imp_symbol}
+use Rattle.implib.specs.LibraryName.{linked_dll, linked_name}
+use Rattle.implib.specs.Link.LinkedMembers.{all_linked}
+use Rattle.implib.specs.Members.MemberSpec.{MemberView}
+use Rattle.implib.specs.Members.Msvc.{short_import_symbol}
+use Rattle.implib.proofs.Link.LinkedMembers.{among_contains, among_map}
+use Rattle.implib.proofs.Link.Ranges.{Among, all_among, among_back, among_first, among_front, among_later}
+use Rattle.implib_link.specs.Flavors.Program.{all_members}
+use Rattle.implib_link.specs.Gnu.Program.{HaveSame}
+use Rattle.implib_link.specs.Search.Archives.{Library, exports_of, inputs_wanted}
+use Rattle.implib_link.specs.Search.BothFlavors.{FlavorLibrary, IsFlavorArchive, IsWeakOfBoth, NamesNoMembers, TakesOfBoth, archive_of_both, gnu_among, msvc_among}
+use Rattle.implib_link.specs.Flavors.Expansion.{expanded_in}
+use Rattle.implib_link.specs.Search.Msvc.{NamesNoHeader, TakesFor}
+use Rattle.implib_link.specs.Search.MsvcArchives.{first_null, is_weak_in, short_inputs, shorts_linked, wanted_with_weak}
+use Rattle.implib_link.specs.Search.Search.{AreTakenInTurnAs, NamesNoHeadOrTail, TakesAs, first_listed, left_as, objects_as, undefined_in}
+use Rattle.implib_link.proofs.Search.Chosen.{AnOwn, AnyOf, IsLinked, TheLast, TheTop, chosen_by, chosen_name, is_chosen, linked_are, linked_from, linked_into, own_chosen, shorts_are}
+use Rattle.implib_link.proofs.Search.Closing.{IsFirstAs, left_by as left_as_by, pulled, reached as reached_as, still_named as still_as, there_not}
+use Rattle.implib_link.proofs.Search.FlavorGroups.{first_held, gnu_there, msvc_there, there_gnu, there_msvc}
+use Rattle.implib_link.proofs.Search.Found.{Found, HasRole, IsReader, by_name, expands, finds, first_by_role, found, left_by_role, weak_by_role}
+use Rattle.implib_link.proofs.Search.Lists.{all_from as all_each, among_at, among_either, among_mapped, as_name, contains_among, from_not, name_as, passes, passing}
+use Rattle.implib_link.proofs.Search.MsvcArchives.{member_with, null_or_member, null_with}
+use Rattle.implib_link.proofs.Search.MsvcMembers.{null_of}
+use Rattle.implib_link.proofs.Search.Roles.{IsNull, IsRole, Last, Null, Own, Role, Top, Weak, in_flavor, is_weak_role, last_symbol, left, left_as_role, left_top, member, object, symbols, weak_symbol}
+use Rattle.implib_link.proofs.Search.Search.{only_one}
+
+module _ (machine : MachineType) (libraries : List FlavorLibrary) (archive : IsFlavorArchive machine libraries) where
+  abbrev members : List MemberView
+  members = archive_of_both libraries
+
+  -- Why a member is needed for names: they want it, or what leaves its symbol is needed.
+  abbrev pub Why : List (List ℕ) → FlavorLibrary → Role → Type 0
+  Why names l Top = AnyOf names l
+  Why names l Last = AnyOf names l
+  Why names l Null = (x : Library) × Among (in_flavor Msvc x) libraries × AnyOf names (in_flavor Msvc x)
+  Why names l (Own n e) = is_chosen l.flavor names e ≡ true
+  Why names l (Weak n e b) = Among (weak_symbol l.flavor e b) names
+
+  pub record Needed (names : List (List ℕ)) (m : MemberView) : Type 0 where
+    pub has : HasRole machine libraries archive m
+    pub why : Why names has.library has.role
+
+  need : (names : List (List ℕ)) (l : FlavorLibrary) (r : Role) (m : MemberView) → Among l libraries → IsRole libraries l r → Why names l r → m ≡ member machine l.flavor l.library r → Needed names m
+  need names l r m held is why same = record { has = record { library = l; held = held; role = r; is = is; same = same }; why = why }
+
+  -- names that only members leave are not wanted
+  abbrev pub IsFixed : Role → Type 0
+  IsFixed Top = Unit {0}
+  IsFixed Last = Unit {0}
+  IsFixed Null = Unit {0}
+  IsFixed (Own n e) = ⊥
+  IsFixed (Weak n e b) = ⊥
+
+  pub not_wanted : (names : List (List ℕ)) → NamesNoMembers machine libraries names → (flavor : Flavor) (l : Library) (r : Role) (name : List ℕ) → Among (in_flavor flavor l) libraries →
+      IsRole libraries (in_flavor flavor l) r → IsFixed r → Among name (symbols machine flavor l r) → Among name names → ⊥
+  not_wanted names plain flavor l r name held is fixed listed want = by flavor r held is fixed listed
+    where
+      gnu : Among (in_flavor Gnu l) libraries → NamesNoHeadOrTail machine (linked_name l.definition) names
+      gnu there = all_among (λ (x : Library). NamesNoHeadOrTail machine (linked_name x.definition) names) l (gnu_among libraries) (gnu_there libraries l there) plain.gnu
+
+      msvc : Among (in_flavor Msvc l) libraries → NamesNoHeader (linked_dll l.definition) names
+      msvc there = all_among (λ (x : Library). NamesNoHeader (linked_dll x.definition) names) l (msvc_among libraries) (msvc_there libraries l there) plain.msvc
+
+      one : (own : List ℕ) → Among name (own ∷ []) → Among own names
+      one own held = subst (λ n. Among n names) (only_one name own held) want
+
+      by : (flavor : Flavor) (r : Role) → Among (in_flavor flavor l) libraries → IsRole libraries (in_flavor flavor l) r → IsFixed r → Among name (symbols machine flavor l r) → ⊥
+      by Gnu Top there is fixed listed = there_not _ names (gnu there).head (one _ listed)
+      by Gnu Last there is fixed listed = there_not _ names (gnu there).name (one _ listed)
+      by Gnu Null there is fixed listed = is
+      by Msvc Top there is fixed listed = there_not _ names (msvc there).descriptor (one _ listed)
+      by Msvc Last there is fixed listed = there_not _ names (msvc there).null_thunk (one _ listed)
+      by Msvc Null there is fixed listed = there_not _ names (msvc there).null_descriptor (one _ listed)
+      by flavor (Own n e) there is fixed listed = fixed
+      by flavor (Weak n e b) there is fixed listed = fixed
+
+  -- a member that a wanted name finds
+  pub needed_by_wanted : (names : List (List ℕ)) → NamesNoMembers machine libraries names → (name : List ℕ) (m : MemberView) → Found machine libraries archive name m → Among name names → Needed names m
+  needed_by_wanted names plain name m x want = by x.has.library x.has.role x.has.held x.has.is x.has.same x.listed
+    where
+      by : (l : FlavorLibrary) (r : Role) → Among l libraries → IsRole libraries l r → m ≡ member machine l.flavor l.library r → Among name (symbols machine l.flavor l.library r) → Needed names m
+      by l Top held is same listed = absurd (not_wanted names plain l.flavor l.library Top name held is tt listed want)
+      by l Last held is same listed = absurd (not_wanted names plain l.flavor l.library Last name held is tt listed want)
+      by l Null held is same listed = absurd (not_wanted names plain l.flavor l.library Null name held is tt listed want)
+      by l (Own n e) held is same listed = need names l (Own n e) m held is (chosen_by l.flavor names e name is.1 listed want) same
+      by l (Weak n e b) held is same listed = need names l (Weak n e b) m held is (subst (λ x. Among x names) (only_one name _ listed) want) same
+
+  -- a name finds the member whose symbol it is
+  found_is : (flavor : Flavor) (l : Library) (r : Role) (name : List ℕ) (m : MemberView) → Among (in_flavor flavor l) libraries → IsRole libraries (in_flavor flavor l) r →
+      Among name (symbols machine flavor l r) → first_listed members name ≡ Some m → m ≡ member machine flavor l r
+  found_is flavor l r name m held is listed at = (let e : Some m ≡ Some (member machine flavor l r) = sym at ∙ finds machine libraries archive flavor l r name held is listed in cc)
+
+  -- a member that a name finds which a needed member leaves that is no weak external
+  needed_by_left : (names : List (List ℕ)) (name : List ℕ) (m : MemberView) → first_listed members name ≡ Some m → (flavor : Flavor) (l : Library) (r : Role) → Among (in_flavor flavor l) libraries →
+      IsRole libraries (in_flavor flavor l) r → Why names (in_flavor flavor l) r → is_weak_role r ≡ false → Among name (left machine flavor l r) → Needed names m
+  unfolding Among
+  needed_by_left names name m at Gnu l Top held is why plain named = need names (in_flavor Gnu l) Last m held tt why (found_is Gnu l Last name m held tt named at)
+  needed_by_left names name m at Msvc l Top held is why plain (inr named) = need names (in_flavor Msvc l) Last m held tt why (found_is Msvc l Last name m held tt named at)
+  needed_by_left names name m at Msvc l Top held is why plain (inl named) = by (msvc_among libraries) refl (msvc_there libraries l held)
+    where
+      by : (ls : List Library) → msvc_among libraries ≡ ls → Among l ls → Needed names m
+      by [] first there = absurd there
+      by (x ∷ rest) first there =
+          let own : Among (in_flavor Msvc x) libraries = there_msvc libraries x (first_held libraries x rest first) in
+          need names (in_flavor Msvc x) Null m own (rest, first) (l, held, why) (found_is Msvc x Null name m own (rest, first) (inl named) at)
+  needed_by_left names name m at flavor l Last held is why plain named = absurd named
+  needed_by_left names name m at flavor l Null held is why plain named = absurd named
+  needed_by_left names name m at flavor l (Own n e) held is why plain named =
+      need names (in_flavor flavor l) Top m held tt (record { number = n; export = e; is = is.0; want = why }) (found_is flavor l Top name m held tt named at)
+  needed_by_left names name m at flavor l (Weak n e b) held is why plain named = absurd (true≢false plain)
+
+  module _ (reads : List ℕ → Option Object) (weak : MemberView → Bool) (reader : IsReader machine libraries archive reads weak) (wanted : List (List ℕ)) (taken : List MemberView) where
+    -- what is wanted with what the weak externals leave that are taken
+    abbrev pub all_wanted : List (List ℕ)
+    all_wanted = wanted ++ left_as reads (filter weak taken)
+
+    -- whatever is taken is needed
+    pub needed : NamesNoMembers machine libraries all_wanted → (earlier : List MemberView) → ((m : MemberView) → Among m earlier → Among m taken) → AreTakenInTurnAs reads members wanted earlier →
+        (m : MemberView) → Among m earlier → Needed all_wanted m
+    unfolding Among AreTakenInTurnAs left_as
+    needed plain [] there turn m held = absurd held
+    needed plain (t ∷ earlier) there turn m (inr held) = needed plain earlier (λ x behind. there x (inr behind)) turn.1 m held
+    needed plain (t ∷ earlier) there turn m (inl e) =
+        let pulls = turn.0.1 in
+        let name : List ℕ = turn.0.0 in
+        let by_wanted : Among name all_wanted → Needed all_wanted t = needed_by_wanted all_wanted plain name t (found machine libraries archive name t pulls.listed) in
+        subst (Needed all_wanted) (sym e)
+        (elim (among_either name wanted (flat_map undefined_in (objects_as reads earlier)) (contains_among name _ pulls.named)) [
+          | inl want ↦ by_wanted (among_front name wanted (left_as reads (filter weak taken)) want)
+          | inr left_name ↦
+              let from = name_as reads undefined_in name earlier left_name in
+              let x = needed plain earlier (λ y behind. there y (inr behind)) turn.1 from.member from.held in
+              let is : weak from.member ≡ is_weak_role x.has.role = weak_by_role machine libraries archive reads weak reader from.member x.has in
+              elim (cases_Bool (is_weak_role x.has.role)) [
+                | inl one ↦ by_wanted (among_back name wanted (left_as reads (filter weak taken))
+                    (as_name reads undefined_in name (filter weak taken) from.member from.object (passes weak from.member taken (there from.member (inr from.held)) (is ∙ one)) from.taken from.among))
+                | inr plain_one ↦ needed_by_left all_wanted name t pulls.listed x.has.library.flavor x.has.library.library x.has.role x.has.held x.has.is x.why plain_one
+                    (left_by_role machine libraries archive reads weak reader from.member x.has from.object name from.taken from.among)
+              ]
+        ])
+
+    module _ (takes : TakesAs reads members wanted taken) where
+      pub each_first : (m : MemberView) → Among m taken → IsFirstAs reads members m
+      each_first m held =
+          let by = pulled reads members wanted taken takes.in_turn m held in
+          first_by_role machine libraries archive reads weak reader m (found machine libraries archive by.0 m by.1).has
+
+      -- what a name finds that is wanted, or left by a member which is taken
+      pub wanted_taken : (flavor : Flavor) (l : Library) (r : Role) (name : List ℕ) → Among (in_flavor flavor l) libraries → IsRole libraries (in_flavor flavor l) r → Among name (symbols machine flavor l r) →
+          Among name all_wanted → Among (member machine flavor l r) taken
+      wanted_taken flavor l r name held is listed want =
+          reached_as reads members weak taken each_first wanted takes name (member machine flavor l r) (finds machine libraries archive flavor l r name held is listed)
+          (still_as reads members weak taken each_first wanted name want)
+
+      reach : (flavor : Flavor) (l : Library) (r : Role) → Among (in_flavor flavor l) libraries → IsRole libraries (in_flavor flavor l) r → Among (member machine flavor l r) taken →
+          (kind : Flavor) (x : Library) (s : Role) (name : List ℕ) → Among (in_flavor kind x) libraries → IsRole libraries (in_flavor kind x) s → Among name (left machine flavor l r) →
+          Among name (symbols machine kind x s) → Among (member machine kind x s) taken
+      reach flavor l r held is own kind x s name there so named listed =
+          reached_as reads members weak taken each_first wanted takes name (member machine kind x s) (finds machine libraries archive kind x s name there so listed)
+          (left_as_by reads members weak taken each_first wanted (member machine flavor l r) (object machine flavor l r) name own (reader.taken flavor l r held is)
+          (subst (Among name) (sym (left_as_role machine flavor l r (by_name machine libraries archive flavor l held))) named))
+
+      own_taken : (l : FlavorLibrary) (n : ℕ) (e : ExportView) → Among l libraries → IsRole libraries l (Own n e) → is_chosen l.flavor all_wanted e ≡ true → Among (member machine l.flavor l.library (Own n e)) taken
+      own_taken l n e held is want =
+          let name = chosen_name l.flavor all_wanted e want in
+          wanted_taken l.flavor l.library (Own n e) name.0 held is name.1 name.2
+
+      top_taken : (l : FlavorLibrary) → Among l libraries → AnyOf all_wanted l → Among (member machine l.flavor l.library Top) taken
+      top_taken l held any =
+          let is : IsRole libraries l (Own any.number any.export) = (any.is, own_chosen l.flavor all_wanted any.export any.want) in
+          reach l.flavor l.library (Own any.number any.export) held is (own_taken l any.number any.export held is any.want) l.flavor l.library Top _ held tt (among_first _ _) (among_first _ _)
+
+      last_left : (flavor : Flavor) (l : Library) → Among (last_symbol machine flavor l) (left_top machine flavor l)
+      last_left Gnu l = among_first _ _
+      last_left Msvc l = among_later _ _ _ (among_first _ _)
+
+      -- and whatever is needed is taken
+      pub taken_if_needed : (l : FlavorLibrary) (r : Role) → Among l libraries → IsRole libraries l r → Why all_wanted l r → Among (member machine l.flavor l.library r) taken
+      taken_if_needed l Top held is why = top_taken l held why
+      taken_if_needed l Last held is why = reach l.flavor l.library Top held tt (top_taken l held why) l.flavor l.library Last _ held tt (last_left l.flavor l.library) (among_first _ _)
+      taken_if_needed l Null held is (x, there, any) = reach Msvc x Top there tt (top_taken (in_flavor Msvc x) there any) l.flavor l.library Null _ held is (among_first _ _) (among_first _ _)
+      taken_if_needed l (Own n e) held is why = own_taken l n e held is why
+      taken_if_needed l (Weak n e b) held is why = wanted_taken l.flavor l.library (Weak n e b) _ held is (among_first _ _) why
+
+      -- What is taken and is no weak external is what is linked.
+
+      abbrev linked_shorts : List MemberView
+      linked_shorts = all_members machine (short_inputs (msvc_among libraries) all_wanted)
+
+      abbrev shorts : List MemberView
+      shorts = shorts_linked machine (msvc_among libraries) all_wanted
+
+      abbrev exports : List MemberView
+      exports = all_linked machine (inputs_wanted (gnu_among libraries) all_wanted)
+
+      short_linked : (m : MemberView) (l : Library) → Among (in_flavor Msvc l) libraries → AnyOf all_wanted (in_flavor Msvc l) → IsLinked machine all_wanted (in_flavor Msvc l) m → Among m linked_shorts
+      short_linked m l held any own =
+          subst (λ ps. Among m (all_members machine ps)) (shorts_are (msvc_among libraries) all_wanted)
+          (linked_into machine all_wanted (map (in_flavor Msvc) (msvc_among libraries)) m (in_flavor Msvc l) (among_map (in_flavor Msvc) l (msvc_among libraries) (msvc_there libraries l held)) any own)
+
+      linked_too : (m : MemberView) (flavor : Flavor) (l : Library) → Among (in_flavor flavor l) libraries → AnyOf all_wanted (in_flavor flavor l) → IsLinked machine all_wanted (in_flavor flavor l) m →
+          Among m (shorts ++ exports)
+      linked_too m Msvc l held any own = among_front m shorts exports (member_with machine (msvc_among libraries) m linked_shorts (short_linked m l held any own))
+      linked_too m Gnu l held any own =
+          among_back m shorts exports (subst (Among m) (linked_are machine (gnu_among libraries) all_wanted)
+          (linked_into machine all_wanted (map (in_flavor Gnu) (gnu_among libraries)) m (in_flavor Gnu l) (among_map (in_flavor Gnu) l (gnu_among libraries) (gnu_there libraries l held)) any own))
+
+      linked_if_other : (m : MemberView) (l : FlavorLibrary) (r : Role) → Among l libraries → IsRole libraries l r → Why all_wanted l r → m ≡ member machine l.flavor l.library r → is_weak_role r ≡ false →
+          Among m (shorts ++ exports)
+      linked_if_other m l Top held is why same plain = linked_too m l.flavor l.library held why (TheTop same)
+      linked_if_other m l Last held is why same plain = linked_too m l.flavor l.library held why (TheLast same)
+      linked_if_other m l (Own n e) held is why same plain = linked_too m l.flavor l.library held (record { number = n; export = e; is = is.0; want = why }) (AnOwn n e is.0 same why)
+      linked_if_other m l (Weak n e b) held is why same plain = absurd (true≢false plain)
+      linked_if_other m l Null held is (x, there, any) same plain =
+          among_front m shorts exports (null_with machine (msvc_among libraries) m (member machine Msvc x Top) linked_shorts (by l.flavor is)
+          (short_linked (member machine Msvc x Top) x there any (TheTop refl)))
+        where
+          by : (flavor : Flavor) → IsNull (msvc_among libraries) flavor l.library → Among m (first_null machine (msvc_among libraries))
+          by Gnu null = absurd null
+          by Msvc null = subst (λ ls. Among m (first_null machine ls)) (sym null.1) (subst (λ y. Among y (null_of machine l.library ∷ [])) (sym same) (among_first _ _))
+
+      -- a member that is linked is taken, and is no weak external
+      abbrev IsOther : MemberView → Type 0
+      IsOther m = Among m taken × (weak m ≡ false)
+
+      pub as_other : (m : MemberView) (l : FlavorLibrary) (r : Role) → Among l libraries → IsRole libraries l r → Why all_wanted l r → m ≡ member machine l.flavor l.library r → is_weak_role r ≡ false → IsOther m
+      as_other m l r held is why same plain = (
+        subst (λ x. Among x taken) (sym same) (taken_if_needed l r held is why),
+        weak_by_role machine libraries archive reads weak reader m (record { library = l; held = held; role = r; is = is; same = same }) ∙ plain,
+      )
+
+      pub linked_other : (m : MemberView) (l : FlavorLibrary) → Among l libraries → AnyOf all_wanted l → IsLinked machine all_wanted l m → IsOther m
+      linked_other m l held any (TheTop same) = as_other m l Top held tt any same refl
+      linked_other m l held any (TheLast same) = as_other m l Last held tt any same refl
+      linked_other m l held any (AnOwn n e is same want) = as_other m l (Own n e) held (is, own_chosen l.flavor all_wanted e want) want same refl
+
+      -- what is linked of the libraries of one flavour
+      from_short : (m : MemberView) → Among m linked_shorts → (l : Library) × Among (in_flavor Msvc l) libraries × AnyOf all_wanted (in_flavor Msvc l) × IsLinked machine all_wanted (in_flavor Msvc l) m
+      from_short m held =
+          let from = linked_from machine all_wanted (map (in_flavor Msvc) (msvc_among libraries)) m (subst (λ ps. Among m (all_members machine ps)) (sym (shorts_are (msvc_among libraries) all_wanted)) held) in
+          let l = among_mapped (in_flavor Msvc) from.0 (msvc_among libraries) from.1 in
+          (l.0, there_msvc libraries l.0 l.1, subst (AnyOf all_wanted) l.2 from.2, subst (λ x. IsLinked machine all_wanted x m) l.2 from.3)
+
+      from_export : (m : MemberView) → Among m exports → IsOther m
+      from_export m held =
+          let from = linked_from machine all_wanted (map (in_flavor Gnu) (gnu_among libraries)) m (subst (Among m) (sym (linked_are machine (gnu_among libraries) all_wanted)) held) in
+          let l = among_mapped (in_flavor Gnu) from.0 (gnu_among libraries) from.1 in
+          linked_other m from.0 (subst (λ x. Among x libraries) (sym l.2) (there_gnu libraries l.0 l.1)) from.2 from.3
+
+      from_null : (m x : MemberView) → Among m (first_null machine (msvc_among libraries)) → Among x linked_shorts → IsOther m
+      unfolding Among
+      from_null m x null held = by (msvc_among libraries) refl null
+        where
+          by : (ls : List Library) → msvc_among libraries ≡ ls → Among m (first_null machine ls) → IsOther m
+          by [] first there = absurd there
+          by (l ∷ rest) first there =
+              let from = from_short x held in
+              as_other m (in_flavor Msvc l) Null (there_msvc libraries l (first_held libraries l rest first)) (rest, first) (from.0, from.1, from.2) (only_one m (null_of machine l) there) refl
+
+      other_if_linked : (m : MemberView) → Among m (shorts ++ exports) → IsOther m
+      other_if_linked m linked =
+          elim (among_either m shorts exports linked) [
+            | inl short ↦ elim (null_or_member machine (msvc_among libraries) m linked_shorts short) [
+              | inl null ↦ from_null m null.1.0 null.0 null.1.1
+              | inr own ↦ let from = from_short m own in linked_other m (in_flavor Msvc from.0) from.1 from.2 from.3
+            ]
+            | inr export ↦ from_export m export
+          ]
+
+      module _ (plain : NamesNoMembers machine libraries all_wanted) where
+        needed_all : (m : MemberView) → Among m taken → Needed all_wanted m
+        needed_all m held = needed plain taken (λ x there. there) takes.in_turn m held
+
+        pub others_are : HaveSame (filter (λ m. not (weak m)) taken) (shorts_linked machine (msvc_among libraries) all_wanted ++ all_linked machine (inputs_wanted (gnu_among libraries) all_wanted))
+        others_are m = (
+          λ held.
+              let kept = passing (λ y. not (weak y)) m taken (contains_among m (filter (λ y. not (weak y)) taken) held) in
+              let x = needed_all m kept.0 in
+              among_contains m (shorts ++ exports) (linked_if_other m x.has.library x.has.role x.has.held x.has.is x.why x.has.same
+              (sym (weak_by_role machine libraries archive reads weak reader m x.has) ∙ from_not (weak m) kept.1)),
+          λ linked.
+              let other = other_if_linked m (contains_among m (shorts ++ exports) linked) in
+              among_contains m (filter (λ y. not (weak y)) taken) (passes (λ y. not (weak y)) m taken other.0 (not_from_false (weak m) other.1)),
+        )
+
+        weak_in_role : (m : MemberView) (flavor : Flavor) (l : Library) (r : Role) → Among (in_flavor flavor l) libraries → IsRole libraries (in_flavor flavor l) r → Why all_wanted (in_flavor flavor l) r →
+            m ≡ member machine flavor l r → is_weak_role r ≡ true → IsWeakOfBoth libraries all_wanted m
+        weak_in_role m Gnu l (Weak n e true) held is why same one = absurd is.1
+        weak_in_role m Gnu l (Weak n e false) held is why same one = inr (record {
+          library = l;
+          held = among_contains l (gnu_among libraries) (gnu_there libraries l held);
+          export = e;
+          among = among_contains e (exports_of l) (among_at e (exports_of l) n is.0);
+          data_alone = is.1.1;
+          named = among_contains e.name all_wanted why;
+          listed = ap (λ (y : MemberView). y.symbols) same;
+        })
+        weak_in_role m Msvc l (Weak n e b) held is why same one = inl (record {
+          library = l;
+          held = among_contains l (msvc_among libraries) (msvc_there libraries l held);
+          export = e;
+          among = among_contains e (exports_of l) (among_at e (exports_of l) n is.0);
+          alias = is.1;
+          name = weak_symbol Msvc e b;
+          is = of_two b;
+          named = among_contains (weak_symbol Msvc e b) all_wanted why;
+          listed = ap (λ (y : MemberView). y.symbols) same;
+        })
+          where
+            of_two : (b : Bool) → (weak_symbol Msvc e b ≡ short_import_symbol e) ⊎ (weak_symbol Msvc e b ≡ imp_symbol (short_import_symbol e))
+            of_two false = inl refl
+            of_two true = inr refl
+        weak_in_role m flavor l Top held is why same one = absurd (true≢false (sym one))
+        weak_in_role m flavor l Last held is why same one = absurd (true≢false (sym one))
+        weak_in_role m flavor l Null held is why same one = absurd (true≢false (sym one))
+        weak_in_role m flavor l (Own n e) held is why same one = absurd (true≢false (sym one))
+
+        pub weak_are : AllByRecursion (IsWeakOfBoth libraries all_wanted) (filter weak taken)
+        weak_are = all_each (IsWeakOfBoth libraries all_wanted) (filter weak taken) (λ m held.
+            let kept = passing weak m taken held in
+            let x = needed_all m kept.0 in
+            weak_in_role m x.has.library.flavor x.has.library.library x.has.role x.has.held x.has.is x.why x.has.same (sym (weak_by_role machine libraries archive reads weak reader m x.has) ∙ kept.1))
+
+-- of an archive of both flavours
+pub both_taken : (machine : MachineType) (libraries : List FlavorLibrary) → IsFlavorArchive machine libraries → (wanted : List (List ℕ)) (taken : List MemberView) →
+    NamesNoMembers machine libraries (wanted_with_weak machine wanted taken) → TakesFor machine (archive_of_both libraries) wanted taken → TakesOfBoth machine libraries wanted taken
+both_taken machine libraries archive wanted taken plain takes = record {
+  inputs = others_are machine libraries archive (expanded_in machine) (is_weak_in machine) (expands machine libraries archive) wanted taken takes plain;
+  weak = weak_are machine libraries archive (expanded_in machine) (is_weak_in machine) (expands machine libraries archive) wanted taken takes plain;
+}

@@ -1,0 +1,80 @@
+-- Command lines of files: an object of gcc 12, a library of llvm-dlltool 19 and an archive of GNU `ar`, the library first for
+-- lld and last, or in a group, for GNU `ld`.
+use Rattle.std.specs.Prelude.{◌≡◌, ℕ, List, [], ◌∷◌, ◌++◌, codes}
+use Rattle.implib.specs.declared.machine.MachineType.{MachineType}
+use Rattle.implib.specs.declared.machine.MachineType.TheVariants.{I386, AMD64}
+use Rattle.implib.specs.Formats.Object.{Object}
+use Rattle.implib.specs.Members.MemberSpec.{MemberView}
+use Rattle.implib_archive.specs.declared.kind.Kind.TheVariants.{Coff, Gnu}
+use Rattle.implib_archive_link.specs.Files.{ArchiveFile, members_in_files}
+use Rattle.implib_archive_link.specs.LldFiles.{SearchesByLld, read_by_lld}
+use Rattle.implib_archive_link.specs.LldWay.{AreCalledAlike, LldArrives}
+use Rattle.implib_link.specs.Search.BothFlavors.{FlavorLibrary, archive_of_both, msvc_among}
+use Rattle.implib_link.specs.Search.CommandLines.{AnObject, Archives, Input, SearchesFlavors, given_with, others_of}
+use Rattle.implib_link.specs.Search.MsvcArchives.{IsMsvcArchive}
+use Rattle.implib_link.specs.Search.Sweeps.{members_at}
+use Rattle.implib_link_instances.specs.Archives.Files.{i386_kernel_lib, i386_libquit, kernel_lib, libquit}
+use Rattle.implib_link_instances.specs.Worked.CommandLines.{i386_wants_bytes, inputs_of, is_quit, quit_bytes, quitting, read_or_none, wants_bytes}
+use Rattle.implib_link_instances.specs.Worked.FlavorLines.{amd64_kernels, amd64_shorts, i386_kernels, i386_shorts, shorts_grouped, shorts_last, shorts_taken}
+
+-- the library and the archive on each machine
+abbrev pub amd64_files : List ArchiveFile
+amd64_files = record { kind = Coff; bytes = kernel_lib } ∷ record { kind = Gnu; bytes = libquit } ∷ []
+
+abbrev pub i386_files : List ArchiveFile
+i386_files = record { kind = Coff; bytes = i386_kernel_lib } ∷ record { kind = Gnu; bytes = i386_libquit } ∷ []
+
+-- the library in front of the archive
+abbrev pub shorts_first : List Object → List Input
+shorts_first own = inputs_of own ++ Archives ((0 ∷ 1 ∷ 2 ∷ 3 ∷ []) ∷ []) ∷ Archives ((4 ∷ []) ∷ []) ∷ []
+
+-- what lld takes, the last one first: the archive's member, and the short import that it wants
+abbrev pub lld_taken : List MemberView → List MemberView
+lld_taken members = members_at members (3 ∷ 4 ∷ [])
+
+-- On one machine, where these are the members and the object: the members are in the files; lld takes the short import,
+-- and so its program arrives; GNU `ld` takes it in an order of its.
+pub record WorkedFileLine (machine : MachineType) (libraries : List FlavorLibrary) (files : List ArchiveFile)
+    (members : List MemberView) (own : List Object) (inputs : List Input) : Type 0 where
+  pub members_are : members_in_files files ≡ members
+  pub archive : IsMsvcArchive machine (msvc_among libraries)
+  pub alike : AreCalledAlike (msvc_among libraries)
+  pub lld : SearchesByLld machine (msvc_among libraries) (members_in_files files) (shorts_first own) is_quit (lld_taken members)
+  pub arrives : LldArrives machine (msvc_among libraries) (given_with (read_by_lld machine) is_quit own (lld_taken members))
+      (others_of is_quit (lld_taken members))
+  pub flavors : SearchesFlavors machine libraries (members_in_files files) inputs is_quit shorts_taken
+
+pub record WorkedFileLines : Type 0 where
+  pub amd64 : WorkedFileLine AMD64 amd64_kernels amd64_files amd64_shorts (read_or_none wants_bytes)
+      (shorts_last (read_or_none wants_bytes))
+  pub i386 : WorkedFileLine I386 i386_kernels i386_files i386_shorts (read_or_none i386_wants_bytes)
+      (shorts_grouped (read_or_none i386_wants_bytes))
+
+-- Near misses, on AMD64.
+
+abbrev pub wanting_own : List Object
+wanting_own = read_or_none wants_bytes
+
+-- a second member that is listed for `quit`
+abbrev pub other_quit : MemberView
+other_quit = record { name = codes "other.o"; bytes = quit_bytes; symbols = codes "quit" ∷ [] }
+
+-- the archive's member, listed for a name more
+abbrev pub listed_more : MemberView
+listed_more = record { name = codes "quit.o"; bytes = quit_bytes; symbols = codes "quit" ∷ codes "more" ∷ [] }
+
+-- A command line of lld's, but for one thing: there are no libraries; the second of two members that are listed for a name
+-- is taken; an object behind the archive claims its name; no input has the archive; the member is listed for a name more;
+-- nothing is taken.
+pub record NearSearchesByLld : Type 0 where
+  pub libraries_are : SearchesByLld AMD64 [] amd64_shorts (shorts_first wanting_own) is_quit (lld_taken amd64_shorts) → ⊥
+  pub first : SearchesByLld AMD64 (msvc_among amd64_kernels) (amd64_shorts ++ other_quit ∷ [])
+      (inputs_of wanting_own ++ Archives ((5 ∷ []) ∷ []) ∷ Archives ((0 ∷ 1 ∷ 2 ∷ 3 ∷ []) ∷ []) ∷ []) is_quit
+      (members_at amd64_shorts (3 ∷ []) ++ other_quit ∷ []) → ⊥
+  pub unclaimed : SearchesByLld AMD64 (msvc_among amd64_kernels) amd64_shorts
+      (shorts_first wanting_own ++ AnObject quitting ∷ []) is_quit (lld_taken amd64_shorts) → ⊥
+  pub all : SearchesByLld AMD64 (msvc_among amd64_kernels) amd64_shorts
+      (inputs_of wanting_own ++ Archives ((0 ∷ 1 ∷ 2 ∷ 3 ∷ []) ∷ []) ∷ []) is_quit [] → ⊥
+  pub whole : SearchesByLld AMD64 (msvc_among amd64_kernels) (archive_of_both amd64_kernels ++ listed_more ∷ [])
+      (shorts_first wanting_own) is_quit (lld_taken amd64_shorts) → ⊥
+  pub searches : SearchesByLld AMD64 (msvc_among amd64_kernels) amd64_shorts (shorts_first wanting_own) is_quit [] → ⊥
