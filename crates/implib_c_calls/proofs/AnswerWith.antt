@@ -7,7 +7,7 @@ use Rattle.implib_archive.specs.Archive.{archive_of}
 use Rattle.implib_archive.specs.Refusal.{refusal_of}
 use Rattle.implib_rules.specs.declared.library.Refusal.{Refusal}
 use Rattle.implib_rules.specs.declared.library.Refusal.TheVariants as refusal
-use Rattle.implib_rules.specs.Library.{IsLibrary, IsRefusalOfBytes, IsRefusalOfMembers, MembersFor, RefusesArchive, kind_of}
+use Rattle.implib_rules.specs.Library.{IsLibrary, IsRefusalOfBytes, IsRefusalOfMembers, MembersFor, kind_of}
 use Rattle.implib_rules.specs.Options.{LibraryOptionsView}
 use Rattle.implib_null_descriptor.specs.Libraries.{IsNamedLibrary, IsRefusalOfNamed, IsRefusalOfNamedLibrary, NamedMembersFor}
 use Rattle.implib_c_calls.specs.declared.outcome.Failure.{Failure}

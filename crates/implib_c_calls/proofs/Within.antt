@@ -147,8 +147,8 @@ refusal_within text options refusal.OutOfMemory is = tt
 pub named_within : (text : List ℕ) (options : LibraryOptionsView) (why : Refusal) → IsRefusalOfNamed text options why → IsWithin text why
 named_within text options why is =
     elim is [
-      inl refused ↦ refusal_within text options why refused
-    | inr long ↦ subst (IsWithin text) (sym long.is) (export_within (definition_text text) None long.position long.at)
+      | inl refused ↦ refusal_within text options why refused
+      | inr long ↦ subst (IsWithin text) (sym long.is) (export_within (definition_text text) None long.position long.at)
     ]
 
 -- an offset in the text has 64 bits, where the text's length has

@@ -1,4 +1,3 @@
-use Rattle.std.proofs.Common.{subst}
 use Rattle.implib_rules.specs.Options.{library_options_view}
 use Rattle.implib_c_calls.proofs.AnswerWith.{puts_named, puts_none_named}
 use Rattle.implib_c_calls.proofs.Within.{named_within}
