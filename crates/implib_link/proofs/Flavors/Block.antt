@@ -1,7 +1,7 @@
 -- The objects of one DLL, in either flavour, link among others.
-use Rattle.std.proofs.Common.{◌≡◌, ℕ, ◌+◌, ◌%◌, ◌<◌, ◌^◌, Bool, true, false, List, [], ◌∷◌, ◌++◌, length, map, Some, None, refl, ap, sym, ◌∙◌, arith, subst, if◌then◌else◌}
+use Rattle.std.proofs.Common.{◌≡◌, ℕ, ◌+◌, ◌%◌, ◌<◌, ◌^◌, Bool, true, false, List, [], ◌∷◌, ◌++◌, map, Some, None, refl, ap, sym, ◌∙◌, arith, subst, if◌then◌else◌}
 use Rattle.std.specs.List.{AllByRecursion, flat_map}
-use Rattle.std.proofs.lemmas.List.{append_assoc, length-replicate}
+use Rattle.std.proofs.lemmas.List.{append_assoc}
 use Rattle.implib.specs.declared.machine.MachineType.{MachineType}
 use Rattle.implib.specs.declared.flavor.Flavor.{Flavor}
 use Rattle.implib.specs.declared.flavor.Flavor.TheVariants.{Gnu, Msvc}
@@ -9,10 +9,10 @@ use Rattle.implib.specs.Definition.{ExportView}
 use Rattle.implib.specs.Members.Gnu.{archive_symbols, head_symbol, iname_symbol}
 use Rattle.implib.specs.Link.Image.{Range, range_end}
 use Rattle.implib.specs.Import.{Ask, Name, Ordinal, imp_symbol}
-use Rattle.implib.specs.Members.ImportTables.{thunk_width, zeros}
+use Rattle.implib.specs.Members.ImportTables.{thunk_width}
 use Rattle.implib.specs.Formats.Layout.{HasNoNul, entries_of, name_text, object_of}
 use Rattle.implib.specs.Link.Linked.{AllFind, EntriesAt, FindsTarget, IsDefinedAt, undefined_names}
-use Rattle.implib.specs.Link.Load.{LoadsStrictly, TableAt, TextAt, WholeTableAt, BytesAt}
+use Rattle.implib.specs.Link.Load.{LoadsStrictly, TextAt}
 use Rattle.implib.specs.Members.Msvc.{short_import_symbols, short_import_symbol}
 use Rattle.implib.specs.Members.MsvcObjects.{descriptor, descriptor_symbol, null_descriptor_symbol, null_thunk, null_thunk_symbol}
 use Rattle.implib.specs.Formats.Object.{Object}
@@ -23,13 +23,13 @@ use Rattle.implib.proofs.Link.Linked.{BlockLinks, LocatedFrom, aligned_block, al
 use Rattle.implib.proofs.Link.Placement.{AreAligned, after_head, ends_of_all, ends_of_export, ends_of_exports, ends_of_head, head, names-after}
 use Rattle.implib.proofs.Link.Ranges.{Among, among_back, among_first, among_later}
 use Rattle.implib.proofs.Link.Tables.{CanBeAsked}
-use Rattle.implib.proofs.Link.Thunks.{StrictTableAt, zeros_number, StrictThunkAt}
+use Rattle.implib.proofs.Link.Thunks.{StrictTableAt}
 use Rattle.implib_link.specs.Flavors.Expansion.{Code, Constant, Data, Use, import_object, descriptor_symbol_by_name, stub_relocations_for}
 use Rattle.implib_link.specs.Flavors.Program.{Ending, IsFoundByName, OfLinker, OfMember, SymbolsAt, WhereMember, ask_in, descriptor_in, symbol_in}
 use Rattle.implib_link.specs.Flavors.SectionSymbols.{with_section_symbols}
 use Rattle.implib_link.proofs.Flavors.Expanded.{AreWide, AskFits, ends_of_asking, ends_of_descriptor, ends_of_null_thunk, placed-asking, placed-descriptor, placed-null_thunk, placed_asking, placed_descriptor, taken_descriptor, taken_null_thunk, wide_aligned, wide_asking, wide_descriptor, wide_next, wide_null_thunk, TableFrom, asking_stands, descriptor_stands, null_thunk_stands}
 use Rattle.implib.specs.LibraryName.{NamesOfDll}
-use Rattle.implib_link.proofs.Gnu.Beside.{LocatedBeside}
+use Rattle.implib_link.proofs.Gnu.Beside.{LocatedBeside, zero_table, table_with}
 
 -- Where tables may begin, by what ends the directory: at multiples of 4, or of a thunk's width.
 abbrev pub AreEven : Ending → MachineType → Bases → Type 0
@@ -206,9 +206,6 @@ unfoldable pub FitsIn : Flavor → MachineType → ExportView → Type 0
 FitsIn Msvc machine e = AskFits (ask_in Msvc machine e)
 FitsIn Gnu machine e = CanBeAsked machine e
 
-length_zeros : (machine : MachineType) → length (zeros (thunk_width machine)) ≡ thunk_width machine
-length_zeros machine = length-replicate {A = ℕ} (thunk_width machine) 0
-
 -- the symbols of GNU's entries
 symbols_from : (linked : List Placed) (width address : ℕ) (es : List ExportView) → EntriesAt linked width address es →
     SymbolsAt linked width address (map (λ e. imp_symbol (symbol_in Gnu e)) es)
@@ -242,32 +239,23 @@ module _ (machine : MachineType) (dll : NamesOfDll) (linked : List Placed) (imag
     pub table : TableFrom machine linked image b (behind_descriptor machine dll es rest) →
         StrictTableAt image (thunk_width machine) b.addresses (map (ask_in Msvc machine) es) × TableFrom machine linked image (ends_of_askings machine b es) rest
 
-  zero_thunk : (a : ℕ) → BytesAt image a (zeros (thunk_width machine)) → StrictTableAt image (thunk_width machine) a []
-  unfolding TableAt WholeTableAt
-  zero_thunk a none = record { plain = record { bytes = zeros (thunk_width machine); located = none; count = length_zeros machine; value = zeros_number machine }; whole = tt }
-
-  first_thunk : (a : ℕ) (ask : Ask) (asks : List Ask) → StrictThunkAt image (thunk_width machine) a ask → StrictTableAt image (thunk_width machine) (a + thunk_width machine) asks →
-      StrictTableAt image (thunk_width machine) a (ask ∷ asks)
-  unfolding TableAt WholeTableAt
-  first_thunk a ask asks one others = record { plain = (one.plain, others.plain); whole = (one.whole, others.whole) }
-
   pub askings_stand : (es : List ExportView) (b : Bases) (rest : List Object) → AllByRecursion (FitsIn Msvc machine) es → AreWide machine b →
       LocatedBeside machine linked image b (behind_descriptor machine dll es rest) → AskingsStand b es rest
   unfolding ends_of_askings FitsIn
   askings_stand [] b rest fit even located =
       let null = null_thunk_stands machine dll linked image starts ends b rest even located in
-      record { lookups = zero_thunk b.lookups null.lookup; behind = null.behind; table = λ table. let addresses = null.table table in (zero_thunk b.addresses addresses.0, addresses.1) }
+      record { lookups = zero_table machine image b.lookups null.lookup; behind = null.behind; table = λ table. let addresses = null.table table in (zero_table machine image b.addresses addresses.0, addresses.1) }
   askings_stand (e ∷ es) b rest fit even located =
       let ask : Ask = ask_in Msvc machine e in
       let one = asking_stands machine dll linked image starts ends b (short_import_symbol e) ask (use_for e) (behind_descriptor machine dll es rest) fit.0 even located in
       let others = askings_stand es (ends_of_asking machine b ask) rest fit.1 (wide_asking machine b ask even) one.behind in
       record {
-        lookups = first_thunk b.lookups ask (map (ask_in Msvc machine) es) one.lookup others.lookups;
+        lookups = table_with image (thunk_width machine) b.lookups ask (map (ask_in Msvc machine) es) one.lookup others.lookups;
         behind = others.behind;
         table = λ table.
             let own = one.table table in
             let later = others.table own.1 in
-            (first_thunk b.addresses ask (map (ask_in Msvc machine) es) own.0 later.0, later.1);
+            (table_with image (thunk_width machine) b.addresses ask (map (ask_in Msvc machine) es) own.0 later.0, later.1);
       }
 
   -- each export's address is its own entry

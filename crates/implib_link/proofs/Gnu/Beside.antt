@@ -1,7 +1,7 @@
 -- The import tables of members for GNU's linker without the address tables: what a loader reads that writes there.
 use Rattle.std.proofs.Common.{◌≡◌, ℕ, ◌+◌, ◌%◌, ◌<◌, ◌^◌, List, [], ◌∷◌, ◌++◌, length, map, Some, refl, ap, sym, ◌∙◌, subst, arith}
 use Rattle.std.specs.List.{AllByRecursion}
-use Rattle.std.proofs.lemmas.List.{length-append}
+use Rattle.std.proofs.lemmas.List.{length-append, length-replicate}
 use Rattle.implib.specs.declared.machine.MachineType.{MachineType}
 use Rattle.implib.specs.Definition.{ExportView}
 use Rattle.implib.specs.Formats.Bytes.{u32_bytes}
@@ -9,7 +9,7 @@ use Rattle.implib.specs.Formats.Layout.{HasNoNul}
 use Rattle.implib.specs.Formats.Object.{Object, u32_at}
 use Rattle.implib.specs.Import.{Ask, expected_ask}
 use Rattle.implib.specs.Link.Image.{Contribution, Range, contributions, filled, range_end, relocated, with_address}
-use Rattle.implib.specs.Link.Load.{BytesAt, NumberAt, TableAt, number_in}
+use Rattle.implib.specs.Link.Load.{BytesAt, NumberAt, TableAt, number_in, WholeTableAt}
 use Rattle.implib.specs.Link.Placement.{Bases, Descriptors, DllNames, HintNames, Lookups, Placed, next_multiple, placed_from}
 use Rattle.implib.specs.Link.Resolution.{SymbolDefinition, definitions_of, first_address}
 use Rattle.implib.specs.Members.Gnu.{export_object, head_object, iname_symbol, tail_object}
@@ -19,13 +19,25 @@ use Rattle.implib.proofs.Link.Linked.{block_definitions, contribution_located, e
 use Rattle.implib.proofs.Link.Placement.{AreAligned, after_head, aligned_after, aligned_head, at_least, code_definition, defined_after, descriptors_end, ends_of_all, ends_of_export, ends_of_exports, ends_of_head, ends_of_tail, head, placed-export, placed-head, placed-tail, placed_export, placed_head}
 use Rattle.implib.proofs.Link.Ranges.{Among, address_bounds, among_back, among_first, among_later, located_parts}
 use Rattle.implib.proofs.Link.Tables.{CanBeAsked, descriptors_filled, filled_first, hint_bytes, hint_names_end, hint_names_filled, lookups_end, lookups_filled, table_at, thunk_bytes}
-use Rattle.implib.proofs.Link.Thunks.{same_number}
+use Rattle.implib.proofs.Link.Thunks.{same_number, StrictTableAt, StrictThunkAt, zeros_number}
 use Rattle.implib_link.proofs.Gnu.Filling.{DescriptorBeside}
 use Rattle.implib_link.proofs.Gnu.Memory.{byte_first}
 use Rattle.implib_link.proofs.Gnu.Stubs.{wide_thunk}
 use Rattle.implib.specs.LibraryName.{NamesOfDll}
 
 -- What is known of ranges, whatever the flavour.
+
+-- tables of thunks, that of zeros at their end, and others before it
+pub zero_table : (machine : MachineType) (image : List Range) (a : ℕ) → BytesAt image a (zeros (thunk_width machine)) → StrictTableAt image (thunk_width machine) a []
+unfolding TableAt WholeTableAt
+zero_table machine image a located = record {
+  plain = record { bytes = zeros (thunk_width machine); located = located; count = length-replicate {A = ℕ} (thunk_width machine) 0; value = zeros_number machine };
+  whole = tt;
+}
+
+pub table_with : (image : List Range) (width a : ℕ) (ask : Ask) (asks : List Ask) → StrictThunkAt image width a ask → StrictTableAt image width (a + width) asks → StrictTableAt image width a (ask ∷ asks)
+unfolding TableAt WholeTableAt
+table_with image width a ask asks one others = record { plain = (one.plain, others.plain); whole = (one.whole, others.whole) }
 
 -- the three fields of a descriptor that a loader reads
 pub record FieldsBeside (beside : List Range) (descriptor lookups name table : ℕ) : Type 0 where
