@@ -23,8 +23,7 @@ use Rattle.implib_link.specs.Search.BothExists.{HasClosedForBoth, objects_closed
 use Rattle.implib_link.specs.Search.BothFlavors.{AreClosedForBoth, AreGivenForBoth, FlavorLibrary, IsClosedForBoth, IsFlavorArchive, archive_of_both, flavor_inputs, inputs_of_both, msvc_among}
 use Rattle.implib_link.specs.Search.Closed.{TakesIntoAs, unresolved}
 use Rattle.implib_link.specs.Search.Exists.{LieWithin}
-use Rattle.implib_link.specs.Search.MsvcArchives.{first_null, is_weak_in, short_inputs, weak_in}
-use Rattle.implib_link.specs.Search.MsvcClosed.{TakesIntoFor, wanted_for}
+use Rattle.implib_link.specs.Search.MsvcArchives.{first_null, is_weak_in, short_inputs, weak_in, TakesIntoFor, wanted_for}
 use Rattle.implib_link.specs.Search.Search.{objects_as}
 use Rattle.implib_link.proofs.Flavors.Packed.{kept_sized}
 use Rattle.implib_link.proofs.Gnu.Alone.{all_kept, none_left}
