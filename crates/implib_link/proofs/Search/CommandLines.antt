@@ -11,7 +11,7 @@ use Rattle.implib.specs.declared.machine.MachineType.{MachineType}
 use Rattle.implib.specs.Members.MemberSpec.{MemberView}
 use Rattle.implib.proofs.Link.LinkedMembers.{among_contains}
 use Rattle.implib.proofs.Link.Ranges.{Among, all_among, among_back, among_first, among_front, among_later}
-use Rattle.implib_link.specs.Gnu.Program.{ClaimsNone, HaveSame, claimed_names}
+use Rattle.implib_link.specs.Gnu.Program.{HaveSame, claimed_names}
 use Rattle.implib_link.specs.Search.Archives.{IsArchive, Library, archive_of}
 use Rattle.implib_link.specs.Search.Closed.{AreLinkedFor, AreTakenIntoAs, LinksClosed, PullsIntoAs, TakesInto, TakesIntoAs, references_of, unresolved}
 use Rattle.implib_link.specs.Search.Given.{AreGiven}
@@ -21,7 +21,7 @@ use Rattle.implib_link.specs.Search.Sweeps.{IndexEntry, index_at, members_at, nu
 use Rattle.implib_link.proofs.Search.ArchiveGroups.{found_or_not}
 use Rattle.implib_link.proofs.Search.Closed.{closed_links}
 use Rattle.implib_link.proofs.Search.Given.{given_closes}
-use Rattle.implib_link.proofs.Search.Closing.{unresolved_from, unresolved_parts}
+use Rattle.implib_link.proofs.Search.Closing.{unresolved_from, unresolved_parts, claims_apart}
 use Rattle.implib_link.proofs.Search.Lists.{all_listed, among_any, any_among, among_either, among_flat_map, among_listed, as_name, contains_among, listed_is, listed_once, name_as, passes, passing, among_at, at_index}
 use Rattle.implib_link.proofs.Search.Sweeps.{IsFirstAt, Lifts, all_there, among_number, entries_of, entry_there, first_at, none_first, none_left, number_among, number_taken, swept_adds, sweeps_in_turn, sweeps_keep, taken_number, once_by}
 use Rattle.std.proofs.lemmas.Option.{same_Some, none-some}
@@ -76,11 +76,7 @@ unfolding AreUnclaimedBehind Among
 unclaimed_later members read [] none name listed claimed = claimed
 unclaimed_later members read (input ∷ inputs) none name listed claimed =
     elim (refs_either claimed_names (object_of input) (objects_given inputs) name claimed) [
-      | inl here ↦
-          let from = among_flat_map claimed_names name (object_of input) here in
-          true≢false (sym (among_any name (claimed_names from.0) from.2)
-          ∙ all_among (λ n. list_any (bytes_eq n) (claimed_names from.0) ≡ false) name (listed_at members read) listed
-          (all_among (ClaimsNone (listed_at members read)) from.0 (object_of input) from.1 none.0))
+      | inl here ↦ claims_apart (listed_at members read) (object_of input) none.0 name listed here
       | inr behind ↦ unclaimed_later members (read ++ numbers_of input) inputs none.1 name (listed_more members read (numbers_of input) name listed) behind
     ]
 
