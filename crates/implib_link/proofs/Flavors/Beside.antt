@@ -25,7 +25,7 @@ use Rattle.implib.proofs.Link.Tables.{addresses_end, addresses_filled, filled_fi
 use Rattle.implib_link.specs.Flavors.Expansion.{Use, import_object}
 use Rattle.implib_link.specs.Flavors.Program.{Ending, OfLinker, OfMember, ask_in}
 use Rattle.implib_link.specs.Flavors.SectionSymbols.{with_section_symbols}
-use Rattle.implib_link.proofs.Gnu.Beside.{LocatedBeside, bounds_of, block_beside, fields_beside, rest_beside, table_bounds}
+use Rattle.implib_link.proofs.Gnu.Beside.{LocatedBeside, block_beside, rest_beside, descriptor_beside, table_bounds}
 use Rattle.implib_link.proofs.Gnu.Blocks.{addresses_after}
 use Rattle.implib_link.proofs.Gnu.Filling.{DescriptorBeside, DirectoryBeside}
 use Rattle.implib_link.proofs.Flavors.Block.{AreEven, FitsIn, Suits, behind_descriptor, definitions-in, definitions_in, ends_in, ends_of_askings, even_aligned, even_in, even_wide, objects_of, use_for, askings_stand}
@@ -43,23 +43,9 @@ module _ (machine : MachineType) (dll : NamesOfDll) (linked : List Placed) (besi
       × LocatedBeside machine linked beside (ends_in machine Msvc dll b es) rest
   msvc_beside es b rest dll_text fit even above below located =
       let one = descriptor_stands machine dll linked beside starts ends b (behind_descriptor machine dll es rest) even located in
-      let tables = askings_stand machine dll linked beside starts ends dll_text es (ends_of_descriptor dll b) rest fit (wide_descriptor machine dll b even) one.behind in
-      let place : ℕ = next_multiple 2 b.hint_names in
-      let lookups_bounds = table_bounds machine beside starts ends (map (ask_in Msvc machine) es) b.lookups tables.lookups.plain in
-      let long : 0 < length (dll.text ++ 0 ∷ []) = rw (length-append dll.text (0 ∷ [])) (omega arith) in
-      let name_bounds = bounds_of beside starts ends (dll.text ++ 0 ∷ []) place one.name long in
-      let fields = fields_beside beside b.descriptors b.lookups place b.addresses lookups_bounds.1 name_bounds.1 below one.bytes in (
-        record {
-          lookups = b.lookups;
-          lookups_field = fields.lookups_field;
-          lookup_table = tables.lookups.plain;
-          name = place;
-          name_field = fields.name_field;
-          has_name = name_bounds.0;
-          name_text = record { no_nul = dll_text; located = one.name };
-          addresses_field = fields.addresses_field;
-          has_addresses = above;
-        },
+      let tables = askings_stand machine dll linked beside starts ends dll_text es (ends_of_descriptor dll b) rest fit (wide_descriptor machine dll b even) one.behind in (
+        descriptor_beside machine beside starts ends b.descriptors b.lookups (next_multiple 2 b.hint_names) b.addresses dll.text (map (ask_in Msvc machine) es) dll_text above below
+            one.bytes tables.lookups.plain one.name,
         tables.behind,
       )
 

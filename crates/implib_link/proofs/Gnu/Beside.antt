@@ -39,12 +39,6 @@ pub table_with : (image : List Range) (width a : ℕ) (ask : Ask) (asks : List A
 unfolding TableAt WholeTableAt
 table_with image width a ask asks one others = record { plain = (one.plain, others.plain); whole = (one.whole, others.whole) }
 
--- the three fields of a descriptor that a loader reads
-pub record FieldsBeside (beside : List Range) (descriptor lookups name table : ℕ) : Type 0 where
-  pub lookups_field : NumberAt beside 4 descriptor lookups
-  pub name_field : NumberAt beside 4 (descriptor + 12) name
-  pub addresses_field : NumberAt beside 4 (descriptor + 16) table
-
 small_field : (n : ℕ) → n < 2 ^ 31 → number_in (u32_bytes ((0 + (n + 0)) % 2 ^ 32)) ≡ n
 unfolding u32_bytes
 small_field n small = omega arith
@@ -56,28 +50,6 @@ field_at beside a n small located = record {
   count = length-u32 ((0 + (n + 0)) % 2 ^ 32);
   value = small_field n small;
 }
-
-pub fields_beside : (beside : List Range) (descriptor lookups name table : ℕ) → lookups < 2 ^ 31 → name < 2 ^ 31 → table < 2 ^ 31 →
-    BytesAt beside descriptor (u32_bytes ((0 + (lookups + 0)) % 2 ^ 32)
-    ++ (zeros 4 ++ (zeros 4 ++ (u32_bytes ((0 + (name + 0)) % 2 ^ 32) ++ u32_bytes ((0 + (table + 0)) % 2 ^ 32))))) →
-    FieldsBeside beside descriptor lookups name table
-fields_beside beside descriptor lookups name table lookups_small name_small table_small whole =
-    let first : List ℕ = u32_bytes ((0 + (lookups + 0)) % 2 ^ 32) in
-    let second : List ℕ = u32_bytes ((0 + (name + 0)) % 2 ^ 32) in
-    let third : List ℕ = u32_bytes ((0 + (table + 0)) % 2 ^ 32) in
-    let parts = located_parts beside first (zeros 4 ++ (zeros 4 ++ (second ++ third))) descriptor whole in
-    let time = located_parts beside (zeros 4) (zeros 4 ++ (second ++ third)) (descriptor + length first) parts.1 in
-    let forwarder = located_parts beside (zeros 4) (second ++ third) (descriptor + length first + 4) time.1 in
-    let last = located_parts beside second third (descriptor + length first + 4 + 4) forwarder.1 in
-    let first_long : length first ≡ 4 = length-u32 ((0 + (lookups + 0)) % 2 ^ 32) in
-    let second_long : length second ≡ 4 = length-u32 ((0 + (name + 0)) % 2 ^ 32) in
-    let at_name : descriptor + length first + 4 + 4 ≡ descriptor + 12 = rw first_long (omega arith) in
-    let at_table : descriptor + length first + 4 + 4 + length second ≡ descriptor + 16 = rw (first_long, second_long) (omega arith) in
-    record {
-      lookups_field = field_at beside descriptor lookups lookups_small parts.0;
-      name_field = field_at beside (descriptor + 12) name name_small (subst (λ n. BytesAt beside n second) at_name last.0);
-      addresses_field = field_at beside (descriptor + 16) table table_small (subst (λ n. BytesAt beside n third) at_table last.1);
-    }
 
 -- where bytes are is neither 0 nor far
 pub bounds_of : (ranges : List Range) → AllByRecursion (λ r. 0 < r.start) ranges → AllByRecursion (λ r. range_end r < 2 ^ 31) ranges → (bytes : List ℕ) (a : ℕ) →
@@ -93,6 +65,37 @@ table_bounds machine ranges starts ends [] a table =
     bounds_of ranges starts ends table.bytes a table.located (subst (λ n. 0 < n) (sym table.count) (wide_thunk machine))
 table_bounds machine ranges starts ends (ask ∷ asks) a table =
     bounds_of ranges starts ends table.0.located.bytes a table.0.located.located (subst (λ n. 0 < n) (sym table.0.located.count) (wide_thunk machine))
+
+-- a descriptor, and what it leads to
+pub descriptor_beside : (machine : MachineType) (beside : List Range) → AllByRecursion (λ r. 0 < r.start) beside → AllByRecursion (λ r. range_end r < 2 ^ 31) beside →
+    (descriptor lookups name table : ℕ) (text : List ℕ) (asks : List Ask) → HasNoNul text → 0 < table → table < 2 ^ 31 →
+    BytesAt beside descriptor (u32_bytes ((0 + (lookups + 0)) % 2 ^ 32)
+    ++ (zeros 4 ++ (zeros 4 ++ (u32_bytes ((0 + (name + 0)) % 2 ^ 32) ++ u32_bytes ((0 + (table + 0)) % 2 ^ 32))))) →
+    TableAt beside (thunk_width machine) lookups asks → BytesAt beside name (text ++ 0 ∷ []) → DescriptorBeside beside (thunk_width machine) descriptor table (record { dll = text; asks = asks })
+descriptor_beside machine beside starts ends descriptor lookups name table text asks no_nul above below whole lookup_table name_located =
+    let first : List ℕ = u32_bytes ((0 + (lookups + 0)) % 2 ^ 32) in
+    let second : List ℕ = u32_bytes ((0 + (name + 0)) % 2 ^ 32) in
+    let third : List ℕ = u32_bytes ((0 + (table + 0)) % 2 ^ 32) in
+    let parts = located_parts beside first (zeros 4 ++ (zeros 4 ++ (second ++ third))) descriptor whole in
+    let time = located_parts beside (zeros 4) (zeros 4 ++ (second ++ third)) (descriptor + length first) parts.1 in
+    let forwarder = located_parts beside (zeros 4) (second ++ third) (descriptor + length first + 4) time.1 in
+    let last = located_parts beside second third (descriptor + length first + 4 + 4) forwarder.1 in
+    let first_long : length first ≡ 4 = length-u32 ((0 + (lookups + 0)) % 2 ^ 32) in
+    let second_long : length second ≡ 4 = length-u32 ((0 + (name + 0)) % 2 ^ 32) in
+    let at_name : descriptor + length first + 4 + 4 ≡ descriptor + 12 = rw first_long (omega arith) in
+    let at_table : descriptor + length first + 4 + 4 + length second ≡ descriptor + 16 = rw (first_long, second_long) (omega arith) in
+    let name_bounds = bounds_of beside starts ends (text ++ 0 ∷ []) name name_located (rw (length-append text (0 ∷ [])) (omega arith)) in
+    record {
+      lookups = lookups;
+      lookups_field = field_at beside descriptor lookups (table_bounds machine beside starts ends asks lookups lookup_table).1 parts.0;
+      lookup_table = lookup_table;
+      name = name;
+      name_field = field_at beside (descriptor + 12) name name_bounds.1 (subst (λ n. BytesAt beside n second) at_name last.0);
+      has_name = name_bounds.0;
+      name_text = record { no_nul = no_nul; located = name_located };
+      addresses_field = field_at beside (descriptor + 16) table below (subst (λ n. BytesAt beside n third) at_table last.1);
+      has_addresses = above;
+    }
 
 -- what is filled in from ends on is in these ranges, but for the address tables
 pub record LocatedBeside (machine : MachineType) (linked : List Placed) (beside : List Range) (b : Bases) (objects : List Object) : Type 0 where
@@ -234,20 +237,6 @@ module _ (machine : MachineType) (dll : NamesOfDll) (es : List ExportView) (b : 
   pub block_beside : (0 < b.addresses) → (b.addresses < 2 ^ 31) →
       DescriptorBeside beside (thunk_width machine) b.descriptors b.addresses (record { dll = dll.text; asks = map (expected_ask machine) es })
   block_beside above below =
-      let table = (table_at machine dll linked beside starts ends es later b.lookups fit lookups_parts.0 hints_parts.0).plain in
-      let lookups_bounds = table_bounds machine beside starts ends (map (expected_ask machine) es) b.lookups table in
-      let long : 0 < length (dll.text ++ 0 ∷ []) = rw (length-append dll.text (0 ∷ [])) (omega arith) in
-      let name_bounds = bounds_of beside starts ends (dll.text ++ 0 ∷ []) name_place name_parts.0 long in
-      let fields = fields_beside beside b.descriptors b.lookups name_place b.addresses lookups_bounds.1 name_bounds.1 below
-      (subst (BytesAt beside b.descriptors) (descriptor_is machine dll linked b name_place name_address) descriptor_parts.0) in
-      record {
-        lookups = b.lookups;
-        lookups_field = fields.lookups_field;
-        lookup_table = table;
-        name = name_place;
-        name_field = fields.name_field;
-        has_name = name_bounds.0;
-        name_text = record { no_nul = dll_text; located = name_parts.0 };
-        addresses_field = fields.addresses_field;
-        has_addresses = above;
-      }
+      descriptor_beside machine beside starts ends b.descriptors b.lookups name_place b.addresses dll.text (map (expected_ask machine) es) dll_text above below
+      (subst (BytesAt beside b.descriptors) (descriptor_is machine dll linked b name_place name_address) descriptor_parts.0)
+      (table_at machine dll linked beside starts ends es later b.lookups fit lookups_parts.0 hints_parts.0).plain name_parts.0
