@@ -49,6 +49,7 @@ use Rattle.implib.proofs.Link.Linked.{all_append}
 use Rattle.implib_link.proofs.Search.ArchiveMembers.{head_object_is, tail_object_is, export_object_is}
 use Rattle.implib_link.proofs.Search.Search.{numbered_in}
 use Rattle.implib_link.specs.Search.Archives.{Library}
+use Rattle.implib_link.proofs.Search.Lists.{all_from}
 
 -- Short imports.
 
@@ -126,14 +127,6 @@ export_fits machine e good =
     ask_fits e.no_name e.ordinal _ (ltb-true e.ordinal 0x1_0000 good.ordinal)
     (asked_free (name_type_of machine e) (short_import_symbol e) (symbol_without_nul e.symbol_name e.name good.symbol_name good.name))
 
-all_map : {X : Type 0} (P Q : X → Type 0) → ((x : X) → P x → Q x) → (xs : List X) → AllByRecursion P xs → AllByRecursion Q xs
-all_map P Q each [] all = tt
-all_map P Q each (x ∷ xs) all = (each x all.0, all_map P Q each xs all.1)
-
-all_self : {X : Type 0} (xs : List X) → AllByRecursion (λ x. Among x xs) xs
-all_self [] = tt
-all_self {X} (x ∷ xs) = (among_first x xs, all_map (λ y. Among y xs) (λ y. Among y (x ∷ xs)) (λ y m. among_later y x xs m) xs (all_self xs))
-
 -- a file that reads as another is taken as that
 taken_by : (machine : MachineType) (bytes : List ℕ) (file : File) → file_in bytes ≡ Some file → expanded_in machine bytes ≡ expanded_as machine file
 unfolding expanded_in
@@ -197,7 +190,7 @@ module _ (d : DefinitionView) (machine : MachineType) (members : List MemberView
 
   -- what holds of each export that is not private holds of the chosen ones
   chosen_all : (P : ExportView → Type 0) → ((e : ExportView) → Among e (public_exports (renamed d)) → P e) → AllByRecursion P (chosen_exports d chosen)
-  chosen_all P each = all_chosen P (public_exports (renamed d)) chosen (all_map (λ e. Among e (public_exports (renamed d))) P each (public_exports (renamed d)) (all_self (public_exports (renamed d))))
+  chosen_all P each = all_chosen P (public_exports (renamed d)) chosen (all_from P (public_exports (renamed d)) each)
 
   shorts_taken : AllByRecursion (λ e. expanded_in machine (member_of (short_import_spec machine (names_for Msvc d) e)).bytes ≡ Some (asking machine (names_for Msvc d) e)) (chosen_exports d chosen)
   shorts_taken = chosen_all (λ e. expanded_in machine (member_of (short_import_spec machine (names_for Msvc d) e)).bytes ≡ Some (asking machine (names_for Msvc d) e)) short_taken

@@ -1,17 +1,17 @@
 -- What a linker takes for given objects, and a program of both: for any way to read members.
-use Rattle.std.proofs.Common.{◌≡◌, ℕ, ◌⊎◌, Bool, false, List, [], ◌∷◌, ◌++◌, Option, Some, None, refl, ap, sym, ◌∙◌, subst, inl, inr}
+use Rattle.std.proofs.Common.{◌≡◌, ℕ, ◌⊎◌, Bool, false, List, [], ◌∷◌, ◌++◌, Option, Some, refl, ap, sym, ◌∙◌, subst, inl, inr}
 use Rattle.std.specs.Prelude.{bytes_eq, not}
-use Rattle.std.specs.List.{AllByRecursion, Contains, cons_option, filter, flat_map, list_any}
+use Rattle.std.specs.List.{AllByRecursion, Contains, filter, flat_map, list_any}
 use Rattle.std.proofs.lemmas.Bool.{cases_Bool, false_from_ne_true, true≢false, not_from_false}
 use Rattle.std.proofs.lemmas.Grind.{flat_map-append}
 use Rattle.implib.specs.Formats.Object.{Object}
 use Rattle.implib.specs.Members.MemberSpec.{MemberView}
 use Rattle.implib.proofs.Link.LinkedMembers.{among_contains}
-use Rattle.implib.proofs.Link.Ranges.{Among, all_among, among_back, among_first, among_flat, among_front, among_later}
+use Rattle.implib.proofs.Link.Ranges.{Among, all_among, among_back, among_flat, among_front, among_later}
 use Rattle.implib_link.specs.Gnu.Program.{ClaimsNone, HaveSame, claimed_names, has_tables, null_descriptor}
 use Rattle.implib_link.specs.Search.Closed.{claims_of, listed_in, references_of, unresolved, AreTakenIntoAs, PullsIntoAs, TakesIntoAs}
 use Rattle.implib_link.specs.Search.Search.{first_listed, is_listed_for, undefined_in, left_as, claimed_as, AreTakenInTurnAs, objects_as, PullsInAs, TakesAs}
-use Rattle.implib_link.proofs.Search.Lists.{all_from as all_each, among_any, among_either, among_flat_map, any_among, any_member, contains_among, listed_is, none_listed, name_as, as_name, NameAs, passing, passes, from_not}
+use Rattle.implib_link.proofs.Search.Lists.{all_from as all_each, among_any, among_either, among_flat_map, any_among, any_member, contains_among, listed_is, none_listed, name_as, as_name, NameAs, passing, passes, from_not, kept_from}
 use Rattle.implib_link.proofs.Search.Search.{in_nothing}
 use Rattle.std.proofs.lemmas.Option.{same_Some}
 
@@ -184,14 +184,8 @@ module _ (reads : List ℕ → Option Object) where
   pub tables_read : (b : Bool) (m x : MemberView) (o one : Object) → m ≡ x → reads x.bytes ≡ Some one → reads m.bytes ≡ Some o → has_tables one ≡ b → has_tables o ≡ b
   tables_read b m x o one same is read has = subst (λ y. has_tables y ≡ b) (sym (read_as m x o one same is read)) has
 
-  first_read : (P : Object → Type 0) (read : Option Object) (objects : List Object) → ((o : Object) → read ≡ Some o → P o) → AllByRecursion P objects → AllByRecursion P (cons_option read objects)
-  first_read P None objects own all = all
-  first_read P (Some o) objects own all = (own o refl, all)
-
   pub each_read : (P : Object → Type 0) (members : List MemberView) → ((m : MemberView) (o : Object) → Among m members → reads m.bytes ≡ Some o → P o) → AllByRecursion P (objects_as reads members)
-  each_read P [] own = tt
-  each_read P (m ∷ members) own =
-      first_read P (reads m.bytes) (objects_as reads members) (λ o is. own m o (among_first m members) is) (each_read P members (λ x o held is. own x o (among_later x m members held) is))
+  each_read P members own = all_each P (objects_as reads members) (λ o held. let from = kept_from (λ (m : MemberView). reads m.bytes) members o held in own from.0 o from.1 from.2)
 
 -- A member is read as an object, claims what it is listed for, and is the first member that is listed for this.
 pub record IsFirstAs (reads : List ℕ → Option Object) (archive : List MemberView) (m : MemberView) : Type 0 where
