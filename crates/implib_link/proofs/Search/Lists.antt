@@ -192,6 +192,11 @@ pub as_name : (reads : List ℕ → Option Object) (f : Object → List (List �
     Among name (flat_map f (objects_as reads members))
 as_name reads f name members m o held is there = among_flat f o (objects_as reads members) name (kept_into (λ (x : MemberView). reads x.bytes) members o m held is) there
 
+-- the names of more members' objects are more
+pub names_more : (reads : List ℕ → Option Object) (f : Object → List (List ℕ)) (name : List ℕ) (some more : List MemberView) → ((m : MemberView) → Among m some → Among m more) →
+    Among name (flat_map f (objects_as reads some)) → Among name (flat_map f (objects_as reads more))
+names_more reads f name some more within held = let by = name_as reads f name some held in as_name reads f name more by.member by.object (within by.member by.held) by.taken by.among
+
 -- a name that some of these is listed for
 pub any_member : (name : List ℕ) (members : List MemberView) → list_any (is_listed_for name) members ≡ true →
     (m : MemberView) × Among m members × Among name m.symbols
