@@ -18,7 +18,7 @@ use Rattle.implib_link.specs.Gnu.Program.{ClaimsNone, HaveSame}
 use Rattle.implib_link.specs.Search.Archives.{IsArchive, Library, NamesNoHeadOrTailOf, TakesOfLibraries, archive_of, wanted_with}
 use Rattle.implib_link.specs.Search.Closed.{AreLinkedFor, LinksClosed, TakesInto, listed_in, unresolved, wanted_in, AreTakenIntoAs, PullsIntoAs, TakesIntoAs}
 use Rattle.implib_link.specs.Search.Given.{AreGiven}
-use Rattle.implib_link.specs.Search.MsvcClosed.{TakesIntoFor}
+use Rattle.implib_link.specs.Search.MsvcArchives.{TakesIntoFor}
 use Rattle.implib_link.specs.Search.Msvc.{NamesNoHeader, TakesFor, msvc_if_any, shorts_wanted}
 use Rattle.implib_link.specs.Search.Search.{NamesNoHeadOrTail, Takes, exports_wanted, linked_if_any, names_undefined, left_as, claimed_as, AreTakenInTurnAs, PullsInAs, TakesAs, objects_as}
 use Rattle.implib_link.proofs.Search.Ends.{search_ends}

@@ -1,10 +1,10 @@
 -- A search in the bytes of an archive is a search of its members.
-use Rattle.std.proofs.Common.{◌≡◌, ℕ, suc, ◌+◌, ◌%◌, ◌≤◌, Bool, true, false, inl, inr, List, [], ◌∷◌, Option, Some, None, if◌then◌else◌, is_some, length, map, option_and_then, unwrap_or, refl, sym, ap, subst, ◌∙◌, arith}
+use Rattle.std.proofs.Common.{◌≡◌, ℕ, suc, ◌+◌, ◌%◌, ◌≤◌, Bool, true, false, inl, inr, List, [], ◌∷◌, Option, Some, None, if◌then◌else◌, is_some, length, map, option_and_then, refl, sym, ap, subst, ◌∙◌, arith}
 use Rattle.std.specs.Prelude.{slice_get}
 use Rattle.std.specs.List.{Contains, cons_option, filter_map}
 use Rattle.std.specs.Option.{option_map}
 use Rattle.std.proofs.lemmas.Bool.{true≢false}
-use Rattle.std.proofs.lemmas.Option.{slice_get-map}
+use Rattle.std.proofs.lemmas.Option.{slice_get-map, some_pair_parts}
 use Rattle.implib.specs.Members.MemberSpec.{MemberView}
 use Rattle.implib.proofs.Link.LinkedMembers.{among_contains}
 use Rattle.implib.proofs.Link.Ranges.{Among}
@@ -19,6 +19,7 @@ use Rattle.implib_archive_link.specs.InBytes.{AreTakenAt, Asks, First, LinkerMem
 use Rattle.implib_archive_link.specs.Results.{AreHeadersOf, HaveArchive, IsHeaderOf, IsSearchOf, LeadsToFirst, TakesJust}
 use Rattle.implib_link.specs.Search.Search.{first_listed}
 use Rattle.implib_link.proofs.Search.Lists.{contains_among}
+use Rattle.std.proofs.lemmas.List.{length-map}
 
 -- Headers rise.
 
@@ -57,12 +58,6 @@ rising_headers bytes headers found = by_parts (stored_in bytes) found
 
 -- The first member that lists a name, with its header.
 
-same_header : (x h : ℕ) (y m : MemberView) → ◌≡◌ {A = Option (ℕ × MemberView)} (Some (x, y)) (Some (h, m)) → x ≡ h
-same_header x h y m e = ap (λ (o : Option (ℕ × MemberView)). unwrap_or (option_map (λ p. p.0) o) x) e
-
-same_member : (x h : ℕ) (y m : MemberView) → ◌≡◌ {A = Option (ℕ × MemberView)} (Some (x, y)) (Some (h, m)) → y ≡ m
-same_member x h y m e = ap (λ (o : Option (ℕ × MemberView)). unwrap_or (option_map (λ p. p.1) o) y) e
-
 first_is_header : (headers : List ℕ) (members : List MemberView) (name : List ℕ) (h : ℕ) (m : MemberView) → first_lister headers members name ≡ Some (h, m) → IsHeaderOf headers members h m
 first_is_header [] members name h m is = absurd (cc)
 first_is_header (x ∷ headers) [] name h m is = absurd (cc)
@@ -82,7 +77,7 @@ first_above low (x ∷ headers) (y ∷ members) name h m rising is = by_test (li
   where
     by_test : (b : Bool) → (first_lister headers members name ≡ Some (h, m) → x + 1 ≤ h)
         → (if b then Some (x, y) else first_lister headers members name) ≡ Some (h, m) → low ≤ h
-    by_test true rest e = let same = same_header x h y m e in omega (arith, same, rising.0)
+    by_test true rest e = let same = (some_pair_parts x h y m e).0 in omega (arith, same, rising.0)
     by_test false rest e = let later = rest e in omega (arith, later, rising.0)
 
 -- and it lists the name
@@ -93,7 +88,7 @@ first_lists (x ∷ headers) (y ∷ members) name h m is = by_test (lists name y)
   where
     by_test : (b : Bool) → lists name y ≡ b → (first_lister headers members name ≡ Some (h, m) → lists name m ≡ true)
         → (if b then Some (x, y) else first_lister headers members name) ≡ Some (h, m) → lists name m ≡ true
-    by_test true here rest e = let same = same_member x h y m e in subst (λ t. lists name t ≡ true) same here
+    by_test true here rest e = let same = (some_pair_parts x h y m e).1 in subst (λ t. lists name t ≡ true) same here
     by_test false here rest e = rest e
 
 -- two names that lead to one header lead to one member
@@ -109,9 +104,9 @@ one_member low (x ∷ headers) (y ∷ members) name other h m o rising is also =
     by_tests : (a b : Bool) → (first_lister headers members name ≡ Some (h, m) → first_lister headers members other ≡ Some (h, o) → m ≡ o)
         → (first_lister headers members name ≡ Some (h, m) → x + 1 ≤ h) → (first_lister headers members other ≡ Some (h, o) → x + 1 ≤ h)
         → (if a then Some (x, y) else first_lister headers members name) ≡ Some (h, m) → (if b then Some (x, y) else first_lister headers members other) ≡ Some (h, o) → m ≡ o
-    by_tests true true rest above beyond e f = sym (same_member x h y m e) ∙ same_member x h y o f
-    by_tests true false rest above beyond e f = let same = same_header x h y m e in let past = beyond f in absurd (omega (arith, same, past))
-    by_tests false true rest above beyond e f = let same = same_header x h y o f in let past = above e in absurd (omega (arith, same, past))
+    by_tests true true rest above beyond e f = sym ((some_pair_parts x h y m e).1) ∙ (some_pair_parts x h y o f).1
+    by_tests true false rest above beyond e f = let same = (some_pair_parts x h y m e).0 in let past = beyond f in absurd (omega (arith, same, past))
+    by_tests false true rest above beyond e f = let same = (some_pair_parts x h y o f).0 in let past = above e in absurd (omega (arith, same, past))
     by_tests false false rest above beyond e f = rest e f
 
 -- two names that lead to one member lead to one header
@@ -127,11 +122,11 @@ one_header (x ∷ headers) (y ∷ members) name other h k m is also =
         → (first_lister headers members name ≡ Some (h, m) → first_lister headers members other ≡ Some (k, m) → h ≡ k)
         → (first_lister headers members name ≡ Some (h, m) → lists name m ≡ true) → (first_lister headers members other ≡ Some (k, m) → lists other m ≡ true)
         → (if a then Some (x, y) else first_lister headers members name) ≡ Some (h, m) → (if b then Some (x, y) else first_lister headers members other) ≡ Some (k, m) → h ≡ k
-    by_tests true true p q rest one two e f = sym (same_header x h y m e) ∙ same_header x k y m f
+    by_tests true true p q rest one two e f = sym ((some_pair_parts x h y m e).0) ∙ (some_pair_parts x k y m f).0
     by_tests true false p q rest one two e f =
-        let same = same_member x h y m e in absurd (true≢false (sym (two f) ∙ (sym (ap (lists other) same) ∙ q)))
+        let same = (some_pair_parts x h y m e).1 in absurd (true≢false (sym (two f) ∙ (sym (ap (lists other) same) ∙ q)))
     by_tests false true p q rest one two e f =
-        let same = same_member x k y m f in absurd (true≢false (sym (one e) ∙ (sym (ap (lists name) same) ∙ p)))
+        let same = (some_pair_parts x k y m f).1 in absurd (true≢false (sym (one e) ∙ (sym (ap (lists name) same) ∙ p)))
     by_tests false false p q rest one two e f = rest e f
 
 first_member : (headers : List ℕ) (members : List MemberView) (name : List ℕ) → length headers ≡ length members → option_map (λ f. f.1) (first_lister headers members name) ≡ first_listed members name
@@ -359,10 +354,6 @@ module _ (kind : Kind) (linker : LinkerMember) (bytes headers : List ℕ) (membe
 
 -- By either linker member.
 
-length_map : {X Y : Type 0} (f : X → Y) (xs : List X) → length (map f xs) ≡ length xs
-length_map f [] = refl
-length_map f (x ∷ xs) = ap (λ n. suc n) (length_map f xs)
-
 module _ (kind : Kind) (linker : LinkerMember) (members : List MemberView) (ready : HaveArchive kind linker members) where
   pub record IsReady : Type 0 where
     pub headers : List ℕ
@@ -387,7 +378,7 @@ is_ready kind linker members ready =
       located = leads.found;
       rising = rising_headers bytes leads.headers leads.found;
       find = λ name. either_same kind linker members ready name ∙ leads.leads name;
-      many = sym (length_map (member_at kind bytes) leads.headers) ∙ (ap length leads.read ∙ length_map (λ m. Some (read_view m)) members);
+      many = sym (length-map leads.headers (member_at kind bytes)) ∙ (ap length leads.read ∙ length-map members (λ m. Some (read_view m)));
       read = leads.read;
     }
 

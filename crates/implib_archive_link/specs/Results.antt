@@ -13,7 +13,7 @@ use Rattle.implib_archive.specs.declared.kind.Kind.{Kind}
 use Rattle.implib_archive_link.specs.InBytes.{Asks, Has, LinkerMember, TakesAt, asks_for, asks_on, asks_with, asks_with_on, header_by}
 use Rattle.implib_link.specs.Search.Closed.{TakesInto}
 use Rattle.implib_link.specs.Search.Msvc.{TakesFor}
-use Rattle.implib_link.specs.Search.MsvcClosed.{TakesIntoFor}
+use Rattle.implib_link.specs.Search.MsvcArchives.{TakesIntoFor}
 use Rattle.implib_link.specs.Search.Search.{Takes, first_listed}
 
 -- Members of a list, by the headers that a linker takes.

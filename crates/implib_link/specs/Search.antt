@@ -6,9 +6,6 @@ pub mod Closed
 pub mod Given
 pub mod Exists
 pub mod MsvcArchives
-pub mod MsvcClosed
-pub mod MsvcGiven
-pub mod MsvcExists
 pub mod NamedApart
 pub mod BothFlavors
 pub mod BothExists

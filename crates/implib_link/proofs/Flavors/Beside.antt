@@ -11,163 +11,42 @@ use Rattle.implib.specs.Formats.Layout.{HasNoNul, entries_of, name_text, object_
 use Rattle.implib.specs.Formats.Object.{Object}
 use Rattle.implib.specs.Import.{Ask, Name, Ordinal}
 use Rattle.implib.specs.Link.Image.{Contribution, Range, contributions, filled, range_end}
-use Rattle.implib.specs.Link.Load.{BytesAt, TableAt, ThunkAt}
-use Rattle.implib.specs.Link.Placement.{Addresses, Bases, Descriptors, DllNames, HintNames, Lookups, Placed, next_multiple, placed_from}
+use Rattle.implib.specs.Link.Load.{BytesAt}
+use Rattle.implib.specs.Link.Placement.{Addresses, Bases, Placed, next_multiple, placed_from}
 use Rattle.implib.specs.Link.Resolution.{SymbolDefinition, definitions, definitions_of}
 use Rattle.implib.specs.Members.Gnu.{head_object}
 use Rattle.implib.specs.Members.ImportTables.{thunk_width, zeros}
 use Rattle.implib.specs.Members.Msvc.{short_import_symbol}
 use Rattle.implib.specs.Members.MsvcObjects.{descriptor, null_thunk}
-use Rattle.implib.proofs.Link.Linked.{contribution_located, ends_of_block}
-use Rattle.implib.proofs.Link.Placement.{AreAligned, after_head, aligned_head, at_least, ends_of_all, ends_of_head, placed-head}
+use Rattle.implib.proofs.Link.Linked.{ends_of_block}
+use Rattle.implib.proofs.Link.Placement.{AreAligned, after_head, aligned_head, ends_of_all, ends_of_head, placed-head}
 use Rattle.implib.proofs.Link.Ranges.{Among, among_back, among_front}
 use Rattle.implib.proofs.Link.Tables.{addresses_end, addresses_filled, filled_first, thunk_bytes}
-use Rattle.implib.proofs.Link.Thunks.{name_located, ordinal_located, zeros_number}
-use Rattle.implib_link.specs.Flavors.Expansion.{Use, hint_and_name, import_object}
+use Rattle.implib_link.specs.Flavors.Expansion.{Use, import_object}
 use Rattle.implib_link.specs.Flavors.Program.{Ending, OfLinker, OfMember, ask_in}
 use Rattle.implib_link.specs.Flavors.SectionSymbols.{with_section_symbols}
-use Rattle.implib_link.proofs.Gnu.Beside.{LocatedBeside, bounds_of, block_beside, fields_beside, rest_beside, table_bounds}
+use Rattle.implib_link.proofs.Gnu.Beside.{LocatedBeside, block_beside, rest_beside, descriptor_beside, table_bounds}
 use Rattle.implib_link.proofs.Gnu.Blocks.{addresses_after}
 use Rattle.implib_link.proofs.Gnu.Filling.{DescriptorBeside, DirectoryBeside}
-use Rattle.implib_link.proofs.Flavors.Block.{AreEven, FitsIn, Suits, behind_descriptor, definitions-in, definitions_in, ends_in, ends_of_askings, even_aligned, even_in, even_wide, objects_of, use_for}
+use Rattle.implib_link.proofs.Flavors.Block.{AreEven, FitsIn, Suits, behind_descriptor, definitions-in, definitions_in, ends_in, ends_of_askings, even_aligned, even_in, even_wide, objects_of, use_for, askings_stand}
 use Rattle.implib_link.proofs.Flavors.Blocks.{AllSuit, BlocksIn, CanLink, FlavorBlock, addresses_one, all_objects, descriptors_one, ends_all, ends_one, imported_of, rest_of, thunks_in}
-use Rattle.implib_link.proofs.Flavors.Expanded.{AreWide, AskFits, descriptor_is, descriptor_linked, ends_of_asking, ends_of_descriptor, ends_of_null_thunk, length-descriptor, length-thunk_linked, placed-asking, placed-descriptor, placed-null_thunk, placed_asking, placed_descriptor, step, taken_descriptor, taken_null_thunk, thunk_linked, thunk_of_name, wide_asking, wide_descriptor}
+use Rattle.implib_link.proofs.Flavors.Expanded.{AreWide, ends_of_asking, ends_of_descriptor, ends_of_null_thunk, length-thunk_linked, placed-asking, placed-descriptor, placed-null_thunk, thunk_linked, wide_asking, wide_descriptor, descriptor_stands}
 use Rattle.implib.specs.LibraryName.{NamesOfDll}
 use Rattle.implib_link.proofs.Gnu.Loaded.{plus_none}
 
 module _ (machine : MachineType) (dll : NamesOfDll) (linked : List Placed) (beside : List Range)
     (starts : AllByRecursion (λ r. 0 < r.start) beside) (ends : AllByRecursion (λ r. range_end r < 2 ^ 31) beside) where
-  -- the descriptor and the DLL's name, and what follows
-  record DescriptorStands (b : Bases) (rest : List Object) : Type 0 where
-    bytes : BytesAt beside b.descriptors (descriptor_linked machine dll linked b)
-    name : BytesAt beside (next_multiple 2 b.hint_names) (dll.text ++ 0 ∷ [])
-    behind : LocatedBeside machine linked beside (ends_of_descriptor dll b) rest
-
-  descriptor_stands : (b : Bases) (rest : List Object) → AreWide machine b → LocatedBeside machine linked beside b (taken_descriptor machine dll ∷ rest) → DescriptorStands b rest
-  unfolding with_section_symbols object_of descriptor entries_of name_text descriptor_linked
-  descriptor_stands b rest even located =
-      let later : Bases = ends_of_descriptor dll b in
-      let placed_is : placed_from b (taken_descriptor machine dll ∷ rest) ≡ placed_descriptor machine dll b ∷ placed_from later rest = placed-descriptor machine dll b rest even in
-      let descriptors = step beside b.descriptors (descriptor_linked machine dll linked b) (contributions machine linked Descriptors (placed_from later rest)) 20 (length-descriptor machine dll linked b)
-      (subst (λ ps. BytesAt beside b.descriptors (filled b.descriptors (contributions machine linked Descriptors ps))) placed_is located.descriptors) in
-      let lookups = step beside b.lookups [] (contributions machine linked Lookups (placed_from later rest)) 0 refl
-      (subst (λ ps. BytesAt beside b.lookups (filled b.lookups (contributions machine linked Lookups ps))) placed_is located.lookups) in
-      let names = contribution_located beside b.hint_names (record { address = next_multiple 2 b.hint_names; bytes = dll.text ++ 0 ∷ [] }) (contributions machine linked HintNames (placed_from later rest))
-      (at_least 2 b.hint_names)
-      (subst (λ ps. BytesAt beside b.hint_names (filled b.hint_names (contributions machine linked HintNames ps))) placed_is located.hint_names) in
-      record {
-        bytes = descriptors.0;
-        name = names.0;
-        behind = record {
-          descriptors = descriptors.1;
-          lookups = subst (λ n. BytesAt beside n (filled n (contributions machine linked Lookups (placed_from later rest)))) (plus_none b.lookups) lookups.1;
-          hint_names = names.1;
-          dll_names = subst (λ ps. BytesAt beside b.dll_names (filled b.dll_names (contributions machine linked DllNames ps))) placed_is located.dll_names;
-        };
-      }
-
-  -- a thunk of the lookup table that asks so, and what follows
-  record AskingStands (b : Bases) (ask : Ask) (rest : List Object) : Type 0 where
-    lookup : ThunkAt beside (thunk_width machine) b.lookups ask
-    behind : LocatedBeside machine linked beside (ends_of_asking machine b ask) rest
-
-  asking_stands : (b : Bases) (symbol : List ℕ) (ask : Ask) (use_kind : Use) (rest : List Object) → AskFits ask → AreWide machine b →
-      LocatedBeside machine linked beside b (import_object machine dll.text symbol ask use_kind ∷ rest) → AskingStands b ask rest
-  unfolding import_object thunk_linked AskFits
-  asking_stands b symbol (Ordinal n) use_kind rest fits even located =
-      let later : Bases = ends_of_asking machine b (Ordinal n) in
-      let placed_is : placed_from b (import_object machine dll.text symbol (Ordinal n) use_kind ∷ rest) ≡ placed_asking machine dll b symbol (Ordinal n) use_kind ∷ placed_from later rest =
-      placed-asking machine dll b symbol (Ordinal n) use_kind rest even in
-      let lookups = step beside b.lookups (thunk_linked machine dll linked b symbol (Ordinal n) use_kind) (contributions machine linked Lookups (placed_from later rest)) (thunk_width machine)
-      (length-thunk_linked machine dll linked b symbol (Ordinal n) use_kind)
-      (subst (λ ps. BytesAt beside b.lookups (filled b.lookups (contributions machine linked Lookups ps))) placed_is located.lookups) in
-      record {
-        lookup = (ordinal_located machine beside n b.lookups fits lookups.0).plain;
-        behind = record {
-          descriptors = subst (λ ps. BytesAt beside b.descriptors (filled b.descriptors (contributions machine linked Descriptors ps))) placed_is located.descriptors;
-          lookups = lookups.1;
-          hint_names = subst (λ ps. BytesAt beside b.hint_names (filled b.hint_names (contributions machine linked HintNames ps))) placed_is located.hint_names;
-          dll_names = subst (λ ps. BytesAt beside b.dll_names (filled b.dll_names (contributions machine linked DllNames ps))) placed_is located.dll_names;
-        };
-      }
-  asking_stands b symbol (Name text hint) use_kind rest fits even located =
-      let later : Bases = ends_of_asking machine b (Name text hint) in
-      let placed_is : placed_from b (import_object machine dll.text symbol (Name text hint) use_kind ∷ rest) ≡ placed_asking machine dll b symbol (Name text hint) use_kind ∷ placed_from later rest =
-      placed-asking machine dll b symbol (Name text hint) use_kind rest even in
-      let lookups = step beside b.lookups (thunk_linked machine dll linked b symbol (Name text hint) use_kind) (contributions machine linked Lookups (placed_from later rest)) (thunk_width machine)
-      (length-thunk_linked machine dll linked b symbol (Name text hint) use_kind)
-      (subst (λ ps. BytesAt beside b.lookups (filled b.lookups (contributions machine linked Lookups ps))) placed_is located.lookups) in
-      let hints = contribution_located beside b.hint_names (record { address = next_multiple 2 b.hint_names; bytes = hint_and_name text hint })
-      (contributions machine linked HintNames (placed_from later rest)) (at_least 2 b.hint_names)
-      (subst (λ ps. BytesAt beside b.hint_names (filled b.hint_names (contributions machine linked HintNames ps))) placed_is located.hint_names) in
-      record {
-        lookup = (name_located machine beside starts ends text hint (next_multiple 2 b.hint_names) b.lookups fits.0 fits.1
-            (subst (BytesAt beside b.lookups) (thunk_of_name machine dll linked b symbol text hint use_kind) lookups.0) hints.0).plain;
-        behind = record {
-          descriptors = subst (λ ps. BytesAt beside b.descriptors (filled b.descriptors (contributions machine linked Descriptors ps))) placed_is located.descriptors;
-          lookups = lookups.1;
-          hint_names = hints.1;
-          dll_names = subst (λ ps. BytesAt beside b.dll_names (filled b.dll_names (contributions machine linked DllNames ps))) placed_is located.dll_names;
-        };
-      }
-
-  -- the thunk of zeros at the end of the lookup table, and what follows
-  null_thunk_stands : (b : Bases) (rest : List Object) → AreWide machine b → LocatedBeside machine linked beside b (taken_null_thunk machine dll ∷ rest) →
-      BytesAt beside b.lookups (zeros (thunk_width machine)) × LocatedBeside machine linked beside (ends_of_null_thunk machine b) rest
-  unfolding with_section_symbols object_of null_thunk entries_of name_text
-  null_thunk_stands b rest even located =
-      let later : Bases = ends_of_null_thunk machine b in
-      let placed_is = placed-null_thunk machine dll b rest even in
-      let lookups = step beside b.lookups (zeros (thunk_width machine)) (contributions machine linked Lookups (placed_from later rest)) (thunk_width machine) (length-replicate {A = ℕ} (thunk_width machine) 0)
-      (subst (λ ps. BytesAt beside b.lookups (filled b.lookups (contributions machine linked Lookups ps))) placed_is located.lookups) in (
-        lookups.0,
-        record {
-          descriptors = subst (λ ps. BytesAt beside b.descriptors (filled b.descriptors (contributions machine linked Descriptors ps))) placed_is located.descriptors;
-          lookups = lookups.1;
-          hint_names = subst (λ ps. BytesAt beside b.hint_names (filled b.hint_names (contributions machine linked HintNames ps))) placed_is located.hint_names;
-          dll_names = subst (λ ps. BytesAt beside b.dll_names (filled b.dll_names (contributions machine linked DllNames ps))) placed_is located.dll_names;
-        },
-      )
-
-  askings_stand : (es : List ExportView) (b : Bases) (rest : List Object) → AllByRecursion (FitsIn Msvc machine) es → AreWide machine b →
-      LocatedBeside machine linked beside b (behind_descriptor machine dll es rest) →
-      TableAt beside (thunk_width machine) b.lookups (map (ask_in Msvc machine) es) × LocatedBeside machine linked beside (ends_of_askings machine b es) rest
-  unfolding TableAt ends_of_askings FitsIn
-  askings_stand [] b rest fit even located =
-      let null = null_thunk_stands b rest even located in
-      (record { bytes = zeros (thunk_width machine); located = null.0; count = length-replicate {A = ℕ} (thunk_width machine) 0; value = zeros_number machine }, null.1)
-  askings_stand (e ∷ es) b rest fit even located =
-      let ask : Ask = ask_in Msvc machine e in
-      let one = asking_stands b (short_import_symbol e) ask (use_for e) (behind_descriptor machine dll es rest) fit.0 even located in
-      let others = askings_stand es (ends_of_asking machine b ask) rest fit.1 (wide_asking machine b ask even) one.behind in
-      ((one.lookup, others.0), others.1)
-
   -- one DLL's members for Microsoft's linker
   msvc_beside : (es : List ExportView) (b : Bases) (rest : List Object) → HasNoNul dll.text → AllByRecursion (FitsIn Msvc machine) es → AreWide machine b → (0 < b.addresses) → (b.addresses < 2 ^ 31) →
       LocatedBeside machine linked beside b (objects_of machine Msvc dll es rest) →
       DescriptorBeside beside (thunk_width machine) b.descriptors b.addresses (record { dll = dll.text; asks = map (ask_in Msvc machine) es })
       × LocatedBeside machine linked beside (ends_in machine Msvc dll b es) rest
   msvc_beside es b rest dll_text fit even above below located =
-      let one = descriptor_stands b (behind_descriptor machine dll es rest) even located in
-      let tables = askings_stand es (ends_of_descriptor dll b) rest fit (wide_descriptor machine dll b even) one.behind in
-      let place : ℕ = next_multiple 2 b.hint_names in
-      let lookups_bounds = table_bounds machine beside starts ends (map (ask_in Msvc machine) es) b.lookups tables.0 in
-      let long : 0 < length (dll.text ++ 0 ∷ []) = rw (length-append dll.text (0 ∷ [])) (omega arith) in
-      let name_bounds = bounds_of beside starts ends (dll.text ++ 0 ∷ []) place one.name long in
-      let fields = fields_beside beside b.descriptors b.lookups place b.addresses lookups_bounds.1 name_bounds.1 below
-      (subst (BytesAt beside b.descriptors) (descriptor_is machine dll linked b) one.bytes) in (
-        record {
-          lookups = b.lookups;
-          lookups_field = fields.lookups_field;
-          lookup_table = tables.0;
-          name = place;
-          name_field = fields.name_field;
-          has_name = name_bounds.0;
-          name_text = record { no_nul = dll_text; located = one.name };
-          addresses_field = fields.addresses_field;
-          has_addresses = above;
-        },
-        tables.1,
+      let one = descriptor_stands machine dll linked beside starts ends b (behind_descriptor machine dll es rest) even located in
+      let tables = askings_stand machine dll linked beside starts ends dll_text es (ends_of_descriptor dll b) rest fit (wide_descriptor machine dll b even) one.behind in (
+        descriptor_beside machine beside starts ends b.descriptors b.lookups (next_multiple 2 b.hint_names) b.addresses dll.text (map (ask_in Msvc machine) es) dll_text above below
+            one.bytes tables.lookups.plain one.name,
+        tables.behind,
       )
 
   -- one DLL's members in a flavour

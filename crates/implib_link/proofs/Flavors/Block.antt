@@ -1,7 +1,7 @@
 -- The objects of one DLL, in either flavour, link among others.
-use Rattle.std.proofs.Common.{◌≡◌, ℕ, ◌+◌, ◌%◌, ◌<◌, ◌^◌, Bool, true, false, List, [], ◌∷◌, ◌++◌, length, map, Some, None, refl, ap, sym, ◌∙◌, arith, subst, if◌then◌else◌}
+use Rattle.std.proofs.Common.{◌≡◌, ℕ, ◌+◌, ◌%◌, ◌<◌, ◌^◌, Bool, true, false, List, [], ◌∷◌, ◌++◌, map, Some, None, refl, ap, sym, ◌∙◌, arith, subst, if◌then◌else◌}
 use Rattle.std.specs.List.{AllByRecursion, flat_map}
-use Rattle.std.proofs.lemmas.List.{append_assoc, length-replicate}
+use Rattle.std.proofs.lemmas.List.{append_assoc}
 use Rattle.implib.specs.declared.machine.MachineType.{MachineType}
 use Rattle.implib.specs.declared.flavor.Flavor.{Flavor}
 use Rattle.implib.specs.declared.flavor.Flavor.TheVariants.{Gnu, Msvc}
@@ -9,10 +9,10 @@ use Rattle.implib.specs.Definition.{ExportView}
 use Rattle.implib.specs.Members.Gnu.{archive_symbols, head_symbol, iname_symbol}
 use Rattle.implib.specs.Link.Image.{Range, range_end}
 use Rattle.implib.specs.Import.{Ask, Name, Ordinal, imp_symbol}
-use Rattle.implib.specs.Members.ImportTables.{thunk_width, zeros}
+use Rattle.implib.specs.Members.ImportTables.{thunk_width}
 use Rattle.implib.specs.Formats.Layout.{HasNoNul, entries_of, name_text, object_of}
 use Rattle.implib.specs.Link.Linked.{AllFind, EntriesAt, FindsTarget, IsDefinedAt, undefined_names}
-use Rattle.implib.specs.Link.Load.{LoadsStrictly, NumberAt, TableAt, TextAt, WholeTableAt}
+use Rattle.implib.specs.Link.Load.{LoadsStrictly, TextAt}
 use Rattle.implib.specs.Members.Msvc.{short_import_symbols, short_import_symbol}
 use Rattle.implib.specs.Members.MsvcObjects.{descriptor, descriptor_symbol, null_descriptor_symbol, null_thunk, null_thunk_symbol}
 use Rattle.implib.specs.Formats.Object.{Object}
@@ -23,12 +23,13 @@ use Rattle.implib.proofs.Link.Linked.{BlockLinks, LocatedFrom, aligned_block, al
 use Rattle.implib.proofs.Link.Placement.{AreAligned, after_head, ends_of_all, ends_of_export, ends_of_exports, ends_of_head, head, names-after}
 use Rattle.implib.proofs.Link.Ranges.{Among, among_back, among_first, among_later}
 use Rattle.implib.proofs.Link.Tables.{CanBeAsked}
-use Rattle.implib.proofs.Link.Thunks.{StrictTableAt, zeros_number}
+use Rattle.implib.proofs.Link.Thunks.{StrictTableAt}
 use Rattle.implib_link.specs.Flavors.Expansion.{Code, Constant, Data, Use, import_object, descriptor_symbol_by_name, stub_relocations_for}
 use Rattle.implib_link.specs.Flavors.Program.{Ending, IsFoundByName, OfLinker, OfMember, SymbolsAt, WhereMember, ask_in, descriptor_in, symbol_in}
 use Rattle.implib_link.specs.Flavors.SectionSymbols.{with_section_symbols}
-use Rattle.implib_link.proofs.Flavors.Expanded.{AreWide, AskFits, asking_located, descriptor_located, ends_of_asking, ends_of_descriptor, ends_of_null_thunk, null_thunk_located, placed-asking, placed-descriptor, placed-null_thunk, placed_asking, placed_descriptor, taken_descriptor, taken_null_thunk, wide_aligned, wide_asking, wide_descriptor, wide_next, wide_null_thunk}
+use Rattle.implib_link.proofs.Flavors.Expanded.{AreWide, AskFits, ends_of_asking, ends_of_descriptor, ends_of_null_thunk, placed-asking, placed-descriptor, placed-null_thunk, placed_asking, placed_descriptor, taken_descriptor, taken_null_thunk, wide_aligned, wide_asking, wide_descriptor, wide_next, wide_null_thunk, TableFrom, asking_stands, descriptor_stands, null_thunk_stands}
 use Rattle.implib.specs.LibraryName.{NamesOfDll}
+use Rattle.implib_link.proofs.Gnu.Beside.{LocatedBeside, zero_table, table_with}
 
 -- Where tables may begin, by what ends the directory: at multiples of 4, or of a thunk's width.
 abbrev pub AreEven : Ending → MachineType → Bases → Type 0
@@ -205,9 +206,6 @@ unfoldable pub FitsIn : Flavor → MachineType → ExportView → Type 0
 FitsIn Msvc machine e = AskFits (ask_in Msvc machine e)
 FitsIn Gnu machine e = CanBeAsked machine e
 
-length_zeros : (machine : MachineType) → length (zeros (thunk_width machine)) ≡ thunk_width machine
-length_zeros machine = length-replicate {A = ℕ} (thunk_width machine) 0
-
 -- the symbols of GNU's entries
 symbols_from : (linked : List Placed) (width address : ℕ) (es : List ExportView) → EntriesAt linked width address es →
     SymbolsAt linked width address (map (λ e. imp_symbol (symbol_in Gnu e)) es)
@@ -235,33 +233,29 @@ pub record OneLinks (machine : MachineType) (linked : List Placed) (image : List
 module _ (machine : MachineType) (dll : NamesOfDll) (linked : List Placed) (image : List Range)
     (starts : AllByRecursion (λ r. 0 < r.start) image) (ends : AllByRecursion (λ r. range_end r < 2 ^ 31) image) (dll_text : HasNoNul dll.text) where
   -- the tables of the short imports and the null thunk
-  record AskingsStand (b : Bases) (es : List ExportView) (rest : List Object) : Type 0 where
-    lookups : StrictTableAt image (thunk_width machine) b.lookups (map (ask_in Msvc machine) es)
-    addresses : StrictTableAt image (thunk_width machine) b.addresses (map (ask_in Msvc machine) es)
-    behind : LocatedFrom machine linked image (ends_of_askings machine b es) rest
+  pub record AskingsStand (b : Bases) (es : List ExportView) (rest : List Object) : Type 0 where
+    pub lookups : StrictTableAt image (thunk_width machine) b.lookups (map (ask_in Msvc machine) es)
+    pub behind : LocatedBeside machine linked image (ends_of_askings machine b es) rest
+    pub table : TableFrom machine linked image b (behind_descriptor machine dll es rest) →
+        StrictTableAt image (thunk_width machine) b.addresses (map (ask_in Msvc machine) es) × TableFrom machine linked image (ends_of_askings machine b es) rest
 
-  zero_thunk : (a : ℕ) → NumberAt image (thunk_width machine) a 0 → StrictTableAt image (thunk_width machine) a []
-  unfolding TableAt WholeTableAt
-  zero_thunk a none = record { plain = none; whole = tt }
-
-  askings_located : (es : List ExportView) (b : Bases) (rest : List Object) → AllByRecursion (FitsIn Msvc machine) es → AreWide machine b →
-      LocatedFrom machine linked image b (behind_descriptor machine dll es rest) → AskingsStand b es rest
-  unfolding TableAt WholeTableAt ends_of_askings FitsIn
-  askings_located [] b rest fit even located =
-      let null = null_thunk_located machine dll linked image starts ends b rest even located in
-      record {
-        lookups = zero_thunk b.lookups (record { bytes = zeros (thunk_width machine); located = null.lookup; count = length_zeros machine; value = zeros_number machine });
-        addresses = zero_thunk b.addresses (record { bytes = zeros (thunk_width machine); located = null.address; count = length_zeros machine; value = zeros_number machine });
-        behind = null.rest_located;
-      }
-  askings_located (e ∷ es) b rest fit even located =
+  pub askings_stand : (es : List ExportView) (b : Bases) (rest : List Object) → AllByRecursion (FitsIn Msvc machine) es → AreWide machine b →
+      LocatedBeside machine linked image b (behind_descriptor machine dll es rest) → AskingsStand b es rest
+  unfolding ends_of_askings FitsIn
+  askings_stand [] b rest fit even located =
+      let null = null_thunk_stands machine dll linked image starts ends b rest even located in
+      record { lookups = zero_table machine image b.lookups null.lookup; behind = null.behind; table = λ table. let addresses = null.table table in (zero_table machine image b.addresses addresses.0, addresses.1) }
+  askings_stand (e ∷ es) b rest fit even located =
       let ask : Ask = ask_in Msvc machine e in
-      let one = asking_located machine dll linked image starts ends b (short_import_symbol e) ask (use_for e) (behind_descriptor machine dll es rest) fit.0 even located in
-      let others = askings_located es (ends_of_asking machine b ask) rest fit.1 (wide_asking machine b ask even) one.rest_located in
+      let one = asking_stands machine dll linked image starts ends b (short_import_symbol e) ask (use_for e) (behind_descriptor machine dll es rest) fit.0 even located in
+      let others = askings_stand es (ends_of_asking machine b ask) rest fit.1 (wide_asking machine b ask even) one.behind in
       record {
-        lookups = record { plain = (one.lookup.plain, others.lookups.plain); whole = (one.lookup.whole, others.lookups.whole) };
-        addresses = record { plain = (one.address.plain, others.addresses.plain); whole = (one.address.whole, others.addresses.whole) };
+        lookups = table_with image (thunk_width machine) b.lookups ask (map (ask_in Msvc machine) es) one.lookup others.lookups;
         behind = others.behind;
+        table = λ table.
+            let own = one.table table in
+            let later = others.table own.1 in
+            (table_with image (thunk_width machine) b.addresses ask (map (ask_in Msvc machine) es) own.0 later.0, later.1);
       }
 
   -- each export's address is its own entry
@@ -358,8 +352,10 @@ module _ (machine : MachineType) (dll : NamesOfDll) (linked : List Placed) (imag
   msvc_links es b rest fit even found null only located =
       let later : Bases = ends_of_descriptor dll b in
       let wide : AreWide machine (ends_of_descriptor dll b) = wide_descriptor machine dll b even in
-      let one = descriptor_located machine dll linked image starts ends b (behind_descriptor machine dll es rest) even located in
-      let tables = askings_located es later rest fit wide one.rest_located in
+      let one = descriptor_stands machine dll linked image starts ends b (behind_descriptor machine dll es rest) even
+      (record { descriptors = located.descriptors; lookups = located.lookups; hint_names = located.hint_names; dll_names = located.dll_names }) in
+      let tables = askings_stand es later rest fit wide one.behind in
+      let addresses = tables.table (one.table located.addresses) in
       let plain : b.descriptors + 0 ≡ b.descriptors = omega arith in
       let own : SymbolDefinition = descriptor_definition dll b in
       let behind_only = λ (d : SymbolDefinition) (m : Among d (defined_behind machine dll (ends_of_descriptor dll b) es)). only d (among_later d own (defined_behind machine dll (ends_of_descriptor dll b) es) m) in
@@ -368,13 +364,13 @@ module _ (machine : MachineType) (dll : NamesOfDll) (linked : List Placed) (imag
       let thunk = thunk_defined es later in
       let name_text : TextAt image (next_multiple 2 b.hint_names) dll.text = record { no_nul = dll_text; located = one.name } in
       let loaded = descriptor_loads machine image starts ends b.descriptors b.lookups b.addresses (next_multiple 2 b.hint_names) dll.text (map (ask_in Msvc machine) es)
-      one.bytes tables.lookups tables.addresses name_text in
+      one.bytes tables.lookups addresses.0 name_text in
       record {
         top = top;
         loads = loaded.loads;
         table_located = loaded.table_located;
         entries = imps_at es later behind_only;
-        rest_located = tables.behind;
+        rest_located = record { descriptors = tables.behind.descriptors; lookups = tables.behind.lookups; addresses = addresses.1; hint_names = tables.behind.hint_names; dll_names = tables.behind.dll_names };
         defined = λ others.
             subst (AllByRecursion (IsDefinedAt linked))
             (sym (ap undefined_names (placed-descriptor machine dll b (behind_descriptor machine dll es rest) even)

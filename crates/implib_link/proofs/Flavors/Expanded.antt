@@ -13,13 +13,14 @@ use Rattle.implib.specs.Link.Load.{BytesAt}
 use Rattle.implib.specs.Members.MsvcObjects.{descriptor, null_descriptor, null_thunk}
 use Rattle.implib.specs.Formats.Object.{Object, u32_at}
 use Rattle.implib.specs.Link.Placement.{Addresses, At, Bases, Descriptors, DllNames, HintNames, Lookups, Placed, SectionAddress, Unplaced, next_multiple, placed_from}
-use Rattle.implib.proofs.Link.Linked.{LocatedFrom, contribution_located, same_order}
+use Rattle.implib.proofs.Link.Linked.{contribution_located, same_order}
 use Rattle.implib.proofs.Link.Placement.{AreAligned, aligned, at_least, length-thunk_of}
 use Rattle.implib.proofs.Link.Thunks.{StrictThunkAt, length-address, name_located, ordinal_located, same_number, with_address-zeros}
 use Rattle.implib_link.specs.Flavors.Expansion.{Use, import_object, hint_and_name, relocations_asking, thunk_asking}
 use Rattle.implib_link.specs.Flavors.SectionSymbols.{with_section_symbols}
 use Rattle.implib.specs.LibraryName.{NamesOfDll}
 use Rattle.implib_link.proofs.Gnu.Loaded.{plus_none}
+use Rattle.implib_link.proofs.Gnu.Beside.{LocatedBeside}
 
 -- the ends of the directory and of the tables, these at multiples of a thunk's width
 pub record AreWide (machine : MachineType) (b : Bases) : Type 0 where
@@ -154,6 +155,10 @@ wide_null_thunk machine b even = record {
 
 -- What is at these positions.
 
+-- what ranges have of the address tables of objects
+abbrev pub TableFrom : MachineType → List Placed → List Range → Bases → List Object → Type 0
+TableFrom machine linked image b objects = BytesAt image b.addresses (filled b.addresses (contributions machine linked Addresses (placed_from b objects)))
+
 -- a contribution without a gap before it, and what follows
 pub step : (image : List Range) (a : ℕ) (bytes : List ℕ) (others : List Contribution) (n : ℕ) → length bytes ≡ n →
     BytesAt image a (filled a (record { address = a; bytes = bytes } ∷ others)) → BytesAt image a bytes × BytesAt image (a + n) (filled (a + n) others)
@@ -196,70 +201,74 @@ module _ (machine : MachineType) (dll : NamesOfDll) (linked : List Placed) where
   unfolding u32_bytes
   length-descriptor b = ap length (descriptor_is b)
 
+  -- in ranges that have the objects, but their address tables, and what of these follows
   module _ (image : List Range) (starts : AllByRecursion (λ r. 0 < r.start) image) (ends : AllByRecursion (λ r. range_end r < 2 ^ 31) image) where
     -- the descriptor and the DLL's name, and what follows
     pub record DescriptorStands (b : Bases) (rest : List Object) : Type 0 where
       pub bytes : BytesAt image b.descriptors (u32_bytes ((0 + (b.lookups + 0)) % 2 ^ 32)
           ++ (zeros 4 ++ (zeros 4 ++ (u32_bytes ((0 + (next_multiple 2 b.hint_names + 0)) % 2 ^ 32) ++ u32_bytes ((0 + (b.addresses + 0)) % 2 ^ 32)))))
       pub name : BytesAt image (next_multiple 2 b.hint_names) (dll.text ++ 0 ∷ [])
-      pub rest_located : LocatedFrom machine linked image (ends_of_descriptor dll b) rest
+      pub behind : LocatedBeside machine linked image (ends_of_descriptor dll b) rest
+      pub table : TableFrom machine linked image b (taken_descriptor machine dll ∷ rest) → TableFrom machine linked image (ends_of_descriptor dll b) rest
 
-    pub descriptor_located : (b : Bases) (rest : List Object) → AreWide machine b → LocatedFrom machine linked image b (taken_descriptor machine dll ∷ rest) → DescriptorStands b rest
+    pub descriptor_stands : (b : Bases) (rest : List Object) → AreWide machine b → LocatedBeside machine linked image b (taken_descriptor machine dll ∷ rest) → DescriptorStands b rest
     unfolding with_section_symbols object_of descriptor entries_of name_text descriptor_linked
-    descriptor_located b rest even located =
+    descriptor_stands b rest even located =
         let later : Bases = ends_of_descriptor dll b in
         let placed_is : placed_from b (taken_descriptor machine dll ∷ rest) ≡ placed_descriptor machine dll b ∷ placed_from later rest = placed-descriptor machine dll b rest even in
         let descriptors = step image b.descriptors (descriptor_linked b) (contributions machine linked Descriptors (placed_from later rest)) 20 (length-descriptor b)
         (subst (λ ps. BytesAt image b.descriptors (filled b.descriptors (contributions machine linked Descriptors ps))) placed_is located.descriptors) in
         let lookups = step image b.lookups [] (contributions machine linked Lookups (placed_from later rest)) 0 refl
         (subst (λ ps. BytesAt image b.lookups (filled b.lookups (contributions machine linked Lookups ps))) placed_is located.lookups) in
-        let addresses = step image b.addresses [] (contributions machine linked Addresses (placed_from later rest)) 0 refl
-        (subst (λ ps. BytesAt image b.addresses (filled b.addresses (contributions machine linked Addresses ps))) placed_is located.addresses) in
         let names = contribution_located image b.hint_names (record { address = next_multiple 2 b.hint_names; bytes = dll.text ++ 0 ∷ [] }) (contributions machine linked HintNames (placed_from later rest))
         (at_least 2 b.hint_names)
         (subst (λ ps. BytesAt image b.hint_names (filled b.hint_names (contributions machine linked HintNames ps))) placed_is located.hint_names) in
         record {
           bytes = subst (BytesAt image b.descriptors) (descriptor_is b) descriptors.0;
           name = names.0;
-          rest_located = record {
+          behind = record {
             descriptors = descriptors.1;
             lookups = subst (λ n. BytesAt image n (filled n (contributions machine linked Lookups (placed_from later rest)))) (plus_none b.lookups) lookups.1;
-            addresses = subst (λ n. BytesAt image n (filled n (contributions machine linked Addresses (placed_from later rest)))) (plus_none b.addresses) addresses.1;
             hint_names = names.1;
             dll_names = subst (λ ps. BytesAt image b.dll_names (filled b.dll_names (contributions machine linked DllNames ps))) placed_is located.dll_names;
           };
+          table = λ table.
+              subst (λ n. BytesAt image n (filled n (contributions machine linked Addresses (placed_from later rest)))) (plus_none b.addresses)
+              (step image b.addresses [] (contributions machine linked Addresses (placed_from later rest)) 0 refl
+              (subst (λ ps. BytesAt image b.addresses (filled b.addresses (contributions machine linked Addresses ps))) placed_is table)).1;
         }
 
     -- thunks in both tables that ask so, and what follows
-    pub record AskingStands (b : Bases) (ask : Ask) (rest : List Object) : Type 0 where
+    pub record AskingStands (b : Bases) (symbol : List ℕ) (ask : Ask) (use_kind : Use) (rest : List Object) : Type 0 where
       pub lookup : StrictThunkAt image (thunk_width machine) b.lookups ask
-      pub address : StrictThunkAt image (thunk_width machine) b.addresses ask
-      pub rest_located : LocatedFrom machine linked image (ends_of_asking machine b ask) rest
+      pub behind : LocatedBeside machine linked image (ends_of_asking machine b ask) rest
+      pub table : TableFrom machine linked image b (import_object machine dll.text symbol ask use_kind ∷ rest) →
+          StrictThunkAt image (thunk_width machine) b.addresses ask × TableFrom machine linked image (ends_of_asking machine b ask) rest
 
-    pub asking_located : (b : Bases) (symbol : List ℕ) (ask : Ask) (use_kind : Use) (rest : List Object) → AskFits ask → AreWide machine b →
-        LocatedFrom machine linked image b (import_object machine dll.text symbol ask use_kind ∷ rest) → AskingStands b ask rest
+    pub asking_stands : (b : Bases) (symbol : List ℕ) (ask : Ask) (use_kind : Use) (rest : List Object) → AskFits ask → AreWide machine b →
+        LocatedBeside machine linked image b (import_object machine dll.text symbol ask use_kind ∷ rest) → AskingStands b symbol ask use_kind rest
     unfolding import_object thunk_linked AskFits
-    asking_located b symbol (Ordinal n) use_kind rest fits even located =
+    asking_stands b symbol (Ordinal n) use_kind rest fits even located =
         let later : Bases = ends_of_asking machine b (Ordinal n) in
         let placed_is : placed_from b (import_object machine dll.text symbol (Ordinal n) use_kind ∷ rest) ≡ placed_asking machine dll b symbol (Ordinal n) use_kind ∷ placed_from later rest =
         placed-asking machine dll b symbol (Ordinal n) use_kind rest even in
         let long = length-thunk_linked b symbol (Ordinal n) use_kind in
         let lookups = step image b.lookups (thunk_linked b symbol (Ordinal n) use_kind) (contributions machine linked Lookups (placed_from later rest)) (thunk_width machine) long
         (subst (λ ps. BytesAt image b.lookups (filled b.lookups (contributions machine linked Lookups ps))) placed_is located.lookups) in
-        let addresses = step image b.addresses (thunk_linked b symbol (Ordinal n) use_kind) (contributions machine linked Addresses (placed_from later rest)) (thunk_width machine) long
-        (subst (λ ps. BytesAt image b.addresses (filled b.addresses (contributions machine linked Addresses ps))) placed_is located.addresses) in
         record {
           lookup = ordinal_located machine image n b.lookups fits lookups.0;
-          address = ordinal_located machine image n b.addresses fits addresses.0;
-          rest_located = record {
+          behind = record {
             descriptors = subst (λ ps. BytesAt image b.descriptors (filled b.descriptors (contributions machine linked Descriptors ps))) placed_is located.descriptors;
             lookups = lookups.1;
-            addresses = addresses.1;
             hint_names = subst (λ ps. BytesAt image b.hint_names (filled b.hint_names (contributions machine linked HintNames ps))) placed_is located.hint_names;
             dll_names = subst (λ ps. BytesAt image b.dll_names (filled b.dll_names (contributions machine linked DllNames ps))) placed_is located.dll_names;
           };
+          table = λ table.
+              let addresses = step image b.addresses (thunk_linked b symbol (Ordinal n) use_kind) (contributions machine linked Addresses (placed_from later rest)) (thunk_width machine) long
+              (subst (λ ps. BytesAt image b.addresses (filled b.addresses (contributions machine linked Addresses ps))) placed_is table) in
+              (ordinal_located machine image n b.addresses fits addresses.0, addresses.1);
         }
-    asking_located b symbol (Name text hint) use_kind rest fits even located =
+    asking_stands b symbol (Name text hint) use_kind rest fits even located =
         let later : Bases = ends_of_asking machine b (Name text hint) in
         let placed_is : placed_from b (import_object machine dll.text symbol (Name text hint) use_kind ∷ rest) ≡ placed_asking machine dll b symbol (Name text hint) use_kind ∷ placed_from later rest =
         placed-asking machine dll b symbol (Name text hint) use_kind rest even in
@@ -267,47 +276,46 @@ module _ (machine : MachineType) (dll : NamesOfDll) (linked : List Placed) where
         let is = thunk_of_name b symbol text hint use_kind in
         let lookups = step image b.lookups (thunk_linked b symbol (Name text hint) use_kind) (contributions machine linked Lookups (placed_from later rest)) (thunk_width machine) long
         (subst (λ ps. BytesAt image b.lookups (filled b.lookups (contributions machine linked Lookups ps))) placed_is located.lookups) in
-        let addresses = step image b.addresses (thunk_linked b symbol (Name text hint) use_kind) (contributions machine linked Addresses (placed_from later rest)) (thunk_width machine) long
-        (subst (λ ps. BytesAt image b.addresses (filled b.addresses (contributions machine linked Addresses ps))) placed_is located.addresses) in
         let hints = contribution_located image b.hint_names (record { address = next_multiple 2 b.hint_names; bytes = hint_and_name text hint })
         (contributions machine linked HintNames (placed_from later rest)) (at_least 2 b.hint_names)
         (subst (λ ps. BytesAt image b.hint_names (filled b.hint_names (contributions machine linked HintNames ps))) placed_is located.hint_names) in
         record {
           lookup = name_located machine image starts ends text hint (next_multiple 2 b.hint_names) b.lookups fits.0 fits.1 (subst (BytesAt image b.lookups) is lookups.0) hints.0;
-          address = name_located machine image starts ends text hint (next_multiple 2 b.hint_names) b.addresses fits.0 fits.1 (subst (BytesAt image b.addresses) is addresses.0) hints.0;
-          rest_located = record {
+          behind = record {
             descriptors = subst (λ ps. BytesAt image b.descriptors (filled b.descriptors (contributions machine linked Descriptors ps))) placed_is located.descriptors;
             lookups = lookups.1;
-            addresses = addresses.1;
             hint_names = hints.1;
             dll_names = subst (λ ps. BytesAt image b.dll_names (filled b.dll_names (contributions machine linked DllNames ps))) placed_is located.dll_names;
           };
+          table = λ table.
+              let addresses = step image b.addresses (thunk_linked b symbol (Name text hint) use_kind) (contributions machine linked Addresses (placed_from later rest)) (thunk_width machine) long
+              (subst (λ ps. BytesAt image b.addresses (filled b.addresses (contributions machine linked Addresses ps))) placed_is table) in
+              (name_located machine image starts ends text hint (next_multiple 2 b.hint_names) b.addresses fits.0 fits.1 (subst (BytesAt image b.addresses) is addresses.0) hints.0, addresses.1);
         }
 
     -- the thunks of zeros at the ends of both tables, and what follows
     pub record NullThunkStands (b : Bases) (rest : List Object) : Type 0 where
       pub lookup : BytesAt image b.lookups (zeros (thunk_width machine))
-      pub address : BytesAt image b.addresses (zeros (thunk_width machine))
-      pub rest_located : LocatedFrom machine linked image (ends_of_null_thunk machine b) rest
+      pub behind : LocatedBeside machine linked image (ends_of_null_thunk machine b) rest
+      pub table : TableFrom machine linked image b (taken_null_thunk machine dll ∷ rest) →
+          BytesAt image b.addresses (zeros (thunk_width machine)) × TableFrom machine linked image (ends_of_null_thunk machine b) rest
 
-    pub null_thunk_located : (b : Bases) (rest : List Object) → AreWide machine b → LocatedFrom machine linked image b (taken_null_thunk machine dll ∷ rest) → NullThunkStands b rest
+    pub null_thunk_stands : (b : Bases) (rest : List Object) → AreWide machine b → LocatedBeside machine linked image b (taken_null_thunk machine dll ∷ rest) → NullThunkStands b rest
     unfolding with_section_symbols object_of null_thunk entries_of name_text
-    null_thunk_located b rest even located =
+    null_thunk_stands b rest even located =
         let later : Bases = ends_of_null_thunk machine b in
         let placed_is : placed_from b (taken_null_thunk machine dll ∷ rest) ≡ placed_null_thunk machine dll b ∷ placed_from later rest = placed-null_thunk machine dll b rest even in
         let long = length-replicate {A = ℕ} (thunk_width machine) 0 in
         let lookups = step image b.lookups (zeros (thunk_width machine)) (contributions machine linked Lookups (placed_from later rest)) (thunk_width machine) long
         (subst (λ ps. BytesAt image b.lookups (filled b.lookups (contributions machine linked Lookups ps))) placed_is located.lookups) in
-        let addresses = step image b.addresses (zeros (thunk_width machine)) (contributions machine linked Addresses (placed_from later rest)) (thunk_width machine) long
-        (subst (λ ps. BytesAt image b.addresses (filled b.addresses (contributions machine linked Addresses ps))) placed_is located.addresses) in
         record {
           lookup = lookups.0;
-          address = addresses.0;
-          rest_located = record {
+          behind = record {
             descriptors = subst (λ ps. BytesAt image b.descriptors (filled b.descriptors (contributions machine linked Descriptors ps))) placed_is located.descriptors;
             lookups = lookups.1;
-            addresses = addresses.1;
             hint_names = subst (λ ps. BytesAt image b.hint_names (filled b.hint_names (contributions machine linked HintNames ps))) placed_is located.hint_names;
             dll_names = subst (λ ps. BytesAt image b.dll_names (filled b.dll_names (contributions machine linked DllNames ps))) placed_is located.dll_names;
           };
+          table = λ table. step image b.addresses (zeros (thunk_width machine)) (contributions machine linked Addresses (placed_from later rest)) (thunk_width machine) long
+              (subst (λ ps. BytesAt image b.addresses (filled b.addresses (contributions machine linked Addresses ps))) placed_is table);
         }

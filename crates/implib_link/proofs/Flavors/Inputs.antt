@@ -1,5 +1,5 @@
 -- What a linker takes the members of definitions for, in either flavour.
-use Rattle.std.proofs.Common.{◌≡◌, ℕ, ◌<◌, ◌^◌, Bool, true, false, List, [], ◌∷◌, ◌++◌, map, Option, Some, None, refl, ap, sym, ◌∙◌, subst, inl, inr, if◌then◌else◌}
+use Rattle.std.proofs.Common.{◌≡◌, ℕ, ◌<◌, ◌^◌, Bool, true, false, List, [], ◌∷◌, ◌++◌, map, Option, Some, None, refl, ap, sym, ◌∙◌, subst, inl, inr, if◌then◌else◌, ◌+◌, arith}
 use Rattle.std.specs.Prelude.{◌==◌, nat_le, slice_get, suc, take, zero}
 use Rattle.std.specs.List.{AllByRecursion, Contains, cons_option, filter_map, flat_map, position_or_len}
 use Rattle.std.specs.Option.{option_and_then, option_map}
@@ -15,12 +15,12 @@ use Rattle.implib.specs.Ascii.{at_sign, holds, question_mark, underscore, begins
 use Rattle.implib.specs.Definition.{DefinitionView, ExportView}
 use Rattle.implib.specs.Formats.File.{File, ObjectFile, file_in, short_import_or_object}
 use Rattle.implib.specs.Members.Gnu.{export_object, head_object, tail_object}
-use Rattle.implib.specs.Members.GnuMembers.{export_spec, gnu_specs, head_spec, tail_spec}
+use Rattle.implib.specs.Members.GnuMembers.{export_spec, gnu_specs, head_spec, tail_spec, alias_specs, numbered_specs, numbered_specs_of}
 use Rattle.implib.specs.Import.{Name, Ordinal, public_exports}
-use Rattle.implib.specs.Formats.Layout.{HasNoNul, encoded, object_of}
-use Rattle.implib.specs.Link.LinkedMembers.{chosen_exports, linked_specs, numbered_spec, objects_in}
+use Rattle.implib.specs.Formats.Layout.{HasNoNul}
+use Rattle.implib.specs.Link.LinkedMembers.{chosen_exports, numbered_spec, objects_in}
 use Rattle.implib.specs.Machine.{machine_number}
-use Rattle.implib.specs.Members.MemberSpec.{AShortImport, AnObject, Contents, MemberSpec, MemberView, file_bytes, member_of}
+use Rattle.implib.specs.Members.MemberSpec.{MemberSpec, MemberView, file_bytes, member_of}
 use Rattle.implib.specs.Members.Members.{AreMembersOf, member_specs}
 use Rattle.implib.specs.Members.Msvc.{import_type_of, name_type_of, short_import_symbols, short_import_of, short_import_symbol}
 use Rattle.implib.specs.Members.MsvcMembers.{descriptor_spec, export_specs, header_specs, null_descriptor_spec, null_thunk_spec, short_import_spec, weak_specs}
@@ -31,10 +31,9 @@ use Rattle.implib.specs.Renaming.{renamed}
 use Rattle.implib.specs.Formats.ShortImport.{ShortImport, ask_of_short_import, asked_by_name_type, before_at_sign, import_code, import_const, import_data, import_name, import_name_noprefix, import_name_undecorate, short_import_in, without_prefix}
 use Rattle.implib.proofs.Members.GnuReadings.{member_specs_read}
 use Rattle.implib.proofs.Members.Import.{name_type_is_ordinal, name_type_of_fits, symbol_without_nul}
-use Rattle.implib.proofs.Link.LinkedBlocks.{linked_objects}
-use Rattle.implib.proofs.Link.LinkedMembers.{among_contains, among_map, chosen_among, exports_fit, head_among, members_among, objects_are, read_as, symbols_are}
+use Rattle.implib.proofs.Link.LinkedMembers.{among_contains, among_map, exports_fit, members_among, objects_are, symbols_are, among_reverse}
 use Rattle.implib.proofs.Members.MemberReadings.{ReadsBack, map_after, member_specs_read_back}
-use Rattle.implib.proofs.Members.NotRefused.{Sound, exports_sound, import_name_is_free, linked_is_free, none_long}
+use Rattle.implib.proofs.Members.NotRefused.{Sound, exports_sound, import_name_is_free}
 use Rattle.implib.proofs.Link.Placement.{export, head, tail}
 use Rattle.implib.proofs.Link.Ranges.{Among, all_among, among_back, among_first, among_flat, among_front, among_later}
 use Rattle.implib_link.specs.Flavors.Expansion.{Code, Constant, Data, import_object, expansion, is_import_for, expanded_as, expanded_in, use_of}
@@ -45,8 +44,12 @@ use Rattle.implib_link.proofs.Flavors.Block.{FitsIn, asking, objects_of, symbols
 use Rattle.implib_link.proofs.Flavors.Blocks.{AllSuit, CanLink, FlavorBlock, all_objects}
 use Rattle.implib_link.proofs.Flavors.Expanded.{AskFits, taken_descriptor, taken_null, taken_null_thunk}
 use Rattle.implib_link.proofs.Gnu.Texts.{all_chosen}
-use Rattle.implib.specs.LibraryName.{NamesOfDll, linked_dll, names_for}
+use Rattle.implib.specs.LibraryName.{NamesOfDll, linked_dll, names_for, linked_name}
 use Rattle.implib.proofs.Link.Linked.{all_append}
+use Rattle.implib_link.proofs.Search.ArchiveMembers.{head_object_is, tail_object_is, export_object_is}
+use Rattle.implib_link.proofs.Search.Search.{numbered_in}
+use Rattle.implib_link.specs.Search.Archives.{Library}
+use Rattle.implib_link.proofs.Search.Lists.{all_from}
 
 -- Short imports.
 
@@ -124,14 +127,6 @@ export_fits machine e good =
     ask_fits e.no_name e.ordinal _ (ltb-true e.ordinal 0x1_0000 good.ordinal)
     (asked_free (name_type_of machine e) (short_import_symbol e) (symbol_without_nul e.symbol_name e.name good.symbol_name good.name))
 
-all_map : {X : Type 0} (P Q : X → Type 0) → ((x : X) → P x → Q x) → (xs : List X) → AllByRecursion P xs → AllByRecursion Q xs
-all_map P Q each [] all = tt
-all_map P Q each (x ∷ xs) all = (each x all.0, all_map P Q each xs all.1)
-
-all_self : {X : Type 0} (xs : List X) → AllByRecursion (λ x. Among x xs) xs
-all_self [] = tt
-all_self {X} (x ∷ xs) = (among_first x xs, all_map (λ y. Among y xs) (λ y. Among y (x ∷ xs)) (λ y m. among_later y x xs m) xs (all_self xs))
-
 -- a file that reads as another is taken as that
 taken_by : (machine : MachineType) (bytes : List ℕ) (file : File) → file_in bytes ≡ Some file → expanded_in machine bytes ≡ expanded_as machine file
 unfolding expanded_in
@@ -195,7 +190,7 @@ module _ (d : DefinitionView) (machine : MachineType) (members : List MemberView
 
   -- what holds of each export that is not private holds of the chosen ones
   chosen_all : (P : ExportView → Type 0) → ((e : ExportView) → Among e (public_exports (renamed d)) → P e) → AllByRecursion P (chosen_exports d chosen)
-  chosen_all P each = all_chosen P (public_exports (renamed d)) chosen (all_map (λ e. Among e (public_exports (renamed d))) P each (public_exports (renamed d)) (all_self (public_exports (renamed d))))
+  chosen_all P each = all_chosen P (public_exports (renamed d)) chosen (all_from P (public_exports (renamed d)) each)
 
   shorts_taken : AllByRecursion (λ e. expanded_in machine (member_of (short_import_spec machine (names_for Msvc d) e)).bytes ≡ Some (asking machine (names_for Msvc d) e)) (chosen_exports d chosen)
   shorts_taken = chosen_all (λ e. expanded_in machine (member_of (short_import_spec machine (names_for Msvc d) e)).bytes ≡ Some (asking machine (names_for Msvc d) e)) short_taken
@@ -259,101 +254,88 @@ no_short bytes None None o is = cc
 no_short bytes None (Some p) o is = cc
 
 -- the object of a file is taken with its section symbols
-pub object_taken : (machine : MachineType) (bytes : List ℕ) (o p : Object) → file_in bytes ≡ Some (ObjectFile o) → object_in bytes ≡ Some p → expanded_in machine bytes ≡ Some (with_section_symbols p)
+object_taken : (machine : MachineType) (bytes : List ℕ) (o p : Object) → file_in bytes ≡ Some (ObjectFile o) → object_in bytes ≡ Some p → expanded_in machine bytes ≡ Some (with_section_symbols p)
 object_taken machine bytes o p is read =
     let same : Some o ≡ Some p = sym (no_short bytes (short_import_in bytes) (object_in bytes) o is) ∙ read in
     let here : o ≡ p = cc in
     taken_by machine bytes (ObjectFile o) is ∙ ap (λ x. Some (with_section_symbols x)) here
 
-pub head_plain : (machine : MachineType) (dll : NamesOfDll) → with_section_symbols (head machine dll) ≡ head machine dll
+head_plain : (machine : MachineType) (dll : NamesOfDll) → with_section_symbols (head machine dll) ≡ head machine dll
 unfolding with_section_symbols head_object
 head_plain machine dll = refl
 
-pub tail_plain : (machine : MachineType) (dll : NamesOfDll) → with_section_symbols (tail machine dll) ≡ tail machine dll
+tail_plain : (machine : MachineType) (dll : NamesOfDll) → with_section_symbols (tail machine dll) ≡ tail machine dll
 unfolding with_section_symbols tail_object
 tail_plain machine dll = refl
 
-pub export_plain : (machine : MachineType) (dll : NamesOfDll) (e : ExportView) → with_section_symbols (export machine dll e) ≡ export machine dll e
+export_plain : (machine : MachineType) (dll : NamesOfDll) (e : ExportView) → with_section_symbols (export machine dll e) ≡ export machine dll e
 unfolding with_section_symbols export_object
 export_plain machine dll e = elim (cases_Bool e.is_data) [ inl is ↦ rw is refl | inr is ↦ rw is refl ]
 
-exports_plain : (machine : MachineType) (dll : NamesOfDll) (es : List ExportView) →
-    map with_section_symbols (map (export machine dll) es ++ tail machine dll ∷ []) ≡ map (export machine dll) es ++ tail machine dll ∷ []
-exports_plain machine dll [] = ap (λ o. o ∷ []) (tail_plain machine dll)
-exports_plain machine dll (x ∷ xs) =
-    ap (λ o. o ∷ map with_section_symbols (map (export machine dll) xs ++ tail machine dll ∷ [])) (export_plain machine dll x)
-    ∙ ap (λ os. export machine dll x ∷ os) (exports_plain machine dll xs)
+module _ (d : DefinitionView) (machine : MachineType) (members : List MemberView) (made : AreMembersOf d machine Gnu members) where
+  abbrev library : Library
+  library = record { definition = d; members = members }
 
-objects_plain : (machine : MachineType) (dll : NamesOfDll) (es : List ExportView) → map with_section_symbols (linked_objects machine dll es) ≡ linked_objects machine dll es
-objects_plain machine dll es =
-    ap (λ o. o ∷ map with_section_symbols (map (export machine dll) es ++ tail machine dll ∷ [])) (head_plain machine dll)
-    ∙ ap (λ os. head machine dll ∷ os) (exports_plain machine dll es)
+  pub spec_taken : (p : MemberSpec) (q o : Object) → file_of p.contents ≡ ObjectFile q → Among p (gnu_specs machine (names_for Gnu d) (public_exports (renamed d))) → object_in (file_bytes p.contents) ≡ Some o →
+      expanded_in machine (file_bytes p.contents) ≡ Some (with_section_symbols o)
+  spec_taken p q o same held is =
+      object_taken machine (file_bytes p.contents) q o
+      ((all_among (λ (s : MemberSpec). ReadsBack s.contents) p (gnu_specs machine (names_for Gnu d) (public_exports (renamed d))) held (member_specs_read d machine members made)).read ∙ ap Some same) is
 
-IsObject : Contents → Type 0
-IsObject (AShortImport r) = ⊥
-IsObject (AnObject p) = Unit {0}
+  -- a specification of an export's members is one of the library's
+  pub spec_held : (n : ℕ) (e : ExportView) (p : MemberSpec) → slice_get (public_exports (renamed d)) n ≡ Some e → Among p (numbered_specs_of machine (linked_name d) n e) →
+      Among p (gnu_specs machine (names_for Gnu d) (public_exports (renamed d)))
+  spec_held n e p is own =
+      let position : 0 + n ≡ n = omega arith in
+      among_later _ _ _ (among_later _ _ _ (among_reverse p (numbered_specs machine (linked_name d) 0 (public_exports (renamed d)))
+      (numbered_in machine (linked_name d) (public_exports (renamed d)) 0 n e p is (subst (λ k. Among p (numbered_specs_of machine (linked_name d) k e)) (sym position) own))))
 
-one_taken : (machine : MachineType) (contents : Contents) (o : Object) → IsObject contents → file_in (file_bytes contents) ≡ Some (file_of contents) →
-    object_in (file_bytes contents) ≡ Some o → expanded_in machine (file_bytes contents) ≡ Some (with_section_symbols o)
-unfolding IsObject
-one_taken machine (AShortImport r) o is read object = absurd is
-one_taken machine (AnObject p) o is read object = object_taken machine (encoded p) (object_of p) o read object
+  pub head_taken : expanded_in machine (member_of (head_spec machine (linked_name d))).bytes ≡ Some (head machine (names_for Gnu d))
+  unfolding head_spec
+  head_taken = spec_taken (head_spec machine (linked_name d)) _ _ refl (among_later _ _ _ (among_first _ _)) (head_object_is machine library made) ∙ ap Some (head_plain machine (names_for Gnu d))
 
-each_taken : (machine : MachineType) (ps : List MemberSpec) (os : List Object) → AllByRecursion (λ p. IsObject p.contents) ps → AllByRecursion (λ p. ReadsBack p.contents) ps →
-    map (λ (p : MemberSpec). object_in (member_of p).bytes) ps ≡ map Some os → map (λ (p : MemberSpec). expanded_in machine (member_of p).bytes) ps ≡ map Some (map with_section_symbols os)
-each_taken machine [] [] are reads is = refl
-each_taken machine [] (o ∷ os) are reads is = cc
-each_taken machine (p ∷ ps) [] are reads is = cc
-each_taken machine (p ∷ ps) (o ∷ os) are reads is =
-    let first : object_in (member_of p).bytes ≡ Some o = cc in
-    let rest : map (λ (p : MemberSpec). object_in (member_of p).bytes) ps ≡ map Some os = cc in
-    ap (λ x. x ∷ map (λ (p : MemberSpec). expanded_in machine (member_of p).bytes) ps) (one_taken machine p.contents o are.0 reads.0.read first)
-    ∙ ap (λ xs. Some (with_section_symbols o) ∷ xs) (each_taken machine ps os are.1 reads.1 rest)
+  pub tail_taken : expanded_in machine (member_of (tail_spec machine (names_for Gnu d))).bytes ≡ Some (tail machine (names_for Gnu d))
+  unfolding tail_spec
+  tail_taken = spec_taken (tail_spec machine (names_for Gnu d)) _ _ refl (among_first _ _) (tail_object_is machine library made) ∙ ap Some (tail_plain machine (names_for Gnu d))
 
-module _ (machine : MachineType) (dll : NamesOfDll) (exports : List ExportView) where
-  one_more : (n : ℕ) (o : Option ExportView) (others : List MemberSpec) (last : MemberSpec) → AllByRecursion (λ p. IsObject p.contents) (others ++ last ∷ []) →
-      AllByRecursion (λ p. IsObject p.contents) (cons_option (option_map (export_spec machine dll.linked n) o) others ++ last ∷ [])
-  unfolding IsObject export_spec
-  one_more n None others last rest = rest
-  one_more n (Some e) others last rest = (tt, rest)
+  pub export_taken : (n : ℕ) (e : ExportView) → slice_get (public_exports (renamed d)) n ≡ Some e → expanded_in machine (member_of (export_spec machine (linked_name d) n e)).bytes ≡ Some (export machine (names_for Gnu d) e)
+  unfolding export_spec
+  export_taken n e is =
+      let p : MemberSpec = export_spec machine (linked_name d) n e in
+      spec_taken p _ _ refl (spec_held n e p is (among_back p (alias_specs machine (linked_name d) n e) (p ∷ []) (among_first _ _))) (export_object_is machine library made n e is)
+      ∙ ap Some (export_plain machine (names_for Gnu d) e)
 
-  are_objects : (ns : List ℕ) → AllByRecursion (λ p. IsObject p.contents) (filter_map (numbered_spec machine dll.linked exports) ns ++ tail_spec machine dll ∷ [])
-  unfolding IsObject tail_spec
-  are_objects [] = (tt, tt)
-  are_objects (n ∷ ns) = one_more n (slice_get exports n) (filter_map (numbered_spec machine dll.linked exports) ns) (tail_spec machine dll) (are_objects ns)
+  abbrev reading : MemberSpec → Option Object
+  reading p = expanded_in machine (member_of p).bytes
 
-module _ (d : DefinitionView) (machine : MachineType) (members : List MemberView) (chosen : List ℕ) (made : AreMembersOf d machine Gnu members) where
-  abbrev linked : List MemberSpec
-  linked = linked_specs d machine chosen
+  abbrev last : MemberSpec
+  last = tail_spec machine (names_for Gnu d)
 
-  all_objects_are : AllByRecursion (λ p. IsObject p.contents) (linked_specs d machine chosen)
-  unfolding IsObject head_spec
-  all_objects_are = (tt, are_objects machine (names_for Gnu d) (public_exports (renamed d)) chosen)
+  one_more : (n : ℕ) (o : Option ExportView) (specs : List MemberSpec) (es : List ExportView) → slice_get (public_exports (renamed d)) n ≡ o →
+      map reading (specs ++ last ∷ []) ≡ map Some (map (export machine (names_for Gnu d)) es ++ tail machine (names_for Gnu d) ∷ []) →
+      map reading (cons_option (option_map (export_spec machine (linked_name d) n) o) specs ++ last ∷ []) ≡ map Some (map (export machine (names_for Gnu d)) (cons_option o es) ++ tail machine (names_for Gnu d) ∷ [])
+  one_more n None specs es is later = later
+  one_more n (Some e) specs es is later = ap (λ o. o ∷ map reading (specs ++ last ∷ [])) (export_taken n e is) ∙ ap (λ os. Some (export machine (names_for Gnu d) e) ∷ os) later
 
-  all_read_back : AllByRecursion (λ p. ReadsBack p.contents) (linked_specs d machine chosen)
-  all_read_back =
-      let exports : List ExportView = public_exports (renamed d) in
-      let free = linked_is_free d machine Gnu members made in
-      let good = exports_sound d machine Gnu members made in
-      let short = none_long d machine Gnu members made in
-      let reads = member_specs_read d machine members made in
-      all_map (λ p. Among p (gnu_specs machine (names_for Gnu d) exports)) (λ p. ReadsBack p.contents)
-      (λ p m. all_among (λ (q : MemberSpec). ReadsBack q.contents) p (gnu_specs machine (names_for Gnu d) exports) m reads) linked
-      (head_among machine (names_for Gnu d) exports free good short, chosen_among machine (names_for Gnu d) exports free good short chosen)
+  behind_taken : (chosen : List ℕ) → map reading (filter_map (numbered_spec machine (linked_name d) (public_exports (renamed d))) chosen ++ last ∷ [])
+      ≡ map Some (map (export machine (names_for Gnu d)) (chosen_exports d chosen) ++ tail machine (names_for Gnu d) ∷ [])
+  behind_taken [] = ap (λ o. o ∷ []) tail_taken
+  behind_taken (n ∷ chosen) =
+      one_more n (slice_get (public_exports (renamed d)) n) (filter_map (numbered_spec machine (linked_name d) (public_exports (renamed d))) chosen) (chosen_exports d chosen) refl (behind_taken chosen)
 
-  pub gnu_read : map (λ (m : MemberView). expanded_in machine m.bytes) (map member_of (specs_in Gnu d machine chosen)) ≡ map Some (objects_of machine Gnu (names_for Gnu d) (chosen_exports d chosen) [])
-  gnu_read =
-      map_after (λ (m : MemberView). expanded_in machine m.bytes) member_of linked
-      ∙ each_taken machine linked (linked_objects machine (names_for Gnu d) (chosen_exports d chosen)) all_objects_are all_read_back
-      (sym (map_after (λ (m : MemberView). object_in m.bytes) member_of linked) ∙ read_as d machine members chosen made)
-      ∙ ap (map Some) (objects_plain machine (names_for Gnu d) (chosen_exports d chosen))
+  pub gnu_read : (chosen : List ℕ) →
+      map (λ (m : MemberView). expanded_in machine m.bytes) (map member_of (specs_in Gnu d machine chosen)) ≡ map Some (objects_of machine Gnu (names_for Gnu d) (chosen_exports d chosen) [])
+  gnu_read chosen =
+      map_after (λ (m : MemberView). expanded_in machine m.bytes) member_of (specs_in Gnu d machine chosen)
+      ∙ ap (λ o. o ∷ map reading (filter_map (numbered_spec machine (linked_name d) (public_exports (renamed d))) chosen ++ last ∷ [])) head_taken
+      ∙ ap (λ os. Some (head machine (names_for Gnu d)) ∷ os) (behind_taken chosen)
 
 -- In either flavour.
 
 objects_read : (d : DefinitionView) (machine : MachineType) (flavor : Flavor) (members : List MemberView) (chosen : List ℕ) → AreMembersOf d machine flavor members →
     map (λ (m : MemberView). expanded_in machine m.bytes) (map member_of (specs_in flavor d machine chosen)) ≡ map Some (objects_of machine flavor (names_for flavor d) (chosen_exports d chosen) [])
 objects_read d machine Msvc members chosen made = msvc_read d machine members chosen made
-objects_read d machine Gnu members chosen made = gnu_read d machine members chosen made
+objects_read d machine Gnu members chosen made = gnu_read d machine members made chosen
 
 from_members : (d : DefinitionView) (machine : MachineType) (flavor : Flavor) (members : List MemberView) (chosen : List ℕ) → AreMembersOf d machine flavor members →
     AllByRecursion (Contains members) (map member_of (specs_in flavor d machine chosen))

@@ -15,7 +15,7 @@ use Rattle.implib.specs.Members.ImportTables.{thunk_width}
 use Rattle.implib.proofs.Link.Definitions.{only_definition}
 use Rattle.implib.proofs.Link.Descriptors.{LoadsFrom}
 use Rattle.implib.proofs.Link.LinkedMembers.{among_contains, among_map, all_at}
-use Rattle.implib.proofs.Link.Ranges.{Among, all_among, among_back, among_first, among_front, among_later}
+use Rattle.implib.proofs.Link.Ranges.{Among, all_among, among_back, among_front}
 use Rattle.implib_link.specs.Directory.{Imported}
 use Rattle.implib_link.specs.Flavors.LldImports.{IsImportedBy, IsLldProgram, LldLinks, dll_of_group, entries_of_groups, group_entries, grouped, imp_symbols_of, imported_by, imports_of_lld, in_small, placed_by_lld}
 use Rattle.implib_link.specs.Flavors.LldTables.{IsAskable, IsImportable, thunks_until}
@@ -25,18 +25,14 @@ use Rattle.implib_link.proofs.Gnu.Blocks.{table_sum}
 use Rattle.implib_link.proofs.Gnu.OtherLibraries.{definitions_parts}
 use Rattle.implib_link.proofs.Gnu.Program.{gets_address}
 use Rattle.implib_link.proofs.Search.Counts.{distinct_from, few_from}
-use Rattle.implib_link.proofs.Search.Lists.{contains_among}
+use Rattle.implib_link.proofs.Search.Lists.{contains_among, all_from}
 use Rattle.implib_link.proofs.Gnu.Blocks.{plus_sum as next_row}
 use Rattle.implib_link.proofs.Gnu.Loaded.{times_none as nothing_before, times_next as next_entry, plus_none}
+use Rattle.std.proofs.lemmas.Option.{slice_get-map}
+use Rattle.std.specs.Option.{option_map}
 
 pub get_map : {X Y : Type 0} (f : X → Y) (xs : List X) (i : ℕ) (x : X) → slice_get xs i ≡ Some x → slice_get (map f xs) i ≡ Some (f x)
-get_map f [] i x is = cc
-get_map f (y ∷ xs) zero x is = (let same : y ≡ x = cc in ap (λ z. Some (f z)) same)
-get_map f (y ∷ xs) (suc i) x is = get_map f xs i x is
-
-all_held : {X : Type 0} (xs ys : List X) → ((x : X) → Among x xs → Contains ys x) → AllByRecursion (Contains ys) xs
-all_held [] ys each = tt
-all_held (x ∷ xs) ys each = (each x (among_first x xs), all_held xs ys (λ y m. each y (among_later y x xs m)))
+get_map f xs i x is = slice_get-map f xs i ∙ ap (option_map f) is
 
 -- What can be written.
 
@@ -181,7 +177,7 @@ module _ (machine : MachineType) (descriptors addresses : ℕ) (taken : List Sho
       (groups_written (grouped taken) (grouped_all IsWritable taken program.writable)) program.pieces
 
   held : AllByRecursion (AllByRecursion (Contains taken)) (grouped taken)
-  held = grouped_all (Contains taken) taken (all_held taken taken (λ r m. among_contains r taken m))
+  held = grouped_all (Contains taken) taken (all_from (Contains taken) taken (λ r m. among_contains r taken m))
 
   pub only : AllByRecursion (λ group. AllByRecursion (λ r. Contains taken r × (r.dll ≡ dll_of_group group)) group) (grouped taken)
   only = all_of_one taken program.agree (grouped taken) held (grouped_one taken)

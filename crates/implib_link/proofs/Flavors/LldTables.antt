@@ -8,16 +8,17 @@ use Rattle.implib.specs.declared.machine.MachineType.TheVariants.{I386, ARMNT, A
 use Rattle.implib.specs.Formats.Bytes.{u16_bytes, u32_bytes}
 use Rattle.implib.specs.Import.{Ask, Name, Ordinal}
 use Rattle.implib.specs.Link.Image.{AllApart, Range, range_end}
-use Rattle.implib.specs.Link.Load.{BytesAt, TableAt, WholeTableAt}
+use Rattle.implib.specs.Link.Load.{BytesAt}
 use Rattle.implib.specs.Members.ImportTables.{thunk_width, zeros}
 use Rattle.implib.proofs.Link.Descriptors.{LoadsFrom, descriptor_loads}
 use Rattle.implib.proofs.Link.Placement.{at_least, length-thunk_of}
-use Rattle.implib.proofs.Link.Ranges.{address_bounds, located_parts, range_located}
-use Rattle.implib.proofs.Link.Thunks.{StrictTableAt, StrictThunkAt, length-address, length-u16, name_located, ordinal_located, zeros_number}
+use Rattle.implib.proofs.Link.Ranges.{located_parts, range_located}
+use Rattle.implib.proofs.Link.Thunks.{StrictTableAt, StrictThunkAt, length-address, length-u16, name_located, ordinal_located}
 use Rattle.implib_link.proofs.Search.Lists.{contains_among}
 use Rattle.implib_link.specs.Directory.{DirectoryAt, Imported}
 use Rattle.implib_link.specs.Flavors.LldTables.{ArePiecesAt, IsAskable, IsImportable, addresses_at, all_hints, all_names, built, built_bytes, descriptor_built, directory_built, directory_end, hint_and_text, hint_built, hints_at, hints_built, lookups_at, names_at, tables_built, thunk_built, thunks_built, thunks_until}
 use Rattle.implib_link.proofs.Gnu.Stubs.{wide_thunk as some_bytes}
+use Rattle.implib_link.proofs.Gnu.Beside.{zero_table, table_with, bounds_of}
 
 -- DLLs from a descriptor on, whose address tables follow one another, and the null descriptor
 unfoldable pub StandAt : List Range → ℕ → ℕ → ℕ → List Imported → Type 0
@@ -96,11 +97,6 @@ small_number : (n : ℕ) → n < 2 ^ 31 → n ≡ (0 + (n + 0)) % 2 ^ 32
 small_number n small = omega arith
 
 module _ (machine : MachineType) (image : List Range) (starts : AllByRecursion (λ r. 0 < r.start) image) (ends : AllByRecursion (λ r. range_end r < 2 ^ 31) image) where
-  bounds : (a : ℕ) (bytes : List ℕ) → 0 < length bytes → BytesAt image a bytes → (0 < a) × (a < 2 ^ 31)
-  unfolding BytesAt
-  bounds a [] some located = absurd (omega arith)
-  bounds a (byte ∷ bytes) some located = address_bounds image a byte starts ends located.0
-
   thunk_stands : (ask : Ask) (place a : ℕ) → IsAskable ask → BytesAt image a (thunk_built machine place ask) → BytesAt image place (hint_built ask) →
       StrictThunkAt image (thunk_width machine) a ask
   unfolding IsAskable thunk_built hint_built
@@ -108,17 +104,14 @@ module _ (machine : MachineType) (image : List Range) (starts : AllByRecursion (
   thunk_stands (Name text hint) place a askable located hint_located =
       let own = located_parts image (hint_and_text text hint) (zeros (length (hint_and_text text hint) % 2)) place hint_located in
       let long : 0 < length (hint_and_text text hint) = rw (length-append (u16_bytes hint) (text ++ 0 ∷ []), length-u16 hint) (omega arith) in
-      let small = bounds place (hint_and_text text hint) long own.0 in
+      let small = bounds_of image starts ends (hint_and_text text hint) place own.0 long in
       name_located machine image starts ends text hint place a askable.0 askable.1
       (subst (λ n. BytesAt image a (u32_bytes n ++ zeros (thunk_width machine - 4))) (small_number place small.1) located) own.0
 
   table_stands : (asks : List Ask) (place a : ℕ) → AllByRecursion IsAskable asks → BytesAt image a (thunks_built machine place asks) → BytesAt image place (hints_built asks) →
       StrictTableAt image (thunk_width machine) a asks
-  unfolding thunks_built hints_built TableAt WholeTableAt
-  table_stands [] place a askable located hints = record {
-    plain = record { bytes = zeros (thunk_width machine); located = located; count = length-replicate {A = ℕ} (thunk_width machine) 0; value = zeros_number machine };
-    whole = tt;
-  }
+  unfolding thunks_built hints_built
+  table_stands [] place a askable located hints = zero_table machine image a located
   table_stands (ask ∷ asks) place a askable located hints =
       let later : ℕ = place + length (hint_built ask) in
       let thunks = located_parts image (thunk_built machine place ask) (thunks_built machine later asks) a located in
@@ -126,7 +119,7 @@ module _ (machine : MachineType) (image : List Range) (starts : AllByRecursion (
       let first = thunk_stands ask place a askable.0 thunks.0 texts.0 in
       let rest = table_stands asks later (a + thunk_width machine) askable.1
       (subst (λ n. BytesAt image (a + n) (thunks_built machine later asks)) (length_thunk machine place ask) thunks.1) texts.1 in
-      record { plain = (first.plain, rest.plain); whole = (first.whole, rest.whole) }
+      table_with image (thunk_width machine) a ask asks first rest
 
   some_thunks : (place : ℕ) (asks : List Ask) → 0 < length (thunks_built machine place asks)
   some_thunks place asks =
@@ -142,9 +135,9 @@ module _ (machine : MachineType) (image : List Range) (starts : AllByRecursion (
   unfolding descriptor_built
   descriptor_stands i descriptor lookups name addresses place importable located lookup_table address_table hints text =
       let long : 0 < length (i.dll ++ 0 ∷ []) = rw (length-append i.dll (0 ∷ [])) (omega arith) in
-      let lookups_small = bounds lookups (thunks_built machine place i.asks) (some_thunks place i.asks) lookup_table in
-      let addresses_small = bounds addresses (thunks_built machine place i.asks) (some_thunks place i.asks) address_table in
-      let name_small = bounds name (i.dll ++ 0 ∷ []) long text in
+      let lookups_small = bounds_of image starts ends (thunks_built machine place i.asks) lookups lookup_table (some_thunks place i.asks) in
+      let addresses_small = bounds_of image starts ends (thunks_built machine place i.asks) addresses address_table (some_thunks place i.asks) in
+      let name_small = bounds_of image starts ends (i.dll ++ 0 ∷ []) name text long in
       descriptor_loads machine image starts ends descriptor lookups addresses name i.dll i.asks
       (subst (λ n. BytesAt image descriptor (u32_bytes n ++ (zeros 4 ++ (zeros 4 ++ (u32_bytes ((0 + (name + 0)) % 2 ^ 32) ++ u32_bytes ((0 + (addresses + 0)) % 2 ^ 32))))))
       (small_number lookups lookups_small.1)

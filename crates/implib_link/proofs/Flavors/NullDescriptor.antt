@@ -36,26 +36,25 @@ EndsNothing o = AllByRecursion (λ s. is_end (group_named s.name) ≡ false) o.s
 abbrev with_end : ℕ → Bases → Bases
 with_end n b = record b { directory_ends = n }
 
+-- what is so of no group, and of each other one
+other_group : (P : Option Group → Type 0) → P None → P (Some Descriptors) → P (Some Lookups) → P (Some Addresses) → P (Some HintNames) → P (Some DllNames) → (g : Option Group) → is_end g ≡ false → P g
+other_group P a b c d e f None none = a
+other_group P a b c d e f (Some Descriptors) none = b
+other_group P a b c d e f (Some DirectoryEnds) none = cc
+other_group P a b c d e f (Some Lookups) none = c
+other_group P a b c d e f (Some Addresses) none = d
+other_group P a b c d e f (Some HintNames) none = e
+other_group P a b c d e f (Some DllNames) none = f
+
 -- Places do not depend on where `.idata$3` has come to.
 
 place_same : (n : ℕ) (b : Bases) (flags : ℕ) (g : Option Group) → is_end g ≡ false → address_after (with_end n b) flags g ≡ address_after b flags g
-place_same n b flags None none = refl
-place_same n b flags (Some Descriptors) none = refl
-place_same n b flags (Some DirectoryEnds) none = cc
-place_same n b flags (Some Lookups) none = refl
-place_same n b flags (Some Addresses) none = refl
-place_same n b flags (Some HintNames) none = refl
-place_same n b flags (Some DllNames) none = refl
+place_same n b flags = other_group (λ g. address_after (with_end n b) flags g ≡ address_after b flags g) refl refl refl refl refl refl
 
 end_same : (n : ℕ) (b : Bases) (flags size : ℕ) (g : Option Group) → is_end g ≡ false →
     end_after (with_end n b) (address_after (with_end n b) flags g) size ≡ with_end n (end_after b (address_after b flags g) size)
-end_same n b flags size None none = refl
-end_same n b flags size (Some Descriptors) none = refl
-end_same n b flags size (Some DirectoryEnds) none = cc
-end_same n b flags size (Some Lookups) none = refl
-end_same n b flags size (Some Addresses) none = refl
-end_same n b flags size (Some HintNames) none = refl
-end_same n b flags size (Some DllNames) none = refl
+end_same n b flags size =
+    other_group (λ g. end_after (with_end n b) (address_after (with_end n b) flags g) size ≡ with_end n (end_after b (address_after b flags g) size)) refl refl refl refl refl refl
 
 places_same : (n : ℕ) (b : Bases) (sections : List ObjectSection) → AllByRecursion (λ s. is_end (group_named s.name) ≡ false) sections →
     section_addresses_of (with_end n b) sections ≡ section_addresses_of b sections
@@ -82,13 +81,7 @@ placed_same n b (o ∷ objects) none =
 -- Where `.idata$3` has come to does not change.
 
 end_kept : (b : Bases) (flags size : ℕ) (g : Option Group) → is_end g ≡ false → (end_after b (address_after b flags g) size).directory_ends ≡ b.directory_ends
-end_kept b flags size None none = refl
-end_kept b flags size (Some Descriptors) none = refl
-end_kept b flags size (Some DirectoryEnds) none = cc
-end_kept b flags size (Some Lookups) none = refl
-end_kept b flags size (Some Addresses) none = refl
-end_kept b flags size (Some HintNames) none = refl
-end_kept b flags size (Some DllNames) none = refl
+end_kept b flags size = other_group (λ g. (end_after b (address_after b flags g) size).directory_ends ≡ b.directory_ends) refl refl refl refl refl refl
 
 ends_kept : (b : Bases) (sections : List ObjectSection) → AllByRecursion (λ s. is_end (group_named s.name) ≡ false) sections → (ends_after b sections).directory_ends ≡ b.directory_ends
 ends_kept b [] none = refl
@@ -102,13 +95,7 @@ ends_behind_kept b (o ∷ objects) none = ends_behind_kept (ends_after b o.secti
 
 -- nothing of `.idata$3` is in such objects
 contribution_none : (b : Bases) (flags : ℕ) (bytes : List ℕ) (g : Option Group) → is_end g ≡ false → contribution_at DirectoryEnds (address_after b flags g) bytes ≡ []
-contribution_none b flags bytes None none = refl
-contribution_none b flags bytes (Some Descriptors) none = refl
-contribution_none b flags bytes (Some DirectoryEnds) none = cc
-contribution_none b flags bytes (Some Lookups) none = refl
-contribution_none b flags bytes (Some Addresses) none = refl
-contribution_none b flags bytes (Some HintNames) none = refl
-contribution_none b flags bytes (Some DllNames) none = refl
+contribution_none b flags bytes = other_group (λ g. contribution_at DirectoryEnds (address_after b flags g) bytes ≡ []) refl refl refl refl refl refl
 
 sections_none : (machine : MachineType) (linked : List Placed) (p : Placed) (b : Bases) (sections : List ObjectSection) →
     AllByRecursion (λ s. is_end (group_named s.name) ≡ false) sections → contributions_in machine linked p DirectoryEnds (section_addresses_of b sections) sections ≡ []

@@ -2,7 +2,6 @@
 use Rattle.std.proofs.Common.{◌≡◌, ℕ, ◌+◌, ◌*◌, true, List, [], ◌∷◌, map, Some, refl, ap, sym, ◌∙◌, subst}
 use Rattle.std.specs.Prelude.{not, option_map}
 use Rattle.std.specs.List.{AllByRecursion, filter, list_all}
-use Rattle.std.proofs.lemmas.Bool.{and_parts}
 use Rattle.std.proofs.lemmas.Option.{slice_get-map}
 use Rattle.implib.specs.declared.flavor.Flavor.{Flavor}
 use Rattle.implib.specs.declared.flavor.Flavor.TheVariants.{Gnu, Msvc}
@@ -31,6 +30,7 @@ use Rattle.implib_link.specs.Gnu.Texts.{Stated, ask_stated, chosen_stated, state
 use Rattle.implib_link.proofs.Flavors.Program.{program_links}
 use Rattle.implib_link.proofs.Gnu.Texts.{all_chosen, all_filter, chosen_renamed, stated_ask, statements_are}
 use Rattle.implib.specs.LibraryName.{NamesOfDll, names_for}
+use Rattle.implib_link.proofs.Search.Lists.{all_from, each_of}
 
 -- each asks for the word of its statement, in each flavour
 AsksInFlavor : Flavor → MachineType → Stated → Type 0
@@ -68,10 +68,7 @@ empty_is [] is = refl
 empty_is (b ∷ text) is = cc
 
 all_empty : (exports : List ExportView) → list_all (λ e. is_empty_text e.symbol_name) exports ≡ true → AllByRecursion (λ e. e.symbol_name ≡ []) exports
-all_empty [] all = tt
-all_empty (e ∷ exports) all =
-    let parts = and_parts (is_empty_text e.symbol_name) (list_all (λ e. is_empty_text e.symbol_name) exports) all in
-    (empty_is e.symbol_name parts.0, all_empty exports parts.1)
+all_empty exports all = all_from (λ (e : ExportView). e.symbol_name ≡ []) exports (λ e held. empty_is e.symbol_name (each_of (λ (x : ExportView). is_empty_text x.symbol_name) e exports all held))
 
 plain_names : (exports : List ExportView) → AllByRecursion (λ e. e.symbol_name ≡ []) exports → map short_import_symbol exports ≡ map (λ e. e.name) exports
 plain_names [] all = refl

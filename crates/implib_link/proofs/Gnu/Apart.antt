@@ -1,7 +1,7 @@
 -- The import tables without the address tables: no byte of them is in these.
 use Rattle.std.proofs.Common.{◌≡◌, ℕ, ◌+◌, ◌<◌, ◌≤◌, ◌^◌, true, false, List, [], ◌∷◌, ◌++◌, length, Some, refl, ap, sym, ◌∙◌, subst, inl, inr, ◌⊎◌, arith}
 use Rattle.std.specs.List.{AllByRecursion, list_any}
-use Rattle.std.proofs.lemmas.Bool.{cases_Bool, false_from_ne_true}
+use Rattle.std.proofs.lemmas.Bool.{false_from_ne_true}
 use Rattle.std.proofs.lemmas.List.{append_assoc}
 use Rattle.implib.specs.declared.machine.MachineType.{MachineType}
 use Rattle.implib.specs.Formats.Object.{Object}
@@ -15,7 +15,7 @@ use Rattle.implib_link.proofs.Gnu.Keeps.{Keeps}
 use Rattle.implib_link.proofs.Gnu.Loaded.{kept_outside}
 use Rattle.implib_link.proofs.Gnu.Memory.{holder, not_in_both}
 use Rattle.implib_link.proofs.Gnu.Moved.{apart_back as back_apart}
-use Rattle.implib_link.proofs.Search.Lists.{all_parts, among_either}
+use Rattle.implib_link.proofs.Search.Lists.{all_parts, among_either, any_of}
 use Rattle.implib.proofs.Link.Linked.{all_append}
 
 -- Ranges between others.
@@ -26,13 +26,7 @@ not_between xs ys zs r s a apart (inl m) n first second = not_in_both xs (ys ++ 
 not_between xs ys zs r s a apart (inr m) n first second = not_in_both ys zs s r a (back_apart xs (ys ++ zs) apart) n m second first
 
 any_among : (a : ℕ) (rs : List Range) → list_any (is_in a) rs ≡ true → (r : Range) × (Among r rs × (is_in a r ≡ true))
-unfolding Among
-any_among a [] any = cc
-any_among a (r ∷ rs) any =
-    elim (cases_Bool (is_in a r)) [
-      | inl within ↦ (r, (inl refl, within))
-      | inr outside ↦ let later = any_among a rs (rw outside at any) in (later.0, (inr later.1.0, later.1.1))
-    ]
+any_among a rs any = let by = any_of (is_in a) rs any in (by.0, (by.1, by.2))
 
 -- where a range before or after these ones is, none of these is
 none_between : (xs ys zs : List Range) (r : Range) (a : ℕ) → AllApart (xs ++ (ys ++ zs)) → Among r xs ⊎ Among r zs → is_in a r ≡ true → list_any (is_in a) ys ≡ false

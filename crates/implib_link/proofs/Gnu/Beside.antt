@@ -1,7 +1,7 @@
 -- The import tables of members for GNU's linker without the address tables: what a loader reads that writes there.
 use Rattle.std.proofs.Common.{◌≡◌, ℕ, ◌+◌, ◌%◌, ◌<◌, ◌^◌, List, [], ◌∷◌, ◌++◌, length, map, Some, refl, ap, sym, ◌∙◌, subst, arith}
 use Rattle.std.specs.List.{AllByRecursion}
-use Rattle.std.proofs.lemmas.List.{length-append}
+use Rattle.std.proofs.lemmas.List.{length-append, length-replicate}
 use Rattle.implib.specs.declared.machine.MachineType.{MachineType}
 use Rattle.implib.specs.Definition.{ExportView}
 use Rattle.implib.specs.Formats.Bytes.{u32_bytes}
@@ -9,7 +9,7 @@ use Rattle.implib.specs.Formats.Layout.{HasNoNul}
 use Rattle.implib.specs.Formats.Object.{Object, u32_at}
 use Rattle.implib.specs.Import.{Ask, expected_ask}
 use Rattle.implib.specs.Link.Image.{Contribution, Range, contributions, filled, range_end, relocated, with_address}
-use Rattle.implib.specs.Link.Load.{BytesAt, NumberAt, TableAt, number_in}
+use Rattle.implib.specs.Link.Load.{BytesAt, NumberAt, TableAt, number_in, WholeTableAt}
 use Rattle.implib.specs.Link.Placement.{Bases, Descriptors, DllNames, HintNames, Lookups, Placed, next_multiple, placed_from}
 use Rattle.implib.specs.Link.Resolution.{SymbolDefinition, definitions_of, first_address}
 use Rattle.implib.specs.Members.Gnu.{export_object, head_object, iname_symbol, tail_object}
@@ -19,7 +19,7 @@ use Rattle.implib.proofs.Link.Linked.{block_definitions, contribution_located, e
 use Rattle.implib.proofs.Link.Placement.{AreAligned, after_head, aligned_after, aligned_head, at_least, code_definition, defined_after, descriptors_end, ends_of_all, ends_of_export, ends_of_exports, ends_of_head, ends_of_tail, head, placed-export, placed-head, placed-tail, placed_export, placed_head}
 use Rattle.implib.proofs.Link.Ranges.{Among, address_bounds, among_back, among_first, among_later, located_parts}
 use Rattle.implib.proofs.Link.Tables.{CanBeAsked, descriptors_filled, filled_first, hint_bytes, hint_names_end, hint_names_filled, lookups_end, lookups_filled, table_at, thunk_bytes}
-use Rattle.implib.proofs.Link.Thunks.{same_number}
+use Rattle.implib.proofs.Link.Thunks.{same_number, StrictTableAt, StrictThunkAt, zeros_number}
 use Rattle.implib_link.proofs.Gnu.Filling.{DescriptorBeside}
 use Rattle.implib_link.proofs.Gnu.Memory.{byte_first}
 use Rattle.implib_link.proofs.Gnu.Stubs.{wide_thunk}
@@ -27,11 +27,17 @@ use Rattle.implib.specs.LibraryName.{NamesOfDll}
 
 -- What is known of ranges, whatever the flavour.
 
--- the three fields of a descriptor that a loader reads
-pub record FieldsBeside (beside : List Range) (descriptor lookups name table : ℕ) : Type 0 where
-  pub lookups_field : NumberAt beside 4 descriptor lookups
-  pub name_field : NumberAt beside 4 (descriptor + 12) name
-  pub addresses_field : NumberAt beside 4 (descriptor + 16) table
+-- tables of thunks, that of zeros at their end, and others before it
+pub zero_table : (machine : MachineType) (image : List Range) (a : ℕ) → BytesAt image a (zeros (thunk_width machine)) → StrictTableAt image (thunk_width machine) a []
+unfolding TableAt WholeTableAt
+zero_table machine image a located = record {
+  plain = record { bytes = zeros (thunk_width machine); located = located; count = length-replicate {A = ℕ} (thunk_width machine) 0; value = zeros_number machine };
+  whole = tt;
+}
+
+pub table_with : (image : List Range) (width a : ℕ) (ask : Ask) (asks : List Ask) → StrictThunkAt image width a ask → StrictTableAt image width (a + width) asks → StrictTableAt image width a (ask ∷ asks)
+unfolding TableAt WholeTableAt
+table_with image width a ask asks one others = record { plain = (one.plain, others.plain); whole = (one.whole, others.whole) }
 
 small_field : (n : ℕ) → n < 2 ^ 31 → number_in (u32_bytes ((0 + (n + 0)) % 2 ^ 32)) ≡ n
 unfolding u32_bytes
@@ -44,28 +50,6 @@ field_at beside a n small located = record {
   count = length-u32 ((0 + (n + 0)) % 2 ^ 32);
   value = small_field n small;
 }
-
-pub fields_beside : (beside : List Range) (descriptor lookups name table : ℕ) → lookups < 2 ^ 31 → name < 2 ^ 31 → table < 2 ^ 31 →
-    BytesAt beside descriptor (u32_bytes ((0 + (lookups + 0)) % 2 ^ 32)
-    ++ (zeros 4 ++ (zeros 4 ++ (u32_bytes ((0 + (name + 0)) % 2 ^ 32) ++ u32_bytes ((0 + (table + 0)) % 2 ^ 32))))) →
-    FieldsBeside beside descriptor lookups name table
-fields_beside beside descriptor lookups name table lookups_small name_small table_small whole =
-    let first : List ℕ = u32_bytes ((0 + (lookups + 0)) % 2 ^ 32) in
-    let second : List ℕ = u32_bytes ((0 + (name + 0)) % 2 ^ 32) in
-    let third : List ℕ = u32_bytes ((0 + (table + 0)) % 2 ^ 32) in
-    let parts = located_parts beside first (zeros 4 ++ (zeros 4 ++ (second ++ third))) descriptor whole in
-    let time = located_parts beside (zeros 4) (zeros 4 ++ (second ++ third)) (descriptor + length first) parts.1 in
-    let forwarder = located_parts beside (zeros 4) (second ++ third) (descriptor + length first + 4) time.1 in
-    let last = located_parts beside second third (descriptor + length first + 4 + 4) forwarder.1 in
-    let first_long : length first ≡ 4 = length-u32 ((0 + (lookups + 0)) % 2 ^ 32) in
-    let second_long : length second ≡ 4 = length-u32 ((0 + (name + 0)) % 2 ^ 32) in
-    let at_name : descriptor + length first + 4 + 4 ≡ descriptor + 12 = rw first_long (omega arith) in
-    let at_table : descriptor + length first + 4 + 4 + length second ≡ descriptor + 16 = rw (first_long, second_long) (omega arith) in
-    record {
-      lookups_field = field_at beside descriptor lookups lookups_small parts.0;
-      name_field = field_at beside (descriptor + 12) name name_small (subst (λ n. BytesAt beside n second) at_name last.0);
-      addresses_field = field_at beside (descriptor + 16) table table_small (subst (λ n. BytesAt beside n third) at_table last.1);
-    }
 
 -- where bytes are is neither 0 nor far
 pub bounds_of : (ranges : List Range) → AllByRecursion (λ r. 0 < r.start) ranges → AllByRecursion (λ r. range_end r < 2 ^ 31) ranges → (bytes : List ℕ) (a : ℕ) →
@@ -81,6 +65,37 @@ table_bounds machine ranges starts ends [] a table =
     bounds_of ranges starts ends table.bytes a table.located (subst (λ n. 0 < n) (sym table.count) (wide_thunk machine))
 table_bounds machine ranges starts ends (ask ∷ asks) a table =
     bounds_of ranges starts ends table.0.located.bytes a table.0.located.located (subst (λ n. 0 < n) (sym table.0.located.count) (wide_thunk machine))
+
+-- a descriptor, and what it leads to
+pub descriptor_beside : (machine : MachineType) (beside : List Range) → AllByRecursion (λ r. 0 < r.start) beside → AllByRecursion (λ r. range_end r < 2 ^ 31) beside →
+    (descriptor lookups name table : ℕ) (text : List ℕ) (asks : List Ask) → HasNoNul text → 0 < table → table < 2 ^ 31 →
+    BytesAt beside descriptor (u32_bytes ((0 + (lookups + 0)) % 2 ^ 32)
+    ++ (zeros 4 ++ (zeros 4 ++ (u32_bytes ((0 + (name + 0)) % 2 ^ 32) ++ u32_bytes ((0 + (table + 0)) % 2 ^ 32))))) →
+    TableAt beside (thunk_width machine) lookups asks → BytesAt beside name (text ++ 0 ∷ []) → DescriptorBeside beside (thunk_width machine) descriptor table (record { dll = text; asks = asks })
+descriptor_beside machine beside starts ends descriptor lookups name table text asks no_nul above below whole lookup_table name_located =
+    let first : List ℕ = u32_bytes ((0 + (lookups + 0)) % 2 ^ 32) in
+    let second : List ℕ = u32_bytes ((0 + (name + 0)) % 2 ^ 32) in
+    let third : List ℕ = u32_bytes ((0 + (table + 0)) % 2 ^ 32) in
+    let parts = located_parts beside first (zeros 4 ++ (zeros 4 ++ (second ++ third))) descriptor whole in
+    let time = located_parts beside (zeros 4) (zeros 4 ++ (second ++ third)) (descriptor + length first) parts.1 in
+    let forwarder = located_parts beside (zeros 4) (second ++ third) (descriptor + length first + 4) time.1 in
+    let last = located_parts beside second third (descriptor + length first + 4 + 4) forwarder.1 in
+    let first_long : length first ≡ 4 = length-u32 ((0 + (lookups + 0)) % 2 ^ 32) in
+    let second_long : length second ≡ 4 = length-u32 ((0 + (name + 0)) % 2 ^ 32) in
+    let at_name : descriptor + length first + 4 + 4 ≡ descriptor + 12 = rw first_long (omega arith) in
+    let at_table : descriptor + length first + 4 + 4 + length second ≡ descriptor + 16 = rw (first_long, second_long) (omega arith) in
+    let name_bounds = bounds_of beside starts ends (text ++ 0 ∷ []) name name_located (rw (length-append text (0 ∷ [])) (omega arith)) in
+    record {
+      lookups = lookups;
+      lookups_field = field_at beside descriptor lookups (table_bounds machine beside starts ends asks lookups lookup_table).1 parts.0;
+      lookup_table = lookup_table;
+      name = name;
+      name_field = field_at beside (descriptor + 12) name name_bounds.1 (subst (λ n. BytesAt beside n second) at_name last.0);
+      has_name = name_bounds.0;
+      name_text = record { no_nul = no_nul; located = name_located };
+      addresses_field = field_at beside (descriptor + 16) table below (subst (λ n. BytesAt beside n third) at_table last.1);
+      has_addresses = above;
+    }
 
 -- what is filled in from ends on is in these ranges, but for the address tables
 pub record LocatedBeside (machine : MachineType) (linked : List Placed) (beside : List Range) (b : Bases) (objects : List Object) : Type 0 where
@@ -222,20 +237,6 @@ module _ (machine : MachineType) (dll : NamesOfDll) (es : List ExportView) (b : 
   pub block_beside : (0 < b.addresses) → (b.addresses < 2 ^ 31) →
       DescriptorBeside beside (thunk_width machine) b.descriptors b.addresses (record { dll = dll.text; asks = map (expected_ask machine) es })
   block_beside above below =
-      let table = (table_at machine dll linked beside starts ends es later b.lookups fit lookups_parts.0 hints_parts.0).plain in
-      let lookups_bounds = table_bounds machine beside starts ends (map (expected_ask machine) es) b.lookups table in
-      let long : 0 < length (dll.text ++ 0 ∷ []) = rw (length-append dll.text (0 ∷ [])) (omega arith) in
-      let name_bounds = bounds_of beside starts ends (dll.text ++ 0 ∷ []) name_place name_parts.0 long in
-      let fields = fields_beside beside b.descriptors b.lookups name_place b.addresses lookups_bounds.1 name_bounds.1 below
-      (subst (BytesAt beside b.descriptors) (descriptor_is machine dll linked b name_place name_address) descriptor_parts.0) in
-      record {
-        lookups = b.lookups;
-        lookups_field = fields.lookups_field;
-        lookup_table = table;
-        name = name_place;
-        name_field = fields.name_field;
-        has_name = name_bounds.0;
-        name_text = record { no_nul = dll_text; located = name_parts.0 };
-        addresses_field = fields.addresses_field;
-        has_addresses = above;
-      }
+      descriptor_beside machine beside starts ends b.descriptors b.lookups name_place b.addresses dll.text (map (expected_ask machine) es) dll_text above below
+      (subst (BytesAt beside b.descriptors) (descriptor_is machine dll linked b name_place name_address) descriptor_parts.0)
+      (table_at machine dll linked beside starts ends es later b.lookups fit lookups_parts.0 hints_parts.0).plain name_parts.0

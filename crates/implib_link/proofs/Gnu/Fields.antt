@@ -17,7 +17,7 @@ use Rattle.implib_link.specs.Gnu.Rebased.{Place, absolute_width, amd64_addr32, a
 use Rattle.implib_link.specs.Stub.{adrp_immediate, ldr_immediate, page}
 use Rattle.implib_link.proofs.Gnu.Moved.{covered_bounds, narrow}
 use Rattle.implib_link.proofs.Gnu.MovedCode.{apart_same}
-use Rattle.implib_link.proofs.Search.Lists.{passes as among_filter, among_filter as filter_among}
+use Rattle.implib_link.proofs.Search.Lists.{passes as among_filter, among_filter as filter_among, any_of}
 
 -- Lists by their places.
 
@@ -106,13 +106,7 @@ alone_within machine rs offset count inner size r alone from to here =
 
 -- a relocation that meets a byte
 pub meeting : (machine : MachineType) (k : ℕ) (rs : List Relocation) → list_any (meets machine k 1) rs ≡ true → (s : Relocation) × (Among s rs × (meets machine k 1 s ≡ true))
-unfolding Among
-meeting machine k [] is = cc
-meeting machine k (s ∷ rs) is =
-    elim (cases_Bool (meets machine k 1 s)) [
-      | inl here ↦ (s, (inl refl, here))
-      | inr none ↦ let later = meeting machine k rs (rw none at is) in (later.0, (inr later.1.0, later.1.1))
-    ]
+meeting machine k rs is = let by = any_of (meets machine k 1) rs is in (by.0, (by.1, by.2))
 
 -- a relocation that stores an address whole and whose place covers a byte
 pub covering_one : (machine : MachineType) (position k : ℕ) (rs : List Relocation) → list_any (covers (position + k)) (places_at machine position rs) ≡ true →

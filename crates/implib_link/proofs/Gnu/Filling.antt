@@ -264,9 +264,12 @@ record WrittenAlike (width : ℕ) (gives : List ℕ → Ask → List ℕ) (impor
   within : AllByRecursion (λ x. (table ≤ x.start) × (range_end x ≤ table + width * thunks_asked (length imports) imports)) written
   alike : (memory : List Range) → AreAlike (all_filled width gives table imports memory) (written ++ memory)
 
-low_before : (low next high : ℕ) (xs : List Range) → low ≤ next → AllByRecursion (λ x. (next ≤ x.start) × (range_end x ≤ high)) xs → AllByRecursion (λ x. (low ≤ x.start) × (range_end x ≤ high)) xs
-low_before low next high [] before all = tt
-low_before low next high (x ∷ xs) before all = let from : next ≤ x.start = all.0.0 in ((omega arith, all.0.1), low_before low next high xs before all.1)
+pub within_by : (first low high end : ℕ) (rs : List Range) → first ≤ low → high ≤ end → AllByRecursion (λ r. (low ≤ r.start) × (range_end r ≤ high)) rs → AllByRecursion (λ r. (first ≤ r.start) × (range_end r ≤ end)) rs
+within_by first low high end [] above below all = tt
+within_by first low high end (r ∷ rs) above below all =
+    let starts : low ≤ r.start = all.0.0 in
+    let ends : range_end r ≤ high = all.0.1 in
+    ((omega arith, omega arith), within_by first low high end rs above below all.1)
 
 module _ (beside image : List Range) (keeps : Keeps beside image) (width : ℕ) (gives : List ℕ → Ask → List ℕ) (wide : (dll : List ℕ) (ask : Ask) → length (gives dll ask) ≡ width) where
   alike_by : (imports : List Imported) (descriptor table : ℕ) (written : List Range) → DirectoryBeside beside width descriptor table imports → Writes image width gives descriptor imports written →
@@ -286,7 +289,7 @@ module _ (beside image : List Range) (keeps : Keeps beside image) (width : ℕ) 
       subst (WrittenAlike width gives (i ∷ imports) table) (sym (is ∙ ap (λ n. entries_written width n (gives i.dll) i.asks ++ behind) same)) (record {
         within = all_append (λ x. (table ≤ x.start) × (range_end x ≤ high)) entries behind
             (entries_within width (gives i.dll) (wide i.dll) i.asks table table high (omega arith) (omega arith))
-            (low_before table next high behind (omega arith) within);
+            (within_by table next high high behind (omega arith) (omega arith) within);
         alike = λ memory a.
             rest.alike (table_filled width table (gives i.dll) i.asks memory) a
             ∙ same_behind behind (table_filled width table (gives i.dll) i.asks memory) (entries ++ memory) a (table_alike width (gives i.dll) (wide i.dll) i.asks table memory a)

@@ -2,7 +2,7 @@
 use Rattle.std.proofs.Common.{◌≡◌, ℕ, zero, suc, ◌+◌, ◌-◌, ◌*◌, ◌/◌, ◌%◌, ◌^◌, ◌<◌, ◌≤◌, ◌⊎◌, Bool, true, false, List, [], ◌∷◌, ◌++◌, length, take, drop, None, Some, refl, ap, sym, ◌∙◌, subst, inl, inr, arith, true≢false}
 use Rattle.std.specs.Prelude.{◌==◌, if◌then◌else◌, nat_le, nat_lt, slice_get}
 use Rattle.std.specs.List.{AllByRecursion, filter, list_any}
-use Rattle.std.proofs.lemmas.Bool.{cases_Bool, eq-eqb, false_from_ne_true, leb-true, le-leb, ltb-false, ltb-true, ne_eqb, or_parts}
+use Rattle.std.proofs.lemmas.Bool.{cases_Bool, false_from_ne_true, leb-true, le-leb, ltb-false, ltb-true, ne_eqb, or_parts}
 use Rattle.std.proofs.lemmas.List.{append-nil, length-append, length-drop, length-take-le, take_at}
 use Rattle.std.proofs.lemmas.Option.{slice_get_within}
 use Rattle.implib.specs.declared.coff.object.Relocation.{Relocation}
@@ -250,39 +250,24 @@ adrp_with k low high middle immlo top a b c d = omega arith
 adrp_reads : (low high middle immlo top : ℕ) → low < 32 → high < 2 ^ 19 → middle < 32 → immlo < 4 → adrp_immediate (adrp_of low high middle immlo top) ≡ high * 4 + immlo
 adrp_reads low high middle immlo top a b c d = omega arith
 
+adrp_changed : (k w : ℕ) → with_adrp k w ≡ adrp_of (w % 32) (k / 4 % 2 ^ 19) (w / 2 ^ 24 % 32) (k % 4) (w / 2 ^ 31)
+adrp_changed k w =
+    ap (with_adrp k) (adrp_parts w) ∙ adrp_with k (w % 32) (w / 32 % 2 ^ 19) (w / 2 ^ 24 % 32) (w / 2 ^ 29 % 4) (w / 2 ^ 31) (omega arith) (omega arith) (omega arith) (omega arith)
+
 adrp_kept : (k w : ℕ) → with_adrp 0 (with_adrp k w) ≡ with_adrp 0 w
 adrp_kept k w =
-    let low : ℕ = w % 32 in
-    let high : ℕ = w / 32 % 2 ^ 19 in
-    let middle : ℕ = w / 2 ^ 24 % 32 in
-    let immlo : ℕ = w / 2 ^ 29 % 4 in
-    let top : ℕ = w / 2 ^ 31 in
-    let changed : with_adrp k w ≡ adrp_of low (k / 4 % 2 ^ 19) middle (k % 4) top = ap (with_adrp k) (adrp_parts w) ∙ adrp_with k low high middle immlo top (omega arith) (omega arith) (omega arith) (omega arith) in
-    ap (with_adrp 0) changed ∙ adrp_with 0 low (k / 4 % 2 ^ 19) middle (k % 4) top (omega arith) (omega arith) (omega arith) (omega arith)
-    ∙ sym (ap (with_adrp 0) (adrp_parts w) ∙ adrp_with 0 low high middle immlo top (omega arith) (omega arith) (omega arith) (omega arith))
+    ap (with_adrp 0) (adrp_changed k w)
+    ∙ adrp_with 0 (w % 32) (k / 4 % 2 ^ 19) (w / 2 ^ 24 % 32) (k % 4) (w / 2 ^ 31) (omega arith) (omega arith) (omega arith) (omega arith) ∙ sym (adrp_changed 0 w)
 
 adrp_has : (k w : ℕ) → adrp_immediate (with_adrp k w) ≡ k % 2 ^ 21
 adrp_has k w =
-    let low : ℕ = w % 32 in
-    let high : ℕ = w / 32 % 2 ^ 19 in
-    let middle : ℕ = w / 2 ^ 24 % 32 in
-    let immlo : ℕ = w / 2 ^ 29 % 4 in
-    let top : ℕ = w / 2 ^ 31 in
-    let changed : with_adrp k w ≡ adrp_of low (k / 4 % 2 ^ 19) middle (k % 4) top = ap (with_adrp k) (adrp_parts w) ∙ adrp_with k low high middle immlo top (omega arith) (omega arith) (omega arith) (omega arith) in
     let halves : k / 4 % 2 ^ 19 * 4 + k % 4 ≡ k % 2 ^ 21 = omega arith in
-    ap adrp_immediate changed ∙ adrp_reads low (k / 4 % 2 ^ 19) middle (k % 4) top (omega arith) (omega arith) (omega arith) (omega arith) ∙ halves
+    ap adrp_immediate (adrp_changed k w) ∙ adrp_reads (w % 32) (k / 4 % 2 ^ 19) (w / 2 ^ 24 % 32) (k % 4) (w / 2 ^ 31) (omega arith) (omega arith) (omega arith) (omega arith) ∙ halves
 
 adrp_word : (k w : ℕ) → w < 2 ^ 32 → with_adrp k w < 2 ^ 32
 adrp_word k w small =
-    let low : ℕ = w % 32 in
-    let high : ℕ = w / 32 % 2 ^ 19 in
-    let middle : ℕ = w / 2 ^ 24 % 32 in
-    let immlo : ℕ = w / 2 ^ 29 % 4 in
-    let top : ℕ = w / 2 ^ 31 in
-    let changed : with_adrp k w ≡ adrp_of low (k / 4 % 2 ^ 19) middle (k % 4) top = ap (with_adrp k) (adrp_parts w) ∙ adrp_with k low high middle immlo top (omega arith) (omega arith) (omega arith) (omega arith) in
-    let most : top < 2 = omega arith in
-    let below : adrp_of low (k / 4 % 2 ^ 19) middle (k % 4) top < 2 ^ 32 = omega arith in
-    subst (λ n. n < 2 ^ 32) (sym changed) below
+    let most : w / 2 ^ 31 < 2 = omega arith in
+    subst (λ n. n < 2 ^ 32) (sym (adrp_changed k w)) (omega arith)
 
 -- The number of a field, by its type.
 
@@ -312,15 +297,13 @@ number_holds : (machine : MachineType) (type image_base position target : ℕ) (
     new (field_width machine type) ≡ number_in (bytes_in (field_width machine type) (number_for machine type image_base position target old)) → FieldHolds machine type image_base position target old new
 unfolding number_for
 number_holds I386 type image_base position target old new small is = record {
-  dir32 = λ dir. let here : (type == i386_dir32) ≡ true = eq-eqb type i386_dir32 dir in (rw here at is) ∙ four_bytes (old 4 + (image_base + target));
+  dir32 = λ dir. (rw dir at is) ∙ four_bytes (old 4 + (image_base + target));
   rel32 = λ rel.
-      let other : (type == i386_dir32) ≡ false = ne_eqb type i386_dir32 (λ same. omega arith) in
-      let further : (type == i386_dir32nb) ≡ false = ne_eqb type i386_dir32nb (λ same. omega arith) in
-      (rw (other, further) at is) ∙ four_bytes (old 4 + target + (2 ^ 32 - (position + 4) % 2 ^ 32));
+      (rw rel at is) ∙ four_bytes (old 4 + target + (2 ^ 32 - (position + 4) % 2 ^ 32));
 }
 number_holds ARMNT type image_base position target old new small is = tt
 number_holds AMD64 type image_base position target old new small is = record {
-  addr64 = λ addr. let here : (type == amd64_addr64) ≡ true = eq-eqb type amd64_addr64 addr in (rw here at is) ∙ eight_bytes (old 8 + (image_base + target));
+  addr64 = λ addr. (rw addr at is) ∙ eight_bytes (old 8 + (image_base + target));
   rel32 = λ further few rel.
       let other : (type == amd64_addr64) ≡ false = ne_eqb type amd64_addr64 (λ same. omega arith) in
       let relative : (type == amd64_addr32nb) ≡ false = ne_eqb type amd64_addr32nb (λ same. omega arith) in
@@ -329,28 +312,18 @@ number_holds AMD64 type image_base position target old new small is = record {
       ((rw (other, relative) at is) ∙ four_bytes (old 4 + target + (2 ^ 32 - (position + 4 + (type - amd64_rel32)) % 2 ^ 32)));
 }
 number_holds ARM64 type image_base position target old new small is = record {
-  addr64 = λ addr. let here : (type == arm64_addr64) ≡ true = eq-eqb type arm64_addr64 addr in (rw here at is) ∙ eight_bytes (old 8 + (image_base + target));
+  addr64 = λ addr. (rw addr at is) ∙ eight_bytes (old 8 + (image_base + target));
   branch = λ own none near far.
-      let one : (type == arm64_addr64) ≡ false = ne_eqb type arm64_addr64 (λ same. omega arith) in
-      let here : (type == arm64_branch26) ≡ true = eq-eqb type arm64_branch26 own in
       let k : ℕ = (target + (2 ^ 28 - position % 2 ^ 28)) / 4 in
-      let word : new 4 ≡ with_bits 0 26 k (old 4) = four_word (with_bits 0 26 k (old 4)) (new 4) (branch_word k (old 4) small) (rw (one, here) at is) in
+      let word : new 4 ≡ with_bits 0 26 k (old 4) = four_word (with_bits 0 26 k (old 4)) (new 4) (branch_word k (old 4) small) (rw own at is) in
       (ap (with_bits 0 26 0) word ∙ branch_kept k (old 4), ap (bits_of 0 26) word ∙ branch_has k (old 4));
   page_of = λ own.
-      let one : (type == arm64_addr64) ≡ false = ne_eqb type arm64_addr64 (λ same. omega arith) in
-      let two : (type == arm64_branch26) ≡ false = ne_eqb type arm64_branch26 (λ same. omega arith) in
-      let here : (type == arm64_pagebase_rel21) ≡ true = eq-eqb type arm64_pagebase_rel21 own in
       let k : ℕ = page (image_base + target + adrp_immediate (old 4)) + (2 ^ 21 - page (image_base + position) % 2 ^ 21) in
-      let word : new 4 ≡ with_adrp k (old 4) = four_word (with_adrp k (old 4)) (new 4) (adrp_word k (old 4) small) (rw (one, two, here) at is) in
+      let word : new 4 ≡ with_adrp k (old 4) = four_word (with_adrp k (old 4)) (new 4) (adrp_word k (old 4) small) (rw own at is) in
       (ap (with_adrp 0) word ∙ adrp_kept k (old 4), ap adrp_immediate word ∙ adrp_has k (old 4));
   offset_of = λ own eight.
-      let one : (type == arm64_addr64) ≡ false = ne_eqb type arm64_addr64 (λ same. omega arith) in
-      let two : (type == arm64_branch26) ≡ false = ne_eqb type arm64_branch26 (λ same. omega arith) in
-      let three : (type == arm64_pagebase_rel21) ≡ false = ne_eqb type arm64_pagebase_rel21 (λ same. omega arith) in
-      let four : (type == arm64_addr32nb) ≡ false = ne_eqb type arm64_addr32nb (λ same. omega arith) in
-      let five : (type == arm64_pageoffset_12a) ≡ false = ne_eqb type arm64_pageoffset_12a (λ same. omega arith) in
       let k : ℕ = (image_base + target + ldr_immediate (old 4)) % 4096 / 8 in
-      let word : new 4 ≡ with_bits 10 12 k (old 4) = four_word (with_bits 10 12 k (old 4)) (new 4) (load_word k (old 4) small) (rw (one, two, three, four, five) at is) in
+      let word : new 4 ≡ with_bits 10 12 k (old 4) = four_word (with_bits 10 12 k (old 4)) (new 4) (load_word k (old 4) small) (rw own at is) in
       (ap (with_bits 10 12 0) word ∙ load_kept k (old 4), ap (bits_of 10 12) word ∙ load_has k (old 4) (omega arith));
 }
 
@@ -359,34 +332,21 @@ further_holds : (machine : MachineType) (type image_base position target : ℕ) 
 unfolding number_for
 further_holds I386 type image_base position target old new small is = record {
   relative = λ own.
-      let one : (type == i386_dir32) ≡ false = ne_eqb type i386_dir32 (λ same. omega arith) in
-      let here : (type == i386_dir32nb) ≡ true = eq-eqb type i386_dir32nb own in
-      (rw (one, here) at is) ∙ four_bytes (old 4 + target);
+      (rw own at is) ∙ four_bytes (old 4 + target);
   added = λ own t adds. cc;
 }
 further_holds ARMNT type image_base position target old new small is = record { relative = λ own. absurd own; added = λ own t adds. cc }
 further_holds AMD64 type image_base position target old new small is = record {
   relative = λ own.
-      let one : (type == amd64_addr64) ≡ false = ne_eqb type amd64_addr64 (λ same. omega arith) in
-      let here : (type == amd64_addr32nb) ≡ true = eq-eqb type amd64_addr32nb own in
-      (rw (one, here) at is) ∙ four_bytes (old 4 + target);
+      (rw own at is) ∙ four_bytes (old 4 + target);
   added = λ own t adds. cc;
 }
 further_holds ARM64 type image_base position target old new small is = record {
   relative = λ own.
-      let one : (type == arm64_addr64) ≡ false = ne_eqb type arm64_addr64 (λ same. omega arith) in
-      let two : (type == arm64_branch26) ≡ false = ne_eqb type arm64_branch26 (λ same. omega arith) in
-      let three : (type == arm64_pagebase_rel21) ≡ false = ne_eqb type arm64_pagebase_rel21 (λ same. omega arith) in
-      let here : (type == arm64_addr32nb) ≡ true = eq-eqb type arm64_addr32nb own in
-      (rw (one, two, three, here) at is) ∙ four_bytes (old 4 + target);
+      (rw own at is) ∙ four_bytes (old 4 + target);
   added = λ own t adds.
-      let one : (type == arm64_addr64) ≡ false = ne_eqb type arm64_addr64 (λ same. omega arith) in
-      let two : (type == arm64_branch26) ≡ false = ne_eqb type arm64_branch26 (λ same. omega arith) in
-      let three : (type == arm64_pagebase_rel21) ≡ false = ne_eqb type arm64_pagebase_rel21 (λ same. omega arith) in
-      let four : (type == arm64_addr32nb) ≡ false = ne_eqb type arm64_addr32nb (λ same. omega arith) in
-      let here : (type == arm64_pageoffset_12a) ≡ true = eq-eqb type arm64_pageoffset_12a t in
       let k : ℕ = image_base + target + bits_of 10 12 (old 4) in
-      let word : new 4 ≡ with_bits 10 12 k (old 4) = four_word (with_bits 10 12 k (old 4)) (new 4) (load_word k (old 4) small) (rw (one, two, three, four, here) at is) in
+      let word : new 4 ≡ with_bits 10 12 k (old 4) = four_word (with_bits 10 12 k (old 4)) (new 4) (load_word k (old 4) small) (rw t at is) in
       (ap (with_bits 10 12 0) word ∙ load_kept k (old 4), ap (bits_of 10 12) word ∙ added_has k (old 4));
 }
 

@@ -1,7 +1,7 @@
 -- The import tables have no base relocations: members for GNU's linker.
 use Rattle.std.proofs.Common.{◌≡◌, ℕ, ◌⊎◌, false, List, [], ◌∷◌, ◌++◌, length, map, None, refl, inl, inr}
 use Rattle.std.specs.List.{AllByRecursion, filter, list_any}
-use Rattle.std.proofs.lemmas.Bool.{cases_Bool, or_parts}
+use Rattle.std.proofs.lemmas.Bool.{cases_Bool}
 use Rattle.implib.specs.declared.coff.object.Relocation.{Relocation}
 use Rattle.implib.specs.declared.machine.MachineType.{MachineType}
 use Rattle.implib.specs.declared.machine.MachineType.TheVariants.{I386, ARMNT, AMD64, ARM64}
@@ -15,6 +15,7 @@ use Rattle.implib_link.specs.Gnu.Program.{has_tables, is_table}
 use Rattle.implib_link.specs.Gnu.Rebased.{absolute_width, places_at, table_places, table_places_in}
 use Rattle.implib_link.proofs.Gnu.Others.{no_group}
 use Rattle.implib.specs.LibraryName.{NamesOfDll}
+use Rattle.implib_link.proofs.Search.Lists.{all_from, none_among}
 
 -- none of the relocations stores an address whole
 abbrev pub NoneAbsolute : MachineType → List Relocation → Type 0
@@ -55,10 +56,7 @@ tables_none machine b (o ∷ objects) all = rw (sections_none machine b o.sectio
 -- Objects without import tables are steady.
 
 others_steady : (machine : MachineType) (sections : List ObjectSection) → list_any is_table sections ≡ false → AllByRecursion (IsSteady machine) sections
-others_steady machine [] none = tt
-others_steady machine (s ∷ sections) none =
-    let parts = or_parts (is_table s) (list_any is_table sections) none in
-    (inl (no_group s.name parts.0), others_steady machine sections parts.1)
+others_steady machine sections none = all_from (IsSteady machine) sections (λ s held. inl (no_group s.name (none_among is_table s sections held none)))
 
 pub all_steady : (machine : MachineType) (objects : List Object) → AllByRecursion (AllSteady machine) (filter has_tables objects) → AllByRecursion (AllSteady machine) objects
 unfolding has_tables

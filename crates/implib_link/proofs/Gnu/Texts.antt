@@ -1,5 +1,5 @@
 -- The exports of a text that are chosen, with what it states of them.
-use Rattle.std.proofs.Common.{◌≡◌, ℕ, zero, suc, Bool, true, false, List, [], ◌∷◌, map, Option, Some, None, refl, ap, sym, ◌∙◌, inl, inr, if◌then◌else◌}
+use Rattle.std.proofs.Common.{◌≡◌, ℕ, Bool, true, false, List, [], ◌∷◌, map, Option, Some, None, refl, ap, sym, ◌∙◌, inl, inr, if◌then◌else◌}
 use Rattle.std.specs.Prelude.{not, option_map, slice_get}
 use Rattle.std.specs.List.{AllByRecursion, cons_option, filter, filter_map}
 use Rattle.std.proofs.lemmas.Bool.{cases_Bool}
@@ -15,6 +15,9 @@ use Rattle.implib.specs.Link.LinkedMembers.{chosen_exports}
 use Rattle.implib.specs.Renaming.{renamed}
 use Rattle.implib.proofs.Members.Renaming.{renamed_twice}
 use Rattle.implib_link.specs.Gnu.Texts.{Stated, chosen_stated, stated}
+use Rattle.implib_link.proofs.Search.Lists.{all_from, kept_from, passing}
+use Rattle.implib.proofs.Link.Ranges.{all_among}
+use Rattle.implib.proofs.Link.LinkedMembers.{all_at}
 
 -- the exports of a list that is stated are those of the list
 exports_stated : (machine : MachineType) (exports : List ExportView) (statements : List Export) → EachAsksForItsWord machine exports statements →
@@ -30,9 +33,7 @@ stated_ask true ordinal expected word same = refl
 stated_ask false ordinal expected word same = ap (λ text. Name text ordinal) (same refl)
 
 pub all_filter : {X : Type 0} (P : X → Type 0) (test : X → Bool) (xs : List X) → AllByRecursion P xs → AllByRecursion P (filter test xs)
-all_filter P test [] all = tt
-all_filter P test (x ∷ xs) all =
-    elim (cases_Bool (test x)) [ inl is ↦ rw is (all.0, all_filter P test xs all.1) | inr is ↦ rw is (all_filter P test xs all.1) ]
+all_filter P test xs all = all_from P (filter test xs) (λ x held. all_among P x xs (passing test x xs held).0 all)
 
 map_filter : {X Y : Type 0} (f : X → Y) (test : Y → Bool) (xs : List X) → map f (filter (λ x. test (f x)) xs) ≡ filter test (map f xs)
 map_filter f test [] = refl
@@ -40,15 +41,8 @@ map_filter f test (x ∷ xs) =
     elim (cases_Bool (test (f x))) [ inl is ↦ rw is (ap (λ others. f x ∷ others) (map_filter f test xs)) | inr is ↦ rw is (map_filter f test xs) ]
 
 -- choosing by numbers
-all_chosen_option : {X : Type 0} (P : X → Type 0) (xs : List X) (n : ℕ) (others : List X) → AllByRecursion P xs → AllByRecursion P others →
-    AllByRecursion P (cons_option (slice_get xs n) others)
-all_chosen_option P [] n others all rest = rest
-all_chosen_option P (x ∷ xs) zero others all rest = (all.0, rest)
-all_chosen_option P (x ∷ xs) (suc n) others all rest = all_chosen_option P xs n others all.1 rest
-
 pub all_chosen : {X : Type 0} (P : X → Type 0) (xs : List X) (chosen : List ℕ) → AllByRecursion P xs → AllByRecursion P (filter_map (slice_get xs) chosen)
-all_chosen P xs [] all = tt
-all_chosen P xs (n ∷ chosen) all = all_chosen_option P xs n (filter_map (slice_get xs) chosen) all (all_chosen P xs chosen all)
+all_chosen P xs chosen all = all_from P (filter_map (slice_get xs) chosen) (λ x held. let from = kept_from (slice_get xs) chosen x held in all_at P xs from.0 x all from.2)
 
 map_cons_option : {X Y : Type 0} (f : X → Y) (o : Option X) (xs : List X) → map f (cons_option o xs) ≡ cons_option (option_map f o) (map f xs)
 map_cons_option f None xs = refl

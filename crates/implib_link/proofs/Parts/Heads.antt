@@ -4,7 +4,7 @@ use Rattle.std.specs.Prelude.{◌&&◌, ◌||◌, ◌==◌, bytes_eq, not, slice
 use Rattle.std.specs.List.{AllByRecursion, filter_map, list_any}
 use Rattle.std.specs.Option.{option_and_then}
 use Rattle.std.proofs.lemmas.Bool.{and_parts, cases_Bool, eqb-true}
-use Rattle.std.proofs.lemmas.List.{append_assoc, length-replicate}
+use Rattle.std.proofs.lemmas.List.{append_assoc}
 use Rattle.std.proofs.lemmas.Slice.Eq.{bytes_eq-Decides}
 use Rattle.implib.specs.declared.coff.object.Relocation.{Relocation}
 use Rattle.implib.specs.declared.machine.MachineType.{MachineType}
@@ -21,7 +21,7 @@ use Rattle.implib.proofs.Link.Descriptors.{LoadsFrom, descriptor_loads}
 use Rattle.implib.proofs.Link.Linked.{LocatedFrom}
 use Rattle.implib.proofs.Link.Placement.{AreAligned, aligned_thunk}
 use Rattle.implib.proofs.Link.Ranges.{Among, among_back, among_first, among_front, among_later, located_parts}
-use Rattle.implib.proofs.Link.Thunks.{StrictTableAt, zeros_number}
+use Rattle.implib.proofs.Link.Thunks.{StrictTableAt}
 use Rattle.implib_link.specs.Gnu.OtherLibraries.{ends_behind}
 use Rattle.implib_link.specs.Gnu.Packed.{sections_end}
 use Rattle.implib_link.specs.Parts.{AreEntries, IsHead, Row, ask_of, begins, dll_text, entry_name, has_none, is_empty, is_field, is_in_group, leads_to, named_bytes, names_entry, only_section, row_in, row_of, sections_of}
@@ -33,6 +33,7 @@ use Rattle.implib_link.proofs.Parts.Sections.{none_ends, one_address, one_ends, 
 use Rattle.implib_link.proofs.Parts.Texts.{ended_is, named_located, null_located, only_located, thunk_located, field_is}
 use Rattle.implib_link.proofs.Gnu.Loaded.{plus_none, times_next, times_none}
 use Rattle.implib_link.proofs.Flavors.Program.{later_even}
+use Rattle.implib_link.proofs.Gnu.Beside.{zero_table, table_with}
 
 -- The address of a symbol in the only section of a group.
 module _ (group : Group) (o : Object) (b : Bases) (s : ObjectSection) (is : only_section group o ≡ Some s) (even : base_of group b % 4 ≡ 0) where
@@ -132,13 +133,6 @@ module _ (machine : MachineType) (linked : List Placed) (image : List Range) (st
     addresses = ap (λ n. n % 4) (end_of_sections Addresses b o.sections ∙ addresses) ∙ aligned_thunk machine b.addresses even.addresses;
   }
 
-  null_table : (a : ℕ) → BytesAt image a (zeros (thunk_width machine)) → StrictTableAt image (thunk_width machine) a []
-  unfolding TableAt WholeTableAt
-  null_table a located = record {
-    plain = record { bytes = zeros (thunk_width machine); located = located; count = length-replicate {A = ℕ} (thunk_width machine) 0; value = zeros_number machine };
-    whole = tt;
-  }
-
   tables_from : (objects later : List Object) (entries : List TableEntry) (b : Bases) → AreAligned b → AllByRecursion IsSized objects → LocatedFrom machine linked image b (objects ++ later) →
       AreEntries machine objects entries → TablesFrom b objects later entries
   unfolding AreEntries ends_behind TableAt WholeTableAt
@@ -148,8 +142,8 @@ module _ (machine : MachineType) (linked : List Placed) (image : List Range) (st
       let lookup = null_located machine linked image starts ends o b later sized.0 located Lookups tt even.lookups are.lookup in
       let address = null_located machine linked image starts ends o b later sized.0 located Addresses tt even.addresses are.address in
       record {
-        lookups = null_table b.lookups lookup.0;
-        addresses = null_table b.addresses address.0;
+        lookups = zero_table machine image b.lookups lookup.0;
+        addresses = zero_table machine image b.addresses address.0;
         symbols = λ j e name is named. cc;
         at = λ j q e is asked. cc;
         aligned = aligned_one o b even are.descriptors lookup.1 address.1;
@@ -166,8 +160,8 @@ module _ (machine : MachineType) (linked : List Placed) (image : List Range) (st
       let lookups = subst (λ n. StrictTableAt image (thunk_width machine) n (map (λ (e : TableEntry). e.ask) entries)) lookups_are rest.lookups in
       let addresses = subst (λ n. StrictTableAt image (thunk_width machine) n (map (λ (e : TableEntry). e.ask) entries)) addresses_are rest.addresses in
       record {
-        lookups = record { plain = (lookup.0.plain, lookups.plain); whole = (lookup.0.whole, lookups.whole) };
-        addresses = record { plain = (address.0.plain, addresses.plain); whole = (address.0.whole, addresses.whole) };
+        lookups = table_with image (thunk_width machine) b.lookups e.ask (map (λ (e : TableEntry). e.ask) entries) lookup.0 lookups;
+        addresses = table_with image (thunk_width machine) b.addresses e.ask (map (λ (e : TableEntry). e.ask) entries) address.0 addresses;
         symbols = symbols addresses_are rest.symbols;
         at = at addresses_are rest.at;
         aligned = rest.aligned;

@@ -3,7 +3,7 @@ use Rattle.std.proofs.Common.{◌≡◌, ℕ, ◌+◌, ◌*◌, ◌-◌, ◌%◌
 use Rattle.std.specs.Prelude.{◌||◌, Bool, bytes_eq, not, slice_get, take}
 use Rattle.std.specs.List.{AllByRecursion, filter_map, list_all, list_any}
 use Rattle.std.proofs.lemmas.List.{append_assoc}
-use Rattle.std.proofs.lemmas.Bool.{and_from, and_parts, cases_Bool, lt-ltb}
+use Rattle.std.proofs.lemmas.Bool.{and_from, cases_Bool, lt-ltb}
 use Rattle.implib.specs.declared.coff.object.Place.TheVariants.{Section, Undefined}
 use Rattle.implib.specs.declared.coff.object.Relocation.{Relocation}
 use Rattle.implib.specs.declared.machine.MachineType.{MachineType}
@@ -37,6 +37,7 @@ use Rattle.implib_link.specs.Tables.{AreSteady, TableEntry}
 use Rattle.implib_link.proofs.Gnu.Others.{no_group}
 use Rattle.implib_link.proofs.Gnu.Steady.{AllSteady, IsSteady, NoneAbsolute, all_steady, tables_none}
 use Rattle.implib_link.proofs.Gnu.Sized.{export_sized, head_sized, tail_sized}
+use Rattle.implib_link.proofs.Search.Lists.{all_from, each_of}
 
 -- The object of an export, whose last symbols are these, and such objects with the tail.
 
@@ -242,28 +243,18 @@ none_whole None is = refl
 none_whole (Some n) is = cc
 
 fields_none : (machine : MachineType) (relocations : List Relocation) → list_all (λ r. not (is_whole (absolute_width machine r.kind))) relocations ≡ true → NoneAbsolute machine relocations
-fields_none machine [] all = tt
-fields_none machine (r ∷ relocations) all =
-    let parts = and_parts (not (is_whole (absolute_width machine r.kind))) (list_all (λ r. not (is_whole (absolute_width machine r.kind))) relocations) all in
-    (none_whole (absolute_width machine r.kind) parts.0, fields_none machine relocations parts.1)
+fields_none machine relocations all =
+    all_from (λ (r : Relocation). absolute_width machine r.kind ≡ None) relocations (λ r held.
+    none_whole (absolute_width machine r.kind) (each_of (λ (x : Relocation). not (is_whole (absolute_width machine x.kind))) r relocations all held))
 
 sections_steady : (machine : MachineType) (sections : List ObjectSection) →
     list_all (λ s. not (is_table s) || list_all (λ r. not (is_whole (absolute_width machine r.kind))) s.relocations) sections ≡ true → AllByRecursion (IsSteady machine) sections
-sections_steady machine [] all = tt
-sections_steady machine (s ∷ sections) all =
-    let own = list_all (λ (r : Relocation). not (is_whole (absolute_width machine r.kind))) s.relocations in
-    let parts = and_parts (not (is_table s) || own) (list_all (λ s. not (is_table s) || list_all (λ r. not (is_whole (absolute_width machine r.kind))) s.relocations) sections) all in
-    let first : IsSteady machine s = elim (cases_Bool (is_table s)) [
-      | inl table ↦ inr (fields_none machine s.relocations (rw table at parts.0))
-      | inr other ↦ inl (no_group s.name other)
-    ] in
-    (first, sections_steady machine sections parts.1)
+sections_steady machine sections all = all_from (IsSteady machine) sections (λ s held.
+    let own = each_of (λ (x : ObjectSection). not (is_table x) || list_all (λ r. not (is_whole (absolute_width machine r.kind))) x.relocations) s sections all held in
+    elim (cases_Bool (is_table s)) [ inl table ↦ inr (fields_none machine s.relocations (rw table at own)) | inr other ↦ inl (no_group s.name other) ])
 
 objects_steady : (machine : MachineType) (objects : List Object) → list_all (stores_none machine) objects ≡ true → AllByRecursion (AllSteady machine) objects
-objects_steady machine [] all = tt
-objects_steady machine (o ∷ objects) all =
-    let parts = and_parts (stores_none machine o) (list_all (stores_none machine) objects) all in
-    (sections_steady machine o.sections parts.0, objects_steady machine objects parts.1)
+objects_steady machine objects all = all_from (AllSteady machine) objects (λ o held. sections_steady machine o.sections (each_of (stores_none machine) o objects all held))
 
 each_steady : (machine : MachineType) (parts : List Part) → AllByRecursion (λ (p : Part). list_all (stores_none machine) p.objects ≡ true) parts → AllByRecursion (AllSteady machine) (objects_of_parts parts ++ null_descriptor ∷ [])
 each_steady machine [] all = ((inr tt, tt), tt)

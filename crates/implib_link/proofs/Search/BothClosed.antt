@@ -26,8 +26,7 @@ use Rattle.implib_link.specs.Gnu.Program.{ClaimsNone, HaveSame, has_tables}
 use Rattle.implib_link.specs.Search.Archives.{Library, exports_of}
 use Rattle.implib_link.specs.Search.BothFlavors.{AreClosedForBoth, FlavorLibrary, IsClosedForBoth, IsFlavorArchive, IsImportedOfBoth, IsUsedIn, LinksClosedForBoth, NamesNoMembers, archive_of_both, flavor_inputs, inputs_of_both, msvc_among, symbols_in}
 use Rattle.implib_link.specs.Search.Closed.{TakesIntoAs, listed_in, unresolved}
-use Rattle.implib_link.specs.Search.MsvcArchives.{first_null, is_weak_in}
-use Rattle.implib_link.specs.Search.MsvcClosed.{wanted_for}
+use Rattle.implib_link.specs.Search.MsvcArchives.{first_null, is_weak_in, wanted_for}
 use Rattle.implib_link.specs.Search.Search.{TakesAs, first_listed, left_as, objects_as}
 use Rattle.implib_link.proofs.Flavors.Loaded.{entry_of}
 use Rattle.implib_link.proofs.Flavors.Packed.{packed_objects}

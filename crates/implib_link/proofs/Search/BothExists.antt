@@ -9,7 +9,7 @@ use Rattle.std.proofs.lemmas.List.Sorted.{IsPermutation-refl}
 use Rattle.implib.specs.declared.flavor.Flavor.TheVariants.{Msvc}
 use Rattle.implib.specs.declared.machine.MachineType.{MachineType}
 use Rattle.implib.specs.Formats.Object.{Object}
-use Rattle.implib.specs.Link.Image.{Range, image_of, range_end}
+use Rattle.implib.specs.Link.Image.{image_of}
 use Rattle.implib.specs.Link.Placement.{placed_from}
 use Rattle.implib.specs.Members.MemberSpec.{MemberView}
 use Rattle.implib.proofs.Link.Placement.{at_least}
@@ -23,8 +23,7 @@ use Rattle.implib_link.specs.Search.BothExists.{HasClosedForBoth, objects_closed
 use Rattle.implib_link.specs.Search.BothFlavors.{AreClosedForBoth, AreGivenForBoth, FlavorLibrary, IsClosedForBoth, IsFlavorArchive, archive_of_both, flavor_inputs, inputs_of_both, msvc_among}
 use Rattle.implib_link.specs.Search.Closed.{TakesIntoAs, unresolved}
 use Rattle.implib_link.specs.Search.Exists.{LieWithin}
-use Rattle.implib_link.specs.Search.MsvcArchives.{first_null, is_weak_in, short_inputs, weak_in}
-use Rattle.implib_link.specs.Search.MsvcClosed.{TakesIntoFor, wanted_for}
+use Rattle.implib_link.specs.Search.MsvcArchives.{first_null, is_weak_in, short_inputs, weak_in, TakesIntoFor, wanted_for}
 use Rattle.implib_link.specs.Search.Search.{objects_as}
 use Rattle.implib_link.proofs.Flavors.Packed.{kept_sized}
 use Rattle.implib_link.proofs.Gnu.Alone.{all_kept, none_left}
@@ -42,15 +41,7 @@ use Rattle.implib_link.proofs.Search.MsvcMembers.{null_of}
 use Rattle.implib_link.proofs.Search.Roles.{Last, Null, Own, Top, in_flavor, is_weak_role}
 use Rattle.implib_link.proofs.Search.Search.{only_one}
 use Rattle.implib.proofs.Link.Linked.{all_append}
-
--- Packed tables lie within the room of the libraries.
-
-pub within_by : (first low high end : ℕ) (rs : List Range) → first ≤ low → high ≤ end → AllByRecursion (λ r. (low ≤ r.start) × (range_end r ≤ high)) rs → LieWithin first end rs
-within_by first low high end [] above below all = tt
-within_by first low high end (r ∷ rs) above below all =
-    let starts : low ≤ r.start = all.0.0 in
-    let ends : range_end r ≤ high = all.0.1 in
-    ((omega arith, omega arith), within_by first low high end rs above below all.1)
+use Rattle.implib_link.proofs.Gnu.Filling.{within_by}
 
 -- What is given and what is taken, in one order.
 

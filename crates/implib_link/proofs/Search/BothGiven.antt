@@ -24,9 +24,7 @@ use Rattle.implib_link.specs.Search.BothFlavors.{AreClosedForBoth, AreGivenForBo
 use Rattle.implib_link.specs.Search.Closed.{TakesIntoAs, listed_in, unresolved}
 use Rattle.implib_link.specs.Search.Given.{alias_targets, heads_of, is_data_alias, symbols_wanted, tails_of}
 use Rattle.implib_link.specs.Search.Msvc.{NamesNoHeader, left_in}
-use Rattle.implib_link.specs.Search.MsvcArchives.{first_null, is_import_wanted, is_short_alias, is_weak_in, short_inputs, weak_in}
-use Rattle.implib_link.specs.Search.MsvcClosed.{TakesIntoFor, wanted_for}
-use Rattle.implib_link.specs.Search.MsvcGiven.{headers_of, import_symbols_wanted, short_targets}
+use Rattle.implib_link.specs.Search.MsvcArchives.{first_null, is_import_wanted, is_short_alias, is_weak_in, short_inputs, weak_in, TakesIntoFor, wanted_for, headers_of, import_symbols_wanted, short_targets}
 use Rattle.implib_link.specs.Search.Search.{AreTakenInTurnAs, NamesNoHeadOrTail, is_wanted, left_as, objects_as, undefined_in}
 use Rattle.implib_link.proofs.Search.Chosen.{any_too, chosen_too, is_chosen, short_some, some_short}
 use Rattle.implib_link.proofs.Search.Closing.{claims_apart, in_turn_for, none_claimed, not_there, pulled, takes_into, there_not}

@@ -15,12 +15,11 @@ use Rattle.implib_link.specs.Flavors.Program.{AreEnded, Ending, FlavorInput, IsM
 use Rattle.implib_link.specs.Gnu.Packed.{packed_end}
 use Rattle.implib_link.specs.Gnu.Program.{has_tables}
 use Rattle.implib_link.specs.Search.Archives.{Library, input_if_any}
-use Rattle.implib_link.specs.Search.BothExists.{room_in, room_of, tables_end_of_both}
+use Rattle.implib_link.specs.Search.BothExists.{room_in, room_of, tables_end_of_both, msvc_library_room, short_room}
 use Rattle.implib_link.specs.Search.BothFlavors.{FlavorLibrary, flavor_input, flavor_inputs}
 use Rattle.implib_link.specs.Search.Search.{exports_wanted}
 use Rattle.implib_link.specs.Search.MsvcArchives.{imports_wanted, short_input_if_any}
 use Rattle.implib_link.specs.Search.Exists.{export_room, library_room}
-use Rattle.implib_link.specs.Search.MsvcExists.{msvc_library_room, short_room}
 use Rattle.implib_link.proofs.Flavors.Blocks.{all_objects, rest_of}
 use Rattle.implib_link.proofs.Flavors.Expanded.{taken_null}
 use Rattle.implib_link.proofs.Flavors.Inputs.{block_in}

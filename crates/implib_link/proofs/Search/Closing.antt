@@ -1,17 +1,17 @@
 -- What a linker takes for given objects, and a program of both: for any way to read members.
-use Rattle.std.proofs.Common.{◌≡◌, ℕ, ◌⊎◌, Bool, false, List, [], ◌∷◌, ◌++◌, Option, Some, None, refl, ap, sym, ◌∙◌, subst, inl, inr}
+use Rattle.std.proofs.Common.{◌≡◌, ℕ, ◌⊎◌, Bool, false, List, [], ◌∷◌, ◌++◌, Option, Some, refl, ap, sym, ◌∙◌, subst, inl, inr}
 use Rattle.std.specs.Prelude.{bytes_eq, not}
-use Rattle.std.specs.List.{AllByRecursion, Contains, cons_option, filter, flat_map, list_any}
+use Rattle.std.specs.List.{AllByRecursion, Contains, filter, flat_map, list_any}
 use Rattle.std.proofs.lemmas.Bool.{cases_Bool, false_from_ne_true, true≢false, not_from_false}
 use Rattle.std.proofs.lemmas.Grind.{flat_map-append}
 use Rattle.implib.specs.Formats.Object.{Object}
 use Rattle.implib.specs.Members.MemberSpec.{MemberView}
 use Rattle.implib.proofs.Link.LinkedMembers.{among_contains}
-use Rattle.implib.proofs.Link.Ranges.{Among, all_among, among_back, among_first, among_flat, among_front, among_later}
+use Rattle.implib.proofs.Link.Ranges.{Among, all_among, among_back, among_flat, among_front, among_later}
 use Rattle.implib_link.specs.Gnu.Program.{ClaimsNone, HaveSame, claimed_names, has_tables, null_descriptor}
 use Rattle.implib_link.specs.Search.Closed.{claims_of, listed_in, references_of, unresolved, AreTakenIntoAs, PullsIntoAs, TakesIntoAs}
 use Rattle.implib_link.specs.Search.Search.{first_listed, is_listed_for, undefined_in, left_as, claimed_as, AreTakenInTurnAs, objects_as, PullsInAs, TakesAs}
-use Rattle.implib_link.proofs.Search.Lists.{all_from as all_each, among_any, among_either, among_flat_map, any_among, any_member, contains_among, listed_is, none_listed, name_as, as_name, NameAs, passing, passes, from_not}
+use Rattle.implib_link.proofs.Search.Lists.{all_from as all_each, among_any, among_either, among_flat_map, any_among, any_member, contains_among, listed_is, none_listed, name_as, as_name, NameAs, passing, passes, from_not, kept_from, names_more}
 use Rattle.implib_link.proofs.Search.Search.{in_nothing}
 use Rattle.std.proofs.lemmas.Option.{same_Some}
 
@@ -114,7 +114,7 @@ module _ (reads : List ℕ → Option Object) (archive : List MemberView) (own :
       let before : (x : MemberView) → Among x earlier → Among x taken = λ x held. within x (among_later x m earlier held) in (
         (
           turn.0.0,
-          pulls_into earlier turn.0.0 m (λ left. apart turn.0.0 (let by = name_as reads undefined_in turn.0.0 earlier left in as_name reads undefined_in turn.0.0 taken by.member by.object (before by.member by.held) by.taken by.among)) turn.0.1,
+          pulls_into earlier turn.0.0 m (λ left. apart turn.0.0 (names_more reads undefined_in turn.0.0 earlier taken before left)) turn.0.1,
         ),
         in_turn_into taken earlier before apart turn.1,
       )
@@ -184,14 +184,8 @@ module _ (reads : List ℕ → Option Object) where
   pub tables_read : (b : Bool) (m x : MemberView) (o one : Object) → m ≡ x → reads x.bytes ≡ Some one → reads m.bytes ≡ Some o → has_tables one ≡ b → has_tables o ≡ b
   tables_read b m x o one same is read has = subst (λ y. has_tables y ≡ b) (sym (read_as m x o one same is read)) has
 
-  first_read : (P : Object → Type 0) (read : Option Object) (objects : List Object) → ((o : Object) → read ≡ Some o → P o) → AllByRecursion P objects → AllByRecursion P (cons_option read objects)
-  first_read P None objects own all = all
-  first_read P (Some o) objects own all = (own o refl, all)
-
   pub each_read : (P : Object → Type 0) (members : List MemberView) → ((m : MemberView) (o : Object) → Among m members → reads m.bytes ≡ Some o → P o) → AllByRecursion P (objects_as reads members)
-  each_read P [] own = tt
-  each_read P (m ∷ members) own =
-      first_read P (reads m.bytes) (objects_as reads members) (λ o is. own m o (among_first m members) is) (each_read P members (λ x o held is. own x o (among_later x m members held) is))
+  each_read P members own = all_each P (objects_as reads members) (λ o held. let from = kept_from (λ (m : MemberView). reads m.bytes) members o held in own from.0 o from.1 from.2)
 
 -- A member is read as an object, claims what it is listed for, and is the first member that is listed for this.
 pub record IsFirstAs (reads : List ℕ → Option Object) (archive : List MemberView) (m : MemberView) : Type 0 where
@@ -287,9 +281,7 @@ module _ (reads : List ℕ → Option Object) (archive : List MemberView) where
     still_named wanted name want =
         elim (among_either name wanted (flat_map undefined_in (objects_as reads (filter weak taken))) want) [
           | inl given ↦ among_front name wanted (flat_map undefined_in (objects_as reads taken)) given
-          | inr left ↦
-              let by = name_as reads undefined_in name (filter weak taken) left in
-              left_by wanted by.member by.object name (passing weak by.member taken by.held).0 by.taken by.among
+          | inr left ↦ among_back name wanted (flat_map undefined_in (objects_as reads taken)) (names_more reads undefined_in name (filter weak taken) taken (λ m held. (passing weak m taken held).0) left)
         ]
 
     -- A program of given objects and of what is taken for them: its objects with import tables are those of the
@@ -303,12 +295,6 @@ module _ (reads : List ℕ → Option Object) (archive : List MemberView) where
       abbrev weak_objects : List Object
       weak_objects = objects_as reads (filter weak taken)
 
-      same_names : (f : Object → List (List ℕ)) (name : List ℕ) (members : List MemberView) → ((m : MemberView) → Among m members → Among m taken) → Among name (flat_map f (objects_as reads members)) →
-          Among name (flat_map f (objects_as reads taken))
-      same_names f name members there named =
-          let by = name_as reads f name members named in
-          as_name reads f name taken by.member by.object (there by.member by.held) by.taken by.among
-
       -- a name of an object of the program is one of a given object, or of a member that is taken
       from_sources : (f : Object → List (List ℕ)) → f null_descriptor ≡ [] → (name : List ℕ) → Among name (flat_map f objects) → Among name (flat_map f (own ++ objects_as reads taken))
       from_sources f nothing name named =
@@ -317,7 +303,7 @@ module _ (reads : List ℕ → Option Object) (archive : List MemberView) where
           (elim (cases_Bool (has_tables by.0)) [
             | inl tables ↦ among_back name (flat_map f own) (flat_map f (objects_as reads taken))
                 (elim (tables_from by.0 (passes has_tables by.0 objects by.1 tables)) [
-                  | inl member ↦ same_names f name linked (λ m there. (passing (λ y. not (weak y)) m taken (linked_other m there)).0) (among_flat f by.0 (objects_as reads linked) name member by.2)
+                  | inl member ↦ names_more reads f name linked taken (λ m there. (passing (λ y. not (weak y)) m taken (linked_other m there)).0) (among_flat f by.0 (objects_as reads linked) name member by.2)
                   | inr null ↦ absurd (in_nothing name (subst (Among name) nothing (subst (λ o. Among name (f o)) null by.2)))
                 ])
             | inr plain ↦ (
@@ -325,7 +311,7 @@ module _ (reads : List ℕ → Option Object) (archive : List MemberView) where
                 elim (among_either by.0 own weak_objects (contains_among by.0 (own ++ weak_objects) ((others by.0).0 (among_contains by.0 (filter (λ o. not (has_tables o)) objects) kept)))) [
                   | inl given ↦ among_front name (flat_map f own) (flat_map f (objects_as reads taken)) (among_flat f by.0 own name given by.2)
                   | inr of_weak ↦ among_back name (flat_map f own) (flat_map f (objects_as reads taken))
-                      (same_names f name (filter weak taken) (λ m there. (passing weak m taken there).0) (among_flat f by.0 weak_objects name of_weak by.2))
+                      (names_more reads f name (filter weak taken) taken (λ m there. (passing weak m taken there).0) (among_flat f by.0 weak_objects name of_weak by.2))
                 ])
           ])
 

@@ -11,7 +11,7 @@ use Rattle.implib.specs.declared.machine.MachineType.{MachineType}
 use Rattle.implib.specs.Members.MemberSpec.{MemberView}
 use Rattle.implib.proofs.Link.LinkedMembers.{among_contains}
 use Rattle.implib.proofs.Link.Ranges.{Among, all_among, among_back, among_first, among_front, among_later}
-use Rattle.implib_link.specs.Gnu.Program.{ClaimsNone, HaveSame, claimed_names}
+use Rattle.implib_link.specs.Gnu.Program.{HaveSame, claimed_names}
 use Rattle.implib_link.specs.Search.Archives.{IsArchive, Library, archive_of}
 use Rattle.implib_link.specs.Search.Closed.{AreLinkedFor, AreTakenIntoAs, LinksClosed, PullsIntoAs, TakesInto, TakesIntoAs, references_of, unresolved}
 use Rattle.implib_link.specs.Search.Given.{AreGiven}
@@ -21,8 +21,8 @@ use Rattle.implib_link.specs.Search.Sweeps.{IndexEntry, index_at, members_at, nu
 use Rattle.implib_link.proofs.Search.ArchiveGroups.{found_or_not}
 use Rattle.implib_link.proofs.Search.Closed.{closed_links}
 use Rattle.implib_link.proofs.Search.Given.{given_closes}
-use Rattle.implib_link.proofs.Search.Closing.{unresolved_from, unresolved_parts}
-use Rattle.implib_link.proofs.Search.Lists.{all_listed, among_any, any_among, among_either, among_flat_map, among_listed, as_name, contains_among, listed_is, listed_once, name_as, passes, passing, among_at, at_index}
+use Rattle.implib_link.proofs.Search.Closing.{unresolved_from, unresolved_parts, claims_apart}
+use Rattle.implib_link.proofs.Search.Lists.{all_listed, among_any, any_among, among_either, among_flat_map, among_listed, as_name, contains_among, listed_is, listed_once, name_as, passes, passing, among_at, at_index, names_more, among_filter}
 use Rattle.implib_link.proofs.Search.Sweeps.{IsFirstAt, Lifts, all_there, among_number, entries_of, entry_there, first_at, none_first, none_left, number_among, number_taken, swept_adds, sweeps_in_turn, sweeps_keep, taken_number, once_by}
 use Rattle.std.proofs.lemmas.Option.{same_Some, none-some}
 use Rattle.implib_link.proofs.Search.Search.{only_one}
@@ -76,11 +76,7 @@ unfolding AreUnclaimedBehind Among
 unclaimed_later members read [] none name listed claimed = claimed
 unclaimed_later members read (input ∷ inputs) none name listed claimed =
     elim (refs_either claimed_names (object_of input) (objects_given inputs) name claimed) [
-      | inl here ↦
-          let from = among_flat_map claimed_names name (object_of input) here in
-          true≢false (sym (among_any name (claimed_names from.0) from.2)
-          ∙ all_among (λ n. list_any (bytes_eq n) (claimed_names from.0) ≡ false) name (listed_at members read) listed
-          (all_among (ClaimsNone (listed_at members read)) from.0 (object_of input) from.1 none.0))
+      | inl here ↦ claims_apart (listed_at members read) (object_of input) none.0 name listed here
       | inr behind ↦ unclaimed_later members (read ++ numbers_of input) inputs none.1 name (listed_more members read (numbers_of input) name listed) behind
     ]
 
@@ -165,9 +161,7 @@ module _ (reads : List ℕ → Option Object) (members : List MemberView) where
       in_end : Among name (flat_map undefined_in (whole ++ objects_as reads final))
       in_end = elim (refs_either undefined_in own (objects_as reads taken) name (unresolved_parts (own ++ objects_as reads taken) name left).0) [
         | inl here ↦ refs_front undefined_in whole (objects_as reads final) name (subst (λ objects. Among name (flat_map undefined_in objects)) all (refs_front undefined_in own later name here))
-        | inr there ↦
-            let from = name_as reads undefined_in name taken there in
-            refs_back undefined_in whole (objects_as reads final) name (as_name reads undefined_in name final from.member from.object (within from.member from.held) from.taken from.among)
+        | inr there ↦ refs_back undefined_in whole (objects_as reads final) name (names_more reads undefined_in name taken final within there)
       ]
 
   -- no name that archives list is claimed by later objects
@@ -558,9 +552,7 @@ module _ (reads : List ℕ → Option Object) (members : List MemberView) where
     refs_of_more some more name are left =
         elim (refs_either undefined_in own (objects_as reads some) name left) [
           | inl here ↦ refs_front undefined_in own (objects_as reads more) name here
-          | inr there ↦
-              let from = name_as reads undefined_in name some there in
-              refs_back undefined_in own (objects_as reads more) name (as_name reads undefined_in name more from.member from.object (are from.member from.held) from.taken from.among)
+          | inr there ↦ refs_back undefined_in own (objects_as reads more) name (names_more reads undefined_in name some more are there)
         ]
 
     -- What a name pulls in after members that another search takes, that search takes, too.
@@ -650,11 +642,6 @@ module _ (reads : List ℕ → Option Object) (members : List MemberView) where
             | inr other ↦ inr (as_name reads f name (others_of is_given some) from.member from.object other from.taken from.among)
           ]
 
-      names_within : (f : Object → List (List ℕ)) (test : MemberView → Bool) (full : List MemberView) (name : List ℕ) → Among name (flat_map f (objects_as reads (filter test full))) → Among name (flat_map f (objects_as reads full))
-      names_within f test full name held =
-          let from = name_as reads f name (filter test full) held in
-          as_name reads f name full from.member from.object (passing test from.member full from.held).0 from.taken from.among
-
       module _ (full : List MemberView) (are_members : (x : MemberView) → Among x full → Among x members) (first : AreFirst members (names_left reads own full) full) where
         abbrev given_too : List Object
         given_too = own ++ objects_as reads (filter is_given full)
@@ -681,7 +668,7 @@ module _ (reads : List ℕ → Option Object) (members : List MemberView) where
                     let same : by.0 ≡ m = same_Some by.0 m (sym (first name by.0 there (among_contains by.0 full kept.0) (among_contains name by.0.symbols by.2)) ∙ first name m there (among_contains m full held) (among_contains name m.symbols listed)) in
                     true≢false (sym kept.1 ∙ (ap is_given same ∙ other))
               ]
-              | inr there ↦ parts.1 (refs_back claimed_names own (objects_as reads taken) name (names_within claimed_names (λ m. not (is_given m)) taken name there))
+              | inr there ↦ parts.1 (refs_back claimed_names own (objects_as reads taken) name (names_more reads claimed_names name (others_of is_given taken) taken (λ m held. among_filter (λ x. not (is_given x)) m taken held) there))
             ])
 
         others_in_turn : (taken : List MemberView) → ((x : MemberView) → Among x taken → Among x full) → AreTakenIntoAs reads members own taken → AreTakenIntoAs reads (others_of is_given members) given_too (others_of is_given taken)
@@ -714,9 +701,9 @@ module _ (reads : List ℕ → Option Object) (members : List MemberView) where
             (elim (refs_either undefined_in given_too (objects_as reads (others_of is_given full)) name parts.0) [
               | inl front ↦ elim (refs_either undefined_in own (objects_as reads (filter is_given full)) name front) [
                 | inl here ↦ refs_front undefined_in own (objects_as reads full) name here
-                | inr given ↦ refs_back undefined_in own (objects_as reads full) name (names_within undefined_in is_given full name given)
+                | inr given ↦ refs_back undefined_in own (objects_as reads full) name (names_more reads undefined_in name (filter is_given full) full (λ m held. among_filter is_given m full held) given)
               ]
-              | inr there ↦ refs_back undefined_in own (objects_as reads full) name (names_within undefined_in (λ m. not (is_given m)) full name there)
+              | inr there ↦ refs_back undefined_in own (objects_as reads full) name (names_more reads undefined_in name (others_of is_given full) full (λ m held. among_filter (λ x. not (is_given x)) m full held) there)
             ])
             (λ claimed. elim (refs_either claimed_names own (objects_as reads full) name claimed) [
               | inl here ↦ parts.1 (refs_front claimed_names given_too (objects_as reads (others_of is_given full)) name (refs_front claimed_names own (objects_as reads (filter is_given full)) name here))

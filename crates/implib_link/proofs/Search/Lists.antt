@@ -71,24 +71,24 @@ among_mapped f y (x ∷ xs) (inr m) = let later = among_mapped f y xs m in (late
 
 -- a name is among names exactly if the test finds it
 
-pub any_among : (name : List ℕ) (names : List (List ℕ)) → list_any (bytes_eq name) names ≡ true → Among name names
+-- what passes a test, where some does
+pub any_of : {X : Type 0} (test : X → Bool) (xs : List X) → list_any test xs ≡ true → (x : X) × Among x xs × (test x ≡ true)
 unfolding Among
-any_among name [] is = absurd (true≢false (sym is))
-any_among name (n ∷ names) is =
-    elim (cases_Bool (bytes_eq name n)) [
-      | inl same ↦ inl ((bytes_eq-Decides name n).0 same)
-      | inr other ↦ inr (any_among name names (rw other at is))
-    ]
+any_of test [] is = absurd (true≢false (sym is))
+any_of test (x ∷ xs) is =
+    elim (cases_Bool (test x)) [ inl here ↦ (x, inl refl, here) | inr none ↦ let later = any_of test xs (rw none at is) in (later.0, inr later.1, later.2) ]
+
+pub any_from : {X : Type 0} (test : X → Bool) (x : X) (xs : List X) → Among x xs → test x ≡ true → list_any test xs ≡ true
+unfolding Among
+any_from test x [] held is = absurd held
+any_from test x (y ∷ xs) (inl e) is = rw (subst (λ z. test z ≡ true) e is) refl
+any_from test x (y ∷ xs) (inr held) is = elim (cases_Bool (test y)) [ inl here ↦ rw here refl | inr none ↦ rw none (any_from test x xs held is) ]
+
+pub any_among : (name : List ℕ) (names : List (List ℕ)) → list_any (bytes_eq name) names ≡ true → Among name names
+any_among name names is = let by = any_of (bytes_eq name) names is in subst (λ n. Among n names) (sym ((bytes_eq-Decides name by.0).0 by.2)) by.1
 
 pub among_any : (name : List ℕ) (names : List (List ℕ)) → Among name names → list_any (bytes_eq name) names ≡ true
-unfolding Among
-among_any name [] m = absurd m
-among_any name (n ∷ names) (inl e) = rw ((bytes_eq-Decides name n).1 e) refl
-among_any name (n ∷ names) (inr m) =
-    elim (cases_Bool (bytes_eq name n)) [
-      | inl same ↦ rw same refl
-      | inr other ↦ rw other (among_any name names m)
-    ]
+among_any name names held = any_from (bytes_eq name) name names held ((bytes_eq-Decides name name).1 refl)
 
 pub apart_none : (name : List ℕ) (names : List (List ℕ)) → Among name names → AllByRecursion (λ other. bytes_eq name other ≡ false) names → ⊥
 apart_none name names m apart =
@@ -192,16 +192,15 @@ pub as_name : (reads : List ℕ → Option Object) (f : Object → List (List �
     Among name (flat_map f (objects_as reads members))
 as_name reads f name members m o held is there = among_flat f o (objects_as reads members) name (kept_into (λ (x : MemberView). reads x.bytes) members o m held is) there
 
+-- the names of more members' objects are more
+pub names_more : (reads : List ℕ → Option Object) (f : Object → List (List ℕ)) (name : List ℕ) (some more : List MemberView) → ((m : MemberView) → Among m some → Among m more) →
+    Among name (flat_map f (objects_as reads some)) → Among name (flat_map f (objects_as reads more))
+names_more reads f name some more within held = let by = name_as reads f name some held in as_name reads f name more by.member by.object (within by.member by.held) by.taken by.among
+
 -- a name that some of these is listed for
 pub any_member : (name : List ℕ) (members : List MemberView) → list_any (is_listed_for name) members ≡ true →
     (m : MemberView) × Among m members × Among name m.symbols
-unfolding Among
-any_member name [] is = absurd (true≢false (sym is))
-any_member name (x ∷ members) is =
-    elim (cases_Bool (is_listed_for name x)) [
-      | inl here ↦ (x, inl refl, any_among name x.symbols here)
-      | inr none ↦ let later = any_member name members (rw none at is) in (later.0, inr later.1, later.2)
-    ]
+any_member name members is = let by = any_of (is_listed_for name) members is in (by.0, by.1, any_among name by.0.symbols by.2)
 
 pub none_listed : (name : List ℕ) (m : MemberView) (members : List MemberView) → list_any (is_listed_for name) members ≡ false → Among m members →
     Among name m.symbols → ⊥

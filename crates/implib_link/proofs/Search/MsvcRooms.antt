@@ -24,7 +24,7 @@ use Rattle.implib_link.specs.Flavors.Program.{ask_in}
 use Rattle.implib_link.specs.Flavors.SectionSymbols.{with_section_symbols}
 use Rattle.implib_link.specs.Search.Archives.{Library, exports_of}
 use Rattle.implib_link.specs.Search.MsvcArchives.{imports_wanted, is_import_wanted}
-use Rattle.implib_link.specs.Search.MsvcExists.{msvc_library_room, short_room}
+use Rattle.implib_link.specs.Search.BothExists.{msvc_library_room, short_room}
 use Rattle.implib_link.proofs.Flavors.Block.{behind_descriptor, use_for}
 use Rattle.implib_link.proofs.Flavors.Expanded.{taken_descriptor, taken_null, taken_null_thunk}
 use Rattle.implib_link.proofs.Search.MsvcArchives.{imports_are}

@@ -23,9 +23,7 @@ use Rattle.implib_link.specs.Search.Archives.{Library, archive_of, exports_of, i
 use Rattle.implib_link.specs.Search.BothFlavors.{AreGivenForBoth, FlavorLibrary, IsFlavorArchive, archive_of_both, gnu_among, kept_of_both, msvc_among, targets_of_both, wanted_of_both}
 use Rattle.implib_link.specs.Search.Closed.{AreLinkedFor, AreTakenInto, IsClosed, LinksClosed, PullsInto, TakesInto, listed_in, unresolved, AreTakenIntoAs}
 use Rattle.implib_link.specs.Search.Given.{AreGiven, alias_targets, heads_of, symbols_kept, symbols_wanted, tails_of, wanted_at_most}
-use Rattle.implib_link.specs.Search.MsvcArchives.{symbols_of_all_shorts, symbols_of_short, symbols_of_shorts}
-use Rattle.implib_link.specs.Search.MsvcClosed.{AreTakenIntoFor, PullsIntoFor, TakesIntoFor}
-use Rattle.implib_link.specs.Search.MsvcGiven.{headers_of, short_targets}
+use Rattle.implib_link.specs.Search.MsvcArchives.{symbols_of_all_shorts, symbols_of_short, symbols_of_shorts, AreTakenIntoFor, PullsIntoFor, TakesIntoFor, headers_of, short_targets}
 use Rattle.implib_link.specs.Search.NoShorts.{WantsNoShort}
 use Rattle.implib_link.specs.Search.Search.{NamesNoHeadOrTail, first_listed, is_wanted, undefined_in}
 use Rattle.implib_link.proofs.Search.Lists.{among_at, all_from as all_each, passing, among_either, among_flat_map, contains_among, listed_is, name_as}

@@ -1,29 +1,23 @@
 -- The members of a library in either flavour, by their roles: what each is listed for, and what a linker takes it for.
-use Rattle.std.proofs.Common.{◌≡◌, ℕ, ◌+◌, Bool, true, false, List, [], ◌∷◌, Some, refl, ap, sym, ◌∙◌, subst, inl, inr, arith}
+use Rattle.std.proofs.Common.{◌≡◌, ℕ, Bool, true, false, List, [], ◌∷◌, Some, refl, ap, sym, ◌∙◌, inl, inr}
 use Rattle.std.specs.Prelude.{not, slice_get}
 use Rattle.implib.specs.declared.flavor.Flavor.{Flavor}
 use Rattle.implib.specs.declared.flavor.Flavor.TheVariants.{Gnu, Msvc}
 use Rattle.implib.specs.declared.machine.MachineType.{MachineType}
 use Rattle.implib.specs.Definition.{ExportView}
-use Rattle.implib.specs.Formats.File.{ObjectFile}
 use Rattle.implib.specs.Formats.Object.{Object, object_in}
 use Rattle.implib.specs.Import.{imp_symbol, is_alias}
 use Rattle.implib.specs.LibraryName.{linked_dll, linked_name, names_for}
 use Rattle.implib.specs.Members.Gnu.{head_object, head_symbol, iname_symbol, tail_object, weak_name}
-use Rattle.implib.specs.Members.GnuMembers.{alias_specs, export_spec, gnu_specs, head_spec, numbered_specs, numbered_specs_of, tail_spec}
+use Rattle.implib.specs.Members.GnuMembers.{export_spec, head_spec, tail_spec}
 use Rattle.implib.specs.Members.Members.{AreMembersOf}
-use Rattle.implib.specs.Members.MemberSpec.{MemberSpec, MemberView, file_bytes, member_of}
+use Rattle.implib.specs.Members.MemberSpec.{MemberSpec, MemberView, member_of}
 use Rattle.implib.specs.Members.Msvc.{short_import_symbol}
 use Rattle.implib.specs.Members.MsvcMembers.{descriptor_spec, null_descriptor_spec, null_thunk_spec}
 use Rattle.implib.specs.Members.MsvcObjects.{descriptor_symbol, null_descriptor_symbol, null_thunk_symbol}
-use Rattle.implib.specs.Members.ReadBack.{file_of}
 use Rattle.implib.specs.Members.WeakExternal.{weak_object, weak_spec}
 use Rattle.implib.specs.Formats.Layout.{entries_of, name_text, object_of}
-use Rattle.implib.proofs.Link.LinkedMembers.{among_reverse}
 use Rattle.implib.proofs.Link.Placement.{export, head, tail}
-use Rattle.implib.proofs.Link.Ranges.{Among, all_among, among_back, among_first, among_later}
-use Rattle.implib.proofs.Members.GnuReadings.{member_specs_read}
-use Rattle.implib.proofs.Members.MemberReadings.{ReadsBack}
 use Rattle.implib_link.specs.Flavors.Expansion.{expanded_in}
 use Rattle.implib_link.specs.Flavors.Program.{IsFoundByName, ask_in, symbol_in}
 use Rattle.implib_link.specs.Flavors.SectionSymbols.{with_section_symbols}
@@ -35,7 +29,7 @@ use Rattle.implib_link.specs.Search.Search.{undefined_in}
 use Rattle.implib_link.proofs.Flavors.Block.{asking, use_for}
 use Rattle.implib_link.proofs.Flavors.Claims.{claims_asking, claims_descriptor, claims_null, claims_thunk}
 use Rattle.implib_link.proofs.Flavors.Expanded.{taken_descriptor, taken_null, taken_null_thunk}
-use Rattle.implib_link.proofs.Flavors.Inputs.{export_plain, head_plain, object_taken, tail_plain}
+use Rattle.implib_link.proofs.Flavors.Inputs.{head_taken, tail_taken, export_taken, spec_taken, spec_held}
 use Rattle.implib_link.proofs.Gnu.Alone.{export_has, head_has, tail_has}
 use Rattle.implib_link.proofs.Gnu.Claims.{claimed_export, claimed_head, claimed_tail}
 use Rattle.implib_link.proofs.Search.ArchiveGroups.{export_of, head_of, tail_of}
@@ -43,7 +37,7 @@ use Rattle.implib_link.proofs.Search.ArchiveMembers.{export_entries, export_obje
 use Rattle.implib_link.proofs.Search.Lists.{among_at}
 use Rattle.implib_link.proofs.Search.Msvc.{asking_has, asking_not_weak, descriptor_has, descriptor_not_weak, left_asking, left_descriptor, left_null, left_thunk, null_has, null_not_weak, thunk_has, thunk_not_weak, weak_has_none, weak_is_weak}
 use Rattle.implib_link.proofs.Search.MsvcMembers.{IsPair, claims_weak, descriptor_is, descriptor_of, left_weak, null_is, null_of, short_is, short_of, taken_weak, thunk_is, thunk_of, weak_is}
-use Rattle.implib_link.proofs.Search.Search.{left_export, left_head, left_tail, numbered_in}
+use Rattle.implib_link.proofs.Search.Search.{left_export, left_head, left_tail}
 
 -- a library in a flavour
 abbrev pub in_flavor : Flavor → Library → FlavorLibrary
@@ -228,20 +222,6 @@ tables_as machine flavor l (Weak n e b) = weak_has_none machine (weak_symbol fla
 
 -- What members for GNU's linker are read as: as objects, and so are they taken.
 module _ (machine : MachineType) (l : Library) (made : IsLibrary machine l) where
-  spec_taken : (p : MemberSpec) (q o : Object) → file_of p.contents ≡ ObjectFile q → Among p (gnu_specs machine (names_for Gnu l.definition) (exports_of l)) → object_in (file_bytes p.contents) ≡ Some o →
-      expanded_in machine (file_bytes p.contents) ≡ Some (with_section_symbols o)
-  spec_taken p q o same held is =
-      object_taken machine (file_bytes p.contents) q o
-      ((all_among (λ (s : MemberSpec). ReadsBack s.contents) p (gnu_specs machine (names_for Gnu l.definition) (exports_of l)) held (member_specs_read l.definition machine l.members made)).read ∙ ap Some same) is
-
-  -- a specification of an export's members is one of the library's
-  spec_held : (n : ℕ) (e : ExportView) (p : MemberSpec) → slice_get (exports_of l) n ≡ Some e → Among p (numbered_specs_of machine (linked_name l.definition) n e) →
-      Among p (gnu_specs machine (names_for Gnu l.definition) (exports_of l))
-  spec_held n e p is own =
-      let position : 0 + n ≡ n = omega arith in
-      among_later _ _ _ (among_later _ _ _ (among_reverse p (numbered_specs machine (linked_name l.definition) 0 (exports_of l))
-      (numbered_in machine (linked_name l.definition) (exports_of l) 0 n e p is (subst (λ k. Among p (numbered_specs_of machine (linked_name l.definition) k e)) (sym position) own))))
-
   weak_plain : (weak target : List ℕ) → taken_weak machine weak target ≡ object_of (weak_object machine weak target)
   unfolding with_section_symbols weak_object object_of entries_of name_text
   weak_plain weak target = refl
@@ -256,17 +236,14 @@ module _ (machine : MachineType) (l : Library) (made : IsLibrary machine l) wher
 
   gnu_taken : (libraries : List FlavorLibrary) (r : Role) → IsRole libraries (in_flavor Gnu l) r → expanded_in machine (member machine Gnu l r).bytes ≡ Some (object machine Gnu l r)
   unfolding head_spec tail_spec export_spec
-  gnu_taken libraries Top is =
-      spec_taken (head_spec machine (linked_name l.definition)) _ _ refl (among_later _ _ _ (among_first _ _)) (head_object_is machine l made) ∙ ap Some (head_plain machine (names_for Gnu l.definition))
-  gnu_taken libraries Last is = spec_taken (tail_spec machine (names_for Gnu l.definition)) _ _ refl (among_first _ _) (tail_object_is machine l made) ∙ ap Some (tail_plain machine (names_for Gnu l.definition))
+  gnu_taken libraries Top is = head_taken l.definition machine l.members made
+  gnu_taken libraries Last is = tail_taken l.definition machine l.members made
   gnu_taken libraries Null is = absurd is
-  gnu_taken libraries (Own n e) is =
-      let p : MemberSpec = export_spec machine (linked_name l.definition) n e in
-      spec_taken p _ _ refl (spec_held n e p is.0 (among_back p (alias_specs machine (linked_name l.definition) n e) (p ∷ []) (among_first _ _))) (export_object_is machine l made n e is.0)
-      ∙ ap Some (export_plain machine (names_for Gnu l.definition) e)
+  gnu_taken libraries (Own n e) is = export_taken l.definition machine l.members made n e is.0
   gnu_taken libraries (Weak n e true) is = absurd is.1
   gnu_taken libraries (Weak n e false) is =
-      spec_taken (weak_spec machine (weak_name (linked_name l.definition) n) e.name e.alias_target) _ _ refl (spec_held n e _ is.0 (weak_there machine l made n e is.1.0)) (weak_object_is machine l made n e is.0 is.1.0)
+      let p : MemberSpec = weak_spec machine (weak_name (linked_name l.definition) n) e.name e.alias_target in
+      spec_taken l.definition machine l.members made p _ _ refl (spec_held l.definition machine l.members made n e p is.0 (weak_there machine l made n e is.1.0)) (weak_object_is machine l made n e is.0 is.1.0)
 
 -- What a linker for a machine takes members for.
 

@@ -1,8 +1,8 @@
 -- What a linker takes of the members for GNU's linker.
 use Rattle.std.proofs.Common.{◌≡◌, ℕ, zero, suc, ◌+◌, ◌<◌, Bool, length, true, List, [], ◌∷◌, ◌++◌, Option, Some, None, refl, ap, sym, ◌∙◌, subst, inl, inr, ◌⊎◌, arith}
 use Rattle.std.specs.Prelude.{bytes_eq, slice_get, slice_index}
-use Rattle.std.specs.List.{IsDistinct, cons_option, filter, filter_map, list_any}
-use Rattle.std.proofs.lemmas.Bool.{cases_Bool, true≢false}
+use Rattle.std.specs.List.{IsDistinct, filter, filter_map, list_any}
+use Rattle.std.proofs.lemmas.Bool.{cases_Bool}
 use Rattle.std.proofs.lemmas.List.{append_assoc, append_cancel_left, length-append}
 use Rattle.implib.specs.declared.flavor.Flavor.TheVariants.{Gnu}
 use Rattle.implib.specs.declared.machine.MachineType.{MachineType}
@@ -20,7 +20,7 @@ use Rattle.implib.proofs.Link.LinkedMembers.{among_map, among_reverse}
 use Rattle.implib.proofs.Link.Placement.{export, head, tail}
 use Rattle.implib.proofs.Link.Ranges.{Among, among_back, among_first, among_front, among_later}
 use Rattle.implib_link.specs.Search.Search.{is_wanted, undefined_in, linked_if_any, numbers_passing}
-use Rattle.implib_link.proofs.Search.Lists.{all_listed, among_any, among_either, among_mapped, any_among, one_member, among_option}
+use Rattle.implib_link.proofs.Search.Lists.{all_listed, among_any, among_either, among_mapped, any_among, one_member, any_from, any_of, kept_into, kept_from}
 use Rattle.implib.specs.LibraryName.{NamesOfDll, linked_name, names_for}
 use Rattle.std.proofs.lemmas.Option.{same_Some}
 
@@ -103,53 +103,32 @@ some_export test number (e ∷ exports) n chosen is =
 
 -- a name of some names is wanted
 pub wants : (wanted names : List (List ℕ)) (name : List ℕ) → Among name names → Among name wanted → list_any (λ n. list_any (bytes_eq n) wanted) names ≡ true
-unfolding Among
-wants wanted [] name held want = absurd held
-wants wanted (n ∷ names) name (inl e) want = rw (among_any n wanted (subst (λ t. Among t wanted) e want)) refl
-wants wanted (n ∷ names) name (inr held) want =
-    elim (cases_Bool (list_any (bytes_eq n) wanted)) [ inl is ↦ rw is refl | inr none ↦ rw none (wants wanted names name held want) ]
+wants wanted names name held want = any_from (λ n. list_any (bytes_eq n) wanted) name names held (among_any name wanted want)
 
 pub wanted_name : (wanted names : List (List ℕ)) → list_any (λ n. list_any (bytes_eq n) wanted) names ≡ true → (name : List ℕ) × Among name names × Among name wanted
-unfolding Among
-wanted_name wanted [] is = absurd (true≢false (sym is))
-wanted_name wanted (n ∷ names) is =
-    elim (cases_Bool (list_any (bytes_eq n) wanted)) [
-      | inl here ↦ (n, inl refl, any_among n wanted here)
-      | inr none ↦ let later = wanted_name wanted names (rw none at is) in (later.0, inr later.1, later.2)
-    ]
+wanted_name wanted names is = let by = any_of (λ n. list_any (bytes_eq n) wanted) names is in (by.0, by.1, any_among by.0 wanted by.2)
 
 -- The specifications of chosen exports.
 
 pub member_spec_chosen : (machine : MachineType) (dll : List ℕ) (exports : List ExportView) (chosen : List ℕ) (n : ℕ) (e : ExportView) → Among n chosen →
     slice_get exports n ≡ Some e → Among (export_spec machine dll n e) (filter_map (numbered_spec machine dll exports) chosen)
-unfolding Among
-member_spec_chosen machine dll exports [] n e held is = absurd held
-member_spec_chosen machine dll exports (k ∷ chosen) n e (inl same) is =
-    let here : slice_get exports k ≡ Some e = subst (λ m. slice_get exports m ≡ Some e) same is in
-    rw here (inl (ap (λ m. export_spec machine dll m e) same))
-member_spec_chosen machine dll exports (k ∷ chosen) n e (inr held) is =
-    among_option (numbered_spec machine dll exports k) (export_spec machine dll n e) (filter_map (numbered_spec machine dll exports) chosen)
-    (member_spec_chosen machine dll exports chosen n e held is)
+member_spec_chosen machine dll exports chosen n e held is = kept_into (numbered_spec machine dll exports) chosen (export_spec machine dll n e) n held (ap (option_map (export_spec machine dll n)) is)
 
 -- a specification of a chosen export
 abbrev pub Chosen : MachineType → List ℕ → List ExportView → List ℕ → MemberSpec → Type 0
 Chosen machine dll exports chosen p =
     (n : ℕ) × (e : ExportView) × Among n chosen × (slice_get exports n ≡ Some e) × (p ≡ export_spec machine dll n e)
 
-first_chosen : (machine : MachineType) (dll : List ℕ) (exports : List ExportView) (k : ℕ) (chosen : List ℕ) (p : MemberSpec) (o : Option ExportView) → slice_get exports k ≡ o →
-    (Among p (filter_map (numbered_spec machine dll exports) chosen) → Chosen machine dll exports chosen p) →
-    Among p (cons_option (option_map (export_spec machine dll k) o) (filter_map (numbered_spec machine dll exports) chosen)) → Chosen machine dll exports (k ∷ chosen) p
-unfolding Among
-first_chosen machine dll exports k chosen p None is next held = let later = next held in (later.0, later.1, inr later.2, later.3, later.4)
-first_chosen machine dll exports k chosen p (Some e) is next (inl same) = (k, e, inl refl, is, same)
-first_chosen machine dll exports k chosen p (Some e) is next (inr held) = let later = next held in (later.0, later.1, inr later.2, later.3, later.4)
+mapped_some : {X Y : Type 0} (f : X → Y) (o : Option X) (y : Y) → option_map f o ≡ Some y → (x : X) × (o ≡ Some x) × (y ≡ f x)
+mapped_some f None y is = cc
+mapped_some f (Some x) y is = (x, refl, sym (same_Some (f x) y is))
 
 pub chosen_member_spec : (machine : MachineType) (dll : List ℕ) (exports : List ExportView) (chosen : List ℕ) (p : MemberSpec) →
     Among p (filter_map (numbered_spec machine dll exports) chosen) → Chosen machine dll exports chosen p
-unfolding Among
-chosen_member_spec machine dll exports [] p held = absurd held
-chosen_member_spec machine dll exports (k ∷ chosen) p held =
-    first_chosen machine dll exports k chosen p (slice_get exports k) refl (chosen_member_spec machine dll exports chosen p) held
+chosen_member_spec machine dll exports chosen p held =
+    let from = kept_from (numbered_spec machine dll exports) chosen p held in
+    let e = mapped_some (export_spec machine dll from.0) (slice_get exports from.0) p from.2 in
+    (from.0, e.0, from.1, e.1, e.2)
 
 -- What the members leave to others, claim, and are listed for.
 
@@ -304,8 +283,8 @@ module _ (d : DefinitionView) (machine : MachineType) (wanted : List (List ℕ))
       (among_front _ (filter_map (numbered_spec machine (linked_name d) (public_exports (renamed d))) chosen) (tail_spec machine (names_for Gnu d) ∷ [])
       (member_spec_chosen machine (linked_name d) (public_exports (renamed d)) chosen x.number x.export (are.all x.number x.export x.is want) x.is)))))
 
-  any_of : (k : ℕ) → Among k chosen → AnyWanted (public_exports (renamed d)) wanted
-  any_of k held = let found = are.only k held in record { number = k; export = found.0; is = found.1; want = found.2 }
+  some_of : (k : ℕ) → Among k chosen → AnyWanted (public_exports (renamed d)) wanted
+  some_of k held = let found = are.only k held in record { number = k; export = found.0; is = found.1; want = found.2 }
 
   needed_member_spec : (m : MemberView) (p : MemberSpec) → m ≡ member_of p → AnyWanted (public_exports (renamed d)) wanted →
       (p ≡ head_spec machine (linked_name d)) ⊎ ((p ≡ tail_spec machine (names_for Gnu d)) ⊎ Chosen machine (linked_name d) (public_exports (renamed d)) chosen p) →
@@ -321,4 +300,4 @@ module _ (d : DefinitionView) (machine : MachineType) (wanted : List (List ℕ))
   needed_if_linked m held =
       let some = linked_some d machine chosen m held in
       let p = among_mapped member_of m (member_specs_linked machine (names_for Gnu d) (public_exports (renamed d)) chosen) some.2 in
-      needed_member_spec m p.0 p.2 (any_of some.0 some.1) (member_spec_linked machine (names_for Gnu d) (public_exports (renamed d)) chosen p.0 p.1)
+      needed_member_spec m p.0 p.2 (some_of some.0 some.1) (member_spec_linked machine (names_for Gnu d) (public_exports (renamed d)) chosen p.0 p.1)

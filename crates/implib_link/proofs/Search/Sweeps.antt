@@ -11,7 +11,7 @@ use Rattle.implib.proofs.Link.Ranges.{Among, among_first, among_flat, among_late
 use Rattle.implib_link.specs.Search.Closed.{AreTakenIntoAs, PullsIntoAs, TakesIntoAs, unresolved}
 use Rattle.implib_link.specs.Search.Search.{first_listed, is_listed_for, objects_as}
 use Rattle.implib_link.specs.Search.Sweeps.{IndexEntry, SweepsTake, entries_at, index_at, index_of, is_due, is_left, members_at, numbers_from, sweeps, swept}
-use Rattle.implib_link.proofs.Search.Lists.{all_listed, among_any, among_flat_map, among_listed, among_mapped, any_among, contains_among, distinct_apart, distinct_later, listed_is, among_at, at_index, from_option, among_option}
+use Rattle.implib_link.proofs.Search.Lists.{all_listed, among_any, among_flat_map, among_listed, among_mapped, any_among, contains_among, distinct_apart, distinct_later, listed_is, among_at, at_index, any_from, any_of, kept_into, kept_from}
 use Rattle.std.proofs.lemmas.Option.{same_Some, slice_get_within}
 
 -- Numbers and members.
@@ -79,35 +79,19 @@ first_at (y ∷ archive) name (suc n) m first at listed =
 -- A number is taken exactly where its member is.
 
 pub number_among : (n : ℕ) (numbers : List ℕ) → list_any (λ number. number == n) numbers ≡ true → Among n numbers
-unfolding Among
-number_among n [] is = absurd (true≢false (sym is))
-number_among n (k ∷ numbers) is =
-    elim (cases_Bool (k == n)) [ inl same ↦ inl (sym (eqb-true k n same)) | inr other ↦ inr (number_among n numbers (rw other at is)) ]
+number_among n numbers is = let by = any_of (λ number. number == n) numbers is in subst (λ k. Among k numbers) (eqb-true by.0 n by.2) by.1
 
 pub among_number : (n : ℕ) (numbers : List ℕ) → Among n numbers → list_any (λ number. number == n) numbers ≡ true
-unfolding Among
-among_number n [] held = absurd held
-among_number n (k ∷ numbers) (inl same) = (let own : (k == n) ≡ true = eq-eqb k n (sym same) in rw own refl)
-among_number n (k ∷ numbers) (inr held) = elim (cases_Bool (k == n)) [ inl same ↦ rw same refl | inr other ↦ rw other (among_number n numbers held) ]
+among_number n numbers held = any_from (λ number. number == n) n numbers held (eq-eqb n n refl)
 
 pub members_next : (archive : List MemberView) (n : ℕ) (m : MemberView) (numbers : List ℕ) → slice_get archive n ≡ Some m → members_at archive (n ∷ numbers) ≡ m ∷ members_at archive numbers
 members_next archive n m numbers at = ap (λ o. cons_option o (members_at archive numbers)) at
 
 pub taken_number : (archive : List MemberView) (numbers : List ℕ) (m : MemberView) → Among m (members_at archive numbers) → (n : ℕ) × Among n numbers × (slice_get archive n ≡ Some m)
-unfolding Among
-taken_number archive [] m held = absurd held
-taken_number archive (n ∷ numbers) m held =
-    elim (from_option (slice_get archive n) m (members_at archive numbers) held) [
-      | inl here ↦ (n, among_first n numbers, here)
-      | inr behind ↦ let later = taken_number archive numbers m behind in (later.0, among_later later.0 n numbers later.1, later.2)
-    ]
+taken_number archive numbers m held = kept_from (slice_get archive) numbers m held
 
 pub number_taken : (archive : List MemberView) (numbers : List ℕ) (n : ℕ) (m : MemberView) → Among n numbers → slice_get archive n ≡ Some m → Among m (members_at archive numbers)
-unfolding Among
-number_taken archive [] n m held at = absurd held
-number_taken archive (k ∷ numbers) n m (inl same) at =
-    subst (Among m) (sym (members_next archive k m numbers (subst (λ j. slice_get archive j ≡ Some m) same at))) (among_first m (members_at archive numbers))
-number_taken archive (k ∷ numbers) n m (inr held) at = among_option (slice_get archive k) m (members_at archive numbers) (number_taken archive numbers n m held at)
+number_taken archive numbers n m held at = kept_into (slice_get archive) numbers m n held at
 
 -- The index.
 

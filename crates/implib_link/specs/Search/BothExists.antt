@@ -1,6 +1,6 @@
 -- That there is a closed program of an archive of both flavours: how much room import tables need, by the definitions alone,
 -- and what is linked for given objects, packed.
-use Rattle.std.specs.Prelude.{ℕ, ◌+◌, List, ◌++◌}
+use Rattle.std.specs.Prelude.{ℕ, ◌+◌, List, ◌++◌, length}
 use Rattle.std.specs.List.{sum_by}
 use Rattle.implib.specs.declared.flavor.Flavor.{Flavor}
 use Rattle.implib.specs.declared.flavor.Flavor.TheVariants.{Gnu, Msvc}
@@ -11,11 +11,21 @@ use Rattle.implib.specs.Link.Placement.{placed_from}
 use Rattle.implib.specs.Members.MemberSpec.{MemberView}
 use Rattle.implib_link.specs.Flavors.Program.{all_members, objects_taken}
 use Rattle.implib_link.specs.Gnu.Packed.{packed}
-use Rattle.implib_link.specs.Search.Archives.{Library}
+use Rattle.implib_link.specs.Search.Archives.{Library, exports_of}
 use Rattle.implib_link.specs.Search.BothFlavors.{FlavorLibrary, IsClosedForBoth, LinksClosedForBoth, inputs_of_both, msvc_among}
 use Rattle.implib_link.specs.Search.Exists.{LieWithin, library_room}
 use Rattle.implib_link.specs.Search.MsvcArchives.{first_null, weak_in}
-use Rattle.implib_link.specs.Search.MsvcExists.{msvc_library_room}
+use Rattle.implib.specs.Definition.{ExportView}
+use Rattle.implib.specs.Members.Msvc.{short_import_symbol}
+
+-- No more bytes of the import tables than these come from a short import, with those that align its parts:
+-- its symbol and 40 beside it.
+abbrev pub short_room : ExportView → ℕ
+short_room e = 40 + length (short_import_symbol e)
+
+-- from a library: its DLL's name, 72 beside it, and those of its exports
+abbrev pub msvc_library_room : Library → ℕ
+msvc_library_room l = 72 + length l.definition.import_name + sum_by short_room (exports_of l)
 
 -- No more bytes of the import tables than these come from a library, in its flavour.
 abbrev pub room_in : Flavor → Library → ℕ

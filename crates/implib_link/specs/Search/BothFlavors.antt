@@ -25,9 +25,7 @@ use Rattle.implib_link.specs.Search.Archives.{IsArchive, IsWeakData, Library, Na
 use Rattle.implib_link.specs.Search.Closed.{listed_in, unresolved}
 use Rattle.implib_link.specs.Search.Given.{alias_targets, heads_of, symbols_wanted, tails_of}
 use Rattle.implib_link.specs.Search.Msvc.{left_in}
-use Rattle.implib_link.specs.Search.MsvcArchives.{IsMsvcArchive, IsWeakShort, NamesNoHeaderOf, first_null, imports_wanted, others_in, short_input_if_any, short_inputs, shorts_linked, symbols_of_all_shorts, wanted_with_weak, weak_in}
-use Rattle.implib_link.specs.Search.MsvcGiven.{headers_of, import_symbols_wanted, short_targets}
-use Rattle.implib_link.specs.Search.MsvcClosed.{IsWeakTaken, TakesIntoFor, wanted_for}
+use Rattle.implib_link.specs.Search.MsvcArchives.{IsMsvcArchive, IsWeakShort, NamesNoHeaderOf, first_null, imports_wanted, others_in, short_input_if_any, short_inputs, shorts_linked, symbols_of_all_shorts, wanted_with_weak, weak_in, headers_of, import_symbols_wanted, short_targets, IsWeakTaken, TakesIntoFor, wanted_for}
 use Rattle.implib_link.specs.Search.Search.{exports_wanted}
 
 -- a library, and the flavour of its members

@@ -18,6 +18,8 @@ use Rattle.implib_link.specs.Search.Archives.{Library, exports_of, has_weak}
 use Rattle.implib_link.specs.Search.Msvc.{NamesNoHeader, is_short_wanted, left_in}
 use Rattle.implib_link.specs.Search.Search.{numbers_passing}
 use Rattle.implib.specs.LibraryName.{linked_dll}
+use Rattle.implib.specs.Formats.Object.{Object}
+use Rattle.implib_link.specs.Search.Closed.{AreTakenIntoAs, PullsIntoAs, TakesIntoAs, unresolved}
 
 -- a library's members are its members for Microsoft's linker
 abbrev pub IsMsvcLibrary : MachineType → Library → Type 0
@@ -121,3 +123,50 @@ pub record IsWeakShort (libraries : List Library) (names : List (List ℕ)) (m :
   pub is : (name ≡ short_import_symbol export) ⊎ (name ≡ imp_symbol (short_import_symbol export))
   pub named : Contains names name
   pub listed : m.symbols ≡ name ∷ []
+
+-- Names by which libraries and their exports are wanted: what given objects must not name, or must.
+
+-- the symbols by which only members name each other; none, where there is no library
+abbrev pub headers_of : List Library → List (List ℕ)
+headers_of [] = []
+headers_of (l ∷ libraries) =
+    null_descriptor_symbol
+    ∷ flat_map
+    (λ x. descriptor_symbol (linked_dll x.definition) ∷ null_thunk_symbol (linked_dll x.definition) ∷ [])
+    (l ∷ libraries)
+
+-- the targets of aliases, in all libraries: those of their symbols, and of their addresses
+abbrev pub short_targets : List Library → List (List ℕ)
+short_targets libraries =
+    flat_map
+    (λ l. flat_map (λ e. e.alias_target ∷ imp_symbol e.alias_target ∷ []) (filter is_short_alias (exports_of l)))
+    libraries
+
+-- the symbols of the short imports that are wanted by some names
+abbrev pub import_symbols_wanted : List Library → List (List ℕ) → List (List ℕ)
+import_symbols_wanted libraries names =
+    flat_map (λ l. flat_map short_import_symbols (filter (is_import_wanted names) (exports_of l))) libraries
+
+-- What a linker takes for objects that are given, where nothing is wanted but what the objects leave unresolved.
+
+-- an unresolved name pulls in a member, where a linker for a machine reads short imports as what it takes them for
+abbrev pub PullsIntoFor : MachineType → List MemberView → List Object → List MemberView → List ℕ → MemberView → Type 0
+PullsIntoFor machine = PullsIntoAs (expanded_in machine)
+
+-- members are taken one after another
+abbrev pub AreTakenIntoFor : MachineType → List MemberView → List Object → List MemberView → Type 0
+AreTakenIntoFor machine = AreTakenIntoAs (expanded_in machine)
+
+-- what the linker takes
+abbrev pub TakesIntoFor : MachineType → List MemberView → List Object → List MemberView → Type 0
+TakesIntoFor machine = TakesIntoAs (expanded_in machine)
+
+-- what is wanted in a closed program: what the given objects leave unresolved, and the targets of the weak
+-- externals that are taken for them
+abbrev pub wanted_for : MachineType → List Object → List MemberView → List (List ℕ)
+wanted_for machine own taken = wanted_with_weak machine (unresolved own) taken
+
+-- a name is one that a weak external makes which is taken
+abbrev pub IsWeakTaken : MachineType → List MemberView → List ℕ → Type 0
+IsWeakTaken machine taken name =
+    (m : MemberView) × Contains (weak_in machine taken) m × (m.symbols ≡ name ∷ [])

@@ -10,7 +10,7 @@ ghost use Rattle.implib_link.specs.Search.BothFlavors.{IsFlavorArchive, archive_
 ghost use Rattle.implib_link.specs.Search.Closed.{AreLinkedFor, LinksClosed, TakesInto};
 ghost use Rattle.implib_link.specs.Search.Closed.{listed_in, unresolved};
 ghost use Rattle.implib_link.specs.Search.Given.{AreGiven};
-ghost use Rattle.implib_link.specs.Search.MsvcClosed.{TakesIntoFor};
+ghost use Rattle.implib_link.specs.Search.MsvcArchives.{TakesIntoFor};
 ghost use Rattle.implib_link.specs.Search.NoShorts.{WantsNoShort};
 ghost use Rattle.std.specs.List.{Contains};
 ghost use Rattle.std.specs.Prelude.{ℕ, List};

@@ -27,7 +27,7 @@ use Rattle.implib_link.specs.Flavors.LldTables.{addresses_at, directory_built}
 use Rattle.implib_link.specs.Search.Archives.{exports_of}
 use Rattle.implib_link.specs.Search.Closed.{TakesInto, unresolved}
 use Rattle.implib_link.specs.Search.Msvc.{TakesFor}
-use Rattle.implib_link.specs.Search.MsvcClosed.{TakesIntoFor}
+use Rattle.implib_link.specs.Search.MsvcArchives.{TakesIntoFor}
 use Rattle.implib_link.specs.Search.Search.{Takes}
 use Rattle.implib_link_instances.specs.Worked.MsvcArchives.{msvc_zed}
 use Rattle.implib_link_instances.specs.Worked.NearPrograms.{defines_mid, lld_defines, mid_alone}

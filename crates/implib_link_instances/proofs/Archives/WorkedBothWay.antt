@@ -27,7 +27,7 @@ use Rattle.implib_link.specs.Gnu.Program.{ClaimsNone}
 use Rattle.implib_link.specs.Search.BothFlavors.{AreGivenForBoth, IsClosedForBoth, IsFlavorArchive, archive_of_both, kept_of_both}
 use Rattle.implib_link.specs.Search.Closed.{listed_in, unresolved}
 use Rattle.implib_link.specs.Search.Msvc.{TakesFor, left_in}
-use Rattle.implib_link.specs.Search.MsvcClosed.{TakesIntoFor}
+use Rattle.implib_link.specs.Search.MsvcArchives.{TakesIntoFor}
 use Rattle.implib_link_instances.specs.Worked.Calls.{first_bytes, given_on, last_bytes}
 use Rattle.implib_link_instances.specs.Worked.MsvcArchives.{thunk_named}
 use Rattle.implib_link.proofs.Gnu.Choices.{found, found_in}

@@ -10,8 +10,7 @@ use Rattle.implib_link.specs.Gnu.Program.{ClaimsNone, has_tables}
 use Rattle.implib_link.specs.Search.BothFlavors.{AreGivenForBoth, IsFlavorArchive, NamesNoMembers, archive_of_both, kept_of_both, inputs_of_both, msvc_among}
 use Rattle.implib_link.specs.Search.Closed.{listed_in, unresolved}
 use Rattle.implib_link.specs.Search.Msvc.{TakesFor, left_in}
-use Rattle.implib_link.specs.Search.MsvcArchives.{wanted_with_weak, short_inputs, weak_in, first_null}
-use Rattle.implib_link.specs.Search.MsvcClosed.{wanted_for}
+use Rattle.implib_link.specs.Search.MsvcArchives.{wanted_with_weak, short_inputs, weak_in, first_null, wanted_for}
 use Rattle.implib_link_instances.specs.Worked.Programs.{symbol_on}
 use Rattle.implib_link.proofs.Search.Taken.{both_taken}
 use Rattle.implib_link.proofs.Search.BothClosed.{closed_links_of_both, packed_both}

@@ -16,8 +16,7 @@ use Rattle.implib_link.specs.Search.BothExists.{tables_end_of_both}
 use Rattle.implib_link.specs.Search.Closed.{listed_in, unresolved}
 use Rattle.implib_link.specs.Search.Exists.{LieWithin}
 use Rattle.implib_link.specs.Search.Msvc.{TakesFor, left_in}
-use Rattle.implib_link.specs.Search.MsvcArchives.{wanted_with_weak, short_inputs, weak_in, first_null}
-use Rattle.implib_link.specs.Search.MsvcClosed.{wanted_for}
+use Rattle.implib_link.specs.Search.MsvcArchives.{wanted_with_weak, short_inputs, weak_in, first_null, wanted_for}
 use Rattle.implib_link.proofs.Search.Taken.{both_taken}
 use Rattle.implib_link.proofs.Search.BothClosed.{closed_links_of_both, packed_both}
 use Rattle.implib_link.proofs.Search.BothExists.{placed_within}

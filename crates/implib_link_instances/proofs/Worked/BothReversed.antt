@@ -10,8 +10,7 @@ use Rattle.implib_link.specs.Search.Archives.{symbols_of_library}
 use Rattle.implib_link.specs.Search.BothFlavors.{AreClosedForBoth, IsClosedForBoth, IsFlavorArchive, NamesNoMembers, archive_of_both, gnu_among, msvc_among}
 use Rattle.implib_link.specs.Search.Closed.{unresolved}
 use Rattle.implib_link.specs.Search.Msvc.{TakesFor}
-use Rattle.implib_link.specs.Search.MsvcArchives.{symbols_of_shorts}
-use Rattle.implib_link.specs.Search.MsvcClosed.{TakesIntoFor, wanted_for}
+use Rattle.implib_link.specs.Search.MsvcArchives.{symbols_of_shorts, TakesIntoFor, wanted_for}
 use Rattle.implib_link_instances.specs.Worked.BothFlavors.{foo_and_zed, mixed_taken, zed_and_foo}
 use Rattle.implib_link_instances.specs.Worked.Closed.{choosing, foo_linked}
 use Rattle.implib_link_instances.specs.Worked.MsvcClosed.{zed_members}

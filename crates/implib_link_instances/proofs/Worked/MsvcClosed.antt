@@ -23,8 +23,7 @@ use Rattle.implib_link.specs.Gnu.Program.{ClaimsNone, claimed_names, has_tables}
 use Rattle.implib_link.specs.Search.Archives.{archive_of}
 use Rattle.implib_link.specs.Search.Closed.{claims_of, listed_in, references_of, unresolved}
 use Rattle.implib_link.specs.Search.Msvc.{left_in}
-use Rattle.implib_link.specs.Search.MsvcArchives.{is_weak_in}
-use Rattle.implib_link.specs.Search.MsvcClosed.{PullsIntoFor, TakesIntoFor}
+use Rattle.implib_link.specs.Search.MsvcArchives.{is_weak_in, PullsIntoFor, TakesIntoFor}
 use Rattle.implib_link.specs.Search.Search.{undefined_in, left_as, claimed_as}
 use Rattle.implib_link_instances.specs.Worked.Closed.{choosing}
 use Rattle.implib_link_instances.specs.Worked.MsvcArchives.{shorts_of_both, thunk_named, two_msvc}

@@ -9,8 +9,7 @@ use Rattle.implib.proofs.Link.Ranges.{all_among}
 use Rattle.implib_link.specs.Search.Archives.{symbols_of_library}
 use Rattle.implib_link.specs.Search.BothFlavors.{IsFlavorArchive, archive_of_both, gnu_among, msvc_among}
 use Rattle.implib_link.specs.Search.Given.{wanted_at_most}
-use Rattle.implib_link.specs.Search.MsvcArchives.{IsMsvcArchive, symbols_of_shorts}
-use Rattle.implib_link.specs.Search.MsvcClosed.{TakesIntoFor}
+use Rattle.implib_link.specs.Search.MsvcArchives.{IsMsvcArchive, symbols_of_shorts, TakesIntoFor}
 use Rattle.implib_link.specs.Search.NoShorts.{WantsNoShort}
 use Rattle.implib_link_instances.specs.Worked.BothFlavors.{foo_and_zed}
 use Rattle.implib_link_instances.specs.Worked.Closed.{choosing, closed_bases, closed_objects, closed_taken, zed_first}

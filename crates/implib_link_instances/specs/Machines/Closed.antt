@@ -23,7 +23,7 @@ use Rattle.implib_link.specs.Search.BothExists.{tables_end_of_both}
 use Rattle.implib_link.specs.Search.Closed.{IsClosed, LinksClosed, TakesInto, unresolved}
 use Rattle.implib_link.specs.Search.Exists.{HasClosed, LieWithin, tables_end}
 use Rattle.implib_link.specs.Search.Given.{AreGiven}
-use Rattle.implib_link.specs.Search.MsvcClosed.{TakesIntoFor}
+use Rattle.implib_link.specs.Search.MsvcArchives.{TakesIntoFor}
 use Rattle.implib_link.specs.Search.NoShorts.{WantsNoShort}
 use Rattle.implib_link_instances.specs.Worked.Programs.{symbol_on}
 use Rattle.implib_link_instances.specs.Machines.Parts.{alias_on, baz, baz_on, choosing_on, descriptor_on, foo, foo_on, head_on, library_on, null_on, queue, queue_on, short_alias_on, short_on, tail_on, thunk_on, zed, zed_on}

@@ -15,7 +15,7 @@ use Rattle.implib_link.specs.Flavors.Program.{objects_taken}
 use Rattle.implib_link.specs.Gnu.Packed.{packed}
 use Rattle.implib_link.specs.Search.BothFlavors.{AreGivenForBoth, FlavorLibrary, IsClosedForBoth, IsFlavorArchive, LinksClosedForBoth, TakesOfBoth, archive_of_both}
 use Rattle.implib_link.specs.Search.Closed.{unresolved}
-use Rattle.implib_link.specs.Search.MsvcClosed.{TakesIntoFor, wanted_for}
+use Rattle.implib_link.specs.Search.MsvcArchives.{TakesIntoFor, wanted_for}
 use Rattle.implib_link_instances.specs.Worked.Programs.{code_object, symbol_of_class, symbol_on}
 use Rattle.implib_link_instances.specs.Machines.Closed.{IsLeft, IsPointerAt}
 use Rattle.implib_link_instances.specs.Machines.Parts.{bar, descriptor_on, foo, library_on, null_on, queue, short_on, thunk_on, zed, zed_on}

@@ -15,8 +15,7 @@ use Rattle.implib_link.specs.Flavors.Program.{FlavorInput, objects_taken}
 use Rattle.implib_link.specs.Gnu.Packed.{packed}
 use Rattle.implib_link.specs.Search.BothFlavors.{AreClosedForBoth, AreGivenForBoth, FlavorLibrary, IsClosedForBoth, IsFlavorArchive, IsImportedOfBoth, IsUsedIn, LinksClosedForBoth, NamesNoMembers, TakesOfBoth, archive_of_both, inputs_of_both, kept_of_both, msvc_among}
 use Rattle.implib_link.specs.Search.Closed.{unresolved}
-use Rattle.implib_link.specs.Search.MsvcArchives.{short_inputs}
-use Rattle.implib_link.specs.Search.MsvcClosed.{PullsIntoFor, TakesIntoFor, wanted_for}
+use Rattle.implib_link.specs.Search.MsvcArchives.{short_inputs, PullsIntoFor, TakesIntoFor, wanted_for}
 use Rattle.implib_link_instances.specs.Worked.Archives.{library_of}
 use Rattle.implib_link_instances.specs.Worked.Closed.{choosing, clashing, foo_alias, foo_linked}
 use Rattle.implib_link_instances.specs.Worked.MsvcArchives.{descriptor_named, msvc_zed, null_named, short_named, thunk_named}

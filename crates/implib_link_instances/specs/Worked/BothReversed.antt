@@ -8,7 +8,7 @@ use Rattle.implib_link.specs.Flavors.Program.{FlavorInput, objects_taken}
 use Rattle.implib_link.specs.Gnu.Packed.{packed}
 use Rattle.implib_link.specs.Search.BothFlavors.{IsClosedForBoth, IsFlavorArchive, LinksClosedForBoth, TakesOfBoth, archive_of_both, inputs_of_both}
 use Rattle.implib_link.specs.Search.Closed.{unresolved}
-use Rattle.implib_link.specs.Search.MsvcClosed.{TakesIntoFor}
+use Rattle.implib_link.specs.Search.MsvcArchives.{TakesIntoFor}
 use Rattle.implib_link_instances.specs.Worked.BothFlavors.{foo_and_zed, mixed_taken, zed_and_foo}
 use Rattle.implib_link_instances.specs.Worked.Closed.{choosing, foo_alias, foo_linked}
 use Rattle.implib_link_instances.specs.Worked.MsvcArchives.{null_named}

@@ -3,7 +3,7 @@ use Rattle.std.specs.Prelude.{List, [], ◌∷◌, codes}
 use Rattle.implib.specs.declared.machine.MachineType.TheVariants.{AMD64}
 use Rattle.implib.specs.Members.MemberSpec.{MemberView}
 use Rattle.implib_link.specs.Search.Archives.{archive_of}
-use Rattle.implib_link.specs.Search.MsvcClosed.{PullsIntoFor, TakesIntoFor}
+use Rattle.implib_link.specs.Search.MsvcArchives.{PullsIntoFor, TakesIntoFor}
 use Rattle.implib_link_instances.specs.Worked.Closed.{choosing}
 use Rattle.implib_link_instances.specs.Worked.MsvcArchives.{descriptor_named, foo_shorts, short_named, shorts_of_both, thunk_named, two_msvc}
 

@@ -13,8 +13,7 @@ use Rattle.implib.specs.Worked.Members.{of_dll}
 use Rattle.implib.specs.Worked.Statements.{plain_export}
 use Rattle.implib_link.specs.Search.Archives.{IsArchive, IsWeakData, Library}
 use Rattle.implib_link.specs.Search.Closed.{IsAliasTaken, IsImported, IsUsed, PullsInto, inputs_in}
-use Rattle.implib_link.specs.Search.MsvcArchives.{IsMsvcArchive, IsWeakShort}
-use Rattle.implib_link.specs.Search.MsvcClosed.{IsWeakTaken}
+use Rattle.implib_link.specs.Search.MsvcArchives.{IsMsvcArchive, IsWeakShort, IsWeakTaken}
 use Rattle.implib_link.specs.Search.NamedApart.{AreNamedApart}
 use Rattle.implib_link.specs.Search.Search.{NamesNoHeadOrTail, PullsIn}
 use Rattle.implib_link_instances.specs.Worked.Archives.{library_of, two_libraries}

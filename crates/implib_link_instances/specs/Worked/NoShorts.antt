@@ -6,7 +6,7 @@ use Rattle.implib.specs.Worked.Members.{of_dll}
 use Rattle.implib.specs.Worked.Statements.{plain_export}
 use Rattle.implib_link.specs.Search.BothFlavors.{FlavorLibrary, IsFlavorArchive, archive_of_both, gnu_among}
 use Rattle.implib_link.specs.Search.Closed.{LinksClosed}
-use Rattle.implib_link.specs.Search.MsvcClosed.{TakesIntoFor}
+use Rattle.implib_link.specs.Search.MsvcArchives.{TakesIntoFor}
 use Rattle.implib_link.specs.Search.NoShorts.{WantsNoShort}
 use Rattle.implib_link_instances.specs.Worked.Archives.{library_of, two_libraries}
 use Rattle.implib_link_instances.specs.Worked.BothFlavors.{foo_and_zed, gnu_foo}
