@@ -19,7 +19,7 @@ use Rattle.implib.proofs.Link.Thunks.{StrictThunkAt, length-address, name_locate
 use Rattle.implib_link.specs.Flavors.Expansion.{Use, import_object, hint_and_name, relocations_asking, thunk_asking}
 use Rattle.implib_link.specs.Flavors.SectionSymbols.{with_section_symbols}
 use Rattle.implib.specs.LibraryName.{NamesOfDll}
-use Rattle.implib_link.proofs.Gnu.Loaded.{plus_none}
+use Rattle.implib_link.proofs.Gnu.Loaded.{plus_none, by_width}
 use Rattle.implib_link.proofs.Gnu.Beside.{LocatedBeside}
 
 -- the ends of the directory and of the tables, these at multiples of a thunk's width
@@ -29,20 +29,14 @@ pub record AreWide (machine : MachineType) (b : Bases) : Type 0 where
   pub addresses : b.addresses % thunk_width machine ≡ 0
 
 pub of_four : (machine : MachineType) (n : ℕ) → n % thunk_width machine ≡ 0 → n % 4 ≡ 0
-of_four I386 n even = even
-of_four ARMNT n even = even
-of_four AMD64 n even = omega arith
-of_four ARM64 n even = omega arith
+of_four machine n even = by_width (λ w. n % w ≡ 0 → n % 4 ≡ 0) (λ e. e) (λ e. omega arith) machine even
 
 aligned_8 : (n : ℕ) → n % 8 ≡ 0 → next_multiple 8 n ≡ n
 unfolding next_multiple
 aligned_8 n even = rw even (omega arith)
 
 pub wide_next : (machine : MachineType) (n : ℕ) → n % thunk_width machine ≡ 0 → (n + thunk_width machine) % thunk_width machine ≡ 0
-wide_next I386 n even = omega arith
-wide_next ARMNT n even = omega arith
-wide_next AMD64 n even = omega arith
-wide_next ARM64 n even = omega arith
+wide_next machine n even = by_width (λ w. n % w ≡ 0 → (n + w) % w ≡ 0) (λ e. omega arith) (λ e. omega arith) machine even
 
 pub wide_aligned : (machine : MachineType) (b : Bases) → AreWide machine b → AreAligned b
 wide_aligned machine b even = record { descriptors = even.descriptors; lookups = of_four machine b.lookups even.lookups; addresses = of_four machine b.addresses even.addresses }

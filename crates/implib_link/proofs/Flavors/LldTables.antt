@@ -4,7 +4,6 @@ use Rattle.std.specs.List.{AllByRecursion, Contains}
 use Rattle.std.proofs.Math.Nat.{mul-add}
 use Rattle.std.proofs.lemmas.List.{length-append, length-replicate}
 use Rattle.implib.specs.declared.machine.MachineType.{MachineType}
-use Rattle.implib.specs.declared.machine.MachineType.TheVariants.{I386, ARMNT, AMD64, ARM64}
 use Rattle.implib.specs.Formats.Bytes.{u16_bytes, u32_bytes}
 use Rattle.implib.specs.Import.{Ask, Name, Ordinal}
 use Rattle.implib.specs.Link.Image.{AllApart, Range, range_end}
@@ -19,6 +18,7 @@ use Rattle.implib_link.specs.Directory.{DirectoryAt, Imported}
 use Rattle.implib_link.specs.Flavors.LldTables.{ArePiecesAt, IsAskable, IsImportable, addresses_at, all_hints, all_names, built, built_bytes, descriptor_built, directory_built, directory_end, hint_and_text, hint_built, hints_at, hints_built, lookups_at, names_at, tables_built, thunk_built, thunks_built, thunks_until}
 use Rattle.implib_link.proofs.Gnu.Stubs.{wide_thunk as some_bytes}
 use Rattle.implib_link.proofs.Gnu.Beside.{zero_table, table_with, bounds_of}
+use Rattle.implib_link.proofs.Gnu.Loaded.{by_width}
 
 -- DLLs from a descriptor on, whose address tables follow one another, and the null descriptor
 unfoldable pub StandAt : List Range → ℕ → ℕ → ℕ → List Imported → Type 0
@@ -41,16 +41,10 @@ length_thunk machine place (Name text hint) = length-address machine place
 
 -- a thunk more, for each width
 one_more : (machine : MachineType) (n : ℕ) → thunk_width machine + thunk_width machine * (n + 1) ≡ thunk_width machine * (suc n + 1)
-one_more I386 n = omega arith
-one_more ARMNT n = omega arith
-one_more AMD64 n = omega arith
-one_more ARM64 n = omega arith
+one_more machine n = by_width (λ w. w + w * (n + 1) ≡ w * (suc n + 1)) (omega arith) (omega arith) machine
 
 only_null : (machine : MachineType) → thunk_width machine ≡ thunk_width machine * 1
-only_null I386 = refl
-only_null ARMNT = refl
-only_null AMD64 = refl
-only_null ARM64 = refl
+only_null machine = by_width (λ w. w ≡ w * 1) refl refl machine
 
 length_thunks : (machine : MachineType) (place : ℕ) (asks : List Ask) → length (thunks_built machine place asks) ≡ thunk_width machine * (length asks + 1)
 unfolding thunks_built
@@ -63,10 +57,7 @@ length_thunks machine place (ask ∷ asks) =
     ∙ one_more machine (length asks)
 
 no_thunks : (machine : MachineType) → 0 ≡ thunk_width machine * 0
-no_thunks I386 = refl
-no_thunks ARMNT = refl
-no_thunks AMD64 = refl
-no_thunks ARM64 = refl
+no_thunks machine = by_width (λ w. 0 ≡ w * 0) refl refl machine
 
 length_tables : (machine : MachineType) (place : ℕ) (imports : List Imported) → length (tables_built machine place imports) ≡ thunk_width machine * thunks_until (length imports) imports
 unfolding tables_built

@@ -29,6 +29,7 @@ use Rattle.implib_link.proofs.Gnu.Packed.{admissible, packed_eights}
 use Rattle.implib_link.proofs.Gnu.Sized.{AreWithin, IsSized, exports_sized, head_sized, tail_sized, thunk_size}
 use Rattle.implib_link.proofs.Flavors.Expanded.{taken_descriptor, taken_null}
 use Rattle.implib.specs.LibraryName.{NamesOfDll}
+use Rattle.implib_link.proofs.Gnu.Loaded.{by_width}
 
 -- Relocations are within their sections.
 
@@ -79,10 +80,7 @@ kept_sized machine ending inputs objects made ended = kept_all machine ending in
 
 -- multiples of 8 are multiples of a thunk's width
 of_eight : (machine : MachineType) (n : ℕ) → n % 8 ≡ 0 → n % thunk_width machine ≡ 0
-of_eight I386 n even = omega arith
-of_eight ARMNT n even = omega arith
-of_eight AMD64 n even = even
-of_eight ARM64 n even = even
+of_eight machine n even = by_width (λ w. n % w ≡ 0) (omega arith) even machine
 
 lookups_eights : (first : ℕ) (objects : List Object) → (packed first objects).lookups % 8 ≡ 0
 unfolding next_multiple

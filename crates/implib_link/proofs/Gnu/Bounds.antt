@@ -33,6 +33,7 @@ use Rattle.implib_link.proofs.Gnu.Sized.{length-relocated}
 use Rattle.implib.specs.LibraryName.{NamesOfDll, names_for}
 use Rattle.implib.specs.declared.flavor.Flavor.TheVariants.{Gnu}
 use Rattle.std.proofs.lemmas.Option.{slice_get_within}
+use Rattle.implib_link.proofs.Gnu.Loaded.{by_width}
 
 -- Which entry an address is in.
 
@@ -72,10 +73,7 @@ thunk_of (p ∷ inputs) n below =
 -- By the machine's width.
 
 next_entry : (machine : MachineType) (a n m : ℕ) → n < m → a + thunk_width machine * n + thunk_width machine ≤ a + thunk_width machine * m
-next_entry I386 a n m below = omega arith
-next_entry ARMNT a n m below = omega arith
-next_entry AMD64 a n m below = omega arith
-next_entry ARM64 a n m below = omega arith
+next_entry machine a n m below = by_width (λ w. a + w * n + w ≤ a + w * m) (omega arith) (omega arith) machine
 
 -- an address is that of a byte of a thunk
 record ThunkAround (machine : MachineType) (first total address : ℕ) : Type 0 where
@@ -192,10 +190,7 @@ some_thunks [] some = absurd (omega arith)
 some_thunks (p ∷ inputs) some = omega arith
 
 wide_sum : (machine : MachineType) (n : ℕ) → 0 < n → 0 < thunk_width machine * n
-wide_sum I386 n some = omega arith
-wide_sum ARMNT n some = omega arith
-wide_sum AMD64 n some = omega arith
-wide_sum ARM64 n some = omega arith
+wide_sum machine n some = by_width (λ w. 0 < w * n) (omega arith) (omega arith) machine
 
 -- the first member is the head of the first DLL, which has the symbol
 begins_with : (machine : MachineType) (b : Bases) (inputs : List LinkInput) (objects : List Object) → AllByRecursion (IsMade machine) inputs → IsProgram machine b inputs objects → 0 < length inputs →

@@ -11,6 +11,9 @@ use Rattle.implib.specs.Link.Load.{BytesAt}
 use Rattle.implib.proofs.Link.Ranges.{is_in_from}
 use Rattle.implib_link.specs.Directory.{Imported}
 use Rattle.implib_link.specs.Gnu.Loaded.{entries_written}
+use Rattle.implib.specs.declared.machine.MachineType.{MachineType}
+use Rattle.implib.specs.declared.machine.MachineType.TheVariants.{I386, ARMNT, AMD64, ARM64}
+use Rattle.implib.specs.Members.ImportTables.{thunk_width}
 
 -- Ranges in front of others.
 
@@ -50,6 +53,13 @@ kept_outside (r ∷ written) ranges a none =
     rw inputs.0 (kept_outside written ranges a inputs.1)
 
 -- The entries of one table.
+
+-- what is so of both widths of thunks
+pub by_width : (P : ℕ → Type 0) → P 4 → P 8 → (machine : MachineType) → P (thunk_width machine)
+by_width P narrow wide I386 = narrow
+by_width P narrow wide ARMNT = narrow
+by_width P narrow wide AMD64 = wide
+by_width P narrow wide ARM64 = wide
 
 pub plus_none : (n : ℕ) → n + 0 ≡ n
 plus_none n = omega arith

@@ -18,6 +18,7 @@ use Rattle.implib.specs.Link.Placement.{Placed}
 use Rattle.implib.specs.Link.Resolution.{target_address}
 use Rattle.implib.proofs.Link.Placement.{export, head, length-thunk, tail}
 use Rattle.implib.specs.LibraryName.{NamesOfDll}
+use Rattle.implib_link.proofs.Gnu.Loaded.{by_width}
 
 -- the relocations of so many bytes are within them
 abbrev pub AreWithin : ℕ → List Relocation → Type 0
@@ -49,10 +50,7 @@ length-relocated machine linked p (r ∷ relocations) bytes size within long =
 -- The members' objects are sized.
 
 pub thunk_size : (machine : MachineType) → 4 ≤ thunk_width machine
-thunk_size I386 = omega arith
-thunk_size ARMNT = omega arith
-thunk_size AMD64 = omega arith
-thunk_size ARM64 = omega arith
+thunk_size machine = by_width (λ w. 4 ≤ w) (omega arith) (omega arith) machine
 
 hint_within : (machine : MachineType) (e : ExportView) (size : ℕ) → 4 ≤ size → AreWithin size (relocations_of_thunk machine e)
 unfolding relocations_of_thunk

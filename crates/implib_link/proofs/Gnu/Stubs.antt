@@ -20,7 +20,7 @@ use Rattle.implib.proofs.Link.Placement.{AreAligned, after_head, aligned_after, 
 use Rattle.implib.proofs.Link.Ranges.{Among, address_bounds, among_first, among_later}
 use Rattle.implib_link.specs.Stub.{CanJump, code_relocated, jump_reads}
 use Rattle.implib_link.proofs.Gnu.Jumps.{amd64_jumps, arm64_jumps, i386_jumps}
-use Rattle.implib_link.proofs.Gnu.Loaded.{times_next, times_none}
+use Rattle.implib_link.proofs.Gnu.Loaded.{times_next, times_none, by_width}
 use Rattle.implib.specs.LibraryName.{NamesOfDll}
 
 -- Each export's object is placed, with its entry where the addresses have come to.
@@ -85,10 +85,7 @@ thunk_below image low high width wide (x ∷ asks) a (suc j) ask table is =
     subst (λ n. n < 2 ^ 31) (times_next a width j) (thunk_below image low high width wide asks (a + width) j ask table.1 is)
 
 pub wide_thunk : (machine : MachineType) → 0 < thunk_width machine
-wide_thunk I386 = omega arith
-wide_thunk ARMNT = omega arith
-wide_thunk AMD64 = omega arith
-wide_thunk ARM64 = omega arith
+wide_thunk machine = by_width (λ w. 0 < w) (omega arith) (omega arith) machine
 
 -- The code of an export.
 

@@ -35,7 +35,7 @@ use Rattle.implib_link.specs.Gnu.Rebased.{absolute_width}
 use Rattle.implib_link.specs.Parts.{AreEntries, BeginWithHead, IsEntry, IsPart, IsProgramOfParts, IsTail, Part, ask_of, begins, dll_text, entry_name, hint_and_name, is_field, is_whole, named_bytes, names_entry, objects_of_parts, ordinal_with, own_bytes, part_of, row_in, stores_none}
 use Rattle.implib_link.specs.Tables.{AreSteady, TableEntry}
 use Rattle.implib_link.proofs.Gnu.Others.{no_group}
-use Rattle.implib_link.proofs.Gnu.Steady.{AllSteady, IsSteady, NoneAbsolute, all_steady, tables_none}
+use Rattle.implib_link.proofs.Gnu.Steady.{AllSteady, IsSteady, NoneAbsolute, all_steady, tables_none, relative_steady}
 use Rattle.implib_link.proofs.Gnu.Sized.{export_sized, head_sized, tail_sized}
 use Rattle.implib_link.proofs.Search.Lists.{all_from, each_of}
 
@@ -270,10 +270,7 @@ parts_steady machine bases parts objects program all =
 -- Members store none.
 
 relative_none : (machine : MachineType) → not (is_whole (absolute_width machine (image_relative machine))) ≡ true
-relative_none I386 = refl
-relative_none ARMNT = refl
-relative_none AMD64 = refl
-relative_none ARM64 = refl
+relative_none machine = ap (λ w. not (is_whole w)) (relative_steady machine)
 
 thunk_none : (machine : MachineType) (e : ExportView) → list_all (λ (r : Relocation). not (is_whole (absolute_width machine r.kind))) (relocations_of_thunk machine e) ≡ true
 unfolding relocations_of_thunk

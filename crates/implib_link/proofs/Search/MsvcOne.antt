@@ -34,7 +34,7 @@ use Rattle.implib_link.specs.Search.Search.{left_as, numbers_passing}
 use Rattle.implib_link.proofs.Flavors.Inputs.{read_of, short_at}
 use Rattle.implib_link.proofs.Search.Closing.{pulled}
 use Rattle.implib_link.proofs.Search.Found.{expands, found as found_in, weak_by_role}
-use Rattle.implib_link.proofs.Search.Lists.{all_listed, among_at, listed_mapped, none_passes, one_member}
+use Rattle.implib_link.proofs.Search.Lists.{all_listed, among_at, listed_mapped, none_passes, one_member, all_from}
 use Rattle.implib_link.proofs.Search.Roles.{IsRole, Last, Null, Own, Role, Top, Weak, in_flavor, is_weak_role}
 use Rattle.implib_link.proofs.Search.Search.{only_one}
 use Rattle.implib_link.proofs.Search.Taken.{both_taken}
@@ -43,11 +43,6 @@ use Rattle.implib_link.proofs.Search.Taken.{both_taken}
 
 abbrev HaveNoAlias : List ExportView → Type 0
 HaveNoAlias exports = AllByRecursion (λ e. is_short_alias e ≡ false) exports
-
-each_export : (exports : List ExportView) → ((e : ExportView) → Among e exports → is_short_alias e ≡ true → ⊥) → HaveNoAlias exports
-each_export [] none = tt
-each_export (e ∷ exports) none =
-    (false_from_ne_true (is_short_alias e) (none e (among_first e exports)), each_export exports (λ x held. none x (among_later x e exports held)))
 
 own_symbols : (machine : MachineType) (dll : NamesOfDll) (e : ExportView) → is_short_alias e ≡ false → flat_map (λ (p : MemberSpec). p.symbols) (export_specs machine dll e) ≡ symbols_of_short e
 unfolding weak_specs
@@ -108,7 +103,7 @@ module _ (d : DefinitionView) (machine : MachineType) (members : List MemberView
       cc
 
   have_none : HaveNoAlias (public_exports (renamed d))
-  have_none = each_export exports no_alias
+  have_none = all_from (λ (e : ExportView). is_short_alias e ≡ false) exports (λ e held. false_from_ne_true (is_short_alias e) (no_alias e held))
 
   symbols_are : all_listed members ≡ descriptor_symbol (linked_dll d) ∷ null_descriptor_symbol ∷ null_thunk_symbol (linked_dll d) ∷ flat_map symbols_of_short (public_exports (renamed d))
   unfolding header_specs descriptor_spec null_descriptor_spec null_thunk_spec

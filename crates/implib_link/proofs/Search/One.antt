@@ -1,5 +1,5 @@
 -- What a linker takes of the members of one definition without aliases: what it takes of an archive of one library.
-use Rattle.std.proofs.Common.{◌≡◌, ℕ, suc, ◌+◌, true, false, List, [], ◌∷◌, ◌++◌, Some, refl, ap, sym, ◌∙◌, subst, inl, inr}
+use Rattle.std.proofs.Common.{◌≡◌, ℕ, ◌+◌, true, false, List, [], ◌∷◌, ◌++◌, Some, refl, ap, sym, ◌∙◌, subst, inl, inr}
 use Rattle.std.specs.Prelude.{bytes_eq, reverse, slice_get}
 use Rattle.std.specs.List.{AllByRecursion, IsDistinct, flat_map}
 use Rattle.std.proofs.lemmas.Bool.{cases_Bool, false_from_ne_true}
@@ -30,7 +30,7 @@ use Rattle.implib_link.proofs.Search.Found.{found, weak_by_role}
 use Rattle.implib_link.proofs.Search.GnuAlone.{archive_alone, gnu_libraries, members_alone, no_short, reads_plainly}
 use Rattle.implib_link.proofs.Search.Roles.{IsRole, Last, Null, Own, Role, Top, Weak, in_flavor, is_weak_role}
 use Rattle.implib_link.proofs.Search.Search.{only_one, Needed, linked_if_needed, needed_if_linked, no_alias, numbers_are_wanted}
-use Rattle.implib_link.proofs.Search.Lists.{all_listed, none_passes, contains_among, listed_is, listed_mapped}
+use Rattle.implib_link.proofs.Search.Lists.{all_listed, none_passes, contains_among, listed_is, listed_mapped, all_from, at_index}
 use Rattle.implib.specs.LibraryName.{linked_name, names_for}
 
 -- members that are taken are members of the archive
@@ -44,10 +44,6 @@ taken_held archive wanted (t ∷ earlier) turn m (inr held) = taken_held archive
 
 abbrev HaveNoAlias : List ExportView → Type 0
 HaveNoAlias exports = AllByRecursion (λ e. is_alias e.alias_target e.name ≡ false) exports
-
-each_export : (exports : List ExportView) → ((n : ℕ) (e : ExportView) → slice_get exports n ≡ Some e → is_alias e.alias_target e.name ≡ false) → HaveNoAlias exports
-each_export [] none = tt
-each_export (e ∷ exports) none = (none 0 e refl, each_export exports (λ n x is. none (suc n) x is))
 
 plain_symbols : (e : ExportView) → is_alias e.alias_target e.name ≡ false → archive_symbols e ≡ symbols_of_export e
 plain_symbols e none = elim (cases_Bool e.is_data) [ inl is ↦ rw (is, none) refl | inr is ↦ rw is refl ]
@@ -85,7 +81,8 @@ module _ (d : DefinitionView) (machine : MachineType) (members : List MemberView
   exports = public_exports (renamed d)
 
   have_none : HaveNoAlias (public_exports (renamed d))
-  have_none = each_export exports (λ n e is. false_from_ne_true (is_alias e.alias_target e.name) (λ alias. no_alias d machine members made distinct n e is alias))
+  have_none = all_from (λ (e : ExportView). is_alias e.alias_target e.name ≡ false) exports (λ e held.
+      let at = at_index e exports held in false_from_ne_true (is_alias e.alias_target e.name) (no_alias d machine members made distinct at.0 e at.1))
 
   symbols_are : all_listed members ≡ symbols_of_library machine (record { definition = d; members = members })
   unfolding symbols_of_library tail_spec head_spec

@@ -9,7 +9,6 @@ use Rattle.std.proofs.lemmas.List.Filters.{sum_by-filter_both}
 use Rattle.std.proofs.lemmas.List.Sums.{sum_by-cons}
 use Rattle.std.proofs.lemmas.Nat.{pow_pos}
 use Rattle.implib.specs.declared.machine.MachineType.{MachineType}
-use Rattle.implib.specs.declared.machine.MachineType.TheVariants.{I386, ARMNT, AMD64, ARM64}
 use Rattle.implib.specs.Definition.{ExportView}
 use Rattle.implib.specs.Formats.Bytes.{u16_bytes}
 use Rattle.implib.specs.Formats.Object.{Object, ObjectSection}
@@ -29,6 +28,7 @@ use Rattle.implib_link.specs.Search.Search.{exports_wanted, is_wanted}
 use Rattle.implib_link.proofs.Gnu.Packed.{end_kept}
 use Rattle.implib_link.proofs.Search.Arranged.{chosen_are}
 use Rattle.implib.specs.LibraryName.{NamesOfDll}
+use Rattle.implib_link.proofs.Gnu.Loaded.{by_width}
 
 -- The room of a group in objects: for each section its bytes and its alignment.
 
@@ -126,10 +126,7 @@ packed_end_kept first objects =
 -- The rooms of members.
 
 pub width_near : (machine : MachineType) → thunk_width machine ≤ 8
-width_near I386 = omega arith
-width_near ARMNT = omega arith
-width_near AMD64 = omega arith
-width_near ARM64 = omega arith
+width_near machine = by_width (λ w. w ≤ 8) (omega arith) (omega arith) machine
 
 head_near : (machine : MachineType) (dll : NamesOfDll) → own_rooms (head machine dll) ≡ 32
 unfolding own_rooms sections_room head_object
