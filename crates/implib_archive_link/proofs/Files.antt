@@ -177,8 +177,8 @@ not_listed : (found entries : List (List ℕ × ℕ)) (e : List ℕ × ℕ) → 
 unfolding Among
 not_listed found entries e distinct =
     false_from_ne_true (is_listed found e.0) (λ listed.
-      distinct_apart (map (λ x. x.0) found) (map (λ x. x.0) (e ∷ entries)) e.0 (subst (IsDistinct bytes_eq) (map-append (λ x. x.0) found (e ∷ entries)) distinct)
-      (any_among e.0 (map (λ x. x.0) found) (any_map e.0 found ∙ listed)) (inl refl))
+    distinct_apart (map (λ x. x.0) found) (map (λ x. x.0) (e ∷ entries)) e.0 (subst (IsDistinct bytes_eq) (map-append (λ x. x.0) found (e ∷ entries)) distinct)
+    (any_among e.0 (map (λ x. x.0) found) (any_map e.0 found ∙ listed)) (inl refl))
 
 all_firsts : (found entries : List (List ℕ × ℕ)) → IsDistinct bytes_eq (map (λ x. x.0) (found ++ entries)) → fold with_first found entries ≡ found ++ entries
 unfolding with_first

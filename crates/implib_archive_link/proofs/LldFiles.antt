@@ -24,7 +24,7 @@ use Rattle.implib_link.specs.Search.CommandLines.{Input, given_with, objects_giv
 use Rattle.implib_link.specs.Search.MsvcArchives.{IsMsvcArchive}
 use Rattle.implib_link.specs.Search.Search.{objects_as, undefined_in}
 use Rattle.implib_link.proofs.Search.CommandLines.{lld_searches, taken_as_given}
-use Rattle.implib_link.proofs.Search.Lists.{contains_among, passes, passing, to_not}
+use Rattle.implib_link.proofs.Search.Lists.{contains_among, passes, passing}
 
 -- Entries that define names claim these, and leave none.
 
@@ -76,8 +76,7 @@ module _ (machine : MachineType) where
     asks_by : (taken : List MemberView) (name : List ℕ) → Contains (unresolved (own ++ objects_as (read_by_lld machine) taken)) name → asks_of_lld machine own (map (λ m. m.bytes) taken) name
     asks_by taken name held =
         let objects : List Object = own ++ objects_as (read_by_lld machine) taken in
-        let parts = passing (λ n. not (list_any (bytes_eq n) (claims_of objects))) name (references_of objects) (contains_among name (unresolved objects) held) in
-        (
+        let parts = passing (λ n. not (list_any (bytes_eq n) (claims_of objects))) name (references_of objects) (contains_among name (unresolved objects) held) in (
           subst (λ names. Contains names name) (refs_joined taken) (among_contains name (references_of objects) parts.0),
           ap (list_any (bytes_eq name)) (sym (claims_joined taken)) ∙ not-true (list_any (bytes_eq name) (claims_of objects)) parts.1,
         )
