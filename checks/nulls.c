@@ -78,6 +78,18 @@ uint32_t implib_delayed_library_nonnull(const uint8_t *text, size_t text_length,
                                        buffer_length, length, place);
 }
 
+/* Whether the last call was for a null descriptor named after the DLL. */
+static int passed_named;
+
+uint32_t implib_named_library_nonnull(const uint8_t *text, size_t text_length, const uint8_t *dll, size_t dll_length,
+                                      uint32_t has_dll, uint16_t machine, uint32_t flavor, uint32_t flags,
+                                      uint8_t *buffer, size_t buffer_length, size_t *length, size_t *place)
+{
+    passed_named = 1;
+    return implib_library_with_nonnull(text, text_length, dll, dll_length, has_dll, machine, flavor, flags, buffer,
+                                       buffer_length, length, place);
+}
+
 /* What a call with exports passed on beside. */
 static const struct implib_export *passed_exports;
 
@@ -189,6 +201,7 @@ static void hold_options(callee_with *own, const uint8_t *text, size_t text_leng
             int is_known = size >= 16 && size <= 40, has_name = size == 40 && given != 0;
             passed_text = NULL;
             passed_delayed = 0;
+            passed_named = 0;
             if (first != NULL)
                 *first = 5;
             if (second != NULL)
@@ -206,22 +219,25 @@ static void hold_options(callee_with *own, const uint8_t *text, size_t text_leng
             hold(second == NULL || (passed_second == second && *second == 12), "another place is given with options");
             hold(passed_flags == (size < 20 ? 0 : 0x80000003), "other flags are passed on");
             hold(!passed_delayed, "a call without the flag is for delayed imports");
+            hold(!passed_named, "a call without the flag is for a named null descriptor");
             hold(passed_has_dll == (uint32_t)has_name, "a name is passed on, or is not");
             hold(passed_dll_length == (has_name ? given - 1 : 0), "another length of the name is passed on");
             hold(passed_dll_length == 0 || passed_dll == name, "another name is passed on");
         }
     }
-    if (own == implib_library_with) {
-        struct implib_options delayed = {sizeof delayed, IMPLIB_MACHINE_ARM64, IMPLIB_FLAVOR_GNU,
-                                         IMPLIB_DELAYED + 0x80000003, name, 2};
+    for (unsigned named = 0; own == implib_library_with && named < 2; named++) {
+        struct implib_options beside = {sizeof beside, IMPLIB_MACHINE_ARM64, IMPLIB_FLAVOR_GNU,
+                                        (named ? IMPLIB_NULL_NAMED : IMPLIB_DELAYED) + 0x80000003, name, 2};
         passed_delayed = 0;
-        uint32_t status = own(&delayed, text, text_length, buffer, buffer_length, first, second);
-        hold(status == IMPLIB_BUFFER_TOO_SMALL + 2 && passed_delayed, "delayed imports are not passed on");
-        hold(text == NULL || passed_text == text, "another text is passed on for delayed imports");
-        hold(passed_flags == 0x80000003 && passed_has_dll == 1, "other options are passed on for delayed imports");
-        hold(passed_dll == name && passed_dll_length == 2, "another name is passed on for delayed imports");
-        hold(first == NULL || (passed_first == first && *first == 11), "another length is given for delayed imports");
-        hold(second == NULL || (passed_second == second && *second == 12), "another place is given for delayed imports");
+        passed_named = 0;
+        uint32_t status = own(&beside, text, text_length, buffer, buffer_length, first, second);
+        hold(status == IMPLIB_BUFFER_TOO_SMALL + 2, "another status is returned for a library of another kind");
+        hold(passed_delayed == !named && passed_named == (int)named, "the kind of the library is not passed on");
+        hold(text == NULL || passed_text == text, "another text is passed on for another kind");
+        hold(passed_flags == 0x80000003 && passed_has_dll == 1, "other options are passed on for another kind");
+        hold(passed_dll == name && passed_dll_length == 2, "another name is passed on for another kind");
+        hold(first == NULL || (passed_first == first && *first == 11), "another length is given for another kind");
+        hold(second == NULL || (passed_second == second && *second == 12), "another place is given for another kind");
     }
     hold(own(NULL, text, text_length, buffer, buffer_length, first, second) == IMPLIB_UNKNOWN_OPTIONS,
          "null options are taken");
