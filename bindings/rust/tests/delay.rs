@@ -18,7 +18,8 @@ fn library_is_an_archive_of_the_dll() {
 fn what_cannot_be_delayed_is_refused() {
     let faults = [
         ("LIBRARY zoo\nEXPORTS\nfeed\n count DATA", MachineType::AMD64, Fault::DelayData, Some((26, 4, 2))),
-        ("LIBRARY zoo\nEXPORTS\n\"\"", MachineType::I386, Fault::EmptyName, Some((21, 3, 2))),
+        ("LIBRARY zoo\nEXPORTS\n\"\"", MachineType::I386, Fault::EmptyAskedName, Some((21, 3, 2))),
+        ("LIBRARY zoo\nEXPORTS\n\"\"", MachineType::AMD64, Fault::EmptyName, Some((21, 3, 2))),
         ("LIBRARY zoo\nOTHER", MachineType::I386, Fault::UnknownDirective, Some((12, 2, 1))),
         ("LIBRARY zoo\nEXPORTS\nfeed", MachineType::ARM64, Fault::DelayMachine, None),
         ("EXPORTS\nfeed", MachineType::AMD64, Fault::NoDllName, None),

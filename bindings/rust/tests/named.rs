@@ -21,7 +21,7 @@ fn null_descriptor_is_named_after_the_library() {
 fn faults_have_their_places() {
     let error = named::library("LIBRARY zoo\nEXPORTS\n\"\"", MachineType::AMD64, None).unwrap_err();
     assert_eq!(error.fault(), Fault::EmptyName);
-    assert_eq!(error.position(), Some(Position { offset: 20, line: 3, column: 1 }));
+    assert_eq!(error.position(), Some(Position { offset: 21, line: 3, column: 2 }));
     let error = named::library("EXPORTS\nfeed", MachineType::AMD64, None).unwrap_err();
     assert_eq!((error.fault(), error.position()), (Fault::NoDllName, None));
 }
