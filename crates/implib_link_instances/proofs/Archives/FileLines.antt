@@ -56,12 +56,19 @@ own = read_or_none wants_bytes
 
 lld_whole : AreListedWhole (read_by_lld AMD64) amd64_shorts
 unfolding searched read_by_lld
-lld_whole =
-    (whole_at (read_by_lld AMD64) (member_or_none (slice_get amd64_shorts 0)) refl,
-    (whole_at (read_by_lld AMD64) (member_or_none (slice_get amd64_shorts 1)) refl,
-    (whole_at (read_by_lld AMD64) (member_or_none (slice_get amd64_shorts 2)) refl,
-    (whole_at (read_by_lld AMD64) (member_or_none (slice_get amd64_shorts 3)) refl,
-    (whole_at (read_by_lld AMD64) (member_or_none (slice_get amd64_shorts 4)) refl, tt)))))
+lld_whole = (
+  whole_at (read_by_lld AMD64) (member_or_none (slice_get amd64_shorts 0)) refl,
+  (
+    whole_at (read_by_lld AMD64) (member_or_none (slice_get amd64_shorts 1)) refl,
+    (
+      whole_at (read_by_lld AMD64) (member_or_none (slice_get amd64_shorts 2)) refl,
+      (
+        whole_at (read_by_lld AMD64) (member_or_none (slice_get amd64_shorts 3)) refl,
+        (whole_at (read_by_lld AMD64) (member_or_none (slice_get amd64_shorts 4)) refl, tt),
+      ),
+    ),
+  ),
+)
 
 by_lld : LldSearches (read_by_lld AMD64) amd64_shorts (shorts_first own) (lld_taken amd64_shorts)
 unfolding searched read_by_lld AreTakenBehind LldSearchesFrom
@@ -146,12 +153,19 @@ i386_own = read_or_none i386_wants_bytes
 
 i386_lld_whole : AreListedWhole (read_by_lld I386) i386_shorts
 unfolding searched read_by_lld
-i386_lld_whole =
-    (whole_at (read_by_lld I386) (member_or_none (slice_get i386_shorts 0)) refl,
-    (whole_at (read_by_lld I386) (member_or_none (slice_get i386_shorts 1)) refl,
-    (whole_at (read_by_lld I386) (member_or_none (slice_get i386_shorts 2)) refl,
-    (whole_at (read_by_lld I386) (member_or_none (slice_get i386_shorts 3)) refl,
-    (whole_at (read_by_lld I386) (member_or_none (slice_get i386_shorts 4)) refl, tt)))))
+i386_lld_whole = (
+  whole_at (read_by_lld I386) (member_or_none (slice_get i386_shorts 0)) refl,
+  (
+    whole_at (read_by_lld I386) (member_or_none (slice_get i386_shorts 1)) refl,
+    (
+      whole_at (read_by_lld I386) (member_or_none (slice_get i386_shorts 2)) refl,
+      (
+        whole_at (read_by_lld I386) (member_or_none (slice_get i386_shorts 3)) refl,
+        (whole_at (read_by_lld I386) (member_or_none (slice_get i386_shorts 4)) refl, tt),
+      ),
+    ),
+  ),
+)
 
 i386_by_lld : LldSearches (read_by_lld I386) i386_shorts (shorts_first i386_own) (lld_taken i386_shorts)
 unfolding searched read_by_lld AreTakenBehind LldSearchesFrom

@@ -32,18 +32,27 @@ distinct = distinct_by (listed_in amd64_shorts) refl
 
 whole : AreListedWhole (expanded_in AMD64) amd64_shorts
 unfolding searched
-whole =
-    (whole_at (expanded_in AMD64) (member_or_none (slice_get amd64_shorts 0)) refl,
-    (whole_at (expanded_in AMD64) (member_or_none (slice_get amd64_shorts 1)) refl,
-    (whole_at (expanded_in AMD64) (member_or_none (slice_get amd64_shorts 2)) refl,
-    (whole_at (expanded_in AMD64) (member_or_none (slice_get amd64_shorts 3)) refl,
-    (whole_at (expanded_in AMD64) (member_or_none (slice_get amd64_shorts 4)) refl, tt)))))
+whole = (
+  whole_at (expanded_in AMD64) (member_or_none (slice_get amd64_shorts 0)) refl,
+  (
+    whole_at (expanded_in AMD64) (member_or_none (slice_get amd64_shorts 1)) refl,
+    (
+      whole_at (expanded_in AMD64) (member_or_none (slice_get amd64_shorts 2)) refl,
+      (
+        whole_at (expanded_in AMD64) (member_or_none (slice_get amd64_shorts 3)) refl,
+        (whole_at (expanded_in AMD64) (member_or_none (slice_get amd64_shorts 4)) refl, tt),
+      ),
+    ),
+  ),
+)
 
 searched_last : SearchesCommandLine (expanded_in AMD64) amd64_shorts (shorts_last own) shorts_taken
 unfolding searched swept sweeps AreSwept AreRounds SearchesFrom
-searched_last =
-    (4 ∷ [], record { rounds = 1; taken = (4 ∷ [], (4 ∷ [], record { count = 1; taken = refl; ended = refl }, refl), refl); ended = (refl, tt) },
-    (shorts_taken, record { rounds = 1; taken = (shorts_taken, (shorts_taken, record { count = 2; taken = refl; ended = refl }, refl), refl); ended = (refl, tt) }, refl))
+searched_last = (
+  4 ∷ [],
+  record { rounds = 1; taken = (4 ∷ [], (4 ∷ [], record { count = 1; taken = refl; ended = refl }, refl), refl); ended = (refl, tt) },
+  (shorts_taken, record { rounds = 1; taken = (shorts_taken, (shorts_taken, record { count = 2; taken = refl; ended = refl }, refl), refl); ended = (refl, tt) }, refl),
+)
 
 unclaimed : AreUnclaimedBehind amd64_shorts [] (shorts_last own)
 unfolding searched AreUnclaimedBehind
@@ -71,9 +80,10 @@ searches = record {
 given : AreGivenForBoth AMD64 amd64_kernels (with_quit AMD64 amd64_shorts own)
 unfolding searched
 given = record {
-  claims =
-      (claims_none_by (kept_of_both AMD64 amd64_kernels (with_quit AMD64 amd64_shorts own)) (object_at (with_quit AMD64 amd64_shorts own) 0) refl,
-      (claims_none_by (kept_of_both AMD64 amd64_kernels (with_quit AMD64 amd64_shorts own)) (object_at (with_quit AMD64 amd64_shorts own) 1) refl, tt));
+  claims = (
+    claims_none_by (kept_of_both AMD64 amd64_kernels (with_quit AMD64 amd64_shorts own)) (object_at (with_quit AMD64 amd64_shorts own) 0) refl,
+    (claims_none_by (kept_of_both AMD64 amd64_kernels (with_quit AMD64 amd64_shorts own)) (object_at (with_quit AMD64 amd64_shorts own) 1) refl, tt),
+  );
   names = record { gnu = tt; msvc = (record { descriptor = refl; null_descriptor = refl; null_thunk = refl }, tt) };
 }
 
@@ -98,25 +108,35 @@ i386_distinct = distinct_by (listed_in i386_shorts) refl
 
 i386_whole : AreListedWhole (expanded_in I386) i386_shorts
 unfolding searched
-i386_whole =
-    (whole_at (expanded_in I386) (member_or_none (slice_get i386_shorts 0)) refl,
-    (whole_at (expanded_in I386) (member_or_none (slice_get i386_shorts 1)) refl,
-    (whole_at (expanded_in I386) (member_or_none (slice_get i386_shorts 2)) refl,
-    (whole_at (expanded_in I386) (member_or_none (slice_get i386_shorts 3)) refl,
-    (whole_at (expanded_in I386) (member_or_none (slice_get i386_shorts 4)) refl, tt)))))
+i386_whole = (
+  whole_at (expanded_in I386) (member_or_none (slice_get i386_shorts 0)) refl,
+  (
+    whole_at (expanded_in I386) (member_or_none (slice_get i386_shorts 1)) refl,
+    (
+      whole_at (expanded_in I386) (member_or_none (slice_get i386_shorts 2)) refl,
+      (
+        whole_at (expanded_in I386) (member_or_none (slice_get i386_shorts 3)) refl,
+        (whole_at (expanded_in I386) (member_or_none (slice_get i386_shorts 4)) refl, tt),
+      ),
+    ),
+  ),
+)
 
 i386_searched : SearchesCommandLine (expanded_in I386) i386_shorts (shorts_grouped i386_own) shorts_taken
 unfolding searched swept sweeps AreSwept AreRounds SearchesFrom
-i386_searched =
-    (shorts_taken,
-    record {
-      rounds = 2;
-      taken =
-          (4 ∷ [], ([], record { count = 0; taken = refl; ended = refl }, (4 ∷ [], record { count = 1; taken = refl; ended = refl }, refl)),
-          (shorts_taken, (shorts_taken, record { count = 2; taken = refl; ended = refl }, (shorts_taken, record { count = 0; taken = refl; ended = refl }, refl)), refl));
-      ended = (refl, (refl, tt));
-    },
-    refl)
+i386_searched = (
+  shorts_taken,
+  record {
+    rounds = 2;
+    taken = (
+      4 ∷ [],
+      ([], record { count = 0; taken = refl; ended = refl }, (4 ∷ [], record { count = 1; taken = refl; ended = refl }, refl)),
+      (shorts_taken, (shorts_taken, record { count = 2; taken = refl; ended = refl }, (shorts_taken, record { count = 0; taken = refl; ended = refl }, refl)), refl),
+    );
+    ended = (refl, (refl, tt));
+  },
+  refl,
+)
 
 i386_unclaimed : AreUnclaimedBehind i386_shorts [] (shorts_grouped i386_own)
 unfolding searched AreUnclaimedBehind
@@ -144,9 +164,10 @@ i386_searches = record {
 i386_given : AreGivenForBoth I386 i386_kernels (with_quit I386 i386_shorts i386_own)
 unfolding searched
 i386_given = record {
-  claims =
-      (claims_none_by (kept_of_both I386 i386_kernels (with_quit I386 i386_shorts i386_own)) (object_at (with_quit I386 i386_shorts i386_own) 0) refl,
-      (claims_none_by (kept_of_both I386 i386_kernels (with_quit I386 i386_shorts i386_own)) (object_at (with_quit I386 i386_shorts i386_own) 1) refl, tt));
+  claims = (
+    claims_none_by (kept_of_both I386 i386_kernels (with_quit I386 i386_shorts i386_own)) (object_at (with_quit I386 i386_shorts i386_own) 0) refl,
+    (claims_none_by (kept_of_both I386 i386_kernels (with_quit I386 i386_shorts i386_own)) (object_at (with_quit I386 i386_shorts i386_own) 1) refl, tt),
+  );
   names = record { gnu = tt; msvc = (record { descriptor = refl; null_descriptor = refl; null_thunk = refl }, tt) };
 }
 
