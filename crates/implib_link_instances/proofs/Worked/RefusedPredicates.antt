@@ -385,6 +385,8 @@ refused_archives = record {
   at = worked_searches.coff_first.in_turn;
   are_taken_at = λ x. none_in x.1.0.0 x.1.0.1.asked.0;
   takes_just = λ x. (x [] (record { in_turn = tt; ended = λ name header pulls. none_in name pulls.asked.0 })).holds;
+  undefined = ((0, omega arith, refl), refl);
+  is_undefined = λ x. true≢false x.1;
 }
 
 pub refused_predicates : RefusedPredicates

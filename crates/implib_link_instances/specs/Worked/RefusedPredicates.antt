@@ -14,7 +14,7 @@ use Rattle.implib.specs.Members.MemberSpec.{MemberView}
 use Rattle.implib.specs.Worked.Statements.{plain_export}
 use Rattle.implib_archive.specs.Worked.{worked_coff, worked_members}
 use Rattle.implib_archive.specs.declared.kind.Kind.TheVariants.{Coff}
-use Rattle.implib_archive_link.specs.InBytes.{AreTakenAt, First, asks_for}
+use Rattle.implib_archive_link.specs.InBytes.{AreTakenAt, First, asks_for, is_undefined}
 use Rattle.implib_archive_link.specs.Results.{AreHeadersOf, TakesJust}
 use Rattle.implib_image.specs.Files.{MappedFile, WritesFrom}
 use Rattle.implib_link.specs.Directory.{WalkFinds}
@@ -273,6 +273,9 @@ pub record RefusedArchivePredicates : Type 0 where
   pub are_taken_at : AreTakenAt Coff First worked_coff (asks_for []) (334 ∷ 270 ∷ []) → ⊥
   -- a search that takes nothing finds members of which nothing holds
   pub takes_just : TakesJust Coff First worked_members (asks_for []) (λ found. ⊥) → ⊥
+  -- a name that is wanted; an object claims it
+  pub undefined : is_undefined (codes "quit" ∷ []) [] (codes "quit")
+  pub is_undefined : is_undefined (codes "quit" ∷ []) (quitting ∷ []) (codes "quit") → ⊥
 
 pub record RefusedPredicates : Type 0 where
   pub searches : RefusedSearchPredicates
