@@ -1,14 +1,17 @@
 -- What predicates refuse, by computing.
 use Rattle.std.proofs.Common.{◌≡◌, ◌+◌, ◌≤◌, ℕ, zero, suc, true, List, [], ◌∷◌, ◌++◌, length, Option, None, Some, refl, ap, sym, subst, inl, inr, codes, nat_lt, arith}
-use Rattle.std.specs.Prelude.{nat_le, slice_get}
+use Rattle.std.specs.Prelude.{drop, nat_le, slice_get, take}
 use Rattle.std.specs.List.{Contains, list_any}
 use Rattle.std.proofs.lemmas.Bool.{and_parts, cases_Bool, leb-true, ltb-true, true≢false}
 use Rattle.implib.specs.declared.coff.object.Relocation.{Relocation}
+use Rattle.implib.specs.declared.flavor.Flavor.TheVariants.{Gnu}
 use Rattle.implib.specs.declared.machine.MachineType.TheVariants.{AMD64}
+use Rattle.implib.specs.Definition.{empty_export}
 use Rattle.implib.specs.Formats.Bytes.{u32_bytes}
 use Rattle.implib.specs.Formats.Object.{object_in}
 use Rattle.implib.specs.Import.{Name, Ordinal, imp_symbol}
-use Rattle.implib.specs.Link.Load.{NumberAt}
+use Rattle.implib.specs.Link.Image.{Range}
+use Rattle.implib.specs.Link.Load.{BytesAt, NumberAt}
 use Rattle.implib.specs.Link.Resolution.{definitions_of}
 use Rattle.implib.specs.Members.ImportTables.{zeros}
 use Rattle.implib.specs.Members.MemberSpec.{MemberView}
@@ -16,18 +19,21 @@ use Rattle.implib.proofs.Link.LinkedMembers.{among_contains}
 use Rattle.implib.proofs.Link.Loading.{number_once}
 use Rattle.implib.proofs.Link.Ranges.{Among}
 use Rattle.implib_archive.specs.Worked.{worked_members}
-use Rattle.implib_archive_link.specs.InBytes.{AreTakenAt}
+use Rattle.implib_archive.specs.declared.kind.Kind.TheVariants.{Coff}
+use Rattle.implib_archive_link.specs.InBytes.{AreTakenAt, Second}
 use Rattle.implib_archive_link.specs.Results.{AreHeadersOf}
+use Rattle.implib_archive_link.proofs.Corollaries.{are_searched}
 use Rattle.implib_link.specs.Directory.{WalkFinds}
 use Rattle.implib_link.specs.Flavors.Program.{SymbolsAt, SymbolsGet}
-use Rattle.implib_link.specs.Gnu.Fields.{AreLinkedBeside}
+use Rattle.implib_link.specs.Gnu.Fields.{AreLinkedBeside, LinkedCode}
 use Rattle.implib_link.specs.Gnu.Loaded.{Writes}
 use Rattle.implib_link.specs.Gnu.Moves.{AreInMemory, AreMoved}
+use Rattle.implib_link.specs.Gnu.Operands.{AreKept}
 use Rattle.implib_link.specs.Gnu.OtherLibraries.{AllTaken, DescriptorsAt}
 use Rattle.implib_link.specs.Gnu.Program.{HaveSame}
 use Rattle.implib_link.specs.Gnu.Reading.{ReadsAndWrites}
 use Rattle.implib_link.specs.Gnu.Rebased.{Place, covers}
-use Rattle.implib_link.specs.Gnu.Stored.{AreStoredInMemory, amd64_addr32nb}
+use Rattle.implib_link.specs.Gnu.Stored.{AreStoredInMemory, IsFurtherHeld, amd64_addr32nb}
 use Rattle.implib_link.specs.Gnu.Writing.{FillsTable}
 use Rattle.implib_link.specs.Parts.{AreEntries, BeginWithHead}
 use Rattle.implib_link.specs.Search.BothFlavors.{IsWeakOfBoth}
@@ -38,12 +44,14 @@ use Rattle.implib_link.specs.Search.Sweeps.{index_at, members_at, sweeps, swept}
 use Rattle.implib_link.specs.Tables.{DefineEntries}
 use Rattle.implib_link.proofs.Gnu.Stubs.{same_address}
 use Rattle.implib_link.proofs.Search.Lists.{contains_among}
+use Rattle.implib_link_instances.specs.Worked.Archives.{library_of}
 use Rattle.implib_link_instances.specs.Worked.Closed.{foo_alias}
 use Rattle.implib_link_instances.specs.Worked.CommandLines.{amd64_members, inputs_of, of_quit, quit_bytes, quit_member, spare_member, wanting_own, with_spares}
 use Rattle.implib_link_instances.specs.Worked.LldPrograms.{own_tables}
 use Rattle.implib_link_instances.specs.Worked.Operands.{field}
 use Rattle.implib_link_instances.specs.Worked.RefusedLinks.{linked_by_hand, ordinal_8, right_image}
-use Rattle.implib_link_instances.specs.Worked.RefusedPredicates.{RefusedArchivePredicates, RefusedCodePredicates, RefusedPredicates, RefusedSearchPredicates, RefusedTablePredicates, first_worked, no_targets, one_code, one_range, quit_and_more}
+use Rattle.implib_link_instances.specs.Worked.RefusedPredicates.{RefusedArchivePredicates, RefusedCodePredicates, RefusedPredicates, RefusedSearchPredicates, RefusedTablePredicates, entry_with, first_worked, no_targets, one_code, one_range, quit_and_more, relative_code}
+use Rattle.implib_link_instances.specs.Worked.Search.{aliased, members_of, three, wanted}
 use Rattle.implib_link_instances.proofs.Archives.WorkedSearches.{worked_searches}
 use Rattle.implib_link_instances.proofs.Worked.CommandLines.{ended_by, first_byte, pulls_by}
 use Rattle.implib_link_instances.proofs.Worked.Lld.{lld_opened}
@@ -54,6 +62,7 @@ use Rattle.implib_link_instances.proofs.Worked.Pages.{worked_pages}
 use Rattle.implib_link_instances.proofs.Worked.Programs.{opened}
 use Rattle.implib_link_instances.proofs.Worked.RefusedFields.{other_byte, value}
 use Rattle.implib_link_instances.proofs.Worked.RefusedLinks.{differ, number, refused_links}
+use Rattle.implib_link_instances.proofs.Worked.Stored.{further_by, further_test}
 use Rattle.implib_link_instances.proofs.Worked.Walks.{worked_walks}
 
 -- Names and searches.
@@ -275,6 +284,34 @@ not_stored : AreStoredInMemory AMD64 0x1_4000_0000 (one_range 0x90) [] [] no_tar
 not_stored (inl x) = differ 0 1 (ap length x.1.1) (omega arith)
 not_stored (inr x) = moved_nowhere x.0 x.1.0 x.1.1.1.0
 
+-- the one byte of the code, wherever bytes begin and however many they are
+none_there_of : (memory : List Range) (a count : ℕ) → BytesAt memory a (take count [])
+unfolding BytesAt
+none_there_of memory a zero = tt
+none_there_of memory a (suc n) = tt
+
+one_there : (offset count : ℕ) → BytesAt (one_range 0x90) (0x1000 + offset) (take count (drop offset (0x90 ∷ [])))
+unfolding BytesAt
+one_there offset zero = tt
+one_there zero (suc n) = (refl, none_there_of (one_range 0x90) 0x1001 n)
+one_there (suc zero) (suc n) = tt
+one_there (suc (suc k)) (suc n) = tt
+
+kept : AreKept AMD64 (one_code ∷ []) (one_range 0x90)
+unfolding Among
+kept c offset count held none =
+    elim (contains_among c (one_code ∷ []) held) [
+      | inl is ↦ subst (λ (c : LinkedCode). BytesAt (one_range 0x90) (c.position + offset) (take count (drop offset c.code.bytes))) (sym is) (one_there offset count)
+      | inr none_else ↦ absurd none_else
+    ]
+
+relative_linked : LinkedCode
+relative_linked = record { from = entry_with 4; number = 1; code = relative_code; position = 0x1000; bytes = 0x10 ∷ 0 ∷ 0 ∷ 0 ∷ [] }
+
+further : IsFurtherHeld AMD64 0x1000 (λ index. 0x10) relative_code (0x10 ∷ 0 ∷ 0 ∷ 0 ∷ [])
+unfolding opened further_test relative_linked
+further = further_by AMD64 0x1000 (relative_linked ∷ []) (λ c index. 0x10) refl relative_linked (0, omega arith, refl)
+
 refused_code : RefusedCodePredicates
 unfolding opened
 refused_code = record {
@@ -290,7 +327,9 @@ refused_code = record {
   field_holds = λ x. let is : 0x10 ≡ 0x1010 = x.addr64 refl in differ 0x10 0x1010 is (omega arith);
   apart = ((apart, tt), (tt, tt));
   are_places_apart = λ x. x.0.0 0x1003 refl refl;
+  kept = kept;
   are_kept = λ x. other_byte (one_range 0xCC) 0x1000 0x90 0xCC [] refl (omega arith) (x one_code 0 1 (0, omega arith, refl) refl);
+  further = further;
   is_further_held = λ x. let is : 0x11 ≡ 0x10 = (x (field 0 0 amd64_addr32nb) refl (omega arith)).relative refl in differ 0x10 0x11 (sym is) (omega arith);
   in_memory = inl (beside, refl);
   are_in_memory = not_in_memory;
@@ -372,6 +411,18 @@ unfolding searched
 not_weak (inl short) = weak_short [] (codes "bar" ∷ []) foo_alias refl short
 not_weak (inr data_there) = weak_data [] (codes "bar" ∷ []) foo_alias refl data_there
 
+weak : IsWeakOfBoth (record { flavor = Gnu; library = library_of aliased } ∷ []) (codes "bar" ∷ []) foo_alias
+unfolding searched
+weak = inr (record {
+  library = library_of aliased;
+  held = (0, omega arith, refl);
+  export = record empty_export { name = codes "bar"; alias_target = codes "baz"; is_data = true };
+  among = (0, omega arith, refl);
+  data_alone = refl;
+  named = (0, omega arith, refl);
+  listed = refl;
+})
+
 refused_archives : RefusedArchivePredicates
 unfolding searched AreTakenAt AreHeadersOf
 refused_archives = record {
@@ -379,12 +430,14 @@ refused_archives = record {
   names_no_head_or_tail_of = λ x. true≢false x.0.head;
   no_header = (record { descriptor = refl; null_descriptor = refl; null_thunk = refl }, tt);
   names_no_header_of = λ x. true≢false x.0.descriptor;
+  weak = weak;
   is_weak_of_both = not_weak;
   headers = (record { number = 0; header_is = refl; member_is = refl }, tt);
   are_headers_of = λ x. second_first x.0.number x.0.header_is x.0.member_is;
   at = worked_searches.coff_first.in_turn;
   are_taken_at = λ x. none_in x.1.0.0 x.1.0.1.asked.0;
-  takes_just = λ x. (x [] (record { in_turn = tt; ended = λ name header pulls. none_in name pulls.asked.0 })).holds;
+  takes = (are_searched Coff Second (members_of three) worked_searches.three_coff).wanted wanted;
+  takes_just = λ x. (x worked_searches.in_coff.taken worked_searches.in_coff.takes).holds;
   undefined = ((0, omega arith, refl), refl);
   is_undefined = λ x. true≢false x.1;
 }

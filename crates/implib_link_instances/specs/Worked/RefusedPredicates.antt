@@ -14,7 +14,7 @@ use Rattle.implib.specs.Members.MemberSpec.{MemberView}
 use Rattle.implib.specs.Worked.Statements.{plain_export}
 use Rattle.implib_archive.specs.Worked.{worked_coff, worked_members}
 use Rattle.implib_archive.specs.declared.kind.Kind.TheVariants.{Coff}
-use Rattle.implib_archive_link.specs.InBytes.{AreTakenAt, First, asks_for, is_undefined}
+use Rattle.implib_archive_link.specs.InBytes.{AreTakenAt, First, Second, asks_for, is_undefined}
 use Rattle.implib_archive_link.specs.Results.{AreHeadersOf, TakesJust}
 use Rattle.implib_image.specs.Files.{MappedFile, WritesFrom}
 use Rattle.implib_link.specs.Directory.{WalkFinds}
@@ -38,10 +38,11 @@ use Rattle.implib_link.specs.Search.Closed.{AreTakenIntoAs}
 use Rattle.implib_link.specs.Search.CommandLines.{Archives, AreRounds, AreSwept, AreTakenBehind, LeavesNone, LldSearchesFrom, NoneIsLost, SearchesCommandLine, SearchesFrom, TakesFirst}
 use Rattle.implib_link.specs.Search.MsvcArchives.{IsMsvcLibrary, NamesNoHeaderOf}
 use Rattle.implib_link.specs.Search.NamedApart.{AreNone}
-use Rattle.implib_link.specs.Search.Search.{AreTakenInTurnAs}
+use Rattle.implib_link.specs.Search.Search.{AreTakenInTurnAs, Takes}
 use Rattle.implib_link.specs.Search.Sweeps.{members_at}
 use Rattle.implib_link.specs.Tables.{AreSteady, DefineEntries}
 use Rattle.implib_link_instances.specs.Archives.Worked.{names_wanted}
+use Rattle.implib_link_instances.specs.Worked.Archives.{library_of}
 use Rattle.implib_link_instances.specs.Worked.Closed.{foo_alias}
 use Rattle.implib_link_instances.specs.Worked.CommandLines.{amd64_members, inputs_of, of_quit, quitting, wanting_own, with_spares}
 use Rattle.implib_link_instances.specs.Worked.LldPrograms.{own_tables}
@@ -51,6 +52,7 @@ use Rattle.implib_link_instances.specs.Worked.Operands.{field}
 use Rattle.implib_link_instances.specs.Worked.Pages.{paging_at, paging_code}
 use Rattle.implib_link_instances.specs.Worked.Programs.{code_object, program_placed, symbol_of_class, touching_8}
 use Rattle.implib_link_instances.specs.Worked.RefusedLinks.{foo, linked_by_hand, named_otherwise, right_image}
+use Rattle.implib_link_instances.specs.Worked.Search.{aliased, members_of, three, wanted}
 use Rattle.implib_link_instances.specs.Worked.Walks.{foo_imported, without_name}
 use Rattle.implib_link_instances.specs.Worked.Writing.{gives_zeros}
 
@@ -179,9 +181,11 @@ pub record RefusedCodePredicates : Type 0 where
   -- places one after another, and one whose last byte the next has
   pub apart : ArePlacesApart (record { address = 0x1000; width = 4 } ∷ record { address = 0x1004; width = 4 } ∷ [])
   pub are_places_apart : ArePlacesApart (record { address = 0x1000; width = 4 } ∷ record { address = 0x1003; width = 4 } ∷ []) → ⊥
-  -- a byte that no relocation meets, and another one in memory
+  -- a byte that no relocation meets, as it was in memory, and another one there
+  pub kept : AreKept AMD64 (one_code ∷ []) (one_range 0x90)
   pub are_kept : AreKept AMD64 (one_code ∷ []) (one_range 0xCC) → ⊥
-  -- another number than the target's
+  -- the target's address from the image's base, and another one
+  pub further : IsFurtherHeld AMD64 0x1000 (λ index. 0x10) relative_code (0x10 ∷ 0 ∷ 0 ∷ 0 ∷ [])
   pub is_further_held : IsFurtherHeld AMD64 0x1000 (λ index. 0x10) relative_code (0x11 ∷ 0 ∷ 0 ∷ 0 ∷ []) → ⊥
   -- the image in memory, and nothing in memory
   pub in_memory : AreInMemory AMD64 0x1_4000_0000 (one_range 0x90) [] [] no_targets (one_range 0x90)
@@ -263,7 +267,8 @@ pub record RefusedArchivePredicates : Type 0 where
   pub names_no_head_or_tail_of : NamesNoHeadOrTailOf AMD64 (zed_library ∷ []) (codes "_head_zed_dll" ∷ []) → ⊥
   pub no_header : NamesNoHeaderOf (zed_short (codes "queue") ∷ []) (codes "queue" ∷ [])
   pub names_no_header_of : NamesNoHeaderOf (zed_short (codes "queue") ∷ []) (codes "__IMPORT_DESCRIPTOR_zed" ∷ []) → ⊥
-  -- the alias of no library
+  -- the alias of a library, and of none
+  pub weak : IsWeakOfBoth (record { flavor = Gnu; library = library_of aliased } ∷ []) (codes "bar" ∷ []) foo_alias
   pub is_weak_of_both : IsWeakOfBoth [] (codes "bar" ∷ []) foo_alias → ⊥
   -- the first member's header, and the second one's
   pub headers : AreHeadersOf (270 ∷ 334 ∷ []) worked_members (270 ∷ []) (first_worked ∷ [])
@@ -271,8 +276,9 @@ pub record RefusedArchivePredicates : Type 0 where
   -- the names that lead to the members are wanted; nothing is
   pub at : AreTakenAt Coff First worked_coff (asks_for names_wanted) (334 ∷ 270 ∷ [])
   pub are_taken_at : AreTakenAt Coff First worked_coff (asks_for []) (334 ∷ 270 ∷ []) → ⊥
-  -- a search that takes nothing finds members of which nothing holds
-  pub takes_just : TakesJust Coff First worked_members (asks_for []) (λ found. ⊥) → ⊥
+  -- what a search in bytes takes is what is taken of the list; nothing holds of it
+  pub takes : TakesJust Coff Second (members_of three) (asks_for wanted) (Takes (members_of three) wanted)
+  pub takes_just : TakesJust Coff Second (members_of three) (asks_for wanted) (λ found. ⊥) → ⊥
   -- a name that is wanted; an object claims it
   pub undefined : is_undefined (codes "quit" ∷ []) [] (codes "quit")
   pub is_undefined : is_undefined (codes "quit" ∷ []) (quitting ∷ []) (codes "quit") → ⊥
