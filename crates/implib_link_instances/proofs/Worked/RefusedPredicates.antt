@@ -3,10 +3,15 @@ use Rattle.std.proofs.Common.{◌≡◌, ◌+◌, ◌≤◌, ℕ, zero, suc, tru
 use Rattle.std.specs.Prelude.{drop, nat_le, slice_get, take}
 use Rattle.std.specs.List.{Contains, list_any}
 use Rattle.std.proofs.lemmas.Bool.{and_parts, cases_Bool, leb-true, ltb-true, true≢false}
+use Rattle.std.proofs.lemmas.Str.{IsUtf8-from_is_utf8}
+use Rattle.std.specs.Char.{encode_utf8}
+use Rattle.std.specs.Str.{chars, is_utf8}
+use Rattle.implib.specs.declared.def.lexer.TokenKind.TheVariants as kind
 use Rattle.implib.specs.declared.coff.object.Relocation.{Relocation}
 use Rattle.implib.specs.declared.flavor.Flavor.TheVariants.{Gnu}
 use Rattle.implib.specs.declared.machine.MachineType.TheVariants.{AMD64}
 use Rattle.implib.specs.Definition.{empty_export}
+use Rattle.implib.specs.Fault.{ExpectedIdentifier}
 use Rattle.implib.specs.Formats.Bytes.{u32_bytes}
 use Rattle.implib.specs.Formats.Object.{object_in}
 use Rattle.implib.specs.Import.{Name, Ordinal, imp_symbol}
@@ -18,6 +23,8 @@ use Rattle.implib.specs.Members.MemberSpec.{MemberView}
 use Rattle.implib.proofs.Link.LinkedMembers.{among_contains}
 use Rattle.implib.proofs.Link.Loading.{number_once}
 use Rattle.implib.proofs.Link.Ranges.{Among}
+use Rattle.implib.proofs.Text.OneReading.{never_both}
+use Rattle.implib.proofs.Worked.Statements.{worked_refusals}
 use Rattle.implib_archive.specs.Worked.{worked_members}
 use Rattle.implib_archive.specs.declared.kind.Kind.TheVariants.{Coff}
 use Rattle.implib_archive_link.specs.InBytes.{AreTakenAt, Second}
@@ -25,6 +32,7 @@ use Rattle.implib_archive_link.specs.Results.{AreHeadersOf}
 use Rattle.implib_archive_link.proofs.Corollaries.{are_searched}
 use Rattle.implib_link.specs.Directory.{WalkFinds}
 use Rattle.implib_link.specs.Flavors.Program.{SymbolsAt, SymbolsGet}
+use Rattle.implib_link.specs.Flavors.Texts.{LinkInFlavor}
 use Rattle.implib_link.specs.Gnu.Fields.{AreLinkedBeside, LinkedCode}
 use Rattle.implib_link.specs.Gnu.Loaded.{Writes}
 use Rattle.implib_link.specs.Gnu.Moves.{AreInMemory, AreMoved}
@@ -423,6 +431,10 @@ weak = inr (record {
   listed = refl;
 })
 
+no_library : LinkInFlavor (codes "HEAPSIZE 1,") AMD64 Gnu [] → ⊥
+unfolding chars is_utf8 encode_utf8
+no_library x = never_both (codes "HEAPSIZE 1,") (IsUtf8-from_is_utf8 (codes "HEAPSIZE 1,") refl) AMD64 x.1.0.parsed (ExpectedIdentifier kind.Eof) x.1.0.parses worked_refusals.missing_size
+
 refused_archives : RefusedArchivePredicates
 unfolding searched AreTakenAt AreHeadersOf
 refused_archives = record {
@@ -438,6 +450,7 @@ refused_archives = record {
   are_taken_at = λ x. none_in x.1.0.0 x.1.0.1.asked.0;
   takes = (are_searched Coff Second (members_of three) worked_searches.three_coff).wanted wanted;
   takes_just = λ x. (x worked_searches.in_coff.taken worked_searches.in_coff.takes).holds;
+  link_in_flavor = no_library;
   undefined = ((0, omega arith, refl), refl);
   is_undefined = λ x. true≢false x.1;
 }

@@ -19,6 +19,7 @@ use Rattle.implib_archive_link.specs.Results.{AreHeadersOf, TakesJust}
 use Rattle.implib_image.specs.Files.{MappedFile, WritesFrom}
 use Rattle.implib_link.specs.Directory.{WalkFinds}
 use Rattle.implib_link.specs.Flavors.Program.{AreClaimed, AreEnded, FlavorInput, IsCode, IsMadeFor, OfLinker, OfMember, SymbolsAt, SymbolsGet, WhereMember}
+use Rattle.implib_link.specs.Flavors.Texts.{LinkInFlavor}
 use Rattle.implib_link.specs.Gnu.Calls.{amd64_addr64, i386_rel32}
 use Rattle.implib_link.specs.Gnu.Choices.{ArePlacesApart}
 use Rattle.implib_link.specs.Gnu.Fields.{FieldHolds, LinkedCode, MeetsAlone}
@@ -279,6 +280,8 @@ pub record RefusedArchivePredicates : Type 0 where
   -- what a search in bytes takes is what is taken of the list; nothing holds of it
   pub takes : TakesJust Coff Second (members_of three) (asks_for wanted) (Takes (members_of three) wanted)
   pub takes_just : TakesJust Coff Second (members_of three) (asks_for wanted) (λ found. ⊥) → ⊥
+  -- a text that is no definition: a size is missing
+  pub link_in_flavor : LinkInFlavor (codes "HEAPSIZE 1,") AMD64 Gnu [] → ⊥
   -- a name that is wanted; an object claims it
   pub undefined : is_undefined (codes "quit" ∷ []) [] (codes "quit")
   pub is_undefined : is_undefined (codes "quit" ∷ []) (quitting ∷ []) (codes "quit") → ⊥
