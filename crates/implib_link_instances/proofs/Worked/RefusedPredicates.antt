@@ -1,5 +1,5 @@
 -- What predicates refuse, by computing.
-use Rattle.std.proofs.Common.{◌≡◌, ◌+◌, ◌≤◌, ℕ, zero, suc, true, List, [], ◌∷◌, ◌++◌, length, Option, None, Some, refl, ap, sym, subst, inl, inr, codes, nat_lt, arith}
+use Rattle.std.proofs.Common.{◌≡◌, ◌+◌, ◌≤◌, ℕ, zero, suc, true, List, [], ◌∷◌, ◌++◌, length, Option, None, Some, refl, ap, sym, ◌∙◌, subst, inl, inr, codes, nat_lt, arith}
 use Rattle.std.specs.Prelude.{drop, nat_le, slice_get, take}
 use Rattle.std.specs.List.{Contains, list_any}
 use Rattle.std.proofs.lemmas.Bool.{and_parts, cases_Bool, leb-true, ltb-true, true≢false}
@@ -10,20 +10,24 @@ use Rattle.implib.specs.declared.def.lexer.TokenKind.TheVariants as kind
 use Rattle.implib.specs.declared.coff.object.Relocation.{Relocation}
 use Rattle.implib.specs.declared.flavor.Flavor.TheVariants.{Gnu}
 use Rattle.implib.specs.declared.machine.MachineType.TheVariants.{AMD64}
-use Rattle.implib.specs.Definition.{empty_export}
+use Rattle.implib.specs.Definition.{DefinitionView, empty_export}
 use Rattle.implib.specs.Fault.{ExpectedIdentifier}
 use Rattle.implib.specs.Formats.Bytes.{u32_bytes}
-use Rattle.implib.specs.Formats.Object.{object_in}
+use Rattle.implib.specs.Formats.Object.{Object, object_in}
 use Rattle.implib.specs.Import.{Name, Ordinal, imp_symbol}
+use Rattle.implib.specs.Library.{LibraryOf, LibraryView}
 use Rattle.implib.specs.Link.Image.{Range}
+use Rattle.implib.specs.Link.LinkedMembers.{LinkInput, all_linked, objects_in}
+use Rattle.implib.specs.Link.Placement.{Bases}
 use Rattle.implib.specs.Link.Load.{BytesAt, NumberAt}
 use Rattle.implib.specs.Link.Resolution.{definitions_of}
 use Rattle.implib.specs.Members.ImportTables.{zeros}
 use Rattle.implib.specs.Members.MemberSpec.{MemberView}
+use Rattle.implib.specs.Renaming.{renamed}
 use Rattle.implib.proofs.Link.LinkedMembers.{among_contains}
 use Rattle.implib.proofs.Link.Loading.{number_once}
 use Rattle.implib.proofs.Link.Ranges.{Among}
-use Rattle.implib.proofs.Text.OneReading.{never_both}
+use Rattle.implib.proofs.Text.OneReading.{never_both, one_definition}
 use Rattle.implib.proofs.Worked.Statements.{worked_refusals}
 use Rattle.implib_archive.specs.Worked.{worked_members}
 use Rattle.implib_archive.specs.declared.kind.Kind.TheVariants.{Coff}
@@ -31,17 +35,19 @@ use Rattle.implib_archive_link.specs.InBytes.{AreTakenAt, Second}
 use Rattle.implib_archive_link.specs.Results.{AreHeadersOf}
 use Rattle.implib_archive_link.proofs.Corollaries.{are_searched}
 use Rattle.implib_link.specs.Directory.{WalkFinds}
-use Rattle.implib_link.specs.Flavors.Program.{SymbolsAt, SymbolsGet}
-use Rattle.implib_link.specs.Flavors.Texts.{LinkInFlavor}
+use Rattle.implib_link.specs.Flavors.Program.{Ending, IsProgram, IsProgramOf, OfLinker, SymbolsAt, SymbolsGet}
+use Rattle.implib_link.specs.Flavors.Texts.{FlavorTextsLink, LinkInFlavor, flavor_source, input_of}
 use Rattle.implib_link.specs.Gnu.Fields.{AreLinkedBeside, LinkedCode}
 use Rattle.implib_link.specs.Gnu.Loaded.{Writes}
 use Rattle.implib_link.specs.Gnu.Moves.{AreInMemory, AreMoved}
 use Rattle.implib_link.specs.Gnu.Operands.{AreKept}
 use Rattle.implib_link.specs.Gnu.OtherLibraries.{AllTaken, DescriptorsAt}
-use Rattle.implib_link.specs.Gnu.Program.{HaveSame}
+use Rattle.implib_link.specs.Gnu.Packed.{group_end, packed, packed_end, sections_end}
+use Rattle.implib_link.specs.Gnu.Program.{HaveSame, linked_symbols, null_descriptor}
 use Rattle.implib_link.specs.Gnu.Reading.{ReadsAndWrites}
 use Rattle.implib_link.specs.Gnu.Rebased.{Place, covers}
 use Rattle.implib_link.specs.Gnu.Stored.{AreStoredInMemory, IsFurtherHeld, amd64_addr32nb}
+use Rattle.implib_link.specs.Gnu.Texts.{link_input_of}
 use Rattle.implib_link.specs.Gnu.Writing.{FillsTable}
 use Rattle.implib_link.specs.Parts.{AreEntries, BeginWithHead}
 use Rattle.implib_link.specs.Search.BothFlavors.{IsWeakOfBoth}
@@ -50,6 +56,7 @@ use Rattle.implib_link.specs.Search.CommandLines.{Archives, AreRounds, AreSwept,
 use Rattle.implib_link.specs.Search.Search.{AreTakenInTurnAs}
 use Rattle.implib_link.specs.Search.Sweeps.{index_at, members_at, sweeps, swept}
 use Rattle.implib_link.specs.Tables.{DefineEntries}
+use Rattle.implib_link.proofs.Flavors.Texts.{texts_link}
 use Rattle.implib_link.proofs.Gnu.Stubs.{same_address}
 use Rattle.implib_link.proofs.Search.Lists.{contains_among}
 use Rattle.implib_link_instances.specs.Worked.Archives.{library_of}
@@ -58,18 +65,22 @@ use Rattle.implib_link_instances.specs.Worked.CommandLines.{amd64_members, input
 use Rattle.implib_link_instances.specs.Worked.LldPrograms.{own_tables}
 use Rattle.implib_link_instances.specs.Worked.Operands.{field}
 use Rattle.implib_link_instances.specs.Worked.RefusedLinks.{linked_by_hand, ordinal_8, right_image}
-use Rattle.implib_link_instances.specs.Worked.RefusedPredicates.{RefusedArchivePredicates, RefusedCodePredicates, RefusedPredicates, RefusedSearchPredicates, RefusedTablePredicates, entry_with, first_worked, no_targets, one_code, one_range, quit_and_more, relative_code}
+use Rattle.implib_link_instances.specs.Worked.RefusedPredicates.{RefusedArchivePredicates, RefusedCodePredicates, RefusedPredicates, RefusedSearchPredicates, RefusedTablePredicates, entry_with, first_worked, no_targets, one_code, one_range, quit_and_more, relative_code, zed_members}
+use Rattle.implib_link_instances.specs.Worked.Sources.{zed_meant, zed_text}
 use Rattle.implib_link_instances.specs.Worked.Search.{aliased, members_of, three, wanted}
 use Rattle.implib_link_instances.proofs.Archives.WorkedSearches.{worked_searches}
 use Rattle.implib_link_instances.proofs.Worked.CommandLines.{ended_by, first_byte, pulls_by}
+use Rattle.implib_link_instances.proofs.Worked.GnuPacked.{packed_is_program}
 use Rattle.implib_link_instances.proofs.Worked.Lld.{lld_opened}
 use Rattle.implib_link_instances.proofs.Worked.LldPrograms.{refused_tables}
 use Rattle.implib_link_instances.proofs.Worked.NearSearches.{near_is_archive, near_pulls_in, near_pulls_into, none_in, searched, weak_data, weak_short}
 use Rattle.implib_link_instances.proofs.Worked.NearTables.{near_gets_address}
 use Rattle.implib_link_instances.proofs.Worked.Pages.{worked_pages}
-use Rattle.implib_link_instances.proofs.Worked.Programs.{opened}
+use Rattle.implib_link_instances.proofs.Worked.Programs.{distinct_by, opened}
 use Rattle.implib_link_instances.proofs.Worked.RefusedFields.{other_byte, value}
 use Rattle.implib_link_instances.proofs.Worked.RefusedLinks.{differ, number, refused_links}
+use Rattle.implib_link_instances.proofs.Worked.Searched.{below_limit}
+use Rattle.implib_link_instances.proofs.Worked.Sources.{worked_sources}
 use Rattle.implib_link_instances.proofs.Worked.Stored.{further_by, further_test}
 use Rattle.implib_link_instances.proofs.Worked.Walks.{worked_walks}
 
@@ -435,6 +446,64 @@ no_library : LinkInFlavor (codes "HEAPSIZE 1,") AMD64 Gnu [] → ⊥
 unfolding chars is_utf8 encode_utf8
 no_library x = never_both (codes "HEAPSIZE 1,") (IsUtf8-from_is_utf8 (codes "HEAPSIZE 1,") refl) AMD64 x.1.0.parsed (ExpectedIdentifier kind.Eof) x.1.0.parses worked_refusals.missing_size
 
+-- the library of the text of zed.dll, and what is linked of it
+zed_view : LibraryView
+zed_view = record { definition = renamed (zed_meant AMD64); machine = AMD64; flavor = Gnu }
+
+links : LinkInFlavor zed_text AMD64 Gnu zed_members
+unfolding zed_view
+links =
+    let is = worked_sources.amd64.gnu.1.0 in
+    (
+      zed_view,
+      (
+        is.of_text,
+        λ ending chosen bases objects program.
+            texts_link AMD64 ending bases (flavor_source Gnu zed_text zed_view zed_members chosen ∷ []) objects (record { of_text = is.of_text; made = is.made }, tt) program,
+      ),
+    )
+
+zed_input : List MemberView → LinkInput
+zed_input members = link_input_of (flavor_source Gnu zed_text zed_view members (0 ∷ [])).source
+
+zed_objects : List Object
+zed_objects = objects_in (all_linked AMD64 (zed_input zed_members ∷ [])) ++ null_descriptor ∷ []
+
+zed_program : IsProgram AMD64 (packed 1 zed_objects) (zed_input zed_members ∷ []) zed_objects
+unfolding searched group_end sections_end zed_view zed_input zed_objects
+zed_program =
+    packed_is_program AMD64 1 (zed_input zed_members ∷ []) (worked_sources.amd64.gnu.1.0.made, tt)
+    (distinct_by (linked_symbols AMD64 (zed_input zed_members ∷ [])) refl) (omega arith) (below_limit (packed_end 1 zed_objects) refl)
+
+-- whatever members the input has
+without_members : IsProgram AMD64 (packed 1 zed_objects) (zed_input [] ∷ []) zed_objects
+unfolding zed_view zed_input
+without_members = record {
+  held = record {
+    distinct = zed_program.held.distinct;
+    ended = record { gnu = zed_program.held.ended.gnu; tables = zed_program.held.ended.tables };
+    others = zed_program.held.others;
+    found = zed_program.held.found;
+  };
+  admissible = zed_program.admissible;
+  lookups = tt;
+  addresses = tt;
+  follows = tt;
+}
+
+no_members : LinkInFlavor zed_text AMD64 Gnu [] → ⊥
+unfolding zed_view zed_input chars is_utf8 encode_utf8
+no_members x =
+    let of : LibraryOf zed_text AMD64 Gnu x.0 = x.1.0 in
+    let worked : LibraryOf zed_text AMD64 Gnu zed_view = worked_sources.amd64.gnu.1.0.of_text in
+    let one : of.parsed ≡ worked.parsed = one_definition zed_text (IsUtf8-from_is_utf8 zed_text refl) AMD64 of.parsed worked.parsed of.parses worked.parses in
+    let same : x.0 ≡ zed_view = of.held ∙ ap (λ (d : DefinitionView). record { definition = renamed d; machine = AMD64; flavor = Gnu }) one ∙ sym worked.held in
+    let linked = subst (λ (l : LibraryView). (ending : Ending) (chosen : List ℕ) (bases : Bases) (objects : List Object) →
+      IsProgramOf AMD64 ending bases (input_of (flavor_source Gnu zed_text l [] chosen) ∷ []) objects →
+      FlavorTextsLink AMD64 ending bases (flavor_source Gnu zed_text l [] chosen ∷ []) objects) same x.1.1 in
+    let gives = linked OfLinker (0 ∷ []) (packed 1 zed_objects) zed_objects without_members in
+    none_in _ gives.among.linked.0.from_members.0
+
 refused_archives : RefusedArchivePredicates
 unfolding searched AreTakenAt AreHeadersOf
 refused_archives = record {
@@ -450,7 +519,9 @@ refused_archives = record {
   are_taken_at = λ x. none_in x.1.0.0 x.1.0.1.asked.0;
   takes = (are_searched Coff Second (members_of three) worked_searches.three_coff).wanted wanted;
   takes_just = λ x. (x worked_searches.in_coff.taken worked_searches.in_coff.takes).holds;
-  link_in_flavor = no_library;
+  links = links;
+  link_in_flavor_text = no_library;
+  link_in_flavor = no_members;
   undefined = ((0, omega arith, refl), refl);
   is_undefined = λ x. true≢false x.1;
 }

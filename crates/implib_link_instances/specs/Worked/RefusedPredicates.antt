@@ -1,5 +1,5 @@
 -- What predicates that are no records refuse. Beside most refusals is what they hold of, so that the two differ by one thing.
-use Rattle.std.specs.Prelude.{◌≡◌, ℕ, true, List, [], ◌∷◌, ◌++◌, None, codes}
+use Rattle.std.specs.Prelude.{◌≡◌, ℕ, true, List, [], ◌∷◌, ◌++◌, None, codes, map}
 use Rattle.implib.specs.declared.flavor.Flavor.TheVariants.{Gnu}
 use Rattle.implib.specs.declared.machine.MachineType.TheVariants.{I386, AMD64}
 use Rattle.implib.specs.Definition.{ExportView, empty_export}
@@ -10,7 +10,9 @@ use Rattle.implib.specs.Link.Image.{Range}
 use Rattle.implib.specs.Link.Placement.{Addresses, At, Placed}
 use Rattle.implib.specs.Members.Gnu.{section}
 use Rattle.implib.specs.Members.ImportTables.{table_flags, zeros}
-use Rattle.implib.specs.Members.MemberSpec.{MemberView}
+use Rattle.implib.specs.Members.MemberSpec.{MemberView, member_of}
+use Rattle.implib.specs.Members.Members.{member_specs}
+use Rattle.implib.specs.Renaming.{renamed}
 use Rattle.implib.specs.Worked.Statements.{plain_export}
 use Rattle.implib_archive.specs.Worked.{worked_coff, worked_members}
 use Rattle.implib_archive.specs.declared.kind.Kind.TheVariants.{Coff}
@@ -54,6 +56,7 @@ use Rattle.implib_link_instances.specs.Worked.Pages.{paging_at, paging_code}
 use Rattle.implib_link_instances.specs.Worked.Programs.{code_object, program_placed, symbol_of_class, touching_8}
 use Rattle.implib_link_instances.specs.Worked.RefusedLinks.{foo, linked_by_hand, named_otherwise, right_image}
 use Rattle.implib_link_instances.specs.Worked.Search.{aliased, members_of, three, wanted}
+use Rattle.implib_link_instances.specs.Worked.Sources.{zed_meant, zed_text}
 use Rattle.implib_link_instances.specs.Worked.Walks.{foo_imported, without_name}
 use Rattle.implib_link_instances.specs.Worked.Writing.{gives_zeros}
 
@@ -261,6 +264,10 @@ pub record RefusedTablePredicates : Type 0 where
 abbrev pub first_worked : MemberView
 first_worked = record { name = codes "a.o"; bytes = 1 ∷ 2 ∷ 3 ∷ []; symbols = codes "f" ∷ codes "__imp_f" ∷ [] }
 
+-- the members of the text of zed.dll
+abbrev pub zed_members : List MemberView
+zed_members = map member_of (member_specs (renamed (renamed (zed_meant AMD64))) AMD64 Gnu)
+
 -- What archives of libraries leave alone, and searches in bytes.
 pub record RefusedArchivePredicates : Type 0 where
   -- a function's name, and the head's symbol
@@ -280,8 +287,10 @@ pub record RefusedArchivePredicates : Type 0 where
   -- what a search in bytes takes is what is taken of the list; nothing holds of it
   pub takes : TakesJust Coff Second (members_of three) (asks_for wanted) (Takes (members_of three) wanted)
   pub takes_just : TakesJust Coff Second (members_of three) (asks_for wanted) (λ found. ⊥) → ⊥
-  -- a text that is no definition: a size is missing
-  pub link_in_flavor : LinkInFlavor (codes "HEAPSIZE 1,") AMD64 Gnu [] → ⊥
+  -- a text's members; a text that is no definition, since a size is missing; and no members
+  pub links : LinkInFlavor zed_text AMD64 Gnu zed_members
+  pub link_in_flavor_text : LinkInFlavor (codes "HEAPSIZE 1,") AMD64 Gnu [] → ⊥
+  pub link_in_flavor : LinkInFlavor zed_text AMD64 Gnu [] → ⊥
   -- a name that is wanted; an object claims it
   pub undefined : is_undefined (codes "quit" ∷ []) [] (codes "quit")
   pub is_undefined : is_undefined (codes "quit" ∷ []) (quitting ∷ []) (codes "quit") → ⊥
