@@ -1,5 +1,5 @@
 -- What predicates refuse, by computing.
-use Rattle.std.proofs.Common.{◌≡◌, ◌+◌, ◌≤◌, ℕ, zero, suc, true, List, [], ◌∷◌, ◌++◌, length, Option, None, Some, refl, ap, sym, ◌∙◌, subst, inl, inr, codes, nat_lt, arith}
+use Rattle.std.proofs.Common.{◌≡◌, ◌+◌, ◌≤◌, ℕ, zero, suc, true, List, [], ◌∷◌, ◌++◌, length, map, Option, None, Some, refl, ap, sym, ◌∙◌, subst, inl, inr, codes, nat_lt, arith}
 use Rattle.std.specs.Prelude.{drop, nat_le, slice_get, take}
 use Rattle.std.specs.List.{Contains, list_any}
 use Rattle.std.proofs.lemmas.Bool.{and_parts, cases_Bool, leb-true, ltb-true, true≢false}
@@ -35,7 +35,7 @@ use Rattle.implib_archive_link.specs.InBytes.{AreTakenAt, Second}
 use Rattle.implib_archive_link.specs.Results.{AreHeadersOf}
 use Rattle.implib_archive_link.proofs.Corollaries.{are_searched}
 use Rattle.implib_link.specs.Directory.{WalkFinds}
-use Rattle.implib_link.specs.Flavors.Program.{Ending, IsProgram, IsProgramOf, OfLinker, SymbolsAt, SymbolsGet}
+use Rattle.implib_link.specs.Flavors.Program.{Ending, IsProgram, IsProgramOf, OfLinker, ProgramLinks, SymbolsAt, SymbolsGet, gnu_input, imp_symbols}
 use Rattle.implib_link.specs.Flavors.Texts.{FlavorTextsLink, LinkInFlavor, flavor_source, input_of}
 use Rattle.implib_link.specs.Gnu.Fields.{AreLinkedBeside, LinkedCode}
 use Rattle.implib_link.specs.Gnu.Loaded.{Writes}
@@ -56,6 +56,7 @@ use Rattle.implib_link.specs.Search.CommandLines.{Archives, AreRounds, AreSwept,
 use Rattle.implib_link.specs.Search.Search.{AreTakenInTurnAs}
 use Rattle.implib_link.specs.Search.Sweeps.{index_at, members_at, sweeps, swept}
 use Rattle.implib_link.specs.Tables.{DefineEntries}
+use Rattle.implib_link.proofs.Flavors.Program.{program_links}
 use Rattle.implib_link.proofs.Flavors.Texts.{texts_link}
 use Rattle.implib_link.proofs.Gnu.Stubs.{same_address}
 use Rattle.implib_link.proofs.Search.Lists.{contains_among}
@@ -64,6 +65,7 @@ use Rattle.implib_link_instances.specs.Worked.Closed.{foo_alias}
 use Rattle.implib_link_instances.specs.Worked.CommandLines.{amd64_members, inputs_of, of_quit, quit_bytes, quit_member, spare_member, wanting_own, with_spares}
 use Rattle.implib_link_instances.specs.Worked.LldPrograms.{own_tables}
 use Rattle.implib_link_instances.specs.Worked.Operands.{field}
+use Rattle.implib_link_instances.specs.Worked.Programs.{both_inputs, foo_input, program_objects, program_placed, touching_8}
 use Rattle.implib_link_instances.specs.Worked.RefusedLinks.{linked_by_hand, ordinal_8, right_image}
 use Rattle.implib_link_instances.specs.Worked.RefusedPredicates.{RefusedArchivePredicates, RefusedCodePredicates, RefusedPredicates, RefusedSearchPredicates, RefusedTablePredicates, entry_with, first_worked, no_targets, one_code, one_range, quit_and_more, relative_code, zed_members}
 use Rattle.implib_link_instances.specs.Worked.Sources.{zed_meant, zed_text}
@@ -76,7 +78,7 @@ use Rattle.implib_link_instances.proofs.Worked.LldPrograms.{refused_tables}
 use Rattle.implib_link_instances.proofs.Worked.NearSearches.{near_is_archive, near_pulls_in, near_pulls_into, none_in, searched, weak_data, weak_short}
 use Rattle.implib_link_instances.proofs.Worked.NearTables.{near_gets_address}
 use Rattle.implib_link_instances.proofs.Worked.Pages.{worked_pages}
-use Rattle.implib_link_instances.proofs.Worked.Programs.{distinct_by, opened}
+use Rattle.implib_link_instances.proofs.Worked.Programs.{distinct_by, opened, worked_programs}
 use Rattle.implib_link_instances.proofs.Worked.RefusedFields.{other_byte, value}
 use Rattle.implib_link_instances.proofs.Worked.RefusedLinks.{differ, number, refused_links}
 use Rattle.implib_link_instances.proofs.Worked.Searched.{below_limit}
@@ -378,6 +380,12 @@ null_there : NumberAt right_image 8 0x1038 0
 unfolding u32_bytes
 null_there = number right_image 8 0x1038 0 (zeros 8) refl refl refl
 
+gets : SymbolsGet (program_placed AMD64 touching_8) 8 120 (imp_symbols (gnu_input (foo_input AMD64)))
+gets =
+    let links : ProgramLinks AMD64 OfLinker touching_8 (map gnu_input (both_inputs AMD64)) (program_objects AMD64) =
+    program_links AMD64 OfLinker touching_8 (map gnu_input (both_inputs AMD64)) (program_objects AMD64) worked_programs.amd64.made worked_programs.amd64.program in
+    (links.imports 0 (gnu_input (foo_input AMD64)) refl).gets
+
 refused_of_tables : RefusedTablePredicates
 unfolding opened AreEntries BeginWithHead SymbolsAt SymbolsGet DescriptorsAt AllTaken WalkFinds Writes ReadsAndWrites FillsTable
 refused_of_tables = record {
@@ -396,7 +404,8 @@ refused_of_tables = record {
   define_entries = not_defined;
   symbols = (refl, (refl, tt));
   symbols_at = λ x. differ 0x1044 0x1048 (same_address (imp_symbol (codes "six")) 0x1044 0x1048 (definitions_of (imp_symbol (codes "six")) (linked_by_hand 0x1040)) x.1.0 refl) (omega arith);
-  symbols_get = λ x. near_gets_address.own x.0;
+  gets = gets;
+  symbols_get = λ x. near_gets_address.own x.1.0;
   descriptors = (refused_links.right, tt);
   descriptors_at = λ x. refused_links.other_name x.0;
   taken = ((refused_links.right, tt), tt);

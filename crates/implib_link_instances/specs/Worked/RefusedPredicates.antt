@@ -1,4 +1,4 @@
--- What predicates that are no records refuse. Beside most refusals is what they hold of, so that the two differ by one thing.
+-- What predicates that are no records refuse, and beside it what they hold of, so that the two differ by one thing.
 use Rattle.std.specs.Prelude.{◌≡◌, ℕ, true, List, [], ◌∷◌, ◌++◌, None, codes, map}
 use Rattle.implib.specs.declared.flavor.Flavor.TheVariants.{Gnu}
 use Rattle.implib.specs.declared.machine.MachineType.TheVariants.{I386, AMD64}
@@ -20,7 +20,7 @@ use Rattle.implib_archive_link.specs.InBytes.{AreTakenAt, First, Second, asks_fo
 use Rattle.implib_archive_link.specs.Results.{AreHeadersOf, TakesJust}
 use Rattle.implib_image.specs.Files.{MappedFile, WritesFrom}
 use Rattle.implib_link.specs.Directory.{WalkFinds}
-use Rattle.implib_link.specs.Flavors.Program.{AreClaimed, AreEnded, FlavorInput, IsCode, IsMadeFor, OfLinker, OfMember, SymbolsAt, SymbolsGet, WhereMember}
+use Rattle.implib_link.specs.Flavors.Program.{AreClaimed, AreEnded, FlavorInput, IsCode, IsMadeFor, OfLinker, OfMember, SymbolsAt, SymbolsGet, WhereMember, gnu_input, imp_symbols}
 use Rattle.implib_link.specs.Flavors.Texts.{LinkInFlavor}
 use Rattle.implib_link.specs.Gnu.Calls.{amd64_addr64, i386_rel32}
 use Rattle.implib_link.specs.Gnu.Choices.{ArePlacesApart}
@@ -53,7 +53,7 @@ use Rattle.implib_link_instances.specs.Worked.NearParts.{aaa_head, aaa_tail, aon
 use Rattle.implib_link_instances.specs.Worked.NearSearches.{asking, later, listing, zed_library, zed_short}
 use Rattle.implib_link_instances.specs.Worked.Operands.{field}
 use Rattle.implib_link_instances.specs.Worked.Pages.{paging_at, paging_code}
-use Rattle.implib_link_instances.specs.Worked.Programs.{code_object, program_placed, symbol_of_class, touching_8}
+use Rattle.implib_link_instances.specs.Worked.Programs.{code_object, foo_input, program_placed, symbol_of_class, touching_8}
 use Rattle.implib_link_instances.specs.Worked.RefusedLinks.{foo, linked_by_hand, named_otherwise, right_image}
 use Rattle.implib_link_instances.specs.Worked.Search.{aliased, members_of, three, wanted}
 use Rattle.implib_link_instances.specs.Worked.Sources.{zed_meant, zed_text}
@@ -234,8 +234,9 @@ pub record RefusedTablePredicates : Type 0 where
   -- entries of eight bytes, and of four
   pub symbols : SymbolsAt (linked_by_hand 0x1040) 8 0x1040 five_and_six_named
   pub symbols_at : SymbolsAt (linked_by_hand 0x1040) 4 0x1040 five_and_six_named → ⊥
-  -- another entry than that which the program's own object gets
-  pub symbols_get : SymbolsGet (program_placed AMD64 touching_8) 8 136 (codes "__imp_open" ∷ []) → ⊥
+  -- the entries that the program's own object gets, and the next ones
+  pub gets : SymbolsGet (program_placed AMD64 touching_8) 8 120 (imp_symbols (gnu_input (foo_input AMD64)))
+  pub symbols_get : SymbolsGet (program_placed AMD64 touching_8) 8 128 (imp_symbols (gnu_input (foo_input AMD64))) → ⊥
   -- the DLL, and another one in the image
   pub descriptors : DescriptorsAt right_image 8 0x1000 (foo_imported ∷ [])
   pub descriptors_at : DescriptorsAt named_otherwise 8 0x1000 (foo_imported ∷ []) → ⊥
