@@ -1,7 +1,7 @@
 -- What predicates refuse, by computing.
-use Rattle.std.proofs.Common.{◌≡◌, ◌+◌, ◌≤◌, ℕ, zero, suc, true, List, [], ◌∷◌, ◌++◌, length, map, Option, None, Some, refl, ap, sym, ◌∙◌, subst, inl, inr, codes, nat_lt, arith}
+use Rattle.std.proofs.Common.{◌≡◌, ◌+◌, ◌<◌, ◌≤◌, ℕ, zero, suc, true, List, [], ◌∷◌, ◌++◌, length, map, Option, None, Some, refl, ap, sym, ◌∙◌, subst, inl, inr, codes, nat_lt, arith}
 use Rattle.std.specs.Prelude.{drop, nat_le, slice_get, take}
-use Rattle.std.specs.List.{Contains, list_any}
+use Rattle.std.specs.List.{AllByRecursion, Contains, list_any}
 use Rattle.std.proofs.lemmas.Bool.{and_parts, cases_Bool, leb-true, ltb-true, true≢false}
 use Rattle.std.proofs.lemmas.Str.{IsUtf8-from_is_utf8}
 use Rattle.std.specs.Char.{encode_utf8}
@@ -35,7 +35,7 @@ use Rattle.implib_archive_link.specs.InBytes.{AreTakenAt, Second}
 use Rattle.implib_archive_link.specs.Results.{AreHeadersOf}
 use Rattle.implib_archive_link.proofs.Corollaries.{are_searched}
 use Rattle.implib_link.specs.Directory.{WalkFinds}
-use Rattle.implib_link.specs.Flavors.Program.{Ending, IsProgram, IsProgramOf, OfLinker, ProgramLinks, SymbolsAt, SymbolsGet, gnu_input, imp_symbols}
+use Rattle.implib_link.specs.Flavors.Program.{Ending, IsProgram, IsProgramOf, OfLinker, ProgramLinks, SymbolsAt, SymbolsGet, gnu_input, imp_symbols, members_linked}
 use Rattle.implib_link.specs.Flavors.Texts.{FlavorTextsLink, LinkInFlavor, flavor_source, input_of}
 use Rattle.implib_link.specs.Gnu.Fields.{AreLinkedBeside, LinkedCode}
 use Rattle.implib_link.specs.Gnu.Loaded.{Writes}
@@ -462,8 +462,7 @@ zed_view = record { definition = renamed (zed_meant AMD64); machine = AMD64; fla
 links : LinkInFlavor zed_text AMD64 Gnu zed_members
 unfolding zed_view
 links =
-    let is = worked_sources.amd64.gnu.1.0 in
-    (
+    let is = worked_sources.amd64.gnu.1.0 in (
       zed_view,
       (
         is.of_text,
@@ -500,6 +499,11 @@ without_members = record {
   follows = tt;
 }
 
+-- members that nothing has are none
+nothing_from : (members : List MemberView) → AllByRecursion (Contains []) members → 0 < length members → ⊥
+nothing_from [] held some = omega arith
+nothing_from (m ∷ members) held some = none_in m held.0
+
 no_members : LinkInFlavor zed_text AMD64 Gnu [] → ⊥
 unfolding zed_view zed_input chars is_utf8 encode_utf8
 no_members x =
@@ -508,10 +512,10 @@ no_members x =
     let one : of.parsed ≡ worked.parsed = one_definition zed_text (IsUtf8-from_is_utf8 zed_text refl) AMD64 of.parsed worked.parsed of.parses worked.parses in
     let same : x.0 ≡ zed_view = of.held ∙ ap (λ (d : DefinitionView). record { definition = renamed d; machine = AMD64; flavor = Gnu }) one ∙ sym worked.held in
     let linked = subst (λ (l : LibraryView). (ending : Ending) (chosen : List ℕ) (bases : Bases) (objects : List Object) →
-      IsProgramOf AMD64 ending bases (input_of (flavor_source Gnu zed_text l [] chosen) ∷ []) objects →
-      FlavorTextsLink AMD64 ending bases (flavor_source Gnu zed_text l [] chosen ∷ []) objects) same x.1.1 in
+    IsProgramOf AMD64 ending bases (input_of (flavor_source Gnu zed_text l [] chosen) ∷ []) objects →
+    FlavorTextsLink AMD64 ending bases (flavor_source Gnu zed_text l [] chosen ∷ []) objects) same x.1.1 in
     let gives = linked OfLinker (0 ∷ []) (packed 1 zed_objects) zed_objects without_members in
-    none_in _ gives.among.linked.0.from_members.0
+    nothing_from (members_linked AMD64 (gnu_input (zed_input []))) gives.among.linked.0.from_members (omega arith)
 
 refused_archives : RefusedArchivePredicates
 unfolding searched AreTakenAt AreHeadersOf
