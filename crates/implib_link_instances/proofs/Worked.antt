@@ -72,3 +72,4 @@ pub mod Older
 pub mod OtherNames
 pub mod ThirdTexts
 pub mod NearParts
+pub mod RefusedPredicates

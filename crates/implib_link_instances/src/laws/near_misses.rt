@@ -49,6 +49,7 @@ ghost use Rattle.implib_link_instances.specs.Worked.NearTaken.{NearRunLinks, Nea
 ghost use Rattle.implib_link_instances.specs.Worked.NearTables.{NearAreAlike, NearBeginsWith};
 ghost use Rattle.implib_link_instances.specs.Worked.NearTables.{NearGetsAddress, NearHoldsAt, NearIsInEntry};
 ghost use Rattle.implib_link_instances.specs.Worked.NearTables.{NearLieWithin};
+ghost use Rattle.implib_link_instances.specs.Worked.RefusedPredicates.{RefusedPredicates};
 
 /// What is not said of linked and loaded import tables: of their bounds, and of what a loader
 /// leaves.
@@ -180,4 +181,9 @@ pub fn near_misses_of_results()
     ensures links_closed { NearLinksClosed }
     ensures page_arrives { NearPageArrives }
     ensures pair_arrives { NearPairArrives }
+{}
+
+/// What predicates that are no records do not hold of.
+pub fn refused_predicates()
+    ensures refused { RefusedPredicates }
 {}
