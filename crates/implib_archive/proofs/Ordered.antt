@@ -1,5 +1,5 @@
 -- Entries of distinct symbols that a sort has put in order are those in the order of their symbols.
-use Rattle.std.proofs.Common.{◌≡◌, ℕ, ◌+◌, ◌-◌, ◌<◌, Bool, true, false, cond, List, [], ◌∷◌, ◌++◌, ◌&&◌, Some, append_assoc, bytes_eq, fold, get_or, length, map, refl, sym, ap, subst, take, ◌∙◌, arith}
+use Rattle.std.proofs.Common.{◌≡◌, ℕ, ◌+◌, ◌-◌, ◌<◌, Bool, true, false, cond, List, [], ◌∷◌, ◌++◌, ◌&&◌, Some, append-nil, append_assoc, bytes_eq, fold, get_or, length, map, refl, sym, ap, subst, take, ◌∙◌, arith}
 use Rattle.std.specs.Prelude.{T}
 use Rattle.std.specs.Borrow.{Bor}
 use Rattle.std.specs.declared.cmp.Ordering.{Ordering}
@@ -13,7 +13,7 @@ use Rattle.std.specs.Map.{lookup}
 use Rattle.std.proofs.lemmas.Bool.{true≢false}
 use Rattle.std.proofs.lemmas.Cmp.{nat_list_cmp_total, nat_list_eq_equiv}
 use Rattle.std.proofs.lemmas.List.{get_or-map, length-map, take_more}
-use Rattle.std.proofs.lemmas.List.Sorted.{IsPermutation-map, IsPermutation-middle, IsPermutation-push_more, IsPermutation-sym, IsPermutation-to_front}
+use Rattle.std.proofs.lemmas.List.Sorted.{IsPermutation-map, IsPermutation-middle, IsPermutation-push_more, IsPermutation-sym}
 use Rattle.std.proofs.lemmas.Map.Keys.{IsDistinct-IsPermutation, IsDistinct-from_sorted, apart_from_distinct, sorted_from_all_adjacent}
 use Rattle.std.proofs.lemmas.Map.Text.{is_eq-slice_cmp}
 use Rattle.std.proofs.lemmas.Slice.Eq.{bytes_eq-Decides}
@@ -154,19 +154,31 @@ pub firsts_sorted : (entries : List (List ℕ × ℕ)) (firsts sorted : List (Bo
 firsts_sorted entries firsts sorted is moves up =
     sorted_in_order firsts sorted (subst AreDistinct (sym is) (distinct_firsts entries)) moves up ∙ ap sorted_entries is
 
--- Elements that go to the end of one of two parts.
-module _ {X : Type 0} (xs left right : List X) (i : ℕ) (d : X) (within : i < length xs) (moves : IsPermutation (take i xs) (left ++ right)) where
-  one_more : (parts : List X) → IsPermutation (get_or xs i d ∷ (left ++ right)) parts → IsPermutation (take (i + 1) xs) parts
-  one_more parts more = subst (λ t. IsPermutation t parts) (sym (take_more xs i d within)) (IsPermutation-push_more (take i xs) (left ++ right) parts (get_or xs i d) moves more)
+-- An element that goes to the end of one of four parts.
+module _ {X : Type 0} (xs a b c e : List X) (i : ℕ) (d : X) (within : i < length xs) (moves : IsPermutation (take i xs) (a ++ (b ++ (c ++ e)))) where
+  abbrev x : X
+  x = get_or xs i d
 
-  pub left_more : {left' right' : List X} → left' ≡ left ++ get_or xs i d ∷ [] → right' ≡ right → IsPermutation (take (i + 1) xs) (left' ++ right')
-  left_more {left'} {right'} pushed same =
-      let x = get_or xs i d in
-      let whole : left' ++ right' ≡ left ++ x ∷ right = ap (λ t. t ++ right') pushed ∙ (ap (λ t. (left ++ x ∷ []) ++ t) same ∙ append_assoc left (x ∷ []) right) in
-      subst (IsPermutation (take (i + 1) xs)) (sym whole) (one_more (left ++ x ∷ right) (IsPermutation-sym (left ++ x ∷ right) (x ∷ (left ++ right)) (IsPermutation-middle left x right)))
+  one_more : (front back : List X) → a ++ (b ++ (c ++ e)) ≡ front ++ back → IsPermutation (take (i + 1) xs) (front ++ x ∷ back)
+  one_more front back same =
+      let more : IsPermutation (x ∷ (front ++ back)) (front ++ x ∷ back) = IsPermutation-sym (front ++ x ∷ back) (x ∷ (front ++ back)) (IsPermutation-middle front x back) in
+      subst (λ t. IsPermutation t (front ++ x ∷ back)) (sym (take_more xs i d within))
+      (IsPermutation-push_more (take i xs) (front ++ back) (front ++ x ∷ back) x (subst (IsPermutation (take i xs)) same moves) more)
 
-  pub right_more : {left' right' : List X} → left' ≡ left → right' ≡ right ++ get_or xs i d ∷ [] → IsPermutation (take (i + 1) xs) (left' ++ right')
-  right_more {left'} {right'} same pushed =
-      let x = get_or xs i d in
-      let whole : left' ++ right' ≡ (left ++ right) ++ x ∷ [] = ap (λ t. t ++ right') same ∙ (ap (λ t. left ++ t) pushed ∙ sym (append_assoc left right (x ∷ []))) in
-      subst (IsPermutation (take (i + 1) xs)) (sym whole) (one_more ((left ++ right) ++ x ∷ []) (IsPermutation-sym ((left ++ right) ++ x ∷ []) (x ∷ (left ++ right)) (IsPermutation-to_front (left ++ right) x)))
+  pub more_in_first : {a' b' c' e' : List X} → a' ≡ a ++ x ∷ [] → b' ≡ b → c' ≡ c → e' ≡ e → IsPermutation (take (i + 1) xs) (a' ++ (b' ++ (c' ++ e')))
+  more_in_first p q r s =
+      rw (p, q, r, s, append_assoc a (x ∷ []) (b ++ (c ++ e))) (one_more a (b ++ (c ++ e)) refl)
+
+  pub more_in_second : {a' b' c' e' : List X} → a' ≡ a → b' ≡ b ++ x ∷ [] → c' ≡ c → e' ≡ e → IsPermutation (take (i + 1) xs) (a' ++ (b' ++ (c' ++ e')))
+  more_in_second p q r s =
+      rw (p, q, r, s, append_assoc b (x ∷ []) (c ++ e), sym (append_assoc a b (x ∷ (c ++ e)))) (one_more (a ++ b) (c ++ e) (sym (append_assoc a b (c ++ e))))
+
+  pub more_in_third : {a' b' c' e' : List X} → a' ≡ a → b' ≡ b → c' ≡ c ++ x ∷ [] → e' ≡ e → IsPermutation (take (i + 1) xs) (a' ++ (b' ++ (c' ++ e')))
+  more_in_third p q r s =
+      rw (p, q, r, s, append_assoc c (x ∷ []) e, sym (append_assoc b c (x ∷ e)), sym (append_assoc a (b ++ c) (x ∷ e)))
+      (one_more (a ++ (b ++ c)) e (ap (λ t. a ++ t) (sym (append_assoc b c e)) ∙ sym (append_assoc a (b ++ c) e)))
+
+  pub more_in_fourth : {a' b' c' e' : List X} → a' ≡ a → b' ≡ b → c' ≡ c → e' ≡ e ++ x ∷ [] → IsPermutation (take (i + 1) xs) (a' ++ (b' ++ (c' ++ e')))
+  more_in_fourth p q r s =
+      rw (p, q, r, s, sym (append_assoc c e (x ∷ [])), sym (append_assoc b (c ++ e) (x ∷ [])), sym (append_assoc a (b ++ (c ++ e)) (x ∷ [])))
+      (one_more (a ++ (b ++ (c ++ e))) [] (sym (append-nil (a ++ (b ++ (c ++ e))))))

@@ -145,8 +145,7 @@ fn push_first<'a>(
 }
 
 // The entries in the order of their symbols' bytes, and of one symbol in that of their numbers. A
-// sort is quick where parts are in order already, as imports and the other symbols often are, each
-// for themselves.
+// sort is quick where parts are in order already.
 fn in_order<'a>(
     alloc: Global,
     entries: &[(&'a str, usize)],
@@ -154,7 +153,7 @@ fn in_order<'a>(
     ensures same { IfOk result (λ sorted. IsPermutation entries.now sorted.items) }
     ensures order { IfOk result (λ sorted. IsSorted entry_cmp sorted.items) }
 {
-    let mut sorted = imports_first(alloc, entries)?;
+    let mut sorted = parted(alloc, entries)?;
     sorted.sort()?;
     Ok(sorted)
 }
@@ -172,22 +171,32 @@ fn are_distinct(sorted: &[(&str, usize)]) -> bool
     true
 }
 
-// The entries, those of imports before the others.
-fn imports_first<'a>(
+// The entries in four parts: by the prefixes of an import's address, of its auxiliary one and of a
+// function's mark for ARM64EC, and the others. Definitions are often sorted, and then so is each.
+fn parted<'a>(
     alloc: Global,
     entries: &[(&'a str, usize)],
 ) -> Result<Vec<(&'a str, usize)>, AllocError>
     ensures { IfOk result (λ parted. IsPermutation entries.now parted.items) }
 {
     let mut parted = Vec::with_capacity(alloc, entries.len())?;
+    let mut auxiliary = Vec::new(alloc);
+    let mut marked = Vec::new(alloc);
     let mut others = Vec::with_capacity(alloc, entries.len() / 2)?;
     for entry in entries {
-        if entry.0.as_bytes().starts_with(b"__imp_") {
+        let symbol = entry.0.as_bytes();
+        if symbol.starts_with(b"__imp_aux_") {
+            auxiliary.push(*entry)?;
+        } else if symbol.starts_with(b"__imp_") {
             parted.push(*entry)?;
+        } else if symbol.starts_with(b"#") {
+            marked.push(*entry)?;
         } else {
             others.push(*entry)?;
         }
     }
+    parted.append(&mut auxiliary)?;
+    parted.append(&mut marked)?;
     parted.append(&mut others)?;
     Ok(parted)
 }

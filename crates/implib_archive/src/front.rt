@@ -26,28 +26,6 @@ use std::io;
 // How many numbers of 4 bytes go into a piece.
 const NUMBERS: usize = PIECE / 4;
 
-/// Appends the front of an archive with these entries, long names and member offsets.
-pub fn push_front(
-    out: &mut Vec<u8>,
-    kind: Kind,
-    entries: &[(&str, usize)],
-    sorted: &[(&str, usize)],
-    names: &LongNames,
-    places: &[u32],
-) -> Result<(), AllocError>
-    requires ordered { kind ≡ Coff → shown sorted.now ≡ sorted_entries (shown entries.now) }
-    requires fits { FrontFits kind places.now (shown entries.now) }
-    requires short { names.now.size < 2 ^ 32 }
-    requires measured { names.now.size
-        ≡ length (names_bytes kind (shown names.now.offsets.entries)) }
-    ensures { OnOk result (Pushes out.old.items out.new.items
-        (front kind places.now (shown entries.now) (shown names.now.offsets.entries))) }
-{
-    out.extend_from_slice(b"!<arch>\n")?;
-    push_linkers(out, kind, entries, sorted, places)?;
-    push_names(out, kind, names)
-}
-
 /// Writes the front of an archive, a piece at a time, through an empty buffer.
 pub fn write_front<W: io::Write>(
     writer: &mut W,
@@ -149,74 +127,6 @@ fn write_second_linker<W: io::Write>(
     Ok(())
 }
 
-// Appends the linker members.
-fn push_linkers(
-    out: &mut Vec<u8>,
-    kind: Kind,
-    entries: &[(&str, usize)],
-    sorted: &[(&str, usize)],
-    places: &[u32],
-) -> Result<(), AllocError>
-    requires ordered { kind ≡ Coff → shown sorted.now ≡ sorted_entries (shown entries.now) }
-    requires fits { FrontFits kind places.now (shown entries.now) }
-    ensures { OnOk result
-        (Pushes out.old.items out.new.items (linkers kind places.now (shown entries.now))) }
-{
-    match kind {
-        Kind::Coff => {
-            push_first_linker(out, entries, places)?;
-            push_second_linker(out, sorted, places)
-        }
-        Kind::Gnu => {
-            if entries.is_empty() {
-                return Ok(());
-            }
-            push_first_linker(out, entries, places)
-        }
-    }
-}
-
-// Appends the first linker member.
-fn push_first_linker(
-    out: &mut Vec<u8>,
-    entries: &[(&str, usize)],
-    places: &[u32],
-) -> Result<(), AllocError>
-    requires numbered { All (λ e. (0 < e.1) × (e.1 ≤ length places.now)) (shown entries.now) }
-    requires short { 4 + 4 * length entries.now + length (strings_of (shown entries.now)) < 2 ^ 32 }
-    ensures { OnOk result (Pushes out.old.items out.new.items
-        (padded_part_bytes linker_label 0 (first_linker places.now (shown entries.now)))) }
-{
-    let size = 4 + 4 * entries.len() + strings_size(entries) as usize;
-    push_header(out, &linker_label(), size + size % 2)?;
-    push_u32_be(out, entries.len() as u32)?;
-    push_entry_places(out, entries, places)?;
-    push_strings(out, entries)?;
-    push_padding(out, 0, size)
-}
-
-// Appends the second linker member.
-fn push_second_linker(
-    out: &mut Vec<u8>,
-    sorted: &[(&str, usize)],
-    places: &[u32],
-) -> Result<(), AllocError>
-    requires numbers { All (λ e. e.1 < 2 ^ 16) (shown sorted.now) }
-    requires short { 8 + 4 * length places.now + 2 * length sorted.now
-        + length (strings_of (shown sorted.now)) < 2 ^ 32 }
-    ensures { OnOk result (Pushes out.old.items out.new.items
-        (padded_part_bytes linker_label 0 (second_linker places.now (shown sorted.now)))) }
-{
-    let size = 8 + 4 * places.len() + 2 * sorted.len() + strings_size(sorted) as usize;
-    push_header(out, &linker_label(), size + size % 2)?;
-    push_u32_le(out, places.len() as u32)?;
-    push_places(out, places)?;
-    push_u32_le(out, sorted.len() as u32)?;
-    push_numbers(out, sorted)?;
-    push_strings(out, sorted)?;
-    push_padding(out, 0, size)
-}
-
 // Appends the long names member, where there is a long name.
 fn push_names(out: &mut Vec<u8>, kind: Kind, names: &LongNames) -> Result<(), AllocError>
     requires short { names.now.size < 2 ^ 32 }
@@ -261,8 +171,8 @@ fn push_places(out: &mut Vec<u8>, places: &[u32]) -> Result<(), AllocError>
     Ok(())
 }
 
-/// Appends the number of each entry's member.
-pub fn push_numbers(out: &mut Vec<u8>, entries: &[(&str, usize)]) -> Result<(), AllocError>
+// Appends the number of each entry's member.
+fn push_numbers(out: &mut Vec<u8>, entries: &[(&str, usize)]) -> Result<(), AllocError>
     requires { All (λ e. e.1 < 2 ^ 16) (shown entries.now) }
     ensures { OnOk result
         (Pushes out.old.items out.new.items (flat_map (λ e. u16_le e.1) (shown entries.now))) }
@@ -273,8 +183,8 @@ pub fn push_numbers(out: &mut Vec<u8>, entries: &[(&str, usize)]) -> Result<(), 
     Ok(())
 }
 
-/// Appends the symbols of entries, each ended by a NUL.
-pub fn push_strings(out: &mut Vec<u8>, entries: &[(&str, usize)]) -> Result<(), AllocError>
+// Appends the symbols of entries, each ended by a NUL.
+fn push_strings(out: &mut Vec<u8>, entries: &[(&str, usize)]) -> Result<(), AllocError>
     ensures { OnOk result (Pushes out.old.items out.new.items (strings_of (shown entries.now))) }
 {
     for entry in entries {

@@ -105,24 +105,6 @@ impl<'a> LongNames<'a> {
             push_header(out, &label_of(name.as_bytes(), b"/"), size)
         }
     }
-
-    // Appends the member at an index.
-    pub(crate) fn push_member<'b, S: Source<'b>>(
-        &self,
-        out: &mut Vec<u8>,
-        source: &S,
-        index: usize,
-    ) -> Result<(), AllocError>
-        requires { index < length (S.members source.now) }
-        ensures { OnOk result (Pushes out.old.items out.new.items
-            (member_part (shown self.now.offsets.entries)
-            (member_at (S.members source.now) index))) }
-    {
-        let size = source.size(index);
-        self.push_member_header(out, source.name(index), size)?;
-        source.push_bytes(index, out)?;
-        push_padding(out, b'\n', size)
-    }
 }
 
 // Whether a header cannot have the name in its field.

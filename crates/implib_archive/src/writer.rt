@@ -12,7 +12,7 @@ ghost use Rattle.std.specs.Prelude.{min};
 
 use crate::entries::{Entries, entries_of};
 use crate::error::{Error, Fault, WriteError};
-use crate::front::{push_front, write_front};
+use crate::front::write_front;
 use crate::kind::Kind;
 use crate::long_names::LongNames;
 use crate::offsets::{Places, front_size, place_members, strings_size};
@@ -97,9 +97,11 @@ impl<'a, S: Source<'a>> Archive<'a, S> {
         ensures { IfOk result (λ bytes. bytes.items ≡ archive_of self.now.kind self.now.members) }
     {
         let mut bytes = Vec::with_capacity(alloc, self.places.end as usize)?;
-        self.push_start(&mut bytes)?;
-        push_members(&mut bytes, &self.names, &self.source)?;
-        Ok(bytes)
+        match self.write_to(alloc, &mut bytes) {
+            Ok(()) => Ok(bytes),
+            // There was no memory: these bytes take all that is written.
+            Err(_) => Err(AllocError),
+        }
     }
 
     /// Writes the archive. The linker members are made in a buffer of 128 KiB, and the members one at
@@ -148,17 +150,6 @@ impl<'a, S: Source<'a>> Archive<'a, S> {
             places,
         )
     }
-
-    // Appends the front.
-    fn push_start(&self, out: &mut Vec<u8>) -> Result<(), AllocError>
-        ensures { OnOk result (Pushes out.old.items out.new.items
-            (front_of self.now.kind self.now.members)) }
-    {
-        let entries = self.entries.listed.as_slice();
-        let sorted = self.entries.sorted.as_slice();
-        let places = self.places.offsets.as_slice();
-        push_front(out, self.kind, entries, sorted, &self.names, places)
-    }
 }
 
 /// Whether there are more members than the second linker member numbers.
@@ -191,21 +182,6 @@ pub fn first_place<'a, S: Source<'a>>(
         strings_size(entries),
         names.size,
     )
-}
-
-/// Appends the members.
-pub fn push_members<'a, S: Source<'a>>(
-    out: &mut Vec<u8>,
-    names: &LongNames,
-    source: &S,
-) -> Result<(), AllocError>
-    ensures { OnOk result (Pushes out.old.items out.new.items
-        (flat_map (member_part (shown names.now.offsets.entries)) (S.members source.now))) }
-{
-    for index in 0..source.count() {
-        names.push_member(out, source, index)?;
-    }
-    Ok(())
 }
 
 // Makes a header that of the member at an index. It keeps the header of the member before, where
