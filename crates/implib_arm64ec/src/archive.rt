@@ -2,7 +2,7 @@
 
 ghost use Rattle.implib.specs.Library.{member_view};
 ghost use Rattle.implib_archive.specs.Archive.{front};
-ghost use Rattle.implib_archive.specs.Pushed.{IsRefusal, Pushes, shown};
+ghost use Rattle.implib_archive.specs.Pushed.{IsRefusal, shown};
 ghost use Rattle.implib_archive.specs.Written.{Writes};
 ghost use Rattle.implib_archive.specs.declared.kind.Kind.TheVariants.{Coff};
 ghost use Rattle.implib_arm64ec.specs.Archive.{arm64_entries, ec_archive, ec_entries, ec_part};
@@ -10,12 +10,12 @@ ghost use Rattle.implib_arm64ec.specs.Archive.{library_names, library_refusal, m
 ghost use Rattle.implib_arm64ec.specs.Library.{library_view};
 ghost use Rattle.std.specs.Prelude.{◌≡◌, [], IfErr, IfOk, None, OnOk, length, map};
 
-use crate::ec_index::{index_size, push_index, write_index};
+use crate::ec_index::{index_size, write_index};
 use crate::listing::{Listed, Listing};
 use implib::Member;
 use implib_archive::layout::{
     Entries, LongNames, PIECE_MEMORY, Places, entries_of, first_place, has_too_many, place_members,
-    push_front, push_members, source_refusal, write_front, write_members,
+    source_refusal, write_front, write_members,
 };
 use implib_archive::{Error, Fault, Kind, WriteError};
 use std::alloc::{AllocError, Global};
@@ -121,10 +121,11 @@ impl<'a> Archive<'a> {
         ensures { IfOk result (λ bytes. bytes.items ≡ ec_archive self.now) }
     {
         let mut bytes = Vec::with_capacity(alloc, self.places.end as usize)?;
-        self.push_start(&mut bytes)?;
-        self.push_ec_index(&mut bytes)?;
-        push_members(&mut bytes, &self.names, &self.source)?;
-        Ok(bytes)
+        match self.write_to(alloc, &mut bytes) {
+            Ok(()) => Ok(bytes),
+            // There was no memory: these bytes take all that is written.
+            Err(_) => Err(AllocError),
+        }
     }
 
     /// Writes the archive, its indexes a piece at a time, and the members one at a time. It does not
@@ -184,25 +185,6 @@ impl<'a> Archive<'a> {
             (ec_part (ec_entries self.now)) result }
     {
         write_index(writer, piece, self.ec_entries.as_slice())
-    }
-
-    // Appends what is before the EC index.
-    fn push_start(&self, out: &mut Vec<u8>) -> Result<(), AllocError>
-        ensures { OnOk result (Pushes out.old.items out.new.items
-            (front Coff (member_places self.now) (arm64_entries self.now) (library_names self.now))) }
-    {
-        let entries = self.entries.listed.as_slice();
-        let sorted = self.entries.sorted.as_slice();
-        let places = self.places.offsets.as_slice();
-        push_front(out, Kind::Coff, entries, sorted, &self.names, places)
-    }
-
-    // Appends the EC index.
-    fn push_ec_index(&self, out: &mut Vec<u8>) -> Result<(), AllocError>
-        ensures { OnOk result
-            (Pushes out.old.items out.new.items (ec_part (ec_entries self.now))) }
-    {
-        push_index(out, self.ec_entries.as_slice())
     }
 }
 

@@ -2,18 +2,17 @@
 
 ghost use Rattle.implib_archive.specs.Archive.{strings_of};
 ghost use Rattle.implib_archive.specs.Parts.{part_size};
-ghost use Rattle.implib_archive.specs.Pushed.{Pushes, label_view, shown};
+ghost use Rattle.implib_archive.specs.Pushed.{label_view, shown};
 ghost use Rattle.implib_archive.specs.Written.{Writes};
 ghost use Rattle.implib_arm64ec.specs.Archive.{ec_index, ec_label, ec_part};
 ghost use Rattle.std.specs.List.{All};
-ghost use Rattle.std.specs.Prelude.{◌≡◌, ◌+◌, ◌*◌, ◌^◌, ◌<◌, [], OnOk, length, min};
+ghost use Rattle.std.specs.Prelude.{◌≡◌, ◌+◌, ◌*◌, ◌^◌, ◌<◌, [], length, min};
 
 use implib_archive::WriteError;
 use implib_archive::layout::{
-    Label, Texts, push_header, push_numbers, push_padding, push_strings, push_u32_le, put,
-    strings_size, write_numbers, write_strings,
+    Label, Texts, push_header, push_padding, push_u32_le, put, strings_size, write_numbers,
+    write_strings,
 };
-use std::alloc::AllocError;
 use std::io;
 
 // The size of the part; exact below 2^32.
@@ -24,20 +23,6 @@ pub(crate) fn index_size(entries: &[(&str, usize)]) -> u64
     let strings = strings_size(entries).min(1 << 32);
     let size = 4 + 2 * entries.len() as u64 + strings;
     60 + size + size % 2
-}
-
-// Appends the part.
-pub(crate) fn push_index(out: &mut Vec<u8>, entries: &[(&str, usize)]) -> Result<(), AllocError>
-    requires numbers { All (λ e. e.1 < 2 ^ 16) (shown entries.now) }
-    requires short { 4 + 2 * length entries.now + length (strings_of (shown entries.now)) < 2 ^ 32 }
-    ensures { OnOk result (Pushes out.old.items out.new.items (ec_part (shown entries.now))) }
-{
-    let size = 4 + 2 * entries.len() + strings_size(entries) as usize;
-    push_header(out, &index_label(), size + size % 2)?;
-    push_u32_le(out, entries.len() as u32)?;
-    push_numbers(out, entries)?;
-    push_strings(out, entries)?;
-    push_padding(out, 0, size)
 }
 
 // Writes the part, a piece at a time, through an empty buffer.
