@@ -28,7 +28,8 @@ ghost use Rattle.implib_link.specs.Gnu.Program.{ClaimsNone};
 ghost use Rattle.implib_link.specs.Search.Archives.{IsArchive, Library, NamesNoHeadOrTailOf};
 ghost use Rattle.implib_link.specs.Search.Archives.{TakesOfLibraries, archive_of, wanted_with};
 ghost use Rattle.implib_link.specs.Search.BothFlavors.{AreGivenForBoth, FlavorLibrary};
-ghost use Rattle.implib_link.specs.Search.BothFlavors.{IsFlavorArchive, archive_of_both, msvc_among};
+ghost use Rattle.implib_link.specs.Search.BothFlavors.{IsFlavorArchive, archive_of_both};
+ghost use Rattle.implib_link.specs.Search.BothFlavors.{msvc_among};
 ghost use Rattle.implib_link.specs.Search.Closed.{AreLinkedFor, LinksClosed, listed_in, unresolved};
 ghost use Rattle.implib_link.specs.Search.Closed.{wanted_in};
 ghost use Rattle.implib_link.specs.Search.CommandLines.{Input, SearchesFlavors, SearchesLibraries};
@@ -54,10 +55,10 @@ pub fn archives_are_searched()
         HaveArchive kind linker members → AreFoundInBytes kind linker members }
 {}
 
-/// The bytes of an archive of either kind have its members, with the symbols of each in the order of
-/// the index: what a linker finds in the files of a command line are the members that the laws of
-/// command lines speak of. Some member lists a symbol. An archive of the COFF kind, whose index has of
-/// each symbol the first entry alone, has them where all symbols differ.
+/// The bytes of an archive of either kind have its members, with the symbols of each in the order
+/// of the index: what a linker finds in the files of a command line are the members that the laws
+/// of command lines speak of. Some member lists a symbol. An archive of the COFF kind, whose index
+/// has of each symbol the first entry alone, has them where all symbols differ.
 pub fn archives_have_their_members()
     ensures gnu { (members : List MemberView) → refusal_of GnuKind members ≡ None →
         0 < length (flat_map (λ m. m.symbols) members) →
@@ -170,10 +171,10 @@ pub fn bytes_lead_to_calls()
         CallsArrive machine libraries own taken arranged bases objects) }
 {}
 
-/// The whole way for GNU's linker, of the files of a command line: what it takes in the order of the
-/// command line, of archives of libraries and of anything else, for the given objects, closes the
-/// program; and in the memory that a loader leaves each call through an import's `__imp_` symbol goes
-/// to what the DLL gives.
+/// The whole way for GNU's linker, of the files of a command line: what it takes in the order of
+/// the command line, of archives of libraries and of anything else, for the given objects, closes
+/// the program; and in the memory that a loader leaves each call through an import's `__imp_`
+/// symbol goes to what the DLL gives.
 pub fn files_lead_to_calls()
     ensures { (machine : MachineType) (libraries : List Library) (files : List (List ℕ))
         (inputs : List Input) (is_given : MemberView → Bool) (taken : List ℕ)
@@ -198,8 +199,9 @@ pub fn files_lead_to_calls()
 /// The whole way for lld: in the bytes of an archive of libraries for Microsoft's linker lld takes
 /// the short import of each export that given objects leave unresolved. Of a program of those that
 /// are live, in memory at any base, a loader that reads it there loads exactly these imports; every
-/// field of code against the `__imp_` symbol of such an export leads to its own entry, where is what
-/// the DLL gives for what it asks for; and a branch to its bare name arrives there by its thunk.
+/// field of code against the `__imp_` symbol of such an export leads to its own entry, where is
+/// what the DLL gives for what it asks for; and a branch to its bare name arrives there by its
+/// thunk.
 ///
 /// The listed symbols are distinct, but for those that one library's or one export's members share.
 /// No alias is among the exports that are spoken of. The search comes to an end, of any members.
@@ -217,11 +219,12 @@ pub fn bytes_lead_to_lld_calls()
         IsEnding kind linker members (asks_of_lld machine own) }
 {}
 
-/// The whole way for libraries of which some are for GNU's linker and others for Microsoft's: what a
-/// linker takes in their archive's bytes for objects that may be given closes the program, wherever
-/// it is linked; and in the memory that a loader leaves, which reads the image and knows nothing
-/// else, each call through an import's `__imp_` symbol, of either flavour, in any object's linked
-/// code, goes to what its DLL gives. The objects leave a symbol of some short import unresolved.
+/// The whole way for libraries of which some are for GNU's linker and others for Microsoft's: what
+/// a linker takes in their archive's bytes for objects that may be given closes the program,
+/// wherever it is linked; and in the memory that a loader leaves, which reads the image and knows
+/// nothing else, each call through an import's `__imp_` symbol, of either flavour, in any object's
+/// linked code, goes to what its DLL gives. The objects leave a symbol of some short import
+/// unresolved.
 ///
 /// The search comes to an end.
 pub fn bytes_of_both_flavors_lead_to_calls()
@@ -244,9 +247,10 @@ pub fn bytes_of_both_flavors_lead_to_calls()
 {}
 
 /// The whole way for a linker that expands short imports, of the files of a command line: what it
-/// takes in the order of the command line, of archives of libraries for either linker and of anything
-/// else, for the given objects, closes the program; and in the memory that a loader leaves each call
-/// through an import's `__imp_` symbol goes to what its DLL gives. Some short import is wanted.
+/// takes in the order of the command line, of archives of libraries for either linker and of
+/// anything else, for the given objects, closes the program; and in the memory that a loader leaves
+/// each call through an import's `__imp_` symbol goes to what its DLL gives. Some short import is
+/// wanted.
 pub fn files_of_both_flavors_lead_to_calls()
     ensures { (machine : MachineType) (libraries : List FlavorLibrary) (files : List ArchiveFile)
         (inputs : List Input) (is_given : MemberView → Bool) (taken : List ℕ)
@@ -271,10 +275,10 @@ pub fn files_of_both_flavors_lead_to_calls()
         arranged bases objects }
 {}
 
-/// The whole way for lld, of the files of a command line: what it takes of archives of libraries for
-/// Microsoft's linker and of anything else, in whatever order, has the short import of each export that
-/// the given objects, with the members of the other archives that are taken, leave unresolved; and what
-/// it writes of them arrives as `bytes_lead_to_lld_calls` says.
+/// The whole way for lld, of the files of a command line: what it takes of archives of libraries
+/// for Microsoft's linker and of anything else, in whatever order, has the short import of each
+/// export that the given objects, with the members of the other archives that are taken, leave
+/// unresolved; and what it writes of them arrives as `bytes_lead_to_lld_calls` says.
 pub fn files_lead_to_lld_calls()
     ensures { (machine : MachineType) (libraries : List Library) (files : List ArchiveFile)
         (inputs : List Input) (is_given : MemberView → Bool) (taken : List MemberView) →

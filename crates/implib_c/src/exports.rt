@@ -79,13 +79,13 @@ pub extern "C" fn implib_members_nonnull(
 }
 
 /// Puts the import library that a text describes at the beginning of `buffer`: the archive of the
-/// members that `implib_members_nonnull` has for the same arguments, of the COFF kind for Microsoft's linker
-/// and of the GNU kind for GNU's. Gives a status: 0 where it is done.
+/// members that `implib_members_nonnull` has for the same arguments, of the COFF kind for
+/// Microsoft's linker and of the GNU kind for GNU's. Gives a status: 0 where it is done.
 ///
 /// `length` gets the length of the archive in bytes, where the status is 0 or 1 (the buffer is too
-/// small), and otherwise 0. `place` gets what `implib_members_nonnull` says of it, and 0 where the members
-/// have no archive. Where the status is not 0 the buffer is as it was, and where it is 0, what
-/// follows the archive.
+/// small), and otherwise 0. `place` gets what `implib_members_nonnull` says of it, and 0 where the
+/// members have no archive. Where the status is not 0 the buffer is as it was, and where it is 0,
+/// what follows the archive.
 #[unsafe(no_mangle)]
 pub extern "C" fn implib_library_nonnull(
     alloc: Global,
@@ -129,7 +129,14 @@ pub extern "C" fn implib_library_with_nonnull(
     place: &mut usize,
 ) -> u32
     ensures { LibraryWithAnswers text.now
-        (record { machine = machine; flavor = flavor; flags = flags; has_dll = has_dll; dll = dll.now })
+        (record {
+          machine = machine;
+          flavor = flavor;
+          flags = flags;
+          has_dll = has_dll;
+          dll =
+              dll.now;
+        })
         buffer.old buffer.new length.new place.new result }
 {
     let arguments = OptionsArguments {
@@ -143,9 +150,9 @@ pub extern "C" fn implib_library_with_nonnull(
     tell(&answer, length, place)
 }
 
-/// Puts the library that `implib_library_with_nonnull` puts for the same arguments at the beginning of
-/// `buffer`, but with a null descriptor whose symbol is named after the library; for GNU's linker it is the
-/// same library. Gives a status: 0 where it is done.
+/// Puts the library that `implib_library_with_nonnull` puts for the same arguments at the beginning
+/// of `buffer`, but with a null descriptor whose symbol is named after the library; for GNU's
+/// linker it is the same library. Gives a status: 0 where it is done.
 #[unsafe(no_mangle)]
 pub extern "C" fn implib_named_library_nonnull(
     alloc: Global,
@@ -160,7 +167,14 @@ pub extern "C" fn implib_named_library_nonnull(
     place: &mut usize,
 ) -> u32
     ensures { NamedLibraryAnswers text.now
-        (record { machine = machine; flavor = flavor; flags = flags; has_dll = has_dll; dll = dll.now })
+        (record {
+          machine = machine;
+          flavor = flavor;
+          flags = flags;
+          has_dll = has_dll;
+          dll =
+              dll.now;
+        })
         buffer.old buffer.new length.new place.new result }
 {
     let arguments = OptionsArguments {
@@ -174,12 +188,12 @@ pub extern "C" fn implib_named_library_nonnull(
     tell(&answer, length, place)
 }
 
-/// Puts the library of delayed imports that the program `implib_dlltool` makes of a text under these
-/// options, by `-y`, at the beginning of `buffer`. Gives a status: 0 where it is done.
+/// Puts the library of delayed imports that the program `implib_dlltool` makes of a text under
+/// these options, by `-y`, at the beginning of `buffer`. Gives a status: 0 where it is done.
 ///
-/// The arguments and what is given are as for `implib_library_with_nonnull`; names are asked for as under
-/// `-k` in any case. Status 50 is given for Microsoft's linkers, 51 for a machine without code for
-/// delayed imports, and 52 and 53 for data and for a weak name for another export.
+/// The arguments and what is given are as for `implib_library_with_nonnull`; names are asked for as
+/// under `-k` in any case. Status 50 is given for Microsoft's linkers, 51 for a machine without
+/// code for delayed imports, and 52 and 53 for data and for a weak name for another export.
 #[unsafe(no_mangle)]
 pub extern "C" fn implib_delayed_library_nonnull(
     alloc: Global,
@@ -194,7 +208,14 @@ pub extern "C" fn implib_delayed_library_nonnull(
     place: &mut usize,
 ) -> u32
     ensures { DelayedAnswers text.now
-        (record { machine = machine; flavor = flavor; flags = flags; has_dll = has_dll; dll = dll.now })
+        (record {
+          machine = machine;
+          flavor = flavor;
+          flags = flags;
+          has_dll = has_dll;
+          dll =
+              dll.now;
+        })
         buffer.old buffer.new length.new place.new result }
 {
     let arguments = OptionsArguments {
@@ -208,9 +229,9 @@ pub extern "C" fn implib_delayed_library_nonnull(
     tell(&answer, length, place)
 }
 
-/// Puts the import library of exports under these options at the beginning of `buffer`: the one that
-/// the program `implib_dlltool` makes of a text of such exports and no name of the DLL. Gives a
-/// status: 0 where it is done.
+/// Puts the import library of exports under these options at the beginning of `buffer`: the one
+/// that the program `implib_dlltool` makes of a text of such exports and no name of the DLL. Gives
+/// a status: 0 where it is done.
 ///
 /// The options and the buffer are as for `implib_library_with_nonnull`. `place` gets the index of
 /// the export, from 0, that is at fault, and otherwise 0. The exports are refused one by one, after
@@ -229,7 +250,14 @@ pub extern "C" fn implib_library_of_nonnull(
     place: &mut usize,
 ) -> u32
     ensures { LibraryOfAnswers (map given_export exports.now)
-        (record { machine = machine; flavor = flavor; flags = flags; has_dll = has_dll; dll = dll.now })
+        (record {
+          machine = machine;
+          flavor = flavor;
+          flags = flags;
+          has_dll = has_dll;
+          dll =
+              dll.now;
+        })
         buffer.old buffer.new length.new place.new result }
 {
     let arguments = OptionsArguments {
@@ -290,7 +318,14 @@ pub extern "C" fn implib_warnings_nonnull(
     place: &mut usize,
 ) -> u32
     ensures { WarningsAnswers text.now
-        (record { machine = machine; flavor = flavor; flags = flags; has_dll = has_dll; dll = dll.now })
+        (record {
+          machine = machine;
+          flavor = flavor;
+          flags = flags;
+          has_dll = has_dll;
+          dll =
+              dll.now;
+        })
         buffer.old buffer.new length.new place.new result }
 {
     let arguments = OptionsArguments {
@@ -330,9 +365,9 @@ pub extern "C" fn implib_imports_nonnull(
 /// PE32+ image, for any machine; nothing in it is trusted.
 ///
 /// `length` gets the length of the encoding in bytes, where the status is 0 or 1 (the buffer is too
-/// small), and otherwise 0. `place` gets the offset of the field for which a file is no image, where
-/// the status says that it is none, and otherwise 0. Where the status is not 0 the buffer is as it
-/// was, and where it is 0, what follows the encoding.
+/// small), and otherwise 0. `place` gets the offset of the field for which a file is no image,
+/// where the status says that it is none, and otherwise 0. Where the status is not 0 the buffer is
+/// as it was, and where it is 0, what follows the encoding.
 #[unsafe(no_mangle)]
 pub extern "C" fn implib_exports_nonnull(
     alloc: Global,
@@ -347,17 +382,17 @@ pub extern "C" fn implib_exports_nonnull(
     tell(&answer, length, place)
 }
 
-/// Puts what the imports of a library, of any maker, come to in the DLL of a file at the beginning of
-/// `buffer`, encoded as `specs/DllCheck.antt` says, and gives a status: 0 where it is done, whatever
-/// they come to.
+/// Puts what the imports of a library, of any maker, come to in the DLL of a file at the beginning
+/// of `buffer`, encoded as `specs/DllCheck.antt` says, and gives a status: 0 where it is done,
+/// whatever they come to.
 ///
-/// `bytes` is the library. `name` is the name of the DLL, without a folder; where it is empty, that in
-/// its export directory counts. A library that is no archive is refused first.
+/// `bytes` is the library. `name` is the name of the DLL, without a folder; where it is empty, that
+/// in its export directory counts. A library that is no archive is refused first.
 ///
 /// `length` gets the length of the encoding in bytes, where the status is 0 or 1 (the buffer is too
-/// small), and otherwise 0. `place` gets the offset of the field for which the DLL is no image, where
-/// the status says that it is none, and otherwise 0. Where the status is not 0 the buffer is as it
-/// was, and where it is 0, what follows the encoding.
+/// small), and otherwise 0. `place` gets the offset of the field for which the DLL is no image,
+/// where the status says that it is none, and otherwise 0. Where the status is not 0 the buffer is
+/// as it was, and where it is 0, what follows the encoding.
 #[unsafe(no_mangle)]
 pub extern "C" fn implib_check_dll_nonnull(
     alloc: Global,
@@ -368,24 +403,25 @@ pub extern "C" fn implib_check_dll_nonnull(
     length: &mut usize,
     place: &mut usize,
 ) -> u32
-    ensures { DllCheckAnswers bytes.now dll.now name.now buffer.old buffer.new length.new place.new result }
+    ensures { DllCheckAnswers bytes.now dll.now name.now buffer.old buffer.new length.new place.new
+        result }
 {
     let answer = check_dll_into(alloc, bytes, dll, name, buffer);
     tell(&answer, length, place)
 }
 
 /// Puts how a library, of any maker, compares with what a text means under these options at the
-/// beginning of `buffer`, encoded as `specs/Check.antt` says, and gives a status: 0 where it is done,
-/// whatever the verdict. The library is compared as the program `implib_check` does it with these
-/// options: with the library that the program `implib_dlltool` makes of the text.
+/// beginning of `buffer`, encoded as `specs/Check.antt` says, and gives a status: 0 where it is
+/// done, whatever the verdict. The library is compared as the program `implib_check` does it with
+/// these options: with the library that the program `implib_dlltool` makes of the text.
 ///
 /// `bytes` is the library; the other arguments are those of `implib_library_with_nonnull`. The
 /// options are refused first, then bytes that are no archive, and then the text.
 ///
 /// `length` gets the length of the encoding in bytes, where the status is 0 or 1 (the buffer is too
-/// small), and otherwise 0. `place` gets an offset in the text, as `implib_library_with_nonnull` says
-/// of it. Where the status is not 0 the buffer is as it was, and where it is 0, what follows the
-/// encoding.
+/// small), and otherwise 0. `place` gets an offset in the text, as `implib_library_with_nonnull`
+/// says of it. Where the status is not 0 the buffer is as it was, and where it is 0, what follows
+/// the encoding.
 #[unsafe(no_mangle)]
 pub extern "C" fn implib_check_library_nonnull(
     alloc: Global,
@@ -401,7 +437,14 @@ pub extern "C" fn implib_check_library_nonnull(
     place: &mut usize,
 ) -> u32
     ensures { CheckAnswers bytes.now text.now
-        (record { machine = machine; flavor = flavor; flags = flags; has_dll = has_dll; dll = dll.now })
+        (record {
+          machine = machine;
+          flavor = flavor;
+          flags = flags;
+          has_dll = has_dll;
+          dll =
+              dll.now;
+        })
         buffer.old buffer.new length.new place.new result }
 {
     let arguments = OptionsArguments {
@@ -415,8 +458,8 @@ pub extern "C" fn implib_check_library_nonnull(
     tell(&answer, length, place)
 }
 
-/// Puts the line and the column of an offset in a text into `line` and `column`, both from 1. A line
-/// ends after its line feed, and a column counts bytes.
+/// Puts the line and the column of an offset in a text into `line` and `column`, both from 1. A
+/// line ends after its line feed, and a column counts bytes.
 ///
 /// A byte order mark has no columns. The end of the text has a position, too, and a greater offset
 /// has this position. The text may be of any bytes.

@@ -1,9 +1,9 @@
 //! Cases as a person writes them, one directive a line, for programs that answer them.
 //!
-//! A line has a word and, after one space, its argument. `case NAME` begins a case. The lines before
-//! the first case of a file belong to each of its cases. Lines that are empty or begin with `#` and
-//! a space are comments. The words beside `case` are those of the program; three kinds of argument
-//! are read here: texts, numbers and bytes.
+//! A line has a word and, after one space, its argument. `case NAME` begins a case. The lines
+//! before the first case of a file belong to each of its cases. Lines that are empty or begin with
+//! `#` and a space are comments. The words beside `case` are those of the program; three kinds of
+//! argument are read here: texts, numbers and bytes.
 #![tactic(auto)]
 
 use std::alloc::{AllocError, Global};
@@ -63,7 +63,8 @@ impl<'a> Case<'a> {
     }
 }
 
-/// The text of the lines whose word is `text`, with a line break between each two, if there are any.
+/// The text of the lines whose word is `text`, with a line break between each two, if there are
+/// any.
 pub fn text_of(alloc: Global, lines: &[Line]) -> Result<Option<String>, Fail> {
     let mut all = None;
     for line in lines {

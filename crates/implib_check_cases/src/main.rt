@@ -1,8 +1,9 @@
-//! Answers cases about `implib_check`: calls of the program over files that a case is made of, with the
-//! exit status and each line that is written. The arguments name the files of cases (`implib_cases` has
-//! their form).
+//! Answers cases about `implib_check`: calls of the program over files that a case is made of, with
+//! the exit status and each line that is written. The arguments name the files of cases
+//! (`implib_cases` has their form).
 //!
-//! A case is made of files ([`files`] says how), and asks by `call`, with the words of a command line.
+//! A case is made of files ([`files`] says how), and asks by `call`, with the words of a command
+//! line.
 #![tactic(auto)]
 
 mod answers;

@@ -53,8 +53,8 @@ fn followed<R: Files + AllocGlobal>(
     Err(no_file())
 }
 
-// The longest name of a file, in bytes, that is in the names of new files beside it: those of longer
-// names would pass what a name may have.
+// The longest name of a file, in bytes, that is in the names of new files beside it: those of
+// longer names would pass what a name may have.
 const LONGEST: usize = 200;
 
 // What the names of new files beside another begin with.
@@ -156,7 +156,8 @@ struct State {
     is_stuck: bool,
 }
 
-/// A new file of this name, which gets a mode where one is given. One that cannot have it is removed.
+/// A new file of this name, which gets a mode where one is given. One that cannot have it is
+/// removed.
 pub fn with_mode<R: Files, F: OpenFile + Drop>(
     rt: &R,
     name: &str,

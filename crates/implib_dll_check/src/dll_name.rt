@@ -24,8 +24,8 @@ fn push_lowercase(to: &mut Vec<u8>, bytes: &[u8]) -> Result<(), AllocError>
     Ok(())
 }
 
-/// The name by which a loader knows a DLL: in small letters of ASCII, and with `.dll` where it has no
-/// ending. Two names are of one DLL where these are the same.
+/// The name by which a loader knows a DLL: in small letters of ASCII, and with `.dll` where it has
+/// no ending. Two names are of one DLL where these are the same.
 pub fn loader_name(alloc: Global, name: &[u8]) -> Result<Vec<u8>, AllocError>
     ensures { IfOk result (λ made. made.items ≡ loader_name name.now) }
 {

@@ -68,8 +68,8 @@ fn path_in(alloc: Global, folder: &str, name: &str) -> Result<String, AllocError
     Ok(path)
 }
 
-/// The path of the file that a loader takes for the DLL that it knows by a name, in the first folder
-/// that has one: in letters of any case, and with its ending.
+/// The path of the file that a loader takes for the DLL that it knows by a name, in the first
+/// folder that has one: in letters of any case, and with its ending.
 pub fn dll_path(
     alloc: Global,
     folders: &[Folder<'_>],

@@ -3,8 +3,10 @@
 ghost use Rattle.implib_dll.specs.Views.{exports_view, target_view};
 ghost use Rattle.implib_dll_check.specs.Forwarding.{at_target, end_by, end_of, end_of_member, ends};
 ghost use Rattle.implib_dll_check.specs.Forwarding.{forwarder_at, forwarder_of, found_behind};
-ghost use Rattle.implib_dll_check.specs.Forwarding.{in_content, in_exports, in_known, is_digit, known_by};
-ghost use Rattle.implib_dll_check.specs.Forwarding.{most_forwarders, next_step, number_of, split_last};
+ghost use Rattle.implib_dll_check.specs.Forwarding.{in_content, in_exports, in_known, is_digit};
+ghost use Rattle.implib_dll_check.specs.Forwarding.{known_by};
+ghost use Rattle.implib_dll_check.specs.Forwarding.{most_forwarders, next_step, number_of};
+ghost use Rattle.implib_dll_check.specs.Forwarding.{split_last};
 ghost use Rattle.implib_dll_check.specs.ForwardingViews.{beside_view, content_view, end_view};
 ghost use Rattle.implib_dll_check.specs.ForwardingViews.{step_view};
 ghost use Rattle.implib_read.specs.ClassViews.{imported_view, member_read_view};
@@ -315,8 +317,8 @@ fn end_of_member<'a>(
 }
 
 /// Where the forwarders lead that the members of a library come to in a DLL, in order; nothing of a
-/// member that is no import of the DLL, or comes to no forwarder. Time is linear in the members, but
-/// for the forwarders that each of them follows and the searches of names.
+/// member that is no import of the DLL, or comes to no forwarder. Time is linear in the members,
+/// but for the forwarders that each of them follows and the searches of names.
 pub fn ends<'a>(
     alloc: Global,
     beside: &Beside<'_, 'a>,

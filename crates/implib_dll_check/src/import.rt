@@ -1,8 +1,10 @@
 //! What the imports of a library come to in a DLL.
 
 ghost use Rattle.implib_dll.specs.Views.{exports_view};
-ghost use Rattle.implib_dll_check.specs.Imports.{ask_of_called, asks_in, is_called, is_of_data, judged, judged_by, judged_member, judgements};
-ghost use Rattle.implib_dll_check.specs.Imports.{import_in, is_import as IsImport, is_lost as IsLost, is_searched as IsSearched};
+ghost use Rattle.implib_dll_check.specs.Imports.{ask_of_called, asks_in, is_called, is_of_data};
+ghost use Rattle.implib_dll_check.specs.Imports.{judged, judged_by, judged_member, judgements};
+ghost use Rattle.implib_dll_check.specs.Imports.{import_in, is_import as IsImport};
+ghost use Rattle.implib_dll_check.specs.Imports.{is_lost as IsLost, is_searched as IsSearched};
 ghost use Rattle.implib_dll_check.specs.Verdict.{ask_view, verdict_view};
 ghost use Rattle.implib_read.specs.ClassViews.{class_view, imported_view, member_read_view};
 ghost use Rattle.implib_read.specs.ImportViews.{ask_view as asked_view};
@@ -76,7 +78,8 @@ pub(crate) fn is_among(names: &[Vec<u8>], name: &[u8]) -> bool
 
 // Whether a loader knows a DLL by one of these names.
 pub(crate) fn is_called(alloc: Global, names: &[Vec<u8>], dll: &[u8]) -> Result<bool, AllocError>
-    ensures { IfOk result (λ called. called ≡ is_called (map (λ one. one.items) names.now) dll.now) }
+    ensures { IfOk result
+        (λ called. called ≡ is_called (map (λ one. one.items) names.now) dll.now) }
 {
     let name = loader_name(alloc, dll)?;
     Ok(is_among(names, &name))
@@ -193,7 +196,8 @@ fn ask_in<'a>(
     member: &MemberRead<'a>,
 ) -> Result<Option<Ask<'a>>, AllocError>
     ensures { IfOk result (λ found. option_map ask_view found ≡ option_and_then
-        (ask_of_called (map (λ one. one.items) names.now)) (import_in (class_view member.now.class))) }
+        (ask_of_called (map (λ one. one.items) names.now))
+        (import_in (class_view member.now.class))) }
 {
     let MemberClass::Import(import) = &member.class else {
         return Ok(None);

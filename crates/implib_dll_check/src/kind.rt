@@ -8,7 +8,8 @@ ghost use Rattle.implib.specs.Definition.{export_view};
 ghost use Rattle.implib_dll.specs.Views.{exports_view};
 ghost use Rattle.implib_dll_check.specs.ForwardingViews.{beside_view, end_view};
 ghost use Rattle.implib_dll_check.specs.Kinds.{end_of_export, forwarder_in, is_astray, is_data_end};
-ghost use Rattle.implib_dll_check.specs.Kinds.{is_stray_end, kinds_followed, unknown_dlls, unknown_in};
+ghost use Rattle.implib_dll_check.specs.Kinds.{is_stray_end, kinds_followed, unknown_dlls};
+ghost use Rattle.implib_dll_check.specs.Kinds.{unknown_in};
 ghost use Rattle.implib_dll_check.specs.Kinds.{with_kind};
 ghost use Rattle.implib_dll_check.specs.Verdict.{ask_view};
 ghost use Rattle.implib_from_dll.specs.Laws.{ask_of};
@@ -158,8 +159,8 @@ fn unknown_in(alloc: Global, end: Option<End<'_>>) -> Result<Option<Vec<u8>>, Al
     }
 }
 
-/// The loader's names ([`loader_name`]) of the DLLs, of which nothing is known, that the exports are
-/// forwarded to, in order; one twice where two exports come to it.
+/// The loader's names ([`loader_name`]) of the DLLs, of which nothing is known, that the exports
+/// are forwarded to, in order; one twice where two exports come to it.
 ///
 /// [`loader_name`]: crate::loader_name
 pub fn unknown_dlls(

@@ -58,14 +58,15 @@ fn reached_by(
 // Whether there is a target at an index that is not marked.
 fn is_missing(exports: &Exports<'_>, reached: &[bool], index: usize) -> bool
     requires { index < length reached.now }
-    ensures { result ≡ is_unmarked (exports_view exports.now) (get_or reached.now index false) index }
+    ensures { result ≡ is_unmarked (exports_view exports.now) (get_or reached.now index false)
+        index }
 {
     exports.target_at(index).is_some() && !reached[index]
 }
 
-/// The indexes of the export address table that have a target and that a loader comes to for none of
-/// these asks, in order. Time and memory are linear in the exports and, but for the searches of asks
-/// whose hints are wrong, in the asks.
+/// The indexes of the export address table that have a target and that a loader comes to for none
+/// of these asks, in order. Time and memory are linear in the exports and, but for the searches of
+/// asks whose hints are wrong, in the asks.
 pub fn missing(
     alloc: Global,
     exports: &Exports<'_>,

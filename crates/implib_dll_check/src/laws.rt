@@ -47,8 +47,8 @@ pub fn worked_imports()
     ensures { WorkedImports }
 {}
 
-/// Forwarders worked by hand lead to this: through two DLLs, by an ordinal, in a circle, and to what
-/// is not there.
+/// Forwarders worked by hand lead to this: through two DLLs, by an ordinal, in a circle, and to
+/// what is not there.
 pub fn worked_forwarding()
     ensures { WorkedForwarding }
 {}
@@ -58,8 +58,8 @@ pub fn worked_programs()
     ensures { WorkedPrograms }
 {}
 
-/// Exports worked by hand are of these kinds: forwarded to data and to code, through two DLLs, and to
-/// nothing.
+/// Exports worked by hand are of these kinds: forwarded to data and to code, through two DLLs, and
+/// to nothing.
 pub fn worked_kinds()
     ensures { WorkedKinds }
 {}

@@ -1,8 +1,8 @@
 //! The verdict of an import against the DLL that it is of.
 //!
 //! [`judge`] says what a loader finds for an import: the target, whether it needs a search, and
-//! whether data is imported as data. [`loader_name`] is the name by which a loader tells DLLs apart,
-//! and [`missing`] what a DLL exports and no import asks for.
+//! whether data is imported as data. [`loader_name`] is the name by which a loader tells DLLs
+//! apart, and [`missing`] what a DLL exports and no import asks for.
 //!
 //! [`judgements`] says what the members of a library come to, and [`asks_in`] what they ask for;
 //! [`judge_ask`] what an ask of a program's import directory comes to. [`follow`] says where a

@@ -31,7 +31,8 @@ pub struct Verdict<'a> {
 
 // What is found.
 pub(crate) fn found<'a>(exports: &Exports<'a>, ask: Ask<'_>) -> Option<Target<'a>>
-    ensures { option_map target_view result ≡ found (exports_view exports.now) (ask_view ask.entry) }
+    ensures { option_map target_view result ≡ found (exports_view exports.now)
+        (ask_view ask.entry) }
 {
     match ask {
         Ask::Name(name, hint) => exports.by_name(name, hint),
@@ -71,7 +72,8 @@ fn fits_kind(target: Option<Target<'_>>, is_data: bool) -> bool
 
 /// What a loader finds for an import, which is of data or of a function.
 pub fn judge<'a>(exports: &Exports<'a>, ask: Ask<'_>, is_data: bool) -> Verdict<'a>
-    ensures { verdict_view result ≡ verdict_of (exports_view exports.now) (ask_view ask.entry) is_data }
+    ensures { verdict_view result ≡ verdict_of (exports_view exports.now) (ask_view ask.entry)
+        is_data }
 {
     let target = found(exports, ask);
     Verdict {

@@ -2,9 +2,12 @@
 
 ghost use Rattle.implib.specs.Definition.{export_view};
 ghost use Rattle.implib_dll.specs.Views.{exports_view, name_view};
-ghost use Rattle.implib_dll_library.specs.Decorated.{decorated_export, decorates, is_bare_name, is_count};
-ghost use Rattle.implib_dll_library.specs.Decorated.{is_decorated, is_exported, is_missing, has_symbol};
-ghost use Rattle.implib_dll_library.specs.Decorated.{symbol_for, with_symbols, with_word, word_naming};
+ghost use Rattle.implib_dll_library.specs.Decorated.{decorated_export, decorates, is_bare_name};
+ghost use Rattle.implib_dll_library.specs.Decorated.{is_count};
+ghost use Rattle.implib_dll_library.specs.Decorated.{is_decorated, is_exported, is_missing};
+ghost use Rattle.implib_dll_library.specs.Decorated.{has_symbol};
+ghost use Rattle.implib_dll_library.specs.Decorated.{symbol_for, with_symbols, with_word};
+ghost use Rattle.implib_dll_library.specs.Decorated.{word_naming};
 ghost use Rattle.implib_dll_library.specs.Decorations.{decoration_view};
 ghost use Rattle.implib_rules.specs.Linked.{naming_view};
 ghost use Rattle.std.specs.Char.{is_ascii_digit};
@@ -141,9 +144,9 @@ fn decorate_export(
     }
 }
 
-/// Gives each export of a DLL the symbol that a file has for its name, if there is one: the first that
-/// is decorated. It asks for its name as before. Data, and what has no name, stay; so does an export
-/// where the DLL exports what would name the symbol.
+/// Gives each export of a DLL the symbol that a file has for its name, if there is one: the first
+/// that is decorated. It asks for its name as before. Data, and what has no name, stay; so does an
+/// export where the DLL exports what would name the symbol.
 ///
 /// # Errors
 ///

@@ -1,10 +1,12 @@
 //! The symbols that a file has for names: another import library, or a definition.
 
 ghost use Rattle.implib.specs.Definition.{definition_view, export_view};
-ghost use Rattle.implib_dll_library.specs.Decorations.{AreDecorations, HasNoDecorations, IsNoDefinition};
+ghost use Rattle.implib_dll_library.specs.Decorations.{AreDecorations, HasNoDecorations};
+ghost use Rattle.implib_dll_library.specs.Decorations.{IsNoDefinition};
 ghost use Rattle.implib_dll_library.specs.Decorations.{IsNoFile, OfDefinition, OfFile};
 ghost use Rattle.implib_dll_library.specs.Decorations.{begins_archive, both_ways, decoration_view};
-ghost use Rattle.implib_dll_library.specs.Decorations.{functions, named, of_ask, of_asked, of_class};
+ghost use Rattle.implib_dll_library.specs.Decorations.{functions, named, of_ask, of_asked};
+ghost use Rattle.implib_dll_library.specs.Decorations.{of_class};
 ghost use Rattle.implib_dll_library.specs.Decorations.{of_export, of_import, of_members, reading};
 ghost use Rattle.implib_read.specs.ClassViews.{class_view, imported_view, member_read_view};
 ghost use Rattle.implib_read.specs.ImportViews.{declared_view};
@@ -295,9 +297,9 @@ fn of_library(alloc: Global, bytes: &[u8]) -> Result<Vec<Decoration>, NotDecorat
     }
 }
 
-/// The names that the imports of a file ask for by functions, each with its symbols, in order: those of
-/// an import library where the file begins as an archive does, else of a definition for I386, read as
-/// under `-k`.
+/// The names that the imports of a file ask for by functions, each with its symbols, in order:
+/// those of an import library where the file begins as an archive does, else of a definition for
+/// I386, read as under `-k`.
 ///
 /// # Errors
 ///

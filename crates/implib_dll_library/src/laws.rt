@@ -5,8 +5,8 @@ ghost use Rattle.implib_dll_library.specs.Libraries.{LibrariesAskForExports};
 ghost use Rattle.implib_dll_library.specs.Worked.{WorkedPremises};
 ghost use Rattle.implib_dll_library.specs.WorkedDecorated.{WorkedDecorations};
 
-/// The members of a DLL's library, read by their bytes alone, ask for exactly what the DLL exports, and
-/// a loader finds each ask in the DLL at once.
+/// The members of a DLL's library, read by their bytes alone, ask for exactly what the DLL exports,
+/// and a loader finds each ask in the DLL at once.
 pub fn libraries_ask_for_exports()
     ensures { LibrariesAskForExports }
 {}

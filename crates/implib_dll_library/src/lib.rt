@@ -1,11 +1,10 @@
 //! The libraries of DLLs, and a law of them: from what a DLL exports to the bytes of its library's
 //! members, and back.
 //!
-//! `implib_from_dll` has the exports of a definition for a DLL, and `implib_rules` makes the members of
-//! such exports: [`members_of_dll`]. A DLL for I386 does not say by which symbols its functions are
-//! called: [`decorations_in`] has those of another library or of a definition, which
-//! [`decorate`] gives to exports. [`laws`] says what members are read as, by
-//! their bytes alone.
+//! `implib_from_dll` has the exports of a definition for a DLL, and `implib_rules` makes the
+//! members of such exports: [`members_of_dll`]. A DLL for I386 does not say by which symbols its
+//! functions are called: [`decorations_in`] has those of another library or of a definition, which
+//! [`decorate`] gives to exports. [`laws`] says what members are read as, by their bytes alone.
 #![tactic(auto)]
 
 mod decorated;

@@ -1,5 +1,5 @@
-//! Calls of the program: `call WORDS`. A word has `\` and two hexadecimal digits for a character, as
-//! for a space; `''` is an empty word.
+//! Calls of the program: `call WORDS`. A word has `\` and two hexadecimal digits for a character,
+//! as for a space; `''` is an empty word.
 
 use crate::room::Room;
 use implib_cases::{push_escaped, unescaped};

@@ -1,6 +1,6 @@
-//! Answers cases about `implib_dlltool`: calls of the program in a folder of files that a case makes,
-//! with the exit status, each line that is written, and the files that are there then. The arguments
-//! name the files of cases (`implib_cases` has their form).
+//! Answers cases about `implib_dlltool`: calls of the program in a folder of files that a case
+//! makes, with the exit status, each line that is written, and the files that are there then. The
+//! arguments name the files of cases (`implib_cases` has their form).
 //!
 //! A case is answered line by line: a line makes files ([`room`]), calls the program ([`calls`]),
 //! asks for files ([`shown`]) or tries a part of the program by itself ([`devices`]).

@@ -1,8 +1,8 @@
 //! Cases about archives of members.
 //!
 //! `member NAME BYTES` adds a member with these bytes, `lists SYMBOL..` has the last one listed for
-//! symbols, `again COUNT` adds copies of it, and `many COUNT LENGTH` adds members with numbers in their
-//! names and symbols, of bytes that are 5. Then these ask, of the kind `coff` or `gnu`:
+//! symbols, `again COUNT` adds copies of it, and `many COUNT LENGTH` adds members with numbers in
+//! their names and symbols, of bytes that are 5. Then these ask, of the kind `coff` or `gnu`:
 //!
 //! - `archive KIND` for the bytes of the archive, or why there is none.
 //! - `size KIND` for its length, that of its bytes and of their memory, and its last byte.

@@ -1,8 +1,8 @@
-//! Cases about what the library for C does (`implib_c_calls`): calls with buffers of several lengths, and what
-//! they put into them.
+//! Cases about what the library for C does (`implib_c_calls`): calls with buffers of several
+//! lengths, and what they put into them.
 //!
-//! A case is answered line by line: a line sets an argument of the calls ([`given`]), makes a call ([`calls`]),
-//! or asks for what one put ([`shown`], [`beside`]).
+//! A case is answered line by line: a line sets an argument of the calls ([`given`]), makes a call
+//! ([`calls`]), or asks for what one put ([`shown`], [`beside`]).
 
 mod beside;
 mod calls;

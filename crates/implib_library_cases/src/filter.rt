@@ -1,9 +1,9 @@
-//! Cases about the program `implib_tool`: calls of it and of its parts over devices in memory, with the exit
-//! status, the line of the fault, and the listing.
+//! Cases about the program `implib_tool`: calls of it and of its parts over devices in memory, with
+//! the exit status, the line of the fault, and the listing.
 //!
-//! A case is answered line by line: a line sets an input, members or devices ([`trial`]), calls the program
-//! ([`calls`], over streams of std [`streams`]), asks for a listing ([`listings`]) or tries a part of the
-//! program by itself ([`parts`]).
+//! A case is answered line by line: a line sets an input, members or devices ([`trial`]), calls the
+//! program ([`calls`], over streams of std [`streams`]), asks for a listing ([`listings`]) or tries
+//! a part of the program by itself ([`parts`]).
 
 mod calls;
 mod devices;

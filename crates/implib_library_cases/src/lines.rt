@@ -1,8 +1,8 @@
 //! Lines of cases that make bytes, for the cases about a filter and about buffers.
 //!
-//! `line TEXT` makes a line, `part TEXT` a text, `bytes BYTES` bytes, `repeated COUNT TEXT` a text this many
-//! times, and `numbered FRONT COUNT` a line for each number below one, as `padded FRONT COUNT` does with six
-//! digits. In a text `\` and two hexadecimal digits stand for a character.
+//! `line TEXT` makes a line, `part TEXT` a text, `bytes BYTES` bytes, `repeated COUNT TEXT` a text
+//! this many times, and `numbered FRONT COUNT` a line for each number below one, as `padded FRONT
+//! COUNT` does with six digits. In a text `\` and two hexadecimal digits stand for a character.
 
 use implib_cases::{Line, bytes_in, number_in, unescaped};
 use std::alloc::{AllocError, Global};

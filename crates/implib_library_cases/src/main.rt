@@ -1,6 +1,7 @@
-//! Answers cases about the library `implib`, the archives of its members, the program `implib_tool` and the
-//! library for C. The arguments name the files of cases (`implib_cases` has their form); the folder of a file
-//! says what its cases are about: [`texts`], [`members`], [`archives`], [`links`], [`filter`] or [`buffers`].
+//! Answers cases about the library `implib`, the archives of its members, the program `implib_tool`
+//! and the library for C. The arguments name the files of cases (`implib_cases` has their form);
+//! the folder of a file says what its cases are about: [`texts`], [`members`], [`archives`],
+//! [`links`], [`filter`] or [`buffers`].
 #![tactic(auto)]
 
 mod archives;

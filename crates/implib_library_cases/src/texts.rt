@@ -1,5 +1,5 @@
-//! Cases about texts: their tokens, and what they mean or why they are refused. A case has a machine. In
-//! the texts `\` and two hexadecimal digits stand for a character.
+//! Cases about texts: their tokens, and what they mean or why they are refused. A case has a
+//! machine. In the texts `\` and two hexadecimal digits stand for a character.
 //!
 //! - `means TEXT` asks for what is set in the definition, or for the fault.
 //! - `placed TEXT` asks for the offset of the token that is refused, and for what is said of it.

@@ -1,7 +1,8 @@
 //! The import descriptor and the null descriptor, with a symbol that is named after the library.
 
 ghost use Rattle.implib.specs.Formats.Constants.{image_relative};
-ghost use Rattle.implib.specs.Formats.Writer.{IsPlaceAmong, IsSymbolIndex, all_entries, layout_of, with_relocation};
+ghost use Rattle.implib.specs.Formats.Writer.{IsPlaceAmong, IsSymbolIndex, all_entries, layout_of};
+ghost use Rattle.implib.specs.Formats.Writer.{with_relocation};
 ghost use Rattle.implib.specs.Formats.Writer.{HasRoomFor, with_section, with_symbol};
 ghost use Rattle.implib.specs.Formats.Object.{section_numbered};
 ghost use Rattle.implib.specs.Import.{holds};
@@ -9,14 +10,18 @@ ghost use Rattle.implib.specs.Library.{member_view};
 ghost use Rattle.implib.specs.Members.Gnu.{added, section};
 ghost use Rattle.implib.specs.Members.ImportTables.{relocation};
 ghost use Rattle.implib.specs.Formats.Constants.{class_external};
-ghost use Rattle.implib.specs.Members.MsvcObjects.{base_name, descriptor_sections, descriptor_symbol};
+ghost use Rattle.implib.specs.Members.MsvcObjects.{base_name, descriptor_sections};
+ghost use Rattle.implib.specs.Members.MsvcObjects.{descriptor_symbol};
 ghost use Rattle.implib.specs.Members.MsvcObjects.{null_descriptor_section, null_thunk_symbol};
 ghost use Rattle.implib.specs.declared.coff.object.Place.TheVariants.{Section as InSection};
 ghost use Rattle.implib.specs.Views.Making.{EncodesObject, MakesMember, MakesMembers};
-ghost use Rattle.implib_null_descriptor.specs.Named.{descriptor_symbols, named_descriptor, named_descriptor_spec};
-ghost use Rattle.implib_null_descriptor.specs.Named.{named_null, named_null_spec, named_null_symbol, named_specs};
+ghost use Rattle.implib_null_descriptor.specs.Named.{descriptor_symbols, named_descriptor};
+ghost use Rattle.implib_null_descriptor.specs.Named.{named_descriptor_spec};
+ghost use Rattle.implib_null_descriptor.specs.Named.{named_null, named_null_spec};
+ghost use Rattle.implib_null_descriptor.specs.Named.{named_null_symbol, named_specs};
 ghost use Rattle.std.specs.List.{ends_with};
-ghost use Rattle.std.specs.Prelude.{[], nat_eq, IfErr, IfOk, IsSomeAnd, OnOk, alloc_error, false, length};
+ghost use Rattle.std.specs.Prelude.{[], nat_eq, IfErr, IfOk, IsSomeAnd, OnOk, alloc_error, false};
+ghost use Rattle.std.specs.Prelude.{length};
 ghost use Rattle.std.specs.Prelude.{string_bytes, ◌+◌, ◌++◌, ◌<◌, ◌^◌, ◌∷◌, ◌≡◌};
 
 use implib::coff::{ObjectWriter, Place, Relocation, Section, Symbol, class, flags, relocation};

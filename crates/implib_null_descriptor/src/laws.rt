@@ -1,5 +1,5 @@
-//! Laws of null descriptors that are named after their library, each as the contract of a function that
-//! does nothing.
+//! Laws of null descriptors that are named after their library, each as the contract of a function
+//! that does nothing.
 
 ghost use Rattle.implib_null_descriptor.specs.Worked.{WorkedHeaders};
 

@@ -1,5 +1,5 @@
-//! Libraries for Microsoft's linkers whose null descriptor has a symbol that is named after the library,
-//! so that a link of whole archives (`/WHOLEARCHIVE`) does not define one symbol twice.
+//! Libraries for Microsoft's linkers whose null descriptor has a symbol that is named after the
+//! library, so that a link of whole archives (`/WHOLEARCHIVE`) does not define one symbol twice.
 #![tactic(auto)]
 
 mod headers;

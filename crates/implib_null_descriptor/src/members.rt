@@ -159,13 +159,13 @@ fn headers_for(
     }
 }
 
-/// The members of the library that is asked for; for Microsoft's linkers its null descriptor has a symbol
-/// that is named after the library.
+/// The members of the library that is asked for; for Microsoft's linkers its null descriptor has a
+/// symbol that is named after the library.
 ///
 /// # Errors
 ///
-/// Those of [`members_for`]; and `Members` with `MemberTooLong` where that symbol makes a member of more
-/// than 2^32 - 1 bytes.
+/// Those of [`members_for`]; and `Members` with `MemberTooLong` where that symbol makes a member of
+/// more than 2^32 - 1 bytes.
 pub fn named_members_for(
     alloc: Global,
     bytes: &[u8],

@@ -2,7 +2,8 @@
 
 ghost use Rattle.std.specs.Prelude.{◌≡◌, ℕ, [], ◌∷◌, None, map, drop, slice_get, MatchOption};
 ghost use Rattle.std.specs.Option.{is_some, option_and_then, option_map};
-ghost use Rattle.implib.specs.Formats.File.{alias_of_object, name_at, only_alias, tag_index, weak_symbols};
+ghost use Rattle.implib.specs.Formats.File.{alias_of_object, name_at, only_alias, tag_index};
+ghost use Rattle.implib.specs.Formats.File.{weak_symbols};
 ghost use Rattle.implib.specs.Formats.Object.{u32_at};
 ghost use Rattle.implib_read.specs.AliasViews.{alias_view};
 ghost use Rattle.implib_read.specs.Aliases.{weak_symbol};
@@ -36,7 +37,10 @@ fn weak_symbol<'a>(entry: &Entry<'a>) -> Option<Symbol<'a>>
 
 /// The first weak external, and the entries after it.
 fn first_weak<'e, 'a>(entries: &'e [Entry<'a>]) -> Option<(Symbol<'a>, &'e [Entry<'a>])>
-    ensures { MatchOption result (weak_symbols (map entry_view entries.now) ≡ []) (λ found. weak_symbols (map entry_view entries.now) ≡ (found.0.name.now, tag_index (map entry_view found.1.now)) ∷ weak_symbols (map entry_view found.1.now)) }
+    ensures { MatchOption result (weak_symbols (map entry_view entries.now) ≡ [])
+        (λ found. weak_symbols (map entry_view entries.now)
+        ≡ (found.0.name.now, tag_index (map entry_view found.1.now))
+        ∷ weak_symbols (map entry_view found.1.now)) }
 {
     for i in 0..entries.len() {
         let Some(symbol) = weak_symbol(&entries[i]) else {
@@ -89,7 +93,8 @@ fn name_at<'a>(entries: &[Entry<'a>], index: u32) -> Option<&'a [u8]>
 
 /// The alias that entries make.
 fn alias_among<'a>(entries: &[Entry<'a>]) -> Option<AliasFound<'a>>
-    ensures { option_map alias_view result ≡ only_alias (map entry_view entries.now) (weak_symbols (map entry_view entries.now)) }
+    ensures { option_map alias_view result ≡ only_alias (map entry_view entries.now)
+        (weak_symbols (map entry_view entries.now)) }
 {
     let Some((weak, behind)) = first_weak(entries) else {
         return None;

@@ -1,11 +1,13 @@
 //! Archives.
 
-ghost use Rattle.std.specs.Prelude.{◌≡◌, ℕ, [], ◌∷◌, ◌+◌, ◌<◌, ◌≤◌, length, map, drop, bytes_eq, codes, take, IsSome, IfOk, IfSome};
+ghost use Rattle.std.specs.Prelude.{◌≡◌, ℕ, [], ◌∷◌, ◌+◌, ◌<◌, ◌≤◌, length, map, drop, bytes_eq};
+ghost use Rattle.std.specs.Prelude.{codes, take, IsSome, IfOk, IfSome};
 ghost use Rattle.std.specs.List.{filter_map};
 ghost use Rattle.std.specs.Option.{option_map};
 ghost use Rattle.implib_archive.specs.Reader.{data_at, stored_at};
 ghost use Rattle.implib_read.specs.Archives.{cut_from, cut_in};
-ghost use Rattle.implib_read.specs.Archives.{archive_in, ec_index_in, is_ec_name, long_names_in, member_of, parts_from, parts_in, said};
+ghost use Rattle.implib_read.specs.Archives.{archive_in, ec_index_in, is_ec_name, long_names_in};
+ghost use Rattle.implib_read.specs.Archives.{member_of, parts_from, parts_in, said};
 ghost use Rattle.implib_read.specs.ArchiveViews.{archive_view, member_view, part_view};
 ghost use Rattle.implib_read.specs.MemberNames.{ends_from};
 ghost use Rattle.implib_read.specs.NameViews.{name_view};
@@ -68,7 +70,8 @@ fn is_header(header: &[u8]) -> bool
 /// The name and the data of the header at the front, and after it.
 #[tactic(auto, unfolding(implib_archive::specs::Reader::stored_at))]
 fn stored_at(bytes: &[u8]) -> Option<(MemberName<'_>, &[u8])>
-    ensures found { option_map (λ found. (name_view found.0, found.1.now)) result ≡ option_map said (stored_at bytes.now 0) }
+    ensures found { option_map (λ found. (name_view found.0, found.1.now)) result
+        ≡ option_map said (stored_at bytes.now 0) }
     ensures within { IfSome result (λ found. 60 + length found.1.now ≤ length bytes.now) }
 {
     let Some(header) = data_at(bytes, 0, 60) else {
@@ -89,7 +92,8 @@ fn stored_at(bytes: &[u8]) -> Option<(MemberName<'_>, &[u8])>
 /// The parts after the signature.
 fn parts_behind<'a>(alloc: Global, bytes: &'a [u8]) -> Result<Option<Vec<Part<'a>>>, AllocError>
     requires { 8 ≤ length bytes.now }
-    ensures { IfOk result (λ found. option_map (λ v. map part_view v.items) found ≡ parts_from 0 8 (drop 8 bytes.now)) }
+    ensures { IfOk result (λ found. option_map (λ v. map part_view v.items) found
+        ≡ parts_from 0 8 (drop 8 bytes.now)) }
 {
     let mut parts = Vec::new(alloc);
     let mut rest = behind(bytes, 8);
@@ -108,7 +112,8 @@ fn parts_behind<'a>(alloc: Global, bytes: &'a [u8]) -> Result<Option<Vec<Part<'a
     Ok(Some(parts))
 }
 
-/// The offset of the first header behind the signature that is none, or whose data leads out of the bytes.
+/// The offset of the first header behind the signature that is none, or whose data leads out of the
+/// bytes.
 fn cut_behind(bytes: &[u8]) -> Option<usize>
     requires { 8 ≤ length bytes.now }
     ensures { result ≡ cut_from 0 8 (drop 8 bytes.now) }
@@ -123,8 +128,9 @@ fn cut_behind(bytes: &[u8]) -> Option<usize>
     None
 }
 
-/// The offset of the header at which bytes that begin as an archive are cut off: the first that is none, or whose data
-/// leads out of the bytes. There is none where they are a whole archive, or do not begin as one.
+/// The offset of the header at which bytes that begin as an archive are cut off: the first that is
+/// none, or whose data leads out of the bytes. There is none where they are a whole archive, or do
+/// not begin as one.
 #[tactic(auto, unfolding(crate::specs::Archives::cut_in))]
 pub fn cut_at(bytes: &[u8]) -> Option<usize>
     ensures { result ≡ cut_in bytes.now }
@@ -146,7 +152,8 @@ fn is_archive(bytes: &[u8]) -> bool
 /// The parts of an archive.
 #[tactic(auto, unfolding(crate::specs::Archives::parts_in))]
 fn parts_in(alloc: Global, bytes: &[u8]) -> Result<Option<Vec<Part<'_>>>, AllocError>
-    ensures { IfOk result (λ found. option_map (λ v. map part_view v.items) found ≡ parts_in bytes.now) }
+    ensures { IfOk result (λ found. option_map (λ v. map part_view v.items) found
+        ≡ parts_in bytes.now) }
 {
     if is_archive(bytes) {
         parts_behind(alloc, bytes)
@@ -212,7 +219,9 @@ fn members_among<'a>(
     names: &'a [u8],
     parts: &[Part<'a>],
 ) -> Result<Vec<StoredMember<'a>>, AllocError>
-    ensures { IfOk result (λ v. map member_view v.items ≡ filter_map (member_of names.now) (map part_view parts.now)) }
+    ensures { IfOk result
+        (λ v. map member_view v.items
+        ≡ filter_map (member_of names.now) (map part_view parts.now)) }
 {
     let ends = line_ends(alloc, names)?;
     let mut members = Vec::new(alloc);
@@ -226,7 +235,8 @@ fn members_among<'a>(
 }
 
 impl<'a> Archive<'a> {
-    /// The archive that the bytes are, or `None` where they are none, or a header or its data leads out of them.
+    /// The archive that the bytes are, or `None` where they are none, or a header or its data leads
+    /// out of them.
     #[tactic(auto, unfolding(crate::specs::Archives::archive_in))]
     pub fn read(alloc: Global, bytes: &'a [u8]) -> Result<Option<Archive<'a>>, AllocError>
         ensures { IfOk result (λ found. option_map archive_view found ≡ archive_in bytes.now) }

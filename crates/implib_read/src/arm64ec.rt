@@ -2,7 +2,8 @@
 
 ghost use Rattle.std.specs.Prelude.{◌≡◌, ◌++◌, ◌∷◌, ◌≤◌, [], length, map, IfOk, IfSome, OnOk};
 ghost use Rattle.implib.specs.Import.{imp_symbol, import_symbols};
-ghost use Rattle.implib_read.specs.Arm64ec.{arm64ec_symbols, auxiliary_symbol, inner_mark_in, unmarked, without_inner};
+ghost use Rattle.implib_read.specs.Arm64ec.{arm64ec_symbols, auxiliary_symbol, inner_mark_in};
+ghost use Rattle.implib_read.specs.Arm64ec.{unmarked, without_inner};
 ghost use Rattle.implib_read.specs.ShortImports.{declared_by_short_import, short_import_view};
 
 use crate::fields::behind;
@@ -45,7 +46,8 @@ fn without_inner(name: &[u8]) -> (&[u8], &[u8])
     }
 }
 
-/// The two parts of a text without its mark; of one that has none at its front, the second may be empty.
+/// The two parts of a text without its mark; of one that has none at its front, the second may be
+/// empty.
 fn unmarked(text: &[u8]) -> (&[u8], &[u8])
     ensures { result.0.now ++ result.1.now ≡ unmarked text.now }
 {
@@ -66,7 +68,8 @@ fn push_symbol(
     name: (&[u8], &[u8]),
 ) -> Result<(), AllocError>
     ensures { OnOk result (map (λ s. s.items) symbols.new.items
-        ≡ map (λ s. s.items) symbols.old.items ++ (prefix.now ++ (name.entry.0.now ++ name.entry.1.now)) ∷ []) }
+        ≡ map (λ s. s.items) symbols.old.items
+        ++ (prefix.now ++ (name.entry.0.now ++ name.entry.1.now)) ∷ []) }
 {
     let mut symbol = Vec::new(alloc);
     symbol.extend_from_slice(prefix)?;
@@ -84,7 +87,8 @@ fn push_three(
 ) -> Result<(), AllocError>
     ensures { OnOk result (map (λ s. s.items) symbols.new.items
         ≡ map (λ s. s.items) symbols.old.items
-        ++ imp_symbol (name.entry.0.now ++ name.entry.1.now) ∷ (name.entry.0.now ++ name.entry.1.now)
+        ++ imp_symbol (name.entry.0.now ++ name.entry.1.now)
+        ∷ (name.entry.0.now ++ name.entry.1.now)
         ∷ auxiliary_symbol (name.entry.0.now ++ name.entry.1.now) ∷ []) }
 {
     push_symbol(alloc, symbols, b"__imp_", name)?;

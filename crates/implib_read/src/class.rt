@@ -3,8 +3,10 @@
 ghost use Rattle.std.specs.Prelude.{◌≡◌, map, IfOk};
 ghost use Rattle.std.specs.Option.{option_map};
 ghost use Rattle.implib.specs.Formats.File.{alias_of_object};
-ghost use Rattle.implib_read.specs.Classes.{class_by_tables, class_of_descriptor, class_of_file, class_of_import, class_of_thunks, class_with};
-ghost use Rattle.implib_read.specs.Classes.{class_by_delayed_tables, class_of_delayed_thunks, class_of_part, delayed_by_object};
+ghost use Rattle.implib_read.specs.Classes.{class_by_tables, class_of_descriptor, class_of_file};
+ghost use Rattle.implib_read.specs.Classes.{class_of_import, class_of_thunks, class_with};
+ghost use Rattle.implib_read.specs.Classes.{class_by_delayed_tables, class_of_delayed_thunks};
+ghost use Rattle.implib_read.specs.Classes.{class_of_part, delayed_by_object};
 ghost use Rattle.implib_read.specs.Classes.{has_section, imported_by_object, is_empty};
 ghost use Rattle.implib_read.specs.ClassViews.{class_view, imported_view};
 ghost use Rattle.implib_read.specs.FileViews.{file_view};
@@ -34,7 +36,8 @@ pub enum MemberClass<'a> {
     NullDescriptor,
     /// Microsoft's null thunk of a DLL.
     NullThunk,
-    /// GNU's head of a DLL, with its descriptor, or of its delayed imports, with the code that they share.
+    /// GNU's head of a DLL, with its descriptor, or of its delayed imports, with the code that they
+    /// share.
     Head,
     /// GNU's tail of a DLL, or of its delayed imports, with its name.
     Tail,
@@ -42,8 +45,8 @@ pub enum MemberClass<'a> {
     DelayImport,
     /// An object without import tables.
     Other,
-    /// Neither an object nor a short import; a short import of unknown types; or an object whose import tables lead
-    /// nowhere.
+    /// Neither an object nor a short import; a short import of unknown types; or an object whose
+    /// import tables lead nowhere.
     NotUnderstood,
 }
 
@@ -102,7 +105,8 @@ fn class_of_descriptor<'a>(section: Section<'a>, thunks: bool) -> MemberClass<'a
     }
 }
 
-/// What an object that is neither an import nor an alias is for, by its sections of import tables alone.
+/// What an object that is neither an import nor an alias is for, by its sections of import tables
+/// alone.
 fn class_by_tables<'a>(object: &Object<'a>) -> MemberClass<'a>
     ensures { class_view result ≡ class_by_tables (object_view object.now) }
 {
@@ -169,7 +173,11 @@ fn class_of_object<'o, 'a>(
     definers: &Definers<'o, 'a>,
     object: &'o Object<'a>,
 ) -> Result<MemberClass<'a>, AllocError>
-    ensures { IfOk result (λ class. class_view class ≡ class_with (object_view object.now) (alias_of_object (object_view object.now)) (imported_by_object (places_of definers.now) (object_view object.now)) (delayed_by_object (places_of definers.now) (object_view object.now))) }
+    ensures { IfOk result
+        (λ class. class_view class
+        ≡ class_with (object_view object.now) (alias_of_object (object_view object.now))
+        (imported_by_object (places_of definers.now) (object_view object.now))
+        (delayed_by_object (places_of definers.now) (object_view object.now))) }
 {
     if let Some(alias) = alias_of_object(object) {
         return Ok(MemberClass::Alias(alias));
@@ -201,7 +209,8 @@ pub(crate) fn class_of_file<'o, 'a>(
     definers: &Definers<'o, 'a>,
     file: &'o FileFound<'a>,
 ) -> Result<MemberClass<'a>, AllocError>
-    ensures { IfOk result (λ class. class_view class ≡ class_of_file (places_of definers.now) (file_view file.now)) }
+    ensures { IfOk result
+        (λ class. class_view class ≡ class_of_file (places_of definers.now) (file_view file.now)) }
 {
     match file {
         FileFound::ShortImport(import) => {

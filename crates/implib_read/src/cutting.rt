@@ -68,7 +68,8 @@ fn ask_by_gnu<'a>(import: &ShortImport<'a>) -> AskFound<'a>
 
 /// The names of two asks, if they differ.
 fn cut_of<'a>(symbol: &'a [u8], lld: Option<AskFound<'a>>, gnu: AskFound<'a>) -> Option<Cut<'a>>
-    ensures { option_map cut_view result ≡ cut_of symbol.now (option_map ask_view lld.entry) (ask_view gnu.entry) }
+    ensures { option_map cut_view result ≡ cut_of symbol.now (option_map ask_view lld.entry)
+        (ask_view gnu.entry) }
 {
     let Some(AskFound::Name(by_lld, _)) = lld else {
         return None;
@@ -112,13 +113,14 @@ fn cut_by_member<'a>(member: &StoredMember<'a>) -> Option<CutApart<'a>>
     }
 }
 
-/// The members that are short imports by which lld and GNU `ld` ask the DLL for different names, in order: off I386 GNU
-/// `ld` leaves an underscore where a name type takes the prefix off.
+/// The members that are short imports by which lld and GNU `ld` ask the DLL for different names, in
+/// order: off I386 GNU `ld` leaves an underscore where a name type takes the prefix off.
 pub fn cut_apart<'a>(
     alloc: Global,
     members: &[StoredMember<'a>],
 ) -> Result<Vec<CutApart<'a>>, AllocError>
-    ensures { IfOk result (λ found. map cut_apart_view found.items ≡ cut_apart (map member_view members.now)) }
+    ensures { IfOk result (λ found. map cut_apart_view found.items
+        ≡ cut_apart (map member_view members.now)) }
 {
     let mut found = Vec::new(alloc);
     for member in members {

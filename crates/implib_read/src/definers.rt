@@ -1,6 +1,7 @@
 //! Where the externals of a library are defined.
 
-ghost use Rattle.std.specs.Prelude.{◌≡◌, ℕ, List, Some, None, map, bytes_eq, if◌then◌else◌, IfOk, OnOk};
+ghost use Rattle.std.specs.Prelude.{◌≡◌, ℕ, List, Some, None, map, bytes_eq, if◌then◌else◌, IfOk};
+ghost use Rattle.std.specs.Prelude.{OnOk};
 ghost use Rattle.std.specs.HashMap.{get_by};
 ghost use Rattle.std.specs.Option.{option_map, option_or};
 ghost use Rattle.implib_read.specs.FileViews.{file_view};
@@ -22,7 +23,9 @@ fn note_place<'o, 'a>(
     name: &'a [u8],
     place: PlaceFound<'o, 'a>,
 ) -> Result<(), AllocError>
-    ensures { OnOk result ((other : List ℕ) → get_by (λ k. bytes_eq other k.now) places.new ≡ option_or (get_by (λ k. bytes_eq other k.now) places.old) (if bytes_eq name.now other then Some place.entry else None)) }
+    ensures { OnOk result ((other : List ℕ) → get_by (λ k. bytes_eq other k.now) places.new
+        ≡ option_or (get_by (λ k. bytes_eq other k.now) places.old)
+        (if bytes_eq name.now other then Some place.entry else None)) }
 {
     if !places.contains_key(&name) {
         places.insert(name, place)?;
@@ -36,7 +39,9 @@ fn note_entry<'o, 'a>(
     object: &'o Object<'a>,
     entry: &Entry<'a>,
 ) -> Result<(), AllocError>
-    ensures { OnOk result ((other : List ℕ) → places_of places.new other ≡ option_or (places_of places.old other) (place_by_entry (object_view object.now) other (entry_view entry.now))) }
+    ensures { OnOk result ((other : List ℕ) → places_of places.new other
+        ≡ option_or (places_of places.old other)
+        (place_by_entry (object_view object.now) other (entry_view entry.now))) }
 {
     let Entry::Symbol(symbol) = entry else {
         return Ok(());
@@ -57,7 +62,9 @@ fn note_entries<'o, 'a>(
     object: &'o Object<'a>,
     entries: &[Entry<'a>],
 ) -> Result<(), AllocError>
-    ensures { OnOk result ((other : List ℕ) → places_of places.new other ≡ option_or (places_of places.old other) (place_among (object_view object.now) other (map entry_view entries.now))) }
+    ensures { OnOk result ((other : List ℕ) → places_of places.new other
+        ≡ option_or (places_of places.old other)
+        (place_among (object_view object.now) other (map entry_view entries.now))) }
 {
     for entry in entries {
         note_entry(places, object, entry)?;
@@ -70,7 +77,8 @@ fn note_file<'o, 'a>(
     places: &mut Definers<'o, 'a>,
     file: &'o FileFound<'a>,
 ) -> Result<(), AllocError>
-    ensures { OnOk result ((other : List ℕ) → places_of places.new other ≡ option_or (places_of places.old other) (place_in_file (file_view file.now) other)) }
+    ensures { OnOk result ((other : List ℕ) → places_of places.new other
+        ≡ option_or (places_of places.old other) (place_in_file (file_view file.now) other)) }
 {
     match file {
         FileFound::Object(object) => note_entries(places, object, &object.entries),
@@ -83,7 +91,8 @@ pub(crate) fn definers_of<'o, 'a>(
     alloc: Global,
     files: &'o [FileFound<'a>],
 ) -> Result<Definers<'o, 'a>, AllocError>
-    ensures { IfOk result (λ places. (other : List ℕ) → places_of places other ≡ definer_among (map file_view files.now) other) }
+    ensures { IfOk result (λ places. (other : List ℕ) → places_of places other
+        ≡ definer_among (map file_view files.now) other) }
 {
     let mut places = HashMap::new(alloc);
     for file in files {

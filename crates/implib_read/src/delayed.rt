@@ -1,12 +1,18 @@
 //! What objects import at the first call, for GNU's linker.
 
-ghost use Rattle.std.specs.Prelude.{◌≡◌, ◌+◌, ◌<◌, ◌^◌, None, map, take, bytes_eq, codes, IfOk, IfSome};
+ghost use Rattle.std.specs.Prelude.{◌≡◌, ◌+◌, ◌<◌, ◌^◌, None, map, take, bytes_eq, codes, IfOk};
+ghost use Rattle.std.specs.Prelude.{IfSome};
 ghost use Rattle.std.specs.List.{list_any};
 ghost use Rattle.std.specs.Option.{option_map};
 ghost use Rattle.implib_read.specs.Classes.{delayed_by_object};
 ghost use Rattle.implib_read.specs.ClassViews.{imported_view};
-ghost use Rattle.implib_read.specs.Delayed.{begin_of_either, calls_helper, code_of_entry, delayed_ask, delayed_descriptor, delayed_dll, delayed_import, delayed_with, descriptor_by_code, descriptor_by_field};
-ghost use Rattle.implib_read.specs.Delayed.{entry_of, is_helper, jump_distance, leads_to, only_in_code, only_of_own_tables, own_descriptor, own_pointed, thunk_of, wants_helper};
+ghost use Rattle.implib_read.specs.Delayed.{begin_of_either, calls_helper, code_of_entry};
+ghost use Rattle.implib_read.specs.Delayed.{delayed_ask, delayed_descriptor, delayed_dll};
+ghost use Rattle.implib_read.specs.Delayed.{delayed_import, delayed_with, descriptor_by_code};
+ghost use Rattle.implib_read.specs.Delayed.{descriptor_by_field};
+ghost use Rattle.implib_read.specs.Delayed.{entry_of, is_helper, jump_distance, leads_to};
+ghost use Rattle.implib_read.specs.Delayed.{only_in_code, only_of_own_tables, own_descriptor};
+ghost use Rattle.implib_read.specs.Delayed.{own_pointed, thunk_of, wants_helper};
 ghost use Rattle.implib_read.specs.FollowingViews.{places_of, spot_view};
 ghost use Rattle.implib_read.specs.declared.import.ImportKind.TheVariants.{Delayed};
 ghost use Rattle.implib_read.specs.ImportViews.{ask_view, import_view};
@@ -64,7 +70,8 @@ fn begin_of_either<'o, 'a>(
     other: &[u8],
     object: &'o Object<'a>,
 ) -> Option<SpotFound<'o, 'a>>
-    ensures found { option_map spot_view result ≡ begin_of_either name.now other.now (object_view object.now) }
+    ensures found { option_map spot_view result ≡ begin_of_either name.now other.now
+        (object_view object.now) }
     ensures small { IfSome result (λ spot. spot.offset < 2 ^ 32) }
 {
     match begin_of(name, object) {
@@ -146,7 +153,8 @@ fn descriptor_by_field<'o, 'a>(
     definers: &Definers<'o, 'a>,
     object: &'o Object<'a>,
 ) -> Option<SpotFound<'o, 'a>>
-    ensures found { option_map spot_view result ≡ descriptor_by_field (places_of definers.now) (object_view object.now) }
+    ensures found { option_map spot_view result ≡ descriptor_by_field (places_of definers.now)
+        (object_view object.now) }
     ensures small { IfSome result (λ spot. spot.offset < 2 ^ 32) }
 {
     match begin_of(b".idata$7", object) {
@@ -162,7 +170,8 @@ fn descriptor_by_code<'o, 'a>(
     code: SpotFound<'o, 'a>,
 ) -> Option<SpotFound<'o, 'a>>
     requires { code.offset < 2 ^ 32 }
-    ensures found { option_map spot_view result ≡ descriptor_by_code (places_of definers.now) (object_view object.now) (spot_view code.entry) }
+    ensures found { option_map spot_view result ≡ descriptor_by_code (places_of definers.now)
+        (object_view object.now) (spot_view code.entry) }
     ensures small { IfSome result (λ spot. spot.offset < 2 ^ 32) }
 {
     match pointed(definers, further(code, jump_distance(object.machine))) {
@@ -179,7 +188,8 @@ fn delayed_descriptor<'o, 'a>(
     code: SpotFound<'o, 'a>,
 ) -> Option<SpotFound<'o, 'a>>
     requires { code.offset < 2 ^ 32 }
-    ensures found { option_map spot_view result ≡ delayed_descriptor (places_of definers.now) (object_view object.now) (spot_view code.entry) }
+    ensures found { option_map spot_view result ≡ delayed_descriptor (places_of definers.now)
+        (object_view object.now) (spot_view code.entry) }
     ensures small { IfSome result (λ spot. spot.offset < 2 ^ 32) }
 {
     if let Some(own) = own_descriptor(object) {
@@ -199,7 +209,8 @@ fn delayed_dll<'o, 'a>(
     code: SpotFound<'o, 'a>,
 ) -> Option<&'a [u8]>
     requires { code.offset < 2 ^ 32 }
-    ensures { option_map (λ found. found.now) result ≡ delayed_dll (places_of definers.now) (object_view object.now) (spot_view code.entry) }
+    ensures { option_map (λ found. found.now) result ≡ delayed_dll (places_of definers.now)
+        (object_view object.now) (spot_view code.entry) }
 {
     let Some(descriptor) = delayed_descriptor(definers, object, code) else {
         return None;
@@ -213,7 +224,8 @@ fn delayed_dll<'o, 'a>(
 /// What is asked of the DLL.
 #[tactic(auto, unfolding(crate::specs::Delayed::delayed_ask))]
 fn delayed_ask<'o, 'a>(definers: &Definers<'o, 'a>, object: &'o Object<'a>) -> Option<AskFound<'a>>
-    ensures { option_map ask_view result ≡ delayed_ask (places_of definers.now) (object_view object.now) }
+    ensures { option_map ask_view result ≡ delayed_ask (places_of definers.now)
+        (object_view object.now) }
 {
     match begin_of_either(b".didat$4", b".idata$4", object) {
         Some(at) => ask_at(definers, at),
@@ -231,7 +243,10 @@ fn delayed_with<'o, 'a>(
     code: SpotFound<'o, 'a>,
 ) -> Result<Option<ImportFound<'a>>, AllocError>
     requires { code.offset < 2 ^ 32 }
-    ensures { IfOk result (λ found. option_map imported_view found ≡ option_map (λ i. record { imports = i; kind = Delayed; machine = object.now.machine }) (delayed_with (places_of definers.now) (object_view object.now) (spot_view entry.entry) (spot_view code.entry))) }
+    ensures { IfOk result (λ found. option_map imported_view found
+        ≡ option_map (λ i. record { imports = i; kind = Delayed; machine = object.now.machine })
+        (delayed_with (places_of definers.now) (object_view object.now) (spot_view entry.entry)
+        (spot_view code.entry))) }
 {
     let Some(dll) = delayed_dll(definers, object, code) else {
         return Ok(None);
@@ -257,7 +272,8 @@ pub(crate) fn delayed_by_object<'o, 'a>(
     definers: &Definers<'o, 'a>,
     object: &'o Object<'a>,
 ) -> Result<Option<ImportFound<'a>>, AllocError>
-    ensures { IfOk result (λ found. option_map imported_view found ≡ delayed_by_object (places_of definers.now) (object_view object.now)) }
+    ensures { IfOk result (λ found. option_map imported_view found
+        ≡ delayed_by_object (places_of definers.now) (object_view object.now)) }
 {
     let Some(entry) = begin_of_either(b".didat$5", b".idata$5", object) else {
         return Ok(None);

@@ -6,7 +6,8 @@ ghost use Rattle.implib_read.specs.ArchiveViews.{member_view};
 ghost use Rattle.implib_read.specs.FileViews.{file_view};
 ghost use Rattle.implib_read.specs.Files.{file_found};
 ghost use Rattle.implib_read.specs.IndexViews.{index_entry_view};
-ghost use Rattle.implib_read.specs.Leads.{ec_declarer, first_declarer, first_ec_declarer, is_arm64, is_for};
+ghost use Rattle.implib_read.specs.Leads.{ec_declarer, first_declarer, first_ec_declarer, is_arm64};
+ghost use Rattle.implib_read.specs.Leads.{is_for};
 ghost use Rattle.implib_read.specs.Leads.{is_table_symbol, members_for, wrong_entries, wrong_entry};
 ghost use Rattle.implib_read.specs.LeadViews.{offset_of};
 
@@ -43,7 +44,8 @@ fn members_for<'a>(
     wanted: bool,
     members: &[StoredMember<'a>],
 ) -> Result<Vec<StoredMember<'a>>, AllocError>
-    ensures { IfOk result (λ v. map member_view v.items ≡ members_for wanted (map member_view members.now)) }
+    ensures { IfOk result
+        (λ v. map member_view v.items ≡ members_for wanted (map member_view members.now)) }
 {
     let mut found = Vec::new(alloc);
     for member in members {
@@ -59,7 +61,8 @@ pub fn arm64_members<'a>(
     alloc: Global,
     members: &[StoredMember<'a>],
 ) -> Result<Vec<StoredMember<'a>>, AllocError>
-    ensures { IfOk result (λ v. map member_view v.items ≡ members_for true (map member_view members.now)) }
+    ensures { IfOk result
+        (λ v. map member_view v.items ≡ members_for true (map member_view members.now)) }
 {
     members_for(alloc, true, members)
 }
@@ -92,7 +95,8 @@ fn wrong_entry<'a>(
     entry: &IndexEntry<'a>,
 ) -> Option<IndexEntry<'a>>
     ensures { option_map index_entry_view result
-        ≡ wrong_entry (ec_declarer (offset_of tables.now) (offset_of others.now)) (index_entry_view entry.now) }
+        ≡ wrong_entry (ec_declarer (offset_of tables.now) (offset_of others.now))
+        (index_entry_view entry.now) }
 {
     unless_at(ec_declarer(tables, others, entry.symbol), entry)
 }
@@ -105,7 +109,8 @@ fn wrong_among<'a>(
     entries: &[IndexEntry<'a>],
 ) -> Result<Vec<IndexEntry<'a>>, AllocError>
     ensures { IfOk result (λ v. map index_entry_view v.items
-        ≡ wrong_entries (ec_declarer (offset_of tables.now) (offset_of others.now)) (map index_entry_view entries.now)) }
+        ≡ wrong_entries (ec_declarer (offset_of tables.now) (offset_of others.now))
+        (map index_entry_view entries.now)) }
 {
     let mut wrong = Vec::new(alloc);
     for entry in entries {
@@ -125,7 +130,9 @@ fn wrong_by<'a>(
     entries: &[IndexEntry<'a>],
 ) -> Result<Vec<IndexEntry<'a>>, AllocError>
     ensures { IfOk result (λ v. map index_entry_view v.items
-        ≡ wrong_entries (ec_declarer (first_declarer (map member_view arm64.now)) (first_declarer (map member_view rest.now))) (map index_entry_view entries.now)) }
+        ≡ wrong_entries
+        (ec_declarer (first_declarer (map member_view arm64.now))
+        (first_declarer (map member_view rest.now))) (map index_entry_view entries.now)) }
 {
     let arm64_files = files_of(alloc, arm64)?;
     let arm64_names = names_of_files(alloc, &arm64_files)?;
@@ -136,15 +143,17 @@ fn wrong_by<'a>(
     wrong_among(alloc, &tables, &others, entries)
 }
 
-/// The entries of an EC index, with offsets for numbers, that do not lead to the first of the members that declares
-/// their symbol: of import tables the first of ARM64, and else the first that is not of ARM64.
+/// The entries of an EC index, with offsets for numbers, that do not lead to the first of the
+/// members that declares their symbol: of import tables the first of ARM64, and else the first that
+/// is not of ARM64.
 pub fn wrong_ec_entries<'a>(
     alloc: Global,
     members: &[StoredMember<'a>],
     entries: &[IndexEntry<'a>],
 ) -> Result<Vec<IndexEntry<'a>>, AllocError>
     ensures { IfOk result (λ v. map index_entry_view v.items
-        ≡ wrong_entries (first_ec_declarer (map member_view members.now)) (map index_entry_view entries.now)) }
+        ≡ wrong_entries (first_ec_declarer (map member_view members.now))
+        (map index_entry_view entries.now)) }
 {
     let arm64 = members_for(alloc, true, members)?;
     let rest = members_for(alloc, false, members)?;

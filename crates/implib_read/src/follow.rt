@@ -1,12 +1,14 @@
 //! Where relocated fields lead.
 
-ghost use Rattle.std.specs.Prelude.{◌≡◌, ℕ, ◌+◌, ◌<◌, ◌==◌, ◌^◌, length, drop, map, bytes_eq, IfSome, slice_get};
+ghost use Rattle.std.specs.Prelude.{◌≡◌, ℕ, ◌+◌, ◌<◌, ◌==◌, ◌^◌, length, drop, map, bytes_eq};
+ghost use Rattle.std.specs.Prelude.{IfSome, slice_get};
 ghost use Rattle.std.specs.List.{find};
 ghost use Rattle.std.specs.Option.{option_and_then, option_map};
 ghost use Rattle.implib.specs.Formats.File.{is_defined_external};
 ghost use Rattle.implib.specs.Formats.Object.{section_numbered};
 ghost use Rattle.implib.specs.Members.GnuReader.{section_named, symbol_at, symbol_in};
-ghost use Rattle.implib_read.specs.Following.{begin_of, further, only_in, pointed, pointed_by, relocation_of_field, resolved, spot_of, text_at};
+ghost use Rattle.implib_read.specs.Following.{begin_of, further, only_in, pointed, pointed_by};
+ghost use Rattle.implib_read.specs.Following.{relocation_of_field, resolved, spot_of, text_at};
 ghost use Rattle.implib_read.specs.FollowingViews.{place_view, places_of, spot_view};
 ghost use Rattle.implib_read.specs.Objects.{relocations_of};
 ghost use Rattle.implib_read.specs.ObjectViews.{entry_view, object_view, section_view, symbol_view};
@@ -37,7 +39,8 @@ pub(crate) type Definers<'o, 'a> = HashMap<&'a [u8], PlaceFound<'o, 'a>>;
 
 /// The first section of a name.
 fn first_named<'a>(sections: &[Section<'a>], name: &[u8]) -> Option<Section<'a>>
-    ensures { option_map section_view result ≡ find (λ s. bytes_eq s.name name.now) (map section_view sections.now) }
+    ensures { option_map section_view result ≡ find (λ s. bytes_eq s.name name.now)
+        (map section_view sections.now) }
 {
     for section in sections {
         if is_text(section.name, name) {
@@ -66,7 +69,8 @@ fn section_of_index<'a>(sections: &[Section<'a>], index: usize) -> Option<Sectio
 
 /// The section of a number, counted from 1.
 pub(crate) fn section_numbered<'a>(sections: &[Section<'a>], number: u16) -> Option<Section<'a>>
-    ensures { option_map section_view result ≡ section_numbered (map section_view sections.now) number }
+    ensures { option_map section_view result ≡ section_numbered (map section_view sections.now)
+        number }
 {
     if number == 0 {
         None
@@ -77,7 +81,8 @@ pub(crate) fn section_numbered<'a>(sections: &[Section<'a>], number: u16) -> Opt
 
 /// The symbol of an index.
 fn symbol_of_index<'a>(entries: &[Entry<'a>], index: u32) -> Option<Symbol<'a>>
-    ensures { option_map symbol_view result ≡ option_and_then symbol_in (slice_get (map entry_view entries.now) index) }
+    ensures { option_map symbol_view result ≡ option_and_then symbol_in
+        (slice_get (map entry_view entries.now) index) }
 {
     let Some(entry) = entries.get(index as usize) else {
         return None;
@@ -140,7 +145,8 @@ fn resolved<'o, 'a>(
     object: &'o Object<'a>,
     symbol: Symbol<'a>,
 ) -> Option<PlaceFound<'o, 'a>>
-    ensures { option_map place_view result ≡ resolved (places_of definers.now) (object_view object.now) (symbol_view symbol.entry) }
+    ensures { option_map place_view result ≡ resolved (places_of definers.now)
+        (object_view object.now) (symbol_view symbol.entry) }
 {
     if symbol.section == 0 {
         defined(definers, symbol.name)
@@ -172,7 +178,8 @@ pub(crate) fn pointed_by<'o, 'a>(
     at: SpotFound<'o, 'a>,
     relocation: Relocation,
 ) -> Option<SpotFound<'o, 'a>>
-    ensures found { option_map spot_view result ≡ pointed_by (places_of definers.now) (spot_view at.entry) relocation }
+    ensures found { option_map spot_view result ≡ pointed_by (places_of definers.now)
+        (spot_view at.entry) relocation }
     ensures small { IfSome result (λ spot. spot.offset < 2 ^ 32) }
 {
     let Some(field) = bytes_at(at.section.bytes, at.offset, 4) else {
@@ -193,7 +200,8 @@ pub(crate) fn pointed<'o, 'a>(
     definers: &Definers<'o, 'a>,
     at: SpotFound<'o, 'a>,
 ) -> Option<SpotFound<'o, 'a>>
-    ensures found { option_map spot_view result ≡ pointed (places_of definers.now) (spot_view at.entry) }
+    ensures found { option_map spot_view result ≡ pointed (places_of definers.now)
+        (spot_view at.entry) }
     ensures small { IfSome result (λ spot. spot.offset < 2 ^ 32) }
 {
     match relocation_of_field(at.offset, &at.section) {

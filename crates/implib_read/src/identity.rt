@@ -21,7 +21,8 @@ pub fn dll_of<'a>(class: &MemberClass<'a>) -> Option<&'a [u8]>
 
 // Adds a name unless it is there.
 fn add_name<'a>(names: &mut IndexSet<&'a [u8]>, name: &'a [u8]) -> Result<(), AllocError>
-    ensures { OnOk result (map (λ k. k.now) names.new.keys ≡ with_name (map (λ k. k.now) names.old.keys) name.now) }
+    ensures { OnOk result
+        (map (λ k. k.now) names.new.keys ≡ with_name (map (λ k. k.now) names.old.keys) name.now) }
 {
     names.insert(name)?;
     Ok(())
@@ -29,7 +30,9 @@ fn add_name<'a>(names: &mut IndexSet<&'a [u8]>, name: &'a [u8]) -> Result<(), Al
 
 // Adds the DLL of a member unless it is there.
 fn add_dll_of<'a>(names: &mut IndexSet<&'a [u8]>, member: &MemberRead<'a>) -> Result<(), AllocError>
-    ensures { OnOk result (map (λ k. k.now) names.new.keys ≡ with_dll_of (map (λ k. k.now) names.old.keys) (member_read_view member.now)) }
+    ensures { OnOk result
+        (map (λ k. k.now) names.new.keys
+        ≡ with_dll_of (map (λ k. k.now) names.old.keys) (member_read_view member.now)) }
 {
     match dll_of(&member.class) {
         Some(dll) => add_name(names, dll),
@@ -42,7 +45,8 @@ pub fn dlls_of<'a>(
     alloc: Global,
     members: &[MemberRead<'a>],
 ) -> Result<IndexSet<&'a [u8]>, AllocError>
-    ensures { IfOk result (λ names. map (λ k. k.now) names.keys ≡ dlls_of (map member_read_view members.now)) }
+    ensures { IfOk result (λ names. map (λ k. k.now) names.keys
+        ≡ dlls_of (map member_read_view members.now)) }
 {
     let mut names = IndexSet::new(alloc);
     for member in members {

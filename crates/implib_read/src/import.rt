@@ -10,7 +10,8 @@ pub enum AskFound<'a> {
 /// The symbols that an import declares.
 #[derive(Drop)]
 pub enum DeclaredFound<'a> {
-    /// Those of a short import of another machine than ARM64EC: `__imp_` before this name, and the name itself unless it is data.
+    /// Those of a short import of another machine than ARM64EC: `__imp_` before this name, and the
+    /// name itself unless it is data.
     OfName(&'a [u8], bool),
     /// Those of a short import of ARM64EC, in order.
     OfArm64ec(Vec<Vec<u8>>),

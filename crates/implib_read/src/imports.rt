@@ -1,13 +1,16 @@
 //! What the objects for GNU's linker import.
 
-ghost use Rattle.std.specs.Prelude.{◌≡◌, ℕ, ◌+◌, ◌<◌, ◌^◌, length, drop, map, take, bytes_eq, codes, IfOk, IfSome};
+ghost use Rattle.std.specs.Prelude.{◌≡◌, ℕ, ◌+◌, ◌<◌, ◌^◌, length, drop, map, take, bytes_eq};
+ghost use Rattle.std.specs.Prelude.{codes, IfOk, IfSome};
 ghost use Rattle.std.specs.List.{filter_map};
 ghost use Rattle.std.specs.Option.{option_map};
 ghost use Rattle.implib.specs.Formats.Object.{before_nul};
 ghost use Rattle.implib.specs.Members.GnuReader.{external_in, externals_in, is_defined_in};
-ghost use Rattle.implib_read.specs.Following.{begin_of, further, only_in, pointed, relocation_of_field, text_at};
+ghost use Rattle.implib_read.specs.Following.{begin_of, further, only_in, pointed};
+ghost use Rattle.implib_read.specs.Following.{relocation_of_field, text_at};
 ghost use Rattle.implib_read.specs.FollowingViews.{places_of, spot_view};
-ghost use Rattle.implib_read.specs.Imports.{ask_at, ask_of_object, descriptor_of, dll_of_object, hint_and_name, import_of_object, ordinal_in};
+ghost use Rattle.implib_read.specs.Imports.{ask_at, ask_of_object, descriptor_of, dll_of_object};
+ghost use Rattle.implib_read.specs.Imports.{hint_and_name, import_of_object, ordinal_in};
 ghost use Rattle.implib_read.specs.ImportViews.{ask_view};
 ghost use Rattle.implib_read.specs.Classes.{imported_by_object, kind_of_code};
 ghost use Rattle.implib_read.specs.ClassViews.{imported_view};
@@ -50,7 +53,8 @@ fn descriptor_of<'o, 'a>(
     definers: &Definers<'o, 'a>,
     object: &'o Object<'a>,
 ) -> Option<SpotFound<'o, 'a>>
-    ensures found { option_map spot_view result ≡ descriptor_of (places_of definers.now) (object_view object.now) }
+    ensures found { option_map spot_view result ≡ descriptor_of (places_of definers.now)
+        (object_view object.now) }
     ensures small { IfSome result (λ spot. spot.offset < 2 ^ 32) }
 {
     let Some(to_head) = begin_of(b".idata$7", object) else {
@@ -72,7 +76,8 @@ pub(crate) fn dll_of_object<'o, 'a>(
     definers: &Definers<'o, 'a>,
     object: &'o Object<'a>,
 ) -> Option<&'a [u8]>
-    ensures { option_map (λ found. found.now) result ≡ dll_of_object (places_of definers.now) (object_view object.now) }
+    ensures { option_map (λ found. found.now) result ≡ dll_of_object (places_of definers.now)
+        (object_view object.now) }
 {
     let Some(descriptor) = descriptor_of(definers, object) else {
         return None;
@@ -118,7 +123,8 @@ pub(crate) fn ask_at<'o, 'a>(
     definers: &Definers<'o, 'a>,
     at: SpotFound<'o, 'a>,
 ) -> Option<AskFound<'a>>
-    ensures { option_map ask_view result ≡ ask_at (places_of definers.now) (spot_view at.entry) (relocation_of_field 0 (spot_view at.entry).section) }
+    ensures { option_map ask_view result ≡ ask_at (places_of definers.now) (spot_view at.entry)
+        (relocation_of_field 0 (spot_view at.entry).section) }
 {
     let Some(relocation) = relocation_of_field(0, &at.section) else {
         return ordinal_in(at.section.bytes);
@@ -135,7 +141,8 @@ pub(crate) fn ask_of_object<'o, 'a>(
     definers: &Definers<'o, 'a>,
     object: &'o Object<'a>,
 ) -> Option<AskFound<'a>>
-    ensures { option_map ask_view result ≡ ask_of_object (places_of definers.now) (object_view object.now) }
+    ensures { option_map ask_view result ≡ ask_of_object (places_of definers.now)
+        (object_view object.now) }
 {
     match begin_of(b".idata$5", object) {
         Some(at) => ask_at(definers, at),
@@ -155,7 +162,8 @@ fn is_defined_in(object: &Object, section: &[u8], symbol: &Symbol) -> bool
 
 /// The name of an entry that is an external defined in a section of a name.
 fn external_in<'a>(object: &Object<'a>, section: &[u8], entry: &Entry<'a>) -> Option<&'a [u8]>
-    ensures { option_map (λ found. found.now) result ≡ external_in (object_view object.now) section.now (entry_view entry.now) }
+    ensures { option_map (λ found. found.now) result ≡ external_in (object_view object.now)
+        section.now (entry_view entry.now) }
 {
     match entry {
         Entry::Auxiliary(_) => None,
@@ -176,7 +184,10 @@ fn externals_among<'a>(
     section: &[u8],
     entries: &[Entry<'a>],
 ) -> Result<Vec<&'a [u8]>, AllocError>
-    ensures { IfOk result (λ v. map (λ t. t.now) v.items ≡ filter_map (external_in (object_view object.now) section.now) (map entry_view entries.now)) }
+    ensures { IfOk result
+        (λ v. map (λ t. t.now) v.items
+        ≡ filter_map (external_in (object_view object.now) section.now)
+        (map entry_view entries.now)) }
 {
     let mut names = Vec::new(alloc);
     for entry in entries {
@@ -194,7 +205,8 @@ pub(crate) fn externals_in<'a>(
     object: &Object<'a>,
     section: &[u8],
 ) -> Result<Vec<&'a [u8]>, AllocError>
-    ensures { IfOk result (λ v. map (λ t. t.now) v.items ≡ externals_in (object_view object.now) section.now) }
+    ensures { IfOk result
+        (λ v. map (λ t. t.now) v.items ≡ externals_in (object_view object.now) section.now) }
 {
     externals_among(alloc, object, section, &object.entries)
 }
@@ -216,7 +228,8 @@ pub(crate) fn imported_by_object<'o, 'a>(
     definers: &Definers<'o, 'a>,
     object: &'o Object<'a>,
 ) -> Result<Option<ImportFound<'a>>, AllocError>
-    ensures { IfOk result (λ found. option_map imported_view found ≡ imported_by_object (places_of definers.now) (object_view object.now)) }
+    ensures { IfOk result (λ found. option_map imported_view found
+        ≡ imported_by_object (places_of definers.now) (object_view object.now)) }
 {
     let Some(dll) = dll_of_object(definers, object) else {
         return Ok(None);

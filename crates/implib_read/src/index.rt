@@ -3,7 +3,8 @@
 ghost use Rattle.std.specs.Prelude.{◌≡◌, ℕ, ◌+◌, ◌*◌, ◌<◌, ◌≤◌, ◌^◌, length, map, take, IfOk};
 ghost use Rattle.std.specs.Int.{from_be_bytes, w32};
 ghost use Rattle.std.specs.Option.{option_map};
-ghost use Rattle.implib_read.specs.Indexes.{ec_entries_in, entries_behind, entries_from, first_index_in, place_in, place_size};
+ghost use Rattle.implib_read.specs.Indexes.{ec_entries_in, entries_behind, entries_from};
+ghost use Rattle.implib_read.specs.Indexes.{first_index_in, place_in, place_size};
 ghost use Rattle.implib_read.specs.Indexes.{offset_numbered, second_index_in, second_index_with};
 ghost use Rattle.implib_read.specs.IndexViews.{index_entry_view, second_index_view};
 
@@ -14,8 +15,8 @@ use std::alloc::{AllocError, Global};
 #[derive(Clone, Copy)]
 pub struct IndexEntry<'a> {
     pub symbol: &'a [u8],
-    /// In the first linker member the offset of the header of the symbol's member; in the second, and in an EC index,
-    /// the number of that among the second's offsets, from 1.
+    /// In the first linker member the offset of the header of the symbol's member; in the second,
+    /// and in an EC index, the number of that among the second's offsets, from 1.
     pub place: u32,
 }
 
@@ -64,7 +65,8 @@ fn entries_from<'a>(
     symbols: &'a [u8],
 ) -> Result<Option<Vec<IndexEntry<'a>>>, AllocError>
     requires { length places.now ≡ place_size second * count }
-    ensures { IfOk result (λ found. option_map (λ v. map index_entry_view v.items) found ≡ entries_from second count places.now symbols.now) }
+    ensures { IfOk result (λ found. option_map (λ v. map index_entry_view v.items) found
+        ≡ entries_from second count places.now symbols.now) }
 {
     let mut entries = Vec::new(alloc);
     let size = place_size(second);
@@ -93,7 +95,8 @@ fn entries_behind<'a>(
     contents: &'a [u8],
 ) -> Result<Option<Vec<IndexEntry<'a>>>, AllocError>
     requires { offset < 2 ^ 40 }
-    ensures { IfOk result (λ found. option_map (λ v. map index_entry_view v.items) found ≡ entries_behind second count offset contents.now) }
+    ensures { IfOk result (λ found. option_map (λ v. map index_entry_view v.items) found
+        ≡ entries_behind second count offset contents.now) }
 {
     let size = place_size(second) * count as usize;
     match bytes_at(contents, offset, size) {
@@ -115,7 +118,8 @@ impl<'a> IndexEntry<'a> {
         alloc: Global,
         contents: &'a [u8],
     ) -> Result<Option<Vec<IndexEntry<'a>>>, AllocError>
-        ensures { IfOk result (λ found. option_map (λ v. map index_entry_view v.items) found ≡ first_index_in contents.now) }
+        ensures { IfOk result (λ found. option_map (λ v. map index_entry_view v.items) found
+            ≡ first_index_in contents.now) }
     {
         match bytes_at(contents, 0, 4) {
             Some(count) => entries_behind(alloc, false, u32_be(count), 4, contents),
@@ -123,14 +127,15 @@ impl<'a> IndexEntry<'a> {
         }
     }
 
-    /// The entries of an EC index, or `None` where its count leads out of it. Their places are numbers among the offsets
-    /// of the second linker member, from 1.
+    /// The entries of an EC index, or `None` where its count leads out of it. Their places are
+    /// numbers among the offsets of the second linker member, from 1.
     #[tactic(auto, unfolding(crate::specs::Indexes::ec_entries_in))]
     pub fn read_ec(
         alloc: Global,
         contents: &'a [u8],
     ) -> Result<Option<Vec<IndexEntry<'a>>>, AllocError>
-        ensures { IfOk result (λ found. option_map (λ v. map index_entry_view v.items) found ≡ ec_entries_in contents.now) }
+        ensures { IfOk result (λ found. option_map (λ v. map index_entry_view v.items) found
+            ≡ ec_entries_in contents.now) }
     {
         match bytes_at(contents, 0, 4) {
             Some(count) => entries_behind(alloc, true, u32_at(count, 0), 4, contents),
@@ -147,7 +152,8 @@ fn second_index_with<'a>(
     offsets: &'a [u8],
 ) -> Result<Option<SecondIndex<'a>>, AllocError>
     requires { behind < 2 ^ 36 }
-    ensures { IfOk result (λ found. option_map second_index_view found ≡ second_index_with contents.now behind offsets.now) }
+    ensures { IfOk result (λ found. option_map second_index_view found
+        ≡ second_index_with contents.now behind offsets.now) }
 {
     let Some(count) = bytes_at(contents, behind, 4) else {
         return Ok(None);
@@ -163,7 +169,8 @@ impl<'a> SecondIndex<'a> {
     /// The second linker member in the bytes, or `None` where its counts lead out of them.
     #[tactic(auto, unfolding(crate::specs::Indexes::second_index_in))]
     pub fn read(alloc: Global, contents: &'a [u8]) -> Result<Option<SecondIndex<'a>>, AllocError>
-        ensures { IfOk result (λ found. option_map second_index_view found ≡ second_index_in contents.now) }
+        ensures { IfOk result (λ found. option_map second_index_view found
+            ≡ second_index_in contents.now) }
     {
         let Some(members) = bytes_at(contents, 0, 4) else {
             return Ok(None);

@@ -2,12 +2,16 @@
 
 ghost use Rattle.implib_read.specs.Archives.{SameParts};
 ghost use Rattle.implib_read.specs.Objects.{SameObjects};
-ghost use Rattle.implib_read.specs.OwnLibraries.{OwnGnuLibraries, OwnMembersFound, OwnMsvcLibraries};
+ghost use Rattle.implib_read.specs.OwnLibraries.{OwnGnuLibraries, OwnMembersFound};
+ghost use Rattle.implib_read.specs.OwnLibraries.{OwnMsvcLibraries};
 ghost use Rattle.implib_read.specs.ShortImports.{SameShortImports};
 ghost use Rattle.implib_read.specs.Symbols.{WorkedSymbols};
-ghost use Rattle.implib_read.specs.WorkedArm64ec.{WorkedArm64ecImports, WorkedEcIndexes, WorkedUnmarked};
+ghost use Rattle.implib_read.specs.WorkedArm64ec.{WorkedArm64ecImports, WorkedEcIndexes};
+ghost use Rattle.implib_read.specs.WorkedArm64ec.{WorkedUnmarked};
 ghost use Rattle.implib_read.specs.WorkedCutting.{WorkedCuts};
-ghost use Rattle.implib_read.specs.WorkedFiles.{WorkedChanges, WorkedIndexes, WorkedLeads, WorkedNames, WorkedParts, WorkedRoom, WorkedShortImports};
+ghost use Rattle.implib_read.specs.WorkedFiles.{WorkedChanges, WorkedIndexes, WorkedLeads};
+ghost use Rattle.implib_read.specs.WorkedFiles.{WorkedNames, WorkedParts, WorkedRoom};
+ghost use Rattle.implib_read.specs.WorkedFiles.{WorkedShortImports};
 ghost use Rattle.implib_read.specs.WorkedLibraries.{WorkedLibraries};
 ghost use Rattle.implib_read.specs.WorkedOwn.{WorkedOwnGnuLibraries, WorkedOwnLibraries};
 
@@ -16,13 +20,14 @@ pub fn same_objects()
     ensures { SameObjects }
 {}
 
-/// What the reader of `implib`'s definitions has of a short import, [`crate::ShortImport::read`] has, but for
-/// name type 4 without its third text.
+/// What the reader of `implib`'s definitions has of a short import, [`crate::ShortImport::read`]
+/// has, but for name type 4 without its third text.
 pub fn same_short_imports()
     ensures { SameShortImports }
 {}
 
-/// The parts that the reader of `implib_archive`'s definitions has of an archive, [`crate::Archive::read`] has.
+/// The parts that the reader of `implib_archive`'s definitions has of an archive,
+/// [`crate::Archive::read`] has.
 pub fn same_parts()
     ensures { SameParts }
 {}
@@ -37,7 +42,8 @@ pub fn worked_short_imports()
     ensures { WorkedShortImports }
 {}
 
-/// Texts of ARM64EC without their marks, what its short imports mean, byte by byte, and what EC indexes say.
+/// Texts of ARM64EC without their marks, what its short imports mean, byte by byte, and what EC
+/// indexes say.
 pub fn worked_arm64ec()
     ensures unmarked { WorkedUnmarked }
     ensures imports { WorkedArm64ecImports }
@@ -91,8 +97,9 @@ pub fn own_members_found()
     same_parts();
 }
 
-/// An archive of a definition's members for Microsoft's linker reads as a library of that definition: its first
-/// members are those of the import tables, and each further one is an import or an alias of the definition.
+/// An archive of a definition's members for Microsoft's linker reads as a library of that
+/// definition: its first members are those of the import tables, and each further one is an import
+/// or an alias of the definition.
 pub fn own_msvc_libraries()
     ensures { OwnMsvcLibraries }
 {
@@ -106,8 +113,9 @@ pub fn worked_own_libraries()
     ensures { WorkedOwnLibraries }
 {}
 
-/// An archive of a definition's members for GNU's linker reads as a library of that definition: its first members are
-/// the tail and the head, and each further one is an import or an alias of the definition.
+/// An archive of a definition's members for GNU's linker reads as a library of that definition: its
+/// first members are the tail and the head, and each further one is an import or an alias of the
+/// definition.
 pub fn own_gnu_libraries()
     ensures { OwnGnuLibraries }
 {
@@ -116,7 +124,8 @@ pub fn own_gnu_libraries()
     same_objects();
 }
 
-/// Libraries for GNU's linker beside definitions, worked by hand: some that are theirs, and some that are not.
+/// Libraries for GNU's linker beside definitions, worked by hand: some that are theirs, and some
+/// that are not.
 pub fn worked_own_gnu_libraries()
     ensures { WorkedOwnGnuLibraries }
 {}

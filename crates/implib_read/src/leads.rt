@@ -1,6 +1,7 @@
 //! Whether the index of an archive leads where it ought to.
 
-ghost use Rattle.std.specs.Prelude.{◌≡◌, ℕ, ◌==◌, List, [], ◌∷◌, Some, None, map, bytes_eq, if◌then◌else◌, IfOk, OnOk};
+ghost use Rattle.std.specs.Prelude.{◌≡◌, ℕ, ◌==◌, List, [], ◌∷◌, Some, None, map, bytes_eq};
+ghost use Rattle.std.specs.Prelude.{if◌then◌else◌, IfOk, OnOk};
 ghost use Rattle.std.specs.List.{filter_map};
 ghost use Rattle.std.specs.Option.{option_map, option_or};
 ghost use Rattle.implib.specs.Formats.File.{declared_by_entry};
@@ -8,7 +9,8 @@ ghost use Rattle.implib_read.specs.ArchiveViews.{member_view};
 ghost use Rattle.implib_read.specs.Classes.{files_of};
 ghost use Rattle.implib_read.specs.FileViews.{file_view};
 ghost use Rattle.implib_read.specs.IndexViews.{index_entry_view};
-ghost use Rattle.implib_read.specs.Leads.{declared_by_found, first_declarer, import_names, offset_if_listed, unless_at};
+ghost use Rattle.implib_read.specs.Leads.{declared_by_found, first_declarer, import_names};
+ghost use Rattle.implib_read.specs.Leads.{offset_if_listed, unless_at};
 ghost use Rattle.implib_read.specs.Leads.{wrong_entries, wrong_entry};
 ghost use Rattle.implib_read.specs.LeadViews.{offset_of};
 ghost use Rattle.implib_read.specs.ObjectViews.{entry_view};
@@ -32,7 +34,9 @@ fn note_symbol<'n>(
     symbol: &'n [u8],
     offset: usize,
 ) -> Result<(), AllocError>
-    ensures { OnOk result ((other : List ℕ) → offset_of declarers.new other ≡ option_or (offset_of declarers.old other) (if bytes_eq symbol.now other then Some offset else None)) }
+    ensures { OnOk result ((other : List ℕ) → offset_of declarers.new other
+        ≡ option_or (offset_of declarers.old other)
+        (if bytes_eq symbol.now other then Some offset else None)) }
 {
     if !declarers.contains_key(&symbol) {
         declarers.insert(symbol, offset)?;
@@ -62,7 +66,10 @@ fn note_entries<'n, 'a: 'n>(
     entries: &[Entry<'a>],
     offset: usize,
 ) -> Result<(), AllocError>
-    ensures { OnOk result ((other : List ℕ) → offset_of declarers.new other ≡ option_or (offset_of declarers.old other) (offset_if_listed offset (filter_map declared_by_entry (map entry_view entries.now)) other)) }
+    ensures { OnOk result ((other : List ℕ) → offset_of declarers.new other
+        ≡ option_or (offset_of declarers.old other)
+        (offset_if_listed offset (filter_map declared_by_entry (map entry_view entries.now))
+        other)) }
 {
     for entry in entries {
         let Some(name) = declared_by_entry(entry) else {
@@ -79,7 +86,9 @@ fn note_names<'n>(
     names: &'n [Vec<u8>],
     offset: usize,
 ) -> Result<(), AllocError>
-    ensures { OnOk result ((other : List ℕ) → offset_of declarers.new other ≡ option_or (offset_of declarers.old other) (offset_if_listed offset (map (λ name. name.items) names.now) other)) }
+    ensures { OnOk result ((other : List ℕ) → offset_of declarers.new other
+        ≡ option_or (offset_of declarers.old other)
+        (offset_if_listed offset (map (λ name. name.items) names.now) other)) }
 {
     for name in names {
         note_symbol(declarers, name, offset)?;
@@ -95,7 +104,9 @@ fn note_file<'n, 'a: 'n>(
     offset: usize,
 ) -> Result<(), AllocError>
     requires { map (λ name. name.items) names.now ≡ import_names (file_view file.now) }
-    ensures { OnOk result ((other : List ℕ) → offset_of declarers.new other ≡ option_or (offset_of declarers.old other) (offset_if_listed offset (declared_by_found (file_view file.now)) other)) }
+    ensures { OnOk result ((other : List ℕ) → offset_of declarers.new other
+        ≡ option_or (offset_of declarers.old other)
+        (offset_if_listed offset (declared_by_found (file_view file.now)) other)) }
 {
     match file {
         FileFound::ShortImport(_) => note_names(declarers, names, offset),
@@ -106,7 +117,8 @@ fn note_file<'n, 'a: 'n>(
 
 /// The symbols that a short import declares, or none of another file.
 fn import_names(alloc: Global, file: &FileFound) -> Result<Vec<Vec<u8>>, AllocError>
-    ensures { IfOk result (λ v. map (λ name. name.items) v.items ≡ import_names (file_view file.now)) }
+    ensures { IfOk result (λ v. map (λ name. name.items) v.items
+        ≡ import_names (file_view file.now)) }
 {
     match file {
         FileFound::ShortImport(import) => declared_by_short_import(alloc, import),
@@ -119,7 +131,8 @@ pub(crate) fn names_of_files(
     alloc: Global,
     files: &[FileFound],
 ) -> Result<Vec<Vec<Vec<u8>>>, AllocError>
-    ensures { IfOk result (λ v. map (λ names. map (λ name. name.items) names.items) v.items ≡ map import_names (map file_view files.now)) }
+    ensures { IfOk result (λ v. map (λ names. map (λ name. name.items) names.items) v.items
+        ≡ map import_names (map file_view files.now)) }
 {
     let mut names = Vec::new(alloc);
     for file in files {
@@ -150,8 +163,11 @@ fn note_members<'n, 'a: 'n>(
     names: &'n [Vec<Vec<u8>>],
 ) -> Result<(), AllocError>
     requires files { map file_view files.now ≡ files_of (map member_view members.now) }
-    requires names { map (λ names. map (λ name. name.items) names.items) names.now ≡ map import_names (map file_view files.now) }
-    ensures { OnOk result ((other : List ℕ) → offset_of declarers.new other ≡ option_or (offset_of declarers.old other) (first_declarer (map member_view members.now) other)) }
+    requires names { map (λ names. map (λ name. name.items) names.items) names.now
+        ≡ map import_names (map file_view files.now) }
+    ensures { OnOk result ((other : List ℕ) → offset_of declarers.new other
+        ≡ option_or (offset_of declarers.old other)
+        (first_declarer (map member_view members.now) other)) }
 {
     for i in 0..members.len() {
         note_file(declarers, &files[i], &names[i], members[i].offset)?;
@@ -167,8 +183,10 @@ pub(crate) fn declarers_of<'n, 'a: 'n>(
     names: &'n [Vec<Vec<u8>>],
 ) -> Result<Declarers<'n>, AllocError>
     requires files { map file_view files.now ≡ files_of (map member_view members.now) }
-    requires names { map (λ names. map (λ name. name.items) names.items) names.now ≡ map import_names (map file_view files.now) }
-    ensures { IfOk result (λ declarers. (other : List ℕ) → offset_of declarers other ≡ first_declarer (map member_view members.now) other) }
+    requires names { map (λ names. map (λ name. name.items) names.items) names.now
+        ≡ map import_names (map file_view files.now) }
+    ensures { IfOk result (λ declarers. (other : List ℕ) → offset_of declarers other
+        ≡ first_declarer (map member_view members.now) other) }
 {
     let mut declarers = HashMap::new(alloc);
     note_members(&mut declarers, members, files, names)?;
@@ -184,7 +202,8 @@ pub(crate) fn declarer_of(declarers: &Declarers, symbol: &[u8]) -> Option<usize>
 
 /// The entry, unless it leads to the first member that declares its symbol.
 fn wrong_entry<'a>(declarers: &Declarers, entry: &IndexEntry<'a>) -> Option<IndexEntry<'a>>
-    ensures { option_map index_entry_view result ≡ wrong_entry (offset_of declarers.now) (index_entry_view entry.now) }
+    ensures { option_map index_entry_view result ≡ wrong_entry (offset_of declarers.now)
+        (index_entry_view entry.now) }
 {
     unless_at(declarer_of(declarers, entry.symbol), entry)
 }
@@ -195,7 +214,8 @@ fn wrong_among<'a>(
     declarers: &Declarers,
     entries: &[IndexEntry<'a>],
 ) -> Result<Vec<IndexEntry<'a>>, AllocError>
-    ensures { IfOk result (λ v. map index_entry_view v.items ≡ wrong_entries (offset_of declarers.now) (map index_entry_view entries.now)) }
+    ensures { IfOk result (λ v. map index_entry_view v.items
+        ≡ wrong_entries (offset_of declarers.now) (map index_entry_view entries.now)) }
 {
     let mut wrong = Vec::new(alloc);
     for entry in entries {
@@ -207,13 +227,16 @@ fn wrong_among<'a>(
     Ok(wrong)
 }
 
-/// The entries of a first linker member that do not lead to the first of the members that declares their symbol.
+/// The entries of a first linker member that do not lead to the first of the members that declares
+/// their symbol.
 pub fn wrong_entries<'a>(
     alloc: Global,
     members: &[StoredMember<'a>],
     entries: &[IndexEntry<'a>],
 ) -> Result<Vec<IndexEntry<'a>>, AllocError>
-    ensures { IfOk result (λ v. map index_entry_view v.items ≡ wrong_entries (first_declarer (map member_view members.now)) (map index_entry_view entries.now)) }
+    ensures { IfOk result (λ v. map index_entry_view v.items
+        ≡ wrong_entries (first_declarer (map member_view members.now))
+        (map index_entry_view entries.now)) }
 {
     let files = files_of(alloc, members)?;
     let names = names_of_files(alloc, &files)?;

@@ -1,20 +1,23 @@
-//! A reader of import libraries, whoever made them: Microsoft's LIB, `llvm-lib` and `llvm-dlltool`, GNU dlltool and
-//! linker, winebuild, rustc, or the library `implib`.
+//! A reader of import libraries, whoever made them: Microsoft's LIB, `llvm-lib` and `llvm-dlltool`,
+//! GNU dlltool and linker, winebuild, rustc, or the library `implib`.
 //!
-//! [`Library::read`] says of each member of a library what it is for: an import with its DLL, its symbols and what
-//! it asks for, an alias, a part of the import tables, or another. A short import says so itself. An object for GNU's
-//! linker is followed as a linker does it: from its fields by relocations, to sections and offsets, through symbols
-//! that any member defines. A delayed import is followed from the entry of its address table, through code of its own
-//! object, to a descriptor for mingw-w64's helper.
+//! [`Library::read`] says of each member of a library what it is for: an import with its DLL, its
+//! symbols and what it asks for, an alias, a part of the import tables, or another. A short import
+//! says so itself. An object for GNU's linker is followed as a linker does it: from its fields by
+//! relocations, to sections and offsets, through symbols that any member defines. A delayed import
+//! is followed from the entry of its address table, through code of its own object, to a descriptor
+//! for mingw-w64's helper.
 //!
-//! Below that [`Archive::read`] finds the members of an archive, [`IndexEntry::read_first`] and [`SecondIndex::read`]
-//! the entries of its indexes, [`wrong_entries`] those that mislead a linker, [`FileFound::read`] what a member is, [`Object::read`] the sections, symbols and
-//! relocations of an object, and [`ShortImport::read`] the fields of a short import.
+//! Below that [`Archive::read`] finds the members of an archive, [`IndexEntry::read_first`] and
+//! [`SecondIndex::read`] the entries of its indexes, [`wrong_entries`] those that mislead a linker,
+//! [`FileFound::read`] what a member is, [`Object::read`] the sections, symbols and relocations of
+//! an object, and [`ShortImport::read`] the fields of a short import.
 //!
-//! Each of these equals a definition in `specs/` that goes by the bytes alone, so any bytes have an answer: `None`
-//! where an offset, a size or a count leads out of them, and an error only where memory is refused. Values borrow the
-//! bytes. [`laws`] relates the definitions to the readers of `implib` and `implib_archive`, and has what is worked by
-//! hand: libraries of three makers, and bytes that are none.
+//! Each of these equals a definition in `specs/` that goes by the bytes alone, so any bytes have an
+//! answer: `None` where an offset, a size or a count leads out of them, and an error only where
+//! memory is refused. Values borrow the bytes. [`laws`] relates the definitions to the readers of
+//! `implib` and `implib_archive`, and has what is worked by hand: libraries of three makers, and
+//! bytes that are none.
 #![tactic(auto)]
 
 mod alias;

@@ -45,7 +45,8 @@ fn classes_of<'o, 'a>(
     files: &'o [FileFound<'a>],
 ) -> Result<Vec<MemberRead<'a>>, AllocError>
     requires { map file_view files.now ≡ files_of (map member_view members.now) }
-    ensures { IfOk result (λ v. map member_read_view v.items ≡ map (member_read (places_of definers.now)) (map member_view members.now)) }
+    ensures { IfOk result (λ v. map member_read_view v.items
+        ≡ map (member_read (places_of definers.now)) (map member_view members.now)) }
 {
     let mut read = Vec::new(alloc);
     for i in 0..members.len() {
@@ -66,7 +67,8 @@ fn members_read<'a>(
     alloc: Global,
     members: &[StoredMember<'a>],
 ) -> Result<Vec<MemberRead<'a>>, AllocError>
-    ensures { IfOk result (λ v. map member_read_view v.items ≡ members_read (map member_view members.now)) }
+    ensures { IfOk result (λ v. map member_read_view v.items
+        ≡ members_read (map member_view members.now)) }
 {
     let files = files_of(alloc, members)?;
     let definers = definers_of(alloc, &files)?;
@@ -77,8 +79,11 @@ impl<'a> Library<'a> {
     /// The library that the bytes are, or `None` where they are no archive.
     #[tactic(auto, unfolding(crate::specs::Archives::archive_in, crate::specs::Classes::library_in))]
     pub fn read(alloc: Global, bytes: &'a [u8]) -> Result<Option<Library<'a>>, AllocError>
-        ensures archive { IfOk result (λ found. option_map (λ l. archive_view l.archive) found ≡ archive_in bytes.now) }
-        ensures members { IfOk result (λ found. option_map (λ l. map member_read_view l.members.items) found ≡ library_in bytes.now) }
+        ensures archive { IfOk result (λ found. option_map (λ l. archive_view l.archive) found
+            ≡ archive_in bytes.now) }
+        ensures members { IfOk result
+            (λ found. option_map (λ l. map member_read_view l.members.items) found
+            ≡ library_in bytes.now) }
     {
         let archive = Archive::read(alloc, bytes)?;
         let Some(archive) = archive else {

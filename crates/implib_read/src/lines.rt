@@ -1,5 +1,5 @@
-//! The lines of a text, found by their ends: a line is found in the time of a search, however long it is, so that many
-//! offsets in one long line take no time that is a product.
+//! The lines of a text, found by their ends: a line is found in the time of a search, however long
+//! it is, so that many offsets in one long line take no time that is a product.
 
 ghost use Rattle.std.specs.Prelude.{◌≡◌, ◌≤◌, length, drop, IfOk};
 ghost use Rattle.std.specs.List.{prefix_len};

@@ -1,10 +1,12 @@
 //! The names of an archive's members.
 
-ghost use Rattle.std.specs.Prelude.{◌≡◌, ℕ, ◌+◌, ◌-◌, ◌*◌, ◌<◌, ◌≤◌, length, drop, fold, bytes_eq, nat_eq, take_while};
+ghost use Rattle.std.specs.Prelude.{◌≡◌, ℕ, ◌+◌, ◌-◌, ◌*◌, ◌<◌, ◌≤◌, length, drop, fold, bytes_eq};
+ghost use Rattle.std.specs.Prelude.{nat_eq, take_while};
 ghost use Rattle.std.specs.List.{list_all};
 ghost use Rattle.std.specs.Option.{option_map};
 ghost use Rattle.implib_archive.specs.Reader.{is_digit, number_in, trimmed};
-ghost use Rattle.implib_read.specs.MemberNames.{begins_with_byte, ends_from, goes_on, long_name_of, member_name, without_slash};
+ghost use Rattle.implib_read.specs.MemberNames.{begins_with_byte, ends_from, goes_on, long_name_of};
+ghost use Rattle.implib_read.specs.MemberNames.{member_name, without_slash};
 ghost use Rattle.std.specs.List.{prefix_len};
 ghost use Rattle.implib_read.specs.NameViews.{name_view};
 

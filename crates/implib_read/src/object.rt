@@ -1,10 +1,13 @@
 //! Objects.
 
-ghost use Rattle.std.specs.Prelude.{◌≡◌, ℕ, ◌+◌, ◌<◌, ◌≤◌, ◌^◌, length, drop, map, slice_get, IsSome, IfOk};
+ghost use Rattle.std.specs.Prelude.{◌≡◌, ℕ, ◌+◌, ◌<◌, ◌≤◌, ◌^◌, length, drop, map, slice_get};
+ghost use Rattle.std.specs.Prelude.{IsSome, IfOk};
 ghost use Rattle.std.specs.Option.{option_and_then, option_map};
-ghost use Rattle.implib.specs.Formats.Object.{before_nul, data_at, each_at, entries_at, name_of, relocation_at, relocation_of};
+ghost use Rattle.implib.specs.Formats.Object.{before_nul, data_at, each_at, entries_at, name_of};
+ghost use Rattle.implib.specs.Formats.Object.{relocation_at, relocation_of};
 ghost use Rattle.implib.specs.Formats.Object.{section_at, section_of, strings_at, symbol_of};
-ghost use Rattle.implib_read.specs.Objects.{begins_with_zeros, entries_found, entry_at, name_length, object_found, object_of_found};
+ghost use Rattle.implib_read.specs.Objects.{begins_with_zeros, entries_found, entry_at};
+ghost use Rattle.implib_read.specs.Objects.{name_length, object_found, object_of_found};
 ghost use Rattle.implib_read.specs.Objects.{relocations_of, room_after, within_room};
 ghost use Rattle.implib_read.specs.ObjectViews.{entry_view, object_view, section_view, symbol_view};
 
@@ -34,7 +37,8 @@ pub struct Symbol<'a> {
     pub class: u8,
 }
 
-/// An entry of a symbol table: a symbol, or an auxiliary record of the symbol before it, of 18 bytes.
+/// An entry of a symbol table: a symbol, or an auxiliary record of the symbol before it, of 18
+/// bytes.
 #[derive(Clone, Copy)]
 pub enum Entry<'a> {
     Symbol(Symbol<'a>),
@@ -94,7 +98,8 @@ fn data_at(bytes: &[u8], offset: usize, size: usize) -> Option<&[u8]>
 /// The records of a section's relocations.
 fn relocations_at(bytes: &[u8], offset: usize, count: usize) -> Option<&[u8]>
     requires { count < 2 ^ 16 }
-    ensures { option_map (λ found. relocations_of found.now) result ≡ each_at (relocation_at bytes.now) offset 10 count }
+    ensures { option_map (λ found. relocations_of found.now) result
+        ≡ each_at (relocation_at bytes.now) offset 10 count }
 {
     if count == 0 {
         Some(&[])
@@ -151,7 +156,8 @@ fn sections_at(
     count: u16,
 ) -> Result<Option<Vec<Section<'_>>>, AllocError>
     requires { offset < 2 ^ 17 }
-    ensures { IfOk result (λ found. option_map (λ v. map section_view v.items) found ≡ each_at (section_at bytes.now) offset 40 count) }
+    ensures { IfOk result (λ found. option_map (λ v. map section_view v.items) found
+        ≡ each_at (section_at bytes.now) offset 40 count) }
 {
     let mut sections = Vec::new(alloc);
     let mut place = offset;
@@ -225,8 +231,8 @@ fn symbol_of<'a>(strings: &'a [u8], record_bytes: &'a [u8]) -> Option<Symbol<'a>
     })
 }
 
-/// The entry at an offset, given how many of the records from there on are auxiliary ones; and how many of those
-/// after it are.
+/// The entry at an offset, given how many of the records from there on are auxiliary ones; and how
+/// many of those after it are.
 #[tactic(auto, unfolding(crate::specs::Objects::entry_at))]
 fn entry_at<'a>(
     bytes: &'a [u8],
@@ -234,7 +240,8 @@ fn entry_at<'a>(
     offset: usize,
     auxiliary: u8,
 ) -> Option<(Entry<'a>, u8)>
-    ensures found { option_map (λ found. (entry_view found.0, found.1)) result ≡ entry_at bytes.now strings.now offset auxiliary }
+    ensures found { option_map (λ found. (entry_view found.0, found.1)) result
+        ≡ entry_at bytes.now strings.now offset auxiliary }
     ensures within { IsSome result → offset + 18 ≤ length bytes.now }
 {
     let Some(record_bytes) = bytes_at(bytes, offset, 18) else {
@@ -283,7 +290,9 @@ fn entries_at<'a>(
     count: u32,
 ) -> Result<Option<Vec<Entry<'a>>>, AllocError>
     requires { offset < 2 ^ 32 }
-    ensures { IfOk result (λ found. option_map (λ v. map entry_view v.items) found ≡ option_and_then (within_room (length bytes.now)) (entries_at bytes.now strings.now offset 0 count)) }
+    ensures { IfOk result (λ found. option_map (λ v. map entry_view v.items) found
+        ≡ option_and_then (within_room (length bytes.now))
+        (entries_at bytes.now strings.now offset 0 count)) }
 {
     let mut entries = Vec::new(alloc);
     let mut room = bytes.len().saturating_mul(16);
@@ -317,7 +326,8 @@ fn entries_found(
     offset: u32,
     records: u32,
 ) -> Result<Option<Vec<Entry<'_>>>, AllocError>
-    ensures { IfOk result (λ found. option_map (λ v. map entry_view v.items) found ≡ entries_found bytes.now offset records) }
+    ensures { IfOk result (λ found. option_map (λ v. map entry_view v.items) found
+        ≡ entries_found bytes.now offset records) }
 {
     if records == 0 {
         return Ok(Some(Vec::new(alloc)));
@@ -336,7 +346,8 @@ fn object_of_found<'a>(
     header: &'a [u8],
 ) -> Result<Option<Object<'a>>, AllocError>
     requires { length header.now ≡ 20 }
-    ensures { IfOk result (λ found. option_map object_view found ≡ object_of_found bytes.now header.now) }
+    ensures { IfOk result (λ found. option_map object_view found
+        ≡ object_of_found bytes.now header.now) }
 {
     let sections = sections_at(
         alloc,

@@ -3,7 +3,8 @@
 ghost use Rattle.std.specs.Prelude.{◌≡◌};
 ghost use Rattle.std.specs.Option.{option_map};
 ghost use Rattle.implib.specs.Formats.ShortImport.{is_short_import};
-ghost use Rattle.implib_read.specs.ShortImports.{short_import_found, short_import_view, exported_in};
+ghost use Rattle.implib_read.specs.ShortImports.{short_import_found, short_import_view};
+ghost use Rattle.implib_read.specs.ShortImports.{exported_in};
 
 use crate::fields::{text_in, u16_at, u32_at};
 

@@ -5,7 +5,8 @@ ghost use Rattle.std.specs.Option.{option_map};
 ghost use Rattle.implib_read.specs.Classes.{imported_by_short_import, kind_of_type};
 ghost use Rattle.implib_read.specs.ClassViews.{imported_view};
 ghost use Rattle.implib_read.specs.ImportViews.{ask_view, declared_view};
-ghost use Rattle.implib_read.specs.ShortImports.{ask_of_found, declared_by_short_import, short_import_view};
+ghost use Rattle.implib_read.specs.ShortImports.{ask_of_found, declared_by_short_import};
+ghost use Rattle.implib_read.specs.ShortImports.{short_import_view};
 
 use crate::arm64ec::{ARM64EC, arm64ec_symbols};
 use crate::import::{AskFound, DeclaredFound, ImportFound, ImportKind};
@@ -65,7 +66,8 @@ pub(crate) fn imported_by_short_import<'a>(
     alloc: Global,
     import: &ShortImport<'a>,
 ) -> Result<Option<ImportFound<'a>>, AllocError>
-    ensures { IfOk result (λ found. option_map imported_view found ≡ imported_by_short_import (short_import_view import.now)) }
+    ensures { IfOk result (λ found. option_map imported_view found
+        ≡ imported_by_short_import (short_import_view import.now)) }
 {
     let Some(ask) = ask_of_found(import) else {
         return Ok(None);

@@ -67,7 +67,8 @@ fn first_held(symbols: &[Vec<u8>]) -> Option<&[u8]>
     None
 }
 
-/// The symbol of an address without its prefix; where none is one, the first of some symbols that are held.
+/// The symbol of an address without its prefix; where none is one, the first of some symbols that
+/// are held.
 fn linked_held(symbols: &[Vec<u8>]) -> &[u8]
     ensures { result.now ≡ linked_symbol (map (λ symbol. symbol.items) symbols.now) }
 {
@@ -80,8 +81,8 @@ fn linked_held(symbols: &[Vec<u8>]) -> &[u8]
     }
 }
 
-/// The symbol by which an import is linked: the first with `__imp_`, which is that of its address, without that; where
-/// none has it, the first.
+/// The symbol by which an import is linked: the first with `__imp_`, which is that of its address,
+/// without that; where none has it, the first.
 #[tactic(auto, using(crate::proofs::Symbols::find_both, crate::proofs::Symbols::named))]
 pub fn linked_symbol<'d, 'a: 'd>(declared: &'d DeclaredFound<'a>) -> &'d [u8]
     ensures { result.now ≡ linked_symbol (declared_view declared.now) }

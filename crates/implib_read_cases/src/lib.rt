@@ -1,13 +1,16 @@
-//! Libraries of further makers as worked instances of the reader [`implib_read`]: of Microsoft's linker, winebuild,
-//! rustc and, for ARM64EC, llvm-dlltool; the reader's rules at their bounds; and that it reads the short imports of
-//! `implib_arm64ec`. The functions do nothing: their contracts are the instances and the law.
+//! Libraries of further makers as worked instances of the reader [`implib_read`]: of Microsoft's
+//! linker, winebuild, rustc and, for ARM64EC, llvm-dlltool; the reader's rules at their bounds; and
+//! that it reads the short imports of `implib_arm64ec`. The functions do nothing: their contracts
+//! are the instances and the law.
 #![tactic(auto)]
 
 ghost use Rattle.implib_read_cases.specs.Arm64ecImports.{ImportsAreRead, ShortImportsAreRead};
 ghost use Rattle.implib_read_cases.specs.Arm64ecLibraries.{WorkedArm64ec, WorkedNative};
 ghost use Rattle.implib_read_cases.specs.Bounds.{WorkedBounds};
-ghost use Rattle.implib_read_cases.specs.DelayedLibraries.{WorkedDlltool64, WorkedDlltool32, WorkedLater, WorkedOwn64, WorkedOwn32};
-ghost use Rattle.implib_read_cases.specs.MoreLibraries.{WorkedDelayed, WorkedMicrosoft, WorkedRustc, WorkedWinebuild};
+ghost use Rattle.implib_read_cases.specs.DelayedLibraries.{WorkedDlltool64, WorkedDlltool32};
+ghost use Rattle.implib_read_cases.specs.DelayedLibraries.{WorkedLater, WorkedOwn64, WorkedOwn32};
+ghost use Rattle.implib_read_cases.specs.MoreLibraries.{WorkedDelayed, WorkedMicrosoft};
+ghost use Rattle.implib_read_cases.specs.MoreLibraries.{WorkedRustc, WorkedWinebuild};
 
 /// What a library of Microsoft's linker means, worked by hand.
 pub fn worked_microsoft()
@@ -74,7 +77,8 @@ pub fn short_imports_are_read()
     ensures { ShortImportsAreRead }
 {}
 
-/// The short imports for ARM64EC of a library's exports are read as the imports that the exports mean, in order.
+/// The short imports for ARM64EC of a library's exports are read as the imports that the exports
+/// mean, in order.
 pub fn imports_are_read()
     ensures { ImportsAreRead }
 {}

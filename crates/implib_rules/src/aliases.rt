@@ -3,7 +3,8 @@
 ghost use Rattle.implib.specs.Definition.{export_view};
 ghost use Rattle.implib.specs.declared.flavor.Flavor.TheVariants.{Msvc};
 ghost use Rattle.implib_rules.specs.Firsts.{AreFirstAsking, AreFirstDeclared};
-ghost use Rattle.implib_rules.specs.Linked.{adds_target, alias_symbol, has_target, is_among, is_taken};
+ghost use Rattle.implib_rules.specs.Linked.{adds_target, alias_symbol, has_target, is_among};
+ghost use Rattle.implib_rules.specs.Linked.{is_taken};
 ghost use Rattle.implib_rules.specs.Linked.{linked_exports, naming_view, new_target};
 ghost use Rattle.implib_rules.specs.Linked.{symbol_asking, target_import, target_symbol};
 ghost use Rattle.implib_rules.specs.Linked.{targets_added, with_symbol, with_target};
@@ -212,8 +213,8 @@ fn has_targets(exports: &[ShortExport]) -> bool
     false
 }
 
-// How the exports of a definition are linked: the symbols that they are weak for, one by one, or none
-// where no export is an alias; and the imports that aliases add.
+// How the exports of a definition are linked: the symbols that they are weak for, one by one, or
+// none where no export is an alias; and the imports that aliases add.
 #[derive(Drop)]
 struct Links {
     symbols: Vec<Option<String>>,

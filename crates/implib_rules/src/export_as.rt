@@ -1,5 +1,5 @@
-//! Imports whose short import has the name that the DLL is asked for as a third text, of name type 4
-//! (PE/COFF specification, "Import Library Format"; docs/FORMATS.md, "Short imports").
+//! Imports whose short import has the name that the DLL is asked for as a third text, of name type
+//! 4 (PE/COFF specification, "Import Library Format"; docs/FORMATS.md, "Short imports").
 
 ghost use Rattle.implib.specs.Definition.{definition_view, export_view};
 ghost use Rattle.implib.specs.Fault.{IfInvalid, MemberTooLong};
@@ -20,7 +20,8 @@ ghost use Rattle.implib_rules.specs.ExportAs.{placed_one, symbol_made, weak_exte
 ghost use Rattle.implib_rules.specs.ExportAsViews.{later_view};
 ghost use Rattle.std.specs.List.{flat_map, list_any};
 ghost use Rattle.std.specs.Option.{option_to_list};
-ghost use Rattle.std.specs.Prelude.{◌≡◌, ◌+◌, ◌*◌, ◌<◌, ◌++◌, ℕ, ◌≤◌, IfNone, IfOk, IfSome, List, OnOk};
+ghost use Rattle.std.specs.Prelude.{◌≡◌, ◌+◌, ◌*◌, ◌<◌, ◌++◌, ℕ, ◌≤◌, IfNone, IfOk, IfSome, List};
+ghost use Rattle.std.specs.Prelude.{OnOk};
 ghost use Rattle.std.specs.Prelude.{drop, false, length, map, option_map, take, true};
 ghost use Rattle.std.specs.String.{string_bytes};
 ghost use Rattle.std.specs.Vec.Iter.{into_iter_items};
@@ -48,7 +49,8 @@ fn symbol_made(export: &ShortExport) -> &str
 /// The name that an export, as it is linked, has as the third text of its short import, if it has
 /// one: no other name type makes it of the symbol.
 pub(crate) fn exported_name(machine: MachineType, export: &ShortExport) -> Option<&str>
-    ensures { option_map (λ name. name.now) result ≡ exported_name machine (export_view export.now) }
+    ensures { option_map (λ name. name.now) result ≡ exported_name machine
+        (export_view export.now) }
 {
     if export.private || export.no_name || !export.alias_target.is_empty() {
         return None;
@@ -147,7 +149,8 @@ fn export_as_member(
     })
 }
 
-/// What an export has after all imports: one weak external, or two, or a short import in their place.
+/// What an export has after all imports: one weak external, or two, or a short import in their
+/// place.
 #[derive(Drop)]
 pub(crate) struct Later {
     // There is a weak external of the symbol beside that of its address.
@@ -248,7 +251,8 @@ fn pass_next(from: &mut IntoIter<Member>)
     let _passed = from.next();
 }
 
-// Adds what an export has to the members: the next weak externals, or a short import in their place.
+// Adds what an export has to the members: the next weak externals, or a short import in their
+// place.
 fn place_one(
     later: Later,
     aliases: &mut IntoIter<Member>,

@@ -36,8 +36,8 @@ impl From<AllocError> for ExportsRefusal {
 }
 
 /// The definition of exports for a DLL of the name that is given: of the exports of one word the
-/// first alone, each as it is linked on the machine, and with the name of its library for the linker.
-/// So a text's definition is made, too.
+/// first alone, each as it is linked on the machine, and with the name of its library for the
+/// linker. So a text's definition is made, too.
 ///
 /// An export's words are as a text has them: without an underscore in front for I386.
 ///

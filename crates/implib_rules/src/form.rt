@@ -1,11 +1,12 @@
-//! What is refused of a definition that its grammar takes: a quoted name that its line does not close,
-//! and in the line of an export an ordinal that is none, or a second one.
+//! What is refused of a definition that its grammar takes: a quoted name that its line does not
+//! close, and in the line of an export an ordinal that is none, or a second one.
 
 ghost use Rattle.implib.specs.Text.Token.{token_view};
 ghost use Rattle.implib.specs.Fault.{cause_of};
 ghost use Rattle.implib_rules.specs.Forms.{begins_statement, cause_of_problem, is_between};
 ghost use Rattle.implib_rules.specs.Forms.{is_in_quotes, is_open, is_ordinal, is_quote_closed};
-ghost use Rattle.implib_rules.specs.Forms.{is_same_line, is_sign, open_quote, point_after, problem_at};
+ghost use Rattle.implib_rules.specs.Forms.{is_same_line, is_sign, open_quote, point_after};
+ghost use Rattle.implib_rules.specs.Forms.{problem_at};
 ghost use Rattle.implib_rules.specs.Forms.{unformed};
 ghost use Rattle.implib_rules.specs.Plain.{after_all};
 ghost use Rattle.implib_rules.specs.Heard.{formed_view, misplaced_view};

@@ -66,7 +66,8 @@ pub fn gnu_libraries_are_apart()
     ensures { GnuLibrariesAreApart }
 {}
 
-/// The library of a text is that of its exports, where these have one: for a DLL whose name is given.
+/// The library of a text is that of its exports, where these have one: for a DLL whose name is
+/// given.
 pub fn libraries_are_of_exports()
     ensures { LibrariesAreOfExports }
 {}

@@ -22,7 +22,8 @@ ghost use Rattle.implib_rules.specs.Older.{MembersAsked, has_older, refusal_with
 ghost use Rattle.implib_rules.specs.Order.{AreInOrder};
 ghost use Rattle.implib_rules.specs.Forms.{open_quote};
 ghost use Rattle.implib_rules.specs.Options.{LibraryOptionsView, library_options_view};
-ghost use Rattle.std.specs.Prelude.{◌≡◌, ◌⊎◌, IfErr, IfOk, MatchOption, None, OnOk, Some, false, true};
+ghost use Rattle.std.specs.Prelude.{◌≡◌, ◌⊎◌, IfErr, IfOk, MatchOption, None, OnOk, Some, false};
+ghost use Rattle.std.specs.Prelude.{true};
 
 use crate::additions::extend_exports;
 use crate::aliases::link_with_targets;
@@ -144,10 +145,10 @@ impl From<io::Error> for LibraryError {
     }
 }
 
-/// A definition by the rules of `dlltool`, under the name of the DLL that is given, or else its own:
-/// with what the options add to its exports, of the exports of one word the first alone, each as it
-/// is linked on the machine, and with the name of its library for the linker. There is none where
-/// neither name is one.
+/// A definition by the rules of `dlltool`, under the name of the DLL that is given, or else its
+/// own: with what the options add to its exports, of the exports of one word the first alone, each
+/// as it is linked on the machine, and with the name of its library for the linker. There is none
+/// where neither name is one.
 ///
 /// # Errors
 ///
@@ -262,8 +263,8 @@ fn msvc_members_in_order(def: ModuleDef, machine: MachineType) -> Result<Library
     Ok(LibraryMembers::new(header, MadeLater::Imports(imports), aliases)?)
 }
 
-// The members for Microsoft's linker where an export may have a short import with a third text, which
-// stands where the weak externals of an alias would.
+// The members for Microsoft's linker where an export may have a short import with a third text,
+// which stands where the weak externals of an alias would.
 fn msvc_members_exported_as(
     mut def: ModuleDef,
     machine: MachineType,
@@ -373,14 +374,15 @@ pub fn members_for(
 ) -> Result<LibraryMembers, Refusal>
     ensures made { IfOk result (λ members. MembersFor bytes.now (library_options_view options.now)
         members) }
-    ensures refused { IfErr result (IsRefusalOfMembers bytes.now (library_options_view options.now)) }
+    ensures refused { IfErr result
+        (IsRefusalOfMembers bytes.now (library_options_view options.now)) }
 {
     members_asked(alloc, bytes, options, false)
 }
 
 /// The members of the library that is asked for, with the older symbols of addresses where they are
-/// asked for and the flavour is GNU's: `___imp` and the symbol beside `__imp_` and it. They are then
-/// all held.
+/// asked for and the flavour is GNU's: `___imp` and the symbol beside `__imp_` and it. They are
+/// then all held.
 ///
 /// # Errors
 ///
@@ -445,8 +447,8 @@ fn count_members(
     }
 }
 
-/// The number of members of the library that is asked for, as its warnings count them: 0 where it has
-/// none, and for GNU's linker, where no warning needs it.
+/// The number of members of the library that is asked for, as its warnings count them: 0 where it
+/// has none, and for GNU's linker, where no warning needs it.
 ///
 /// # Errors
 ///
@@ -495,8 +497,8 @@ pub fn archive_for<'a>(
     Ok(Archive::new(alloc, members, kind)?)
 }
 
-/// Writes the import library that is asked for. It is never held, nor are the members of its imports:
-/// they are made one by one.
+/// Writes the import library that is asked for. It is never held, nor are the members of its
+/// imports: they are made one by one.
 ///
 /// It calls `write` a few times for each member, so a writer to a file wants a `BufWriter` before
 /// it. It does not flush.

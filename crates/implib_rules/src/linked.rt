@@ -1,8 +1,10 @@
 //! By which symbols exports are linked, and what they ask the DLL for: the rules of `dlltool`.
 
 ghost use Rattle.implib.specs.Definition.{export_view};
-ghost use Rattle.implib_rules.specs.Linked.{asked_of, asks_apart, has_two_at_signs, is_at_sign, keeps_word};
-ghost use Rattle.implib_rules.specs.Linked.{is_apart, is_named_import, killed, linked_alias, linked_import, linked_to, makes};
+ghost use Rattle.implib_rules.specs.Linked.{asked_of, asks_apart, has_two_at_signs, is_at_sign};
+ghost use Rattle.implib_rules.specs.Linked.{keeps_word};
+ghost use Rattle.implib_rules.specs.Linked.{is_apart, is_named_import, killed, linked_alias};
+ghost use Rattle.implib_rules.specs.Linked.{linked_import, linked_to, makes};
 ghost use Rattle.implib_rules.specs.Linked.{name_given, naming_view, symbol_linked, symbol_of};
 ghost use Rattle.implib_rules.specs.Linked.{word_asked, word_of};
 ghost use Rattle.implib_rules.specs.Views.{first_symbol, is_linked, linked_by};
@@ -51,7 +53,8 @@ pub(crate) fn has_at_sign(word: &[u8]) -> bool
     word.contains(&b'@')
 }
 
-/// Whether a word is a symbol of I386 as it is: of fastcall, C++ or vectorcall, and for LIB of stdcall.
+/// Whether a word is a symbol of I386 as it is: of fastcall, C++ or vectorcall, and for LIB of
+/// stdcall.
 pub fn keeps_word(naming: Naming, word: &[u8]) -> bool
     ensures { result ≡ keeps_word (naming_view naming) word.now }
 {
@@ -166,8 +169,8 @@ pub(crate) fn makes(machine: MachineType, symbol: &[u8], name: &[u8]) -> bool
     machine.has_leading_underscore() && (plain == name || before_at_sign(plain) == name)
 }
 
-// Whether an export of this symbol cannot be an import by name for Microsoft's linker: it has a word
-// after `==` that no short import of the symbol can ask for.
+// Whether an export of this symbol cannot be an import by name for Microsoft's linker: it has a
+// word after `==` that no short import of the symbol can ask for.
 fn asks_apart(machine: MachineType, symbol: &str, export: &ShortExport) -> bool
     ensures { result ≡ asks_apart machine symbol.now (export_view export.now) }
 {
@@ -232,8 +235,8 @@ fn name_given(
     Ok(Some(String::from_str(alloc, asked)?))
 }
 
-// Whether an export that gives no asked name is linked as it is: its word is its symbol, and what it
-// asks for.
+// Whether an export that gives no asked name is linked as it is: its word is its symbol, and what
+// it asks for.
 fn is_linked(machine: MachineType, export: &ShortExport) -> bool
     ensures { result ≡ is_linked machine (export_view export.now) }
 {
@@ -287,8 +290,8 @@ fn link_alias(
     Ok(())
 }
 
-// Gives an export its symbol, and what it asks the DLL for, or is weak for: the next of the symbols,
-// if there is one and it is given.
+// Gives an export its symbol, and what it asks the DLL for, or is weak for: the next of the
+// symbols, if there is one and it is given.
 fn link_export(
     alloc: Global,
     machine: MachineType,

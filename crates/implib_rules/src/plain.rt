@@ -1,5 +1,5 @@
-//! The text of a definition in the grammar of `implib`: what other tools take in a definition, and that
-//! grammar lacks, in its words, byte for byte in place.
+//! The text of a definition in the grammar of `implib`: what other tools take in a definition, and
+//! that grammar lacks, in its words, byte for byte in place.
 
 ghost use Rattle.implib.specs.Ascii.{begins};
 ghost use Rattle.implib_rules.specs.Plain.{after_all, after_digit, after_number, after_sign};
@@ -20,7 +20,8 @@ ghost use Rattle.implib_rules.specs.Plain.{is_in_apostrophes, is_program_type, i
 ghost use Rattle.implib_rules.specs.Plain.{step_in_word, with_digit, word_step};
 ghost use Rattle.std.specs.Char.{is_ascii_digit};
 ghost use Rattle.std.specs.List.{fold};
-ghost use Rattle.std.specs.Prelude.{◌≡◌, ◌<◌, ◌≤◌, IfOk, IfSome, Some, length, slice_index, take_while, true};
+ghost use Rattle.std.specs.Prelude.{◌≡◌, ◌<◌, ◌≤◌, IfOk, IfSome, Some, length, slice_index};
+ghost use Rattle.std.specs.Prelude.{take_while, true};
 
 use implib::def::lexer::is_delimiter;
 use std::alloc::{AllocError, Global};
@@ -237,7 +238,8 @@ fn is_quoted_after(word: &[u8], text: &[u8]) -> bool
     begins_word(word, text) && is_quoted_next(&text[word.len()..])
 }
 
-// Whether a statement of one line is in front of a text that is of no account for an import library.
+// Whether a statement of one line is in front of a text that is of no account for an import
+// library.
 fn is_statement(text: &[u8]) -> bool
     ensures { result ≡ is_statement text.now }
 {

@@ -37,8 +37,8 @@ fn words_rise(exports: &[ShortExport]) -> bool
     true
 }
 
-// Whether an export repeats a word that is declared; if it does not, and is not private, it declares
-// its word.
+// Whether an export repeats a word that is declared; if it does not, and is not private, it
+// declares its word.
 fn repeats<'a>(declared: &mut HashSet<&'a str>, export: &'a ShortExport) -> Result<bool, AllocError>
     ensures repeats { IfOk result (λ is. is ≡ (not export.now.private
         && has_word declared.old (word_of (export_view export.now)))) }
@@ -67,7 +67,8 @@ fn repeats_in(alloc: Global, exports: &[ShortExport]) -> Result<Vec<bool>, Alloc
 
 // Makes an export private, if the next flag is set.
 fn leave_out_by(export: &mut ShortExport, left: &mut Iter<'_, bool>)
-    ensures export { export_view export.new ≡ left_out_by left.old.rest.now (export_view export.old) }
+    ensures export { export_view export.new ≡ left_out_by left.old.rest.now
+        (export_view export.old) }
     ensures left { left.new.rest.now ≡ drop 1 left.old.rest.now }
 {
     if let Some(flag) = left.next() {
@@ -86,7 +87,8 @@ fn leave_out(exports: &mut Vec<ShortExport>, flags: &[bool])
     }
 }
 
-/// Makes the exports private whose word one before them declares, so that the first of a word stays.
+/// Makes the exports private whose word one before them declares, so that the first of a word
+/// stays.
 ///
 /// # Errors
 ///

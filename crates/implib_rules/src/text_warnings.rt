@@ -3,7 +3,8 @@
 ghost use Rattle.implib.specs.Definition.{export_view};
 ghost use Rattle.implib_rules.specs.Plain.{beginning};
 ghost use Rattle.implib_rules.specs.TextWarnings.{follows_exports, has_something, none_warnings};
-ghost use Rattle.implib_rules.specs.TextWarnings.{after_name, alone_notice, attribute_in, comment_in};
+ghost use Rattle.implib_rules.specs.TextWarnings.{after_name, alone_notice, attribute_in};
+ghost use Rattle.implib_rules.specs.TextWarnings.{comment_in};
 ghost use Rattle.implib_rules.specs.TextWarnings.{comment_notice, late_notice, word_notice};
 ghost use Rattle.implib_rules.specs.TextWarnings.{ended_notice, is_export_as_after};
 ghost use Rattle.implib_rules.specs.TextWarnings.{keyword_of, notice_by, notice_in};
@@ -234,8 +235,8 @@ fn position_after(position: Position, byte: u8) -> Position
     }
 }
 
-/// The warnings of the form of a definition of these bytes, in their order: of each statement that is
-/// skipped, of a keyword of one that is a name, and of a NUL that ends the text before its end.
+/// The warnings of the form of a definition of these bytes, in their order: of each statement that
+/// is skipped, of a keyword of one that is a name, and of a NUL that ends the text before its end.
 ///
 /// # Errors
 ///

@@ -229,7 +229,8 @@ pub(crate) fn push_notice<'a>(
     position: Position,
 ) -> Result<(), AllocError>
     ensures { OnOk result (map warning_view warnings.new.items
-        ≡ map warning_view warnings.old.items ++ warned (option_map notice_view notice.entry) position) }
+        ≡ map warning_view warnings.old.items ++ warned (option_map notice_view notice.entry)
+        position) }
 {
     if let Some(notice) = notice {
         warnings.push(Warning { notice, position })?;
@@ -368,8 +369,8 @@ fn index_after(site: Site, index: usize) -> usize
     }
 }
 
-/// The warnings of a definition of these exports and places and this number of members, in the order
-/// of their places; those about the whole text come first.
+/// The warnings of a definition of these exports and places and this number of members, in the
+/// order of their places; those about the whole text come first.
 ///
 /// # Errors
 ///
@@ -382,7 +383,8 @@ pub fn warnings_of<'a>(
     count: usize,
 ) -> Result<Vec<Warning<'a>>, AllocError>
     ensures { IfOk result (λ warnings. map warning_view warnings.items
-        ≡ warnings_of (library_options_view options.now) (map export_view exports.now) places.now count) }
+        ≡ warnings_of (library_options_view options.now) (map export_view exports.now) places.now
+        count) }
 {
     let words = first_words(alloc, exports)?;
     let declared = first_declared(alloc, exports)?;

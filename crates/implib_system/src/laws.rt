@@ -1,7 +1,8 @@
 //! Laws of programs and the DLLs that are in memory with them. The functions do nothing: their
 //! contracts are the laws.
 
-ghost use Rattle.implib_system.specs.Laws.{BytesAreNumbers, CallsReachExports, EntriesHoldExports, FieldsLeadToExports};
+ghost use Rattle.implib_system.specs.Laws.{BytesAreNumbers, CallsReachExports, EntriesHoldExports};
+ghost use Rattle.implib_system.specs.Laws.{FieldsLeadToExports};
 ghost use Rattle.implib_system.specs.Laws.{FollowedImportsAreReached, ForwardersAreFollowed};
 ghost use Rattle.implib_system.specs.Laws.{FoundImportsAreReached, OneAddress};
 ghost use Rattle.implib_system.specs.Worked.{WorkedReach, WorkedSystem};
@@ -34,21 +35,22 @@ pub fn fields_lead_to_exports()
     fields_lead_to_any_tables();
 }
 
-/// A direct call of a function, through the stub of its import, arrives at the address of the export.
+/// A direct call of a function, through the stub of its import, arrives at the address of the
+/// export.
 pub fn calls_reach_exports()
     ensures { CallsReachExports }
 {
     stubs_of_any_tables_jump();
 }
 
-/// A forwarder that leads to an address by what is known of DLLs (`implib_dll_check`) leads to one in
-/// memory, where these DLLs are, each under its name.
+/// A forwarder that leads to an address by what is known of DLLs (`implib_dll_check`) leads to one
+/// in memory, where these DLLs are, each under its name.
 pub fn forwarders_are_followed()
     ensures { ForwardersAreFollowed }
 {}
 
-/// An import that is not lost in a DLL, nor forwarded to nothing or to what is not known, reaches an
-/// address in memory.
+/// An import that is not lost in a DLL, nor forwarded to nothing or to what is not known, reaches
+/// an address in memory.
 pub fn followed_imports_are_reached()
     ensures { FollowedImportsAreReached }
 {}

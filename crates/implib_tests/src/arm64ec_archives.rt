@@ -6,8 +6,8 @@ use implib_arm64ec::{Archive, short_imports};
 use std::alloc::Global;
 use std::test::Fail;
 
-// The file of `-m arm64ec -d DEF -N NATIVE`, DEF with `f` and `d DATA`, NATIVE with `f`, `g` and `h DATA`, whose
-// DLL has a long name.
+// The file of `-m arm64ec -d DEF -N NATIVE`, DEF with `f` and `d DATA`, NATIVE with `f`, `g` and `h
+// DATA`, whose DLL has a long name.
 const LIBRARY: &[u8] =
     b"!<arch>\n/               0           0     0     0       154       `\n\0\0\0\x08\0\0\
     \x02\xe2\0\0\x04\xa2\0\0\x05^\0\0\x07\x10\0\0\x07\x10\0\0\x07t\0\0\x07t\0\0\x07\xd8_\

@@ -1,4 +1,5 @@
-//! Libraries of texts, held against those of llvm-dlltool 19 by their lengths and a sum of their bytes.
+//! Libraries of texts, held against those of llvm-dlltool 19 by their lengths and a sum of their
+//! bytes.
 
 use implib::{Flavor, MachineType};
 use implib_arm64ec::ImportsFault;
@@ -9,12 +10,13 @@ use implib_rules::linked::Naming;
 use implib_rules::options::LibraryOptions;
 use std::test::Fail;
 
-// Functions, one of C++, an import by ordinal, a name beside its symbol, data, a constant, and what is left out.
+// Functions, one of C++, an import by ordinal, a name beside its symbol, data, a constant, and what
+// is left out.
 const DEFINITION: &[u8] = b"LIBRARY t.dll\nEXPORTS\nfunc\n?cpp@@YAHPEAX@Z\nbyord @7 NONAME\n\
     alias == target\ndat DATA\ncon CONSTANT\nhidden PRIVATE\n";
 
-// Names of the DLL that have a symbol of their own and others beside it; marks that the text has already, and
-// names that are asked for with them.
+// Names of the DLL that have a symbol of their own and others beside it; marks that the text has
+// already, and names that are asked for with them.
 const NAMES: &[u8] = b"LIBRARY t.dll\nEXPORTS\np EXPORTAS v\nv\nq == v\nw @5 NONAME\nr == w\n\
     #con CONSTANT\n#dat DATA\n#f == #f\ng == g DATA\n#h\n";
 

@@ -1,5 +1,5 @@
-//! Tests of libraries by their public calls, and what was worked by hand of great counts. The libraries
-//! have no tests of their own, since a crate with tests is proved twice.
+//! Tests of libraries by their public calls, and what was worked by hand of great counts. The
+//! libraries have no tests of their own, since a crate with tests is proved twice.
 #![tactic(auto)]
 
 #[cfg(test)]

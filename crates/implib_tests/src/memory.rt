@@ -65,7 +65,14 @@ fn add_data(alloc: Global, writer: &mut ObjectWriter) -> Result<(), Error>
 fn add_name(alloc: Global, writer: &mut ObjectWriter) -> Result<(), Error>
     requires { writer.old.symbols ≡ [] }
     ensures ok { OnOk result (writer.new ≡ with_symbol writer.old
-        (record { name = codes "abcdefghi"; value = 0; place = Place.Undefined; class = 2; aux = None })) }
+        (record {
+          name = codes "abcdefghi";
+          value = 0;
+          place = Place.Undefined;
+          class = 2;
+          aux =
+              None;
+        })) }
     ensures err { OnErr result (writer.new ≡ writer.old) }
 {
     let name = Symbol::new(alloc, "abcdefghi", Place::Undefined, class::EXTERNAL)?;

@@ -1,5 +1,5 @@
-//! Eight callers of `implib`, each with what its own caller can conclude from its contract; and what
-//! links of a library by options.
+//! Eight callers of `implib`, each with what its own caller can conclude from its contract; and
+//! what links of a library by options.
 //!
 //! `docs/CALLING.md` quotes some, and the contracts that they stand on.
 #![tactic(auto)]

@@ -34,7 +34,8 @@ pub fn members_of_export(
     machine: MachineType,
 ) -> Result<Vec<Member>, Error>
     ensures made { IfOk result (λ members.
-        AreMembersOf (one_export dll.now name.now) machine Flavor.Msvc (map member_view members.items)) }
+        AreMembersOf (one_export dll.now name.now) machine Flavor.Msvc
+        (map member_view members.items)) }
 {
     let mut def = ModuleDef::empty(alloc);
     def.import_name.push_str(dll)?;

@@ -10,8 +10,8 @@ ghost use Rattle.implib_uses.specs.Options.{LinkAsOlderPart, LinkAsPart, LinkInP
 ghost use Rattle.std.specs.Prelude.{◌≡◌, Bool, ℕ, List, false};
 
 /// The members of a library for GNU's linker, whatever its options, are such as the laws of links
-/// speak of: with any exports chosen, what is linked of them is a part. Without third texts those for
-/// Microsoft's linker are among the members of a definition, of which programs are.
+/// speak of: with any exports chosen, what is linked of them is a part. Without third texts those
+/// for Microsoft's linker are among the members of a definition, of which programs are.
 pub fn members_by_options_link()
     ensures part { (bytes : List ℕ) (options : LibraryOptionsView) (members : List MemberView)
         (chosen : List ℕ) →

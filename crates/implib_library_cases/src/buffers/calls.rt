@@ -2,11 +2,11 @@
 //!
 //! `call NAME` tells the status and the place of a call: `members`, `library`, `library_with`,
 //! `delayed_library`, `library_of`, `definition`, `warnings`, `imports`, `exports`, `check_dll` or
-//! `check_library`. It is made with an empty buffer first. Where it then tells a length, it is made with
-//! shorter buffers, which have to stay as they were, and with one of this length and longer ones, which
-//! have to begin with the same bytes, and to stay as they were behind these. Else it is made with a
-//! buffer of 4,096 bytes, which has to stay as it was. `once NAME` makes it with the buffer of just this length
-//! alone, after the empty one.
+//! `check_library`. It is made with an empty buffer first. Where it then tells a length, it is made
+//! with shorter buffers, which have to stay as they were, and with one of this length and longer
+//! ones, which have to begin with the same bytes, and to stay as they were behind these. Else it is
+//! made with a buffer of 4,096 bytes, which has to stay as it was. `once NAME` makes it with the
+//! buffer of just this length alone, after the empty one.
 
 use super::given::Given;
 use implib_c_calls::check::check_into;

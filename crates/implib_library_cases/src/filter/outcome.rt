@@ -13,8 +13,8 @@ pub struct Outcome {
     pub late_calls: usize,
 }
 
-/// Appends the status of a run, whether nothing is written, the line of the fault, and whether a device
-/// that had failed is called again.
+/// Appends the status of a run, whether nothing is written, the line of the fault, and whether a
+/// device that had failed is called again.
 pub fn push_outcome(alloc: Global, text: &mut String, outcome: &Outcome) -> Result<(), AllocError> {
     write!(text, "status {}", outcome.status)?;
     if outcome.written.is_empty() {

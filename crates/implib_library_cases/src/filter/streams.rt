@@ -48,7 +48,8 @@ impl io::Write for SingleWriter {
     }
 }
 
-/// A reader and a writer that answers its first call so, `None` for a fault, and later ones with all.
+/// A reader and a writer that answers its first call so, `None` for a fault, and later ones with
+/// all.
 #[derive(Drop)]
 struct First(Option<usize>);
 

@@ -1,9 +1,9 @@
 //! Objects that call what they import, in a loaded image.
 //!
-//! `calls` runs the calls of each object, and follows its addresses. The object's template says what
-//! it has: `call 1 7`, a call at the offset 1 that returns to the offset 7; `entry 16`, the address of
-//! an entry; `code 16`, the address of a stub; `relative 0`, the same of an entry, counted from the
-//! image's base.
+//! `calls` runs the calls of each object, and follows its addresses. The object's template says
+//! what it has: `call 1 7`, a call at the offset 1 that returns to the offset 7; `entry 16`, the
+//! address of an entry; `code 16`, the address of a stub; `relative 0`, the same of an entry,
+//! counted from the image's base.
 
 use super::linking::State;
 use super::loading::giver;

@@ -198,8 +198,8 @@ fn taken_for(alloc: Global, files: &Files, names: &str) -> Result<Vec<usize>, Fa
     archive.taken(alloc, wanted.as_slice())
 }
 
-/// Whether a linker for a machine takes a short import: `expand foo.dll:3 ARM64`, or with other bytes
-/// for its types, as `expand foo.dll:3 ARM64 0700`.
+/// Whether a linker for a machine takes a short import: `expand foo.dll:3 ARM64`, or with other
+/// bytes for its types, as `expand foo.dll:3 ARM64 0700`.
 pub fn answer_expand(
     alloc: Global,
     text: &mut String,

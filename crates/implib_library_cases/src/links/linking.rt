@@ -3,9 +3,9 @@
 //! `link` links the files that it names, in this order, at the `bases` of the case: those of
 //! `.idata$2`, `$4`, `$5`, `$6`, `$7` and `.text`. `bare` leaves out the null descriptor. Of the
 //! image ask `loaded`, what a loader finds; `image`, all bytes; `directory`, how many DLLs a strict
-//! loader finds; `entries`, the symbols of the address tables; `address SYMBOL`; `jump SYMBOL`, from
-//! where the stub reads where it jumps; `fields`, the base relocations. `write` puts bytes at an
-//! address.
+//! loader finds; `entries`, the symbols of the address tables; `address SYMBOL`; `jump SYMBOL`,
+//! from where the stub reads where it jumps; `fields`, the base relocations. `write` puts bytes at
+//! an address.
 
 use super::files::{Files, index_of};
 use implib_cases::{Case, Line, bytes_in, number_in, numbers_in};

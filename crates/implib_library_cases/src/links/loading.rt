@@ -1,9 +1,9 @@
 //! A linked image in memory.
 //!
 //! `load BASE` loads it at a base, and tells what the DLLs are asked for; `unmoved BASE` does so
-//! without base relocations. Then `given` tells what each entry holds; `changes` and, for entries of
-//! these symbols alone, `changes SYMBOL ..` whether other bytes than entries changed; `bound` whether
-//! a loader that reads all before it writes leaves the same. `run ADDRESS` runs code there;
+//! without base relocations. Then `given` tells what each entry holds; `changes` and, for entries
+//! of these symbols alone, `changes SYMBOL ..` whether other bytes than entries changed; `bound`
+//! whether a loader that reads all before it writes leaves the same. `run ADDRESS` runs code there;
 //! `pointer ADDRESS` follows the address there; `bytes ADDRESS COUNT` tells the bytes there, and
 //! `overwrite` puts others in their place. Addresses count from the image's base.
 

@@ -1,9 +1,10 @@
 //! Objects beside the members, made by the writer of objects.
 //!
-//! `template NAME` begins what objects have in common: `section NAME FLAGS BYTES`; `place`, where an
-//! object's one symbol is: `undefined`, `absolute`, or in the `section`; and no `field` or three, for
-//! an undefined symbol and in a section of 24 bytes: the offset and the type of a relocation.
-//! `object NAME TEMPLATE SYMBOL` is an object with such a section and a symbol of this name.
+//! `template NAME` begins what objects have in common: `section NAME FLAGS BYTES`; `place`, where
+//! an object's one symbol is: `undefined`, `absolute`, or in the `section`; and no `field` or
+//! three, for an undefined symbol and in a section of 24 bytes: the offset and the type of a
+//! relocation. `object NAME TEMPLATE SYMBOL` is an object with such a section and a symbol of this
+//! name.
 
 ghost use Rattle.implib.specs.Formats.Layout.{HasNoNul};
 ghost use Rattle.std.specs.Prelude.{◌≡◌, ◌<◌, length};

@@ -78,8 +78,8 @@ fn show_lists(
     Ok(())
 }
 
-/// The members for GNU's linker whose objects are made when they are wanted; and whether one of them is
-/// not the member that is made at once.
+/// The members for GNU's linker whose objects are made when they are wanted; and whether one of
+/// them is not the member that is made at once.
 fn show_kept(
     alloc: Global,
     text: &mut String,

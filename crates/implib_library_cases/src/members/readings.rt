@@ -47,7 +47,8 @@ fn push_symbol(text: &mut String, symbol: &str) -> Result<(), AllocError> {
     push_escaped(text, symbol)
 }
 
-/// Appends what is wrong with a member: another machine, or a listed symbol that it does not declare.
+/// Appends what is wrong with a member: another machine, or a listed symbol that it does not
+/// declare.
 fn show_flaws(
     text: &mut String,
     member: &Member,

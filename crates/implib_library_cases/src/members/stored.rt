@@ -1,5 +1,5 @@
-//! Members held against stored bytes. A line `stored` begins those of the next member, and lines `=`
-//! have them.
+//! Members held against stored bytes. A line `stored` begins those of the next member, and lines
+//! `=` have them.
 
 use super::readings::show_listed;
 use implib::Member;

@@ -4,8 +4,8 @@ use implib::def::lexer::TokenKind;
 use implib::{Error, Fault, ParseError};
 use std::alloc::{AllocError, Global};
 
-/// Appends a line for each fault of a library: what it says, and the export that it tells. Then what is
-/// said of memory, and a line for each fault of an archive.
+/// Appends a line for each fault of a library: what it says, and the export that it tells. Then
+/// what is said of memory, and a line for each fault of an archive.
 pub fn show_faults(alloc: Global, text: &mut String) -> Result<(), AllocError> {
     let found = String::from_str(alloc, "foo")?;
     show_fault(alloc, text, Fault::UnknownDirective(found))?;

@@ -8,7 +8,8 @@ use std::alloc::{AllocError, Global};
 use std::fmt::Write as _;
 use std::test::Fail;
 
-/// Appends what a text means, or the fault; of the parser by itself, or of a copy, where that is other.
+/// Appends what a text means, or the fault; of the parser by itself, or of a copy, where that is
+/// other.
 pub fn show_meaning(
     alloc: Global,
     text: &mut String,
@@ -29,8 +30,8 @@ fn copied(answer: Result<ModuleDef, Error>) -> Result<ModuleDef, Error> {
     Ok(answer?.clone()?)
 }
 
-/// Appends the offset of the token at which a text is refused, and what the error shows; then what the
-/// error shows without the position, and, where it is other, that of the call that tells none.
+/// Appends the offset of the token at which a text is refused, and what the error shows; then what
+/// the error shows without the position, and, where it is other, that of the call that tells none.
 pub fn show_refusal(
     alloc: Global,
     text: &mut String,

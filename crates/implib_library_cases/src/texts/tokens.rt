@@ -5,8 +5,8 @@ use implib_cases::{Line, bytes_in, number_in, push_escaped};
 use std::alloc::{AllocError, Global};
 use std::test::Fail;
 
-/// Appends the tokens of a text: their offsets, their kinds and their values. After them there is no
-/// further one, however often one asks.
+/// Appends the tokens of a text: their offsets, their kinds and their values. After them there is
+/// no further one, however often one asks.
 pub fn show_tokens(text: &mut String, source: &str) -> Result<(), AllocError> {
     let mut lexer = Lexer::new(source);
     for _ in 0..source.len().saturating_add(1) {

@@ -1,9 +1,13 @@
 //! Searches and closed programs of libraries of both flavours, worked by hand, and near misses.
 
-ghost use Rattle.implib_link_instances.specs.Worked.BothFlavors.{NearAreClosedForBoth, NearIsClosedForBoth};
-ghost use Rattle.implib_link_instances.specs.Worked.BothFlavors.{NearIsFlavorArchive, NearIsImportedOfBoth};
-ghost use Rattle.implib_link_instances.specs.Worked.BothFlavors.{NearIsUsedIn, NearLinksClosedForBoth};
-ghost use Rattle.implib_link_instances.specs.Worked.BothFlavors.{NearNamesNoMembers, NearTakesOfBoth};
+ghost use Rattle.implib_link_instances.specs.Worked.BothFlavors.{NearAreClosedForBoth};
+ghost use Rattle.implib_link_instances.specs.Worked.BothFlavors.{NearIsClosedForBoth};
+ghost use Rattle.implib_link_instances.specs.Worked.BothFlavors.{NearIsFlavorArchive};
+ghost use Rattle.implib_link_instances.specs.Worked.BothFlavors.{NearIsImportedOfBoth};
+ghost use Rattle.implib_link_instances.specs.Worked.BothFlavors.{NearIsUsedIn};
+ghost use Rattle.implib_link_instances.specs.Worked.BothFlavors.{NearLinksClosedForBoth};
+ghost use Rattle.implib_link_instances.specs.Worked.BothFlavors.{NearNamesNoMembers};
+ghost use Rattle.implib_link_instances.specs.Worked.BothFlavors.{NearTakesOfBoth};
 ghost use Rattle.implib_link_instances.specs.Worked.BothFlavors.{NearAreGivenForBoth, WorkedBoth};
 ghost use Rattle.implib_link_instances.specs.Worked.BothFlavors.{WorkedGivenForBoth};
 ghost use Rattle.implib_link_instances.specs.Worked.BothReversed.{WorkedReversed};

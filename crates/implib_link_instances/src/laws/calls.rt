@@ -3,7 +3,8 @@
 ghost use Rattle.implib_link_instances.specs.Worked.DirectCalls.{WorkedBranch};
 ghost use Rattle.implib_link_instances.specs.Worked.Pages.{WorkedPages};
 ghost use Rattle.implib_link_instances.specs.Worked.Pointers.{WorkedPointers};
-ghost use Rattle.implib_link_instances.specs.Worked.Calls.{WorkedCalls, WorkedDirectCall, WorkedFlavorCall};
+ghost use Rattle.implib_link_instances.specs.Worked.Calls.{WorkedCalls, WorkedDirectCall};
+ghost use Rattle.implib_link_instances.specs.Worked.Calls.{WorkedFlavorCall};
 ghost use Rattle.implib_link_instances.specs.Worked.Calls.{WorkedReading};
 
 /// Calls and loads of pointers that were relocated by hand read their entries, on three machines; a

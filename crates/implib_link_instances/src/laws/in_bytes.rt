@@ -1,12 +1,19 @@
-//! Searches in the bytes of archives, and ways from these to calls, worked by hand, and near misses.
+//! Searches in the bytes of archives, and ways from these to calls, worked by hand, and near
+//! misses.
 
-ghost use Rattle.implib_link_instances.specs.Archives.FileLines.{NearSearchesByLld, WorkedFileLines};
+ghost use Rattle.implib_link_instances.specs.Archives.FileLines.{NearSearchesByLld};
+ghost use Rattle.implib_link_instances.specs.Archives.FileLines.{WorkedFileLines};
 ghost use Rattle.implib_link_instances.specs.Archives.Files.{NearHasMembersAs, WorkedFiles};
-ghost use Rattle.implib_link_instances.specs.Archives.NearMisses.{NearAreSearched, NearCallsArrive, NearIsBuiltByLld};
-ghost use Rattle.implib_link_instances.specs.Archives.NearMisses.{NearIsWantedBy, NearLeadsToFirst, NearLldArrives};
-ghost use Rattle.implib_link_instances.specs.Archives.NearMisses.{NearAreMembersAt, NearHaveArchive, NearIsHeaderOf};
-ghost use Rattle.implib_link_instances.specs.Archives.NearMisses.{NearPullsInAt, WorkedIndexes, WorkedReads};
-ghost use Rattle.implib_link_instances.specs.Archives.NearBothWay.{NearAreLinkedForBoth, NearBothArrive};
+ghost use Rattle.implib_link_instances.specs.Archives.NearMisses.{NearAreSearched, NearCallsArrive};
+ghost use Rattle.implib_link_instances.specs.Archives.NearMisses.{NearIsBuiltByLld};
+ghost use Rattle.implib_link_instances.specs.Archives.NearMisses.{NearIsWantedBy, NearLeadsToFirst};
+ghost use Rattle.implib_link_instances.specs.Archives.NearMisses.{NearLldArrives};
+ghost use Rattle.implib_link_instances.specs.Archives.NearMisses.{NearAreMembersAt};
+ghost use Rattle.implib_link_instances.specs.Archives.NearMisses.{NearHaveArchive, NearIsHeaderOf};
+ghost use Rattle.implib_link_instances.specs.Archives.NearMisses.{NearPullsInAt, WorkedIndexes};
+ghost use Rattle.implib_link_instances.specs.Archives.NearMisses.{WorkedReads};
+ghost use Rattle.implib_link_instances.specs.Archives.NearBothWay.{NearAreLinkedForBoth};
+ghost use Rattle.implib_link_instances.specs.Archives.NearBothWay.{NearBothArrive};
 ghost use Rattle.implib_link_instances.specs.Archives.Worked.{WorkedLibraries, WorkedSearches};
 ghost use Rattle.implib_link_instances.specs.Archives.WorkedBothWay.{WorkedBothWay};
 ghost use Rattle.implib_link_instances.specs.Archives.WorkedLldWay.{WorkedLldWay};
@@ -19,8 +26,8 @@ pub fn worked_searches()
     ensures libraries { WorkedLibraries }
 {}
 
-/// The members in the bytes of archives that GNU `ar` wrote, and of libraries of llvm-dlltool 19; command
-/// lines of these files, by lld to its program and by GNU `ld`; and near misses.
+/// The members in the bytes of archives that GNU `ar` wrote, and of libraries of llvm-dlltool 19;
+/// command lines of these files, by lld to its program and by GNU `ld`; and near misses.
 pub fn worked_files()
     ensures worked { WorkedFiles }
     ensures lines { WorkedFileLines }

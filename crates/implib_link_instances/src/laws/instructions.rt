@@ -1,6 +1,7 @@
 //! Instructions that are read, and others that are not.
 
-ghost use Rattle.implib_link_instances.specs.Worked.Instructions.{Conditions, ReadCalls, ReadDirectCalls};
+ghost use Rattle.implib_link_instances.specs.Worked.Instructions.{Conditions, ReadCalls};
+ghost use Rattle.implib_link_instances.specs.Worked.Instructions.{ReadDirectCalls};
 ghost use Rattle.implib_link_instances.specs.Worked.Instructions.{ReadLoads};
 
 /// Calls and loads of pointers are read where their instructions are, and not where one part of

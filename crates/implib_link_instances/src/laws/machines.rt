@@ -27,7 +27,8 @@ pub fn worked_mixed_programs()
     ensures armnt { WorkedMixed ARMNT 0x13058 0x13050 0x1318E }
 {}
 
-/// The whole way from an archive's bytes to two calls, of an import for each linker, worked by hand.
+/// The whole way from an archive's bytes to two calls, of an import for each linker, worked by
+/// hand.
 pub fn worked_ways()
     ensures arm64 { WorkedWay ARM64 0x1_4000_0000 0x41000 0x41060 0x41070
         (0x30 ∷ 0 ∷ 0 ∷ 0x10 ∷ 0 ∷ 0 ∷ 0 ∷ 0 ∷ []) (0x50 ∷ 0 ∷ 0 ∷ 0x10 ∷ 0 ∷ 0 ∷ 0 ∷ 0 ∷ []) }

@@ -1,10 +1,12 @@
 //! Fields of code, worked by hand, and what is no such field.
 
-ghost use Rattle.implib_link_instances.specs.Worked.Operands.{AdjacentCalls, MovableCode, PassingFields};
+ghost use Rattle.implib_link_instances.specs.Worked.Operands.{AdjacentCalls, MovableCode};
+ghost use Rattle.implib_link_instances.specs.Worked.Operands.{PassingFields};
 ghost use Rattle.implib_link_instances.specs.Worked.Operands.{WorkedFlavorFields, WorkedOperands};
 ghost use Rattle.implib_link_instances.specs.Worked.RefusedFields.{RefusedBranches, RefusedCode};
 ghost use Rattle.implib_link_instances.specs.Worked.RefusedFields.{RefusedFieldsOfTypes};
-ghost use Rattle.implib_link_instances.specs.Worked.RefusedFields.{RefusedInstructions, RefusedMoves};
+ghost use Rattle.implib_link_instances.specs.Worked.RefusedFields.{RefusedInstructions};
+ghost use Rattle.implib_link_instances.specs.Worked.RefusedFields.{RefusedMoves};
 ghost use Rattle.implib_link_instances.specs.Worked.RefusedFields.{RefusedOperands, RefusedPairs};
 ghost use Rattle.implib_link_instances.specs.Worked.RefusedFields.{RefusedPointers};
 
@@ -19,8 +21,8 @@ pub fn worked_operands()
     ensures flavors { WorkedFlavorFields }
 {}
 
-/// Near misses: bytes that no linker makes of the worked code, and memory in which no field leads to
-/// the entry, each with one thing wrong.
+/// Near misses: bytes that no linker makes of the worked code, and memory in which no field leads
+/// to the entry, each with one thing wrong.
 pub fn refused_fields()
     ensures code { RefusedCode }
     ensures types { RefusedFieldsOfTypes }
