@@ -13,5 +13,6 @@ pub mod FoundParts
 pub mod FoundIndexes
 pub mod WorkedArchives
 pub mod LibraryImports
+pub mod KeptImports
 pub mod WorkedLibraryImports
 pub mod Unmarked

@@ -31,64 +31,57 @@ three_parts Arm64ec l =
     ap (λ t. l.headers ++ t ++ map silent l.natives) (all_seen l.imports) ∙ ap (λ t. l.headers ++ map (seen true) l.imports ++ t) (none_seen l.natives)
 
 -- each list has all members
-pub many_listed : (k : Listed) (headers imports natives : List Member)
-    → length (members_with k (record { headers = map member_view headers; imports = map member_view imports; natives = map member_view natives }))
+pub many_listed : (k : Listed) (headers : List Member) (imports : List MemberView) (natives : List Member)
+    → length (members_with k (record { headers = map member_view headers; imports = imports; natives = map member_view natives }))
     ≡ length headers + length imports + length natives
 many_listed k headers imports natives =
     let hs = map member_view headers in
-    let is = map member_view imports in
     let ns = map member_view natives in
-    let some = map (seen (has_imports k)) is in
+    let some = map (seen (has_imports k)) imports in
     let last = map (seen (has_natives k)) ns in
     let many : length (hs ++ some ++ last) ≡ length headers + length imports + length natives =
     omega (
       arith,
       length-append (hs ++ some) last,
       length-append hs some,
-      length-map is (seen (has_imports k)),
+      length-map imports (seen (has_imports k)),
       length-map ns (seen (has_natives k)),
       length-map headers member_view,
-      length-map imports member_view,
       length-map natives member_view,
     ) in
-    ap length (three_parts k (record { headers = hs; imports = is; natives = ns })) ∙ many
+    ap length (three_parts k (record { headers = hs; imports = imports; natives = ns })) ∙ many
 
 -- an import, and a native member, by their index among all
-module _ (k : Listed) (headers imports natives : List Member) (i : ℕ) (d : Member) (past : length headers ≤ i) where
-  pub import_at : i - length headers < length imports → seen (has_imports k) (member_view (get_or imports (i - length headers) d))
-      ≡ member_at (members_with k (record { headers = map member_view headers; imports = map member_view imports; natives = map member_view natives })) i
+module _ (k : Listed) (headers : List Member) (imports : List MemberView) (natives : List Member) (i : ℕ) (past : length headers ≤ i) where
+  pub import_at : i - length headers < length imports → seen (has_imports k) (member_at imports (i - length headers))
+      ≡ member_at (members_with k (record { headers = map member_view headers; imports = imports; natives = map member_view natives })) i
   import_at within =
       let hs = map member_view headers in
-      let is = map member_view imports in
-      let ns = map member_view natives in
       let j = i - length headers in
-      let listed = map (seen (has_imports k)) is in
+      let listed = map (seen (has_imports k)) imports in
       let count : length hs ≡ length headers = length-map headers member_view in
-      let many : length is ≡ length imports = length-map imports member_view in
-      let all : length listed ≡ length is = length-map is (seen (has_imports k)) in
-      let first : i < length (hs ++ listed) = omega (arith, length-append hs listed, count, many, all, within, past) in
-      let some : j < length is = omega (arith, many, within) in
-      sym (ap (λ t. member_at t i) (three_parts k (record { headers = hs; imports = is; natives = ns }))
-      ∙ (get_or_append_left (hs ++ listed) (map (seen (has_natives k)) ns) no_member i first
+      let all : length listed ≡ length imports = length-map imports (seen (has_imports k)) in
+      let first : i < length (hs ++ listed) = omega (arith, length-append hs listed, count, all, within, past) in
+      sym (ap (λ t. member_at t i) (three_parts k (record { headers = hs; imports = imports; natives = map member_view natives }))
+      ∙ (get_or_append_left (hs ++ listed) (map (seen (has_natives k)) (map member_view natives)) no_member i first
       ∙ (get_or-append_right hs listed (length headers) i no_member count past
-      ∙ (get_or-map (seen (has_imports k)) is j no_member no_member some ∙ ap (seen (has_imports k)) (get_or-map member_view imports j d no_member within)))))
+      ∙ get_or-map (seen (has_imports k)) imports j no_member no_member within)))
 
-  pub native_at : length imports ≤ i - length headers → i - length headers - length imports < length natives
+  pub native_at : (d : Member) → length imports ≤ i - length headers → i - length headers - length imports < length natives
       → seen (has_natives k) (member_view (get_or natives (i - length headers - length imports) d))
-      ≡ member_at (members_with k (record { headers = map member_view headers; imports = map member_view imports; natives = map member_view natives })) i
-  native_at later within =
+      ≡ member_at (members_with k (record { headers = map member_view headers; imports = imports; natives = map member_view natives })) i
+  native_at d later within =
       let hs = map member_view headers in
-      let is = map member_view imports in
       let ns = map member_view natives in
       let j = i - length headers - length imports in
-      let before = hs ++ map (seen (has_imports k)) is in
+      let before = hs ++ map (seen (has_imports k)) imports in
       let listed = map (seen (has_natives k)) ns in
       let count : length before ≡ length headers + length imports =
-      omega (arith, length-append hs (map (seen (has_imports k)) is), length-map headers member_view, length-map imports member_view, length-map is (seen (has_imports k))) in
+      omega (arith, length-append hs (map (seen (has_imports k)) imports), length-map headers member_view, length-map imports (seen (has_imports k))) in
       let many : length ns ≡ length natives = length-map natives member_view in
       let some : j < length ns = omega (arith, many, within) in
       let same : i - (length headers + length imports) ≡ j = omega arith in
-      sym (ap (λ t. member_at t i) (three_parts k (record { headers = hs; imports = is; natives = ns }))
+      sym (ap (λ t. member_at t i) (three_parts k (record { headers = hs; imports = imports; natives = ns }))
       ∙ (get_or-append_right before listed (length headers + length imports) i no_member count (omega (arith, past, later))
       ∙ (ap (λ n. get_or listed n no_member) same
       ∙ (get_or-map (seen (has_natives k)) ns j no_member no_member some ∙ ap (seen (has_natives k)) (get_or-map member_view natives j d no_member within)))))

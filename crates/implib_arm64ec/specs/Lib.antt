@@ -5,7 +5,7 @@ pub mod Marks
 pub mod Refusal
 pub mod WorkedMarks
 pub mod ShortImports
-pub mod Imported
+pub mod KeptImports
 pub mod Reader
 pub mod WorkedImports
 pub mod ReadBack

@@ -1,10 +1,13 @@
 -- The members of a library of ARM64EC, and the two lists of which its archive has indexes.
-use Rattle.std.specs.Prelude.{Bool, true, false, List, [], ◌++◌, map}
+use Rattle.std.specs.Prelude.{Bool, true, false, ◌<◌, List, [], ◌++◌, length, map}
 use Rattle.implib.specs.Library.{member_view}
 use Rattle.implib.specs.Members.MemberSpec.{MemberView}
+use Rattle.implib_archive.specs.Sources.{member_at}
 use Rattle.implib_arm64ec.specs.declared.listing.Listed.{Listed}
 use Rattle.implib_arm64ec.specs.declared.listing.Listed.TheVariants.{All, Arm64, Arm64ec}
 use Rattle.implib_arm64ec.specs.declared.listing.Listing.{Listing}
+use Rattle.implib_arm64ec.specs.declared.listing.Spot.{Spot}
+use Rattle.implib_arm64ec.specs.declared.listing.Spot.TheVariants.{Held, Import}
 
 -- a library: its headers (the descriptor, the null descriptor and the null thunk), which are of machine ARM64; the
 -- short imports of ARM64EC; and the members of ARM64 of a native definition
@@ -33,7 +36,7 @@ for_arm64ec l = l.headers ++ l.imports ++ map silent l.natives
 abbrev pub library_view : Listing → LibraryView
 library_view l = record {
   headers = map member_view l.headers.now;
-  imports = map member_view l.imports.now;
+  imports = l.imports.now;
   natives = map member_view l.natives.now;
 }
 
@@ -56,3 +59,13 @@ abbrev pub has_natives : Listed → Bool
 has_natives All = true
 has_natives Arm64 = true
 has_natives Arm64ec = false
+
+-- the member that is there
+abbrev pub spot_view : Spot → MemberView
+spot_view (Held member) = member_view member.now
+spot_view (Import imports place) = member_at imports.now place
+
+-- there is one
+abbrev pub IsThere : Spot → Type 0
+IsThere (Held member) = Unit {0}
+IsThere (Import imports place) = place < length imports.now

@@ -6,8 +6,6 @@ use Rattle.implib.specs.LibraryName.{NamesOfDll}
 use Rattle.implib.specs.Members.MemberSpec.{MemberSpec, MemberView, file_size, member_of}
 use Rattle.implib.specs.Members.NameRules.{holds_nul}
 use Rattle.implib_arm64ec.specs.ShortImports.{spec_of}
-use Rattle.implib_arm64ec.specs.declared.error.ImportError.{ImportError}
-use Rattle.implib_arm64ec.specs.declared.error.ImportError.TheVariants as import_error
 use Rattle.implib_arm64ec.specs.declared.library.ImportsError.{ImportsError}
 use Rattle.implib_arm64ec.specs.declared.library.ImportsError.TheVariants.{Invalid, OutOfMemory}
 use Rattle.implib_arm64ec.specs.declared.library.ImportsFault.{ImportsFault}
@@ -57,9 +55,3 @@ imports_fault dll exports =
 abbrev pub IsFault : Option ImportsFault → ImportsError → Type 0
 IsFault expected (Invalid fault) = expected ≡ Some fault
 IsFault expected (OutOfMemory refused) = Unit {0}
-
--- the error of a library that the error of the export at an index becomes
-abbrev pub error_of_export : ℕ → ImportError → ImportsError
-error_of_export index (import_error.Unreadable place) = Invalid (Unreadable index place)
-error_of_export index (import_error.Invalid refused) = Invalid (MemberTooLong index)
-error_of_export index (import_error.OutOfMemory refused) = OutOfMemory refused

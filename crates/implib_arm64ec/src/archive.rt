@@ -10,6 +10,7 @@ ghost use Rattle.implib_arm64ec.specs.Archive.{library_names, library_refusal, m
 ghost use Rattle.implib_arm64ec.specs.Library.{library_view};
 ghost use Rattle.std.specs.Prelude.{◌≡◌, [], IfErr, IfOk, None, OnOk, length, map};
 
+use crate::arm64ec_imports::Arm64ecImports;
 use crate::ec_index::{index_size, write_index};
 use crate::listing::{Listed, Listing};
 use implib::Member;
@@ -58,22 +59,22 @@ impl<'a> Archive<'a> {
     pub fn new(
         alloc: Global,
         headers: &'a [Member],
-        imports: &'a [Member],
+        imports: &'a Arm64ecImports,
         natives: &'a [Member],
     ) -> Result<Self, Error>
         ensures holds { IfOk result (λ archive. archive ≡ record {
           headers = map member_view headers.now;
-          imports = map member_view imports.now;
+          imports = imports.now;
           natives = map member_view natives.now;
         }) }
         ensures accepted { OnOk result (library_refusal (record {
           headers = map member_view headers.now;
-          imports = map member_view imports.now;
+          imports = imports.now;
           natives = map member_view natives.now;
         }) ≡ None) }
         ensures refused { IfErr result (IsRefusal (library_refusal (record {
           headers = map member_view headers.now;
-          imports = map member_view imports.now;
+          imports = imports.now;
           natives = map member_view natives.now;
         }))) }
     {

@@ -8,10 +8,12 @@
 #![tactic(auto)]
 
 mod archive;
+mod arm64ec_imports;
 mod ec_index;
 mod error;
 mod grammar;
 mod imports;
+mod kept_import;
 pub mod laws;
 mod library;
 mod listing;
@@ -21,7 +23,7 @@ mod production;
 mod reading;
 
 pub use archive::Archive;
-pub use error::{ImportError, MarkError};
-pub use imports::short_import;
+pub use arm64ec_imports::Arm64ecImports;
+pub use error::MarkError;
 pub use library::{ImportsError, ImportsFault, short_imports};
 pub use names::{mark, unmark};

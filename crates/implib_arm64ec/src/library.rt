@@ -2,17 +2,19 @@
 
 ghost use Rattle.implib.specs.Definition.{export_view};
 ghost use Rattle.implib.specs.Import.{holds};
-ghost use Rattle.implib.specs.Library.{member_view};
 ghost use Rattle.implib.specs.Members.NameRules.{holds_nul};
-ghost use Rattle.implib_arm64ec.specs.LibraryImports.{IsFault, error_of_export, export_fault};
-ghost use Rattle.implib_arm64ec.specs.LibraryImports.{import_of_export, imports_fault, imports_of};
+ghost use Rattle.implib_arm64ec.specs.KeptImports.{HasNoImport, IsKeptOf, Keeps, symbol_fault};
+ghost use Rattle.implib_arm64ec.specs.LibraryImports.{IsFault, imports_fault, imports_of};
+ghost use Rattle.implib_arm64ec.specs.ShortImports.{symbol_of};
 ghost use Rattle.implib_arm64ec.specs.declared.library.ImportsError.TheVariants.{OutOfMemory};
-ghost use Rattle.std.specs.Prelude.{map, IfErr, IfOk, None, OnOk, ◌++◌, ◌≡◌};
+ghost use Rattle.std.specs.Prelude.{map, string_bytes, IfErr, IfOk, None, Ok, OnOk, ◌≡◌};
 
-use crate::error::ImportError;
-use crate::imports::short_import;
-use implib::Member;
+use crate::arm64ec_imports::Arm64ecImports;
+use crate::error::MarkError;
+use crate::imports::{name_type, plain_symbol, symbol_of, third_text};
+use crate::kept_import::{KeptImport, Numbers, is_short};
 use implib::def::ShortExport;
+use implib::msvc::import_type;
 use std::alloc::{AllocError, AllocFailed, Global};
 
 /// Why a library has no short imports.
@@ -73,8 +75,8 @@ pub fn short_imports(
     exports: &[ShortExport],
     library: &str,
     dll: &str,
-) -> Result<Vec<Member>, ImportsError>
-    ensures made { IfOk result (λ members. map member_view members.items
+) -> Result<Arm64ecImports, ImportsError>
+    ensures made { IfOk result (λ members. members
         ≡ imports_of (record { linked = library.now; text = dll.now }) (map export_view exports.now)) }
     ensures accepted { OnOk result (imports_fault (record { linked = library.now; text = dll.now })
         (map export_view exports.now) ≡ None) }
@@ -84,29 +86,28 @@ pub fn short_imports(
     if holds_nul(library) || holds_nul(dll) {
         return Err(ImportsError::Invalid(ImportsFault::NulInDllName));
     }
-    let mut members = Vec::with_capacity(alloc, exports.len())?;
+    let mut imports = Vec::with_capacity(alloc, exports.len())?;
     for index in 0..exports.len() {
-        push_import(alloc, &mut members, &exports[index], index, library, dll)?;
+        push_import(alloc, &mut imports, &exports[index], index, dll)?;
     }
-    Ok(members)
+    let linked = String::from_str(alloc, library)?;
+    let text = String::from_str(alloc, dll)?;
+    Ok(Arm64ecImports {
+        library: linked,
+        dll: text,
+        imports,
+    })
 }
 
-// Appends the short import of the export at an index, unless it is private.
+// Keeps the short import of the export at an index, unless it is private.
 fn push_import(
     alloc: Global,
-    members: &mut Vec<Member>,
+    imports: &mut Vec<KeptImport>,
     export: &ShortExport,
     index: usize,
-    library: &str,
     dll: &str,
 ) -> Result<(), ImportsError>
-    ensures made { OnOk result (map member_view members.new.items
-        ≡ map member_view members.old.items ++ import_of_export
-        (record { linked = library.now; text = dll.now }) (export_view export.now)) }
-    ensures accepted { OnOk result (export_fault (record { linked = library.now; text = dll.now })
-        index (export_view export.now) ≡ None) }
-    ensures refused { IfErr result (IsFault (export_fault
-        (record { linked = library.now; text = dll.now }) index (export_view export.now))) }
+    ensures { Keeps dll.now index (export_view export.now) imports.old.items imports.new.items result }
 {
     if export.private {
         return Ok(());
@@ -114,25 +115,49 @@ fn push_import(
     if has_nul(export) {
         return Err(ImportsError::Invalid(ImportsFault::NulInExport(index)));
     }
-    match short_import(alloc, export, library, dll) {
-        Ok(member) => {
-            members.push(member)?;
-            Ok(())
-        }
-        Err(refused) => Err(of_export(index, refused)),
-    }
+    let kept = kept_of(alloc, export, index, dll)?;
+    imports.push(kept)?;
+    Ok(())
 }
 
-// The error of the export at an index.
-fn of_export(index: usize, refused: ImportError) -> ImportsError
-    ensures { result ≡ error_of_export index refused }
+// What is kept of the short import of the export at an index.
+fn kept_of(
+    alloc: Global,
+    export: &ShortExport,
+    index: usize,
+    dll: &str,
+) -> Result<KeptImport, ImportsError>
+    ensures kept { IfOk result (IsKeptOf dll.now (export_view export.now)) }
+    ensures refused { IfErr result (HasNoImport dll.now index (export_view export.now)) }
 {
-    match refused {
-        ImportError::Unreadable(place) => {
-            ImportsError::Invalid(ImportsFault::Unreadable(index, place))
+    let marked = symbol_at(alloc, export, index)?;
+    let symbol = marked.as_str();
+    let unmarked = plain_symbol(alloc, symbol)?;
+    let plain = unmarked.as_str();
+    let third = third_text(export, symbol, plain);
+    if !is_short(symbol, dll, third) {
+        return Err(ImportsError::Invalid(ImportsFault::MemberTooLong(index)));
+    }
+    let numbers = Numbers {
+        ordinal: export.ordinal,
+        import_type: import_type(export),
+        name_type: name_type(export.no_name, third),
+    };
+    let kept = KeptImport::new(alloc, numbers, plain, symbol, third)?;
+    Ok(kept)
+}
+
+// The symbol of the export at an index.
+fn symbol_at(alloc: Global, export: &ShortExport, index: usize) -> Result<String, ImportsError>
+    ensures ok { IfOk result (λ symbol. symbol_of (export_view export.now) ≡ Ok (string_bytes symbol)) }
+    ensures refused { IfErr result (IsFault (symbol_fault index (symbol_of (export_view export.now)))) }
+{
+    match symbol_of(alloc, export) {
+        Ok(symbol) => Ok(symbol),
+        Err(MarkError::Unreadable(place)) => {
+            Err(ImportsError::Invalid(ImportsFault::Unreadable(index, place)))
         }
-        ImportError::Invalid(_) => ImportsError::Invalid(ImportsFault::MemberTooLong(index)),
-        ImportError::OutOfMemory(refused) => ImportsError::OutOfMemory(refused),
+        Err(MarkError::OutOfMemory(refused)) => Err(ImportsError::OutOfMemory(refused)),
     }
 }
 

@@ -1,11 +1,11 @@
 //! The members of a library, as its indexes list them.
 
-ghost use Rattle.implib.specs.Library.{member_view};
 ghost use Rattle.implib_archive.specs.Sources.{member_at};
-ghost use Rattle.implib_arm64ec.specs.Library.{has_imports, has_natives, library_view};
-ghost use Rattle.implib_arm64ec.specs.Library.{listing_members, silent};
+ghost use Rattle.implib_arm64ec.specs.Library.{IsThere, has_imports, has_natives, library_view};
+ghost use Rattle.implib_arm64ec.specs.Library.{listing_members, silent, spot_view};
 ghost use Rattle.std.specs.Prelude.{length, if◌then◌else◌, ◌<◌, ◌≡◌};
 
+use crate::arm64ec_imports::Arm64ecImports;
 use implib::Member;
 use implib_archive::{Members, Source};
 use std::alloc::AllocError;
@@ -24,15 +24,24 @@ pub enum Listed {
 #[derive(Clone, Copy)]
 pub struct Listing<'a> {
     pub(crate) headers: &'a [Member],
-    pub(crate) imports: &'a [Member],
+    pub(crate) imports: &'a Arm64ecImports,
     pub(crate) natives: &'a [Member],
     pub(crate) listed: Listed,
+}
+
+// Where a member is.
+#[derive(Clone, Copy)]
+enum Spot<'a> {
+    // Here.
+    Held(&'a Member),
+    // Among these, at this index.
+    Import(&'a Arm64ecImports, usize),
 }
 
 // A member, and whether it has its symbols.
 #[derive(Clone, Copy)]
 struct Seen<'a> {
-    member: &'a Member,
+    spot: Spot<'a>,
     listed: bool,
 }
 
@@ -53,25 +62,27 @@ impl<'a> Listing<'a> {
     // The member at an index.
     fn at(&self, index: usize) -> Seen<'a>
         requires { index < length (listing_members self.now) }
-        ensures { (if result.listed then member_view result.member.now
-            else silent (member_view result.member.now))
+        ensures there { IsThere result.spot }
+        ensures member { (if result.listed then spot_view result.spot
+            else silent (spot_view result.spot))
             ≡ member_at (listing_members self.now) index }
     {
         if index < self.headers.len() {
             return Seen {
-                member: &self.headers[index],
+                spot: Spot::Held(&self.headers[index]),
                 listed: true,
             };
         }
         let behind = index - self.headers.len();
-        if behind < self.imports.len() {
+        let imports = self.imports;
+        if behind < imports.len() {
             return Seen {
-                member: &self.imports[behind],
+                spot: Spot::Import(imports, behind),
                 listed: has_imports(self.listed),
             };
         }
         Seen {
-            member: &self.natives[behind - self.imports.len()],
+            spot: Spot::Held(&self.natives[behind - imports.len()]),
             listed: has_natives(self.listed),
         }
     }
@@ -87,28 +98,42 @@ impl<'a> Source<'a> for Listing<'a> {
     }
 
     fn name(&self, index: usize) -> &'a str {
-        self.at(index).member.name.as_str()
+        match self.at(index).spot {
+            Spot::Held(member) => member.name.as_str(),
+            Spot::Import(imports, index) => imports.name(index),
+        }
     }
 
     fn size(&self, index: usize) -> usize {
-        self.at(index).member.bytes.as_slice().len()
+        match self.at(index).spot {
+            Spot::Held(member) => member.bytes.as_slice().len(),
+            Spot::Import(imports, index) => imports.size(index),
+        }
     }
 
     fn symbol_count(&self, index: usize) -> usize {
         let seen = self.at(index);
-        if seen.listed {
-            seen.member.symbols.as_slice().len()
-        } else {
-            0
+        if !seen.listed {
+            return 0;
+        }
+        match seen.spot {
+            Spot::Held(member) => member.symbols.as_slice().len(),
+            Spot::Import(imports, index) => imports.symbol_count(index),
         }
     }
 
     fn symbol(&self, index: usize, number: usize) -> &'a str {
-        self.at(index).member.symbols[number].as_str()
+        match self.at(index).spot {
+            Spot::Held(member) => member.symbols[number].as_str(),
+            Spot::Import(imports, index) => imports.symbol(index, number),
+        }
     }
 
     fn push_bytes(&self, index: usize, out: &mut Vec<u8>) -> Result<(), AllocError> {
-        out.extend_from_slice(self.at(index).member.bytes.as_slice())
+        match self.at(index).spot {
+            Spot::Held(member) => out.extend_from_slice(member.bytes.as_slice()),
+            Spot::Import(imports, index) => imports.push_bytes(index, out),
+        }
     }
 }
 
