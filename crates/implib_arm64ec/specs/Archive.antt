@@ -1,8 +1,11 @@
--- The archive of a library of ARM64EC: of the COFF kind, with one index more (LLVM, "ArchiveWriter.cpp"). Its linker
--- members list the symbols of ARM64's members alone, and the further index those that ARM64EC takes. Numbers
--- and offsets are those of all members, whose names and bytes each list has.
-use Rattle.std.specs.Prelude.{ℕ, ◌+◌, List, ◌++◌, Option, Some, codes, flat_map, if◌then◌else◌, is_some, length}
-use Rattle.implib_archive.specs.Archive.{entries_of, first_place, front, long_names, member_part, places_from, sorted_entries, strings_of}
+-- The archive of a library of ARM64EC: of the COFF kind, with one index more (LLVM,
+-- "ArchiveWriter.cpp"). Its linker members list the symbols of ARM64's members alone, and the
+-- further index those that ARM64EC takes. Numbers and offsets are those of all members, whose names
+-- and bytes each list has.
+use Rattle.std.specs.Prelude.{ℕ, ◌+◌, List, ◌++◌, Option, Some, codes, flat_map, if◌then◌else◌}
+use Rattle.std.specs.Prelude.{is_some, length}
+use Rattle.implib_archive.specs.Archive.{entries_of, first_place, front, long_names, member_part}
+use Rattle.implib_archive.specs.Archive.{places_from, sorted_entries, strings_of}
 use Rattle.implib_archive.specs.Parts.{Label, padded_part_bytes, part_size, u16_le, u32_le}
 use Rattle.implib_archive.specs.Refusal.{has_too_many, members_refusal, places_refusal}
 use Rattle.implib_archive.specs.declared.error.Fault.{Fault}
@@ -22,8 +25,8 @@ ec_entries l = sorted_entries (entries_of Coff (for_arm64ec l))
 unfoldable pub ec_label : Label
 ec_label = record { name = codes "/<ECSYMBOLS>/"; date = codes "0"; owner = codes "0"; mode = codes "0" }
 
--- the data of the EC index, but for its padding: how many entries, the number of each one's member from 1, and
--- the symbols
+-- the data of the EC index, but for its padding: how many entries, the number of each one's member
+-- from 1, and the symbols
 unfoldable pub ec_index : List (List ℕ × ℕ) → List ℕ
 ec_index entries = u32_le (length entries) ++ flat_map (λ e. u16_le e.1) entries ++ strings_of entries
 
@@ -55,8 +58,8 @@ ec_members l = flat_map (member_part (library_names l)) (for_arm64 l)
 unfoldable pub ec_archive : LibraryView → List ℕ
 ec_archive l = ec_front l ++ ec_members l
 
--- The one cause for which there is no archive of a library, if any: the first member that is refused, then their
--- number, then the length of the archive, of which the EC index is a part.
+-- The one cause for which there is no archive of a library, if any: the first member that is
+-- refused, then their number, then the length of the archive, of which the EC index is a part.
 unfoldable pub library_refusal : LibraryView → Option Fault
 library_refusal l =
     if is_some (members_refusal Coff (members_of l)) then members_refusal Coff (members_of l)

@@ -1,11 +1,13 @@
--- A reader of archives for ARM64EC, which follows what it finds and knows nothing of how they are written. It reads
--- them as archives of the COFF kind, of which one part is the EC index.
-use Rattle.std.specs.Prelude.{ℕ, ◌+◌, ◌*◌, ◌%◌, Bool, List, [], ◌∷◌, Option, None, Some, bytes_eq, codes, drop, if◌then◌else◌, length, option_and_then, take}
+-- A reader of archives for ARM64EC, which follows what it finds and knows nothing of how they are
+-- written. It reads them as archives of the COFF kind, of which one part is the EC index.
+use Rattle.std.specs.Prelude.{ℕ, ◌+◌, ◌*◌, ◌%◌, Bool, List, [], ◌∷◌, Option, None, Some, bytes_eq}
+use Rattle.std.specs.Prelude.{codes, drop, if◌then◌else◌, length, option_and_then, take}
 use Rattle.std.specs.Int.{from_le_bytes, w16, w32}
 use Rattle.std.specs.Map.{lookup}
 use Rattle.std.specs.Option.{option_map}
 use Rattle.implib_archive.specs.Leads.{numbered, with_header}
-use Rattle.implib_archive.specs.Reader.{Read, Stored, long_names_in, members_among, name_in, numbers_in, paired, second_in, stored_in, texts_in}
+use Rattle.implib_archive.specs.Reader.{Read, Stored, long_names_in, members_among, name_in}
+use Rattle.implib_archive.specs.Reader.{numbers_in, paired, second_in, stored_in, texts_in}
 use Rattle.implib_archive.specs.declared.kind.Kind.TheVariants.{Coff}
 
 -- whether a part is the EC index, by its name
@@ -48,7 +50,8 @@ numbered_symbols data' =
 unfoldable pub ec_symbols_in : List ℕ → Option (List (List ℕ × ℕ))
 ec_symbols_in bytes = option_map numbered_symbols (option_and_then ec_data_in (stored_in bytes))
 
--- the offset that the EC index has for a symbol: the number is that of an offset in the second linker member
+-- the offset that the EC index has for a symbol: the number is that of an offset in the second
+-- linker member
 unfoldable pub ec_header_for : List ℕ → List ℕ → Option ℕ
 ec_header_for bytes symbol = option_and_then
     (λ second. option_and_then (λ entries. option_and_then (numbered second.0) (lookup (bytes_eq symbol) entries)) (ec_symbols_in bytes))

@@ -1,11 +1,37 @@
 -- The grammar of mangled names of C++ for Microsoft's compilers, as far as qualified names need it
--- (LLVM, "MicrosoftDemangle.cpp"). The first byte of a part decides: a definition gives the parts that
--- are still to come behind that byte, or none where no part of this kind begins with it.
-use Rattle.std.specs.Prelude.{ℕ, ◌-◌, Bool, ◌&&◌, ◌||◌, ◌==◌, nat_le, List, [], ◌∷◌, ◌++◌, replicate, codes}
+-- (LLVM, "MicrosoftDemangle.cpp"). The first byte of a part decides: a definition gives the parts
+-- that are still to come behind that byte, or none where no part of this kind begins with it.
+use Rattle.std.specs.Prelude.{ℕ, ◌-◌, Bool, ◌&&◌, ◌||◌, ◌==◌, nat_le, List, [], ◌∷◌, ◌++◌}
+use Rattle.std.specs.Prelude.{replicate, codes}
 use Rattle.std.specs.Prelude.{Option, Some, None, option_map, if◌then◌else◌}
 use Rattle.implib.specs.Ascii.{holds}
 use Rattle.implib_arm64ec.specs.declared.nonterminal.Nonterminal.{Nonterminal}
-use Rattle.implib_arm64ec.specs.declared.nonterminal.Nonterminal.TheVariants.{Leaf, LeafMark, LeafUnderscore, LeafUnderscores, Name, NameRest, Scopes, ScopeMark, Letters, Mark, At, Arguments, Argument, ArgumentDollar, ArgumentDollars, PackEnd, AnyType, TypeDollar, TypeDollars, TypeUnderscore, AnyByte, Array, FunctionType, Qualifiers, Qualifier, Pointee, PointeeRest, ClassName, ClassNames, Number, Unsigned, Signature, ReturnType, Parameters, ParametersRest, SignatureEnd, NoExcept, MangledName, Encoding, Storage, StorageRest}
+use Rattle.implib_arm64ec.specs.declared.nonterminal.Nonterminal.TheVariants.{Leaf, LeafMark}
+use Rattle.implib_arm64ec.specs.declared.nonterminal.Nonterminal.TheVariants.{LeafUnderscore}
+use Rattle.implib_arm64ec.specs.declared.nonterminal.Nonterminal.TheVariants.{LeafUnderscores, Name}
+use Rattle.implib_arm64ec.specs.declared.nonterminal.Nonterminal.TheVariants.{NameRest, Scopes}
+use Rattle.implib_arm64ec.specs.declared.nonterminal.Nonterminal.TheVariants.{ScopeMark, Letters}
+use Rattle.implib_arm64ec.specs.declared.nonterminal.Nonterminal.TheVariants.{Mark, At, Arguments}
+use Rattle.implib_arm64ec.specs.declared.nonterminal.Nonterminal.TheVariants.{Argument}
+use Rattle.implib_arm64ec.specs.declared.nonterminal.Nonterminal.TheVariants.{ArgumentDollar}
+use Rattle.implib_arm64ec.specs.declared.nonterminal.Nonterminal.TheVariants.{ArgumentDollars}
+use Rattle.implib_arm64ec.specs.declared.nonterminal.Nonterminal.TheVariants.{PackEnd, AnyType}
+use Rattle.implib_arm64ec.specs.declared.nonterminal.Nonterminal.TheVariants.{TypeDollar}
+use Rattle.implib_arm64ec.specs.declared.nonterminal.Nonterminal.TheVariants.{TypeDollars}
+use Rattle.implib_arm64ec.specs.declared.nonterminal.Nonterminal.TheVariants.{TypeUnderscore}
+use Rattle.implib_arm64ec.specs.declared.nonterminal.Nonterminal.TheVariants.{AnyByte, Array}
+use Rattle.implib_arm64ec.specs.declared.nonterminal.Nonterminal.TheVariants.{FunctionType}
+use Rattle.implib_arm64ec.specs.declared.nonterminal.Nonterminal.TheVariants.{Qualifiers, Qualifier}
+use Rattle.implib_arm64ec.specs.declared.nonterminal.Nonterminal.TheVariants.{Pointee, PointeeRest}
+use Rattle.implib_arm64ec.specs.declared.nonterminal.Nonterminal.TheVariants.{ClassName, ClassNames}
+use Rattle.implib_arm64ec.specs.declared.nonterminal.Nonterminal.TheVariants.{Number, Unsigned}
+use Rattle.implib_arm64ec.specs.declared.nonterminal.Nonterminal.TheVariants.{Signature, ReturnType}
+use Rattle.implib_arm64ec.specs.declared.nonterminal.Nonterminal.TheVariants.{Parameters}
+use Rattle.implib_arm64ec.specs.declared.nonterminal.Nonterminal.TheVariants.{ParametersRest}
+use Rattle.implib_arm64ec.specs.declared.nonterminal.Nonterminal.TheVariants.{SignatureEnd}
+use Rattle.implib_arm64ec.specs.declared.nonterminal.Nonterminal.TheVariants.{NoExcept, MangledName}
+use Rattle.implib_arm64ec.specs.declared.nonterminal.Nonterminal.TheVariants.{Encoding, Storage}
+use Rattle.implib_arm64ec.specs.declared.nonterminal.Nonterminal.TheVariants.{StorageRest}
 
 abbrev pub is_digit : ℕ → Bool
 is_digit b = nat_le 0x30 b && nat_le b 0x39
@@ -31,7 +57,8 @@ qualifier b =
     else if holds b (codes "QRST") then Some (ClassName ∷ [])
     else None
 
--- A type without `$`: with qualifiers, a built-in one, a class, an enumeration, a pointer, an array.
+-- A type without `$`: with qualifiers, a built-in one, a class, an enumeration, a pointer, an
+-- array.
 abbrev pub plain_type : ℕ → Option (List Nonterminal)
 plain_type b =
     if b == 0x3F then Some (Qualifier ∷ AnyType ∷ [])
@@ -43,7 +70,8 @@ plain_type b =
     else if b == 0x59 then Some (Array ∷ [])
     else None
 
--- A type behind `$$`: with qualifiers, a reference to a value that moves, a function, the type of `nullptr`.
+-- A type behind `$$`: with qualifiers, a reference to a value that moves, a function, the type of
+-- `nullptr`.
 abbrev pub type_dollars : ℕ → Option (List Nonterminal)
 type_dollars b =
     if b == 0x43 then Some (Qualifier ∷ AnyType ∷ [])

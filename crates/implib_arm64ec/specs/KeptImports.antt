@@ -1,5 +1,7 @@
 -- Views of short imports that are kept as what they say. No promise cites them.
-use Rattle.std.specs.Prelude.{◌≡◌, ℕ, ◌+◌, ◌<◌, ◌≤◌, ◌==◌, ◌^◌, List, [], ◌∷◌, ◌++◌, Option, None, Some, Result, Ok, Err, IfErr, OnOk, drop, length, map, if◌then◌else◌, slice_range, string_bytes}
+use Rattle.std.specs.Prelude.{◌≡◌, ℕ, ◌+◌, ◌<◌, ◌≤◌, ◌==◌, ◌^◌, List, [], ◌∷◌, ◌++◌, Option, None}
+use Rattle.std.specs.Prelude.{Some, Result, Ok, Err, IfErr, OnOk, drop, length, map, if◌then◌else◌}
+use Rattle.std.specs.Prelude.{slice_range, string_bytes}
 use Rattle.std.specs.List.{AllByRecursion}
 use Rattle.std.specs.Str.{IsUtf8}
 use Rattle.implib.specs.Definition.{ExportView}
@@ -9,7 +11,8 @@ use Rattle.implib.specs.LibraryName.{NamesOfDll}
 use Rattle.implib.specs.Members.MemberSpec.{MemberView}
 use Rattle.implib.specs.Members.Msvc.{dll_texts, short_import_bytes, short_import_size}
 use Rattle.implib_arm64ec.specs.LibraryImports.{IsFault, export_fault, import_of_export, spec_fault}
-use Rattle.implib_arm64ec.specs.ShortImports.{auxiliary_symbol, import_of, import_symbols, machine_arm64ec, spec_of, symbol_apart, symbol_of}
+use Rattle.implib_arm64ec.specs.ShortImports.{auxiliary_symbol, import_of, import_symbols}
+use Rattle.implib_arm64ec.specs.ShortImports.{machine_arm64ec, spec_of, symbol_apart, symbol_of}
 use Rattle.implib_arm64ec.specs.declared.kept_import.KeptImport.{KeptImport}
 use Rattle.implib_arm64ec.specs.declared.kept_import.Third.{Third}
 use Rattle.implib_arm64ec.specs.declared.kept_import.Third.TheVariants.{Absent, Other, Plain}
@@ -120,8 +123,8 @@ abbrev pub HasNoImport : List ℕ → ℕ → ExportView → ImportsError → Ty
 HasNoImport dll index e error =
     (linked : List ℕ) → IsFault (spec_fault index (spec_of (record { linked = linked; text = dll }) e)) error
 
--- The short import of the export at an index is kept behind others, unless the export is private, whatever the library's
--- name.
+-- The short import of the export at an index is kept behind others, unless the export is private,
+-- whatever the library's name.
 pub record Keeps (dll : List ℕ) (index : ℕ) (e : ExportView) (old new : List KeptImport) (result : Result (Unit {0}) ImportsError) : Type 0 where
   pub made : OnOk result ((linked : List ℕ) → map (kept_view (record { linked = linked; text = dll })) new
       ≡ map (kept_view (record { linked = linked; text = dll })) old ++ import_of_export (record { linked = linked; text = dll }) e)

@@ -9,8 +9,8 @@ use Rattle.implib_arm64ec.specs.declared.listing.Listing.{Listing}
 use Rattle.implib_arm64ec.specs.declared.listing.Spot.{Spot}
 use Rattle.implib_arm64ec.specs.declared.listing.Spot.TheVariants.{Held, Import}
 
--- a library: its headers (the descriptor, the null descriptor and the null thunk), which are of machine ARM64; the
--- short imports of ARM64EC; and the members of ARM64 of a native definition
+-- a library: its headers (the descriptor, the null descriptor and the null thunk), which are of
+-- machine ARM64; the short imports of ARM64EC; and the members of ARM64 of a native definition
 pub record LibraryView : Type 0 where
   pub headers : List MemberView
   pub imports : List MemberView

@@ -1,5 +1,6 @@
 -- The short imports of a library, and which export has none.
-use Rattle.std.specs.Prelude.{◌≡◌, ℕ, ◌+◌, ◌||◌, List, [], ◌∷◌, ◌++◌, Option, None, Some, Result, Ok, Err, if◌then◌else◌, nat_le}
+use Rattle.std.specs.Prelude.{◌≡◌, ℕ, ◌+◌, ◌||◌, List, [], ◌∷◌, ◌++◌, Option, None, Some, Result}
+use Rattle.std.specs.Prelude.{Ok, Err, if◌then◌else◌, nat_le}
 use Rattle.implib.specs.Definition.{ExportView}
 use Rattle.implib.specs.Import.{holds}
 use Rattle.implib.specs.LibraryName.{NamesOfDll}
@@ -9,7 +10,9 @@ use Rattle.implib_arm64ec.specs.ShortImports.{spec_of}
 use Rattle.implib_arm64ec.specs.declared.library.ImportsError.{ImportsError}
 use Rattle.implib_arm64ec.specs.declared.library.ImportsError.TheVariants.{Invalid, OutOfMemory}
 use Rattle.implib_arm64ec.specs.declared.library.ImportsFault.{ImportsFault}
-use Rattle.implib_arm64ec.specs.declared.library.ImportsFault.TheVariants.{MemberTooLong, NulInDllName, NulInExport, Unreadable}
+use Rattle.implib_arm64ec.specs.declared.library.ImportsFault.TheVariants.{MemberTooLong}
+use Rattle.implib_arm64ec.specs.declared.library.ImportsFault.TheVariants.{NulInDllName}
+use Rattle.implib_arm64ec.specs.declared.library.ImportsFault.TheVariants.{NulInExport, Unreadable}
 
 -- the member of a specification
 abbrev pub members_made : Result MemberSpec ℕ → List MemberView
@@ -25,8 +28,8 @@ unfoldable pub imports_of : NamesOfDll → List ExportView → List MemberView
 imports_of dll [] = []
 imports_of dll (e ∷ exports) = import_of_export dll e ++ imports_of dll exports
 
--- what is wrong with a specification of the export at an index: its name has no reading, or its member has more bytes
--- than a 32-bit number can hold
+-- what is wrong with a specification of the export at an index: its name has no reading, or its
+-- member has more bytes than a 32-bit number can hold
 abbrev pub spec_fault : ℕ → Result MemberSpec ℕ → Option ImportsFault
 spec_fault index (Ok spec) = if nat_le (file_size spec.contents) 0xFFFF_FFFF then None else Some (MemberTooLong index)
 spec_fault index (Err place) = Some (Unreadable index place)

@@ -2,7 +2,8 @@
 use Rattle.std.specs.Prelude.{◌≡◌, ℕ, List, None, length}
 use Rattle.implib_archive.specs.Archive.{end_from, names_bytes, sorted_entries}
 use Rattle.implib_archive.specs.declared.kind.Kind.TheVariants.{Coff}
-use Rattle.implib_arm64ec.specs.Archive.{arm64_entries, ec_entries, first_member_place, library_names, library_refusal, member_places}
+use Rattle.implib_arm64ec.specs.Archive.{arm64_entries, ec_entries, first_member_place}
+use Rattle.implib_arm64ec.specs.Archive.{library_names, library_refusal, member_places}
 use Rattle.implib_arm64ec.specs.Library.{LibraryView, for_arm64}
 use Rattle.implib_arm64ec.specs.declared.listing.Listed.{Listed}
 use Rattle.implib_arm64ec.specs.declared.listing.Listed.TheVariants.{Arm64}

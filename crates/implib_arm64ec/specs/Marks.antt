@@ -37,9 +37,9 @@ abbrev pub marked_inside : List ℕ → Option ℕ → Result (List ℕ) ℕ
 marked_inside name (Some place) = Ok name
 marked_inside name None = marked_behind name (read qualified_name (without_first name))
 
--- The name with its mark: itself if it has one already. Without a reading it has none; then the byte is
--- given at which the reading fails. For example, `#func` of func and `?cpp@@$$hYAHPEAX@Z` of
--- `?cpp@@YAHPEAX@Z`.
+-- The name with its mark: itself if it has one already. Without a reading it has none; then the
+-- byte is given at which the reading fails. For example, `#func` of func and `?cpp@@$$hYAHPEAX@Z`
+-- of `?cpp@@YAHPEAX@Z`.
 abbrev pub mark : List ℕ → Result (List ℕ) ℕ
 mark name =
     if is_empty_text name then Err 0

@@ -1,6 +1,8 @@
--- Reading a short import of ARM64EC by its bytes, whoever wrote it: a header of 20 bytes, and two texts or three with a
--- NUL each. The reader states the number of the machine and the name types itself.
-use Rattle.std.specs.Prelude.{ℕ, ◌/◌, ◌%◌, ◌==◌, ◌&&◌, List, [], ◌∷◌, drop, Option, Some, None, if◌then◌else◌}
+-- Reading a short import of ARM64EC by its bytes, whoever wrote it: a header of 20 bytes, and two
+-- texts or three with a NUL each. The reader states the number of the machine and the name types
+-- itself.
+use Rattle.std.specs.Prelude.{ℕ, ◌/◌, ◌%◌, ◌==◌, ◌&&◌, List, [], ◌∷◌, drop, Option, Some, None}
+use Rattle.std.specs.Prelude.{if◌then◌else◌}
 use Rattle.implib.specs.Formats.Object.{u16_at}
 use Rattle.implib.specs.Formats.ShortImport.{is_short_import, text_in}
 use Rattle.implib.specs.Import.{Ask, Name, Ordinal}
@@ -39,9 +41,8 @@ abbrev pub read_after_symbol : List ℕ → Option (List ℕ × List ℕ) → Op
 read_after_symbol bytes None = None
 read_after_symbol bytes (Some (symbol, rest)) = read_after_dll bytes symbol (text_in rest)
 
--- The import that these bytes are. For example,
--- `00 00 ff ff 00 00 41 a6 00 00 00 00 0b 00 00 00 00 00 10 00`, `#f`, NUL, `t.dll`, NUL, `f` and NUL: `#f` of t.dll,
--- which asks for f.
+-- The import that these bytes are. For example, `00 00 ff ff 00 00 41 a6 00 00 00 00 0b 00 00 00 00
+-- 00 10 00`, `#f`, NUL, `t.dll`, NUL, `f` and NUL: `#f` of t.dll, which asks for f.
 abbrev pub import_in : List ℕ → Option ReadImport
 import_in bytes =
     if is_short_import bytes && u16_at bytes 6 == 0xA641

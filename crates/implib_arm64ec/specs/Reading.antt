@@ -6,8 +6,8 @@ use Rattle.implib_arm64ec.specs.declared.nonterminal.Nonterminal.TheVariants.{Le
 use Rattle.implib_arm64ec.specs.declared.reading.Reading.{Reading}
 use Rattle.implib_arm64ec.specs.declared.reading.Reading.TheVariants.{Ends, Stops}
 
--- The texts that parts derive: each byte begins the first part, and what is still to come of that part
--- stands before the other parts.
+-- The texts that parts derive: each byte begins the first part, and what is still to come of that
+-- part stands before the other parts.
 pub data Derives : List Nonterminal → List ℕ → Type 0 where
   Nothing : Derives [] []
   Byte : {part : Nonterminal} {parts begun : List Nonterminal} {b : ℕ} {text : List ℕ}
@@ -22,8 +22,8 @@ abbrev pub one_more : Reading → Reading
 one_more (Ends place) = Ends (suc place)
 one_more (Stops place) = Stops (suc place)
 
--- Reading parts from the beginning of a text: where they end, or the byte at which they stop short of
--- that, the text's length if its bytes are used up.
+-- Reading parts from the beginning of a text: where they end, or the byte at which they stop short
+-- of that, the text's length if its bytes are used up.
 unfoldable pub read : List Nonterminal → List ℕ → Reading
 read [] text = Ends 0
 read (part ∷ parts) [] = Stops 0

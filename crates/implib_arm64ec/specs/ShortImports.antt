@@ -1,6 +1,6 @@
--- The short imports of ARM64EC, and the symbols that an archive lists for each (LLVM, "COFFImportFile.cpp").
--- They are those of other machines, but for the marks of functions, and for a third text, which every function
--- by name has.
+-- The short imports of ARM64EC, and the symbols that an archive lists for each (LLVM,
+-- "COFFImportFile.cpp"). They are those of other machines, but for the marks of functions, and for
+-- a third text, which every function by name has.
 use Rattle.std.specs.Prelude.{ℕ, Bool, not, ◌&&◌, List, [], ◌∷◌, ◌++◌, bytes_eq, codes, unwrap_or}
 use Rattle.std.specs.Prelude.{Option, Some, None, Result, Ok, Err, if◌then◌else◌}
 use Rattle.implib.specs.Definition.{ExportView}
@@ -69,8 +69,9 @@ symbols_with is_data symbol plain =
     if is_data then imp_symbol plain ∷ []
     else imp_symbol plain ∷ plain ∷ auxiliary_symbol plain ∷ symbol_apart symbol plain
 
--- The symbols: a name in them never has the mark, whatever the import is. For example, of the function or the
--- constant `#f`: `__imp_f`, `f`, `__imp_aux_f` and `#f`; of the constant `c` those of `c` alone; of data `#d`: `__imp_d`.
+-- The symbols: a name in them never has the mark, whatever the import is. For example, of the
+-- function or the constant `#f`: `__imp_f`, `f`, `__imp_aux_f` and `#f`; of the constant `c` those
+-- of `c` alone; of data `#d`: `__imp_d`.
 abbrev pub import_symbols : ExportView → List ℕ → List (List ℕ)
 import_symbols e symbol = symbols_with e.is_data symbol (plain_symbol symbol)
 

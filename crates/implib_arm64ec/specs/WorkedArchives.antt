@@ -12,7 +12,8 @@ use Rattle.implib_arm64ec.specs.ArchiveLaws.{IndexesLead, IsReadBack}
 use Rattle.implib_arm64ec.specs.ArchiveReader.{ec_header_for, ec_headers_in, ec_symbols_in}
 use Rattle.implib_arm64ec.specs.Library.{LibraryView}
 
--- The file of `-m arm64ec -d DEF -N NATIVE`, DEF with `f` and `d DATA`, NATIVE with `f`, `g` and `h DATA`: 1850 bytes.
+-- The file of `-m arm64ec -d DEF -N NATIVE`, DEF with `f` and `d DATA`, NATIVE with `f`, `g` and `h
+-- DATA`: 1850 bytes.
 unfoldable pub worked_archive : List ℕ
 worked_archive =
     hex "21 3c 61 72 63 68 3e 0a 2f 20 20 20 20 20 20 20 20 20 20 20 20 20 20 20 30 20 20 20 20 20 20 20 20 20 20 20 30 20 20 20 20 20 30 20 20 20 20 20 30 20"
@@ -92,8 +93,8 @@ descriptor_text = codes "__IMPORT_DESCRIPTOR_t" ++ 0 ∷ (codes "__NULL_IMPORT_D
 abbrev pub thunk_text : List ℕ
 thunk_text = (127 ∷ codes "t_NULL_THUNK_DATA") ++ 0 ∷ []
 
--- The EC index of a function alone, and of no import, and the whole archive. The archive of no members at all has its
--- indexes, too.
+-- The EC index of a function alone, and of no import, and the whole archive. The archive of no
+-- members at all has its indexes, too.
 pub record WorkedArchives : Type 0 where
   pub whole : ec_archive worked_library ≡ worked_archive
   pub function : ec_index (ec_entries function_library)
@@ -112,9 +113,10 @@ pub record WorkedArchives : Type 0 where
       ++ (codes "/<ECSYMBOLS>/   0           0     0     0       10        `\n" ++ (hex "01 00 00 00 01 00 62 63 00 00"
       ++ codes "a/              0           0     0     644     0         `\n")))))
 
--- The archive is read back, with its indexes. `f` is an import for ARM64EC and a native one for ARM64, each found by its
--- own index; `#f` is ARM64EC's alone, and `g` ARM64's. A reader without the EC index finds no members. With imports and
--- native members in the other order it is no archive of the library.
+-- The archive is read back, with its indexes. `f` is an import for ARM64EC and a native one for
+-- ARM64, each found by its own index; `#f` is ARM64EC's alone, and `g` ARM64's. A reader without
+-- the EC index finds no members. With imports and native members in the other order it is no
+-- archive of the library.
 pub record WorkedArchiveReadings : Type 0 where
   pub read : IsReadBack worked_library worked_archive
   pub leads : IndexesLead worked_library worked_archive

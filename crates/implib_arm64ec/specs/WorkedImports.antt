@@ -1,6 +1,7 @@
--- Short imports worked out apart from the program: their bytes, and their symbols in the order of the member's, as
--- llvm-dlltool 19 writes them; and what is read of them.
-use Rattle.std.specs.Prelude.{◌≡◌, ℕ, true, [], ◌∷◌, ◌++◌, List, Option, Some, None, Result, Ok, Err, codes}
+-- Short imports worked out apart from the program: their bytes, and their symbols in the order of
+-- the member's, as llvm-dlltool 19 writes them; and what is read of them.
+use Rattle.std.specs.Prelude.{◌≡◌, ℕ, true, [], ◌∷◌, ◌++◌, List, Option, Some, None, Result, Ok}
+use Rattle.std.specs.Prelude.{Err, codes}
 use Rattle.implib.specs.Definition.{ExportView, empty_export}
 use Rattle.implib.specs.Import.{Name, Ordinal}
 use Rattle.implib.specs.LibraryName.{NamesOfDll}

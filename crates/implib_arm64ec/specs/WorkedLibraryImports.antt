@@ -3,7 +3,8 @@ use Rattle.std.specs.Prelude.{◌≡◌, true, [], ◌∷◌, None, Some, codes,
 use Rattle.implib.specs.Definition.{ExportView, empty_export}
 use Rattle.implib_arm64ec.specs.LibraryImports.{imports_fault, imports_of}
 use Rattle.implib_arm64ec.specs.WorkedImports.{t_dll}
-use Rattle.implib_arm64ec.specs.declared.library.ImportsFault.TheVariants.{NulInDllName, NulInExport, Unreadable}
+use Rattle.implib_arm64ec.specs.declared.library.ImportsFault.TheVariants.{NulInDllName}
+use Rattle.implib_arm64ec.specs.declared.library.ImportsFault.TheVariants.{NulInExport, Unreadable}
 
 -- `f`
 abbrev pub function : ExportView

@@ -23,8 +23,8 @@ use std::alloc::{AllocError, Global};
 use std::io;
 use std::marker::Model;
 
-/// The archive of a library for ARM64EC, whose members it borrows: its layout is known, its bytes are
-/// not made yet.
+/// The archive of a library for ARM64EC, whose members it borrows: its layout is known, its bytes
+/// are not made yet.
 #[derive(Drop)]
 pub struct Archive<'a> {
     source: Listing<'a>,
@@ -50,12 +50,12 @@ impl<'a> Model for Archive<'a> {
 
 impl<'a> Archive<'a> {
     /// The archive of a library, in this order: its headers, which are the descriptor, the null
-    /// descriptor and the null thunk, of machine ARM64; its short imports for ARM64EC; and the members
-    /// for ARM64 of a native definition.
+    /// descriptor and the null thunk, of machine ARM64; its short imports for ARM64EC; and the
+    /// members for ARM64 of a native definition.
     ///
-    /// It is refused as an archive of the COFF kind is: `Error::Invalid` tells the first cause, that of
-    /// the first member that has one, then 65,535 members or more, then a header at an offset of 2^32
-    /// or more. Nothing is refused but for its cause or a failed allocation.
+    /// It is refused as an archive of the COFF kind is: `Error::Invalid` tells the first cause,
+    /// that of the first member that has one, then 65,535 members or more, then a header at an
+    /// offset of 2^32 or more. Nothing is refused but for its cause or a failed allocation.
     pub fn new(
         alloc: Global,
         headers: &'a [Member],
@@ -129,15 +129,16 @@ impl<'a> Archive<'a> {
         }
     }
 
-    /// Writes the archive, its indexes a piece at a time, and the members one at a time. It does not
-    /// flush.
+    /// Writes the archive, its indexes a piece at a time, and the members one at a time. It does
+    /// not flush.
     ///
     /// # Errors
     ///
     /// The writer answered an error or took no byte, or an allocation failed. The writer then has a
     /// beginning of the archive, where its bytes are known. No call is repeated.
     pub fn write_to<W: io::Write>(&self, alloc: Global, writer: &mut W) -> Result<(), WriteError>
-        ensures { Writes (W.contents writer.old) (W.contents writer.new) (ec_archive self.now) result }
+        ensures { Writes (W.contents writer.old) (W.contents writer.new) (ec_archive self.now)
+            result }
     {
         // All that the front needs, unless a symbol is longer than a piece.
         let memory = PIECE_MEMORY

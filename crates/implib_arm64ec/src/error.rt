@@ -8,7 +8,8 @@ use std::alloc::AllocError;
 /// A name without a reading, or a failed allocation.
 #[derive(Debug, Drop, thiserror::Error)]
 pub enum MarkError {
-    /// The name has no reading as one of C++; it fails at the byte of this offset, or at the end of the name.
+    /// The name has no reading as one of C++; it fails at the byte of this offset, or at the end of
+    /// the name.
     #[error("no name of C++ for ARM64EC, byte {0}")]
     Unreadable(usize),
     /// An allocation failed.

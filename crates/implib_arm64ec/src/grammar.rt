@@ -1,7 +1,15 @@
-//! The grammar of mangled names of C++ for Microsoft's compilers, as far as qualified names need it: for
-//! each part and its first byte, the parts that are still to come.
+//! The grammar of mangled names of C++ for Microsoft's compilers, as far as qualified names need
+//! it: for each part and its first byte, the parts that are still to come.
 
-ghost use Rattle.implib_arm64ec.specs.Grammar.{any_type, argument, argument_dollar, argument_dollars, array, at_sign, encoding, function_type, leaf, leaf_mark, leaf_underscore, leaf_underscores, letters, mangled_name, name, name_rest, no_except, number, pack_end, parameters, plain_type, qualifier, qualifiers, question, return_type, scope, scope_mark, signature, signature_end, storage, storage_rest, type_dollar, type_dollars, type_underscore, unsigned};
+ghost use Rattle.implib_arm64ec.specs.Grammar.{any_type, argument, argument_dollar};
+ghost use Rattle.implib_arm64ec.specs.Grammar.{argument_dollars, array, at_sign, encoding};
+ghost use Rattle.implib_arm64ec.specs.Grammar.{function_type, leaf, leaf_mark, leaf_underscore};
+ghost use Rattle.implib_arm64ec.specs.Grammar.{leaf_underscores, letters, mangled_name, name};
+ghost use Rattle.implib_arm64ec.specs.Grammar.{name_rest, no_except, number, pack_end, parameters};
+ghost use Rattle.implib_arm64ec.specs.Grammar.{plain_type, qualifier, qualifiers, question};
+ghost use Rattle.implib_arm64ec.specs.Grammar.{return_type, scope, scope_mark, signature};
+ghost use Rattle.implib_arm64ec.specs.Grammar.{signature_end, storage, storage_rest, type_dollar};
+ghost use Rattle.implib_arm64ec.specs.Grammar.{type_dollars, type_underscore, unsigned};
 ghost use Rattle.std.specs.Prelude.{option_map, ◌≡◌};
 
 use crate::nonterminal::Nonterminal::{
@@ -207,7 +215,8 @@ pub(crate) fn type_dollar(byte: u8) -> Option<&'static [Nonterminal]>
     }
 }
 
-// A type behind `$$`: with qualifiers, a reference to a value that moves, a function, the type of `nullptr`.
+// A type behind `$$`: with qualifiers, a reference to a value that moves, a function, the type of
+// `nullptr`.
 pub(crate) fn type_dollars(byte: u8) -> Option<&'static [Nonterminal]>
     ensures { option_map (λ next. next.now) result ≡ type_dollars byte }
 {
@@ -220,7 +229,8 @@ pub(crate) fn type_dollars(byte: u8) -> Option<&'static [Nonterminal]>
     }
 }
 
-// A type without `$`: with qualifiers, a built-in one, a class, an enumeration, a pointer, an array.
+// A type without `$`: with qualifiers, a built-in one, a class, an enumeration, a pointer, an
+// array.
 pub(crate) fn plain_type(byte: u8) -> Option<&'static [Nonterminal]>
     ensures { option_map (λ next. next.now) result ≡ plain_type byte }
 {

@@ -3,7 +3,8 @@
 ghost use Rattle.implib.specs.Definition.{export_view};
 ghost use Rattle.implib.specs.Members.Msvc.{short_import_symbol};
 ghost use Rattle.implib_arm64ec.specs.Refusal.{IfUnreadable};
-ghost use Rattle.implib_arm64ec.specs.ShortImports.{is_function, name_given, name_type_of, plain_symbol};
+ghost use Rattle.implib_arm64ec.specs.ShortImports.{is_function, name_given, name_type_of};
+ghost use Rattle.implib_arm64ec.specs.ShortImports.{plain_symbol};
 ghost use Rattle.implib_arm64ec.specs.ShortImports.{symbol_of, third_text};
 ghost use Rattle.std.specs.Prelude.{Err, IfOk, Ok, option_map, string_bytes, ◌≡◌, ◌≤◌};
 
@@ -38,8 +39,10 @@ fn own_symbol(export: &ShortExport) -> &str
 
 // The symbol: of a function with its mark.
 pub(crate) fn symbol_of(alloc: Global, export: &ShortExport) -> Result<String, MarkError>
-    ensures ok { IfOk result (λ symbol. symbol_of (export_view export.now) ≡ Ok (string_bytes symbol)) }
-    ensures refused { IfUnreadable result (λ place. symbol_of (export_view export.now) ≡ Err place) }
+    ensures ok { IfOk result (λ symbol. symbol_of (export_view export.now)
+        ≡ Ok (string_bytes symbol)) }
+    ensures refused { IfUnreadable result (λ place. symbol_of (export_view export.now)
+        ≡ Err place) }
 {
     if is_function(export) {
         mark(alloc, own_symbol(export))
@@ -83,7 +86,8 @@ pub(crate) fn third_text<'a>(
     plain: &'a str,
 ) -> Option<&'a str>
     requires { plain.now ≡ plain_symbol symbol.now }
-    ensures { option_map (λ name. name.now) result ≡ third_text (export_view export.now) symbol.now }
+    ensures { option_map (λ name. name.now) result ≡ third_text (export_view export.now)
+        symbol.now }
 {
     if export.no_name {
         return None;

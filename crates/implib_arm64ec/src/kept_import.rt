@@ -3,10 +3,15 @@
 ghost use Rattle.implib.specs.Members.Msvc.{dll_texts, short_import_bytes, short_import_size};
 ghost use Rattle.implib.specs.Members.Msvc.{short_import_view};
 ghost use Rattle.implib.specs.Formats.ShortImport.{import_data};
-ghost use Rattle.implib_arm64ec.specs.KeptImports.{HasTexts, IsKept, IsKeptWith, auxiliary_end, kept_address};
-ghost use Rattle.implib_arm64ec.specs.KeptImports.{kept_auxiliary, kept_import, kept_other, kept_plain};
-ghost use Rattle.implib_arm64ec.specs.KeptImports.{kept_symbol, kept_symbols, kept_third, third_with};
-ghost use Rattle.std.specs.Prelude.{◌≡◌, ◌≤◌, ◌+◌, ◌++◌, ◌<◌, ◌==◌, List, IfOk, MatchBool, OnOk, bytes_eq, not, option_map, get_or, length, ℕ, set, [], string_bytes};
+ghost use Rattle.implib_arm64ec.specs.KeptImports.{HasTexts, IsKept, IsKeptWith, auxiliary_end};
+ghost use Rattle.implib_arm64ec.specs.KeptImports.{kept_address};
+ghost use Rattle.implib_arm64ec.specs.KeptImports.{kept_auxiliary, kept_import, kept_other};
+ghost use Rattle.implib_arm64ec.specs.KeptImports.{kept_plain};
+ghost use Rattle.implib_arm64ec.specs.KeptImports.{kept_symbol, kept_symbols, kept_third};
+ghost use Rattle.implib_arm64ec.specs.KeptImports.{third_with};
+ghost use Rattle.std.specs.Prelude.{◌≡◌, ◌≤◌, ◌+◌, ◌++◌, ◌<◌, ◌==◌, List, IfOk, MatchBool, OnOk};
+ghost use Rattle.std.specs.Prelude.{bytes_eq, not, option_map, get_or, length, ℕ, set, []};
+ghost use Rattle.std.specs.Prelude.{string_bytes};
 
 use implib::msvc::ShortImport;
 use implib::{Error, MachineType};
@@ -38,8 +43,8 @@ pub(crate) enum Third {
 // What a short import says but for its DLL, and the numbers.
 #[derive(Debug, Drop)]
 pub(crate) struct KeptImport {
-    // Four texts: the symbols of the address, of the auxiliary address and of the import itself, and
-    // a third text that is not the name without a mark. As of the function `f`:
+    // Four texts: the symbols of the address, of the auxiliary address and of the import itself,
+    // and a third text that is not the name without a mark. As of the function `f`:
     // `__imp_f__imp_aux_f#f`.
     texts: String,
     address_end: usize,
@@ -116,7 +121,8 @@ fn texts_size(plain: &str, symbol: &str, other: &str) -> usize {
 
 // Appends a prefix and a name.
 fn push_prefixed(texts: &mut String, prefix: &str, name: &str) -> Result<(), AllocError>
-    ensures { OnOk result (string_bytes texts.new ≡ string_bytes texts.old ++ (prefix.now ++ name.now)) }
+    ensures { OnOk result (string_bytes texts.new ≡ string_bytes texts.old
+        ++ (prefix.now ++ name.now)) }
 {
     texts.push_str(prefix)?;
     texts.push_str(name)?;
@@ -261,7 +267,8 @@ impl KeptImport {
     // What it says, but for the machine.
     fn said<'a>(&'a self, dll: &'a str) -> ShortImport<'a>
         requires { IsKept dll.now self.now }
-        ensures says { short_import_view result ≡ record (kept_import dll.now self.now) { machine = 0xAA64 } }
+        ensures says { short_import_view result ≡ record (kept_import dll.now self.now)
+            { machine = 0xAA64 } }
         ensures import_type { result.import_type ≤ 3 }
         ensures name_type { result.name_type ≤ 7 }
     {

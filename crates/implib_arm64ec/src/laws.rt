@@ -9,13 +9,14 @@ ghost use Rattle.implib_arm64ec.specs.WorkedArchives.{WorkedLibraryRefusals};
 ghost use Rattle.implib_arm64ec.specs.WorkedImports.{WorkedImports, WorkedReadings, WorkedSymbols};
 ghost use Rattle.implib_arm64ec.specs.Unmarked.{MarksAreUndone};
 ghost use Rattle.implib_arm64ec.specs.WorkedLibraryImports.{WorkedLibraryImports};
-ghost use Rattle.implib_arm64ec.specs.WorkedMarks.{WorkedCraftedNames, WorkedMarks, WorkedNames, WorkedRefusals};
+ghost use Rattle.implib_arm64ec.specs.WorkedMarks.{WorkedCraftedNames, WorkedMarks, WorkedNames};
+ghost use Rattle.implib_arm64ec.specs.WorkedMarks.{WorkedRefusals};
 ghost use Rattle.implib_arm64ec.specs.declared.reading.Reading.TheVariants.{Ends, Stops};
 ghost use Rattle.std.specs.Prelude.{length, ◌++◌, ◌≡◌, List, ℕ};
 
-/// What is read as a qualified name is what the grammar derives: where reading ends, the bytes before are
-/// derived; whatever is derived is read whole, so at the beginning of a text there is at most one; and
-/// where reading stops short, nothing at the beginning of the text is derived.
+/// What is read as a qualified name is what the grammar derives: where reading ends, the bytes
+/// before are derived; whatever is derived is read whole, so at the beginning of a text there is at
+/// most one; and where reading stops short, nothing at the beginning of the text is derived.
 pub fn readings_are_derived()
     ensures derived { (text : List ℕ) (place : ℕ) → read qualified_name text ≡ Ends place →
         DerivesBefore qualified_name text place }
@@ -46,18 +47,18 @@ pub fn short_imports_read_back()
         ReadsBack dll e symbol }
 {}
 
-/// A reader finds in the archive of each library its linker members, its long names, the EC index and
-/// the members, in order, and nothing else.
+/// A reader finds in the archive of each library its linker members, its long names, the EC index
+/// and the members, in order, and nothing else.
 ///
-/// The linker members lead each symbol to the header of the first header or native member that lists
-/// it, and the EC index to that of the first header or import.
+/// The linker members lead each symbol to the header of the first header or native member that
+/// lists it, and the EC index to that of the first header or import.
 pub fn archives_read_back()
     ensures read { EachIsReadBack }
     ensures leads { EachIndexLeads }
 {}
 
-/// A library for ARM64EC has this archive, which is read back and whose indexes lead to these offsets;
-/// and libraries that are refused.
+/// A library for ARM64EC has this archive, which is read back and whose indexes lead to these
+/// offsets; and libraries that are refused.
 pub fn worked_archives()
     ensures archives { WorkedArchives }
     ensures readings { WorkedArchiveReadings }
@@ -69,8 +70,8 @@ pub fn worked_library_imports()
     ensures { WorkedLibraryImports }
 {}
 
-/// A name without a mark loses the one that it is given; one of C++ does unless its qualified name is all
-/// of it.
+/// A name without a mark loses the one that it is given; one of C++ does unless its qualified name
+/// is all of it.
 pub fn marks_are_undone()
     ensures { MarksAreUndone }
 {}

@@ -26,8 +26,8 @@ pub enum ImportsFault {
     /// A text of the export at this index holds a NUL.
     #[error("export {0}: name contains null byte")]
     NulInExport(usize),
-    /// The name of the function at this index has no reading as one of C++; it fails at the byte of this
-    /// offset, or at the end of the name.
+    /// The name of the function at this index has no reading as one of C++; it fails at the byte of
+    /// this offset, or at the end of the name.
     #[error("export {0}: no name of C++ for ARM64EC, byte {1}")]
     Unreadable(usize, usize),
     /// The member of the export at this index has more than 2^32 - 1 bytes.
@@ -64,8 +64,8 @@ impl From<AllocError> for ImportsError {
     }
 }
 
-/// The short imports of all exports that are not private, in order, as members of a library under its
-/// name for the linker.
+/// The short imports of all exports that are not private, in order, as members of a library under
+/// its name for the linker.
 ///
 /// # Errors
 ///
@@ -77,7 +77,8 @@ pub fn short_imports(
     dll: &str,
 ) -> Result<Arm64ecImports, ImportsError>
     ensures made { IfOk result (λ members. members
-        ≡ imports_of (record { linked = library.now; text = dll.now }) (map export_view exports.now)) }
+        ≡ imports_of (record { linked = library.now; text = dll.now })
+        (map export_view exports.now)) }
     ensures accepted { OnOk result (imports_fault (record { linked = library.now; text = dll.now })
         (map export_view exports.now) ≡ None) }
     ensures refused { IfErr result (IsFault (imports_fault
@@ -107,7 +108,8 @@ fn push_import(
     index: usize,
     dll: &str,
 ) -> Result<(), ImportsError>
-    ensures { Keeps dll.now index (export_view export.now) imports.old.items imports.new.items result }
+    ensures { Keeps dll.now index (export_view export.now) imports.old.items imports.new.items
+        result }
 {
     if export.private {
         return Ok(());
@@ -149,8 +151,10 @@ fn kept_of(
 
 // The symbol of the export at an index.
 fn symbol_at(alloc: Global, export: &ShortExport, index: usize) -> Result<String, ImportsError>
-    ensures ok { IfOk result (λ symbol. symbol_of (export_view export.now) ≡ Ok (string_bytes symbol)) }
-    ensures refused { IfErr result (IsFault (symbol_fault index (symbol_of (export_view export.now)))) }
+    ensures ok { IfOk result (λ symbol. symbol_of (export_view export.now)
+        ≡ Ok (string_bytes symbol)) }
+    ensures refused { IfErr result
+        (IsFault (symbol_fault index (symbol_of (export_view export.now)))) }
 {
     match symbol_of(alloc, export) {
         Ok(symbol) => Ok(symbol),

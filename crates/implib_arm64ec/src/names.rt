@@ -5,7 +5,8 @@ ghost use Rattle.implib.specs.Import.{is_empty_text};
 ghost use Rattle.implib_arm64ec.specs.Marks.{mark, mark_position, marked_at, marked_inside};
 ghost use Rattle.implib_arm64ec.specs.Marks.{unmark, without_mark_at};
 ghost use Rattle.implib_arm64ec.specs.Refusal.{IfUnreadable};
-ghost use Rattle.std.specs.Prelude.{length, option_map, string_bytes, true, Err, IfOk, Ok, Some, ◌≡◌, ◌≤◌};
+ghost use Rattle.std.specs.Prelude.{length, option_map, string_bytes, true, Err, IfOk, Ok, Some};
+ghost use Rattle.std.specs.Prelude.{◌≡◌, ◌≤◌};
 ghost use Rattle.std.specs.Str.{IsCharBoundary};
 
 use crate::error::MarkError;
@@ -14,8 +15,8 @@ use std::alloc::{AllocError, Global};
 
 const INNER_MARK: &str = "$$h";
 
-/// The name of a function for ARM64EC, with its mark: `#` before a plain name, `$$h` behind the qualified
-/// name in one of C++. A name that has its mark already is as it was.
+/// The name of a function for ARM64EC, with its mark: `#` before a plain name, `$$h` behind the
+/// qualified name in one of C++. A name that has its mark already is as it was.
 pub fn mark(alloc: Global, name: &str) -> Result<String, MarkError>
     ensures marked { IfOk result (λ marked. mark name.now ≡ Ok (string_bytes marked)) }
     ensures refused { IfUnreadable result (λ place. mark name.now ≡ Err place) }

@@ -1,6 +1,7 @@
 //! The parts that follow the first byte of any part of a mangled name.
 
-ghost use Rattle.implib_arm64ec.specs.Grammar.{arguments, class_name, class_names, parameters, parameters_rest, pointee, pointee_rest, scopes};
+ghost use Rattle.implib_arm64ec.specs.Grammar.{arguments, class_name, class_names, parameters};
+ghost use Rattle.implib_arm64ec.specs.Grammar.{parameters_rest, pointee, pointee_rest, scopes};
 ghost use Rattle.implib_arm64ec.specs.Grammar.{followed, next};
 ghost use Rattle.implib_arm64ec.specs.Views.{production};
 ghost use Rattle.std.specs.Prelude.{option_map, ◌≡◌};
@@ -40,7 +41,8 @@ fn followed(
     parts: Option<&'static [Nonterminal]>,
     then: &'static [Nonterminal],
 ) -> Option<Production>
-    ensures { option_map production result ≡ followed (option_map (λ next. next.now) parts.entry) then.now }
+    ensures { option_map production result ≡ followed (option_map (λ next. next.now) parts.entry)
+        then.now }
 {
     match parts {
         Some(parts) => Some(Production { parts, then }),

@@ -1,5 +1,6 @@
 -- The library for ARM64EC of a definition (LLVM, "COFFImportFile.cpp"; docs/DLLTOOL.md, "ARM64EC").
-use Rattle.std.specs.Prelude.{◌≡◌, ◌⊎◌, ℕ, true, List, [], ◌∷◌, if◌then◌else◌, Option, None, Some, drop, take, unwrap_or}
+use Rattle.std.specs.Prelude.{◌≡◌, ◌⊎◌, ℕ, true, List, [], ◌∷◌, if◌then◌else◌, Option, None, Some}
+use Rattle.std.specs.Prelude.{drop, take, unwrap_or}
 use Rattle.std.specs.List.{AllByRecursion}
 use Rattle.std.specs.Str.{IsUtf8}
 use Rattle.implib.specs.declared.def.position.Position.{Position}
@@ -17,7 +18,9 @@ use Rattle.implib_arm64ec.specs.Archive.{library_refusal}
 use Rattle.implib_arm64ec.specs.Library.{LibraryView}
 use Rattle.implib_arm64ec.specs.LibraryImports.{imports_fault, imports_of}
 use Rattle.implib_arm64ec.specs.declared.library.ImportsFault.{ImportsFault}
-use Rattle.implib_arm64ec.specs.declared.library.ImportsFault.TheVariants.{MemberTooLong, NulInDllName, NulInExport, Unreadable}
+use Rattle.implib_arm64ec.specs.declared.library.ImportsFault.TheVariants.{MemberTooLong}
+use Rattle.implib_arm64ec.specs.declared.library.ImportsFault.TheVariants.{NulInDllName}
+use Rattle.implib_arm64ec.specs.declared.library.ImportsFault.TheVariants.{NulInExport, Unreadable}
 use Rattle.implib_arm64ec_library.specs.declared.library.Arm64ecRefusal.{Arm64ecRefusal}
 use Rattle.implib_arm64ec_library.specs.declared.library.Arm64ecRefusal.TheVariants as refusal
 use Rattle.implib_arm64ec_library.specs.declared.library.Unimported.{Unimported}
@@ -25,18 +28,20 @@ use Rattle.implib_rules.specs.declared.library.Refusal.{Refusal}
 use Rattle.implib_rules.specs.declared.library.Refusal.TheVariants.{Archive, Members, NoName}
 use Rattle.implib_rules.specs.declared.library.Refusal.TheVariants.{NotUtf8, OutOfMemory, Syntax}
 use Rattle.implib_rules.specs.LibraryName.{with_library_name}
-use Rattle.implib_rules.specs.Library.{DefinitionFor, IsRefusalOfMembers, MembersFor, RefusesText, definition_text}
+use Rattle.implib_rules.specs.Library.{DefinitionFor, IsRefusalOfMembers, MembersFor, RefusesText}
+use Rattle.implib_rules.specs.Library.{definition_text}
 use Rattle.implib_rules.specs.Options.{LibraryOptionsView}
 use Rattle.implib_rules.specs.Places.{IsAtFault, IsAtName}
 use Rattle.implib_rules.specs.Utf8.{IsNotUtf8At}
 
--- The options under which the definition is read: for ARM64, and as for GNU's linker, so that each export asks for its
--- name itself. None is weak for another, since each linker that knows ARM64EC reads a third text.
+-- The options under which the definition is read: for ARM64, and as for GNU's linker, so that each
+-- export asks for its name itself. None is weak for another, since each linker that knows ARM64EC
+-- reads a third text.
 abbrev pub arm64ec_options : LibraryOptionsView → LibraryOptionsView
 arm64ec_options options = record options { machine = ARM64; flavor = Gnu }
 
--- The options of the native definition, which is of the same DLL: those of an ordinary library for ARM64 and Microsoft's
--- linkers, with third texts.
+-- The options of the native definition, which is of the same DLL: those of an ordinary library for
+-- ARM64 and Microsoft's linkers, with third texts.
 abbrev pub native_options : LibraryOptionsView → List ℕ → LibraryOptionsView
 native_options options dll = record options {
   machine = ARM64;
@@ -50,37 +55,40 @@ abbrev pub asked_or : Option (List ℕ) → List ℕ → Option (List ℕ)
 asked_or (Some name) word = Some name
 asked_or None word = if is_empty_text word then None else Some word
 
--- an export that asks for its word after `==`, which the first of these has, also where that is its symbol
+-- an export that asks for its word after `==`, which the first of these has, also where that is its
+-- symbol
 abbrev pub asking_by : List ExportView → ExportView → ExportView
 asking_by [] e = e
 asking_by (written ∷ rest) e = record e { asked_name = asked_or e.asked_name written.alias_target }
 
--- Exports, each asking for the word after `==` that it has in the text. For example, `#f == #f` asks for `#f`, and
--- `#f` for f.
+-- Exports, each asking for the word after `==` that it has in the text. For example, `#f == #f`
+-- asks for `#f`, and `#f` for f.
 abbrev pub asking : List ExportView → List ExportView → List ExportView
 asking written [] = []
 asking written (e ∷ exports) = asking_by written e ∷ asking (drop 1 written) exports
 
--- the definition of these written exports, with the library's name for Microsoft's linkers, each export under the name
--- to link by
+-- the definition of these written exports, with the library's name for Microsoft's linkers, each
+-- export under the name to link by
 abbrev pub for_linkers : List ExportView → DefinitionView → DefinitionView
 for_linkers written d = renamed (with_library_name Msvc (record d { exports = asking written d.exports }))
 
--- Each export of a definition that is read so asks for its own name: none is an alias, which is weak for the symbol of
--- another, and asks for nothing.
+-- Each export of a definition that is read so asks for its own name: none is an alias, which is
+-- weak for the symbol of another, and asks for nothing.
 abbrev pub NoneIsWeak : Type 0
 NoneIsWeak = (text : List ℕ) (options : LibraryOptionsView) (d : DefinitionView)
     → DefinitionFor text (arm64ec_options options) d → AllByRecursion (λ e. e.alias_target ≡ []) d.exports
 
--- The headers and the native members: those of an ordinary library for ARM64, of the native definition or of none.
+-- The headers and the native members: those of an ordinary library for ARM64, of the native
+-- definition or of none.
 pub record AreOrdinary (native : Option (List ℕ)) (options : LibraryOptionsView) (dll : List ℕ) (headers natives : List MemberView) : Type 0 where
   pub ordinary : List MemberView
   pub of_native : MembersFor (unwrap_or native []) (native_options options dll) ordinary
   pub headers_are : headers ≡ take 3 ordinary
   pub natives_are : natives ≡ drop 3 ordinary
 
--- The library of a definition, and of a native one, where the name of the DLL is the one given, or the definition's:
--- headers and native members are those of an ordinary library, and between them are the short imports of the definition.
+-- The library of a definition, and of a native one, where the name of the DLL is the one given, or
+-- the definition's: headers and native members are those of an ordinary library, and between them
+-- are the short imports of the definition.
 pub record IsLibraryNamed (bytes : List ℕ) (native : Option (List ℕ)) (options : LibraryOptionsView) (l : LibraryView) : Type 0 where
   pub utf8 : IsUtf8 (definition_text bytes)
   pub definition : DefinitionView
@@ -101,7 +109,8 @@ pub record RefusesImports (bytes : List ℕ) (options : LibraryOptionsView) (fau
   pub parses : Parses (definition_text bytes) AMD64 written
   pub refused : imports_fault (names_for Msvc (for_linkers written.exports definition)) (for_linkers written.exports definition).exports ≡ Some fault
 
--- the fault of short imports is told so: its export, if it is of one, is at this position of the text
+-- the fault of short imports is told so: its export, if it is of one, is at this position of the
+-- text
 abbrev pub IsUnimported : List ℕ → ImportsFault → Unimported → Type 0
 IsUnimported text NulInDllName why = why.fault ≡ NulInDllName
 IsUnimported text (NulInExport index) why = (why.fault ≡ NulInExport index) × IsAtName text index why.position
@@ -158,8 +167,8 @@ NativeNameBy (Some bytes) options None name = GivesName bytes options name
 abbrev pub IsNativeName : Option (List ℕ) → LibraryOptionsView → Option (List ℕ) → Type 0
 IsNativeName native options name = NativeNameBy native options options.dll name
 
--- The options with the name of the DLL: the one given; else that of the native definition; else none is given, and it
--- is the definition's (LLVM, "LibDriver.cpp" and "DlltoolDriver.cpp").
+-- The options with the name of the DLL: the one given; else that of the native definition; else
+-- none is given, and it is the definition's (LLVM, "LibDriver.cpp" and "DlltoolDriver.cpp").
 abbrev pub named : LibraryOptionsView → Option (List ℕ) → LibraryOptionsView
 named options None = options
 named options (Some name) = record options { dll = Some name }
@@ -183,7 +192,8 @@ pub record RefusesTexts (bytes : List ℕ) (native : Option (List ℕ)) (options
   pub is_own : IsNativeName native options own
   pub refused : IsRefusalNamed bytes native (named options own) why
 
--- a native definition is refused before the other is read, where it could give the name, or after it
+-- a native definition is refused before the other is read, where it could give the name, or after
+-- it
 abbrev pub IsRefusalOfNative : List ℕ → Option (List ℕ) → LibraryOptionsView → Refusal → Type 0
 IsRefusalOfNative bytes native options why =
     RefusesName native options why ⊎ RefusesTexts bytes native options (refusal.OfNative why)

@@ -4,11 +4,14 @@ ghost use Rattle.implib.specs.Definition.{definition_view, export_view};
 ghost use Rattle.implib.specs.Library.{member_view};
 ghost use Rattle.implib_arm64ec.specs.Archive.{library_refusal};
 ghost use Rattle.implib_arm64ec.specs.LibraryImports.{IsFault, imports_fault, imports_of};
-ghost use Rattle.implib_arm64ec_library.specs.Libraries.{AreOrdinary, IsLibraryOfTexts, IsRefusalOfArchive};
+ghost use Rattle.implib_arm64ec_library.specs.Libraries.{AreOrdinary, IsLibraryOfTexts};
+ghost use Rattle.implib_arm64ec_library.specs.Libraries.{IsRefusalOfArchive};
 ghost use Rattle.implib_arm64ec_library.specs.Libraries.{IsRefusalOfTexts, IsUnimported};
-ghost use Rattle.implib_arm64ec_library.specs.Libraries.{GivesName, IsLibraryNamed, IsNativeName, IsRefusalNamed};
+ghost use Rattle.implib_arm64ec_library.specs.Libraries.{GivesName, IsLibraryNamed, IsNativeName};
+ghost use Rattle.implib_arm64ec_library.specs.Libraries.{IsRefusalNamed};
 ghost use Rattle.implib_arm64ec_library.specs.Libraries.{IsRefusalOfDefinition, RefusesName};
-ghost use Rattle.implib_arm64ec_library.specs.Libraries.{arm64ec_options, asking, asking_by, for_linkers, native_options};
+ghost use Rattle.implib_arm64ec_library.specs.Libraries.{arm64ec_options, asking, asking_by};
+ghost use Rattle.implib_arm64ec_library.specs.Libraries.{for_linkers, native_options};
 ghost use Rattle.implib.specs.LibraryName.{names_for};
 ghost use Rattle.implib.specs.declared.flavor.Flavor.TheVariants.{Msvc};
 ghost use Rattle.implib_rules.specs.Library.{IsRefusalOfMembers};
@@ -21,7 +24,7 @@ use crate::held::held;
 use implib::def::{ModuleDef, Position, ShortExport};
 use implib::msvc::linked_dll;
 use implib::{Fault, Flavor, ImportLibrary, MachineType, Member};
-use implib_arm64ec::{Archive, ImportsError, ImportsFault, short_imports};
+use implib_arm64ec::{Archive, Arm64ecImports, ImportsError, ImportsFault, short_imports};
 use implib_rules::library::{Refusal, definition_for, members_for};
 use implib_rules::library_name::library_name_for;
 use implib_rules::linked::Naming;
@@ -36,8 +39,8 @@ use std::slice::Iter;
 pub struct Arm64ecLibrary {
     /// The descriptor, the null descriptor and the null thunk, of ARM64.
     pub headers: Vec<Member>,
-    /// The short imports of the definition, of ARM64EC.
-    pub imports: Vec<Member>,
+    /// The short imports of the definition, of ARM64EC, which are made when they are wanted.
+    pub imports: Arm64ecImports,
     /// The members of the native definition, of ARM64.
     pub natives: Vec<Member>,
 }
@@ -88,7 +91,8 @@ fn arm64ec_options<'a>(options: &LibraryOptions<'a>) -> LibraryOptions<'a>
 
 // Those of the native definition.
 fn native_options<'a>(options: &LibraryOptions<'a>, dll: &'a str) -> LibraryOptions<'a>
-    ensures { library_options_view result ≡ native_options (library_options_view options.now) dll.now }
+    ensures { library_options_view result ≡ native_options (library_options_view options.now)
+        dll.now }
 {
     LibraryOptions {
         machine: MachineType::ARM64,
@@ -119,7 +123,8 @@ fn told(alloc: Global, text: &str, fault: ImportsFault) -> Result<Unimported, Al
     Ok(Unimported { fault, position })
 }
 
-// Gives an export without an asked name its word after `==`, which the next of these has, if it has one.
+// Gives an export without an asked name its word after `==`, which the next of these has, if it has
+// one.
 fn ask_written(export: &mut ShortExport, left: &mut Iter<'_, ShortExport>) -> Result<(), AllocError>
     ensures export { OnOk result (export_view export.new
         ≡ asking_by (map export_view left.old.rest.now) (export_view export.old)) }
@@ -147,7 +152,8 @@ fn ask_as_written(exports: &mut Vec<ShortExport>, written: &[ShortExport]) -> Re
     Ok(())
 }
 
-// A definition with its library's name for Microsoft's linkers, each export under the name to link by.
+// A definition with its library's name for Microsoft's linkers, each export under the name to link
+// by.
 fn for_linkers(alloc: Global, written: &ModuleDef, def: ModuleDef) -> Result<ModuleDef, AllocError>
     ensures { IfOk result (λ linked. definition_view linked
         ≡ for_linkers (definition_view written.now).exports (definition_view def)) }
@@ -159,8 +165,8 @@ fn for_linkers(alloc: Global, written: &ModuleDef, def: ModuleDef) -> Result<Mod
 }
 
 // The short imports of a definition.
-fn imports_for(alloc: Global, def: &ModuleDef) -> Result<Vec<Member>, ImportsError>
-    ensures made { IfOk result (λ members. map member_view members.items
+fn imports_for(alloc: Global, def: &ModuleDef) -> Result<Arm64ecImports, ImportsError>
+    ensures made { IfOk result (λ members. members
         ≡ imports_of (names_for Msvc (definition_view def.now)) (definition_view def.now).exports) }
     ensures accepted { OnOk result (imports_fault (names_for Msvc (definition_view def.now))
         (definition_view def.now).exports ≡ None) }
@@ -216,7 +222,7 @@ fn library_named(
     ensures made { IfOk result (λ library. IsLibraryNamed bytes.now
         (option_map (λ text. text.now) native.entry) (library_options_view options.now) (record {
           headers = map member_view library.headers.items;
-          imports = map member_view library.imports.items;
+          imports = library.imports;
           natives = map member_view library.natives.items;
         })) }
     ensures refused { IfErr result (IsRefusalNamed bytes.now
@@ -295,15 +301,15 @@ fn native_name(
     }
 }
 
-/// The members of the library for ARM64EC of a definition's bytes, and of a native definition's. The DLL has
-/// the name that is given, or else that of the native definition, or else the definition's. The machine and
-/// the flavour of the options are of no effect.
+/// The members of the library for ARM64EC of a definition's bytes, and of a native definition's.
+/// The DLL has the name that is given, or else that of the native definition, or else the
+/// definition's. The machine and the flavour of the options are of no effect.
 ///
 /// # Errors
 ///
-/// `OfDefinition`: bytes that are not UTF-8, or what `definition_for` refuses. `OfImports`: a name that a short
-/// import of ARM64EC cannot have. `OfNative`: what `members_for` refuses of the native definition, first what is
-/// no definition, where it could name the DLL.
+/// `OfDefinition`: bytes that are not UTF-8, or what `definition_for` refuses. `OfImports`: a name
+/// that a short import of ARM64EC cannot have. `OfNative`: what `members_for` refuses of the native
+/// definition, first what is no definition, where it could name the DLL.
 pub fn arm64ec_library_for(
     alloc: Global,
     bytes: &[u8],
@@ -313,7 +319,7 @@ pub fn arm64ec_library_for(
     ensures made { IfOk result (λ library. IsLibraryOfTexts bytes.now
         (option_map (λ text. text.now) native.entry) (library_options_view options.now) (record {
           headers = map member_view library.headers.items;
-          imports = map member_view library.imports.items;
+          imports = library.imports;
           natives = map member_view library.natives.items;
         })) }
     ensures refused { IfErr result (IsRefusalOfTexts bytes.now
@@ -341,24 +347,24 @@ pub fn arm64ec_library_for(
 pub fn arm64ec_archive(library: &Arm64ecLibrary, alloc: Global) -> Result<Archive<'_>, Refusal>
     ensures holds { IfOk result (λ archive. archive ≡ record {
       headers = map member_view library.now.headers.items;
-      imports = map member_view library.now.imports.items;
+      imports = library.now.imports;
       natives = map member_view library.now.natives.items;
     }) }
     ensures accepted { OnOk result (library_refusal (record {
       headers = map member_view library.now.headers.items;
-      imports = map member_view library.now.imports.items;
+      imports = library.now.imports;
       natives = map member_view library.now.natives.items;
     }) ≡ None) }
     ensures refused { IfErr result (IsRefusalOfArchive (record {
       headers = map member_view library.now.headers.items;
-      imports = map member_view library.now.imports.items;
+      imports = library.now.imports;
       natives = map member_view library.now.natives.items;
     })) }
 {
     Ok(Archive::new(
         alloc,
         library.headers.as_slice(),
-        library.imports.as_slice(),
+        &library.imports,
         library.natives.as_slice(),
     )?)
 }

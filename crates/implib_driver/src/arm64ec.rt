@@ -85,7 +85,7 @@ fn finish_arm64ec<D: Disk, T: Reporter>(
     requires { (D.view disk.old).left ≡ None }
     ensures { FinishesMembers D.is_known (record {
       headers = map member_view library.now.headers.items;
-      imports = map member_view library.now.imports.items;
+      imports = library.now.imports;
       natives = map member_view library.now.natives.items;
     }) (request_view request.now) (D.view disk.old) (D.view disk.new)
         (T.said reporter.old) (T.said reporter.new) result }
@@ -111,7 +111,7 @@ fn finish_arm64ec<D: Disk, T: Reporter>(
 fn has_headers_alone(library: &Arm64ecLibrary) -> bool
     ensures { result ≡ has_headers_alone (record {
       headers = map member_view library.now.headers.items;
-      imports = map member_view library.now.imports.items;
+      imports = library.now.imports;
       natives = map member_view library.now.natives.items;
     }) }
 {
@@ -130,7 +130,7 @@ fn finish_library<D: Disk, T: Reporter>(
     requires { (D.view disk.old).left ≡ None }
     ensures { FinishesLibrary D.is_known bytes.now (record {
       headers = map member_view library.now.headers.items;
-      imports = map member_view library.now.imports.items;
+      imports = library.now.imports;
       natives = map member_view library.now.natives.items;
     }) (request_view request.now) (D.view disk.old) (D.view disk.new)
         (T.said reporter.old) (T.said reporter.new) result }

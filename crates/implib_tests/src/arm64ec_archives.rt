@@ -2,7 +2,7 @@
 
 use implib::def::ModuleDef;
 use implib::{Flavor, ImportLibrary, MachineType, Member};
-use implib_arm64ec::{Archive, short_imports};
+use implib_arm64ec::{Archive, Arm64ecImports, short_imports};
 use std::alloc::Global;
 use std::test::Fail;
 
@@ -60,7 +60,7 @@ fn expect(is_held: bool, what: &'static str) -> Result<(), Fail> {
 fn expect_bytes(
     alloc: Global,
     members: &[Member],
-    imports: &[Member],
+    imports: &Arm64ecImports,
     bytes: &[u8],
 ) -> Result<(), Fail> {
     let headers = members.get(..3).ok_or("the headers are fewer")?;
@@ -89,5 +89,5 @@ fn a_library_has_these_bytes(rt: HostRuntime) -> Result<(), Fail> {
     let def = ModuleDef::parse(alloc, text, MachineType::ARM64)?;
     let dll = def.import_name.as_str();
     let imports = short_imports(alloc, def.exports.as_slice(), dll, dll)?;
-    expect_bytes(alloc, members.as_slice(), imports.as_slice(), LIBRARY)
+    expect_bytes(alloc, members.as_slice(), &imports, LIBRARY)
 }

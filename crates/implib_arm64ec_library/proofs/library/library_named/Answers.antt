@@ -19,7 +19,7 @@ returns-in-Ok-ordinary_for-clause-made c =
     let options = library_options_view c.args.options.now in
     let native = option_map (λ (text : Bor (List ℕ)). text.now) c.args.native in
     let d = definition_view c.in-Ok-definition_for.def in
-    let imports = map member_view c.in-Ok-imports_for.imports.items in
+    let imports = c.in-Ok-imports_for.imports in
     let found = found_in bytes c.in-Ok.text.now c.in_ok-read.read c.in_ok-read.ensures c.in-Ok.ensures in
     let read : DefinitionFor c.in-Ok.text.now (arm64ec_options options) d =
     subst (λ o. DefinitionFor c.in-Ok.text.now o d) c.arm64ec_options.ensures c.in-Ok-definition_for.ensures.meant in
