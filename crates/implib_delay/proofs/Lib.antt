@@ -4,6 +4,8 @@ pub mod Calls32
 pub mod WorkedCalls
 pub mod Rows
 pub mod Held
+pub mod Sizes
+pub mod Kept
 pub mod Refused
 pub mod WorkedObjects
 pub mod Readings

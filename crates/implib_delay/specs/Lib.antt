@@ -9,6 +9,8 @@ pub mod Names
 pub mod Objects
 pub mod Refusal
 pub mod Members
+pub mod Kept
+pub mod Spots
 pub mod WorkedObjects
 pub mod Reader
 pub mod WorkedReadings

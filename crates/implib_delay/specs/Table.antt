@@ -1,8 +1,10 @@
 -- An object as a table: what its rows hold.
-use Rattle.std.specs.Prelude.{List, [], None, map}
+use Rattle.std.specs.Prelude.{ℕ, List, [], None, bytes_eq, map, if◌then◌else◌}
+use Rattle.std.specs.List.{list_any}
 use Rattle.implib.specs.declared.machine.MachineType.{MachineType}
 use Rattle.implib.specs.Formats.Object.{ObjectSection}
-use Rattle.implib.specs.Formats.Writer.{AddedSymbol, WriterState}
+use Rattle.implib.specs.Formats.Layout.{string_size}
+use Rattle.implib.specs.Formats.Writer.{AddedSymbol, WriterState, is_long}
 use Rattle.implib_delay.specs.declared.table.SectionRow.{SectionRow}
 use Rattle.implib_delay.specs.declared.table.SymbolRow.{SymbolRow}
 
@@ -41,3 +43,11 @@ table_view machine sections symbols = record {
   sections = map section_row sections;
   symbols = map symbol_row symbols;
 }
+
+-- the size in bytes of a name in the string table; 0 where its record has it
+abbrev pub long_name_size : List ℕ → ℕ
+long_name_size name = if is_long name then string_size name else 0
+
+-- the size in bytes that a name adds to the string table after those of other symbols
+abbrev pub added_size : List ℕ → List AddedSymbol → ℕ
+added_size name others = if list_any (λ s. bytes_eq name s.name) others then 0 else long_name_size name

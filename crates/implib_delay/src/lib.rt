@@ -5,6 +5,7 @@
 
 mod asked;
 mod error;
+mod exports;
 pub mod laws;
 mod members;
 mod names;
@@ -13,4 +14,4 @@ mod refusal;
 mod table;
 
 pub use error::{DelayError, DelayFault};
-pub use members::delayed_members;
+pub use members::{DelayedMembers, delayed_members};

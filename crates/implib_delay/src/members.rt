@@ -1,33 +1,133 @@
 //! The members of a library of delayed imports.
 
 ghost use Rattle.implib.specs.Definition.{definition_view, export_view};
-ghost use Rattle.implib.specs.Import.{holds, imp_symbol, is_empty_text, public_exports};
+ghost use Rattle.implib.specs.Import.{holds, public_exports};
 ghost use Rattle.implib.specs.Library.{member_view};
 ghost use Rattle.implib.specs.LibraryName.{linked_name};
 ghost use Rattle.implib.specs.Members.Members.{has_u16_ordinal};
-ghost use Rattle.implib.specs.Members.NameRules.{definition_names_refusal, holds_nul};
+ghost use Rattle.implib.specs.Members.NameRules.{definition_names_refusal};
 ghost use Rattle.implib.specs.Renaming.{renamed};
-ghost use Rattle.implib.specs.Views.Making.{MakesMember, MakesMembers, PushesMembers};
+ghost use Rattle.implib.specs.Views.Making.{MakesMember};
 ghost use Rattle.implib.specs.declared.flavor.Flavor.TheVariants.{Gnu};
+ghost use Rattle.implib_archive.specs.Sources.{member_at};
+ghost use Rattle.implib_delay.specs.Kept.{MakesDelayed, MakesExports};
 ghost use Rattle.implib_delay.specs.Members.{AreDelayedMembersOf, delay_refusal, delayed_specs};
-ghost use Rattle.implib_delay.specs.Members.{export_spec, head_spec, names_of, numbered_specs};
-ghost use Rattle.implib_delay.specs.Members.{tail_spec};
-ghost use Rattle.implib_delay.specs.Names.{handle_symbol, name_symbol, tail_symbol};
+ghost use Rattle.implib_delay.specs.Members.{head_spec, names_of, numbered_specs, tail_spec};
 ghost use Rattle.implib_delay.specs.Reader.{DelayedReadBack};
 ghost use Rattle.implib_delay.specs.Refusal.{IfRefused, input_refusal};
+ghost use Rattle.implib_delay.specs.Spots.{IsThere};
 ghost use Rattle.std.specs.List.{list_all};
-ghost use Rattle.std.specs.Prelude.{None, Some, [], false, map, string_bytes, true, ◌∷◌, ◌≡◌, IfOk};
-ghost use Rattle.std.specs.Prelude.{OnOk};
+ghost use Rattle.std.specs.Prelude.{None, Some, false, length, true, ◌<◌, ◌≡◌, IfOk, OnOk};
 
 use crate::error::{DelayError, DelayFault};
-use crate::names::{
-    export_name, handle_symbol, head_name, imp_symbol, name_symbol, tail_name, tail_symbol,
-};
-use crate::objects::{export_object, head_object, tail_object};
+use crate::exports::DelayedExports;
+use crate::names::{handle_symbol, head_name, name_symbol, tail_name, tail_symbol};
+use crate::objects::{head_object, tail_object};
 use crate::refusal::input_fault;
-use implib::def::{ModuleDef, ShortExport};
+use implib::def::ModuleDef;
 use implib::{Error, Flavor, ImportLibrary, MachineType, Member};
-use std::alloc::Global;
+use implib_archive::{Members, Source};
+use std::alloc::{AllocError, Global};
+use std::marker::Model;
+
+/// The members of a library of delayed imports, in order: those of the exports, the head and the
+/// tail. Of an export what its object says is kept; its bytes are made when they are wanted.
+#[derive(Debug, Drop)]
+pub struct DelayedMembers {
+    exports: DelayedExports,
+    head: Member,
+    tail: Member,
+}
+
+impl Model for DelayedMembers {
+    ghost use Rattle.implib.specs.Library.{member_view};
+    ghost use Rattle.implib.specs.Members.MemberSpec.{MemberView};
+    ghost use Rattle.std.specs.Prelude.{◌++◌, ◌∷◌, [], List};
+
+    ghost Value = { List MemberView };
+
+    ghost view = { λ m. m.exports.members ++ (member_view m.head ∷ member_view m.tail ∷ []) };
+}
+
+// Where a member is.
+enum Spot<'a> {
+    // Here.
+    Held(&'a Member),
+    // Among these, at the same index.
+    Kept(&'a DelayedExports),
+}
+
+impl DelayedMembers {
+    /// How many there are.
+    pub fn len(&self) -> usize
+        ensures { result ≡ length self.now }
+    {
+        self.exports.len() + 2
+    }
+
+    // Where the member at an index is.
+    fn spot(&self, index: usize) -> Spot<'_>
+        requires { index < length self.now }
+        ensures { IsThere self.now index result }
+    {
+        let count = self.exports.len();
+        if index < count {
+            Spot::Kept(&self.exports)
+        } else if index == count {
+            Spot::Held(&self.head)
+        } else {
+            Spot::Held(&self.tail)
+        }
+    }
+}
+
+impl<'a> Members for &'a DelayedMembers {
+    ghost members = { λ members. members.now };
+}
+
+impl<'a> Source<'a> for &'a DelayedMembers {
+    fn count(&self) -> usize {
+        self.len()
+    }
+
+    fn name(&self, index: usize) -> &'a str {
+        match self.spot(index) {
+            Spot::Held(member) => member.name.as_str(),
+            Spot::Kept(exports) => exports.name(index),
+        }
+    }
+
+    fn size(&self, index: usize) -> usize {
+        match self.spot(index) {
+            Spot::Held(member) => member.bytes.as_slice().len(),
+            Spot::Kept(exports) => exports.size(index),
+        }
+    }
+
+    fn symbol_count(&self, index: usize) -> usize {
+        match self.spot(index) {
+            Spot::Held(member) => member.symbols.as_slice().len(),
+            Spot::Kept(exports) => exports.symbol_count(index),
+        }
+    }
+
+    fn symbol(&self, index: usize, number: usize) -> &'a str {
+        match self.spot(index) {
+            Spot::Held(member) => member.symbols[number].as_str(),
+            Spot::Kept(exports) => exports.symbol(index, number),
+        }
+    }
+
+    fn push_bytes(&self, index: usize, out: &mut Vec<u8>) -> Result<(), AllocError> {
+        match self.spot(index) {
+            Spot::Held(member) => out.extend_from_slice(member.bytes.as_slice()),
+            Spot::Kept(exports) => {
+                let bytes = exports.bytes(*out.allocator(), index)?;
+                out.extend_from_slice(bytes.as_slice())
+            }
+        }
+    }
+}
 
 /// The members of the library by which the exports of a definition are delayed (docs/guarantees/
 /// delay.md): for GNU's linker, on I386 and AMD64. Each export is under its name to link by, and
@@ -39,11 +139,10 @@ use std::alloc::Global;
 /// `Invalid` with the first rule that the definition breaks: `Machine`; `Names`, where an ordinary
 /// library is refused too; `Data` or `Alias` with the index of an export that is not private; and
 /// `Names` with `MemberTooLong`. `OutOfMemory`.
-pub fn delayed_members(def: ModuleDef, machine: MachineType) -> Result<Vec<Member>, DelayError>
-    ensures ok { IfOk result (λ members. AreDelayedMembersOf (renamed (definition_view def)) machine
-        (map member_view members.items)) }
-    ensures reads { IfOk result (λ members. DelayedReadBack (definition_view def) machine
-        (map member_view members.items)) }
+pub fn delayed_members(def: ModuleDef, machine: MachineType) -> Result<DelayedMembers, DelayError>
+    ensures ok { IfOk result
+        (AreDelayedMembersOf (renamed (definition_view def)) machine) }
+    ensures reads { IfOk result (DelayedReadBack (definition_view def) machine) }
     ensures refused { IfRefused result
         (λ cause. delay_refusal (renamed (definition_view def)) machine ≡ Some cause) }
 {
@@ -53,9 +152,8 @@ pub fn delayed_members(def: ModuleDef, machine: MachineType) -> Result<Vec<Membe
 }
 
 // The members of a definition whose exports are under their names to link by.
-fn renamed_members(def: &ModuleDef, machine: MachineType) -> Result<Vec<Member>, DelayError>
-    ensures ok { IfOk result (λ members. AreDelayedMembersOf (definition_view def.now) machine
-        (map member_view members.items)) }
+fn renamed_members(def: &ModuleDef, machine: MachineType) -> Result<DelayedMembers, DelayError>
+    ensures ok { IfOk result (AreDelayedMembersOf (definition_view def.now) machine) }
     ensures refused { IfRefused result
         (λ cause. delay_refusal (definition_view def.now) machine ≡ Some cause) }
 {
@@ -67,21 +165,23 @@ fn renamed_members(def: &ModuleDef, machine: MachineType) -> Result<Vec<Member>,
 }
 
 // The members of a definition that breaks no rule on names.
-fn sound_members(def: &ModuleDef, machine: MachineType) -> Result<Vec<Member>, Error>
+fn sound_members(def: &ModuleDef, machine: MachineType) -> Result<DelayedMembers, Error>
     requires { definition_names_refusal (definition_view def.now) machine Gnu ≡ None }
-    ensures made { MakesMembers (delayed_specs machine (names_of (definition_view def.now))
+    ensures made { MakesDelayed (delayed_specs machine (names_of (definition_view def.now))
         (public_exports (definition_view def.now))) result }
     ensures ordinals { OnOk result
         (list_all has_u16_ordinal (public_exports (definition_view def.now)) ≡ true) }
 {
     let alloc = *def.exports.allocator();
     let library = linked_name(def);
-    let tail = tail_symbol(alloc, machine, library)?;
-    let name = name_symbol(alloc, library)?;
-    let handle = handle_symbol(alloc, library)?;
-    let mut members = build(def, machine, tail.as_str(), name.as_str(), handle.as_str())?;
-    push_head_and_tail(&mut members, machine, library, def.import_name.as_str())?;
-    Ok(members)
+    let head = head_member(alloc, machine, library)?;
+    let tail = tail_member(alloc, machine, library, def.import_name.as_str())?;
+    let exports = kept_exports(def, machine)?;
+    Ok(DelayedMembers {
+        exports,
+        head,
+        tail,
+    })
 }
 
 // The name that the members and their symbols are named after.
@@ -95,131 +195,24 @@ fn linked_name(def: &ModuleDef) -> &str
 }
 
 // The members of the exports, in order.
-fn build(
-    def: &ModuleDef,
-    machine: MachineType,
-    tail: &str,
-    name: &str,
-    handle: &str,
-) -> Result<Vec<Member>, Error>
-    requires names { definition_names_refusal (definition_view def.now) machine Gnu ≡ None }
-    requires tail { tail.now
-        ≡ tail_symbol machine (linked_name (definition_view def.now)) }
-    requires name { name.now ≡ name_symbol (linked_name (definition_view def.now)) }
-    requires handle { handle.now
-        ≡ handle_symbol (linked_name (definition_view def.now)) }
-    ensures made { MakesMembers (numbered_specs machine (linked_name (definition_view def.now)) 0
+fn kept_exports(def: &ModuleDef, machine: MachineType) -> Result<DelayedExports, Error>
+    requires { definition_names_refusal (definition_view def.now) machine Gnu ≡ None }
+    ensures made { MakesExports (numbered_specs machine (linked_name (definition_view def.now)) 0
         (public_exports (definition_view def.now))) result }
     ensures ordinals { OnOk result
         (list_all has_u16_ordinal (public_exports (definition_view def.now)) ≡ true) }
 {
+    let alloc = *def.exports.allocator();
     let library = linked_name(def);
-    let mut members = Vec::new(*def.exports.allocator());
+    let mut exports = DelayedExports::with_capacity(alloc, machine, library, def.exports.len())?;
     let mut number = 0usize;
     for export in def.exports.iter() {
         if !export.private {
-            push_export(
-                &mut members,
-                export,
-                number,
-                machine,
-                library,
-                tail,
-                name,
-                handle,
-            )?;
+            exports.push(export, number)?;
             number += 1;
         }
     }
-    Ok(members)
-}
-
-// Pushes the member of an export.
-fn push_export(
-    members: &mut Vec<Member>,
-    export: &ShortExport,
-    number: usize,
-    machine: MachineType,
-    library: &str,
-    tail: &str,
-    name: &str,
-    handle: &str,
-) -> Result<(), Error>
-    requires library_text { holds 0 library.now ≡ false }
-    requires tail { tail.now ≡ tail_symbol machine library.now }
-    requires name { name.now ≡ name_symbol library.now }
-    requires handle { handle.now ≡ handle_symbol library.now }
-    requires nul { holds_nul (export_view export.now) ≡ false }
-    requires filled { is_empty_text (export_view export.now).name ≡ false }
-    ensures pushed { PushesMembers
-        (export_spec machine library.now number (export_view export.now) ∷ [])
-        members.old.items members.new.items result }
-    ensures ordinal { OnOk result (has_u16_ordinal (export_view export.now) ≡ true) }
-{
-    let alloc = *members.allocator();
-    members.push(export_member(alloc, export, number, machine, library, tail, name, handle)?)?;
-    Ok(())
-}
-
-// The member of the export of this number.
-#[tactic(auto, unfolding(crate::specs::Members::export_spec))]
-fn export_member<'a>(
-    alloc: Global,
-    export: &'a ShortExport,
-    number: usize,
-    machine: MachineType,
-    library: &str,
-    tail: &'a str,
-    name: &'a str,
-    handle: &'a str,
-) -> Result<Member, Error>
-    requires library_text { holds 0 library.now ≡ false }
-    requires tail { tail.now ≡ tail_symbol machine library.now }
-    requires name { name.now ≡ name_symbol library.now }
-    requires handle { handle.now ≡ handle_symbol library.now }
-    requires name_text { holds 0 (export_view export.now).name ≡ false }
-    requires filled { is_empty_text (export_view export.now).name ≡ false }
-    ensures made { MakesMember
-        (export_spec machine library.now number (export_view export.now)) result }
-    ensures ordinal { OnOk result (has_u16_ordinal (export_view export.now) ≡ true) }
-{
-    // This brings the range of the ordinal, 16 bits, into the proof.
-    let _ordinal = export.ordinal;
-    let address = imp_symbol(alloc, export.name.as_str())?;
-    let bytes = export_object(
-        alloc,
-        export,
-        machine,
-        library,
-        tail,
-        name,
-        handle,
-        address.as_str(),
-    )?;
-    let symbol = String::from_str(alloc, export.name.as_str())?;
-    let symbols = vec![in alloc; symbol, address]?;
-    Ok(Member {
-        name: export_name(alloc, library, number)?,
-        bytes,
-        symbols,
-    })
-}
-
-// Pushes the head and the tail of a library of this name and of this DLL.
-fn push_head_and_tail(
-    members: &mut Vec<Member>,
-    machine: MachineType,
-    library: &str,
-    dll: &str,
-) -> Result<(), Error>
-    requires { holds 0 library.now ≡ false }
-    ensures { PushesMembers (head_spec machine library.now
-        ∷ tail_spec machine (record { linked = library.now; text = dll.now }) ∷ [])
-        members.old.items members.new.items result }
-{
-    members.push(head_member(*members.allocator(), machine, library)?)?;
-    members.push(tail_member(*members.allocator(), machine, library, dll)?)?;
-    Ok(())
+    Ok(exports)
 }
 
 #[tactic(auto, unfolding(crate::specs::Members::head_spec))]

@@ -2,6 +2,7 @@
 
 ghost use Rattle.implib.specs.Definition.{export_view};
 ghost use Rattle.implib.specs.Formats.Constants.{image_relative};
+ghost use Rattle.implib.specs.Formats.Layout.{contents_size, encoded_size};
 ghost use Rattle.implib.specs.Formats.Writer.{layout_of};
 ghost use Rattle.implib.specs.Import.{holds, imp_symbol, is_empty_text, name_asked};
 ghost use Rattle.implib.specs.Machine.{is_32bit};
@@ -11,16 +12,19 @@ ghost use Rattle.implib.specs.Views.Making.{EncodesObject};
 ghost use Rattle.implib.specs.Views.Table.{CanBeHeld};
 ghost use Rattle.implib_delay.specs.Code.{stub_code, tail_code};
 ghost use Rattle.implib_delay.specs.Names.{handle_symbol, helper_symbol, name_symbol, tail_symbol};
-ghost use Rattle.implib_delay.specs.Objects.{export_object, head_object, tail_relocations};
+ghost use Rattle.implib_delay.specs.Objects.{export_object, export_sections, export_symbols};
+ghost use Rattle.implib_delay.specs.Objects.{head_object, tail_relocations};
 ghost use Rattle.implib_delay.specs.Objects.{mode_of, object_with, stub_relocations, tail_object};
 ghost use Rattle.implib_delay.specs.Objects.{thunk_relocations, unbound_entry, unwind_sections};
 ghost use Rattle.implib_delay.specs.Objects.{unwind_symbols, word_kind};
 ghost use Rattle.implib_delay.specs.Table.{section_row, symbol_row};
+ghost use Rattle.std.specs.List.{sum_by};
 ghost use Rattle.std.specs.Prelude.{[], false, true, map, take, ◌++◌, ◌∷◌, ◌≡◌, IfOk, if◌then◌else◌};
+ghost use Rattle.std.specs.Prelude.{min};
 
 use crate::asked::asked_name;
 use crate::names::helper_symbol;
-use crate::table::{SectionRow, SymbolRow, write_table};
+use crate::table::{SectionRow, SymbolRow, names_size, write_table};
 use implib::coff::{Place, Relocation, class, flags, relocation};
 use implib::def::ShortExport;
 use implib::{Error, MachineType};
@@ -79,6 +83,17 @@ const THUNK: u32 = 7;
 const ENTRY: u32 = 8;
 
 const HINT_NAME: u32 = 9;
+
+// Sizes in bytes: of a relocation, of a descriptor and of a hint.
+const RELOCATION_SIZE: usize = 10;
+
+const DESCRIPTOR_SIZE: usize = 32;
+
+const HINT_SIZE: usize = 2;
+
+// The size in bytes of what each export's object has but contents and long names: the headers, of
+// the file and of five sections, ten symbols' records, and the size field of the string table.
+const EXPORT_HEADERS_SIZE: usize = 20 + 5 * 40 + 10 * 18 + 4;
 
 fn section<'a>(
     name: [u8; 8],
@@ -454,6 +469,37 @@ fn hint_name(
     Ok(bytes)
 }
 
+// The symbols of an export, by those of the code that all stubs share, of the DLL's name and its
+// handle, and of the export's own entry.
+fn export_symbols<'a>(
+    export: &'a ShortExport,
+    machine: MachineType,
+    library: &str,
+    tail: &'a str,
+    name: &'a str,
+    handle: &'a str,
+    address: &'a str,
+) -> [SymbolRow<'a>; 10]
+    requires tail { tail.now ≡ tail_symbol machine library.now }
+    requires name { name.now ≡ name_symbol library.now }
+    requires handle { handle.now ≡ handle_symbol library.now }
+    requires address { address.now ≡ imp_symbol (export_view export.now).name }
+    ensures { map symbol_row result ≡ export_symbols machine library.now (export_view export.now) }
+{
+    [
+        symbol(export.name.as_str(), Place::Section(1), class::EXTERNAL),
+        symbol(address, Place::Section(3), class::EXTERNAL),
+        symbol(tail, Place::Undefined, class::EXTERNAL),
+        symbol(name, Place::Undefined, class::EXTERNAL),
+        symbol(handle, Place::Undefined, class::EXTERNAL),
+        symbol(".text", Place::Section(1), class::STATIC),
+        symbol(".didat$2", Place::Section(2), class::STATIC),
+        symbol(".didat$4", Place::Section(4), class::STATIC),
+        symbol(".didat$5", Place::Section(3), class::STATIC),
+        symbol(".didat$6", Place::Section(5), class::STATIC),
+    ]
+}
+
 /// The object of an export, by its symbols: those of the code that all stubs share, of the DLL's
 /// name and its handle, and of the export's own entry.
 pub(crate) fn export_object<'a>(
@@ -476,19 +522,47 @@ pub(crate) fn export_object<'a>(
     ensures { EncodesObject
         (layout_of (export_object machine library.now (export_view export.now))) result }
 {
-    let symbols = [
-        symbol(export.name.as_str(), Place::Section(1), class::EXTERNAL),
-        symbol(address, Place::Section(3), class::EXTERNAL),
-        symbol(tail, Place::Undefined, class::EXTERNAL),
-        symbol(name, Place::Undefined, class::EXTERNAL),
-        symbol(handle, Place::Undefined, class::EXTERNAL),
-        symbol(".text", Place::Section(1), class::STATIC),
-        symbol(".didat$2", Place::Section(2), class::STATIC),
-        symbol(".didat$4", Place::Section(4), class::STATIC),
-        symbol(".didat$5", Place::Section(3), class::STATIC),
-        symbol(".didat$6", Place::Section(5), class::STATIC),
-    ];
+    let symbols = export_symbols(export, machine, library, tail, name, handle, address);
     write_export(alloc, export, machine, &symbols)
+}
+
+// The size in bytes of the data and the relocations of an export's sections, in their order.
+fn contents_size(export: &ShortExport, machine: MachineType) -> usize
+    ensures { result ≡ sum_by contents_size (export_sections machine (export_view export.now)) }
+{
+    let by_name = if export.no_name {
+        0
+    } else {
+        RELOCATION_SIZE + HINT_SIZE + asked_name(export, machine).len() + 1
+    };
+    let stub = stub_code(machine).len() + 4 * RELOCATION_SIZE;
+    let descriptor = DESCRIPTOR_SIZE + 4 * RELOCATION_SIZE;
+    let entry = thunk_width(machine) + RELOCATION_SIZE;
+    stub + descriptor + entry + thunk_width(machine) + by_name
+}
+
+/// The size in bytes of the object of an export, by its symbols as in [`export_object`];
+/// 2^64 - 1 where it is more.
+pub(crate) fn export_size(
+    export: &ShortExport,
+    machine: MachineType,
+    library: &str,
+    tail: &str,
+    name: &str,
+    handle: &str,
+    address: &str,
+) -> usize
+    requires tail { tail.now ≡ tail_symbol machine library.now }
+    requires name { name.now ≡ name_symbol library.now }
+    requires handle { handle.now ≡ handle_symbol library.now }
+    requires address { address.now ≡ imp_symbol (export_view export.now).name }
+    ensures { result ≡ min u64.MAX
+        (encoded_size (layout_of (export_object machine library.now (export_view export.now)))) }
+{
+    let symbols = export_symbols(export, machine, library, tail, name, handle, address);
+    EXPORT_HEADERS_SIZE
+        .saturating_add(contents_size(export, machine))
+        .saturating_add(names_size(&symbols))
 }
 
 // Writes the object of an export with these symbols.

@@ -2,12 +2,14 @@
 
 ghost use Rattle.implib.specs.Formats.Object.{section_numbered};
 ghost use Rattle.implib.specs.Views.Table.{CanBeAdded, CanBeHeld, HasRoomForAll, with_relocations};
-ghost use Rattle.implib_delay.specs.Table.{bare_row, section_row, symbol_row, table_view};
-ghost use Rattle.implib.specs.Formats.Writer.{all_entries, layout_of};
+ghost use Rattle.implib_delay.specs.Table.{added_size, bare_row, section_row, symbol_row};
+ghost use Rattle.implib_delay.specs.Table.{table_view};
+ghost use Rattle.implib.specs.Formats.Layout.{string_size};
+ghost use Rattle.implib.specs.Formats.Writer.{all_entries, layout_of, long_names};
 ghost use Rattle.implib.specs.Views.Making.{EncodesObject};
-ghost use Rattle.std.specs.List.{AllByRecursion};
+ghost use Rattle.std.specs.List.{AllByRecursion, list_any, sum_by};
 ghost use Rattle.std.specs.Prelude.{◌+◌, ◌++◌, ◌<◌, ◌^◌, ◌≡◌, ◌≤◌, [], IfErr, IfOk, IsSomeAnd};
-ghost use Rattle.std.specs.Prelude.{OnOk, alloc_error, length, map};
+ghost use Rattle.std.specs.Prelude.{OnOk, alloc_error, bytes_eq, length, map, min};
 
 use implib::coff::{ObjectWriter, Place, Relocation, Section, Symbol};
 use implib::{Error, MachineType};
@@ -57,6 +59,44 @@ pub(crate) fn write_table(
     add_symbols(alloc, &mut writer, symbols)?;
     add_relocations(&mut writer, sections)?;
     writer.write()
+}
+
+// The length in bytes of the longest name that a symbol's record has.
+const LONGEST_IN_RECORD: usize = 8;
+
+// Whether one of these symbols has the name.
+fn is_among(name: &str, symbols: &[SymbolRow]) -> bool
+    ensures { result ≡ list_any (λ row. bytes_eq name.now row.name.now) symbols.now }
+{
+    symbols.iter().any(|row| name == row.name)
+}
+
+// The size in bytes that a name adds to the string table after those of other symbols; 0 where its
+// record has it, or another symbol's name is the same.
+fn added_size(name: &str, others: &[SymbolRow]) -> usize
+    ensures { result ≡ added_size name.now (map symbol_row others.now) }
+{
+    if name.len() <= LONGEST_IN_RECORD {
+        return 0;
+    }
+    if is_among(name, others) {
+        0
+    } else {
+        name.len() + 1
+    }
+}
+
+/// The size in bytes of the names of symbols in their string table, each once and with its NUL;
+/// 2^64 - 1 where it is more.
+pub(crate) fn names_size(symbols: &[SymbolRow]) -> usize
+    ensures { result ≡ min u64.MAX
+        (sum_by string_size (long_names (map symbol_row symbols.now))) }
+{
+    let mut size = 0usize;
+    for (index, row) in symbols.iter().enumerate() {
+        size = size.saturating_add(added_size(row.name, &symbols[..index]));
+    }
+    size
 }
 
 // Adds the sections of the rows without their relocations.

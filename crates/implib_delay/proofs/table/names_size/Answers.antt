@@ -1,0 +1,14 @@
+use Rattle.std.proofs.Common.{refl}
+use Rattle.implib.specs.Formats.Writer.{long_names}
+use Rattle.implib_delay.proofs.Rows.{no_symbol_row}
+use Rattle.implib_delay.proofs.Sizes.{next_name, saturated_more}
+use Rattle.implib_delay.proofs.table.names_size.Goals as goal
+
+pub loop-index-init : goal.loop-index-init
+unfolding long_names
+loop-index-init c = refl
+
+pub loop-index-preserved : goal.loop-index-preserved
+loop-index-preserved c =
+    saturated_more _ _ c.saturating_add-size.ensures c.added_size.ensures c.loop-index.invariant
+    (next_name c.args.symbols.now c.loop-index.index no_symbol_row c.loop-index-test.true)
