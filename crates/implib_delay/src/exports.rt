@@ -13,7 +13,8 @@ ghost use Rattle.implib_delay.specs.Members.{export_spec};
 ghost use Rattle.implib_delay.specs.Names.{handle_symbol, name_symbol, tail_symbol};
 ghost use Rattle.implib_delay.specs.Objects.{export_object};
 ghost use Rattle.std.specs.Option.{option_map};
-ghost use Rattle.std.specs.Prelude.{◌≡◌, ◌<◌, ◌^◌, ◌∷◌, [], IfOk, OnOk, false, length, string_bytes, true};
+ghost use Rattle.std.specs.Prelude.{◌≡◌, ◌<◌, ◌^◌, ◌∷◌, [], IfOk, OnOk, false, length};
+ghost use Rattle.std.specs.Prelude.{string_bytes, true};
 
 use crate::names::{export_name, handle_symbol, imp_symbol, name_symbol, tail_symbol};
 use crate::objects::{export_object, export_size};

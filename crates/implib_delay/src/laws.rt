@@ -16,9 +16,10 @@ ghost use Rattle.std.specs.Prelude.{◌%◌, ◌≡◌, ℕ, List};
 
 use implib::MachineType;
 
-/// The first call of a delayed function, whose code is linked and whose entry is not bound yet, calls
-/// the helper with its descriptor and its entry. From each state in which the helper may return, by
-/// the calling convention, the function is reached with its arguments and its stack as they were.
+/// The first call of a delayed function, whose code is linked and whose entry is not bound yet,
+/// calls the helper with its descriptor and its entry. From each state in which the helper may
+/// return, by the calling convention, the function is reached with its arguments and its stack as
+/// they were.
 pub fn first_call_arrives()
     ensures { (mode : Mode) (p : Placement) (end : ℕ) (s : State) → FieldsLead mode p →
         Begins mode p end s → FirstCall mode p end s }
@@ -38,8 +39,8 @@ pub fn worked_code()
     ensures calls { WorkedCalls }
 {}
 
-/// Places and states that were worked by hand meet the premises of these laws, and those that differ
-/// in one thing do not.
+/// Places and states that were worked by hand meet the premises of these laws, and those that
+/// differ in one thing do not.
 pub fn worked_premises()
     ensures premises { WorkedPremises }
     ensures answers { WorkedAnswers }
@@ -56,13 +57,15 @@ pub fn worked_members()
     ensures refusals { WorkedRefusals }
 {}
 
-/// Members of a definition are read by their bytes as exactly the imports that the definition means.
+/// Members of a definition are read by their bytes as exactly the imports that the definition
+/// means.
 pub fn members_read_back()
     ensures { (d : DefinitionView) (machine : MachineType) (members : List MemberView) →
         AreDelayedMembersOf (renamed d) machine members → DelayedReadBack d machine members }
 {}
 
-/// The objects of foo.dll are read as these imports, and objects that are no delayed imports as none.
+/// The objects of foo.dll are read as these imports, and objects that are no delayed imports as
+/// none.
 pub fn worked_readings()
     ensures { WorkedReadings }
 {}

@@ -240,7 +240,8 @@ fn tail_member(
     dll: &str,
 ) -> Result<Member, Error>
     requires { holds 0 library.now ≡ false }
-    ensures { MakesMember (tail_spec machine (record { linked = library.now; text = dll.now })) result }
+    ensures { MakesMember (tail_spec machine (record { linked = library.now; text = dll.now }))
+        result }
 {
     let symbol = name_symbol(alloc, library)?;
     let bytes = tail_object(alloc, machine, library, dll, symbol.as_str())?;

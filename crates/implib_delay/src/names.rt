@@ -23,7 +23,8 @@ fn position_of_full_stop(text: &[u8]) -> Option<usize>
 
 // Appends the library's name with each full stop as an underscore.
 fn push_mangled_name(out: &mut String, library: &str) -> Result<(), AllocError>
-    ensures { OnOk result (string_bytes out.new ≡ string_bytes out.old ++ mangled_name library.now) }
+    ensures { OnOk result (string_bytes out.new ≡ string_bytes out.old
+        ++ mangled_name library.now) }
 {
     let mut rest = library;
     while let Some(position) = position_of_full_stop(rest.as_bytes()) {

@@ -19,7 +19,8 @@ ghost use Rattle.implib_delay.specs.Objects.{thunk_relocations, unbound_entry, u
 ghost use Rattle.implib_delay.specs.Objects.{unwind_symbols, word_kind};
 ghost use Rattle.implib_delay.specs.Table.{section_row, symbol_row};
 ghost use Rattle.std.specs.List.{sum_by};
-ghost use Rattle.std.specs.Prelude.{[], false, true, map, take, ◌++◌, ◌∷◌, ◌≡◌, IfOk, if◌then◌else◌};
+ghost use Rattle.std.specs.Prelude.{[], false, true, map, take, ◌++◌, ◌∷◌, ◌≡◌, IfOk};
+ghost use Rattle.std.specs.Prelude.{if◌then◌else◌};
 ghost use Rattle.std.specs.Prelude.{min};
 
 use crate::asked::asked_name;
@@ -572,7 +573,8 @@ fn write_export(
     machine: MachineType,
     symbols: &[SymbolRow],
 ) -> Result<Vec<u8>, Error>
-    requires { CanBeHeld (object_with machine (export_view export.now) (map symbol_row symbols.now)) }
+    requires { CanBeHeld
+        (object_with machine (export_view export.now) (map symbol_row symbols.now)) }
     ensures { EncodesObject (layout_of
         (object_with machine (export_view export.now) (map symbol_row symbols.now))) result }
 {
