@@ -21,7 +21,8 @@ use Rattle.implib_c_calls.specs.Status.{cause_status, status_number}
 abbrev pub flavor_numbered : ℕ → Option Flavor
 flavor_numbered number = if number == 0 then Some Msvc else if number == 1 then Some Gnu else None
 
--- How a call ends. A syntax error has its cause and its offset, and a definition without members the cause.
+-- How a call ends. A syntax error has its cause and its offset, and a definition without members
+-- the cause.
 pub data Outcome : Type 0 where
   Success : List MemberView → Outcome
   BufferTooSmall : List MemberView → Outcome
@@ -32,7 +33,8 @@ pub data Outcome : Type 0 where
   SyntaxError : Cause → ℕ → Outcome
   Refused : Cause → Outcome
 
--- the numbers are those of a machine and of a flavour, the text is UTF-8, and with the three this holds
+-- the numbers are those of a machine and of a flavour, the text is UTF-8, and with the three this
+-- holds
 pub record WithInput (text : List ℕ) (machine flavor : ℕ) (P : MachineType → Flavor → Type 0)
     : Type 0 where
   pub machine_found : MachineType
@@ -87,8 +89,8 @@ length_of (Success members) = length (encoded_members members)
 length_of (BufferTooSmall members) = length (encoded_members members)
 length_of _ = 0
 
--- what is at fault: in a text that is not UTF-8 the offset up to which it is; the offset of the token that is
--- a syntax error; the index of an export, where the fault is one's; else 0
+-- what is at fault: in a text that is not UTF-8 the offset up to which it is; the offset of the
+-- token that is a syntax error; the index of an export, where the fault is one's; else 0
 abbrev pub place_of : List ℕ → Outcome → ℕ
 place_of text NotUtf8 = utf8_valid_len text
 place_of text (SyntaxError cause offset) = offset

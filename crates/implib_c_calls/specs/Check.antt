@@ -1,6 +1,8 @@
--- What is told of a library beside the library of a definition, how this is encoded for C, and how an encoding is read
--- (this project's choice). How two libraries are compared, and when one works, is `implib_compare`'s.
-use Rattle.std.specs.Prelude.{◌≡◌, ℕ, ◌<◌, ◌^◌, All, Bool, List, [], ◌∷◌, ◌++◌, Option, Some, if◌then◌else◌, length, map}
+-- What is told of a library beside the library of a definition, how this is encoded for C, and how
+-- an encoding is read (this project's choice). How two libraries are compared, and when one works,
+-- is `implib_compare`'s.
+use Rattle.std.specs.Prelude.{◌≡◌, ℕ, ◌<◌, ◌^◌, All, Bool, List, [], ◌∷◌, ◌++◌, Option, Some}
+use Rattle.std.specs.Prelude.{if◌then◌else◌, length, map}
 use Rattle.std.specs.Option.{option_and_then, option_map}
 use Rattle.implib_compare.specs.Comparison.{differing, verdict}
 use Rattle.implib_compare.specs.Facts.{both_tell}
@@ -14,8 +16,8 @@ use Rattle.implib_read.specs.Classes.{MemberRead}
 use Rattle.implib_c_calls.specs.Encoding.{encoded_number, number_in}
 use Rattle.implib_c_calls.specs.Imports.{Fits, Row, encoded_rows, row_of, rows_in}
 
--- What is told: the number of the verdict, that of whether the library works, the members of the library that differ,
--- and those of the definition's library that do.
+-- What is told: the number of the verdict, that of whether the library works, the members of the
+-- library that differ, and those of the definition's library that do.
 pub record Told : Type 0 where
   pub verdict : ℕ
   pub works : ℕ
@@ -40,8 +42,8 @@ flagged [] rows = []
 flagged (flag ∷ flags) [] = []
 flagged (flag ∷ flags) (row ∷ rows) = if flag then row ∷ flagged flags rows else flagged flags rows
 
--- What is told of a library, by its archive and its members, beside the members of the definition's library: of each
--- its members that say what no member of the other does that is left for it.
+-- What is told of a library, by its archive and its members, beside the members of the definition's
+-- library: of each its members that say what no member of the other does that is left for it.
 abbrev pub told_of : Archive → List MemberRead → List MemberRead → Told
 told_of archive members meant = record {
   verdict = verdict_number (verdict members meant);

@@ -1,5 +1,5 @@
--- What `implib_check_library` answers: how a library compares with what a definition means under these options, as the
--- program `implib_check` has it (`implib_compare`).
+-- What `implib_check_library` answers: how a library compares with what a definition means under
+-- these options, as the program `implib_check` has it (`implib_compare`).
 use Rattle.std.specs.Prelude.{◌≡◌, ℕ, ◌<◌, ◌≤◌, false, List, ◌++◌, None, Some, length, drop}
 use Rattle.std.specs.Option.{IsSome}
 use Rattle.implib_compare.specs.declared.compare.Verdict.{Verdict}
@@ -12,7 +12,8 @@ use Rattle.implib_rules.specs.Options.{LibraryOptionsView}
 use Rattle.implib_c_calls.specs.declared.status.Status.{Status}
 use Rattle.implib_c_calls.specs.declared.status.Status.TheVariants as status
 use Rattle.implib_c_calls.specs.Check.{Told, encoded_told, told_in, told_of, verdict_number}
-use Rattle.implib_c_calls.specs.LibraryWith.{GivenOptions, IsOptionFault, OptionFault, WithOptions, option_status, place_of_refusal, refusal_status}
+use Rattle.implib_c_calls.specs.LibraryWith.{GivenOptions, IsOptionFault, OptionFault, WithOptions}
+use Rattle.implib_c_calls.specs.LibraryWith.{option_status, place_of_refusal, refusal_status}
 use Rattle.implib_c_calls.specs.Status.{status_number}
 
 -- This is told of a library beside the library that a definition has for these options.
@@ -29,8 +30,9 @@ pub record ComparesSo (bytes text : List ℕ) (options : LibraryOptionsView) (to
   pub is : told ≡ told_of archive members on.meant
   pub verdict_is : told.verdict ≡ verdict_number verdict
 
--- How a call ends: with what is told; with a buffer that is too small for it; with bytes that are no archive; with a
--- definition that has no library; without memory; or with what is given no options.
+-- How a call ends: with what is told; with a buffer that is too small for it; with bytes that are
+-- no archive; with a definition that has no library; without memory; or with what is given no
+-- options.
 pub data CheckEnding : Type 0 where
   Made : Told → CheckEnding
   TooLong : Told → CheckEnding

@@ -1,10 +1,12 @@
 -- How a definition is encoded for C, and how an encoding is read (this project's choice).
-use Rattle.std.specs.Prelude.{◌≡◌, ℕ, ◌+◌, ◌/◌, ◌%◌, ◌<◌, ◌^◌, ◌==◌, nat_lt, All, Bool, true, false, List, ◌++◌, length, map}
+use Rattle.std.specs.Prelude.{◌≡◌, ℕ, ◌+◌, ◌/◌, ◌%◌, ◌<◌, ◌^◌, ◌==◌, nat_lt, All, Bool, true, false}
+use Rattle.std.specs.Prelude.{List, ◌++◌, length, map}
 use Rattle.std.specs.Prelude.{Option, None, Some, if◌then◌else◌}
 use Rattle.std.specs.Option.{option_and_then, option_map}
 use Rattle.implib.specs.declared.def.definition.ShortExport.{ShortExport}
 use Rattle.implib.specs.Definition.{DefinitionView, ExportView, export_view}
-use Rattle.implib_c_calls.specs.Encoding.{encoded_list, encoded_number, encoded_text, list_in, number_in, text_in}
+use Rattle.implib_c_calls.specs.Encoding.{encoded_list, encoded_number, encoded_text, list_in}
+use Rattle.implib_c_calls.specs.Encoding.{number_in, text_in}
 
 -- What a text states.
 

@@ -10,7 +10,8 @@ use Rattle.implib.specs.Fault.{Cause}
 use Rattle.implib.specs.Text.Parses.{Parses, RefusesAt}
 use Rattle.implib_c_calls.specs.declared.status.Status.{Status}
 use Rattle.implib_c_calls.specs.declared.status.Status.TheVariants as status
-use Rattle.implib_c_calls.specs.Definition.{StatedDefinition, definition_in, encoded_definition, stated}
+use Rattle.implib_c_calls.specs.Definition.{StatedDefinition, definition_in, encoded_definition}
+use Rattle.implib_c_calls.specs.Definition.{stated}
 use Rattle.implib_c_calls.specs.Status.{cause_status, status_number}
 
 -- How a call ends. A syntax error has its cause and its offset.
@@ -62,7 +63,8 @@ length_of (Success said) = length (encoded_definition said)
 length_of (BufferTooSmall said) = length (encoded_definition said)
 length_of _ = 0
 
--- in a text that is not UTF-8 the offset up to which it is; the offset of the token that is a syntax error; else 0
+-- in a text that is not UTF-8 the offset up to which it is; the offset of the token that is a
+-- syntax error; else 0
 abbrev pub place_of : List ℕ → DefinitionEnding → ℕ
 place_of text NotUtf8 = utf8_valid_len text
 place_of text (SyntaxError cause offset) = offset

@@ -1,18 +1,23 @@
--- What `implib_library_with` answers where delayed imports are asked for: the library of them that the program
--- `implib_dlltool` makes of the text under these options, by `-y` (`implib_delay_library`).
+-- What `implib_library_with` answers where delayed imports are asked for: the library of them that
+-- the program `implib_dlltool` makes of the text under these options, by `-y`
+-- (`implib_delay_library`).
 use Rattle.std.specs.Prelude.{◌≡◌, ℕ, ◌+◌, ◌<◌, ◌≤◌, List, ◌++◌, length, drop, Option, None, Some}
 use Rattle.implib.specs.declared.def.position.Position.{Position}
 use Rattle.implib.specs.declared.flavor.Flavor.TheVariants.{Msvc, Gnu}
 use Rattle.implib_delay_library.specs.declared.library.DelayRefusal.{DelayRefusal}
-use Rattle.implib_delay_library.specs.declared.library.DelayRefusal.TheVariants.{Refused as RefusedBefore, Undelayed as CannotDelay}
+use Rattle.implib_delay_library.specs.declared.library.DelayRefusal.TheVariants.{Refused as RefusedBefore}
+use Rattle.implib_delay_library.specs.declared.library.DelayRefusal.TheVariants.{Undelayed as CannotDelay}
 use Rattle.implib_delay_library.specs.declared.library.Undelayed.{Undelayed}
 use Rattle.implib_delay_library.specs.declared.library.Undelayed.TheVariants as undelayed
-use Rattle.implib_delay_library.specs.Libraries.{IsDelayedLibrary, IsRefusalOfDelayed, position_of_undelayed}
+use Rattle.implib_delay_library.specs.Libraries.{IsDelayedLibrary, IsRefusalOfDelayed}
+use Rattle.implib_delay_library.specs.Libraries.{position_of_undelayed}
 use Rattle.implib_c_calls.specs.declared.outcome.NoDelay.{NoDelay}
 use Rattle.implib_c_calls.specs.declared.outcome.NoDelay.TheVariants.{Alias, Data, Flavor, Machine}
 use Rattle.implib_c_calls.specs.declared.status.Status.{Status}
 use Rattle.implib_c_calls.specs.declared.status.Status.TheVariants as status
-use Rattle.implib_c_calls.specs.LibraryWith.{GivenOptions, IsOptionFault, OptionFault, WithOptions, mark_length, option_status, place_of_refusal, refusal_status}
+use Rattle.implib_c_calls.specs.LibraryWith.{GivenOptions, IsOptionFault, OptionFault, WithOptions}
+use Rattle.implib_c_calls.specs.LibraryWith.{mark_length, option_status, place_of_refusal}
+use Rattle.implib_c_calls.specs.LibraryWith.{refusal_status}
 use Rattle.implib_c_calls.specs.Status.{status_number}
 
 -- the status of imports that are not delayed
@@ -38,13 +43,15 @@ abbrev pub place_at : List ℕ → Option Position → ℕ
 place_at text None = 0
 place_at text (Some position) = mark_length text + position.offset
 
--- what is at fault, as an offset in the text: of an export that is not delayed its name; else as without delayed imports
+-- what is at fault, as an offset in the text: of an export that is not delayed its name; else as
+-- without delayed imports
 abbrev pub place_of_delayed : List ℕ → DelayRefusal → ℕ
 place_of_delayed text (RefusedBefore refusal) = place_of_refusal text refusal
 place_of_delayed text (CannotDelay why) = place_at text (position_of_undelayed why)
 
--- How a call ends: with the library; with a buffer that is too small for it; without one, as the rules of the program
--- refuse the text, or want of memory; for Microsoft's linkers; or with what is given no options.
+-- How a call ends: with the library; with a buffer that is too small for it; without one, as the
+-- rules of the program refuse the text, or want of memory; for Microsoft's linkers; or with what is
+-- given no options.
 pub data EndingDelayed : Type 0 where
   Made : List ℕ → EndingDelayed
   TooLong : List ℕ → EndingDelayed

@@ -1,13 +1,17 @@
 -- Views: what the functions below `implib_delayed_library` give each other. No promise cites them.
 use Rattle.std.specs.Prelude.{◌≡◌, ℕ, ◌<◌, ◌≤◌, List, length, IfSome}
 use Rattle.implib_delay_library.specs.declared.library.DelayRefusal.{DelayRefusal}
-use Rattle.implib_delay_library.specs.declared.library.DelayRefusal.TheVariants.{Refused as RefusedBefore, Undelayed as CannotDelay}
+use Rattle.implib_delay_library.specs.declared.library.DelayRefusal.TheVariants.{Refused as RefusedBefore}
+use Rattle.implib_delay_library.specs.declared.library.DelayRefusal.TheVariants.{Undelayed as CannotDelay}
 use Rattle.implib_delay_library.specs.declared.library.Undelayed.{Undelayed}
-use Rattle.implib_delay_library.specs.Libraries.{IsDelayedLibrary, IsRefusalOfDelayed, position_of_undelayed}
+use Rattle.implib_delay_library.specs.Libraries.{IsDelayedLibrary, IsRefusalOfDelayed}
+use Rattle.implib_delay_library.specs.Libraries.{position_of_undelayed}
 use Rattle.implib_rules.specs.Library.{definition_text}
 use Rattle.implib_rules.specs.Options.{LibraryOptionsView}
 use Rattle.implib_c_calls.specs.declared.status.Status.{Status}
-use Rattle.implib_c_calls.specs.Delayed.{EndingDelayed, ForMicrosoft, Made, NoOptions, Refused, TooLong, buffer_delayed, length_delayed, place_delayed, status_delayed}
+use Rattle.implib_c_calls.specs.Delayed.{EndingDelayed, ForMicrosoft, Made, NoOptions, Refused}
+use Rattle.implib_c_calls.specs.Delayed.{TooLong, buffer_delayed, length_delayed, place_delayed}
+use Rattle.implib_c_calls.specs.Delayed.{status_delayed}
 use Rattle.implib_c_calls.specs.GivenWith.{IsWithin}
 
 -- when a call with these options, for GNU's linker, ends so, for a buffer of this many bytes
@@ -18,7 +22,8 @@ EndsDelayedUnder text options room (Refused why) = IsRefusalOfDelayed text optio
 EndsDelayedUnder text options room ForMicrosoft = ⊥
 EndsDelayedUnder text options room (NoOptions fault) = ⊥
 
--- the library is put at the beginning of the buffer, where there is one and room for it; else nothing is
+-- the library is put at the beginning of the buffer, where there is one and room for it; else
+-- nothing is
 pub record PutsDelayed (text : List ℕ) (options : LibraryOptionsView) (old new : List ℕ)
     (length_left place_left : ℕ) (status_left : Status) : Type 0 where
   pub ending : EndingDelayed
@@ -28,7 +33,8 @@ pub record PutsDelayed (text : List ℕ) (options : LibraryOptionsView) (old new
   pub place_is : place_left ≡ place_delayed text ending
   pub buffer_is : new ≡ buffer_delayed old ending
 
--- the offset of an export that is not delayed is one of the text without its byte order mark, or of its end
+-- the offset of an export that is not delayed is one of the text without its byte order mark, or of
+-- its end
 abbrev pub IsUndelayedWithin : List ℕ → Undelayed → Type 0
 IsUndelayedWithin text why = IfSome (position_of_undelayed why) (λ position. position.offset ≤ length (definition_text text))
 

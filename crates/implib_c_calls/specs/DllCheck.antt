@@ -1,6 +1,8 @@
--- What the members of a library come to in a DLL, member by member, and what of its exports none asks for; how that is
--- encoded for C, and how an encoding is read (this project's choice). What an import comes to is `implib_dll_check`'s.
-use Rattle.std.specs.Prelude.{◌≡◌, ℕ, ◌<◌, ◌^◌, All, List, [], ◌∷◌, ◌++◌, Option, Some, if◌then◌else◌, length, map}
+-- What the members of a library come to in a DLL, member by member, and what of its exports none
+-- asks for; how that is encoded for C, and how an encoding is read (this project's choice). What an
+-- import comes to is `implib_dll_check`'s.
+use Rattle.std.specs.Prelude.{◌≡◌, ℕ, ◌<◌, ◌^◌, All, List, [], ◌∷◌, ◌++◌, Option, Some}
+use Rattle.std.specs.Prelude.{if◌then◌else◌, length, map}
 use Rattle.std.specs.Option.{option_and_then, option_map}
 use Rattle.implib.specs.Import.{is_empty_text}
 use Rattle.implib_dll.specs.Exports.{Exports}
@@ -8,14 +10,16 @@ use Rattle.implib_dll_check.specs.DllName.{loader_name}
 use Rattle.implib_dll_check.specs.Imports.{asks_in, judgements}
 use Rattle.implib_dll_check.specs.Missing.{missing}
 use Rattle.implib_dll_check.specs.declared.import.Judgement.{Judgement}
-use Rattle.implib_dll_check.specs.declared.import.Judgement.TheVariants.{Lost, NoImport, Reached, Searched}
+use Rattle.implib_dll_check.specs.declared.import.Judgement.TheVariants.{Lost, NoImport, Reached}
+use Rattle.implib_dll_check.specs.declared.import.Judgement.TheVariants.{Searched}
 use Rattle.implib_dll_check.specs.declared.import.Loss.{Loss}
-use Rattle.implib_dll_check.specs.declared.import.Loss.TheVariants.{DataAsFunction, NotFound, OtherDll, OtherMachine}
+use Rattle.implib_dll_check.specs.declared.import.Loss.TheVariants.{DataAsFunction, NotFound}
+use Rattle.implib_dll_check.specs.declared.import.Loss.TheVariants.{OtherDll, OtherMachine}
 use Rattle.implib_read.specs.Classes.{MemberRead}
 use Rattle.implib_c_calls.specs.Encoding.{encoded_list, encoded_number, list_in, number_in}
 
--- What is told: of each member the number of what it comes to; and the exports that no import asks for, each by its
--- index in the export address table.
+-- What is told: of each member the number of what it comes to; and the exports that no import asks
+-- for, each by its index in the export address table.
 pub record DllTold : Type 0 where
   pub members : List ℕ
   pub unasked : List ℕ

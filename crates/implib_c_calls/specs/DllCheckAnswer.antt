@@ -1,4 +1,5 @@
--- What `implib_check_dll` answers: what the imports of a library come to in a DLL, as `implib_dll_check` has it.
+-- What `implib_check_dll` answers: what the imports of a library come to in a DLL, as
+-- `implib_dll_check` has it.
 use Rattle.std.specs.Prelude.{◌≡◌, ℕ, ◌<◌, ◌≤◌, List, ◌++◌, None, Some, Ok, Err, length, drop}
 use Rattle.std.specs.Option.{IsSome}
 use Rattle.implib_dll.specs.Exports.{Exports, exports_in}
@@ -18,8 +19,9 @@ pub record IsTold (library dll name : List ℕ) (told : DllTold) : Type 0 where
   pub exported : exports_in File dll ≡ Ok (Some exports)
   pub is : told ≡ dll_told exports name members
 
--- How a call ends: with what is told; with a buffer that is too small for it; with a library that is no archive; with a
--- DLL that is no image, for its first fault, or that has no export directory; or without memory.
+-- How a call ends: with what is told; with a buffer that is too small for it; with a library that
+-- is no archive; with a DLL that is no image, for its first fault, or that has no export directory;
+-- or without memory.
 pub data DllCheckEnding : Type 0 where
   Made : DllTold → DllCheckEnding
   TooLong : DllTold → DllCheckEnding

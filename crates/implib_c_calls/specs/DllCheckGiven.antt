@@ -6,7 +6,15 @@ use Rattle.implib_dll.specs.declared.fault.Fault.{Fault}
 use Rattle.implib_dll.specs.declared.section.Layout.TheVariants.{File}
 use Rattle.implib_read.specs.Classes.{library_in}
 use Rattle.implib_c_calls.specs.declared.outcome.Failure.{Failure}
-use Rattle.implib_c_calls.specs.declared.outcome.Failure.TheVariants.{BufferTooSmall, DllNotUtf8, NoArchive, NoDllName, NoExport, NoExportDirectory, NotALibrary, NotAnImage, NotDelayed, NotUtf8, OutOfMemory, Refused, RefusedAt, SyntaxError, UnknownFlags, UnknownFlavor, UnknownMachine}
+use Rattle.implib_c_calls.specs.declared.outcome.Failure.TheVariants.{BufferTooSmall, DllNotUtf8}
+use Rattle.implib_c_calls.specs.declared.outcome.Failure.TheVariants.{NoArchive, NoDllName}
+use Rattle.implib_c_calls.specs.declared.outcome.Failure.TheVariants.{NoExport, NoExportDirectory}
+use Rattle.implib_c_calls.specs.declared.outcome.Failure.TheVariants.{NotALibrary, NotAnImage}
+use Rattle.implib_c_calls.specs.declared.outcome.Failure.TheVariants.{NotDelayed, NotUtf8}
+use Rattle.implib_c_calls.specs.declared.outcome.Failure.TheVariants.{OutOfMemory, Refused}
+use Rattle.implib_c_calls.specs.declared.outcome.Failure.TheVariants.{RefusedAt, SyntaxError}
+use Rattle.implib_c_calls.specs.declared.outcome.Failure.TheVariants.{UnknownFlags, UnknownFlavor}
+use Rattle.implib_c_calls.specs.declared.outcome.Failure.TheVariants.{UnknownMachine}
 use Rattle.implib_c_calls.specs.DllCheck.{DllTold, DllToldFits, encoded_dll_told}
 use Rattle.implib_c_calls.specs.DllCheckAnswer.{IsTold}
 
@@ -28,7 +36,8 @@ pub record HasNoImage (library dll : List ℕ) (offset : ℕ) : Type 0 where
   pub refused : exports_in File dll ≡ Err fault
   pub place : offset ≡ fault.offset
 
--- nothing is told so: the library is no archive, the DLL is no image or has no export directory, or memory was refused
+-- nothing is told so: the library is no archive, the DLL is no image or has no export directory, or
+-- memory was refused
 abbrev pub LacksDllCheck : List ℕ → List ℕ → Failure → Type 0
 LacksDllCheck library dll (BufferTooSmall needed) = ⊥
 LacksDllCheck library dll OutOfMemory = Unit {0}

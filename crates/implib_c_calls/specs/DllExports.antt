@@ -1,15 +1,16 @@
--- What a DLL exports, ordinal by ordinal, how that is encoded for C, and how an encoding is read (this project's choice).
--- What is in the file of a DLL is `implib_dll`'s `exports_in`.
+-- What a DLL exports, ordinal by ordinal, how that is encoded for C, and how an encoding is read
+-- (this project's choice). What is in the file of a DLL is `implib_dll`'s `exports_in`.
 use Rattle.std.specs.Prelude.{◌≡◌, ℕ, ◌<◌, ◌^◌, All, List, [], ◌++◌, Option, Some, length, map}
 use Rattle.std.specs.Option.{option_and_then, option_map}
 use Rattle.implib_dll.specs.Exports.{Address, Empty, Exports, Forwarder, Target}
 use Rattle.implib_dll.specs.Rows.{Row, rows_of}
 use Rattle.implib_dll.specs.declared.section.AddressKind.{AddressKind}
 use Rattle.implib_dll.specs.declared.section.AddressKind.TheVariants.{Code, Data, Outside}
-use Rattle.implib_c_calls.specs.Encoding.{encoded_list, encoded_number, encoded_text, list_in, number_in, text_in}
+use Rattle.implib_c_calls.specs.Encoding.{encoded_list, encoded_number, encoded_text, list_in}
+use Rattle.implib_c_calls.specs.Encoding.{number_in, text_in}
 
--- An ordinal: what it leads to, and its names in the order of the name table. The address is 0 and the forwarder empty
--- where it leads to no such thing.
+-- An ordinal: what it leads to, and its names in the order of the name table. The address is 0 and
+-- the forwarder empty where it leads to no such thing.
 pub record ExportRow : Type 0 where
   pub ordinal : ℕ
   pub kind : ℕ
@@ -17,7 +18,8 @@ pub record ExportRow : Type 0 where
   pub forwarder : List ℕ
   pub names : List (List ℕ)
 
--- A DLL: the number of its machine, the name in its export directory, and its ordinals from the first on.
+-- A DLL: the number of its machine, the name in its export directory, and its ordinals from the
+-- first on.
 pub record DllRows : Type 0 where
   pub machine : ℕ
   pub dll : List ℕ

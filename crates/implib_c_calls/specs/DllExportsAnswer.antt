@@ -1,4 +1,5 @@
--- What `implib_exports` answers: what a DLL exports, by the bytes of its file, as `implib_dll` has it.
+-- What `implib_exports` answers: what a DLL exports, by the bytes of its file, as `implib_dll` has
+-- it.
 use Rattle.std.specs.Prelude.{◌≡◌, ℕ, ◌<◌, ◌≤◌, List, ◌++◌, None, Some, Ok, Err, length, drop}
 use Rattle.implib_dll.specs.Exports.{Exports, exports_in}
 use Rattle.implib_dll.specs.declared.fault.Fault.{Fault}
@@ -8,8 +9,8 @@ use Rattle.implib_c_calls.specs.declared.status.Status.TheVariants as status
 use Rattle.implib_c_calls.specs.DllExports.{dll_in, dll_rows, encoded_dll}
 use Rattle.implib_c_calls.specs.Status.{status_number}
 
--- How a call ends: with what is exported; with a buffer that is too small for it; with a file that is no image, for its
--- first fault; with an image that has no export directory; or without memory.
+-- How a call ends: with what is exported; with a buffer that is too small for it; with a file that
+-- is no image, for its first fault; with an image that has no export directory; or without memory.
 pub data ExportsEnding : Type 0 where
   Made : Exports → ExportsEnding
   TooLong : Exports → ExportsEnding

@@ -6,8 +6,17 @@ use Rattle.implib_dll.specs.declared.fault.Fault.{Fault}
 use Rattle.implib_dll.specs.declared.rows.Row.{Row}
 use Rattle.implib_dll.specs.declared.section.Layout.TheVariants.{File}
 use Rattle.implib_c_calls.specs.declared.outcome.Failure.{Failure}
-use Rattle.implib_c_calls.specs.declared.outcome.Failure.TheVariants.{BufferTooSmall, DllNotUtf8, NoArchive, NoDllName, NoExport, NoExportDirectory, NotALibrary, NotAnImage, NotDelayed, NotUtf8, OutOfMemory, Refused, RefusedAt, SyntaxError, UnknownFlags, UnknownFlavor, UnknownMachine}
-use Rattle.implib_c_calls.specs.DllExports.{DllFits, DllRows, ExportRow, dll_rows, encoded_dll, export_row}
+use Rattle.implib_c_calls.specs.declared.outcome.Failure.TheVariants.{BufferTooSmall, DllNotUtf8}
+use Rattle.implib_c_calls.specs.declared.outcome.Failure.TheVariants.{NoArchive, NoDllName}
+use Rattle.implib_c_calls.specs.declared.outcome.Failure.TheVariants.{NoExport, NoExportDirectory}
+use Rattle.implib_c_calls.specs.declared.outcome.Failure.TheVariants.{NotALibrary, NotAnImage}
+use Rattle.implib_c_calls.specs.declared.outcome.Failure.TheVariants.{NotDelayed, NotUtf8}
+use Rattle.implib_c_calls.specs.declared.outcome.Failure.TheVariants.{OutOfMemory, Refused}
+use Rattle.implib_c_calls.specs.declared.outcome.Failure.TheVariants.{RefusedAt, SyntaxError}
+use Rattle.implib_c_calls.specs.declared.outcome.Failure.TheVariants.{UnknownFlags, UnknownFlavor}
+use Rattle.implib_c_calls.specs.declared.outcome.Failure.TheVariants.{UnknownMachine}
+use Rattle.implib_c_calls.specs.DllExports.{DllFits, DllRows, ExportRow, dll_rows, encoded_dll}
+use Rattle.implib_c_calls.specs.DllExports.{export_row}
 
 -- the row of an ordinal that is read
 abbrev pub export_row_found : Row → ExportRow

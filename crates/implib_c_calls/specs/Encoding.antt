@@ -1,5 +1,6 @@
 -- How members are encoded for C, and how an encoding is read (this project's choice).
-use Rattle.std.specs.Prelude.{◌≡◌, ℕ, zero, suc, ◌<◌, ◌^◌, nat_le, List, [], ◌∷◌, ◌++◌, length, take}
+use Rattle.std.specs.Prelude.{◌≡◌, ℕ, zero, suc, ◌<◌, ◌^◌, nat_le, List, [], ◌∷◌, ◌++◌, length}
+use Rattle.std.specs.Prelude.{take}
 use Rattle.std.specs.Prelude.{drop, Option, None, Some, if◌then◌else◌}
 use Rattle.std.specs.Int.{w64, from_le_bytes, to_le_bytes}
 use Rattle.std.specs.List.{flat_map}
@@ -24,8 +25,8 @@ encoded_list encoded items = encoded_number (length items) ++ flat_map encoded i
 unfoldable pub encoded_member : MemberView → List ℕ
 encoded_member m = encoded_text m.name ++ (encoded_list encoded_text m.symbols ++ encoded_text m.bytes)
 
--- The members, in order. For example, no members are 8 zero bytes, and a member `a` for the symbol `b` with
--- the file `c` has 43 bytes (WorkedEncoding).
+-- The members, in order. For example, no members are 8 zero bytes, and a member `a` for the symbol
+-- `b` with the file `c` has 43 bytes (WorkedEncoding).
 unfoldable pub encoded_members : List MemberView → List ℕ
 encoded_members members = encoded_list encoded_member members
 

@@ -1,5 +1,6 @@
 -- Views: what the functions below the exports give each other. No promise cites them.
-use Rattle.std.specs.Prelude.{◌≡◌, ℕ, ◌<◌, ◌≤◌, ◌^◌, List, ◌++◌, length, drop, None, Some, Result, Ok, Err}
+use Rattle.std.specs.Prelude.{◌≡◌, ℕ, ◌<◌, ◌≤◌, ◌^◌, List, ◌++◌, length, drop, None, Some, Result}
+use Rattle.std.specs.Prelude.{Ok, Err}
 use Rattle.std.specs.Option.{unwrap_or}
 use Rattle.implib.specs.declared.error.Error.{Error}
 use Rattle.implib.specs.declared.error.Error.TheVariants as error
@@ -11,9 +12,15 @@ use Rattle.implib.specs.Fault.{cause_of, export_index}
 use Rattle.implib.specs.Members.MemberSpec.{MemberView}
 use Rattle.implib.specs.Text.Parses.{RefusesAt}
 use Rattle.implib_c_calls.specs.declared.outcome.Failure.{Failure}
-use Rattle.implib_c_calls.specs.declared.outcome.Failure.TheVariants.{BufferTooSmall, OutOfMemory, NotUtf8}
-use Rattle.implib_c_calls.specs.declared.outcome.Failure.TheVariants.{UnknownMachine, UnknownFlavor, SyntaxError, Refused}
-use Rattle.implib_c_calls.specs.declared.outcome.Failure.TheVariants.{NoArchive, UnknownFlags, DllNotUtf8, NoDllName, RefusedAt, NoExport, NotALibrary, NotAnImage, NoExportDirectory, NotDelayed}
+use Rattle.implib_c_calls.specs.declared.outcome.Failure.TheVariants.{BufferTooSmall, OutOfMemory}
+use Rattle.implib_c_calls.specs.declared.outcome.Failure.TheVariants.{NotUtf8}
+use Rattle.implib_c_calls.specs.declared.outcome.Failure.TheVariants.{UnknownMachine, UnknownFlavor}
+use Rattle.implib_c_calls.specs.declared.outcome.Failure.TheVariants.{SyntaxError, Refused}
+use Rattle.implib_c_calls.specs.declared.outcome.Failure.TheVariants.{NoArchive, UnknownFlags}
+use Rattle.implib_c_calls.specs.declared.outcome.Failure.TheVariants.{DllNotUtf8, NoDllName}
+use Rattle.implib_c_calls.specs.declared.outcome.Failure.TheVariants.{RefusedAt, NoExport}
+use Rattle.implib_c_calls.specs.declared.outcome.Failure.TheVariants.{NotALibrary, NotAnImage}
+use Rattle.implib_c_calls.specs.declared.outcome.Failure.TheVariants.{NoExportDirectory, NotDelayed}
 use Rattle.implib_archive.specs.declared.error.Error.{Error as ArchiveError}
 use Rattle.implib_archive.specs.declared.error.Error.TheVariants as archive_error
 use Rattle.implib_archive.specs.declared.kind.Kind.{Kind}
@@ -190,8 +197,8 @@ PutsEncoding bytes old new (Err (NotAnImage offset)) = ⊥
 PutsEncoding bytes old new (Err NoExportDirectory) = ⊥
 PutsEncoding bytes old new (Err (NotDelayed why offset)) = ⊥
 
--- the members' archive is put at the beginning of the buffer, where there is one and room for it; else nothing
--- is
+-- the members' archive is put at the beginning of the buffer, where there is one and room for it;
+-- else nothing is
 abbrev pub PacksInto : Kind → List MemberView → List ℕ → List ℕ → Result ℕ Failure → Type 0
 PacksInto kind members old new (Ok put) =
     (refusal_of kind members ≡ None) × (put ≡ length (archive_of kind members)) × (put ≤ length old)

@@ -7,7 +7,9 @@ use Rattle.implib_c_calls.specs.declared.library_of.GivenError.TheVariants.{Expo
 use Rattle.implib_c_calls.specs.declared.outcome.Failure.{Failure}
 use Rattle.implib_c_calls.specs.declared.outcome.Failure.TheVariants as failure
 use Rattle.implib_c_calls.specs.declared.status.Status.{Status}
-use Rattle.implib_c_calls.specs.LibraryOf.{EndingOf, EndsUnder, GivenExport, IsAccepted, IsFirstFault, buffer_of, exports_given, length_of, place_of, status_of}
+use Rattle.implib_c_calls.specs.LibraryOf.{EndingOf, EndsUnder, GivenExport, IsAccepted}
+use Rattle.implib_c_calls.specs.LibraryOf.{IsFirstFault, buffer_of, exports_given, length_of}
+use Rattle.implib_c_calls.specs.LibraryOf.{place_of, status_of}
 
 -- each export is accepted, and these are what a definition has of them
 pub record AreGiven (exports : List GivenExport) (views : List ExportView) : Type 0 where
@@ -24,7 +26,8 @@ abbrev pub failure_given : GivenError → Failure
 failure_given (Export fault index) = failure.NoExport fault index
 failure_given OutOfMemory = failure.OutOfMemory
 
--- the library is put at the beginning of the buffer, where there is one and room for it; else nothing is
+-- the library is put at the beginning of the buffer, where there is one and room for it; else
+-- nothing is
 pub record PutsLibraryOf (exports : List GivenExport) (options : LibraryOptionsView) (old new : List ℕ)
     (length_left place_left : ℕ) (status_left : Status) : Type 0 where
   pub ending : EndingOf

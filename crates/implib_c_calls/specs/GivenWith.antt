@@ -8,8 +8,10 @@ use Rattle.implib_null_descriptor.specs.Libraries.{IsNamedLibrary, IsRefusalOfNa
 use Rattle.implib_c_calls.specs.declared.outcome.Failure.{Failure}
 use Rattle.implib_c_calls.specs.declared.status.Status.{Status}
 use Rattle.implib_c_calls.specs.Given.{failure_status, length_given, place_given}
-use Rattle.implib_c_calls.specs.LibraryWith.{EndingWith, GivenOptions, IsOptionFault, Made, NoOptions, OptionFault, Refused}
-use Rattle.implib_c_calls.specs.LibraryWith.{TooLong, buffer_with, length_with, option_status, place_with, status_with}
+use Rattle.implib_c_calls.specs.LibraryWith.{EndingWith, GivenOptions, IsOptionFault, Made}
+use Rattle.implib_c_calls.specs.LibraryWith.{NoOptions, OptionFault, Refused}
+use Rattle.implib_c_calls.specs.LibraryWith.{TooLong, buffer_with, length_with, option_status}
+use Rattle.implib_c_calls.specs.LibraryWith.{place_with, status_with}
 
 -- what is given are no options, as the failure says
 pub record IsNoOptions (given : GivenOptions) (failure : Failure) : Type 0 where
@@ -26,7 +28,8 @@ EndsUnder IsMade IsRefused room (TooLong file) = IsMade file × (room < length f
 EndsUnder IsMade IsRefused room (Refused refusal) = IsRefused refusal
 EndsUnder IsMade IsRefused room (NoOptions fault) = ⊥
 
--- the library is put at the beginning of the buffer, where there is one and room for it; else nothing is
+-- the library is put at the beginning of the buffer, where there is one and room for it; else
+-- nothing is
 pub record PutsAs (IsMade : List ℕ → Type 0) (IsRefused : Refusal → Type 0) (text : List ℕ) (old new : List ℕ)
     (length_left place_left : ℕ) (status_left : Status) : Type 0 where
   pub ending : EndingWith

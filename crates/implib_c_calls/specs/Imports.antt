@@ -1,16 +1,21 @@
--- What a library of any maker imports, row by row, how the rows are encoded for C, and how an encoding is read (this
--- project's choice). What the members of a library are for is `implib_read`'s `library_in`.
+-- What a library of any maker imports, row by row, how the rows are encoded for C, and how an
+-- encoding is read (this project's choice). What the members of a library are for is
+-- `implib_read`'s `library_in`.
 use Rattle.std.specs.Prelude.{◌≡◌, ℕ, ◌<◌, ◌^◌, All, List, [], ◌++◌, Option, Some, length, map}
 use Rattle.std.specs.Option.{option_and_then, option_map}
 use Rattle.implib.specs.Import.{Ask, Name, Ordinal}
-use Rattle.implib_read.specs.Classes.{AnAlias, AnImport, Class, DelayImport, Descriptor, Head, Imported, MemberRead, NotUnderstood, NullDescriptor, NullThunk, Other, Tail, library_in}
+use Rattle.implib_read.specs.Classes.{AnAlias, AnImport, Class, DelayImport, Descriptor, Head}
+use Rattle.implib_read.specs.Classes.{Imported, MemberRead, NotUnderstood, NullDescriptor}
+use Rattle.implib_read.specs.Classes.{NullThunk, Other, Tail, library_in}
 use Rattle.implib_read.specs.declared.import.ImportKind.{ImportKind}
-use Rattle.implib_read.specs.declared.import.ImportKind.TheVariants.{Code, CodeOrConst, Const, Data, Delayed}
+use Rattle.implib_read.specs.declared.import.ImportKind.TheVariants.{Code, CodeOrConst, Const, Data}
+use Rattle.implib_read.specs.declared.import.ImportKind.TheVariants.{Delayed}
 use Rattle.implib_read.specs.Symbols.{linked_symbol}
-use Rattle.implib_c_calls.specs.Encoding.{encoded_list, encoded_number, encoded_text, list_in, number_in, text_in}
+use Rattle.implib_c_calls.specs.Encoding.{encoded_list, encoded_number, encoded_text, list_in}
+use Rattle.implib_c_calls.specs.Encoding.{number_in, text_in}
 
--- A member of a library: what it is for, the offset of its header in the library, and what it imports. The rest is 0
--- or empty where it imports nothing.
+-- A member of a library: what it is for, the offset of its header in the library, and what it
+-- imports. The rest is 0 or empty where it imports nothing.
 pub record Row : Type 0 where
   pub kind : ℕ
   pub offset : ℕ
@@ -83,8 +88,8 @@ other_row kind offset = record {
   number = 0;
 }
 
--- a member that is for this: 6 for a part of the import tables, 7 for one of delayed imports, 8 for another object, and
--- 9 for what is not understood
+-- a member that is for this: 6 for a part of the import tables, 7 for one of delayed imports, 8 for
+-- another object, and 9 for what is not understood
 abbrev pub row_with : ℕ → Class → Row
 row_with offset (AnImport i) = import_row offset i
 row_with offset (AnAlias a) = alias_row offset a.weak a.target
@@ -101,7 +106,8 @@ row_with offset NotUnderstood = other_row 9 offset
 abbrev pub row_of : MemberRead → Row
 row_of m = row_with m.offset m.class
 
--- The rows of the library in these bytes: one for each member, in order. There are none where the bytes are no archive.
+-- The rows of the library in these bytes: one for each member, in order. There are none where the
+-- bytes are no archive.
 abbrev pub rows_of : List ℕ → Option (List Row)
 rows_of bytes = option_map (map row_of) (library_in bytes)
 

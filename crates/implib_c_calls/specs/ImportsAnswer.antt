@@ -1,12 +1,13 @@
--- What `implib_imports` answers: what the members of a library are for, and import, as `implib_read` has it.
+-- What `implib_imports` answers: what the members of a library are for, and import, as
+-- `implib_read` has it.
 use Rattle.std.specs.Prelude.{◌≡◌, ℕ, ◌<◌, ◌≤◌, List, ◌++◌, None, Some, length, drop}
 use Rattle.implib_c_calls.specs.declared.status.Status.{Status}
 use Rattle.implib_c_calls.specs.declared.status.Status.TheVariants as status
 use Rattle.implib_c_calls.specs.Imports.{Row, encoded_rows, rows_in, rows_of}
 use Rattle.implib_c_calls.specs.Status.{status_number}
 
--- How a call ends: with the rows; with a buffer that is too small for them; with bytes that are no archive; or without
--- memory.
+-- How a call ends: with the rows; with a buffer that is too small for them; with bytes that are no
+-- archive; or without memory.
 pub data ImportsEnding : Type 0 where
   Made : List Row → ImportsEnding
   TooLong : List Row → ImportsEnding

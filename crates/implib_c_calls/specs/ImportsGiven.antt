@@ -2,7 +2,15 @@
 use Rattle.std.specs.Prelude.{◌≡◌, ℕ, All, List, None, Some}
 use Rattle.implib_c_calls.specs.declared.imports.Row.{Row as FoundRow}
 use Rattle.implib_c_calls.specs.declared.outcome.Failure.{Failure}
-use Rattle.implib_c_calls.specs.declared.outcome.Failure.TheVariants.{BufferTooSmall, DllNotUtf8, NoArchive, NoDllName, NoExport, NoExportDirectory, NotALibrary, NotAnImage, NotDelayed, NotUtf8, OutOfMemory, Refused, RefusedAt, SyntaxError, UnknownFlags, UnknownFlavor, UnknownMachine}
+use Rattle.implib_c_calls.specs.declared.outcome.Failure.TheVariants.{BufferTooSmall, DllNotUtf8}
+use Rattle.implib_c_calls.specs.declared.outcome.Failure.TheVariants.{NoArchive, NoDllName}
+use Rattle.implib_c_calls.specs.declared.outcome.Failure.TheVariants.{NoExport, NoExportDirectory}
+use Rattle.implib_c_calls.specs.declared.outcome.Failure.TheVariants.{NotALibrary, NotAnImage}
+use Rattle.implib_c_calls.specs.declared.outcome.Failure.TheVariants.{NotDelayed, NotUtf8}
+use Rattle.implib_c_calls.specs.declared.outcome.Failure.TheVariants.{OutOfMemory, Refused}
+use Rattle.implib_c_calls.specs.declared.outcome.Failure.TheVariants.{RefusedAt, SyntaxError}
+use Rattle.implib_c_calls.specs.declared.outcome.Failure.TheVariants.{UnknownFlags, UnknownFlavor}
+use Rattle.implib_c_calls.specs.declared.outcome.Failure.TheVariants.{UnknownMachine}
 use Rattle.implib_c_calls.specs.Imports.{Fits, Row, encoded_rows, row_of, rows_of}
 use Rattle.implib_read.specs.ClassViews.{member_read_view}
 use Rattle.implib_read.specs.declared.class.MemberRead.{MemberRead}

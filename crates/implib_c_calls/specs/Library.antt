@@ -1,4 +1,5 @@
--- What `implib_library` answers: the archive of the members that `implib_members` has of the same text.
+-- What `implib_library` answers: the archive of the members that `implib_members` has of the same
+-- text.
 use Rattle.std.specs.Prelude.{◌≡◌, ℕ, ◌<◌, ◌≤◌, List, ◌++◌, length, drop, Option, None, Some}
 use Rattle.implib.specs.declared.machine.MachineType.{MachineType}
 use Rattle.implib.specs.declared.flavor.Flavor.{Flavor}
@@ -21,15 +22,16 @@ abbrev pub kind_of_flavor : Flavor → Kind
 kind_of_flavor Msvc = Coff
 kind_of_flavor Gnu = GnuKind
 
--- How a call ends: with the archive of some members; with a buffer that is too small for it; with members
--- that have no archive, and the cause; or, where there are none, as `implib_members` ends.
+-- How a call ends: with the archive of some members; with a buffer that is too small for it; with
+-- members that have no archive, and the cause; or, where there are none, as `implib_members` ends.
 pub data Ending : Type 0 where
   Packed : Kind → List MemberView → Ending
   TooLong : Kind → List MemberView → Ending
   Unpacked : Kind → List MemberView → Fault → Ending
   Failed : Outcome → Ending
 
--- the members are those of the text, and their archive of the flavour's kind is refused for this cause, if any
+-- the members are those of the text, and their archive of the flavour's kind is refused for this
+-- cause, if any
 pub record Packs (text : List ℕ) (machine : MachineType) (flavor : Flavor) (kind : Kind)
     (members : List MemberView) (cause : Option Fault) : Type 0 where
   pub kind_is : kind ≡ kind_of_flavor flavor

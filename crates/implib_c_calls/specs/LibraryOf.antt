@@ -1,5 +1,7 @@
--- What `implib_library_of` answers: the library that the rules of `implib_rules` make of exports under these options.
-use Rattle.std.specs.Prelude.{◌≡◌, ℕ, ◌<◌, ◌≤◌, ◌⊎◌, List, ◌++◌, All, Some, drop, length, map, slice_get, take}
+-- What `implib_library_of` answers: the library that the rules of `implib_rules` make of exports
+-- under these options.
+use Rattle.std.specs.Prelude.{◌≡◌, ℕ, ◌<◌, ◌≤◌, ◌⊎◌, List, ◌++◌, All, Some, drop, length, map}
+use Rattle.std.specs.Prelude.{slice_get, take}
 use Rattle.std.specs.Option.{unwrap_or}
 use Rattle.std.specs.Str.{IsUtf8}
 use Rattle.implib.specs.Definition.{ExportView, empty_export}
@@ -7,7 +9,8 @@ use Rattle.implib.specs.Fault.{cause_of, export_index}
 use Rattle.implib_archive.specs.declared.error.Fault.{Fault as ArchiveFault}
 use Rattle.implib_rules.specs.declared.exports.ExportsRefusal.{ExportsRefusal}
 use Rattle.implib_rules.specs.declared.exports.ExportsRefusal.TheVariants as refusal
-use Rattle.implib_rules.specs.Exports.{IsLibraryOfExports, IsRefusalOfExports, RefusesArchiveOfExports}
+use Rattle.implib_rules.specs.Exports.{IsLibraryOfExports, IsRefusalOfExports}
+use Rattle.implib_rules.specs.Exports.{RefusesArchiveOfExports}
 use Rattle.implib_rules.specs.Options.{LibraryOptionsView}
 use Rattle.implib_c_calls.specs.declared.export.Export.{Export}
 use Rattle.implib_c_calls.specs.declared.export.ExportFault.{ExportFault}
@@ -15,7 +18,8 @@ use Rattle.implib_c_calls.specs.declared.export.ExportFault.TheVariants.{NotUtf8
 use Rattle.implib_c_calls.specs.declared.status.Status.{Status}
 use Rattle.implib_c_calls.specs.declared.status.Status.TheVariants as status
 use Rattle.implib_c_calls.specs.Flags.{has_flag}
-use Rattle.implib_c_calls.specs.LibraryWith.{GivenOptions, IsOptionFault, OptionFault, WithOptions, option_status}
+use Rattle.implib_c_calls.specs.LibraryWith.{GivenOptions, IsOptionFault, OptionFault, WithOptions}
+use Rattle.implib_c_calls.specs.LibraryWith.{option_status}
 use Rattle.implib_c_calls.specs.Status.{archive_status, cause_status, status_number}
 
 -- an export as C passes it: the bytes of two names, and two numbers
@@ -30,9 +34,9 @@ pub record GivenExport : Type 0 where
 abbrev pub given_export : Export → GivenExport
 given_export e = record { name = e.name.now; target = e.target.now; ordinal = e.ordinal; flags = e.flags }
 
--- What a definition has of an export: the name, what follows `==`, and the ordinal; the flag 1 is `NONAME`, 2
--- `DATA`, 4 `CONSTANT` and 8 `PRIVATE`. So the statement `name @ordinal NONAME DATA CONSTANT PRIVATE == target`
--- means it on a machine without an underscore, less what is not there.
+-- What a definition has of an export: the name, what follows `==`, and the ordinal; the flag 1 is
+-- `NONAME`, 2 `DATA`, 4 `CONSTANT` and 8 `PRIVATE`. So the statement `name @ordinal NONAME DATA
+-- CONSTANT PRIVATE == target` means it on a machine without an underscore, less what is not there.
 abbrev pub export_given : GivenExport → ExportView
 export_given e = record empty_export {
   name = e.name;
@@ -70,9 +74,9 @@ pub record IsFirstFault (exports : List GivenExport) (index : ℕ) (fault : Expo
 abbrev pub WithExports : List GivenExport → (List ExportView → Type 0) → Type 0
 WithExports exports P = All IsAccepted exports × P (exports_given exports)
 
--- How a call ends: with the library; with a buffer that is too small for it; without one, as the rules refuse the
--- exports; with members that have no archive; with an export that is refused by itself; without memory; or with what
--- is given no options.
+-- How a call ends: with the library; with a buffer that is too small for it; without one, as the
+-- rules refuse the exports; with members that have no archive; with an export that is refused by
+-- itself; without memory; or with what is given no options.
 pub data EndingOf : Type 0 where
   Made : List ℕ → EndingOf
   TooLong : List ℕ → EndingOf

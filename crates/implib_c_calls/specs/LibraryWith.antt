@@ -1,5 +1,5 @@
--- What `implib_library_with` answers: the library that the program `implib_dlltool` makes of the text under these
--- options (`implib_rules`).
+-- What `implib_library_with` answers: the library that the program `implib_dlltool` makes of the
+-- text under these options (`implib_rules`).
 use Rattle.std.specs.Prelude.{◌≡◌, ℕ, ◌+◌, ◌<◌, ◌≤◌, ◌==◌, List, [], ◌∷◌, ◌++◌, length, drop}
 use Rattle.std.specs.Prelude.{Option, None, Some, IfSome, nat_eq, nat_lt, if◌then◌else◌}
 use Rattle.std.specs.List.{starts_with}
@@ -34,8 +34,8 @@ pub record GivenOptions : Type 0 where
 abbrev pub given_options : OptionsArguments → GivenOptions
 given_options o = record { machine = o.machine; flavor = o.flavor; flags = o.flags; has_dll = o.has_dll; dll = o.dll.now }
 
--- how names are read, and asked for, with these flags: 1 is the option `-k`, 2 `--no-leading-underscore`, 4 `--export-as`,
--- and 8 what LIB's words have besides
+-- how names are read, and asked for, with these flags: 1 is the option `-k`, 2
+-- `--no-leading-underscore`, 4 `--export-as`, and 8 what LIB's words have besides
 abbrev pub naming_numbered : ℕ → Option NamingView
 naming_numbered flags =
     if nat_lt flags 16 then Some (record {
@@ -65,7 +65,8 @@ pub record WithOptions (given : GivenOptions) (P : LibraryOptionsView → Type 0
   pub are_options : AreOptions given options
   pub holds : P options
 
--- what is given are no options, for the first cause from the left: the machine, the flavour, the flags, the name
+-- what is given are no options, for the first cause from the left: the machine, the flavour, the
+-- flags, the name
 pub data OptionFault : Type 0 where
   UnknownMachine : OptionFault
   UnknownFlavor : OptionFault
@@ -84,15 +85,16 @@ IsOptionFault given DllNotUtf8 =
     IsSome (machine_numbered given.machine) × IsSome (flavor_numbered given.flavor)
     × IsSome (naming_numbered given.flags) × (dll_given given ≡ Some given.dll) × ¬ (IsUtf8 given.dll)
 
--- How a call ends: with the library; with a buffer that is too small for it; without one, as the rules of the
--- program refuse the text, or want of memory; or with what is given no options.
+-- How a call ends: with the library; with a buffer that is too small for it; without one, as the
+-- rules of the program refuse the text, or want of memory; or with what is given no options.
 pub data EndingWith : Type 0 where
   Made : List ℕ → EndingWith
   TooLong : List ℕ → EndingWith
   Refused : Refusal → EndingWith
   NoOptions : OptionFault → EndingWith
 
--- When a call ends so, for a buffer of this many bytes, by what the library of options is, and why there is none.
+-- When a call ends so, for a buffer of this many bytes, by what the library of options is, and why
+-- there is none.
 abbrev pub EndsAs : (LibraryOptionsView → List ℕ → Type 0) → (LibraryOptionsView → Refusal → Type 0) → GivenOptions → ℕ → EndingWith → Type 0
 EndsAs IsMade IsRefused given room (Made file) =
     WithOptions given (λ options. IsMade options file × (length file ≤ room))
@@ -144,8 +146,9 @@ abbrev pub place_of_export : ℕ → Option ℕ → ℕ
 place_of_export offset None = 0
 place_of_export offset (Some index) = offset
 
--- What is at fault, as an offset in the text, whose byte order mark counts: the first byte that is not UTF-8; the
--- token that is a syntax error; the name of an export, where the fault is one's; else 0.
+-- What is at fault, as an offset in the text, whose byte order mark counts: the first byte that is
+-- not UTF-8; the token that is a syntax error; the name of an export, where the fault is one's;
+-- else 0.
 abbrev pub place_of_refusal : List ℕ → Refusal → ℕ
 place_of_refusal text (refusal.NotUtf8 position) = mark_length text + position.offset
 place_of_refusal text (refusal.Syntax fault position) = mark_length text + position.offset
@@ -183,6 +186,7 @@ pub record AnswersAs (IsMade : LibraryOptionsView → List ℕ → Type 0) (IsRe
 abbrev pub LibraryWithAnswers : List ℕ → GivenOptions → List ℕ → List ℕ → ℕ → ℕ → ℕ → Type 0
 LibraryWithAnswers text = AnswersAs (IsLibrary text) (IsRefusalOfBytes text) text
 
--- that of a call for the same library with a null descriptor that is named after it (`implib_null_descriptor`)
+-- that of a call for the same library with a null descriptor that is named after it
+-- (`implib_null_descriptor`)
 abbrev pub NamedLibraryAnswers : List ℕ → GivenOptions → List ℕ → List ℕ → ℕ → ℕ → ℕ → Type 0
 NamedLibraryAnswers text = AnswersAs (IsNamedLibrary text) (IsRefusalOfNamedLibrary text) text

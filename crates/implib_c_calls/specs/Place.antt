@@ -7,13 +7,13 @@ use Rattle.implib_rules.specs.Library.{IsRefusalOfBytes, position_of, without_ma
 use Rattle.implib_rules.specs.Options.{LibraryOptionsView}
 use Rattle.implib_c_calls.specs.LibraryWith.{mark_length, place_of_refusal}
 
--- What is before an offset in a text, but for a byte order mark. For example, before the offset 4 in this mark,
--- which is three bytes, and `ab` it is `a`.
+-- What is before an offset in a text, but for a byte order mark. For example, before the offset 4
+-- in this mark, which is three bytes, and `ab` it is `a`.
 abbrev pub text_before : List ℕ → ℕ → List ℕ
 text_before text offset = take (offset - mark_length text) (without_mark text)
 
--- Of the place that C has of a refused text, the line and the column are those of the refusal, as the program writes
--- them.
+-- Of the place that C has of a refused text, the line and the column are those of the refusal, as
+-- the program writes them.
 abbrev pub PlacesAreOfRefusals : Type 0
 PlacesAreOfRefusals = (text : List ℕ) (options : LibraryOptionsView) (why : Refusal) (position : Position)
     → IsRefusalOfBytes text options why → position_of why ≡ Some position

@@ -1,29 +1,44 @@
 -- The statuses that C gets, their numbers and their texts (this project's choice).
-use Rattle.std.specs.Prelude.{◌≡◌, ℕ, ◌+◌, ◌==◌, nat_lt, List, ◌∷◌, ◌++◌, length, drop, Option, None}
+use Rattle.std.specs.Prelude.{◌≡◌, ℕ, ◌+◌, ◌==◌, nat_lt, List, ◌∷◌, ◌++◌, length, drop, Option}
+use Rattle.std.specs.Prelude.{None}
 use Rattle.std.specs.Prelude.{Some, codes, if◌then◌else◌}
 use Rattle.implib.specs.Fault.{Cause}
 use Rattle.implib.specs.Fault as cause
 use Rattle.implib_archive.specs.declared.error.Fault.{Fault}
 use Rattle.implib_archive.specs.declared.error.Fault.TheVariants as archive
 use Rattle.implib_c_calls.specs.declared.status.Status.{Status}
-use Rattle.implib_c_calls.specs.declared.status.Status.TheVariants.{Success, BufferTooSmall, OutOfMemory}
-use Rattle.implib_c_calls.specs.declared.status.Status.TheVariants.{NotUtf8, UnknownMachine, UnknownFlavor}
-use Rattle.implib_c_calls.specs.declared.status.Status.TheVariants.{UnknownDirective, ExpectedIdentifier}
+use Rattle.implib_c_calls.specs.declared.status.Status.TheVariants.{Success, BufferTooSmall}
+use Rattle.implib_c_calls.specs.declared.status.Status.TheVariants.{OutOfMemory}
+use Rattle.implib_c_calls.specs.declared.status.Status.TheVariants.{NotUtf8, UnknownMachine}
+use Rattle.implib_c_calls.specs.declared.status.Status.TheVariants.{UnknownFlavor}
+use Rattle.implib_c_calls.specs.declared.status.Status.TheVariants.{UnknownDirective}
+use Rattle.implib_c_calls.specs.declared.status.Status.TheVariants.{ExpectedIdentifier}
 use Rattle.implib_c_calls.specs.declared.status.Status.TheVariants.{ExpectedEqual, ExpectedInteger}
-use Rattle.implib_c_calls.specs.declared.status.Status.TheVariants.{InvalidOrdinal, LoneAt, EmptyImportName}
-use Rattle.implib_c_calls.specs.declared.status.Status.TheVariants.{NulInImportName, EmptyName, NulInExport}
-use Rattle.implib_c_calls.specs.declared.status.Status.TheVariants.{EmptyAskedName, MemberTooLong, NoNameType}
-use Rattle.implib_c_calls.specs.declared.status.Status.TheVariants.{EmptyMemberName, NulInMemberName}
-use Rattle.implib_c_calls.specs.declared.status.Status.TheVariants.{LineEndInMemberName, EmptySymbol, NulInSymbol}
+use Rattle.implib_c_calls.specs.declared.status.Status.TheVariants.{InvalidOrdinal, LoneAt}
+use Rattle.implib_c_calls.specs.declared.status.Status.TheVariants.{EmptyImportName}
+use Rattle.implib_c_calls.specs.declared.status.Status.TheVariants.{NulInImportName, EmptyName}
+use Rattle.implib_c_calls.specs.declared.status.Status.TheVariants.{NulInExport}
+use Rattle.implib_c_calls.specs.declared.status.Status.TheVariants.{EmptyAskedName, MemberTooLong}
+use Rattle.implib_c_calls.specs.declared.status.Status.TheVariants.{NoNameType}
+use Rattle.implib_c_calls.specs.declared.status.Status.TheVariants.{EmptyMemberName}
+use Rattle.implib_c_calls.specs.declared.status.Status.TheVariants.{NulInMemberName}
+use Rattle.implib_c_calls.specs.declared.status.Status.TheVariants.{LineEndInMemberName}
+use Rattle.implib_c_calls.specs.declared.status.Status.TheVariants.{EmptySymbol, NulInSymbol}
 use Rattle.implib_c_calls.specs.declared.status.Status.TheVariants.{TooManyMembers, ArchiveTooLong}
-use Rattle.implib_c_calls.specs.declared.status.Status.TheVariants.{EmptyLibraryName, LineEndInLibraryName, NulInLibraryName}
-use Rattle.implib_c_calls.specs.declared.status.Status.TheVariants.{NoDllName, UnknownOptions, UnknownFlags, DllNotUtf8}
-use Rattle.implib_c_calls.specs.declared.status.Status.TheVariants.{UnknownExportFlags, ExportNotUtf8, NullInExport}
-use Rattle.implib_c_calls.specs.declared.status.Status.TheVariants.{NoExportDirectory, NotALibrary, NotAnImage, WriteFailed}
-use Rattle.implib_c_calls.specs.declared.status.Status.TheVariants.{DelayAlias, DelayData, DelayFlavor, DelayMachine}
+use Rattle.implib_c_calls.specs.declared.status.Status.TheVariants.{EmptyLibraryName}
+use Rattle.implib_c_calls.specs.declared.status.Status.TheVariants.{LineEndInLibraryName}
+use Rattle.implib_c_calls.specs.declared.status.Status.TheVariants.{NulInLibraryName}
+use Rattle.implib_c_calls.specs.declared.status.Status.TheVariants.{NoDllName, UnknownOptions}
+use Rattle.implib_c_calls.specs.declared.status.Status.TheVariants.{UnknownFlags, DllNotUtf8}
+use Rattle.implib_c_calls.specs.declared.status.Status.TheVariants.{UnknownExportFlags}
+use Rattle.implib_c_calls.specs.declared.status.Status.TheVariants.{ExportNotUtf8, NullInExport}
+use Rattle.implib_c_calls.specs.declared.status.Status.TheVariants.{NoExportDirectory, NotALibrary}
+use Rattle.implib_c_calls.specs.declared.status.Status.TheVariants.{NotAnImage, WriteFailed}
+use Rattle.implib_c_calls.specs.declared.status.Status.TheVariants.{DelayAlias, DelayData}
+use Rattle.implib_c_calls.specs.declared.status.Status.TheVariants.{DelayFlavor, DelayMachine}
 
--- the number of a status: those of a call first, from 16 to 39 those of the input's faults, then those of options, of
--- exports and of bytes that are read
+-- the number of a status: those of a call first, from 16 to 39 those of the input's faults, then
+-- those of options, of exports and of bytes that are read
 abbrev pub status_number : Status → ℕ
 status_number Success = 0
 status_number BufferTooSmall = 1
@@ -205,7 +220,8 @@ found_text (Some status) = status_text status
 abbrev pub text_for : ℕ → List ℕ
 text_for number = found_text (status_numbered number)
 
--- a buffer with a text and a NUL at its beginning, where it has room for both; as it was, where it has not
+-- a buffer with a text and a NUL at its beginning, where it has room for both; as it was, where it
+-- has not
 abbrev pub with_text : List ℕ → List ℕ → List ℕ
 with_text buffer text =
     if nat_lt (length text) (length buffer) then text ++ 0 ∷ drop (length text + 1) buffer else buffer

@@ -1,12 +1,13 @@
 -- How warnings are encoded for C, and how an encoding is read (this project's choice).
 use Rattle.std.specs.Prelude.{◌≡◌, ℕ, ◌+◌, ◌<◌, ◌^◌, All, List, ◌++◌, Option, Some, length, map}
 use Rattle.std.specs.Option.{option_and_then, option_map}
-use Rattle.implib_c_calls.specs.Encoding.{encoded_list, encoded_number, encoded_text, list_in, number_in, text_in}
+use Rattle.implib_c_calls.specs.Encoding.{encoded_list, encoded_number, encoded_text, list_in}
+use Rattle.implib_c_calls.specs.Encoding.{number_in, text_in}
 use Rattle.implib_rules.specs.Warnings as rules
 use Rattle.implib_rules.specs.Warnings.{NoticeView, WarningView}
 
--- of which kind a warning is, and where: its offset in the text as it is passed, and the line and the column that
--- the program writes, in which a byte order mark does not count
+-- of which kind a warning is, and where: its offset in the text as it is passed, and the line and
+-- the column that the program writes, in which a byte order mark does not count
 pub record Warned : Type 0 where
   pub kind : ℕ
   pub offset : ℕ

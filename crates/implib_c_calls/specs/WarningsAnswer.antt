@@ -1,5 +1,5 @@
--- What `implib_warnings` answers: the warnings that the program `implib_dlltool` has of the text under these options
--- (`implib_rules`).
+-- What `implib_warnings` answers: the warnings that the program `implib_dlltool` has of the text
+-- under these options (`implib_rules`).
 use Rattle.std.specs.Prelude.{◌≡◌, ℕ, ◌<◌, ◌≤◌, List, ◌++◌, Some, length, drop}
 use Rattle.implib.specs.declared.def.position.Position.{Position}
 use Rattle.implib.specs.declared.error.Fault.{Fault}
@@ -11,7 +11,9 @@ use Rattle.implib.specs.Definition.{DefinitionView}
 use Rattle.implib.specs.Text.Parses.{Parses, RefusesAt}
 use Rattle.implib_c_calls.specs.declared.status.Status.{Status}
 use Rattle.implib_c_calls.specs.declared.status.Status.TheVariants as status
-use Rattle.implib_c_calls.specs.LibraryWith.{GivenOptions, IsOptionFault, OptionFault, WithOptions, mark_length, option_status, place_of_refusal, refusal_status}
+use Rattle.implib_c_calls.specs.LibraryWith.{GivenOptions, IsOptionFault, OptionFault, WithOptions}
+use Rattle.implib_c_calls.specs.LibraryWith.{mark_length, option_status, place_of_refusal}
+use Rattle.implib_c_calls.specs.LibraryWith.{refusal_status}
 use Rattle.implib_c_calls.specs.Status.{status_number}
 use Rattle.implib_c_calls.specs.Warnings.{AreSaid, Said, encoded_warnings, warnings_in}
 use Rattle.implib_rules.specs.declared.library.Refusal.{Refusal}
@@ -23,7 +25,8 @@ use Rattle.implib_rules.specs.Places.{ArePlacesOf}
 use Rattle.implib_rules.specs.TextWarnings.{text_warnings}
 use Rattle.implib_rules.specs.Warnings.{warnings_of}
 
--- these are the warnings of the text, with its words as they are written: those of its form, and then the others
+-- these are the warnings of the text, with its words as they are written: those of its form, and
+-- then the others
 pub record HasWarnings (text : List ℕ) (options : LibraryOptionsView) (said : List Said) : Type 0 where
   pub utf8 : IsUtf8 (definition_text text)
   pub definition : DefinitionView
@@ -34,8 +37,8 @@ pub record HasWarnings (text : List ℕ) (options : LibraryOptionsView) (said : 
   pub counts : CountsMembers text options options.flavor count
   pub are : AreSaid (mark_length text) (text_warnings text ++ warnings_of options definition.exports places count) said
 
--- the grammar refuses the text, at this token. An open quote or a wrong ordinal, which the program refuses beside, is
--- none of its refusals: the library's call tells them.
+-- the grammar refuses the text, at this token. An open quote or a wrong ordinal, which the program
+-- refuses beside, is none of its refusals: the library's call tells them.
 pub record IsUngrammatical (text : List ℕ) (fault : Fault) (position : Position) : Type 0 where
   pub utf8 : IsUtf8 (definition_text text)
   pub refused : RefusesAt (definition_text text) (cause_of fault) position.offset × (position ≡ position_at (definition_text text) position.offset)
@@ -49,8 +52,8 @@ HasNoWarnings text options (refusal.Members fault position) = ⊥
 HasNoWarnings text options (refusal.Archive fault) = ⊥
 HasNoWarnings text options refusal.OutOfMemory = Unit {0}
 
--- How a call ends: with the warnings; with a buffer that is too small for them; without them; or with what is
--- given no options.
+-- How a call ends: with the warnings; with a buffer that is too small for them; without them; or
+-- with what is given no options.
 pub data WarningsEnding : Type 0 where
   Made : List Said → WarningsEnding
   TooLong : List Said → WarningsEnding

@@ -1,4 +1,5 @@
--- What is told of libraries beside others, worked by hand, its encoding byte by byte, and buffers that are read.
+-- What is told of libraries beside others, worked by hand, its encoding byte by byte, and buffers
+-- that are read.
 use Rattle.std.specs.Prelude.{◌≡◌, ℕ, false, true, List, [], ◌∷◌, ◌++◌, None, Some, codes, length}
 use Rattle.implib.specs.Import.{Name, Ordinal}
 use Rattle.implib.specs.Worked.Digits.{hex}
@@ -8,7 +9,8 @@ use Rattle.implib_compare.specs.declared.working.Working.TheVariants as working
 use Rattle.implib_read.specs.Archives.{Archive}
 use Rattle.implib_read.specs.Classes.{MemberRead, NotUnderstood, Other}
 use Rattle.implib_read.specs.declared.import.ImportKind.TheVariants.{Code}
-use Rattle.implib_c_calls.specs.Check.{Told, encoded_told, flagged, told_in, told_of, verdict_number, working_number}
+use Rattle.implib_c_calls.specs.Check.{Told, encoded_told, flagged, told_in, told_of}
+use Rattle.implib_c_calls.specs.Check.{verdict_number, working_number}
 use Rattle.implib_c_calls.specs.Imports.{Row, alias_row}
 use Rattle.implib_c_calls.specs.WorkedImports.{bar_row, bar_row_bytes, old_row, old_row_bytes}
 
@@ -40,7 +42,8 @@ nourish_row = alias_row 8 (codes "nourish") (codes "feed")
 abbrev pub seventh : MemberRead
 seventh = of_dll (codes "zoo.dll") feed (Ordinal 7) Code 0x8664
 
--- What is told of `zoo`, a library of a descriptor, the import and the alias, and of others, each beside another.
+-- What is told of `zoo`, a library of a descriptor, the import and the alias, and of others, each
+-- beside another.
 pub record WorkedTold : Type 0 where
   pub itself : told_of no_parts zoo zoo ≡ told 1 [] []
   pub nothing : told_of no_parts zoo [] ≡ told 2 (feed_row ∷ nourish_row ∷ []) []
@@ -52,7 +55,8 @@ pub record WorkedTold : Type 0 where
   pub twice : told_of no_parts zoo (feed_of_zoo Code ∷ zoo) ≡ told 2 [] (feed_row ∷ [])
   -- a hint does not count
   pub hint : told_of no_parts (of_dll (codes "zoo.dll") feed (Name (codes "feed") 7) Code 0x8664 ∷ []) (feed_of_zoo Code ∷ []) ≡ told 1 [] []
-  -- a member that is not understood leaves it open, though others differ; another object does where none differs
+  -- a member that is not understood leaves it open, though others differ; another object does where
+  -- none differs
   pub not_understood : told_of no_parts (member NotUnderstood ∷ []) zoo ≡ told 3 [] (feed_row ∷ nourish_row ∷ [])
   pub other : told_of no_parts (member Other ∷ zoo) zoo ≡ told 3 [] []
 

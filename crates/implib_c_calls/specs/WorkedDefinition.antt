@@ -2,9 +2,11 @@
 use Rattle.std.specs.Prelude.{◌≡◌, ℕ, true, false, List, [], ◌∷◌, ◌++◌, None, Some, codes, length}
 use Rattle.implib.specs.Definition.{empty_definition}
 use Rattle.implib.specs.Worked.Digits.{hex}
-use Rattle.implib_c_calls.specs.Definition.{StatedDefinition, definition_in, encoded_definition, export_in, stated}
+use Rattle.implib_c_calls.specs.Definition.{StatedDefinition, definition_in, encoded_definition}
+use Rattle.implib_c_calls.specs.Definition.{export_in, stated}
 
--- a definition whose numbers differ, with an export that has each text, and one that has a name alone
+-- a definition whose numbers differ, with an export that has each text, and one that has a name
+-- alone
 unfoldable pub two_exports : StatedDefinition
 two_exports = record {
   import_name = codes "a";

@@ -1,15 +1,19 @@
--- What imports of a library come to in a DLL, worked by hand, with their encodings byte by byte, and buffers that are
--- read. The DLL is for I386, is called `w.dll` in its export directory, and exports `alpha` and `beta` at ordinal 5, a
--- variable at 6, nothing at 7, `gamma`, a forwarder, at 8, and a function at 9.
+-- What imports of a library come to in a DLL, worked by hand, with their encodings byte by byte,
+-- and buffers that are read. The DLL is for I386, is called `w.dll` in its export directory, and
+-- exports `alpha` and `beta` at ordinal 5, a variable at 6, nothing at 7, `gamma`, a forwarder, at
+-- 8, and a function at 9.
 use Rattle.std.specs.Prelude.{◌≡◌, ℕ, List, [], ◌∷◌, ◌++◌, None, Some, codes, length}
 use Rattle.implib.specs.Import.{Ask, Name, Ordinal}
 use Rattle.implib.specs.Worked.Digits.{hex}
 use Rattle.implib_dll.specs.WorkedFiles.{worked_exports}
-use Rattle.implib_dll_check.specs.declared.import.Judgement.TheVariants.{Lost, NoImport, Reached, Searched}
-use Rattle.implib_dll_check.specs.declared.import.Loss.TheVariants.{DataAsFunction, NotFound, OtherDll, OtherMachine}
+use Rattle.implib_dll_check.specs.declared.import.Judgement.TheVariants.{Lost, NoImport, Reached}
+use Rattle.implib_dll_check.specs.declared.import.Judgement.TheVariants.{Searched}
+use Rattle.implib_dll_check.specs.declared.import.Loss.TheVariants.{DataAsFunction, NotFound}
+use Rattle.implib_dll_check.specs.declared.import.Loss.TheVariants.{OtherDll, OtherMachine}
 use Rattle.implib_read.specs.Classes.{AnImport, Class, Descriptor, MemberRead}
 use Rattle.implib_read.specs.declared.import.ImportKind.TheVariants.{Code}
-use Rattle.implib_c_calls.specs.DllCheck.{DllTold, dll_told, dll_told_in, encoded_dll_told, judgement_number, names_given}
+use Rattle.implib_c_calls.specs.DllCheck.{DllTold, dll_told, dll_told_in, encoded_dll_told}
+use Rattle.implib_c_calls.specs.DllCheck.{judgement_number, names_given}
 
 -- a member
 abbrev pub member_of : Class → MemberRead
@@ -23,8 +27,8 @@ function_of dll ask machine = member_of (AnImport (record {
   machine = machine;
 }))
 
--- a descriptor, and functions: one at its hint, one at another, of another DLL, for another machine, of no export, and
--- where the DLL has a variable
+-- a descriptor, and functions: one at its hint, one at another, of another DLL, for another
+-- machine, of no export, and where the DLL has a variable
 abbrev pub members : List MemberRead
 members =
     member_of Descriptor

@@ -4,7 +4,8 @@ use Rattle.implib.specs.Worked.Digits.{hex}
 use Rattle.implib_dll.specs.Exports.{Address, Empty, Forwarder}
 use Rattle.implib_dll.specs.WorkedFiles.{worked_exports}
 use Rattle.implib_dll.specs.declared.section.AddressKind.TheVariants.{Code, Data, Outside}
-use Rattle.implib_c_calls.specs.DllExports.{DllRows, ExportRow, dll_in, dll_rows, encoded_dll, target_address, target_forwarder, target_number}
+use Rattle.implib_c_calls.specs.DllExports.{DllRows, ExportRow, dll_in, dll_rows, encoded_dll}
+use Rattle.implib_c_calls.specs.DllExports.{target_address, target_forwarder, target_number}
 
 -- an ordinal
 abbrev pub export : ℕ → ℕ → ℕ → List ℕ → List (List ℕ) → ExportRow
@@ -16,7 +17,8 @@ export ordinal kind address forwarder names = record {
   names = names;
 }
 
--- the DLL of `worked_exports`, with a function of two names, a variable, a hole, a forwarder, and the function again
+-- the DLL of `worked_exports`, with a function of two names, a variable, a hole, a forwarder, and
+-- the function again
 abbrev pub worked_dll : DllRows
 worked_dll = record {
   machine = 0x14C;

@@ -1,11 +1,13 @@
--- Exports as C passes them, and the numbers of calls with exports, worked by hand: the flags and the numbers are those
--- of include/implib.h, written out once more (this project's choice).
+-- Exports as C passes them, and the numbers of calls with exports, worked by hand: the flags and
+-- the numbers are those of include/implib.h, written out once more (this project's choice).
 use Rattle.std.specs.Prelude.{◌≡◌, ℕ, [], List, codes, true}
 use Rattle.implib.specs.Definition.{ExportView, empty_export}
 use Rattle.implib_archive.specs.declared.error.Fault.TheVariants as archive
 use Rattle.implib_rules.specs.declared.exports.ExportsRefusal.TheVariants as refusal
 use Rattle.implib_c_calls.specs.declared.export.ExportFault.TheVariants.{NotUtf8, UnknownFlags}
-use Rattle.implib_c_calls.specs.LibraryOf.{EndingOf, GivenExport, Made, NoExport, NoOptions, OutOfMemory, Refused, TooLong, Unpacked, export_given, place_of, status_of}
+use Rattle.implib_c_calls.specs.LibraryOf.{EndingOf, GivenExport, Made, NoExport, NoOptions}
+use Rattle.implib_c_calls.specs.LibraryOf.{OutOfMemory, Refused, TooLong, Unpacked, export_given}
+use Rattle.implib_c_calls.specs.LibraryOf.{place_of, status_of}
 use Rattle.implib_c_calls.specs.LibraryWith as options
 use Rattle.implib_c_calls.specs.Status.{status_number}
 

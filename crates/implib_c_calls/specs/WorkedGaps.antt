@@ -1,5 +1,5 @@
--- Numbers that are no status, no machine and no flavour, worked by hand: those between the statuses, and
--- greater ones; beside them the numbers of both flavours.
+-- Numbers that are no status, no machine and no flavour, worked by hand: those between the
+-- statuses, and greater ones; beside them the numbers of both flavours.
 use Rattle.std.specs.Prelude.{◌≡◌, ℕ, None, Some, codes}
 use Rattle.implib.specs.declared.flavor.Flavor.TheVariants.{Gnu, Msvc}
 use Rattle.implib.specs.Conversions.{machine_numbered}

@@ -1,10 +1,13 @@
--- Rows of libraries that were worked by hand, their encodings byte by byte, and buffers that are read.
+-- Rows of libraries that were worked by hand, their encodings byte by byte, and buffers that are
+-- read.
 use Rattle.std.specs.Prelude.{◌≡◌, ℕ, List, [], ◌∷◌, ◌++◌, None, Some, codes, length}
 use Rattle.implib.specs.Worked.Digits.{hex}
 use Rattle.implib_read.specs.Classes.{AnAlias, DelayImport, NotUnderstood, Other}
 use Rattle.implib_read.specs.WorkedLibraries.{member, worked_ld, worked_llvm}
-use Rattle.implib_read.specs.declared.import.ImportKind.TheVariants.{Code, CodeOrConst, Const, Data, Delayed}
-use Rattle.implib_c_calls.specs.Imports.{Row, alias_row, encoded_row, encoded_rows, kind_number, other_row, row_of, rows_in, rows_of}
+use Rattle.implib_read.specs.declared.import.ImportKind.TheVariants.{Code, CodeOrConst, Const, Data}
+use Rattle.implib_read.specs.declared.import.ImportKind.TheVariants.{Delayed}
+use Rattle.implib_c_calls.specs.Imports.{Row, alias_row, encoded_row, encoded_rows, kind_number}
+use Rattle.implib_c_calls.specs.Imports.{other_row, row_of, rows_in, rows_of}
 
 -- a row of an import of foo.dll for AMD64
 abbrev pub row_of_foo : ℕ → ℕ → List ℕ → ℕ → List ℕ → ℕ → Row

@@ -5,9 +5,9 @@ use Rattle.implib.specs.Worked.Digits.{hex}
 use Rattle.implib_c_calls.specs.LibraryWith.{mark_length}
 use Rattle.implib_c_calls.specs.Place.{text_before}
 
--- Offsets in `a`, a line feed and `bc`; in the same with a byte that no text in UTF-8 has before `c`; in a comment
--- in Latin-1, and after it; after a byte order mark, and in it; and in a letter of two bytes, `é`; and how many
--- bytes are a byte order mark.
+-- Offsets in `a`, a line feed and `bc`; in the same with a byte that no text in UTF-8 has before
+-- `c`; in a comment in Latin-1, and after it; after a byte order mark, and in it; and in a letter
+-- of two bytes, `é`; and how many bytes are a byte order mark.
 pub record WorkedPlaces : Type 0 where
   pub beginning : line_and_column (text_before (codes "a\nbc") 0) ≡ (1, 1)
   pub line_feed : line_and_column (text_before (codes "a\nbc") 1) ≡ (1, 2)

@@ -1,6 +1,6 @@
--- Statuses, machines, flavours and the version by their numbers, worked by hand: the numbers and texts are those of
--- include/implib.h, written out once more (this project's choice; machines: PE/COFF specification, "Machine
--- Types").
+-- Statuses, machines, flavours and the version by their numbers, worked by hand: the numbers and
+-- texts are those of include/implib.h, written out once more (this project's choice; machines:
+-- PE/COFF specification, "Machine Types").
 use Rattle.std.specs.Prelude.{◌≡◌, ℕ, List, [], ◌∷◌, None, Some, codes, true, false}
 use Rattle.implib.specs.declared.flavor.Flavor.TheVariants.{Msvc, Gnu}
 use Rattle.implib.specs.declared.machine.MachineType.TheVariants.{I386, ARMNT, AMD64, ARM64}
@@ -12,8 +12,10 @@ use Rattle.implib.specs.Members.MemberSpec.{MemberView}
 use Rattle.implib_archive.specs.declared.kind.Kind.{Kind}
 use Rattle.implib_archive.specs.declared.kind.Kind.TheVariants.{Coff, Gnu as GnuKind}
 use Rattle.implib_archive.specs.declared.error.Fault.TheVariants as archive
-use Rattle.implib_c_calls.specs.Answer.{Outcome, Success, BufferTooSmall, OutOfMemory, NotUtf8, UnknownMachine}
-use Rattle.implib_c_calls.specs.Answer.{UnknownFlavor, SyntaxError, Refused, flavor_numbered, status_of}
+use Rattle.implib_c_calls.specs.Answer.{Outcome, Success, BufferTooSmall, OutOfMemory, NotUtf8}
+use Rattle.implib_c_calls.specs.Answer.{UnknownMachine}
+use Rattle.implib_c_calls.specs.Answer.{UnknownFlavor, SyntaxError, Refused, flavor_numbered}
+use Rattle.implib_c_calls.specs.Answer.{status_of}
 use Rattle.implib_c_calls.specs.Library.{Ending, Failed, Packed, TooLong, Unpacked, kind_of_flavor}
 use Rattle.implib_c_calls.specs.Library as library
 use Rattle.implib_c_calls.specs.LibraryWith.{EndingWith, naming_numbered, status_with}
@@ -169,7 +171,8 @@ pub record WorkedArguments : Type 0 where
   pub unknown_flag : naming_numbered 16 ≡ None
   pub version_is : version ≡ 10
 
--- the number with which a call for delayed imports ends so, and the place that it gives in a text with a byte order mark
+-- the number with which a call for delayed imports ends so, and the place that it gives in a text
+-- with a byte order mark
 abbrev pub number_delayed : EndingDelayed → ℕ
 number_delayed ending = status_number (status_delayed ending)
 

@@ -8,8 +8,8 @@ use Rattle.implib_c_calls.specs.LibraryWith.{AreOptions, GivenOptions, LibraryWi
 abbrev pub OneLibrary : List ℕ → LibraryOptionsView → Type 0
 OneLibrary text options = (file other : List ℕ) → IsLibrary text options file → IsLibrary text options other → file ≡ other
 
--- Where the call succeeds for a text and options, what it puts at the beginning of the buffer is what the program's
--- `write_library` writes for the same text and options after what a writer had.
+-- Where the call succeeds for a text and options, what it puts at the beginning of the buffer is
+-- what the program's `write_library` writes for the same text and options after what a writer had.
 abbrev pub PutsWhatIsWritten : Type 0
 PutsWhatIsWritten =
     (text : List ℕ) (given : GivenOptions) (options : LibraryOptionsView) (old new : List ℕ) (length_left place_left : ℕ) (before after : List ℕ) →

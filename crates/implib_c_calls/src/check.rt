@@ -64,7 +64,8 @@ fn push_flagged<'m, 'a: 'm>(
     flag: bool,
     member: &'m MemberRead<'a>,
 ) -> Result<(), AllocError>
-    ensures { OnOk result (map row_view rows.new.items ≡ map row_view rows.old.items ++ flagged (flag ∷ []) (row_of_found member.now ∷ [])) }
+    ensures { OnOk result (map row_view rows.new.items ≡ map row_view rows.old.items
+        ++ flagged (flag ∷ []) (row_of_found member.now ∷ [])) }
 {
     if !flag {
         return Ok(());
@@ -79,7 +80,8 @@ fn flagged_rows<'m, 'a: 'm>(
     flags: &[bool],
     members: &'m [MemberRead<'a>],
 ) -> Result<Vec<Row<'m>>, AllocError>
-    ensures { IfOk result (λ rows. map row_view rows.items ≡ flagged flags.now (map row_of_found members.now)) }
+    ensures { IfOk result
+        (λ rows. map row_view rows.items ≡ flagged flags.now (map row_of_found members.now)) }
 {
     let mut rows = Vec::new(alloc);
     for i in 0..members.len() {
@@ -95,7 +97,8 @@ fn encoding_of(
     meant: &[MemberRead<'_>],
 ) -> Result<Vec<u8>, AllocError>
     ensures { IfOk result (λ bytes. EncodesTold
-        (told_of (archive_view library.now.archive) (map member_read_view library.now.members.items) (map member_read_view meant.now))
+        (told_of (archive_view library.now.archive) (map member_read_view library.now.members.items)
+        (map member_read_view meant.now))
         bytes.items) }
 {
     let members = library.members.as_slice();
@@ -118,7 +121,9 @@ fn read_check(
     text: &[u8],
     options: &LibraryOptions<'_>,
 ) -> Result<Vec<u8>, Refusal>
-    ensures ok { IfOk result (λ bytes. EncodesCheck (archive_view library.now.archive) (map member_read_view library.now.members.items)
+    ensures ok { IfOk result
+        (λ bytes. EncodesCheck (archive_view library.now.archive)
+        (map member_read_view library.now.members.items)
         text.now (library_options_view options.now) bytes.items) }
     ensures refused { IfErr result (IsRefusalOfBytes text.now (library_options_view options.now)) }
 {
@@ -146,7 +151,8 @@ pub fn check_into(
     arguments: OptionsArguments<'_>,
     buffer: &mut [u8],
 ) -> Result<usize, Failure>
-    ensures { CheckAnswers library.now text.now (given_options arguments.entry) buffer.old buffer.new
+    ensures { CheckAnswers library.now text.now (given_options arguments.entry) buffer.old
+        buffer.new
         (length_given result) (place_given result) (status_number (status_given result)) }
 {
     let options = match options_with(arguments) {

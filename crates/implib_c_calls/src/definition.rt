@@ -2,7 +2,8 @@
 
 ghost use Rattle.implib.specs.Definition.{definition_view};
 ghost use Rattle.implib_archive.specs.Pushed.{Pushes};
-ghost use Rattle.implib_c_calls.specs.Definition.{encoded_export, encoded_optional, flag, flags_of, stated, stated_of};
+ghost use Rattle.implib_c_calls.specs.Definition.{encoded_export, encoded_optional, flag, flags_of};
+ghost use Rattle.implib_c_calls.specs.Definition.{stated, stated_of};
 ghost use Rattle.implib_c_calls.specs.DefinitionAnswer.{DefinitionAnswers};
 ghost use Rattle.implib_c_calls.specs.DefinitionGiven.{HasDefinition, IsEncoding, LacksDefinition};
 ghost use Rattle.implib_c_calls.specs.Encoding.{encoded_list, encoded_number, encoded_text};
@@ -92,7 +93,8 @@ fn push_exports(bytes: &mut Vec<u8>, exports: &[ShortExport]) -> Result<(), Allo
 
 // What a definition states, encoded.
 fn encoding_of(alloc: Global, definition: &ModuleDef) -> Result<Vec<u8>, AllocError>
-    ensures { IfOk result (λ bytes. IsEncoding (stated (definition_view definition.now)) bytes.items) }
+    ensures { IfOk result
+        (λ bytes. IsEncoding (stated (definition_view definition.now)) bytes.items) }
 {
     let mut bytes = Vec::new(alloc);
     push_text(&mut bytes, definition.import_name.as_bytes())?;

@@ -1,10 +1,13 @@
-//! From a text and options to the library of delayed imports that the program makes of them, or to what is
-//! wrong.
+//! From a text and options to the library of delayed imports that the program makes of them, or to
+//! what is wrong.
 
-ghost use Rattle.implib_c_calls.specs.Delayed.{DelayedAnswers, delay_status, delayed_status, no_delay_of, place_at};
+ghost use Rattle.implib_c_calls.specs.Delayed.{DelayedAnswers, delay_status, delayed_status};
+ghost use Rattle.implib_c_calls.specs.Delayed.{no_delay_of, place_at};
 ghost use Rattle.implib_c_calls.specs.Delayed.{place_of_delayed};
-ghost use Rattle.implib_c_calls.specs.DelayedGiven.{IsDelayedWithin, IsUndelayedWithin, PutsDelayed};
-ghost use Rattle.implib_c_calls.specs.Given.{failure_status, length_given, place_given, status_given};
+ghost use Rattle.implib_c_calls.specs.DelayedGiven.{IsDelayedWithin, IsUndelayedWithin};
+ghost use Rattle.implib_c_calls.specs.DelayedGiven.{PutsDelayed};
+ghost use Rattle.implib_c_calls.specs.Given.{failure_status, length_given, place_given};
+ghost use Rattle.implib_c_calls.specs.Given.{status_given};
 ghost use Rattle.implib_c_calls.specs.LibraryWith.{given_options};
 ghost use Rattle.implib_c_calls.specs.Status.{status_number};
 ghost use Rattle.implib_delay_library.specs.Libraries.{position_of_undelayed};
@@ -74,8 +77,8 @@ fn put_delayed(
 ///
 /// The first that applies: `UnknownMachine`, `UnknownFlavor`, `UnknownFlags`, `DllNotUtf8`,
 /// `NotDelayed` for Microsoft's linkers; then `NotUtf8`, `SyntaxError`, `NoDllName`, `RefusedAt`,
-/// `NotDelayed`, `NoArchive`, `BufferTooSmall`. `OutOfMemory` can precede the last seven, and come where
-/// none applies.
+/// `NotDelayed`, `NoArchive`, `BufferTooSmall`. `OutOfMemory` can precede the last seven, and come
+/// where none applies.
 pub fn delayed_into(
     alloc: Global,
     text: &[u8],

@@ -5,9 +5,11 @@
 //! export directory. It is compared as loaders do it.
 
 ghost use Rattle.implib_archive.specs.Pushed.{Pushes};
-ghost use Rattle.implib_c_calls.specs.DllCheck.{dll_told, judgement_number, loss_number, name_given, names_given};
+ghost use Rattle.implib_c_calls.specs.DllCheck.{dll_told, judgement_number, loss_number};
+ghost use Rattle.implib_c_calls.specs.DllCheck.{name_given, names_given};
 ghost use Rattle.implib_c_calls.specs.DllCheckAnswer.{DllCheckAnswers};
-ghost use Rattle.implib_c_calls.specs.DllCheckGiven.{EncodesDllCheck, EncodesDllTold, LacksDllCheck};
+ghost use Rattle.implib_c_calls.specs.DllCheckGiven.{EncodesDllCheck, EncodesDllTold};
+ghost use Rattle.implib_c_calls.specs.DllCheckGiven.{LacksDllCheck};
 ghost use Rattle.implib_c_calls.specs.Encoding.{encoded_list, encoded_number};
 ghost use Rattle.implib_c_calls.specs.Given.{length_given, place_given, status_given};
 ghost use Rattle.implib_c_calls.specs.Status.{status_number};

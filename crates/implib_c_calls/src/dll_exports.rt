@@ -1,9 +1,12 @@
 //! From the file of a DLL to what it exports, encoded in a buffer.
 
 ghost use Rattle.implib_archive.specs.Pushed.{Pushes};
-ghost use Rattle.implib_c_calls.specs.DllExports.{ExportFits, address_number, dll_rows, encoded_export, target_address, target_forwarder, target_number};
+ghost use Rattle.implib_c_calls.specs.DllExports.{ExportFits, address_number, dll_rows};
+ghost use Rattle.implib_c_calls.specs.DllExports.{encoded_export, target_address, target_forwarder};
+ghost use Rattle.implib_c_calls.specs.DllExports.{target_number};
 ghost use Rattle.implib_c_calls.specs.DllExportsAnswer.{ExportsAnswers};
-ghost use Rattle.implib_c_calls.specs.DllExportsGiven.{EncodesExports, EncodesRows, LacksExports, export_row_found};
+ghost use Rattle.implib_c_calls.specs.DllExportsGiven.{EncodesExports, EncodesRows, LacksExports};
+ghost use Rattle.implib_c_calls.specs.DllExportsGiven.{export_row_found};
 ghost use Rattle.implib_c_calls.specs.Encoding.{encoded_list, encoded_text};
 ghost use Rattle.implib_c_calls.specs.Given.{length_given, place_given, status_given};
 ghost use Rattle.implib_c_calls.specs.Status.{status_number};

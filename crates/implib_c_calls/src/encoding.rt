@@ -1,7 +1,8 @@
 //! Members as bytes: how many these are, and putting them into a buffer.
 
 ghost use Rattle.implib.specs.Library.{member_view};
-ghost use Rattle.implib_c_calls.specs.Encoding.{encoded_list, encoded_member, encoded_members, encoded_number, encoded_text};
+ghost use Rattle.implib_c_calls.specs.Encoding.{encoded_list, encoded_member, encoded_members};
+ghost use Rattle.implib_c_calls.specs.Encoding.{encoded_number, encoded_text};
 ghost use Rattle.implib_c_calls.specs.Fill.{Fills};
 ghost use Rattle.std.specs.Prelude.{◌+◌, ◌≡◌, ◌≤◌, IfSome, length, map};
 ghost use Rattle.std.specs.String.{string_bytes};

@@ -2,7 +2,8 @@
 
 ghost use Rattle.implib.specs.Definition.{export_view};
 ghost use Rattle.implib_c_calls.specs.Flags.{has_flag};
-ghost use Rattle.implib_c_calls.specs.LibraryOf.{IsAccepted, IsExportFault, export_given, given_export};
+ghost use Rattle.implib_c_calls.specs.LibraryOf.{IsAccepted, IsExportFault, export_given};
+ghost use Rattle.implib_c_calls.specs.LibraryOf.{given_export};
 ghost use Rattle.std.specs.Prelude.{◌≡◌, IfErr, IfOk, OnOk};
 
 use implib::def::ShortExport;
@@ -82,7 +83,8 @@ pub fn short_export(
     target: &str,
 ) -> Result<ShortExport, AllocError>
     ensures { IfOk result (λ short. export_view short
-        ≡ export_given (record (given_export export.now) { name = name.now; target = target.now })) }
+        ≡ export_given
+        (record (given_export export.now) { name = name.now; target = target.now })) }
 {
     let mut short = ShortExport::empty(alloc);
     short.name = String::from_str(alloc, name)?;

@@ -3,9 +3,11 @@
 ghost use Rattle.implib_archive.specs.Pushed.{Pushes};
 ghost use Rattle.implib_c_calls.specs.Encoding.{encoded_list};
 ghost use Rattle.implib_c_calls.specs.Given.{length_given, status_given};
-ghost use Rattle.implib_c_calls.specs.Imports.{Fits, alias_row, encoded_row, import_row, kind_number, other_row};
+ghost use Rattle.implib_c_calls.specs.Imports.{Fits, alias_row, encoded_row, import_row};
+ghost use Rattle.implib_c_calls.specs.Imports.{kind_number, other_row};
 ghost use Rattle.implib_c_calls.specs.ImportsAnswer.{ImportsAnswers};
-ghost use Rattle.implib_c_calls.specs.ImportsGiven.{EncodesImports, EncodesRows, LacksImports, row_of_found, row_view};
+ghost use Rattle.implib_c_calls.specs.ImportsGiven.{EncodesImports, EncodesRows, LacksImports};
+ghost use Rattle.implib_c_calls.specs.ImportsGiven.{row_of_found, row_view};
 ghost use Rattle.implib_c_calls.specs.Status.{status_number};
 ghost use Rattle.implib_read.specs.AliasViews.{alias_view};
 ghost use Rattle.implib_read.specs.ClassViews.{imported_view};
@@ -116,7 +118,8 @@ pub fn row_of<'m, 'a: 'm>(member: &'m MemberRead<'a>) -> Row<'m>
 
 // Appends a row.
 fn push_row(bytes: &mut Vec<u8>, row: Row<'_>) -> Result<(), AllocError>
-    ensures appended { OnOk result (Pushes bytes.old.items bytes.new.items (encoded_row (row_view row.entry))) }
+    ensures appended { OnOk result
+        (Pushes bytes.old.items bytes.new.items (encoded_row (row_view row.entry))) }
     ensures fit { Fits (row_view row.entry) }
 {
     push_number(bytes, row.kind)?;
@@ -183,8 +186,8 @@ fn read_imports(alloc: Global, library: &[u8]) -> Result<Vec<u8>, Failure>
     }
 }
 
-/// Puts what the members of a library are for, and import, at the beginning of the buffer. Gives the
-/// length of their encoding. An error leaves the buffer as it was.
+/// Puts what the members of a library are for, and import, at the beginning of the buffer. Gives
+/// the length of their encoding. An error leaves the buffer as it was.
 ///
 /// # Errors
 ///

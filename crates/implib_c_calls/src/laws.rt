@@ -1,5 +1,5 @@
-//! What a caller may conclude of encodings, of statuses and of places. These functions do nothing: each
-//! contract is a law.
+//! What a caller may conclude of encodings, of statuses and of places. These functions do nothing:
+//! each contract is a law.
 
 ghost use Rattle.implib.specs.Members.MemberSpec.{MemberView};
 ghost use Rattle.implib_c_calls.specs.Check.{ReadsToldBack, Told};

@@ -1,10 +1,12 @@
-//! From exports and options to the library that the rules of the program make of them, or to what is
-//! wrong.
+//! From exports and options to the library that the rules of the program make of them, or to what
+//! is wrong.
 
 ghost use Rattle.implib.specs.Definition.{export_view};
-ghost use Rattle.implib_c_calls.specs.Given.{failure_status, length_given, place_given, status_given};
+ghost use Rattle.implib_c_calls.specs.Given.{failure_status, length_given, place_given};
+ghost use Rattle.implib_c_calls.specs.Given.{status_given};
 ghost use Rattle.implib_c_calls.specs.GivenOf.{AreGiven, OnExportFault, PutsLibraryOf};
-ghost use Rattle.implib_c_calls.specs.LibraryOf.{LibraryOfAnswers, export_given, exports_status, given_export};
+ghost use Rattle.implib_c_calls.specs.LibraryOf.{LibraryOfAnswers, export_given, exports_status};
+ghost use Rattle.implib_c_calls.specs.LibraryOf.{given_export};
 ghost use Rattle.implib_c_calls.specs.LibraryOf.{place_of_refusal};
 ghost use Rattle.implib_c_calls.specs.LibraryWith.{given_options};
 ghost use Rattle.implib_c_calls.specs.Status.{status_number};

@@ -1,9 +1,12 @@
 //! From a text and options to the library that the program makes of them, or to what is wrong.
 
-ghost use Rattle.implib_c_calls.specs.Given.{PacksInto, failure_status, length_given, place_given, status_given};
+ghost use Rattle.implib_c_calls.specs.Given.{PacksInto, failure_status, length_given, place_given};
+ghost use Rattle.implib_c_calls.specs.Given.{status_given};
 ghost use Rattle.implib_c_calls.specs.GivenWith.{IsNoOptions, IsWithin, PutsLibrary};
-ghost use Rattle.implib_c_calls.specs.LibraryWith.{AreOptions, LibraryWithAnswers, given_options, mark_length};
-ghost use Rattle.implib_c_calls.specs.LibraryWith.{naming_numbered, place_of_refusal, refusal_status};
+ghost use Rattle.implib_c_calls.specs.LibraryWith.{AreOptions, LibraryWithAnswers, given_options};
+ghost use Rattle.implib_c_calls.specs.LibraryWith.{mark_length};
+ghost use Rattle.implib_c_calls.specs.LibraryWith.{naming_numbered, place_of_refusal};
+ghost use Rattle.implib_c_calls.specs.LibraryWith.{refusal_status};
 ghost use Rattle.implib_c_calls.specs.Status.{status_number};
 ghost use Rattle.implib_rules.specs.Library.{kind_of};
 ghost use Rattle.implib_rules.specs.Linked.{naming_view};

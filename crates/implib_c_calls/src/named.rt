@@ -1,5 +1,5 @@
-//! From a text and options to the library that the program makes of them, but with a null descriptor that
-//! is named after the library; or to what is wrong.
+//! From a text and options to the library that the program makes of them, but with a null
+//! descriptor that is named after the library; or to what is wrong.
 
 ghost use Rattle.implib_c_calls.specs.Given.{length_given, place_given, status_given};
 ghost use Rattle.implib_c_calls.specs.GivenWith.{PutsNamedLibrary};
@@ -14,8 +14,8 @@ use implib_rules::library::kind_for;
 use implib_rules::options::LibraryOptions;
 use std::alloc::Global;
 
-// Puts the library of a text with these options at the beginning of the buffer, where there is room. Gives
-// its length.
+// Puts the library of a text with these options at the beginning of the buffer, where there is
+// room. Gives its length.
 fn put_named(
     alloc: Global,
     text: &[u8],
@@ -34,8 +34,8 @@ fn put_named(
     }
 }
 
-/// Puts the library of a text with these options at the beginning of the buffer. Gives its length. An error
-/// leaves the buffer as it was.
+/// Puts the library of a text with these options at the beginning of the buffer. Gives its length.
+/// An error leaves the buffer as it was.
 ///
 /// # Errors
 ///

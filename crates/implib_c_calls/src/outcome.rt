@@ -4,7 +4,9 @@ ghost use Rattle.implib.specs.Conversions.{machine_numbered};
 ghost use Rattle.implib.specs.Library.{member_view};
 ghost use Rattle.implib.specs.Members.OfText.{MembersOf};
 ghost use Rattle.implib_c_calls.specs.Answer.{Answers, flavor_numbered};
-ghost use Rattle.implib_c_calls.specs.Given.{FailsSo, HasMembers, OnTextFault, PacksInto, PutsEncoding, PutsInto, failure_status, length_given, place_given, status_given};
+ghost use Rattle.implib_c_calls.specs.Given.{FailsSo, HasMembers, OnTextFault, PacksInto};
+ghost use Rattle.implib_c_calls.specs.Given.{PutsEncoding, PutsInto, failure_status, length_given};
+ghost use Rattle.implib_c_calls.specs.Given.{place_given, status_given};
 ghost use Rattle.implib_c_calls.specs.Library.{LibraryAnswers, kind_of_flavor};
 ghost use Rattle.implib_c_calls.specs.Status.{status_number};
 ghost use Rattle.std.specs.Prelude.{◌≡◌, IfErr, IfOk, map};
@@ -55,7 +57,8 @@ pub enum Failure {
     DllNotUtf8,
     /// No name of the DLL is given.
     NoDllName,
-    /// The definition has no members: the fault, and the offset of the export's name in bytes, or 0.
+    /// The definition has no members: the fault, and the offset of the export's name in bytes, or
+    /// 0.
     RefusedAt(Fault, usize),
     /// An export is refused by itself: the fault, and its index.
     NoExport(ExportFault, usize),

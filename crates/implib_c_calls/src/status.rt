@@ -3,7 +3,8 @@
 ghost use Rattle.implib.specs.Fault.{cause_of};
 ghost use Rattle.implib_c_calls.specs.Delayed.{delay_status};
 ghost use Rattle.implib_c_calls.specs.LibraryOf.{export_status};
-ghost use Rattle.implib_c_calls.specs.Status.{archive_status, cause_status, status_number, status_numbered, status_text, text_for, with_text};
+ghost use Rattle.implib_c_calls.specs.Status.{archive_status, cause_status, status_number};
+ghost use Rattle.implib_c_calls.specs.Status.{status_numbered, status_text, text_for, with_text};
 ghost use Rattle.std.specs.Prelude.{◌<◌, ◌≡◌, length};
 
 use crate::export::ExportFault;

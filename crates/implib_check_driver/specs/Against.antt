@@ -1,6 +1,7 @@
--- What the imports of a library, or of a definition, come to in a DLL (this project's choice; docs/CHECK.md, "Beside a
--- DLL").
-use Rattle.std.specs.Prelude.{◌≡◌, ◌⊎◌, ℕ, Bool, ◌||◌, List, [], ◌∷◌, Err, None, Ok, Option, Some, codes, if◌then◌else◌, is_some, nat_eq, unwrap_or}
+-- What the imports of a library, or of a definition, come to in a DLL (this project's choice;
+-- docs/CHECK.md, "Beside a DLL").
+use Rattle.std.specs.Prelude.{◌≡◌, ◌⊎◌, ℕ, Bool, ◌||◌, List, [], ◌∷◌, Err, None, Ok, Option, Some}
+use Rattle.std.specs.Prelude.{codes, if◌then◌else◌, is_some, nat_eq, unwrap_or}
 use Rattle.std.specs.List.{list_any, starts_with}
 use Rattle.std.specs.Option.{option_map_or}
 use Rattle.implib.specs.Conversions.{machine_numbered}
@@ -25,7 +26,8 @@ use Rattle.implib_check_driver.specs.Calls.{CheckView}
 use Rattle.implib_check_driver.specs.Status.{no_library_status, refusal_status}
 use Rattle.implib_check_driver.specs.Through.{Through, ends_through}
 
--- whether bytes begin as an image does (PE/COFF specification, "MS-DOS Stub (Image Only)"), and as an archive, or a thin one
+-- whether bytes begin as an image does (PE/COFF specification, "MS-DOS Stub (Image Only)"), and as
+-- an archive, or a thin one
 abbrev pub begins_dll : List ℕ → Bool
 begins_dll bytes = starts_with nat_eq bytes (codes "MZ")
 
@@ -35,14 +37,14 @@ is_library bytes = starts_with nat_eq bytes (codes "!<arch>\n")
 abbrev pub begins_archive : List ℕ → Bool
 begins_archive bytes = is_library bytes || starts_with nat_eq bytes (codes "!<thin>\n")
 
--- The names by which loaders know a DLL: the one that a call gives, or else that of its export directory and that of its
--- file.
+-- The names by which loaders know a DLL: the one that a call gives, or else that of its export
+-- directory and that of its file.
 abbrev pub names_of : Option (List ℕ) → List ℕ → List ℕ → List (List ℕ)
 names_of (Some given) path own = loader_name (last_part given) ∷ []
 names_of None path own = loader_name own ∷ loader_name (last_part path) ∷ []
 
--- The status of what imports come to: 1 where one is lost, 4 where a member may import what is not read, and 1 where
--- there is no import.
+-- The status of what imports come to: 1 where one is lost, 4 where a member may import what is not
+-- read, and 1 where there is no import.
 abbrev pub against_status : List Judgement → Bool → ℕ
 against_status found unread =
     if list_any is_lost found then 1 else if unread then 4 else if list_any is_import found then 0 else 1
@@ -63,15 +65,16 @@ has_options c =
     is_some c.machine || (is_some c.native || (is_some c.flavor || (c.older_symbols
     || (c.naming.is_plain || (c.naming.kills_at || (c.naming.exports_as || c.naming.keeps_decorated))))))
 
--- the status of members in the DLL that bytes are read as: 3 where they are refused, and 1 where nothing is exported
+-- the status of members in the DLL that bytes are read as: 3 where they are refused, and 1 where
+-- nothing is exported
 abbrev pub members_in : Through → CheckView → List MemberRead → Read (Option Exports) → ℕ
 members_in others check members (Ok (Some e)) = members_against others check e members
 members_in others check members (Ok None) = 1
 members_in others check members (Err fault) = 3
 
--- For which machine and linker a definition is read that is held against a DLL: the machine and the flavour that the call
--- names, else the DLL's machine, if libraries are made for it, and Microsoft's flavour, or GNU's where older symbols are
--- asked for.
+-- For which machine and linker a definition is read that is held against a DLL: the machine and the
+-- flavour that the call names, else the DLL's machine, if libraries are made for it, and
+-- Microsoft's flavour, or GNU's where older symbols are asked for.
 abbrev pub options_against : CheckView → Exports → LibraryOptionsView
 options_against c e = record {
   machine = unwrap_or c.machine (unwrap_or (machine_numbered e.machine) AMD64);
@@ -95,14 +98,16 @@ pub record IsRefused (check : CheckView) (e : Exports) (definition : List ℕ) (
   pub is_refusal : IsRefusalFor check.older_symbols definition (options_against check e) why
   pub is : status ≡ refusal_status why
 
--- The status of a definition beside the DLL of a file's bytes: 3 where these are refused, and 1 where nothing is exported.
+-- The status of a definition beside the DLL of a file's bytes: 3 where these are refused, and 1
+-- where nothing is exported.
 abbrev pub DefinitionAgainst : Through → CheckView → List ℕ → Read (Option Exports) → ℕ → Type 0
 DefinitionAgainst others check definition (Ok (Some e)) status =
     IsHeld others check e definition status ⊎ IsRefused check e definition status
 DefinitionAgainst others check definition (Ok None) status = status ≡ 1
 DefinitionAgainst others check definition (Err fault) status = status ≡ 3
 
--- The status of the library of a file's bytes beside the DLL of another's: 2 where the call has options of definitions.
+-- The status of the library of a file's bytes beside the DLL of another's: 2 where the call has
+-- options of definitions.
 abbrev pub library_against : Through → CheckView → List ℕ → List ℕ → ℕ
 library_against others check library dll =
     if has_options check then 2

@@ -1,6 +1,8 @@
--- What the program answers with, by what its files hold: the exit statuses of its calls (docs/CHECK.md, "Exit status"). Each
--- call may also end with status 3, where a file, a stream or memory fails.
-use Rattle.std.specs.Prelude.{◌≡◌, ◌⊎◌, ℕ, ◌==◌, ◌||◌, Bool, true, false, List, Err, Ok, Option, None, Some, IfSome, length, map}
+-- What the program answers with, by what its files hold: the exit statuses of its calls
+-- (docs/CHECK.md, "Exit status"). Each call may also end with status 3, where a file, a stream or
+-- memory fails.
+use Rattle.std.specs.Prelude.{◌≡◌, ◌⊎◌, ℕ, ◌==◌, ◌||◌, Bool, true, false, List, Err, Ok, Option}
+use Rattle.std.specs.Prelude.{None, Some, IfSome, length, map}
 use Rattle.std.specs.Option.{is_some, option_map, option_map_or}
 use Rattle.implib_read.specs.Archives.{Archive, archive_in}
 use Rattle.implib_read.specs.ArchiveViews.{archive_view}
@@ -10,17 +12,22 @@ use Rattle.implib_read.specs.Classes.{members_read}
 use Rattle.implib_read.specs.Identity.{dlls_of}
 use Rattle.implib_compare.specs.Comparison.{has_unread, verdict}
 use Rattle.implib_compare.specs.Working.{both_work, working_of, working_status}
-use Rattle.implib_check_driver.specs.Against.{DefinitionAgainst, begins_archive, begins_dll, is_library, library_against}
+use Rattle.implib_check_driver.specs.Against.{DefinitionAgainst, begins_archive, begins_dll}
+use Rattle.implib_check_driver.specs.Against.{is_library, library_against}
 use Rattle.implib_check_driver.specs.Calls.{CheckView, DefineView, is_searching}
 use Rattle.implib_check_driver.specs.Defining.{DefinesFor, IsUndefined}
 use Rattle.implib_check_driver.specs.OfDlls.{HasNoLibrary, IsLibraryOfDll}
-use Rattle.implib_check_driver.specs.Targets.{has_arm64ec, is_for_arm64ec, is_unfit, options_for, options_of}
+use Rattle.implib_check_driver.specs.Targets.{has_arm64ec, is_for_arm64ec, is_unfit, options_for}
+use Rattle.implib_check_driver.specs.Targets.{options_of}
 use Rattle.implib_check_driver.specs.declared.defining.Undefined.{Undefined}
-use Rattle.implib_compare.specs.Meant.{IsArm64ecFault, IsArm64ecVerdictOn, IsRefusalFor, IsVerdictOn}
+use Rattle.implib_compare.specs.Meant.{IsArm64ecFault, IsArm64ecVerdictOn, IsRefusalFor}
+use Rattle.implib_compare.specs.Meant.{IsVerdictOn}
 use Rattle.implib_compare.specs.declared.meant.Arm64ecFault.{Arm64ecFault}
 use Rattle.implib_compare.specs.declared.compare.Verdict.{Verdict}
 use Rattle.implib_rules.specs.declared.library.Refusal.{Refusal}
-use Rattle.implib_check_driver.specs.Tasks.{Checks, Compares, Defines, Help, Identifies, Joins, Lists, ListsExports, Searches, TaskView, Version, WorksOf}
+use Rattle.implib_check_driver.specs.Tasks.{Checks, Compares, Defines, Help, Identifies, Joins}
+use Rattle.implib_check_driver.specs.Tasks.{Lists, ListsExports, Searches, TaskView, Version}
+use Rattle.implib_check_driver.specs.Tasks.{WorksOf}
 use Rattle.implib_dll.specs.Exports.{Exports, exports_in}
 use Rattle.implib_dll.specs.Imports.{imports_in}
 use Rattle.implib_dll.specs.Outcome.{Read}
@@ -29,7 +36,9 @@ use Rattle.implib_check_driver.specs.Starting.{program_status}
 use Rattle.implib_dll_check.specs.Folders.{AreKnown, listings}
 use Rattle.implib_check_driver.specs.Through.{AreKnownFor, Through, through}
 use Rattle.implib_check_driver.specs.Together.{joined_status}
-use Rattle.implib_check_driver.specs.Status.{arm64ec_status, comparison_status, identity_status, list_status, no_library_status, refusal_status, undefined_status}
+use Rattle.implib_check_driver.specs.Status.{arm64ec_status, comparison_status, identity_status}
+use Rattle.implib_check_driver.specs.Status.{list_status, no_library_status, refusal_status}
+use Rattle.implib_check_driver.specs.Status.{undefined_status}
 
 -- a library is that of these bytes
 abbrev pub IsReadAs : List ℕ → Library → Type 0
@@ -70,7 +79,8 @@ compared a b =
     comparison_status (verdict (members_read a.members) (members_read b.members))
     (both_work (working_of a (members_read a.members)) (working_of b (members_read b.members)))
 
--- the status of the bytes of two files: where the first are no archive, theirs; else where the second are none
+-- the status of the bytes of two files: where the first are no archive, theirs; else where the
+-- second are none
 abbrev pub compared_in : List ℕ → List ℕ → ℕ
 compared_in left right = option_map_or (λ a. option_map_or (compared a) (archive_in right) (no_library_status right)) (archive_in left) (no_library_status left)
 
@@ -78,7 +88,8 @@ compared_in left right = option_map_or (λ a. option_map_or (compared a) (archiv
 abbrev pub AnswersOfBoth : Option (List ℕ) → Option (List ℕ) → ℕ → Type 0
 AnswersOfBoth left right status = OrFailed status (IfSome left (λ l. IfSome right (λ r. status ≡ compared_in l r)))
 
--- the status of the exports of a DLL: 3 where its bytes are refused, and 1 where nothing is exported
+-- the status of the exports of a DLL: 3 where its bytes are refused, and 1 where nothing is
+-- exported
 abbrev pub exported : Read (Option Exports) → ℕ
 exported (Ok (Some e)) = 0
 exported (Ok None) = 1
@@ -87,8 +98,8 @@ exported (Err fault) = 3
 abbrev pub AnswersExports : Option (List ℕ) → ℕ → Type 0
 AnswersExports file status = OrFailed status (IfSome file (λ bytes. status ≡ exported (exports_in File bytes)))
 
--- The status of an archive beside a definition: of the verdict on both, and where they are the same, of whether the
--- archive works.
+-- The status of an archive beside a definition: of the verdict on both, and where they are the
+-- same, of whether the archive works.
 pub record IsChecked (check : CheckView) (a : Archive) (definition : List ℕ) (status : ℕ) : Type 0 where
   pub verdict : Verdict
   pub on : IsVerdictOn check.older_symbols definition (options_for check (members_read a.members)) (members_read a.members) verdict
@@ -104,7 +115,8 @@ pub record IsCheckRefused (check : CheckView) (a : Archive) (definition : List �
 abbrev pub IsCheckedOrdinary : CheckView → Archive → List ℕ → ℕ → Type 0
 IsCheckedOrdinary check a definition status = IsChecked check a definition status ⊎ IsCheckRefused check a definition status
 
--- the same beside the definitions of a library for ARM64EC, of which the second is the native one, if there is one
+-- the same beside the definitions of a library for ARM64EC, of which the second is the native one,
+-- if there is one
 pub record IsArm64ecChecked (check : CheckView) (a : Archive) (definition : List ℕ) (native : Option (List ℕ)) (status : ℕ) : Type 0 where
   pub verdict : Verdict
   pub on : IsArm64ecVerdictOn definition native (options_for check (members_read a.members)) (members_read a.members) verdict
@@ -120,7 +132,8 @@ abbrev pub IsCheckedForArm64ec : CheckView → Archive → List ℕ → Option (
 IsCheckedForArm64ec check a definition native status =
     IsArm64ecChecked check a definition native status ⊎ IsArm64ecRefused check a definition native status
 
--- the status of an archive beside definitions: 2 where the call asks for what its library is not made with
+-- the status of an archive beside definitions: 2 where the call asks for what its library is not
+-- made with
 abbrev pub IsCheckedBeside : CheckView → Archive → List ℕ → Option (List ℕ) → ℕ → Type 0
 IsCheckedBeside check a definition native status =
     (is_unfit check (members_read a.members) ≡ true → status ≡ 2)
@@ -129,7 +142,8 @@ IsCheckedBeside check a definition native status =
     × (is_unfit check (members_read a.members) ≡ false → is_for_arm64ec check (members_read a.members) ≡ false
     → IsCheckedOrdinary check a definition status))
 
--- the status of an archive, or of bytes that are none, beside definitions: 2 where the first is a library, too
+-- the status of an archive, or of bytes that are none, beside definitions: 2 where the first is a
+-- library, too
 abbrev pub CheckedAs : CheckView → List ℕ → List ℕ → Option (List ℕ) → Option Archive → ℕ → Type 0
 CheckedAs check library definition native None status = status ≡ no_library_status library
 CheckedAs check library definition native (Some a) status =
@@ -146,7 +160,8 @@ IsAnswerChecked check library definition native status =
     (asks_for_dll check ≡ true → status ≡ 2)
     × (asks_for_dll check ≡ false → CheckedAs check library definition native (archive_in library) status)
 
--- The status of an archive of one DLL whose definition is asked for: 0 where the text that says its imports is one.
+-- The status of an archive of one DLL whose definition is asked for: 0 where the text that says its
+-- imports is one.
 pub record IsDefinedAs (define : DefineView) (a : Archive) (status : ℕ) : Type 0 where
   pub text : List ℕ
   pub defines : DefinesFor define.older_symbols text (options_of define (members_read a.members)) (members_read a.members)
@@ -157,8 +172,8 @@ pub record IsUndefinedAs (hints : Bool) (define : DefineView) (a : Archive) (sta
   pub undefined : IsUndefined hints define.older_symbols (options_of define (members_read a.members)) (members_read a.members) why
   pub is : status ≡ undefined_status why
 
--- the status of an archive, or of bytes that are none, whose definition is asked for, with hints as ordinals or as
--- comments: 1 where it is not of one DLL, or has an import for ARM64EC
+-- the status of an archive, or of bytes that are none, whose definition is asked for, with hints as
+-- ordinals or as comments: 1 where it is not of one DLL, or has an import for ARM64EC
 abbrev pub DefinedAs : Bool → DefineView → List ℕ → Option Archive → ℕ → Type 0
 DefinedAs hints define library None status = status ≡ no_library_status library
 DefinedAs hints define library (Some a) status =
@@ -196,7 +211,8 @@ IsAnswerBeside others check first dll status =
     × ((begins_archive first ≡ false → begins_dll first ≡ true → status ≡ 2)
     × (begins_archive first ≡ false → begins_dll first ≡ false → DefinitionBeside others check first dll status))
 
--- what is said of the status of a library or a definition beside a DLL or a definition, and a native one
+-- what is said of the status of a library or a definition beside a DLL or a definition, and a
+-- native one
 abbrev pub IsAnswerWith : Through → CheckView → List ℕ → List ℕ → Option (List ℕ) → ℕ → Type 0
 IsAnswerWith others check first second native status =
     (begins_dll second ≡ true → IsAnswerBeside others check first second status)
@@ -212,7 +228,8 @@ abbrev pub AnswersAll : Through → CheckView → Option (List ℕ) → Option (
 AnswersAll others check first second native status =
     OrFailed status (IfSome first (λ f. IfSome second (λ d. IfSome native (λ n. IsAnswerWith others check f d n status))))
 
--- The same, and where forwarders are followed, where the bytes of all files and the names in all folders are known.
+-- The same, and where forwarders are followed, where the bytes of all files and the names in all
+-- folders are known.
 abbrev pub AnswersBeside : (List ℕ → Option (List ℕ)) → (List ℕ → Option (List (List ℕ))) → CheckView → ℕ → Type 0
 AnswersBeside seen listed check status =
     (file : List ℕ → List ℕ) (names : List ℕ → List (List ℕ)) → AreKnownFor seen listed check file names
@@ -224,8 +241,8 @@ abbrev pub AnswersJoined : (List ℕ → Option (List ℕ)) → List (List ℕ) 
 AnswersJoined seen paths status =
     (file : List ℕ → List ℕ) → AreKnown seen file → OrFailed status (status ≡ joined_status (map file paths))
 
--- What is said of the status of a program beside folders, where the bytes of all files and the names in all folders are
--- known.
+-- What is said of the status of a program beside folders, where the bytes of all files and the
+-- names in all folders are known.
 abbrev pub AnswersProgram : (List ℕ → Option (List ℕ)) → (List ℕ → Option (List (List ℕ))) → List ℕ → List (List ℕ) → ℕ
     → Type 0
 AnswersProgram seen listed program folders status =

@@ -1,6 +1,8 @@
--- What the words of a call say that compares a library with a definition (this project's choice; the options are
--- those of dlltool).
-use Rattle.std.specs.Prelude.{ℕ, ◌+◌, ◌&&◌, ◌||◌, Bool, true, false, List, [], Option, Some, None, bytes_eq, codes, drop, fold, if◌then◌else◌, is_none, length, map, nat_eq, nat_lt, take}
+-- What the words of a call say that compares a library with a definition (this project's choice;
+-- the options are those of dlltool).
+use Rattle.std.specs.Prelude.{ℕ, ◌+◌, ◌&&◌, ◌||◌, Bool, true, false, List, [], Option, Some, None}
+use Rattle.std.specs.Prelude.{bytes_eq, codes, drop, fold, if◌then◌else◌, is_none, length, map}
+use Rattle.std.specs.Prelude.{nat_eq, nat_lt, take}
 use Rattle.std.specs.List.{position_from}
 use Rattle.std.specs.Option.{is_some, option_and_then, option_map}
 use Rattle.std.specs.String.{string_bytes}
@@ -187,7 +189,8 @@ are_for_msvc (Some Msvc) = true
 are_for_msvc (Some Gnu) = false
 are_for_msvc None = false
 
--- Whether a flavour that is named has no older symbols, where they are asked for: they are GNU's (`implib_dlltool`).
+-- Whether a flavour that is named has no older symbols, where they are asked for: they are GNU's
+-- (`implib_dlltool`).
 abbrev pub lacks_older : ReadingView → Bool
 lacks_older r = r.older_symbols && are_for_msvc r.flavor
 
@@ -256,8 +259,8 @@ define_of _ _ _ r = None
 abbrev pub asks_for_arm64ec_in : ReadingView → Bool
 asks_for_arm64ec_in r = r.arm64ec || is_some r.native
 
--- What all words say. A library has the name of its DLL and the names that it asks for itself, so no option says
--- these; and of a library for ARM64EC no definition is written.
+-- What all words say. A library has the name of its DLL and the names that it asks for itself, so
+-- no option says these; and of a library for ARM64EC no definition is written.
 abbrev pub define_in : ReadingView → Option DefineView
 define_in r = if lacks_older r || (r.naming.kills_at || (r.naming.exports_as || (is_some r.dll || (r.lists_unasked || asks_for_arm64ec_in r)))) then None else define_of r.library r.definition r.waiting r
 

@@ -5,14 +5,16 @@ use Rattle.implib_rules.specs.Options.{LibraryOptionsView}
 use Rattle.implib_compare.specs.declared.compare.Verdict.{Verdict}
 use Rattle.implib_compare.specs.declared.compare.Verdict.TheVariants.{Different as TheyDiffer}
 use Rattle.implib_check_driver.specs.declared.defining.Undefined.{Undefined}
-use Rattle.implib_check_driver.specs.declared.defining.Undefined.TheVariants.{Different, Failed, Refused, Unread}
+use Rattle.implib_check_driver.specs.declared.defining.Undefined.TheVariants.{Different, Failed}
+use Rattle.implib_check_driver.specs.declared.defining.Undefined.TheVariants.{Refused, Unread}
 use Rattle.implib_compare.specs.Comparison.{SayTheSame, has_unread}
 use Rattle.implib_check_driver.specs.DefinitionText.{definition_text}
 use Rattle.implib_compare.specs.Meant.{IsRefusalFor, IsVerdictOn}
 use Rattle.implib_check_driver.specs.OwnLibraries.{IsDefinedBy}
 
--- A text is a definition of a library under these options: by the grammar and by the rules of `implib_dlltool` it
--- means the imports and the aliases of the library, as many times each, in any order.
+-- A text is a definition of a library under these options: by the grammar and by the rules of
+-- `implib_dlltool` it means the imports and the aliases of the library, as many times each, in any
+-- order.
 pub record Defines (text : List ℕ) (options : LibraryOptionsView) (members : List MemberRead) : Type 0 where
   -- the members of the library that the text has
   pub meant : List MemberRead
@@ -21,8 +23,8 @@ pub record Defines (text : List ℕ) (options : LibraryOptionsView) (members : L
   -- no member of the library may import what is not read
   pub read : has_unread members ≡ false
 
--- A text is a definition of a library that has the older symbols of addresses: the library that the text has with them
--- does not differ from it, and no member of it may import what is not read.
+-- A text is a definition of a library that has the older symbols of addresses: the library that the
+-- text has with them does not differ from it, and no member of it may import what is not read.
 pub record DefinesWithOlder (text : List ℕ) (options : LibraryOptionsView) (members : List MemberRead) : Type 0 where
   pub verdict : Verdict
   pub on : IsVerdictOn true text options members verdict
@@ -34,8 +36,8 @@ abbrev pub DefinesFor : Bool → List ℕ → LibraryOptionsView → List Member
 DefinesFor true text options members = DefinesWithOlder text options members
 DefinesFor false text options members = Defines text options members
 
--- Why a library has no definition: a member may import what is not read; or the text that says its imports, as far as
--- a text can, is refused, or means others.
+-- Why a library has no definition: a member may import what is not read; or the text that says its
+-- imports, as far as a text can, is refused, or means others.
 abbrev pub IsUndefined : Bool → Bool → LibraryOptionsView → List MemberRead → Undefined → Type 0
 IsUndefined hints older options members Unread = has_unread members ≡ true
 IsUndefined hints older options members (Refused refusal) = IsRefusalFor older (definition_text hints options members) options refusal

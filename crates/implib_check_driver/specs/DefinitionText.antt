@@ -1,6 +1,7 @@
--- The text of the definition that `--def` writes of a library: a line for each import and alias, in the order of the
--- library (this project's choice; docs/CHECK.md, "The definition of a library").
-use Rattle.std.specs.Prelude.{ℕ, ◌==◌, Bool, not, ◌&&◌, ◌||◌, List, [], ◌∷◌, ◌++◌, bytes_eq, codes, decimal, if◌then◌else◌, nat_le, take, unwrap_or}
+-- The text of the definition that `--def` writes of a library: a line for each import and alias, in
+-- the order of the library (this project's choice; docs/CHECK.md, "The definition of a library").
+use Rattle.std.specs.Prelude.{ℕ, ◌==◌, Bool, not, ◌&&◌, ◌||◌, List, [], ◌∷◌, ◌++◌, bytes_eq, codes}
+use Rattle.std.specs.Prelude.{decimal, if◌then◌else◌, nat_le, take, unwrap_or}
 use Rattle.std.specs.List.{list_all, list_any}
 use Rattle.implib.specs.declared.flavor.Flavor.{Flavor}
 use Rattle.implib.specs.declared.flavor.Flavor.TheVariants.{Gnu, Msvc}
@@ -9,9 +10,12 @@ use Rattle.implib.specs.declared.machine.MachineType.TheVariants.{AMD64, ARM64, 
 use Rattle.implib.specs.Ascii.{at_sign, begins_with, underscore}
 use Rattle.implib.specs.Import.{Alias, Ask, Name, Ordinal}
 use Rattle.implib.specs.Machine.{has_leading_underscore}
-use Rattle.implib_read.specs.Classes.{Class, AnImport, AnAlias, Descriptor, NullDescriptor, NullThunk, Head, Tail, DelayImport, Other, NotUnderstood, Imported, MemberRead}
+use Rattle.implib_read.specs.Classes.{Class, AnImport, AnAlias, Descriptor, NullDescriptor}
+use Rattle.implib_read.specs.Classes.{NullThunk, Head, Tail, DelayImport, Other, NotUnderstood}
+use Rattle.implib_read.specs.Classes.{Imported, MemberRead}
 use Rattle.implib_read.specs.declared.import.ImportKind.{ImportKind}
-use Rattle.implib_read.specs.declared.import.ImportKind.TheVariants.{Code, CodeOrConst, Const, Data, Delayed}
+use Rattle.implib_read.specs.declared.import.ImportKind.TheVariants.{Code, CodeOrConst, Const, Data}
+use Rattle.implib_read.specs.declared.import.ImportKind.TheVariants.{Delayed}
 use Rattle.implib_rules.specs.Linked.{NamingView, keeps_word}
 use Rattle.implib_rules.specs.Options.{LibraryOptionsView}
 use Rattle.implib_compare.specs.Facts.{tells_constants}
@@ -36,8 +40,8 @@ is_name_sign b = b == 0x5F || (b == 0x24 || (b == 0x3F || (b == 0x40 || b == 0x2
 abbrev pub is_name_byte : ℕ → Bool
 is_name_byte b = is_small_letter b || (is_capital_or_digit b || is_name_sign b)
 
--- Whether a name is written without quotes: it is of these bytes, does not begin with `@` as an ordinal does, and has
--- a small letter, so it is no keyword of any tool.
+-- Whether a name is written without quotes: it is of these bytes, does not begin with `@` as an
+-- ordinal does, and has a small letter, so it is no keyword of any tool.
 abbrev pub is_plain_name : List ℕ → Bool
 is_plain_name name = list_all is_name_byte name && (list_any is_small_letter name && not (begins_with at_sign name))
 
@@ -54,15 +58,16 @@ abbrev pub without_underscore : NamingView → List ℕ → List ℕ
 without_underscore naming [] = []
 without_underscore naming (b ∷ rest) = if b == underscore && not (keeps_word naming rest) then rest else b ∷ rest
 
--- The word that names a symbol, where one does. For example, on I386 that of `_f@8` is `f@8`, and that of `@f@8`
--- itself.
+-- The word that names a symbol, where one does. For example, on I386 that of `_f@8` is `f@8`, and
+-- that of `@f@8` itself.
 abbrev pub word_of_symbol : MachineType → NamingView → List ℕ → List ℕ
 word_of_symbol machine naming symbol =
     if has_leading_underscore machine && not naming.is_plain then without_underscore naming symbol else symbol
 
 -- Lines.
 
--- the hint as the ordinal of an export by name, which an import library has it by, where that is asked for
+-- the hint as the ordinal of an export by name, which an import library has it by, where that is
+-- asked for
 abbrev pub hint_ordinal : Bool → ℕ → List ℕ
 hint_ordinal hints hint = if hints && not (hint == 0) then codes " @" ++ decimal hint else []
 
@@ -103,8 +108,8 @@ abbrev pub weak_text : MachineType → NamingView → List ℕ → List ℕ → 
 weak_text machine naming weak target of =
     codes "    " ++ (name_text (word_of_symbol machine naming weak) ++ (codes " == " ++ (name_text (word_of_symbol machine naming target) ++ (of ++ 10 ∷ []))))
 
--- An alias, given the weak symbol of the member before it. That of an address has no line of its own behind that of
--- the symbol, and else it is of data.
+-- An alias, given the weak symbol of the member before it. That of an address has no line of its
+-- own behind that of the symbol, and else it is of data.
 abbrev pub alias_text : MachineType → NamingView → List ℕ → Alias → List ℕ
 alias_text machine naming before a =
     if not (is_address a.weak) then weak_text machine naming a.weak a.target []

@@ -1,5 +1,6 @@
 -- What is found, as a JSON object (this project's choice; docs/CHECK.md, "JSON").
-use Rattle.std.specs.Prelude.{ℕ, ◌+◌, zero, suc, ◌==◌, List, [], ◌++◌, Option, Some, None, codes, drop, if◌then◌else◌, length, take}
+use Rattle.std.specs.Prelude.{ℕ, ◌+◌, zero, suc, ◌==◌, List, [], ◌++◌, Option, Some, None, codes}
+use Rattle.std.specs.Prelude.{drop, if◌then◌else◌, length, take}
 use Rattle.std.specs.Option.{option_map}
 use Rattle.std.specs.Str.Lossy.{replacement_bytes, utf8_valid_len}
 use Rattle.implib.specs.Import.{Ask, Name, Ordinal}
@@ -9,9 +10,12 @@ use Rattle.implib_dll.specs.Views.{ask_view, target_view}
 use Rattle.implib_dll.specs.declared.section.AddressKind.{AddressKind}
 use Rattle.implib_dll.specs.declared.section.AddressKind.TheVariants as address
 use Rattle.implib_dll_check.specs.declared.import.Loss.{Loss}
-use Rattle.implib_dll_check.specs.declared.import.Loss.TheVariants.{OtherDll, OtherMachine, NotFound, DataAsFunction}
+use Rattle.implib_dll_check.specs.declared.import.Loss.TheVariants.{OtherDll, OtherMachine}
+use Rattle.implib_dll_check.specs.declared.import.Loss.TheVariants.{NotFound, DataAsFunction}
 use Rattle.implib.specs.declared.def.position.Position.{Position}
-use Rattle.implib_read.specs.Classes.{Class, AnImport, AnAlias, Descriptor, NullDescriptor, NullThunk, Head, Tail, DelayImport, Other, NotUnderstood, MemberRead}
+use Rattle.implib_read.specs.Classes.{Class, AnImport, AnAlias, Descriptor, NullDescriptor}
+use Rattle.implib_read.specs.Classes.{NullThunk, Head, Tail, DelayImport, Other, NotUnderstood}
+use Rattle.implib_read.specs.Classes.{MemberRead}
 use Rattle.implib_read.specs.Archives.{StoredMember}
 use Rattle.implib_read.specs.ClassViews.{member_read_view}
 use Rattle.implib_read.specs.Cutting.{Cut}
@@ -19,7 +23,8 @@ use Rattle.implib_read.specs.CuttingViews.{cut_apart_view}
 use Rattle.implib_read.specs.Indexes.{IndexEntry}
 use Rattle.implib_read.specs.IndexViews.{index_entry_view}
 use Rattle.implib_read.specs.declared.import.ImportKind.{ImportKind}
-use Rattle.implib_read.specs.declared.import.ImportKind.TheVariants.{Code, CodeOrConst, Const, Data as OfData, Delayed}
+use Rattle.implib_read.specs.declared.import.ImportKind.TheVariants.{Code, CodeOrConst, Const}
+use Rattle.implib_read.specs.declared.import.ImportKind.TheVariants.{Data as OfData, Delayed}
 use Rattle.serde_json.specs.Data.{Data, Members, no_members, number, object, put, string, unsigned}
 use Rattle.serde_json.specs.Written.{compact_text}
 use Rattle.implib_dll_check.specs.declared.forwarder.Stop.{Stop}
@@ -39,7 +44,8 @@ use Rattle.implib_compare.specs.declared.working.Piece.TheVariants as piece
 
 -- What is found.
 
--- where an import or an alias is: in the library of a file; or in the definition of a file, and there, if it is written
+-- where an import or an alias is: in the library of a file; or in the definition of a file, and
+-- there, if it is written
 pub data SiteView : Type 0 where
   InLibrary : List ℕ → SiteView
   InDefinition : List ℕ → Option Position → SiteView
@@ -59,14 +65,15 @@ pub data FaultView : Type 0 where
   NotOnePart : Piece → FaultView
   SeveralDlls : FaultView
 
--- an export of a DLL: its ordinal, where it leads, and its name with its position among the names, if it has one
+-- an export of a DLL: its ordinal, where it leads, and its name with its position among the names,
+-- if it has one
 pub record ExportView : Type 0 where
   pub ordinal : ℕ
   pub target : Target
   pub name : Option (ℕ × List ℕ)
 
--- why a program does not find what it imports from a DLL: no folder has it; or in the DLL of a file this is lost, of one ask
--- or of all
+-- why a program does not find what it imports from a DLL: no folder has it; or in the DLL of a file
+-- this is lost, of one ask or of all
 pub data UnmetView : Type 0 where
   NoFile : UnmetView
   LostIn : List ℕ → Loss → Option Asked → UnmetView
@@ -127,7 +134,8 @@ finding_view (finding.Unmet program dll unmet) = UnmetBy program.now dll.now (un
 
 -- Names and words.
 
--- A name as text, where at most a number of bytes are no part of UTF-8: each of these becomes U+FFFD.
+-- A name as text, where at most a number of bytes are no part of UTF-8: each of these becomes
+-- U+FFFD.
 abbrev pub text_within : ℕ → List ℕ → List ℕ
 text_within zero name = []
 text_within (suc n) name =

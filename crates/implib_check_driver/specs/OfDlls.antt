@@ -1,6 +1,7 @@
--- The library of a DLL, of which `--def` writes a definition (this project's choice): the one that implib_dlltool makes of
--- the DLL. What is no DLL with exports has its status here, too.
-use Rattle.std.specs.Prelude.{◌≡◌, ◌⊎◌, ℕ, Bool, false, true, List, Err, Ok, Option, None, Some, IfSome, unwrap_or}
+-- The library of a DLL, of which `--def` writes a definition (this project's choice): the one that
+-- implib_dlltool makes of the DLL. What is no DLL with exports has its status here, too.
+use Rattle.std.specs.Prelude.{◌≡◌, ◌⊎◌, ℕ, Bool, false, true, List, Err, Ok, Option, None, Some}
+use Rattle.std.specs.Prelude.{IfSome, unwrap_or}
 use Rattle.implib.specs.Conversions.{machine_numbered}
 use Rattle.implib.specs.Members.MemberSpec.{MemberView}
 use Rattle.implib.specs.declared.flavor.Flavor.{Flavor}
@@ -20,7 +21,8 @@ use Rattle.implib_rules.specs.Library.{kind_of}
 use Rattle.implib_rules.specs.Options.{LibraryOptionsView}
 use Rattle.implib_check_driver.specs.Calls.{DefineView}
 
--- the status of bytes that are no DLL with exports: 3 where they are refused, and 1 where nothing is exported
+-- the status of bytes that are no DLL with exports: 3 where they are refused, and 1 where nothing
+-- is exported
 abbrev pub IsNoDll : Read (Option Exports) → ℕ → Type 0
 IsNoDll (Ok (Some e)) status = ⊥
 IsNoDll (Ok None) status = status ≡ 1
@@ -94,7 +96,8 @@ pub record IsDllUnmade (define : DefineView) (dll : List ℕ) : Type 0 where
   pub read : exports_in File dll ≡ Ok (Some exports)
   pub unmade : HaveNoLibrary define exports
 
--- the status of a DLL without a library: 2 where older symbols are asked for, that of what is no DLL, and else 1
+-- the status of a DLL without a library: 2 where older symbols are asked for, that of what is no
+-- DLL, and else 1
 abbrev pub HasNoLibrary : DefineView → List ℕ → ℕ → Type 0
 HasNoLibrary define dll status =
     (define.older_symbols ≡ true → status ≡ 2)

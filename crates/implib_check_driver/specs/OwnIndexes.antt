@@ -13,8 +13,8 @@ pub record IndexesLead (a : Archive) : Type 0 where
   pub leads : first_misleads a.members contents ≡ Some []
   pub second_leads : (others : List ℕ) → linker_member 1 a.parts ≡ Some others → second_misleads a.members others ≡ Some []
 
--- The library of a definition has a first linker member. That, and the second one where there is one, lead each of
--- their symbols to the first member that declares it.
+-- The library of a definition has a first linker member. That, and the second one where there is
+-- one, lead each of their symbols to the first member that declares it.
 abbrev pub OwnIndexesLead : Type 0
 OwnIndexesLead = (definition : List ℕ) (options : LibraryOptionsView) (file : List ℕ) (a : Archive)
     → IsLibrary definition options file → archive_in file ≡ Some a → IndexesLead a

@@ -38,8 +38,8 @@ abbrev pub aliases_meant : Flavor → DefinitionView → List Alias
 aliases_meant Msvc d = own_aliases d
 aliases_meant Gnu d = aliases_of d
 
--- What is read of the library of a definition: the imports and the aliases that the definition means, in the order of
--- its exports, and nothing else but parts of import tables.
+-- What is read of the library of a definition: the imports and the aliases that the definition
+-- means, in the order of its exports, and nothing else but parts of import tables.
 pub record SaysWhatIsDefined (d : DefinitionView) (machine : MachineType) (flavor : Flavor) (meant : List MemberRead) : Type 0 where
   pub imports : filter_map import_among (by_export flavor (meanings_read meant)) ≡ imports_meant flavor machine d
   pub aliases : filter_map alias_among (by_export flavor (meanings_read meant)) ≡ aliases_meant flavor d
@@ -52,25 +52,28 @@ pub record IsDefinedBy (definition : List ℕ) (options : LibraryOptionsView) (m
   pub of_text : DefinitionFor (definition_text definition) options d
   pub says : SaysWhatIsDefined (renamed d) options.machine options.flavor meant
 
--- What is read of the library of a definition is what the definition says, where no short import has a third text.
+-- What is read of the library of a definition is what the definition says, where no short import
+-- has a third text.
 abbrev pub MeantIsDefined : Type 0
 MeantIsDefined = (definition : List ℕ) (options : LibraryOptionsView) (file : List ℕ) (meant : List MemberRead)
     → options.naming.exports_as ≡ false → IsLibrary definition options file → library_in file ≡ Some meant → IsDefinedBy definition options meant
 
--- The library that a definition has is told to be the same as the definition, where no short import has a third text.
+-- The library that a definition has is told to be the same as the definition, where no short import
+-- has a third text.
 abbrev pub OwnLibrariesAreTheSame : Type 0
 OwnLibrariesAreTheSame = (definition : List ℕ) (options : LibraryOptionsView) (file : List ℕ) (members : List MemberRead) (v : Verdict)
     → options.naming.exports_as ≡ false → IsLibrary definition options file → library_in file ≡ Some members → IsVerdictOn false definition options members v
     → v ≡ Same
 
--- a library has the imports and aliases that a definition means: those of members that say what is defined, in any order
+-- a library has the imports and aliases that a definition means: those of members that say what is
+-- defined, in any order
 pub record SaysTheDefined (definition : List ℕ) (options : LibraryOptionsView) (members : List MemberRead) : Type 0 where
   pub meant : List MemberRead
   pub defined : IsDefinedBy definition options meant
   pub same : AreTheSame members meant
 
--- A library is told to be the same as a definition only where it has the imports and aliases that the definition means,
--- and no short import of the definition's library has a third text.
+-- A library is told to be the same as a definition only where it has the imports and aliases that
+-- the definition means, and no short import of the definition's library has a third text.
 abbrev pub SameSaysTheDefined : Type 0
 SameSaysTheDefined = (definition : List ℕ) (options : LibraryOptionsView) (members : List MemberRead) → options.naming.exports_as ≡ false
     → IsVerdictOn false definition options members Same → SaysTheDefined definition options members

@@ -9,8 +9,9 @@ use Rattle.implib_read.specs.Identity.{dlls_of}
 use Rattle.implib_compare.specs.Flavors.{flavor_of}
 use Rattle.implib_compare.specs.Working.{has_whole_tables, works_of}
 
--- The library of a definition works where its indexes mislead no linker: each of its members is understood, its
--- imports are of one DLL at most, and its import tables are whole, for the flavour that is told from its members.
+-- The library of a definition works where its indexes mislead no linker: each of its members is
+-- understood, its imports are of one DLL at most, and its import tables are whole, for the flavour
+-- that is told from its members.
 abbrev pub OwnTablesAreWhole : Type 0
 OwnTablesAreWhole = (definition : List ℕ) (options : LibraryOptionsView) (file : List ℕ) (members : List MemberRead)
     → IsLibrary definition options file → library_in file ≡ Some members

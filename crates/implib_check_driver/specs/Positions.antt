@@ -1,5 +1,7 @@
--- Where the exports of a definition are in its text (this project's choice; docs/CHECK.md, "A definition").
-use Rattle.std.specs.Prelude.{◌≡◌, ◌⊎◌, ℕ, ◌+◌, ◌&&◌, not, List, [], ◌∷◌, Option, None, Some, bytes_eq, codes, drop, if◌then◌else◌, nat_eq, slice_get}
+-- Where the exports of a definition are in its text (this project's choice; docs/CHECK.md, "A
+-- definition").
+use Rattle.std.specs.Prelude.{◌≡◌, ◌⊎◌, ℕ, ◌+◌, ◌&&◌, not, List, [], ◌∷◌, Option, None, Some}
+use Rattle.std.specs.Prelude.{bytes_eq, codes, drop, if◌then◌else◌, nat_eq, slice_get}
 use Rattle.std.specs.List.{starts_with}
 use Rattle.std.specs.Option.{option_and_then, option_or}
 use Rattle.std.specs.Str.{IsUtf8}
@@ -19,7 +21,8 @@ use Rattle.implib_rules.specs.declared.places.Place.{Place}
 abbrev pub position_if : ExportView → List ℕ → Position → Option Position
 position_if e symbol position = if not e.private && bytes_eq e.name symbol then Some position else None
 
--- The position of the first export that declares a symbol, where exports count from a number. A private one declares none.
+-- The position of the first export that declares a symbol, where exports count from a number. A
+-- private one declares none.
 abbrev pub position_from : ℕ → List ExportView → List Position → List ℕ → Option Position
 position_from number [] positions symbol = None
 position_from number (e ∷ exports) positions symbol =

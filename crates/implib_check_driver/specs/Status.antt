@@ -33,8 +33,8 @@ comparison_status NotDecided working = verdict_status NotDecided
 abbrev pub list_status : Bool → ℕ
 list_status unread = if unread then 4 else 0
 
--- of the names of a number of DLLs: 4 where a member may import what is not read, and 1 where there is none, or
--- not one alone where one is asked for
+-- of the names of a number of DLLs: 4 where a member may import what is not read, and 1 where there
+-- is none, or not one alone where one is asked for
 abbrev pub identity_status : Bool → ℕ → Bool → ℕ
 identity_status unread count is_strict =
     if unread then 4 else if count == 0 || (is_strict && not (count == 1)) then 1 else 0
@@ -67,6 +67,7 @@ abbrev pub IsFailureOf : ErrorKind → Failure → Type 0
 IsFailureOf kind failure =
     (kind ≡ io.OutOfMemory → failure ≡ failed.OutOfMemory) × (¬ (kind ≡ io.OutOfMemory) → failure ≡ failed.Writing)
 
--- of bytes that are no library: 1, as of a broken one, where they begin as an archive and are cut off; else 3
+-- of bytes that are no library: 1, as of a broken one, where they begin as an archive and are cut
+-- off; else 3
 abbrev pub no_library_status : List ℕ → ℕ
 no_library_status bytes = if is_some (cut_in bytes) then 1 else 3

@@ -1,12 +1,15 @@
 -- For which machine and linker a definition is compared with a library (this project's choice).
-use Rattle.std.specs.Prelude.{◌==◌, ◌&&◌, ◌||◌, Bool, false, true, List, [], ◌∷◌, Option, None, Some, if◌then◌else◌, is_none, is_some, unwrap_or}
+use Rattle.std.specs.Prelude.{◌==◌, ◌&&◌, ◌||◌, Bool, false, true, List, [], ◌∷◌, Option, None}
+use Rattle.std.specs.Prelude.{Some, if◌then◌else◌, is_none, is_some, unwrap_or}
 use Rattle.std.specs.List.{list_any}
 use Rattle.implib.specs.declared.flavor.Flavor.{Flavor}
 use Rattle.implib.specs.declared.flavor.Flavor.TheVariants.{Gnu, Msvc}
 use Rattle.implib.specs.declared.machine.MachineType.{MachineType}
 use Rattle.implib.specs.declared.machine.MachineType.TheVariants.{AMD64}
 use Rattle.implib.specs.Conversions.{machine_numbered}
-use Rattle.implib_read.specs.Classes.{Class, AnImport, AnAlias, Descriptor, NullDescriptor, NullThunk, Head, Tail, DelayImport, Other, NotUnderstood, MemberRead}
+use Rattle.implib_read.specs.Classes.{Class, AnImport, AnAlias, Descriptor, NullDescriptor}
+use Rattle.implib_read.specs.Classes.{NullThunk, Head, Tail, DelayImport, Other, NotUnderstood}
+use Rattle.implib_read.specs.Classes.{MemberRead}
 use Rattle.implib_read.specs.ShortImports.{arm64ec}
 use Rattle.implib_rules.specs.Additions.{no_additions}
 use Rattle.implib_rules.specs.Options.{LibraryOptionsView}
@@ -26,8 +29,8 @@ machine_of_class DelayImport = None
 machine_of_class Other = None
 machine_of_class NotUnderstood = None
 
--- The machine of a library: that of the first import with a known one. A library without one asks for nothing on any
--- machine, so it is as good as one for AMD64.
+-- The machine of a library: that of the first import with a known one. A library without one asks
+-- for nothing on any machine, so it is as good as one for AMD64.
 abbrev pub machine_of : List MemberRead → MachineType
 machine_of [] = AMD64
 machine_of (m ∷ members) = unwrap_or (machine_of_class m.class) (machine_of members)
@@ -49,8 +52,8 @@ is_arm64ec NotUnderstood = false
 abbrev pub has_arm64ec : List MemberRead → Bool
 has_arm64ec members = list_any (λ m. is_arm64ec m.class) members
 
--- Whether the library of a definition is one for ARM64EC: a call names that, or no machine, and the library has an import
--- for it.
+-- Whether the library of a definition is one for ARM64EC: a call names that, or no machine, and the
+-- library has an import for it.
 abbrev pub is_for_arm64ec : CheckView → List MemberRead → Bool
 is_for_arm64ec check members = check.arm64ec || (is_none check.machine && has_arm64ec members)
 
@@ -60,19 +63,19 @@ is_for_gnu (Some Gnu) = true
 is_for_gnu (Some Msvc) = false
 is_for_gnu None = false
 
--- Whether a call asks for what the library is not made with: for ARM64EC what GNU's linker alone has, and for another
--- machine a native definition.
+-- Whether a call asks for what the library is not made with: for ARM64EC what GNU's linker alone
+-- has, and for another machine a native definition.
 abbrev pub is_unfit : CheckView → List MemberRead → Bool
 is_unfit check members =
     if is_for_arm64ec check members then check.older_symbols || is_for_gnu check.flavor else is_some check.native
 
--- The flavour that is named, and else that of the library; but GNU's where older symbols are asked for, which it alone
--- has.
+-- The flavour that is named, and else that of the library; but GNU's where older symbols are asked
+-- for, which it alone has.
 abbrev pub flavor_for : Option Flavor → Bool → List MemberRead → Flavor
 flavor_for named older members = unwrap_or named (if older then Gnu else flavor_of members)
 
--- What the library of a definition is made for, to be compared with a library: what a call names, and else the
--- machine and the flavour of the library.
+-- What the library of a definition is made for, to be compared with a library: what a call names,
+-- and else the machine and the flavour of the library.
 abbrev pub options_for : CheckView → List MemberRead → LibraryOptionsView
 options_for check members = record {
   machine = unwrap_or check.machine (machine_of members);
@@ -82,7 +85,8 @@ options_for check members = record {
   additions = no_additions;
 }
 
--- What the definition of a library is read for: what a call names, and else the machine and the flavour of the library.
+-- What the definition of a library is read for: what a call names, and else the machine and the
+-- flavour of the library.
 abbrev pub options_of : DefineView → List MemberRead → LibraryOptionsView
 options_of define members = record {
   machine = unwrap_or define.machine (machine_of members);

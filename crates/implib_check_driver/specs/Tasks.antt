@@ -1,9 +1,12 @@
--- What the words of a command line ask for (this project's choice; `--identify` after GNU dlltool's).
-use Rattle.std.specs.Prelude.{ℕ, Bool, true, false, ◌&&◌, ◌||◌, not, List, [], ◌∷◌, Option, Some, None, bytes_eq, codes, filter, if◌then◌else◌, map}
+-- What the words of a command line ask for (this project's choice; `--identify` after GNU
+-- dlltool's).
+use Rattle.std.specs.Prelude.{ℕ, Bool, true, false, ◌&&◌, ◌||◌, not, List, [], ◌∷◌, Option, Some}
+use Rattle.std.specs.Prelude.{None, bytes_eq, codes, filter, if◌then◌else◌, map}
 use Rattle.std.specs.List.{list_any}
 use Rattle.std.specs.Option.{option_and_then, option_map, option_or}
 use Rattle.std.specs.String.{string_bytes}
-use Rattle.implib_check_driver.specs.Calls.{CheckView, DefineView, check_named, check_view, define_called, define_view}
+use Rattle.implib_check_driver.specs.Calls.{CheckView, DefineView, check_named, check_view}
+use Rattle.implib_check_driver.specs.Calls.{define_called, define_view}
 use Rattle.implib_check_driver.specs.declared.task.Task.{Task}
 use Rattle.implib_check_driver.specs.declared.task.Task.TheVariants as task
 
@@ -87,8 +90,8 @@ with_folders (path ∷ option ∷ []) = None
 with_folders (path ∷ option ∷ folder ∷ folders) =
     if bytes_eq option (codes "--search") then Some (Searches path (folder ∷ folders)) else None
 
--- what words ask for that name files and options: behind `--def` a definition, behind `--together` what libraries do to
--- each other, else a comparison with a definition
+-- what words ask for that name files and options: behind `--def` a definition, behind `--together`
+-- what libraries do to each other, else a comparison with a definition
 abbrev pub with_files : List (List ℕ) → Option TaskView
 with_files [] = option_map Checks (check_named [])
 with_files (first ∷ rest) =

@@ -1,4 +1,5 @@
--- Where the forwarders of a DLL lead, in the DLLs of some folders (this project's choice; docs/CHECK.md, "Beside a DLL").
+-- Where the forwarders of a DLL lead, in the DLLs of some folders (this project's choice;
+-- docs/CHECK.md, "Beside a DLL").
 use Rattle.std.specs.Prelude.{◌≡◌, ℕ, true, List, [], None, Option, Some, if◌then◌else◌}
 use Rattle.implib_dll.specs.Exports.{Exports}
 use Rattle.implib_dll_check.specs.Folders.{AreKnown, Listing, content_at}

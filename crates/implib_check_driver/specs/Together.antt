@@ -1,10 +1,13 @@
--- What several libraries do to each other in one link (this project's choice; docs/CHECK.md, "Together"). A linker
--- takes a symbol from the first library that declares it.
-use Rattle.std.specs.Prelude.{ℕ, ◌+◌, ◌==◌, ◌||◌, Bool, List, [], ◌∷◌, ◌++◌, Option, None, Some, bytes_eq, if◌then◌else◌, map, slice_get, unwrap_or}
+-- What several libraries do to each other in one link (this project's choice; docs/CHECK.md,
+-- "Together"). A linker takes a symbol from the first library that declares it.
+use Rattle.std.specs.Prelude.{ℕ, ◌+◌, ◌==◌, ◌||◌, Bool, List, [], ◌∷◌, ◌++◌, Option, None, Some}
+use Rattle.std.specs.Prelude.{bytes_eq, if◌then◌else◌, map, slice_get, unwrap_or}
 use Rattle.std.specs.Char.{to_ascii_lowercase}
 use Rattle.std.specs.List.{list_any}
 use Rattle.std.specs.Option.{is_some, option_and_then, option_or}
-use Rattle.implib_read.specs.Classes.{Class, AnImport, AnAlias, Descriptor, NullDescriptor, NullThunk, Head, Tail, DelayImport, Other, NotUnderstood, MemberRead, library_in}
+use Rattle.implib_read.specs.Classes.{Class, AnImport, AnAlias, Descriptor, NullDescriptor}
+use Rattle.implib_read.specs.Classes.{NullThunk, Head, Tail, DelayImport, Other, NotUnderstood}
+use Rattle.implib_read.specs.Classes.{MemberRead, library_in}
 use Rattle.implib_check_driver.specs.Status.{no_library_status, together_status}
 use Rattle.implib_check_driver.specs.declared.together.Claim.{Claim}
 use Rattle.implib_compare.specs.Comparison.{has_unread}
@@ -23,8 +26,8 @@ symbols_of DelayImport = []
 symbols_of Other = []
 symbols_of NotUnderstood = []
 
--- What a member makes of its symbols, as bytes: of an import what it asks for, and its DLL, whose capitals do not count;
--- of an alias the other symbol.
+-- What a member makes of its symbols, as bytes: of an import what it asks for, and its DLL, whose
+-- capitals do not count; of an alias the other symbol.
 abbrev pub made_of : Class → List ℕ
 made_of (AnImport i) = 1 ∷ (asked_key (asked_by i.imports.ask) ++ text_key (map to_ascii_lowercase i.imports.dll))
 made_of (AnAlias a) = 2 ∷ text_key a.target
@@ -66,7 +69,8 @@ abbrev pub first_of : ℕ → List ClaimView → List ℕ → Option ℕ
 first_of number [] symbol = None
 first_of number (c ∷ claims) symbol = option_or (if bytes_eq c.symbol symbol then Some number else None) (first_of (number + 1) claims symbol)
 
--- a number, if the claim that has it is another library's than this one, and makes another thing of the symbol
+-- a number, if the claim that has it is another library's than this one, and makes another thing of
+-- the symbol
 abbrev pub apart : ClaimView → ℕ → ClaimView → Option ℕ
 apart c number first = if first.library == c.library || bytes_eq first.made c.made then None else Some number
 
@@ -97,8 +101,8 @@ status_of_none (bytes ∷ files) =
 abbrev pub members_of_all : List (List ℕ) → List (List MemberRead)
 members_of_all files = map (λ bytes. unwrap_or (library_in bytes) []) files
 
--- The status of files in one link: that of the first that is no library, and else 4 where a member may import what is not
--- read, and 1 where two clash.
+-- The status of files in one link: that of the first that is no library, and else 4 where a member
+-- may import what is not read, and 1 where two clash.
 abbrev pub joined_status : List (List ℕ) → ℕ
 joined_status files = unwrap_or (status_of_none files)
     (together_status (list_any has_unread (members_of_all files)) (is_clash (members_of_all files)))

@@ -8,8 +8,10 @@ use Rattle.implib_compare.specs.Worked.{alias, member, of_dll}
 use Rattle.implib_compare.specs.declared.compare.Verdict.TheVariants.{Different, Same}
 use Rattle.implib_compare.specs.declared.compare.Verdict.TheVariants.{NotDecided as Open}
 use Rattle.implib_compare.specs.declared.working.Working.TheVariants.{Broken, NotDecided, Works}
-use Rattle.implib_check_driver.specs.Status.{comparison_status, identity_status, list_status, verdict_status}
-use Rattle.implib_check_driver.specs.Tasks.{Compares, Help, Identifies, Joins, Lists, Version, WorksOf, asks_json, call_named, task_named}
+use Rattle.implib_check_driver.specs.Status.{comparison_status, identity_status, list_status}
+use Rattle.implib_check_driver.specs.Status.{verdict_status}
+use Rattle.implib_check_driver.specs.Tasks.{Compares, Help, Identifies, Joins, Lists, Version}
+use Rattle.implib_check_driver.specs.Tasks.{WorksOf, asks_json, call_named, task_named}
 
 -- Which DLLs a library has.
 pub record WorkedIdentities : Type 0 where
@@ -23,7 +25,8 @@ pub record WorkedStatuses : Type 0 where
   pub same : verdict_status Same ≡ 0
   pub different : verdict_status Different ≡ 1
   pub not_decided : verdict_status Open ≡ 4
-  -- of those that are the same whether they work counts; what differs differs, whether it works or not
+  -- of those that are the same whether they work counts; what differs differs, whether it works or
+  -- not
   pub same_works : comparison_status Same Works ≡ 0
   pub same_broken : comparison_status Same Broken ≡ 1
   pub same_open : comparison_status Same NotDecided ≡ 4

@@ -5,13 +5,16 @@ use Rattle.implib.specs.declared.machine.MachineType.TheVariants.{AMD64, ARM64, 
 use Rattle.implib_dll.specs.WorkedFiles.{worked_exports}
 use Rattle.implib_dll.specs.declared.fault.Cause.TheVariants.{NoDosHeader}
 use Rattle.implib_dll_check.specs.WorkedImports.{import_of, member_of, members}
-use Rattle.implib_dll_check.specs.declared.import.Judgement.TheVariants.{NoImport, Reached, Searched, Lost}
+use Rattle.implib_dll_check.specs.declared.import.Judgement.TheVariants.{NoImport, Reached}
+use Rattle.implib_dll_check.specs.declared.import.Judgement.TheVariants.{Searched, Lost}
 use Rattle.implib_dll_check.specs.declared.import.Loss.TheVariants.{NotFound}
 use Rattle.implib.specs.Import.{Name, Ordinal}
 use Rattle.implib_read.specs.Classes.{AnImport, Head, NotUnderstood}
 use Rattle.implib_read.specs.declared.import.ImportKind.TheVariants.{Code}
 use Rattle.implib_rules.specs.Additions.{no_additions}
-use Rattle.implib_check_driver.specs.Against.{against_status, begins_archive, begins_dll, has_options, members_against, members_in, names_of, options_against}
+use Rattle.implib_check_driver.specs.Against.{against_status, begins_archive, begins_dll}
+use Rattle.implib_check_driver.specs.Against.{has_options, members_against, members_in, names_of}
+use Rattle.implib_check_driver.specs.Against.{options_against}
 use Rattle.implib_check_driver.specs.Answers.{exported}
 use Rattle.implib_check_driver.specs.Calls.{CheckView, check_called, define_called}
 use Rattle.implib_check_driver.specs.Tasks.{ListsExports, call_named, task_named}
@@ -46,13 +49,15 @@ pub record WorkedAgainst : Type 0 where
   pub killed : has_options (record beside_dll { naming = record { is_plain = false; kills_at = true; exports_as = false; keeps_decorated = false } }) ≡ true
   pub exported_as : has_options (record beside_dll { naming = record { is_plain = false; kills_at = false; exports_as = true; keeps_decorated = false } }) ≡ true
   pub decorated : has_options (record beside_dll { naming = record { is_plain = false; kills_at = false; exports_as = false; keeps_decorated = true } }) ≡ true
-  -- statuses: a search alone is no fault, a lost import counts before a member that is not understood, and no import is one
+  -- statuses: a search alone is no fault, a lost import counts before a member that is not
+  -- understood, and no import is one
   pub found : against_status (NoImport ∷ Searched ∷ Reached ∷ []) false ≡ 0
   pub lost : against_status (Reached ∷ Lost NotFound ∷ []) true ≡ 1
   pub unread : against_status (NoImport ∷ Reached ∷ []) true ≡ 4
   pub none : against_status (NoImport ∷ []) false ≡ 1
   pub none_unread : against_status [] true ≡ 4
-  -- members: one is of another DLL; without it all is found; not by another name; and one is not understood
+  -- members: one is of another DLL; without it all is found; not by another name; and one is not
+  -- understood
   pub other_dll : members_in None beside_dll members (Ok (Some worked_exports)) ≡ 1
   pub as_other : members_in None (record beside_dll { dll = Some (codes "v.dll") }) (member_of (AnImport (import_of (codes "v") (Ordinal 5) Code 0x14C)) ∷ []) (Ok (Some worked_exports)) ≡ 0
   pub all_found : members_against None beside_dll worked_exports (member_of Head ∷ member_of (AnImport (import_of (codes "W") (Name (codes "beta") 0) Code 0x14C)) ∷ []) ≡ 0
@@ -64,7 +69,8 @@ pub record WorkedAgainst : Type 0 where
   pub listed : exported (Ok (Some worked_exports)) ≡ 0
   pub none_listed : exported (Ok None) ≡ 1
   pub none_read : exported (Err (record { cause = NoDosHeader; offset = 0 })) ≡ 3
-  -- for what a definition is read: the DLL's machine, Microsoft's flavour, or GNU's for older symbols, or as a call says
+  -- for what a definition is read: the DLL's machine, Microsoft's flavour, or GNU's for older
+  -- symbols, or as a call says
   pub for_dll : options_against beside_dll worked_exports
       ≡ record { machine = I386; flavor = Msvc; dll = None; naming = plain_check.naming; additions = no_additions }
   pub for_unknown : options_against (record beside_dll { older_symbols = true }) (record worked_exports { machine = 0x166 })

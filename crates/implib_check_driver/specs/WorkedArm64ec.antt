@@ -4,7 +4,10 @@ use Rattle.implib.specs.declared.def.position.Position.{Position}
 use Rattle.implib.specs.declared.flavor.Flavor.TheVariants.{Gnu, Msvc}
 use Rattle.implib.specs.declared.machine.MachineType.TheVariants.{AMD64, ARM64}
 use Rattle.implib_archive.specs.declared.error.Fault.TheVariants.{TooManyMembers}
-use Rattle.implib_arm64ec_library.specs.declared.library.Arm64ecRefusal.TheVariants.{OfDefinition, OfImports, OfNative, OutOfMemory}
+use Rattle.implib_arm64ec_library.specs.declared.library.Arm64ecRefusal.TheVariants.{OfDefinition}
+use Rattle.implib_arm64ec_library.specs.declared.library.Arm64ecRefusal.TheVariants.{OfImports}
+use Rattle.implib_arm64ec_library.specs.declared.library.Arm64ecRefusal.TheVariants.{OfNative}
+use Rattle.implib_arm64ec_library.specs.declared.library.Arm64ecRefusal.TheVariants.{OutOfMemory}
 use Rattle.implib_arm64ec_library.specs.declared.library.Unimported.{Unimported}
 use Rattle.implib_compare.specs.Worked.{import_on, member}
 use Rattle.implib_compare.specs.declared.meant.Arm64ecFault.TheVariants.{OfArchive, OfTexts}

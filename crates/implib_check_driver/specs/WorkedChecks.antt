@@ -1,4 +1,5 @@
--- Calls that compare a library with a definition, and what a definition's library is made for, worked by hand.
+-- Calls that compare a library with a definition, and what a definition's library is made for,
+-- worked by hand.
 use Rattle.std.specs.Prelude.{◌≡◌, true, false, [], ◌∷◌, None, Option, Some, codes}
 use Rattle.std.specs.declared.io.ErrorKind.TheVariants as io
 use Rattle.implib_check_driver.specs.declared.report.Failure.TheVariants as failed
@@ -92,7 +93,8 @@ pub record WorkedChecks : Type 0 where
   pub amd64 : machine_called (codes "i386:x86-64") ≡ Some AMD64
   pub arm : machine_called (codes "arm") ≡ Some ARMNT
   pub aarch64 : machine_called (codes "aarch64") ≡ Some ARM64
-  -- a definition that is refused has no library, so none is the same; want of memory is another matter
+  -- a definition that is refused has no library, so none is the same; want of memory is another
+  -- matter
   pub refused : refusal_status NoName ≡ 1
   pub not_text : (position : Position) → refusal_status (NotUtf8 position) ≡ 1
   pub no_memory : refusal_status OutOfMemory ≡ 3

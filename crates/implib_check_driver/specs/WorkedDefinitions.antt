@@ -11,7 +11,8 @@ use Rattle.implib_rules.specs.Linked.{NamingView}
 use Rattle.implib_rules.specs.Additions.{no_additions}
 use Rattle.implib_rules.specs.Options.{LibraryOptionsView}
 use Rattle.implib_check_driver.specs.Calls.{DefineView, define_called}
-use Rattle.implib_check_driver.specs.DefinitionText.{definition_text, is_plain_name, machine_text, name_text, naming_text, word_of_symbol}
+use Rattle.implib_check_driver.specs.DefinitionText.{definition_text, is_plain_name, machine_text}
+use Rattle.implib_check_driver.specs.DefinitionText.{name_text, naming_text, word_of_symbol}
 use Rattle.implib_check_driver.specs.Targets.{options_of}
 use Rattle.implib_check_driver.specs.Tasks.{Defines, task_named}
 use Rattle.implib_compare.specs.Worked.{alias, feed, member, of_dll, zoo}

@@ -1,4 +1,5 @@
--- What definitions mean with `--export-as`, worked by hand, and a library beside its definition, with its index.
+-- What definitions mean with `--export-as`, worked by hand, and a library beside its definition,
+-- with its index.
 use Rattle.std.specs.Prelude.{◌≡◌, ℕ, List, [], ◌∷◌, ◌++◌, codes, false, length, true}
 use Rattle.implib.specs.declared.flavor.Flavor.{Flavor}
 use Rattle.implib.specs.declared.flavor.Flavor.TheVariants.{Gnu, Msvc}
@@ -6,7 +7,8 @@ use Rattle.implib.specs.declared.machine.MachineType.TheVariants.{AMD64}
 use Rattle.implib.specs.Definition.{DefinitionView, empty_definition}
 use Rattle.implib.specs.Import.{Import, Name}
 use Rattle.implib_read.specs.Archives.{Archive, StoredMember}
-use Rattle.implib_read.specs.Classes.{AnImport, Class, Descriptor, MemberRead, NotUnderstood, NullDescriptor, NullThunk}
+use Rattle.implib_read.specs.Classes.{AnImport, Class, Descriptor, MemberRead, NotUnderstood}
+use Rattle.implib_read.specs.Classes.{NullDescriptor, NullThunk}
 use Rattle.implib_read.specs.Identity.{dlls_of}
 use Rattle.implib_read.specs.MemberNames.{LinkerMember}
 use Rattle.implib_read.specs.declared.import.ImportKind.TheVariants.{Code}
@@ -73,8 +75,8 @@ of_another = AnImport (record { imports = record { dll = codes "bar.dll"; declar
 abbrev pub working : List MemberRead → Working
 working members = works_of false (has_unread members) (length (dlls_of members)) (has_whole_tables (flavor_of members) members)
 
--- The short import of a from foo.dll on AMD64, with the third text b, and its header at 0x48. It declares `__imp_a`
--- and a.
+-- The short import of a from foo.dll on AMD64, with the third text b, and its header at 0x48. It
+-- declares `__imp_a` and a.
 abbrev pub third_text : StoredMember
 third_text = record {
   name = codes "foo.dll";
@@ -82,7 +84,8 @@ third_text = record {
   bytes = 0 ∷ 0 ∷ 0xFF ∷ 0xFF ∷ 0 ∷ 0 ∷ 0x64 ∷ 0x86 ∷ 0 ∷ 0 ∷ 0 ∷ 0 ∷ 12 ∷ 0 ∷ 0 ∷ 0 ∷ 0 ∷ 0 ∷ 0x10 ∷ 0 ∷ codes "a\0foo.dll\0b\0";
 }
 
--- an archive of that member, with one linker member, whose one entry leads from a symbol to an offset
+-- an archive of that member, with one linker member, whose one entry leads from a symbol to an
+-- offset
 abbrev pub with_entry : List ℕ → ℕ → Archive
 with_entry symbol offset = record {
   parts = record { offset = 8; name = LinkerMember; contents = 0 ∷ 0 ∷ 0 ∷ 1 ∷ 0 ∷ 0 ∷ 0 ∷ offset ∷ symbol ++ 0 ∷ [] } ∷ [];
@@ -107,17 +110,20 @@ pub record WorkedExportAs : Type 0 where
       ≡ of_foo (codes "__imp_bar" ∷ codes "bar" ∷ []) (codes "bar") 0 ∷ of_foo (codes "__imp_b" ∷ codes "b" ∷ []) (codes "b") 0 ∷ []
   pub without_aliases : aliases_meant Msvc (linked AMD64 usual Msvc two)
       ≡ record { weak = codes "a"; target = codes "b" } ∷ record { weak = codes "__imp_a"; target = codes "__imp_b" } ∷ []
-  -- a library of the two exports; not so in their order, where a asks for its own name, and where it is not read
+  -- a library of the two exports; not so in their order, where a asks for its own name, and where
+  -- it is not read
   pub says : TwoSay (with_two bar a_as_b)
   pub other_order : TwoSay (with_two a_as_b bar) → ⊥
   pub own_name : TwoSay (with_two bar (import_of (codes "__imp_a" ∷ codes "a" ∷ []) (codes "a"))) → ⊥
   pub not_read : TwoSay (with_two bar NotUnderstood) → ⊥
-  -- it works; not without a part of its tables, and that is open where an import is of another DLL, or is not read
+  -- it works; not without a part of its tables, and that is open where an import is of another DLL,
+  -- or is not read
   pub works : working (with_two bar a_as_b) ≡ Works
   pub no_thunk : working (member Descriptor ∷ member NullDescriptor ∷ member bar ∷ member a_as_b ∷ []) ≡ Broken
   pub two_dlls : working (with_two bar of_another) ≡ NotDecided
   pub unread : working (with_two bar NotUnderstood) ≡ NotDecided
-  -- an index that leads the symbols of a short import with a third text; the text is none, and the offset is its own
+  -- an index that leads the symbols of a short import with a third text; the text is none, and the
+  -- offset is its own
   pub leads : IndexesLead (with_entry (codes "a") 0x48)
   pub leads_address : IndexesLead (with_entry (codes "__imp_a") 0x48)
   pub text_is_no_symbol : IndexesLead (with_entry (codes "b") 0x48) → ⊥

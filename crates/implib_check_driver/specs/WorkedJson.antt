@@ -3,12 +3,18 @@ use Rattle.std.specs.Prelude.{◌≡◌, ℕ, List, [], ◌∷◌, ◌++◌, Non
 use Rattle.implib.specs.Import.{Name, Ordinal}
 use Rattle.implib_read.specs.Classes.{MemberRead}
 use Rattle.implib_read.specs.declared.import.ImportKind.TheVariants.{Code, Delayed}
-use Rattle.serde_json.specs.Data.{Data, Members, member, no_members, number, object, string, unsigned}
-use Rattle.implib_check_driver.specs.Json.{Clash, CutApart, Different, Exported, FaultOf, InDefinition, InLibrary, Listed, Lost, Missing, MisleadingEntry, NoIndex, NotOnePart}
-use Rattle.implib_check_driver.specs.Json.{Searched, SeveralDlls, SideView, Unasked, UnreadableIndex, address_word, line_of, loss_words, object_of, text_of}
+use Rattle.serde_json.specs.Data.{Data, Members, member, no_members, number, object, string}
+use Rattle.serde_json.specs.Data.{unsigned}
+use Rattle.implib_check_driver.specs.Json.{Clash, CutApart, Different, Exported, FaultOf}
+use Rattle.implib_check_driver.specs.Json.{InDefinition, InLibrary, Listed, Lost, Missing}
+use Rattle.implib_check_driver.specs.Json.{MisleadingEntry, NoIndex, NotOnePart}
+use Rattle.implib_check_driver.specs.Json.{Searched, SeveralDlls, SideView, Unasked}
+use Rattle.implib_check_driver.specs.Json.{UnreadableIndex, address_word, line_of, loss_words}
+use Rattle.implib_check_driver.specs.Json.{object_of, text_of}
 use Rattle.implib_dll.specs.Exports.{Address, Forwarder}
 use Rattle.implib_dll.specs.declared.section.AddressKind.TheVariants as address
-use Rattle.implib_dll_check.specs.declared.import.Loss.TheVariants.{DataAsFunction, NotFound, OtherDll, OtherMachine}
+use Rattle.implib_dll_check.specs.declared.import.Loss.TheVariants.{DataAsFunction, NotFound}
+use Rattle.implib_dll_check.specs.declared.import.Loss.TheVariants.{OtherDll, OtherMachine}
 use Rattle.implib_compare.specs.Worked.{alias, feed, of_dll}
 use Rattle.implib_compare.specs.declared.working.Piece.TheVariants.{OfHead}
 
@@ -197,13 +203,14 @@ pub record WorkedJson : Type 0 where
       (word (codes "target") (codes "y.eat")
       (word (codes "what") (codes "export") no_members)))))))
   pub outside : address_word address.Outside ≡ codes "outside"
-  -- names: UTF-8 stays, and each other byte becomes U+FFFD, those of a character that is cut off too
+  -- names: UTF-8 stays, and each other byte becomes U+FFFD, those of a character that is cut off
+  -- too
   pub utf8 : text_of (0x66 ∷ 0xC3 ∷ 0xBC ∷ []) ≡ 0x66 ∷ 0xC3 ∷ 0xBC ∷ []
   pub latin : text_of (0x66 ∷ 0xFC ∷ 0x72 ∷ []) ≡ 0x66 ∷ 0xEF ∷ 0xBF ∷ 0xBD ∷ 0x72 ∷ []
   pub cut_off : text_of (0xE2 ∷ 0x82 ∷ 0x72 ∷ []) ≡ 0xEF ∷ 0xBF ∷ 0xBD ∷ 0xEF ∷ 0xBF ∷ 0xBD ∷ 0x72 ∷ []
   pub empty : text_of [] ≡ []
-  -- lines: of an import; of a difference, with an object in each field of two; and of a name with a quote, a
-  -- backslash, a line feed, a NUL and a letter that is no ASCII
+  -- lines: of an import; of a difference, with an object in each field of two; and of a name with a
+  -- quote, a backslash, a line feed, a NUL and a letter that is no ASCII
   pub line : line_of (Listed (in_library by_name))
       ≡ codes "{\"dll\":\"zoo.dll\",\"hint\":5,\"kind\":\"code\",\"library\":\"a.lib\",\"machine\":34404,\"member\":\"m\",\"name\":\"feed\",\"offset\":8,\"symbol\":\"feed\",\"what\":\"import\"}\n"
   pub nested_line : line_of (Missing (in_library by_ordinal) (InDefinition (codes "a.def") None))

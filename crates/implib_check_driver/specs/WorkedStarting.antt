@@ -12,7 +12,8 @@ use Rattle.implib_dll_check.specs.Folders.{Listing, dll_path}
 use Rattle.implib_check_driver.specs.Tasks.{Searches, call_named, task_named}
 use Rattle.implib_check_driver.specs.WorkedJson.{numeral, word}
 
--- two folders: the first has a program and two DLLs, of which one has no ending; the second has three DLLs
+-- two folders: the first has a program and two DLLs, of which one has no ending; the second has
+-- three DLLs
 abbrev pub folders : List Listing
 folders =
     (codes "d", codes "p.exe" ∷ codes "deep" ∷ codes "Zoo.DLL" ∷ [])
@@ -36,12 +37,14 @@ pub record WorkedStarting : Type 0 where
       ≡ Some (Searches (codes "p.exe") (codes "d" ∷ []))
   pub no_folder : task_named (codes "p.exe" ∷ codes "--search" ∷ []) ≡ None
   pub no_program : task_named (codes "--search" ∷ codes "d" ∷ codes "p.exe" ∷ []) ≡ None
-  -- files of DLLs: in letters of any case, in the first folder, in the second; a name without an ending is no DLL's
+  -- files of DLLs: in letters of any case, in the first folder, in the second; a name without an
+  -- ending is no DLL's
   pub any_case : dll_path folders (codes "zoo.dll") ≡ Some (codes "d/Zoo.DLL")
   pub second_folder : dll_path folders (codes "deep.dll") ≡ Some (codes "e/f/deep.dll")
   pub other_ending : dll_path folders (codes "w.drv") ≡ Some (codes "e/f/W.drv")
   pub no_file : dll_path folders (codes "w.dll") ≡ None
-  -- what is asked of a DLL that is read: all is found, one is lost, for another machine; nothing is exported; a refused file
+  -- what is asked of a DLL that is read: all is found, one is lost, for another machine; nothing is
+  -- exported; a refused file
   pub met : status_in (Ok (Some worked_exports)) 0x14C (ByOrdinal 8 ∷ ByName (codes "beta") 0 ∷ []) ≡ 0
   pub unmet : status_in (Ok (Some worked_exports)) 0x14C (ByOrdinal 8 ∷ ByOrdinal 7 ∷ []) ≡ 1
   pub other_machine : status_in (Ok (Some worked_exports)) 0x8664 (ByOrdinal 8 ∷ []) ≡ 1

@@ -1,13 +1,16 @@
 -- Libraries beside a DLL whose forwarders are followed, worked by hand.
-use Rattle.std.specs.Prelude.{◌≡◌, ℕ, true, false, List, [], ◌∷◌, Err, None, Ok, Some, codes, unwrap_or}
+use Rattle.std.specs.Prelude.{◌≡◌, ℕ, true, false, List, [], ◌∷◌, Err, None, Ok, Some, codes}
+use Rattle.std.specs.Prelude.{unwrap_or}
 use Rattle.implib.specs.Import.{Ordinal}
 use Rattle.implib_dll.specs.WorkedFiles.{worked_exports}
 use Rattle.implib_dll.specs.declared.fault.Cause.TheVariants.{NoDosHeader}
-use Rattle.implib_dll_check.specs.Forwarding.{Arrives, Content, Holds, NoExports, NoFile, Refused, Stops, known_in}
+use Rattle.implib_dll_check.specs.Forwarding.{Arrives, Content, Holds, NoExports, NoFile, Refused}
+use Rattle.implib_dll_check.specs.Forwarding.{Stops, known_in}
 use Rattle.implib_dll_check.specs.WorkedForwarding.{others}
 use Rattle.implib_dll_check.specs.WorkedImports.{import_of, member_of}
 use Rattle.implib_dll_check.specs.declared.forwarder.Stop.TheVariants.{Endless, NotExported}
-use Rattle.implib_dll_check.specs.declared.import.Judgement.TheVariants.{NoImport, Reached, Lost as LostImport}
+use Rattle.implib_dll_check.specs.declared.import.Judgement.TheVariants.{NoImport, Reached}
+use Rattle.implib_dll_check.specs.declared.import.Judgement.TheVariants.{Lost as LostImport}
 use Rattle.implib_dll_check.specs.declared.import.Loss.TheVariants.{NotFound}
 use Rattle.implib_read.specs.Classes.{AnImport, MemberRead, NotUnderstood}
 use Rattle.implib_read.specs.declared.import.ImportKind.TheVariants.{Code}

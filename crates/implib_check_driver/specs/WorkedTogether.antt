@@ -26,7 +26,8 @@ pub record WorkedTogether : Type 0 where
   -- an alias of one, an import of the other
   pub an_alias : clashes (both_claims (feed_of (codes "zoo.dll") (Ordinal 1)) (alias (codes "feed") (codes "food"))) ≡ None ∷ None ∷ Some 1 ∷ []
   pub other_target : clashes (both_claims (alias (codes "feed") (codes "food")) (alias (codes "feed") (codes "fodder"))) ≡ None ∷ Some 0 ∷ []
-  -- near misses: the same but for hints, capitals of the DLL and the kind; another symbol; one library with itself
+  -- near misses: the same but for hints, capitals of the DLL and the kind; another symbol; one
+  -- library with itself
   pub same : clashes (both_claims (feed_of (codes "zoo.dll") (Name (codes "feed") 0)) (of_dll (codes "ZOO.dll") feed (Name (codes "feed") 7) CodeOrConst 0x8664))
       ≡ None ∷ None ∷ None ∷ None ∷ []
   pub other_symbol : clashes (both_claims (alias (codes "feed") (codes "food")) (alias (codes "feeds") (codes "fodder"))) ≡ None ∷ None ∷ []

@@ -1,11 +1,14 @@
 //! What the imports of a library, or of a definition, come to in a DLL.
 //!
-//! A loader knows a DLL by the name of its file. A copy under another name is still told by that of its export directory,
-//! so an import of either is of the DLL, unless the call gives a name. That a loader searches for a name, since its hint is
-//! off, changes nothing but time: it is told, and no fault. An export that no import asks for is told with `--all`, and a
-//! forwarder that leads to nothing with `--search`.
+//! A loader knows a DLL by the name of its file. A copy under another name is still told by that of
+//! its export directory, so an import of either is of the DLL, unless the call gives a name. That a
+//! loader searches for a name, since its hint is off, changes nothing but time: it is told, and no
+//! fault. An export that no import asks for is told with `--all`, and a forwarder that leads to
+//! nothing with `--search`.
 
-ghost use Rattle.implib_check_driver.specs.Against.{against_status, begins_archive, begins_dll, has_options, held_status, is_library, names_of, options_against};
+ghost use Rattle.implib_check_driver.specs.Against.{against_status, begins_archive, begins_dll};
+ghost use Rattle.implib_check_driver.specs.Against.{has_options, held_status, is_library, names_of};
+ghost use Rattle.implib_check_driver.specs.Against.{options_against};
 ghost use Rattle.implib.specs.Conversions.{machine_numbered};
 ghost use Rattle.implib.specs.declared.machine.MachineType.TheVariants.{AMD64};
 ghost use Rattle.implib_rules.specs.Options.{library_options_view};
@@ -71,7 +74,8 @@ pub fn has_options(check: &Check) -> bool
         || naming.keeps_decorated
 }
 
-/// The names by which loaders know the DLL of a file: the one that is given, or else its own and that of the file.
+/// The names by which loaders know the DLL of a file: the one that is given, or else its own and
+/// that of the file.
 pub fn names_of(
     alloc: Global,
     given: Option<&str>,
@@ -102,10 +106,11 @@ fn machine_of(exports: &Exports) -> MachineType
     }
 }
 
-/// What the library of a definition is made for that is held against a DLL: what a call names, and else the machine of the
-/// DLL and Microsoft's flavour, or GNU's for older symbols.
+/// What the library of a definition is made for that is held against a DLL: what a call names, and
+/// else the machine of the DLL and Microsoft's flavour, or GNU's for older symbols.
 pub fn options_against<'a>(check: &Check<'a>, exports: &Exports) -> LibraryOptions<'a>
-    ensures { library_options_view result ≡ options_against (check_view check.now) (exports_view exports.now) }
+    ensures { library_options_view result ≡ options_against (check_view check.now)
+        (exports_view exports.now) }
 {
     let machine = match check.machine {
         Some(machine) => machine,
@@ -280,9 +285,9 @@ fn tell_unasked<O: Write>(
     Ok(())
 }
 
-/// Holds imports against a DLL: writes which are lost, which are forwarded to nothing, by where forwarders lead, if they are
-/// followed, how many a loader searches for and, where that is asked for, which exports no import asks for; and gives the exit
-/// status.
+/// Holds imports against a DLL: writes which are lost, which are forwarded to nothing, by where
+/// forwarders lead, if they are followed, how many a loader searches for and, where that is asked
+/// for, which exports no import asks for; and gives the exit status.
 pub fn hold_against<O: Write>(
     form: Form,
     printer: &mut O,
@@ -293,7 +298,8 @@ pub fn hold_against<O: Write>(
     lists_unasked: bool,
 ) -> Result<u8, Failure>
     ensures { IfOk result (λ status. status ≡ held_status
-        (judgements (exports_view dll.now.exports) (map (λ name. name.items) dll.now.names.items) (map member_read_view members.now))
+        (judgements (exports_view dll.now.exports) (map (λ name. name.items) dll.now.names.items)
+        (map member_read_view members.now))
         (map (option_map end_view) ends.now)
         (has_unread (map member_read_view members.now))) }
 {

@@ -89,7 +89,8 @@ fn own_positions(
     Positions::of(alloc, definition, &options)
 }
 
-// The positions of native exports. The name of the DLL, which the definition may lack, is of no effect on them.
+// The positions of native exports. The name of the DLL, which the definition may lack, is of no
+// effect on them.
 fn native_positions(
     alloc: Global,
     native: Option<&[u8]>,
@@ -137,8 +138,8 @@ fn tell_arm64ec<O: Write>(
     tell_both(form, printer, sources, members.0, members.1, found)
 }
 
-/// Compares a library with the one for ARM64EC of a definition and, if there is one, of a native definition, and writes
-/// the differences.
+/// Compares a library with the one for ARM64EC of a definition and, if there is one, of a native
+/// definition, and writes the differences.
 ///
 /// # Errors
 ///
@@ -153,9 +154,11 @@ pub fn check_arm64ec<O: Write>(
     native: Option<&[u8]>,
     options: &LibraryOptions,
 ) -> Result<Verdict, Arm64ecError>
-    ensures verdict { IfOk result (IsArm64ecVerdictOn definition.now (option_map (λ text. text.now) native.entry)
+    ensures verdict { IfOk result
+        (IsArm64ecVerdictOn definition.now (option_map (λ text. text.now) native.entry)
         (library_options_view options.now) (map member_read_view members.now)) }
-    ensures refused { IfErr result (IsRefusalOfArm64ec definition.now (option_map (λ text. text.now) native.entry)
+    ensures refused { IfErr result
+        (IsRefusalOfArm64ec definition.now (option_map (λ text. text.now) native.entry)
         (library_options_view options.now)) }
 {
     arm64ec_members_found();
@@ -203,8 +206,8 @@ fn position_of_unimported(why: Unimported) -> Option<Position> {
     }
 }
 
-// The file that a refusal of the native members is told of: one without a place is of the DLL's name, which is the
-// definition's.
+// The file that a refusal of the native members is told of: one without a place is of the DLL's
+// name, which is the definition's.
 fn native_told<'a>(check: &Check<'a>, refusal: &Refusal) -> &'a str {
     match position_of(refusal) {
         Some(_) => native_path(check),

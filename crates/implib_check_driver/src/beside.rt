@@ -6,12 +6,15 @@ ghost use Rattle.implib_check_driver.specs.Against.{held_status};
 ghost use Rattle.implib_compare.specs.Comparison.{has_unread};
 ghost use Rattle.implib_dll_check.specs.ForwardingViews.{end_view};
 ghost use Rattle.implib_dll_check.specs.Imports.{judgements};
-ghost use Rattle.implib_check_driver.specs.Against.{DefinitionAgainst, IsHeld, library_against, members_against, options_against};
-ghost use Rattle.implib_check_driver.specs.Answers.{AnswersExports, DefinitionBeside, IsAnswerBeside, OrFailed, asks_for_arm64ec};
+ghost use Rattle.implib_check_driver.specs.Against.{DefinitionAgainst, IsHeld, library_against};
+ghost use Rattle.implib_check_driver.specs.Against.{members_against, options_against};
+ghost use Rattle.implib_check_driver.specs.Answers.{AnswersExports, DefinitionBeside};
+ghost use Rattle.implib_check_driver.specs.Answers.{IsAnswerBeside, OrFailed, asks_for_arm64ec};
 ghost use Rattle.implib_check_driver.specs.OfDlls.{IsNoDll};
 ghost use Rattle.implib_check_driver.specs.Refused.{IsRefusalOfCheck};
 ghost use Rattle.implib_check_driver.specs.Calls.{check_view, is_searching as IsSearching};
-ghost use Rattle.implib_dll_check.specs.Folders.{AreKnown, IsRight, Listing, content_at, folder_view, loaded_view};
+ghost use Rattle.implib_dll_check.specs.Folders.{AreKnown, IsRight, Listing, content_at};
+ghost use Rattle.implib_dll_check.specs.Folders.{folder_view, loaded_view};
 ghost use Rattle.implib_check_driver.specs.Through.{ends_through, through};
 ghost use Rattle.implib_dll.specs.Exports.{Exports as SeenExports, exports_in};
 ghost use Rattle.implib_dll.specs.Views.{exports_view};
@@ -78,8 +81,10 @@ pub(crate) fn exports_of<'a, E: Write>(
     path: &str,
     bytes: &'a [u8],
 ) -> Result<Exports<'a>, u8>
-    ensures read { IfOk result (λ exports. exports_in File bytes.now ≡ Ok (Some (exports_view exports))) }
-    ensures none { IfErr result (λ status. OrFailed status (IsNoDll (exports_in File bytes.now) status)) }
+    ensures read { IfOk result (λ exports. exports_in File bytes.now
+        ≡ Ok (Some (exports_view exports))) }
+    ensures none { IfErr result
+        (λ status. OrFailed status (IsNoDll (exports_in File bytes.now) status)) }
 {
     match Exports::read(alloc, bytes) {
         Ok(Some(exports)) => Ok(exports),
@@ -125,7 +130,8 @@ pub(crate) fn run_exports<S: Shelf, O: Write, E: Write>(
     status_of(faults, written, 0)
 }
 
-// Holds members against the DLL of a file's bytes and, through that, DLLs that were loaded, and gives the exit status.
+// Holds members against the DLL of a file's bytes and, through that, DLLs that were loaded, and
+// gives the exit status.
 #[tactic(auto, using(crate::proofs::LoadedDlls::through_right))]
 fn through_loaded<'x, O: Write, E: Write>(
     form: Form,
@@ -138,10 +144,13 @@ fn through_loaded<'x, O: Write, E: Write>(
     names: Vec<Vec<u8>>,
     loaded: &'x [Loaded],
 ) -> u8
-    ensures { (file : List ℕ → List ℕ) (folders : List Listing) (e : SeenExports) → exports_in File bytes.now ≡ Ok (Some e)
-        → All (IsRight file folders) (map loaded_view loaded.now) → OrFailed result (result ≡ held_status
+    ensures { (file : List ℕ → List ℕ) (folders : List Listing) (e : SeenExports)
+        → exports_in File bytes.now ≡ Ok (Some e)
+        → All (IsRight file folders) (map loaded_view loaded.now)
+        → OrFailed result (result ≡ held_status
         (judgements e (map (λ name. name.items) names.items) (map member_read_view members.now))
-        (ends_through (Some (content_at file folders)) e (map (λ name. name.items) names.items) (map member_read_view members.now))
+        (ends_through (Some (content_at file folders)) e (map (λ name. name.items) names.items)
+        (map member_read_view members.now))
         (has_unread (map member_read_view members.now))) }
 {
     known_dlls_decide();
@@ -174,7 +183,8 @@ fn through_loaded<'x, O: Write, E: Write>(
     status_written(faults, written)
 }
 
-// Holds members against the DLL of a file's bytes and, through that, the DLLs of some folders, and gives the exit status.
+// Holds members against the DLL of a file's bytes and, through that, the DLLs of some folders, and
+// gives the exit status.
 fn through_folders<S: Shelf, O: Write, E: Write>(
     form: Form,
     shelf: &S,
@@ -187,10 +197,12 @@ fn through_folders<S: Shelf, O: Write, E: Write>(
     names: Vec<Vec<u8>>,
     folders: &[Folder],
 ) -> u8
-    ensures { (file : List ℕ → List ℕ) (e : SeenExports) → AreKnown (S.seen shelf.now) file → exports_in File bytes.now ≡ Ok (Some e)
+    ensures { (file : List ℕ → List ℕ) (e : SeenExports) → AreKnown (S.seen shelf.now) file
+        → exports_in File bytes.now ≡ Ok (Some e)
         → OrFailed result (result ≡ held_status
         (judgements e (map (λ name. name.items) names.items) (map member_read_view members.now))
-        (ends_through (Some (content_at file (map folder_view folders.now))) e (map (λ name. name.items) names.items)
+        (ends_through (Some (content_at file (map folder_view folders.now))) e
+        (map (λ name. name.items) names.items)
         (map member_read_view members.now))
         (has_unread (map member_read_view members.now))) }
 {
@@ -216,9 +228,12 @@ fn members_against<S: Shelf, O: Write, E: Write>(
     bytes: &[u8],
     folders: &[Folder],
 ) -> u8
-    ensures { (file : List ℕ → List ℕ) → (IsSearching (check_view check.now) ≡ true → AreKnown (S.seen shelf.now) file)
+    ensures { (file : List ℕ → List ℕ)
+        → (IsSearching (check_view check.now) ≡ true → AreKnown (S.seen shelf.now) file)
         → exports_in File bytes.now ≡ Ok (Some (exports_view exports.entry))
-        → OrFailed result (result ≡ members_against (through file (map folder_view folders.now) (check_view check.now))
+        → OrFailed result
+        (result ≡ members_against
+        (through file (map folder_view folders.now) (check_view check.now))
         (check_view check.now) (exports_view exports.entry) (map member_read_view members.now)) }
 {
     let Ok(names) = names_of(form.alloc, check.dll, check.definition, exports.dll) else {
@@ -262,7 +277,8 @@ fn against_buffered<O: Write>(
     lists_unasked: bool,
 ) -> Result<u8, Failure>
     ensures { IfOk result (λ status. status ≡ held_status
-        (judgements (exports_view dll.now.exports) (map (λ name. name.items) dll.now.names.items) (map member_read_view members.now))
+        (judgements (exports_view dll.now.exports) (map (λ name. name.items) dll.now.names.items)
+        (map member_read_view members.now))
         (map (option_map end_view) ends.now)
         (has_unread (map member_read_view members.now))) }
 {
@@ -297,8 +313,11 @@ fn library_against<S: Shelf, O: Write, E: Write>(
     dll: &[u8],
     folders: &[Folder],
 ) -> u8
-    ensures { (file : List ℕ → List ℕ) → (IsSearching (check_view check.now) ≡ true → AreKnown (S.seen shelf.now) file)
-        → OrFailed result (result ≡ library_against (through file (map folder_view folders.now) (check_view check.now))
+    ensures { (file : List ℕ → List ℕ)
+        → (IsSearching (check_view check.now) ≡ true → AreKnown (S.seen shelf.now) file)
+        → OrFailed result
+        (result ≡ library_against
+        (through file (map folder_view folders.now) (check_view check.now))
         (check_view check.now) library.now dll.now) }
 {
     if has_options(check) {
@@ -349,10 +368,15 @@ fn held<S: Shelf, O: Write, E: Write>(
     dll: &[u8],
     folders: &[Folder],
 ) -> Result<u8, CheckError>
-    ensures held { IfOk result (λ status. (file : List ℕ → List ℕ) → (IsSearching (check_view check.now) ≡ true → AreKnown (S.seen shelf.now) file)
-        → exports_in File dll.now ≡ Ok (Some (exports_view exports.entry)) → OrFailed status (IsHeld (through file (map folder_view folders.now) (check_view check.now))
+    ensures held { IfOk result (λ status. (file : List ℕ → List ℕ)
+        → (IsSearching (check_view check.now) ≡ true → AreKnown (S.seen shelf.now) file)
+        → exports_in File dll.now ≡ Ok (Some (exports_view exports.entry))
+        → OrFailed status
+        (IsHeld (through file (map folder_view folders.now) (check_view check.now))
         (check_view check.now) (exports_view exports.entry) definition.now status)) }
-    ensures refused { IfErr result (IsRefusalOfCheck check.now.older_symbols definition.now (options_against (check_view check.now) (exports_view exports.entry))) }
+    ensures refused { IfErr result
+        (IsRefusalOfCheck check.now.older_symbols definition.now
+        (options_against (check_view check.now) (exports_view exports.entry))) }
 {
     own_members_found();
     let alloc = form.alloc;
@@ -389,8 +413,10 @@ fn definition_against<S: Shelf, O: Write, E: Write>(
     dll: &[u8],
     folders: &[Folder],
 ) -> u8
-    ensures { (file : List ℕ → List ℕ) → (IsSearching (check_view check.now) ≡ true → AreKnown (S.seen shelf.now) file)
-        → OrFailed result (DefinitionAgainst (through file (map folder_view folders.now) (check_view check.now))
+    ensures { (file : List ℕ → List ℕ)
+        → (IsSearching (check_view check.now) ≡ true → AreKnown (S.seen shelf.now) file)
+        → OrFailed result
+        (DefinitionAgainst (through file (map folder_view folders.now) (check_view check.now))
         (check_view check.now) definition.now (exports_in File dll.now) result) }
 {
     let exports = match exports_of(form.alloc, faults, check.definition, dll) {
@@ -413,7 +439,8 @@ fn asks_for_arm64ec(check: &Check) -> bool
     check.arm64ec || check.native.is_some()
 }
 
-// Holds a definition against a DLL, unless its library is to be for ARM64EC, and gives the exit status.
+// Holds a definition against a DLL, unless its library is to be for ARM64EC, and gives the exit
+// status.
 #[tactic(auto, using(crate::proofs::BesideDlls::beside_arm64ec, crate::proofs::BesideDlls::beside_ordinary))]
 fn definition_beside<S: Shelf, O: Write, E: Write>(
     form: Form,
@@ -425,8 +452,10 @@ fn definition_beside<S: Shelf, O: Write, E: Write>(
     dll: &[u8],
     folders: &[Folder],
 ) -> u8
-    ensures { (file : List ℕ → List ℕ) → (IsSearching (check_view check.now) ≡ true → AreKnown (S.seen shelf.now) file)
-        → OrFailed result (DefinitionBeside (through file (map folder_view folders.now) (check_view check.now))
+    ensures { (file : List ℕ → List ℕ)
+        → (IsSearching (check_view check.now) ≡ true → AreKnown (S.seen shelf.now) file)
+        → OrFailed result
+        (DefinitionBeside (through file (map folder_view folders.now) (check_view check.now))
         (check_view check.now) definition.now dll.now result) }
 {
     if asks_for_arm64ec(check) {
@@ -453,8 +482,10 @@ pub(crate) fn run_against<S: Shelf, O: Write, E: Write>(
     dll: &[u8],
     folders: &[Folder],
 ) -> u8
-    ensures { (file : List ℕ → List ℕ) → (IsSearching (check_view check.now) ≡ true → AreKnown (S.seen shelf.now) file)
-        → OrFailed result (IsAnswerBeside (through file (map folder_view folders.now) (check_view check.now))
+    ensures { (file : List ℕ → List ℕ)
+        → (IsSearching (check_view check.now) ≡ true → AreKnown (S.seen shelf.now) file)
+        → OrFailed result
+        (IsAnswerBeside (through file (map folder_view folders.now) (check_view check.now))
         (check_view check.now) first.now dll.now result) }
 {
     if begins_archive(first) {

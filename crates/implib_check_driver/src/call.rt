@@ -4,8 +4,13 @@ ghost use Rattle.std.specs.List.{position_from};
 ghost use Rattle.std.specs.Prelude.{◌≡◌, ◌<◌, IfSome, length, map};
 ghost use Rattle.std.specs.Option.{option_and_then, option_map};
 ghost use Rattle.std.specs.String.{string_bytes};
-ghost use Rattle.implib_check_driver.specs.Calls.{after_word, check_called, check_in, check_named, check_view, define_called, define_in, define_view};
-ghost use Rattle.implib_check_driver.specs.Calls.{is_search_word, is_searching, reading_view, said_by, searching, said_by_all, are_for_msvc, asks_for_arm64ec_in, lacks_older, unread_call, with_file, with_machine, with_option, with_value};
+ghost use Rattle.implib_check_driver.specs.Calls.{after_word, check_called, check_in, check_named};
+ghost use Rattle.implib_check_driver.specs.Calls.{check_view, define_called, define_in};
+ghost use Rattle.implib_check_driver.specs.Calls.{define_view};
+ghost use Rattle.implib_check_driver.specs.Calls.{is_search_word, is_searching, reading_view};
+ghost use Rattle.implib_check_driver.specs.Calls.{said_by, searching, said_by_all, are_for_msvc};
+ghost use Rattle.implib_check_driver.specs.Calls.{asks_for_arm64ec_in, lacks_older, unread_call};
+ghost use Rattle.implib_check_driver.specs.Calls.{with_file, with_machine, with_option, with_value};
 
 use implib::{Flavor, MachineType};
 use implib_rules::linked::Naming;
@@ -129,7 +134,8 @@ fn with_machine<'a>(name: &str, reading: Reading<'a>) -> Option<Reading<'a>>
 
 // After the value of an option.
 fn with_value<'a>(setting: Setting, value: &'a str, reading: Reading<'a>) -> Option<Reading<'a>>
-    ensures { option_map reading_view result ≡ with_value setting value.now (reading_view reading.entry) }
+    ensures { option_map reading_view result ≡ with_value setting value.now
+        (reading_view reading.entry) }
 {
     match setting {
         Setting::Machine => with_machine(value, reading),
@@ -257,7 +263,8 @@ fn after_word<'a>(word: &'a str, reading: Reading<'a>) -> Option<Reading<'a>>
 
 // After one more word, if all before it say something.
 fn said_by<'a>(reading: Option<Reading<'a>>, word: &'a str) -> Option<Reading<'a>>
-    ensures { option_map reading_view result ≡ said_by (option_map reading_view reading.entry) word.now }
+    ensures { option_map reading_view result ≡ said_by (option_map reading_view reading.entry)
+        word.now }
 {
     match reading {
         Some(reading) => after_word(word, reading),
@@ -282,7 +289,8 @@ fn lacks_older(reading: &Reading) -> bool
     reading.older_symbols && are_for_msvc(reading.flavor)
 }
 
-// What all words say: there are two files, no option lacks its value, and the flavour has what is asked for.
+// What all words say: there are two files, no option lacks its value, and the flavour has what is
+// asked for.
 fn check_in<'a>(reading: Reading<'a>) -> Option<Check<'a>>
     ensures { option_map check_view result ≡ check_in (reading_view reading.entry) }
 {
@@ -386,7 +394,8 @@ fn asks_for_arm64ec_in(reading: &Reading) -> bool
     reading.arm64ec || reading.native.is_some()
 }
 
-// What all words say: there is one file, no option lacks its value, and none is of names that a library has itself.
+// What all words say: there is one file, no option lacks its value, and none is of names that a
+// library has itself.
 fn define_in<'a>(reading: Reading<'a>) -> Option<Define<'a>>
     ensures { option_map define_view result ≡ define_in (reading_view reading.entry) }
 {

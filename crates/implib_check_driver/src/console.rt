@@ -1,4 +1,5 @@
-//! What the calls of the program share: files that are read, lines of what fails, and their exit statuses.
+//! What the calls of the program share: files that are read, lines of what fails, and their exit
+//! statuses.
 
 ghost use Rattle.std.specs.Prelude.{◌≡◌, None, IfErr, IfOk, IfSome};
 ghost use Rattle.implib_check_driver.specs.Answers.{IsReadAs, OrFailed};
@@ -61,7 +62,8 @@ pub(crate) fn bytes_of<S: Shelf, E: Write>(
     faults: &mut E,
     path: &str,
 ) -> Result<Vec<u8>, u8>
-    ensures read { IfOk result (λ bytes. IfSome (S.seen shelf.now path.now) (λ file. bytes.items ≡ file)) }
+    ensures read { IfOk result
+        (λ bytes. IfSome (S.seen shelf.now path.now) (λ file. bytes.items ≡ file)) }
     ensures failed { IfErr result (λ status. status ≡ 3) }
 {
     match shelf.read(alloc, path) {
@@ -78,7 +80,9 @@ pub(crate) fn library_of<'a, E: Write>(
     bytes: &'a [u8],
 ) -> Result<Library<'a>, u8>
     ensures read { IfOk result (IsReadAs bytes.now) }
-    ensures none { IfErr result (λ status. OrFailed status ((archive_in bytes.now ≡ None) × (status ≡ no_library_status bytes.now))) }
+    ensures none { IfErr result
+        (λ status. OrFailed status
+        ((archive_in bytes.now ≡ None) × (status ≡ no_library_status bytes.now))) }
 {
     match Library::read(alloc, bytes) {
         Ok(Some(library)) => Ok(library),

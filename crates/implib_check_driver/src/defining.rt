@@ -29,14 +29,15 @@ pub enum Undefined {
     Failed(Failure),
 }
 
-/// The definition of a library: a text that means its imports and aliases. The text is held against the library, as
-/// any other definition, with the older symbols of addresses or without; so what is not the library's meaning is never
-/// handed out. Differences are written. Hints are ordinals in the text, or comments.
+/// The definition of a library: a text that means its imports and aliases. The text is held against
+/// the library, as any other definition, with the older symbols of addresses or without; so what is
+/// not the library's meaning is never handed out. Differences are written. Hints are ordinals in
+/// the text, or comments.
 ///
 /// # Errors
 ///
-/// `Unread`, `Refused` or `Different`: no text says what the library means, or not one of this form. `Failed`: a write
-/// or an allocation.
+/// `Unread`, `Refused` or `Different`: no text says what the library means, or not one of this
+/// form. `Failed`: a write or an allocation.
 #[tactic(auto, using(crate::proofs::Definitions::defines_same, crate::proofs::Definitions::defines_open))]
 pub fn definition_of<O: Write>(
     form: Form,
@@ -48,9 +49,16 @@ pub fn definition_of<O: Write>(
     older_symbols: bool,
 ) -> Result<Vec<u8>, Undefined>
     requires { options.now.naming.exports_as ≡ false }
-    ensures text { IfOk result (λ text. text.items ≡ definition_text hints (library_options_view options.now) (map member_read_view members.now)) }
-    ensures defines { IfOk result (λ text. DefinesFor older_symbols text.items (library_options_view options.now) (map member_read_view members.now)) }
-    ensures undefined { IfErr result (IsUndefined hints older_symbols (library_options_view options.now) (map member_read_view members.now)) }
+    ensures text { IfOk result
+        (λ text. text.items
+        ≡ definition_text hints (library_options_view options.now)
+        (map member_read_view members.now)) }
+    ensures defines { IfOk result
+        (λ text. DefinesFor older_symbols text.items (library_options_view options.now)
+        (map member_read_view members.now)) }
+    ensures undefined { IfErr result
+        (IsUndefined hints older_symbols (library_options_view options.now)
+        (map member_read_view members.now)) }
 {
     meant_is_defined();
     if has_unread(members) {

@@ -63,8 +63,9 @@ impl From<AllocError> for CheckError {
     }
 }
 
-/// Compares a library with what a definition means, and writes the differences. The library of the definition is made,
-/// with the older symbols of addresses or without, and then read as any other, so that both are told by one reader.
+/// Compares a library with what a definition means, and writes the differences. The library of the
+/// definition is made, with the older symbols of addresses or without, and then read as any other,
+/// so that both are told by one reader.
 ///
 /// # Errors
 ///
@@ -78,8 +79,11 @@ pub fn check_definition<O: Write>(
     options: &LibraryOptions,
     older_symbols: bool,
 ) -> Result<Verdict, CheckError>
-    ensures verdict { IfOk result (IsVerdictOn older_symbols definition.now (library_options_view options.now) (map member_read_view members.now)) }
-    ensures refused { IfErr result (IsRefusalOfCheck older_symbols definition.now (library_options_view options.now)) }
+    ensures verdict { IfOk result
+        (IsVerdictOn older_symbols definition.now (library_options_view options.now)
+        (map member_read_view members.now)) }
+    ensures refused { IfErr result
+        (IsRefusalOfCheck older_symbols definition.now (library_options_view options.now)) }
 {
     own_members_found();
     let alloc = form.alloc;

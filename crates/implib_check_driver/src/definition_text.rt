@@ -2,10 +2,18 @@
 
 ghost use Rattle.std.specs.Prelude.{◌≡◌, ◌++◌, [], decimal, map, IfOk, OnOk};
 ghost use Rattle.std.specs.List.{list_all, list_any};
-ghost use Rattle.implib_check_driver.specs.DefinitionText.{alias_text, asked_text, definition_text, export_text, first_dll, hint_ordinal, other_text, flavor_text, head_text};
-ghost use Rattle.implib_check_driver.specs.DefinitionText.{hint_text, import_text, is_address, is_capital_or_digit, is_name_byte, is_name_sign, is_plain_name};
-ghost use Rattle.implib_check_driver.specs.DefinitionText.{is_small_letter, kind_text, machine_text, member_text, members_text, name_text};
-ghost use Rattle.implib_check_driver.specs.DefinitionText.{naming_text, untold_text, weak_of, weak_text, without_underscore, word_of_symbol};
+ghost use Rattle.implib_check_driver.specs.DefinitionText.{alias_text, asked_text, definition_text};
+ghost use Rattle.implib_check_driver.specs.DefinitionText.{export_text, first_dll, hint_ordinal};
+ghost use Rattle.implib_check_driver.specs.DefinitionText.{other_text, flavor_text, head_text};
+ghost use Rattle.implib_check_driver.specs.DefinitionText.{hint_text, import_text, is_address};
+ghost use Rattle.implib_check_driver.specs.DefinitionText.{is_capital_or_digit, is_name_byte};
+ghost use Rattle.implib_check_driver.specs.DefinitionText.{is_name_sign, is_plain_name};
+ghost use Rattle.implib_check_driver.specs.DefinitionText.{is_small_letter, kind_text};
+ghost use Rattle.implib_check_driver.specs.DefinitionText.{machine_text, member_text, members_text};
+ghost use Rattle.implib_check_driver.specs.DefinitionText.{name_text};
+ghost use Rattle.implib_check_driver.specs.DefinitionText.{naming_text, untold_text, weak_of};
+ghost use Rattle.implib_check_driver.specs.DefinitionText.{weak_text, without_underscore};
+ghost use Rattle.implib_check_driver.specs.DefinitionText.{word_of_symbol};
 ghost use Rattle.implib_read.specs.AliasViews.{alias_view};
 ghost use Rattle.implib_read.specs.ClassViews.{class_view, imported_view, member_read_view};
 ghost use Rattle.implib_read.specs.ImportViews.{ask_view};
@@ -153,7 +161,8 @@ fn push_other(text: &mut Vec<u8>, word: &[u8], name: &[u8]) -> Result<(), AllocE
 
 // Adds what is asked for, unless it is the word, and the hint where it is an ordinal.
 fn push_asked(text: &mut Vec<u8>, hints: bool, word: &[u8], ask: AskFound) -> Result<(), AllocError>
-    ensures { OnOk result (text.new.items ≡ text.old.items ++ asked_text hints word.now (ask_view ask.entry)) }
+    ensures { OnOk result
+        (text.new.items ≡ text.old.items ++ asked_text hints word.now (ask_view ask.entry)) }
 {
     match ask {
         AskFound::Ordinal(ordinal) => {
@@ -182,7 +191,8 @@ fn kind_text(kind: ImportKind) -> &'static [u8]
 
 // Adds the hint, as a comment, where it is no ordinal.
 fn push_hint(text: &mut Vec<u8>, hints: bool, ask: AskFound) -> Result<(), AllocError>
-    ensures { OnOk result (text.new.items ≡ text.old.items ++ hint_text hints (ask_view ask.entry)) }
+    ensures { OnOk result
+        (text.new.items ≡ text.old.items ++ hint_text hints (ask_view ask.entry)) }
 {
     match ask {
         AskFound::Name(_, hint) if !hints && hint != 0 => {
@@ -200,7 +210,8 @@ fn push_export(
     word: &[u8],
     import: &ImportFound,
 ) -> Result<(), AllocError>
-    ensures { OnOk result (text.new.items ≡ text.old.items ++ export_text hints word.now (imported_view import.now)) }
+    ensures { OnOk result
+        (text.new.items ≡ text.old.items ++ export_text hints word.now (imported_view import.now)) }
 {
     text.extend_from_slice(b"    ")?;
     push_name(text, word)?;
@@ -219,7 +230,9 @@ fn push_import(
     naming: Naming,
     import: &ImportFound,
 ) -> Result<(), AllocError>
-    ensures { OnOk result (text.new.items ≡ text.old.items ++ import_text hints machine (naming_view naming) (imported_view import.now)) }
+    ensures { OnOk result
+        (text.new.items ≡ text.old.items
+        ++ import_text hints machine (naming_view naming) (imported_view import.now)) }
 {
     let word = word_of_symbol(machine, naming, linked_symbol(&import.declared));
     push_export(text, hints, word, import)
@@ -233,7 +246,9 @@ fn push_weak(
     symbols: (&[u8], &[u8]),
     of: &[u8],
 ) -> Result<(), AllocError>
-    ensures { OnOk result (text.new.items ≡ text.old.items ++ weak_text machine (naming_view naming) symbols.entry.0.now symbols.entry.1.now of.now) }
+    ensures { OnOk result
+        (text.new.items ≡ text.old.items
+        ++ weak_text machine (naming_view naming) symbols.entry.0.now symbols.entry.1.now of.now) }
 {
     text.extend_from_slice(b"    ")?;
     push_name(text, word_of_symbol(machine, naming, symbols.0))?;
@@ -244,7 +259,8 @@ fn push_weak(
     Ok(())
 }
 
-// Adds the line of an alias, unless it is of an address and the member before it is that of the symbol.
+// Adds the line of an alias, unless it is of an address and the member before it is that of the
+// symbol.
 fn push_alias(
     text: &mut Vec<u8>,
     machine: MachineType,
@@ -252,7 +268,9 @@ fn push_alias(
     before: &[u8],
     alias: &AliasFound,
 ) -> Result<(), AllocError>
-    ensures { OnOk result (text.new.items ≡ text.old.items ++ alias_text machine (naming_view naming) before.now (alias_view alias.now)) }
+    ensures { OnOk result
+        (text.new.items ≡ text.old.items
+        ++ alias_text machine (naming_view naming) before.now (alias_view alias.now)) }
 {
     if !is_address(alias.weak) {
         return push_weak(text, machine, naming, (alias.weak, alias.target), b"");
@@ -274,7 +292,9 @@ fn push_member(
     before: &[u8],
     class: &MemberClass,
 ) -> Result<(), AllocError>
-    ensures { OnOk result (text.new.items ≡ text.old.items ++ member_text hints machine (naming_view naming) before.now (class_view class.now)) }
+    ensures { OnOk result
+        (text.new.items ≡ text.old.items
+        ++ member_text hints machine (naming_view naming) before.now (class_view class.now)) }
 {
     match class {
         MemberClass::Import(import) => push_import(text, hints, machine, naming, import),
@@ -301,7 +321,9 @@ fn push_members(
     naming: Naming,
     members: &[MemberRead],
 ) -> Result<(), AllocError>
-    ensures { OnOk result (text.new.items ≡ text.old.items ++ members_text hints machine (naming_view naming) [] (map member_read_view members.now)) }
+    ensures { OnOk result
+        (text.new.items ≡ text.old.items
+        ++ members_text hints machine (naming_view naming) [] (map member_read_view members.now)) }
 {
     let mut before: &[u8] = b"";
     for member in members {
@@ -374,7 +396,9 @@ fn push_head(
     told: bool,
     dll: &[u8],
 ) -> Result<(), AllocError>
-    ensures { OnOk result (text.new.items ≡ text.old.items ++ head_text (library_options_view options.now) told dll.now) }
+    ensures { OnOk result
+        (text.new.items ≡ text.old.items
+        ++ head_text (library_options_view options.now) told dll.now) }
 {
     text.extend_from_slice(b"; -m ")?;
     text.extend_from_slice(machine_text(options.machine))?;
@@ -389,15 +413,19 @@ fn push_head(
     Ok(())
 }
 
-/// The text that says the imports and aliases of a library, as far as a text can, in time linear in their length. The
-/// hints are ordinals of exports by name, by which an import library has them again, or comments.
+/// The text that says the imports and aliases of a library, as far as a text can, in time linear in
+/// their length. The hints are ordinals of exports by name, by which an import library has them
+/// again, or comments.
 pub fn definition_text(
     alloc: Global,
     hints: bool,
     options: &LibraryOptions,
     members: &[MemberRead],
 ) -> Result<Vec<u8>, AllocError>
-    ensures { IfOk result (λ text. text.items ≡ definition_text hints (library_options_view options.now) (map member_read_view members.now)) }
+    ensures { IfOk result
+        (λ text. text.items
+        ≡ definition_text hints (library_options_view options.now)
+        (map member_read_view members.now)) }
 {
     let mut text = Vec::new(alloc);
     push_head(

@@ -25,7 +25,8 @@ fn differing<'m, 'a: 'm>(
     Ok(found)
 }
 
-// Writes the differences of one library against another, whose members that differ are given by their symbols.
+// Writes the differences of one library against another, whose members that differ are given by
+// their symbols.
 fn tell_one<'m, 'a, O: Write>(
     form: Form,
     printer: &mut O,

@@ -1,5 +1,5 @@
-//! The exports of a DLL, one by one: those of its names, in the order of the name table, and then by ordinal those without
-//! a name. Names and ordinals that lead to nothing are left out.
+//! The exports of a DLL, one by one: those of its names, in the order of the name table, and then
+//! by ordinal those without a name. Names and ordinals that lead to nothing are left out.
 
 use crate::finding::{Export, Finding};
 use crate::report::{Failure, Form, tell};

@@ -19,7 +19,8 @@ pub enum Source<'p> {
     Library(&'p str),
     /// The file of a definition, and where its exports are.
     Definition(&'p str, &'p Positions),
-    /// The same of the two definitions of a library for ARM64EC, of which the second has the exports of ARM64.
+    /// The same of the two definitions of a library for ARM64EC, of which the second has the
+    /// exports of ARM64.
     Definitions(Written<'p>, Written<'p>),
 }
 
@@ -108,8 +109,8 @@ pub struct Side<'p, 'm, 'a> {
     pub member: &'m MemberRead<'a>,
 }
 
-/// Why a library does not work, or why that is not decided. An index is named by its number: 1, 2, or 3,
-/// which is the EC index.
+/// Why a library does not work, or why that is not decided. An index is named by its number: 1, 2,
+/// or 3, which is the EC index.
 #[derive(Clone, Copy)]
 pub enum Fault<'e, 'a> {
     NoIndex,
@@ -152,7 +153,8 @@ pub enum Finding<'p, 'q, 'm, 'a> {
     Different(Side<'p, 'm, 'a>, Side<'q, 'm, 'a>),
     /// What one library has of a symbol, and the other does not have.
     Missing(Side<'p, 'm, 'a>, Site<'q>),
-    /// A symbol, what the first library in a link has of it, and what a later one has, which clashes.
+    /// A symbol, what the first library in a link has of it, and what a later one has, which
+    /// clashes.
     Clash(&'q [u8], Side<'p, 'm, 'a>, Side<'p, 'm, 'a>),
     /// The file of a library, and why that does not work.
     Fault(&'p str, Fault<'m, 'a>),

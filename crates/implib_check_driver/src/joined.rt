@@ -7,7 +7,8 @@ ghost use Rattle.std.specs.String.{string_bytes};
 ghost use Rattle.implib_check_driver.specs.Answers.{AnswersJoined, OrFailed};
 ghost use Rattle.implib_dll_check.specs.Folders.{AreKnown};
 ghost use Rattle.implib_check_driver.specs.Status.{no_library_status};
-ghost use Rattle.implib_check_driver.specs.Together.{claim_view, claims_of_all, is_clash, members_of_all, status_of_none};
+ghost use Rattle.implib_check_driver.specs.Together.{claim_view, claims_of_all, is_clash};
+ghost use Rattle.implib_check_driver.specs.Together.{members_of_all, status_of_none};
 ghost use Rattle.implib_compare.specs.Comparison.{has_unread};
 ghost use Rattle.implib_read.specs.Classes.{library_in};
 ghost use Rattle.implib_read.specs.ClassViews.{member_read_view};
@@ -72,7 +73,8 @@ fn library_at<'a, E: Write>(
     path: &str,
     bytes: &'a [u8],
 ) -> Result<Library<'a>, u8>
-    ensures read { IfOk result (λ library. library_in bytes.now ≡ Some (map member_read_view library.members.items)) }
+    ensures read { IfOk result (λ library. library_in bytes.now
+        ≡ Some (map member_read_view library.members.items)) }
     ensures none { IfErr result (λ status. OrFailed status
         ((library_in bytes.now ≡ None) × (status ≡ no_library_status bytes.now))) }
 {
@@ -89,7 +91,8 @@ fn all_libraries<'a, E: Write>(
     paths: &[String],
     files: &'a [Vec<u8>],
 ) -> Result<Vec<Library<'a>>, u8>
-    ensures read { IfOk result (λ libraries. map (λ library. map member_read_view library.members.items) libraries.items
+    ensures read { IfOk result
+        (λ libraries. map (λ library. map member_read_view library.members.items) libraries.items
         ≡ members_of_all (map (λ bytes. bytes.items) files.now)) }
     ensures all { OnOk result (status_of_none (map (λ bytes. bytes.items) files.now) ≡ None) }
     ensures none { IfErr result (λ status. OrFailed status
@@ -116,7 +119,9 @@ fn all_libraries<'a, E: Write>(
 
 // Whether a library has a member that may import what is not read.
 fn is_some_unread(libraries: &[Library]) -> bool
-    ensures { result ≡ list_any has_unread (map (λ library. map member_read_view library.members.items) libraries.now) }
+    ensures { result
+        ≡ list_any has_unread
+        (map (λ library. map member_read_view library.members.items) libraries.now) }
 {
     for library in libraries {
         if has_unread(&library.members) {
@@ -191,7 +196,8 @@ fn is_any_clash(found: &[Option<usize>]) -> bool
 // The claims of libraries, in order.
 fn all_claims(alloc: Global, libraries: &[Library]) -> Result<Vec<Claim>, AllocError>
     ensures { IfOk result (λ claims. map claim_view claims.items
-        ≡ claims_of_all 0 (map (λ library. map member_read_view library.members.items) libraries.now)) }
+        ≡ claims_of_all 0
+        (map (λ library. map member_read_view library.members.items) libraries.now)) }
 {
     let mut claims = Vec::new(alloc);
     for i in 0..libraries.len() {

@@ -3,10 +3,16 @@
 ghost use Rattle.std.specs.Prelude.{◌≡◌, IfOk, OnOk, take};
 ghost use Rattle.std.specs.Str.Lossy.{utf8_valid_len};
 ghost use Rattle.std.specs.String.{string_bytes};
-ghost use Rattle.implib_check_driver.specs.Json.{class_word, fault_view, finding_view, line_of, object_of, side_object, side_view, site_object, site_view, text_of};
-ghost use Rattle.implib_check_driver.specs.Json.{what_of, with_asked, with_class, with_fault, with_finding, with_member, with_name, with_number, with_position};
-ghost use Rattle.implib_check_driver.specs.Json.{with_side, with_sides, with_site, with_word, CutApart as CutApartView, MisleadingEntry};
-ghost use Rattle.implib_check_driver.specs.Json.{export_view, unmet_view, with_export, with_loss, with_named, with_stop, with_target};
+ghost use Rattle.implib_check_driver.specs.Json.{class_word, fault_view, finding_view, line_of};
+ghost use Rattle.implib_check_driver.specs.Json.{object_of, side_object, side_view, site_object};
+ghost use Rattle.implib_check_driver.specs.Json.{site_view, text_of};
+ghost use Rattle.implib_check_driver.specs.Json.{what_of, with_asked, with_class, with_fault};
+ghost use Rattle.implib_check_driver.specs.Json.{with_finding, with_member, with_name, with_number};
+ghost use Rattle.implib_check_driver.specs.Json.{with_position};
+ghost use Rattle.implib_check_driver.specs.Json.{with_side, with_sides, with_site, with_word};
+ghost use Rattle.implib_check_driver.specs.Json.{CutApart as CutApartView, MisleadingEntry};
+ghost use Rattle.implib_check_driver.specs.Json.{export_view, unmet_view, with_export, with_loss};
+ghost use Rattle.implib_check_driver.specs.Json.{with_named, with_stop, with_target};
 ghost use Rattle.implib_check_driver.specs.Json.{with_ask_of, with_program, with_unmet};
 ghost use Rattle.implib_dll.specs.Views.{ask_view as asked_view, target_view};
 ghost use Rattle.std.specs.Option.{option_map};
@@ -63,14 +69,18 @@ fn text_of(alloc: Global, name: &[u8]) -> Result<String, AllocError>
 
 // Adds a word.
 fn put_word(fields: &mut Fields, alloc: Global, key: &str, word: &str) -> Result<(), AllocError>
-    ensures { OnOk result (members_view fields.new.entries ≡ with_word key.now word.now (members_view fields.old.entries)) }
+    ensures { OnOk result
+        (members_view fields.new.entries
+        ≡ with_word key.now word.now (members_view fields.old.entries)) }
 {
     put(fields, alloc, key, Value::try_from_str(alloc, word)?)
 }
 
 // Adds a name.
 fn put_name(fields: &mut Fields, alloc: Global, key: &str, name: &[u8]) -> Result<(), AllocError>
-    ensures { OnOk result (members_view fields.new.entries ≡ with_name key.now name.now (members_view fields.old.entries)) }
+    ensures { OnOk result
+        (members_view fields.new.entries
+        ≡ with_name key.now name.now (members_view fields.old.entries)) }
 {
     put(fields, alloc, key, Value::String(text_of(alloc, name)?))
 }
@@ -82,7 +92,9 @@ fn put_number(
     key: &str,
     number: usize,
 ) -> Result<(), AllocError>
-    ensures { OnOk result (members_view fields.new.entries ≡ with_number key.now number (members_view fields.old.entries)) }
+    ensures { OnOk result
+        (members_view fields.new.entries
+        ≡ with_number key.now number (members_view fields.old.entries)) }
 {
     put(fields, alloc, key, Value::from(number))
 }
@@ -93,7 +105,9 @@ fn put_position(
     alloc: Global,
     position: Option<Position>,
 ) -> Result<(), AllocError>
-    ensures { OnOk result (members_view fields.new.entries ≡ with_position position (members_view fields.old.entries)) }
+    ensures { OnOk result
+        (members_view fields.new.entries
+        ≡ with_position position (members_view fields.old.entries)) }
 {
     match position {
         Some(position) => {
@@ -106,7 +120,9 @@ fn put_position(
 
 // Adds the file of a library or a definition, and where in a definition an export is.
 fn put_site(fields: &mut Fields, alloc: Global, site: Site) -> Result<(), AllocError>
-    ensures { OnOk result (members_view fields.new.entries ≡ with_site (site_view site.entry) (members_view fields.old.entries)) }
+    ensures { OnOk result
+        (members_view fields.new.entries
+        ≡ with_site (site_view site.entry) (members_view fields.old.entries)) }
 {
     match site {
         Site::Library(path) => put_word(fields, alloc, "library", path),
@@ -124,7 +140,10 @@ fn put_member(
     site: Site,
     member: &MemberRead,
 ) -> Result<(), AllocError>
-    ensures { OnOk result (members_view fields.new.entries ≡ with_member (site_view site.entry) (member_read_view member.now) (members_view fields.old.entries)) }
+    ensures { OnOk result
+        (members_view fields.new.entries
+        ≡ with_member (site_view site.entry) (member_read_view member.now)
+        (members_view fields.old.entries)) }
 {
     match site {
         Site::Library(_) => {
@@ -137,7 +156,9 @@ fn put_member(
 
 // Adds what a DLL is asked for.
 fn put_asked(fields: &mut Fields, alloc: Global, ask: AskFound) -> Result<(), AllocError>
-    ensures { OnOk result (members_view fields.new.entries ≡ with_asked (ask_view ask.entry) (members_view fields.old.entries)) }
+    ensures { OnOk result
+        (members_view fields.new.entries
+        ≡ with_asked (ask_view ask.entry) (members_view fields.old.entries)) }
 {
     match ask {
         AskFound::Name(name, hint) => {
@@ -150,7 +171,9 @@ fn put_asked(fields: &mut Fields, alloc: Global, ask: AskFound) -> Result<(), Al
 
 // Adds what an import or an alias is.
 fn put_class(fields: &mut Fields, alloc: Global, class: &MemberClass) -> Result<(), AllocError>
-    ensures { OnOk result (members_view fields.new.entries ≡ with_class (class_view class.now) (members_view fields.old.entries)) }
+    ensures { OnOk result
+        (members_view fields.new.entries
+        ≡ with_class (class_view class.now) (members_view fields.old.entries)) }
 {
     match class {
         MemberClass::Import(import) => {
@@ -169,7 +192,9 @@ fn put_class(fields: &mut Fields, alloc: Global, class: &MemberClass) -> Result<
 
 // Adds an import or an alias, and where it is.
 fn put_side(fields: &mut Fields, alloc: Global, side: &Side) -> Result<(), AllocError>
-    ensures { OnOk result (members_view fields.new.entries ≡ with_side (side_view side.now) (members_view fields.old.entries)) }
+    ensures { OnOk result
+        (members_view fields.new.entries
+        ≡ with_side (side_view side.now) (members_view fields.old.entries)) }
 {
     put_site(fields, alloc, side.site)?;
     put_member(fields, alloc, side.site, side.member)?;
@@ -203,7 +228,9 @@ fn put_sides(
     here: Value,
     there: Value,
 ) -> Result<(), AllocError>
-    ensures { OnOk result (members_view fields.new.entries ≡ with_sides symbol.now (view here) (view there) (members_view fields.old.entries)) }
+    ensures { OnOk result
+        (members_view fields.new.entries
+        ≡ with_sides symbol.now (view here) (view there) (members_view fields.old.entries)) }
 {
     put_name(fields, alloc, "symbol", symbol)?;
     put(fields, alloc, "here", here)?;
@@ -217,7 +244,10 @@ fn put_entry(
     number: u8,
     entry: &IndexEntry,
 ) -> Result<(), AllocError>
-    ensures { OnOk result (members_view fields.new.entries ≡ with_fault (MisleadingEntry number (index_entry_view entry.now)) (members_view fields.old.entries)) }
+    ensures { OnOk result
+        (members_view fields.new.entries
+        ≡ with_fault (MisleadingEntry number (index_entry_view entry.now))
+        (members_view fields.old.entries)) }
 {
     put_word(fields, alloc, "why", "entry misleads")?;
     put_number(fields, alloc, "index", number as usize)?;
@@ -227,7 +257,10 @@ fn put_entry(
 
 // Adds a short import, and the names that linkers ask for by it.
 fn put_cut(fields: &mut Fields, alloc: Global, apart: &CutApart) -> Result<(), AllocError>
-    ensures { OnOk result (members_view fields.new.entries ≡ with_fault (CutApartView (cut_apart_view apart.now).0 (cut_apart_view apart.now).1) (members_view fields.old.entries)) }
+    ensures { OnOk result
+        (members_view fields.new.entries
+        ≡ with_fault (CutApartView (cut_apart_view apart.now).0 (cut_apart_view apart.now).1)
+        (members_view fields.old.entries)) }
 {
     put_word(fields, alloc, "why", "linkers cut differently")?;
     put_number(fields, alloc, "offset", apart.member.offset)?;
@@ -238,7 +271,9 @@ fn put_cut(fields: &mut Fields, alloc: Global, apart: &CutApart) -> Result<(), A
 
 // Adds why a library does not work.
 fn put_fault(fields: &mut Fields, alloc: Global, fault: &Fault) -> Result<(), AllocError>
-    ensures { OnOk result (members_view fields.new.entries ≡ with_fault (fault_view fault.now) (members_view fields.old.entries)) }
+    ensures { OnOk result
+        (members_view fields.new.entries
+        ≡ with_fault (fault_view fault.now) (members_view fields.old.entries)) }
 {
     match fault {
         Fault::NoIndex => put_word(fields, alloc, "why", "no index"),
@@ -258,7 +293,9 @@ fn put_fault(fields: &mut Fields, alloc: Global, fault: &Fault) -> Result<(), Al
 
 // Adds where an export leads.
 fn put_target(fields: &mut Fields, alloc: Global, target: Target) -> Result<(), AllocError>
-    ensures { OnOk result (members_view fields.new.entries ≡ with_target (target_view target.entry) (members_view fields.old.entries)) }
+    ensures { OnOk result
+        (members_view fields.new.entries
+        ≡ with_target (target_view target.entry) (members_view fields.old.entries)) }
 {
     match target {
         Target::Empty => Ok(()),
@@ -279,7 +316,10 @@ fn put_named(
     alloc: Global,
     name: Option<(usize, &[u8])>,
 ) -> Result<(), AllocError>
-    ensures { OnOk result (members_view fields.new.entries ≡ with_named (option_map (λ found. (found.0, found.1.now)) name.entry) (members_view fields.old.entries)) }
+    ensures { OnOk result
+        (members_view fields.new.entries
+        ≡ with_named (option_map (λ found. (found.0, found.1.now)) name.entry)
+        (members_view fields.old.entries)) }
 {
     match name {
         Some((position, text)) => {
@@ -297,7 +337,9 @@ fn put_export(
     path: &str,
     export: &Export,
 ) -> Result<(), AllocError>
-    ensures { OnOk result (members_view fields.new.entries ≡ with_export path.now (export_view export.now) (members_view fields.old.entries)) }
+    ensures { OnOk result
+        (members_view fields.new.entries
+        ≡ with_export path.now (export_view export.now) (members_view fields.old.entries)) }
 {
     put_word(fields, alloc, "file", path)?;
     put_number(fields, alloc, "ordinal", export.ordinal as usize)?;
@@ -313,7 +355,9 @@ fn put_loss(
     dll: &str,
     loss: Loss,
 ) -> Result<(), AllocError>
-    ensures { OnOk result (members_view fields.new.entries ≡ with_loss (side_view side.now) dll.now loss (members_view fields.old.entries)) }
+    ensures { OnOk result
+        (members_view fields.new.entries
+        ≡ with_loss (side_view side.now) dll.now loss (members_view fields.old.entries)) }
 {
     put_word(fields, alloc, "why", loss_words(loss))?;
     put_word(fields, alloc, "dll_file", dll)?;
@@ -329,7 +373,9 @@ fn put_stop(
     text: &[u8],
     stop: Stop,
 ) -> Result<(), AllocError>
-    ensures { OnOk result (members_view fields.new.entries ≡ with_stop (side_view side.now) dll.now text.now stop (members_view fields.old.entries)) }
+    ensures { OnOk result
+        (members_view fields.new.entries
+        ≡ with_stop (side_view side.now) dll.now text.now stop (members_view fields.old.entries)) }
 {
     put_word(fields, alloc, "why", "forwarded to nothing")?;
     put_word(fields, alloc, "dll_file", dll)?;
@@ -340,7 +386,9 @@ fn put_stop(
 
 // Adds what a program asks a DLL for, if that is told.
 fn put_ask_of(fields: &mut Fields, alloc: Global, ask: Option<Ask>) -> Result<(), AllocError>
-    ensures { OnOk result (members_view fields.new.entries ≡ with_ask_of (option_map asked_view ask.entry) (members_view fields.old.entries)) }
+    ensures { OnOk result
+        (members_view fields.new.entries
+        ≡ with_ask_of (option_map asked_view ask.entry) (members_view fields.old.entries)) }
 {
     match ask {
         Some(Ask::Name { text, hint }) => {
@@ -354,7 +402,9 @@ fn put_ask_of(fields: &mut Fields, alloc: Global, ask: Option<Ask>) -> Result<()
 
 // Adds why a program does not find what it imports.
 fn put_unmet(fields: &mut Fields, alloc: Global, unmet: &Unmet) -> Result<(), AllocError>
-    ensures { OnOk result (members_view fields.new.entries ≡ with_unmet (unmet_view unmet.now) (members_view fields.old.entries)) }
+    ensures { OnOk result
+        (members_view fields.new.entries
+        ≡ with_unmet (unmet_view unmet.now) (members_view fields.old.entries)) }
 {
     match unmet {
         Unmet::NoFile => put_word(fields, alloc, "why", "no file"),
@@ -374,7 +424,10 @@ fn put_program(
     dll: &[u8],
     unmet: &Unmet,
 ) -> Result<(), AllocError>
-    ensures { OnOk result (members_view fields.new.entries ≡ with_program program.now dll.now (unmet_view unmet.now) (members_view fields.old.entries)) }
+    ensures { OnOk result
+        (members_view fields.new.entries
+        ≡ with_program program.now dll.now (unmet_view unmet.now)
+        (members_view fields.old.entries)) }
 {
     put_word(fields, alloc, "program", program)?;
     put_name(fields, alloc, "dll", dll)?;
@@ -411,7 +464,9 @@ fn what_of(finding: &Finding) -> &'static str
 
 // Adds what is found.
 fn put_finding(fields: &mut Fields, alloc: Global, finding: &Finding) -> Result<(), AllocError>
-    ensures { OnOk result (members_view fields.new.entries ≡ with_finding (finding_view finding.now) (members_view fields.old.entries)) }
+    ensures { OnOk result
+        (members_view fields.new.entries
+        ≡ with_finding (finding_view finding.now) (members_view fields.old.entries)) }
 {
     match finding {
         Finding::Listed(side) => put_side(fields, alloc, side),

@@ -1,8 +1,10 @@
 //! Laws of the definitions. The functions do nothing: their contracts are the laws.
 
-ghost use Rattle.implib_check_driver.specs.OwnExportAs.{MadeLibrariesAreTheSame, MeantIsMade, SameSaysTheMade};
+ghost use Rattle.implib_check_driver.specs.OwnExportAs.{MadeLibrariesAreTheSame, MeantIsMade};
+ghost use Rattle.implib_check_driver.specs.OwnExportAs.{SameSaysTheMade};
 ghost use Rattle.implib_check_driver.specs.OwnIndexes.{OwnIndexesLead};
-ghost use Rattle.implib_check_driver.specs.OwnLibraries.{MeantIsDefined, OwnLibrariesAreTheSame, SameSaysTheDefined};
+ghost use Rattle.implib_check_driver.specs.OwnLibraries.{MeantIsDefined, OwnLibrariesAreTheSame};
+ghost use Rattle.implib_check_driver.specs.OwnLibraries.{SameSaysTheDefined};
 ghost use Rattle.implib_check_driver.specs.OwnTables.{OwnTablesAreWhole};
 ghost use Rattle.implib_check_driver.specs.Worked.{WorkedIdentities, WorkedStatuses, WorkedTasks};
 ghost use Rattle.implib_check_driver.specs.WorkedArm64ec.{WorkedArm64ec};
@@ -20,8 +22,8 @@ use implib_read::laws::{
     own_gnu_libraries, own_members_found, same_objects, same_parts, same_short_imports,
 };
 
-/// What is read of the library of a definition is what the definition says: its imports and its aliases, in the order of
-/// its exports, and parts of import tables.
+/// What is read of the library of a definition is what the definition says: its imports and its
+/// aliases, in the order of its exports, and parts of import tables.
 pub fn meant_is_defined()
     ensures { MeantIsDefined }
 {
@@ -31,23 +33,24 @@ pub fn meant_is_defined()
     own_gnu_libraries();
 }
 
-/// A library is told to be the same as a definition only where it has the imports and aliases that the definition
-/// means, in any order.
+/// A library is told to be the same as a definition only where it has the imports and aliases that
+/// the definition means, in any order.
 pub fn same_says_the_defined()
     ensures { SameSaysTheDefined }
 {
     meant_is_defined();
 }
 
-/// The library of a definition, as `implib_dlltool` writes it, is told to be the same as the definition.
+/// The library of a definition, as `implib_dlltool` writes it, is told to be the same as the
+/// definition.
 pub fn own_libraries_are_the_same()
     ensures { OwnLibrariesAreTheSame }
 {
     meant_is_defined();
 }
 
-/// The indexes of the library of a definition, as `implib_dlltool` writes it, lead each of their symbols to the first
-/// member that declares it.
+/// The indexes of the library of a definition, as `implib_dlltool` writes it, lead each of their
+/// symbols to the first member that declares it.
 pub fn own_indexes_lead()
     ensures { OwnIndexesLead }
 {
@@ -57,8 +60,8 @@ pub fn own_indexes_lead()
     same_objects();
 }
 
-/// The library of a definition, as `implib_dlltool` writes it, works, apart from where its indexes lead: each member is
-/// understood, and its import tables are whole.
+/// The library of a definition, as `implib_dlltool` writes it, works, apart from where its indexes
+/// lead: each member is understood, and its import tables are whole.
 pub fn own_tables_are_whole()
     ensures { OwnTablesAreWhole }
 {
@@ -84,7 +87,8 @@ pub fn worked_tasks()
     ensures { WorkedTasks }
 {}
 
-/// What calls say that compare a library with a definition, and the statuses of definitions that are refused.
+/// What calls say that compare a library with a definition, and the statuses of definitions that
+/// are refused.
 pub fn worked_checks()
     ensures { WorkedChecks }
 {}
@@ -124,7 +128,8 @@ pub fn worked_json()
     ensures { WorkedJson }
 {}
 
-/// Libraries beside a DLL whose forwarders are followed, worked by hand: calls, DLLs, statuses and an object.
+/// Libraries beside a DLL whose forwarders are followed, worked by hand: calls, DLLs, statuses and
+/// an object.
 pub fn worked_through()
     ensures { WorkedThrough }
 {}
@@ -134,7 +139,8 @@ pub fn worked_starting()
     ensures { WorkedStarting }
 {}
 
-/// What is read of the library of a definition is what the definition says, also where short imports have a third text.
+/// What is read of the library of a definition is what the definition says, also where short
+/// imports have a third text.
 pub fn meant_is_made()
     ensures { MeantIsMade }
 {
@@ -145,15 +151,16 @@ pub fn meant_is_made()
     meant_is_defined();
 }
 
-/// The library of a definition is told to be the same as the definition, also where short imports have a third text.
+/// The library of a definition is told to be the same as the definition, also where short imports
+/// have a third text.
 pub fn made_libraries_are_the_same()
     ensures { MadeLibrariesAreTheSame }
 {
     meant_is_made();
 }
 
-/// A library is told to be the same as a definition only where it has the imports and aliases that the definition
-/// means, also where short imports have a third text.
+/// A library is told to be the same as a definition only where it has the imports and aliases that
+/// the definition means, also where short imports have a third text.
 pub fn same_says_the_made()
     ensures { SameSaysTheMade }
 {
@@ -165,7 +172,8 @@ pub fn worked_export_as()
     ensures { WorkedExportAs }
 {}
 
-/// What calls for DLLs say, and which statuses libraries and definitions have beside one, worked by hand.
+/// What calls for DLLs say, and which statuses libraries and definitions have beside one, worked by
+/// hand.
 pub fn worked_against()
     ensures { WorkedAgainst }
 {}

@@ -1,8 +1,8 @@
 //! The library of a DLL, of which a definition is written as of any other.
 //!
-//! It is the one that `implib_dlltool` makes of the DLL, for the flavour that a call names, or Microsoft's, which tells all
-//! types apart. Its hints are the positions of the names, so the definition has them as ordinals of exports by name, and
-//! its library has them again.
+//! It is the one that `implib_dlltool` makes of the DLL, for the flavour that a call names, or
+//! Microsoft's, which tells all types apart. Its hints are the positions of the names, so the
+//! definition has them as ordinals of exports by name, and its library has them again.
 
 ghost use Rattle.std.specs.Prelude.{◌≡◌, IfErr, IfOk, None, OnOk, unwrap_or};
 ghost use Rattle.implib.specs.declared.flavor.Flavor.TheVariants.{Msvc};
@@ -10,7 +10,8 @@ ghost use Rattle.implib_archive.specs.Archive.{archive_of};
 ghost use Rattle.implib_archive.specs.Refusal.{refusal_of};
 ghost use Rattle.implib_check_driver.specs.Answers.{OrFailed};
 ghost use Rattle.implib_check_driver.specs.Calls.{define_view};
-ghost use Rattle.implib_check_driver.specs.OfDlls.{HasNoLibrary, HaveNoLibrary, HaveNoMembers, IsLibraryOfDll, IsLibraryOfExports};
+ghost use Rattle.implib_check_driver.specs.OfDlls.{HasNoLibrary, HaveNoLibrary, HaveNoMembers};
+ghost use Rattle.implib_check_driver.specs.OfDlls.{IsLibraryOfDll, IsLibraryOfExports};
 ghost use Rattle.implib_check_driver.specs.OfDlls.{IsMachineFor, IsUnkept, options_for_dll};
 ghost use Rattle.implib_dll.specs.Views.{exports_view};
 ghost use Rattle.implib_dll_library.specs.Members.{MembersOfDll};
@@ -62,9 +63,11 @@ fn machine_of_dll<E: Write>(
     define: &Define,
     exports: &Exports,
 ) -> Result<MachineType, u8>
-    ensures machine { IfOk result (λ machine. IsMachineFor (define_view define.now) (exports_view exports.now) machine) }
+    ensures machine { IfOk result
+        (λ machine. IsMachineFor (define_view define.now) (exports_view exports.now) machine) }
     ensures status { IfErr result (λ status. status ≡ 1) }
-    ensures none { IfErr result (λ _. (machine : MachineType) → ¬ (IsMachineFor (define_view define.now) (exports_view exports.now) machine)) }
+    ensures none { IfErr result (λ _. (machine : MachineType)
+        → ¬ (IsMachineFor (define_view define.now) (exports_view exports.now) machine)) }
 {
     let Ok(machine) = MachineType::try_from(exports.machine) else {
         let message = "a DLL for a machine for which no libraries are made";
@@ -87,10 +90,12 @@ fn members_or_status<E: Write>(
     exports: &Exports,
     machine: MachineType,
 ) -> Result<LibraryMembers, u8>
-    ensures made { IfOk result (λ members. MembersOfDll (exports_view exports.now) define.now.library.now
+    ensures made { IfOk result
+        (λ members. MembersOfDll (exports_view exports.now) define.now.library.now
         (options_for_dll (define_view define.now) machine) members) }
     ensures none { IfErr result (λ status. OrFailed status
-        ((status ≡ 1) × HaveNoMembers (define_view define.now) (exports_view exports.now) machine)) }
+        ((status ≡ 1) × HaveNoMembers (define_view define.now) (exports_view exports.now)
+        machine)) }
 {
     let options = options_for_dll(define, machine);
     match members_of_dll(alloc, exports, define.library, &options) {
@@ -108,9 +113,11 @@ fn archive_or_status<E: Write>(
     members: &LibraryMembers,
     flavor: Flavor,
 ) -> Result<Vec<u8>, u8>
-    ensures kept { IfOk result (λ file. file.items ≡ archive_of (kind_of flavor members.now) members.now) }
+    ensures kept { IfOk result
+        (λ file. file.items ≡ archive_of (kind_of flavor members.now) members.now) }
     ensures accepted { OnOk result (refusal_of (kind_of flavor members.now) members.now ≡ None) }
-    ensures none { IfErr result (λ status. OrFailed status ((status ≡ 1) × IsUnkept flavor members.now)) }
+    ensures none { IfErr result
+        (λ status. OrFailed status ((status ≡ 1) × IsUnkept flavor members.now)) }
 {
     let archive = match archive_for(alloc, members, flavor) {
         Ok(archive) => archive,
@@ -130,7 +137,9 @@ fn library_of_exports<E: Write>(
     define: &Define,
     exports: &Exports,
 ) -> Result<Vec<u8>, u8>
-    ensures library { IfOk result (λ file. IsLibraryOfExports (define_view define.now) (exports_view exports.now) file.items) }
+    ensures library { IfOk result
+        (λ file. IsLibraryOfExports (define_view define.now) (exports_view exports.now)
+        file.items) }
     ensures none { IfErr result (λ status. OrFailed status
         ((status ≡ 1) × HaveNoLibrary (define_view define.now) (exports_view exports.now))) }
 {
@@ -151,15 +160,18 @@ fn library_of_exports<E: Write>(
     )
 }
 
-/// The library of a DLL, or an exit status: 1 where it has none, and 2 where older symbols are asked for, which none has.
+/// The library of a DLL, or an exit status: 1 where it has none, and 2 where older symbols are
+/// asked for, which none has.
 pub(crate) fn library_of_dll<E: Write>(
     alloc: Global,
     faults: &mut E,
     define: &Define,
     bytes: &[u8],
 ) -> Result<Vec<u8>, u8>
-    ensures library { IfOk result (λ file. IsLibraryOfDll (define_view define.now) bytes.now file.items) }
-    ensures none { IfErr result (λ status. OrFailed status (HasNoLibrary (define_view define.now) bytes.now status)) }
+    ensures library { IfOk result
+        (λ file. IsLibraryOfDll (define_view define.now) bytes.now file.items) }
+    ensures none { IfErr result
+        (λ status. OrFailed status (HasNoLibrary (define_view define.now) bytes.now status)) }
 {
     let path = define.library;
     if define.older_symbols {

@@ -2,11 +2,14 @@
 
 ghost use Rattle.std.specs.HashMap.{get_by_text};
 ghost use Rattle.std.specs.Option.{option_and_then, option_or};
-ghost use Rattle.std.specs.Prelude.{◌≡◌, ◌⊎◌, ℕ, IfNone, IfOk, IfSome, List, None, OnOk, Some, bytes_eq, if◌then◌else◌, map, slice_get};
+ghost use Rattle.std.specs.Prelude.{◌≡◌, ◌⊎◌, ℕ, IfNone, IfOk, IfSome, List, None, OnOk, Some};
+ghost use Rattle.std.specs.Prelude.{bytes_eq, if◌then◌else◌, map, slice_get};
 ghost use Rattle.std.specs.Str.{IsUtf8};
 ghost use Rattle.std.specs.String.{string_bytes};
 ghost use Rattle.implib.specs.Definition.{definition_view, export_view};
-ghost use Rattle.implib_check_driver.specs.Positions.{ArePositionsOf, HasNoPositions, IsMeaningless, IsPlaceless, position_from, position_if, symbol_behind};
+ghost use Rattle.implib_check_driver.specs.Positions.{ArePositionsOf, HasNoPositions};
+ghost use Rattle.implib_check_driver.specs.Positions.{IsMeaningless, IsPlaceless, position_from};
+ghost use Rattle.implib_check_driver.specs.Positions.{position_if, symbol_behind};
 ghost use Rattle.implib_rules.specs.Library.{DefinitionFor, definition_text};
 ghost use Rattle.implib_rules.specs.Options.{library_options_view};
 ghost use Rattle.implib_rules.specs.Places.{ArePlacesOf, export_positions};
@@ -42,14 +45,16 @@ fn note_symbol(
     Ok(())
 }
 
-// Notes the position of an export, if there is one, unless it declares nothing, or its symbol has one.
+// Notes the position of an export, if there is one, unless it declares nothing, or its symbol has
+// one.
 fn note(
     by_symbol: &mut HashMap<String, Position>,
     export: &ShortExport,
     position: Option<Position>,
 ) -> Result<(), AllocError>
     ensures { OnOk result ((symbol : List ℕ) → get_by_text by_symbol.new symbol
-        ≡ option_or (get_by_text by_symbol.old symbol) (option_and_then (position_if (export_view export.now) symbol) position)) }
+        ≡ option_or (get_by_text by_symbol.old symbol)
+        (option_and_then (position_if (export_view export.now) symbol) position)) }
 {
     match position {
         Some(position) if !export.private => note_symbol(by_symbol, &export.name, position),
@@ -102,7 +107,8 @@ fn meaning_of(
 ) -> Result<Option<ModuleDef>, AllocError>
     ensures meant { IfOk result (λ found. IfSome found
         (λ def. DefinitionFor text.now (library_options_view options.now) (definition_view def))) }
-    ensures refused { IfOk result (λ found. IfNone found (IsMeaningless text.now (library_options_view options.now))) }
+    ensures refused { IfOk result
+        (λ found. IfNone found (IsMeaningless text.now (library_options_view options.now))) }
 {
     match definition_for(alloc, text, options) {
         Ok(def) => Ok(Some(def)),
@@ -113,7 +119,8 @@ fn meaning_of(
 
 // The places of a text, unless it is refused.
 fn places_of(alloc: Global, text: &str) -> Result<Option<Vec<Place>>, AllocError>
-    ensures read { IfOk result (λ found. IfSome found (λ places. ArePlacesOf text.now places.items)) }
+    ensures read { IfOk result
+        (λ found. IfSome found (λ places. ArePlacesOf text.now places.items)) }
     ensures refused { IfOk result (λ found. IfNone found (IsPlaceless text.now)) }
 {
     match read_with_places(alloc, text) {
@@ -145,7 +152,8 @@ impl Positions {
         options: &LibraryOptions,
     ) -> Result<Positions, AllocError>
         ensures { IfOk result (λ positions.
-            ArePositionsOf definition.now (library_options_view options.now) (get_by_text positions.by_symbol)
+            ArePositionsOf definition.now (library_options_view options.now)
+            (get_by_text positions.by_symbol)
             ⊎ HasNoPositions (definition_text definition.now) (library_options_view options.now)) }
     {
         let read = DefinitionText::new(alloc, definition)?;
@@ -169,8 +177,11 @@ impl Positions {
 
     /// Where the export of a symbol is, or of a symbol's address, if it is known.
     pub fn at(&self, symbol: &[u8]) -> Option<Position>
-        ensures found { IfSome result (λ position. get_by_text self.now.by_symbol (symbol_behind symbol.now) ≡ Some position) }
-        ensures none { IfNone result (IsUtf8 (symbol_behind symbol.now) → get_by_text self.now.by_symbol (symbol_behind symbol.now) ≡ None) }
+        ensures found { IfSome result
+            (λ position. get_by_text self.now.by_symbol (symbol_behind symbol.now)
+            ≡ Some position) }
+        ensures none { IfNone result (IsUtf8 (symbol_behind symbol.now)
+            → get_by_text self.now.by_symbol (symbol_behind symbol.now) ≡ None) }
     {
         match str::from_utf8(symbol_behind(symbol)) {
             Ok(text) => self.by_symbol.get(text).copied(),

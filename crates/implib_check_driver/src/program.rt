@@ -1,8 +1,14 @@
 //! The program: its arguments, its files, what it writes, and its exit status.
 
 ghost use Rattle.std.specs.Prelude.{◌≡◌, ℕ, false, length, List, map, true, IfOk};
-ghost use Rattle.implib_check_driver.specs.Answers.{AnswersBeside, AnswersDefine, AnswersOf, AnswersOfBoth, AnswersTask, CheckedAs, DefinedAs, IsAnswerWith, IsCheckedBeside, IsCheckedForArm64ec, IsCheckedOrdinary, OrFailed, asks_for_dll, compared_as, identified, listed};
-ghost use Rattle.implib_check_driver.specs.Calls.{check_view, define_view, is_searching as IsSearching};
+ghost use Rattle.implib_check_driver.specs.Answers.{AnswersBeside, AnswersDefine, AnswersOf};
+ghost use Rattle.implib_check_driver.specs.Answers.{AnswersOfBoth, AnswersTask, CheckedAs};
+ghost use Rattle.implib_check_driver.specs.Answers.{DefinedAs, IsAnswerWith, IsCheckedBeside};
+ghost use Rattle.implib_check_driver.specs.Answers.{IsCheckedForArm64ec, IsCheckedOrdinary};
+ghost use Rattle.implib_check_driver.specs.Answers.{OrFailed, asks_for_dll, compared_as};
+ghost use Rattle.implib_check_driver.specs.Answers.{identified, listed};
+ghost use Rattle.implib_check_driver.specs.Calls.{check_view, define_view};
+ghost use Rattle.implib_check_driver.specs.Calls.{is_searching as IsSearching};
 ghost use Rattle.implib_dll_check.specs.Folders.{AreKnown, folder_view};
 ghost use Rattle.implib_check_driver.specs.Through.{through};
 ghost use Rattle.implib_compare.specs.Comparison.{has_unread, verdict};
@@ -16,7 +22,8 @@ ghost use Rattle.implib_check_driver.specs.Tasks.{in_form, task_named};
 ghost use Rattle.std.specs.Option.{option_and_then, option_map};
 ghost use Rattle.std.specs.String.{string_bytes};
 ghost use Rattle.implib_read.specs.Identity.{dlls_of};
-ghost use Rattle.implib_check_driver.specs.Status.{comparison_status, identity_status, undefined_status};
+ghost use Rattle.implib_check_driver.specs.Status.{comparison_status, identity_status};
+ghost use Rattle.implib_check_driver.specs.Status.{undefined_status};
 
 use crate::against::{begins_dll, is_library};
 use crate::arm64ec::{Arm64ecError, check_arm64ec, refuse_arm64ec};
@@ -197,7 +204,9 @@ fn identify<O: Write, E: Write>(
     members: &[MemberRead],
     is_strict: bool,
 ) -> u8
-    ensures { OrFailed result (result ≡ identity_status (has_unread (map member_read_view members.now)) (length (dlls_of (map member_read_view members.now))) is_strict) }
+    ensures { OrFailed result
+        (result ≡ identity_status (has_unread (map member_read_view members.now))
+        (length (dlls_of (map member_read_view members.now))) is_strict) }
 {
     let names = match dlls_of(alloc, members) {
         Ok(names) => names,
@@ -247,7 +256,9 @@ fn tell_working_if_same<O: Write>(
     path: &str,
     library: &Library,
 ) -> Result<Working, Failure>
-    ensures { IfOk result (λ working. verdict ≡ Same → working ≡ working_of (archive_view library.now.archive) (map member_read_view library.now.members.items)) }
+    ensures { IfOk result (λ working. verdict ≡ Same → working
+        ≡ working_of (archive_view library.now.archive)
+        (map member_read_view library.now.members.items)) }
 {
     match verdict {
         Verdict::Same => tell_working(form, printer, path, library),
@@ -263,7 +274,10 @@ fn tell_same<O: Write>(
     libraries: (&Library, &Library),
     found: &Comparison,
 ) -> Result<u8, Failure>
-    ensures { IfOk result (λ status. found.now.verdict ≡ verdict (map member_read_view libraries.entry.0.now.members.items) (map member_read_view libraries.entry.1.now.members.items)
+    ensures { IfOk result
+        (λ status. found.now.verdict
+        ≡ verdict (map member_read_view libraries.entry.0.now.members.items)
+        (map member_read_view libraries.entry.1.now.members.items)
         → status ≡ compared_as libraries.entry.0.now libraries.entry.1.now) }
 {
     let sources = (Source::Library(paths.0), Source::Library(paths.1));
@@ -274,7 +288,8 @@ fn tell_same<O: Write>(
     Ok(comparison_status(found.verdict, both_work(first, second)))
 }
 
-// Writes why a library that means what a definition means does not work, if it does not; and gives the exit status.
+// Writes why a library that means what a definition means does not work, if it does not; and gives
+// the exit status.
 fn tell_checked<O: Write, E: Write>(
     form: Form,
     printer: &mut O,
@@ -284,7 +299,8 @@ fn tell_checked<O: Write, E: Write>(
     library: &Library,
 ) -> u8
     ensures { OrFailed result (result ≡ comparison_status verdict
-        (working_of (archive_view library.now.archive) (map member_read_view library.now.members.items))) }
+        (working_of (archive_view library.now.archive)
+        (map member_read_view library.now.members.items))) }
 {
     match tell_working_if_same(form, printer, verdict, path, library) {
         Ok(working) => comparison_status(verdict, working),
@@ -326,7 +342,8 @@ fn run_same<S: Shelf, O: Write, E: Write>(
     left_path: &str,
     right_path: &str,
 ) -> u8
-    ensures { AnswersOfBoth (S.seen shelf.now left_path.now) (S.seen shelf.now right_path.now) result }
+    ensures { AnswersOfBoth (S.seen shelf.now left_path.now) (S.seen shelf.now right_path.now)
+        result }
 {
     let left_bytes = match bytes_of(alloc, shelf, faults, left_path) {
         Ok(bytes) => bytes,
@@ -364,8 +381,11 @@ fn check_ordinary<O: Write, E: Write>(
     library: &Library,
     definition: &[u8],
 ) -> u8
-    requires { map member_read_view library.now.members.items ≡ members_read (archive_view library.now.archive).members }
-    ensures { OrFailed result (IsCheckedOrdinary (check_view check.now) (archive_view library.now.archive) definition.now result) }
+    requires { map member_read_view library.now.members.items
+        ≡ members_read (archive_view library.now.archive).members }
+    ensures { OrFailed result
+        (IsCheckedOrdinary (check_view check.now) (archive_view library.now.archive) definition.now
+        result) }
 {
     let members = library.members.as_slice();
     let options = options_for(check, members);
@@ -386,7 +406,8 @@ fn check_ordinary<O: Write, E: Write>(
     }
 }
 
-// Compares a library that is read with the definitions of one for ARM64EC, and gives the exit status.
+// Compares a library that is read with the definitions of one for ARM64EC, and gives the exit
+// status.
 #[tactic(auto, using(crate::proofs::Answers::checked_arm64ec_refused))]
 fn check_for_arm64ec<O: Write, E: Write>(
     form: Form,
@@ -397,8 +418,11 @@ fn check_for_arm64ec<O: Write, E: Write>(
     definition: &[u8],
     native: Option<&[u8]>,
 ) -> u8
-    requires { map member_read_view library.now.members.items ≡ members_read (archive_view library.now.archive).members }
-    ensures { OrFailed result (IsCheckedForArm64ec (check_view check.now) (archive_view library.now.archive) definition.now
+    requires { map member_read_view library.now.members.items
+        ≡ members_read (archive_view library.now.archive).members }
+    ensures { OrFailed result
+        (IsCheckedForArm64ec (check_view check.now) (archive_view library.now.archive)
+        definition.now
         (option_map (λ text. text.now) native.entry) result) }
 {
     let members = library.members.as_slice();
@@ -411,7 +435,8 @@ fn check_for_arm64ec<O: Write, E: Write>(
     }
 }
 
-// What is said of a call that asks for what a library for ARM64EC, or another one, is not made with.
+// What is said of a call that asks for what a library for ARM64EC, or another one, is not made
+// with.
 fn unfit_text(is_for_arm64ec: bool) -> &'static str {
     if is_for_arm64ec {
         "arm64ec: not supported for GNU's linker; leave out -C, and --flavor or make it msvc"
@@ -431,8 +456,10 @@ fn check_read<O: Write, E: Write>(
     definition: &[u8],
     native: Option<&[u8]>,
 ) -> u8
-    requires { map member_read_view library.now.members.items ≡ members_read (archive_view library.now.archive).members }
-    ensures { OrFailed result (IsCheckedBeside (check_view check.now) (archive_view library.now.archive) definition.now
+    requires { map member_read_view library.now.members.items
+        ≡ members_read (archive_view library.now.archive).members }
+    ensures { OrFailed result
+        (IsCheckedBeside (check_view check.now) (archive_view library.now.archive) definition.now
         (option_map (λ text. text.now) native.entry) result) }
 {
     let members = library.members.as_slice();
@@ -492,9 +519,12 @@ fn check_bytes<S: Shelf, O: Write, E: Write>(
     native: Option<&[u8]>,
     folders: &[Folder],
 ) -> u8
-    ensures { (file : List ℕ → List ℕ) → (IsSearching (check_view check.now) ≡ true → AreKnown (S.seen shelf.now) file)
-        → OrFailed result (IsAnswerWith (through file (map folder_view folders.now) (check_view check.now))
-        (check_view check.now) bytes.now definition.now (option_map (λ text. text.now) native.entry) result) }
+    ensures { (file : List ℕ → List ℕ)
+        → (IsSearching (check_view check.now) ≡ true → AreKnown (S.seen shelf.now) file)
+        → OrFailed result
+        (IsAnswerWith (through file (map folder_view folders.now) (check_view check.now))
+        (check_view check.now) bytes.now definition.now (option_map (λ text. text.now) native.entry)
+        result) }
 {
     if begins_dll(definition) {
         return run_against(
@@ -508,7 +538,8 @@ fn check_bytes<S: Shelf, O: Write, E: Write>(
     check_library(form, printer, faults, check, bytes, definition, native)
 }
 
-// Compares a library with a definition, or holds one of them against a DLL, and gives the exit status.
+// Compares a library with a definition, or holds one of them against a DLL, and gives the exit
+// status.
 #[tactic(auto, using(crate::proofs::BesideDlls::beside_failed, crate::proofs::BesideDlls::beside_files))]
 fn run_check<S: Shelf, O: Write, E: Write>(
     alloc: Global,
@@ -624,7 +655,8 @@ fn run_define<S: Shelf, O: Write, E: Write>(
     faults: &mut E,
     define: &Define,
 ) -> u8
-    ensures { AnswersDefine (define_view define.now) (S.seen shelf.now define.now.library.now) result }
+    ensures { AnswersDefine (define_view define.now) (S.seen shelf.now define.now.library.now)
+        result }
 {
     let bytes = match bytes_of(alloc, shelf, faults, define.library) {
         Ok(bytes) => bytes,
@@ -639,7 +671,8 @@ fn run_define<S: Shelf, O: Write, E: Write>(
     }
 }
 
-// Writes the definition of a library, with its hints as ordinals or as comments, and gives the exit status.
+// Writes the definition of a library, with its hints as ordinals or as comments, and gives the exit
+// status.
 fn define_library<O: Write, E: Write>(
     alloc: Global,
     printer: &mut O,
@@ -648,7 +681,8 @@ fn define_library<O: Write, E: Write>(
     bytes: &[u8],
     hints: bool,
 ) -> u8
-    ensures { OrFailed result (DefinedAs hints (define_view define.now) bytes.now (archive_in bytes.now) result) }
+    ensures { OrFailed result
+        (DefinedAs hints (define_view define.now) bytes.now (archive_in bytes.now) result) }
 {
     let path = define.library;
     let library = match library_of(alloc, faults, path, bytes) {
@@ -719,7 +753,9 @@ pub fn run<S: Shelf, O: Write, E: Write>(
     printer: &mut O,
     faults: &mut E,
 ) -> u8
-    ensures { AnswersTask (S.seen shelf.now) (S.listed shelf.now) (option_and_then (in_form command_line.now.is_json) (task_named (map string_bytes command_line.now.words.items))) result }
+    ensures { AnswersTask (S.seen shelf.now) (S.listed shelf.now)
+        (option_and_then (in_form command_line.now.is_json)
+        (task_named (map string_bytes command_line.now.words.items))) result }
 {
     let form = Form {
         alloc,
@@ -747,9 +783,10 @@ pub fn run<S: Shelf, O: Write, E: Write>(
     }
 }
 
-/// Runs the program with the command line of the process, and gives the exit status: 0 where it is done or the
-/// libraries are the same, 1 where they differ, a definition is refused or there is no DLL or no definition, 2 where the call is wrong,
-/// 3 where a file or an allocation failed, and 4 where a member that may matter was not understood.
+/// Runs the program with the command line of the process, and gives the exit status: 0 where it is
+/// done or the libraries are the same, 1 where they differ, a definition is refused or there is no
+/// DLL or no definition, 2 where the call is wrong, 3 where a file or an allocation failed, and 4
+/// where a member that may matter was not understood.
 pub fn perform<R: Env + AllocGlobal, S: Shelf, O: Write, E: Write>(
     rt: &R,
     shelf: &S,

@@ -93,7 +93,8 @@ pub struct Form {
 
 /// Writes a finding on a line of its own.
 pub fn tell<O: Write>(form: Form, printer: &mut O, finding: &Finding) -> Result<(), Failure>
-    ensures json { form.is_json ≡ true → OnOk result (Appends (O.contents printer.old) (O.contents printer.new)
+    ensures json { form.is_json ≡ true
+        → OnOk result (Appends (O.contents printer.old) (O.contents printer.new)
         (line_of (finding_view finding.now))) }
 {
     if form.is_json {

@@ -18,7 +18,8 @@ pub trait Shelf {
 
     /// The bytes of a file.
     fn read(&self, alloc: Global, path: &str) -> io::Result<Vec<u8>>
-        ensures { IfOk result (λ bytes. IfSome (seen self.now path.now) (λ file. bytes.items ≡ file)) };
+        ensures { IfOk result
+            (λ bytes. IfSome (seen self.now path.now) (λ file. bytes.items ≡ file)) };
 
     /// The names of what is in a folder, in the order that the system has them in; without those
     /// that are not UTF-8.

@@ -1,14 +1,16 @@
 //! The call that says whether a program finds what it imports in the DLLs of some folders.
 //!
-//! A folder of the call stands for those that a loader searches, and the first that has a DLL counts. A DLL that none has
-//! is told: the system's are there only where their folder is named. Of a DLL of which nothing is asked a loader needs
-//! none. What DLLs import themselves, and where forwarders lead, is not looked at.
+//! A folder of the call stands for those that a loader searches, and the first that has a DLL
+//! counts. A DLL that none has is told: the system's are there only where their folder is named. Of
+//! a DLL of which nothing is asked a loader needs none. What DLLs import themselves, and where
+//! forwarders lead, is not looked at.
 
 ghost use Rattle.std.specs.Option.{option_map};
 ghost use Rattle.std.specs.Prelude.{◌≡◌, ℕ, IfErr, IfOk, List, if◌then◌else◌, map};
 ghost use Rattle.std.specs.String.{string_bytes};
 ghost use Rattle.implib_check_driver.specs.Answers.{AnswersProgram, OrFailed};
-ghost use Rattle.implib_check_driver.specs.Starting.{dll_status, dlls_status, program_status, status_in};
+ghost use Rattle.implib_check_driver.specs.Starting.{dll_status, dlls_status, program_status};
+ghost use Rattle.implib_check_driver.specs.Starting.{status_in};
 ghost use Rattle.implib_dll_check.specs.Folders.{AreKnown, dll_path, folder_view, listings};
 ghost use Rattle.implib_dll.specs.Exports.{exports_in};
 ghost use Rattle.implib_dll.specs.Imports.{imports_in};
@@ -34,7 +36,8 @@ fn names_in<S: Shelf, E: Write>(
     faults: &mut E,
     path: &str,
 ) -> Result<Vec<String>, u8>
-    ensures listed { IfOk result (λ found. (names : List ℕ → List (List ℕ)) → AreKnown (S.listed shelf.now) names
+    ensures listed { IfOk result (λ found. (names : List ℕ → List (List ℕ))
+        → AreKnown (S.listed shelf.now) names
         → map string_bytes found.items ≡ names path.now) }
     ensures failed { IfErr result (λ status. status ≡ 3) }
 {
@@ -51,7 +54,8 @@ pub(crate) fn folders_of<'a, S: Shelf, E: Write>(
     faults: &mut E,
     paths: &'a [String],
 ) -> Result<Vec<Folder<'a>>, u8>
-    ensures listed { IfOk result (λ folders. (names : List ℕ → List (List ℕ)) → AreKnown (S.listed shelf.now) names
+    ensures listed { IfOk result (λ folders. (names : List ℕ → List (List ℕ))
+        → AreKnown (S.listed shelf.now) names
         → map folder_view folders.items ≡ listings names (map string_bytes paths.now)) }
     ensures failed { IfErr result (λ status. status ≡ 3) }
 {
@@ -129,7 +133,8 @@ fn status_beside<O: Write, E: Write>(
     path: &str,
     exports: &Exports,
 ) -> Result<u8, u8>
-    ensures found { IfOk result (λ status. status ≡ if finds_all (exports_view exports.now) importer.entry.machine
+    ensures found { IfOk result
+        (λ status. status ≡ if finds_all (exports_view exports.now) importer.entry.machine
         (map ask_view importer.entry.imported.now.asks.items) then 0 else 1) }
     ensures failed { IfErr result (λ status. status ≡ 3) }
 {
@@ -149,7 +154,8 @@ fn status_in<O: Write, E: Write>(
     path: &str,
     bytes: &[u8],
 ) -> Result<u8, u8>
-    ensures found { IfOk result (λ status. status ≡ status_in (exports_in File bytes.now) importer.entry.machine
+    ensures found { IfOk result
+        (λ status. status ≡ status_in (exports_in File bytes.now) importer.entry.machine
         (map ask_view importer.entry.imported.now.asks.items)) }
     ensures failed { IfErr result (λ status. status ≡ 3) }
 {
@@ -185,7 +191,8 @@ fn dll_status<S: Shelf, O: Write, E: Write>(
     importer: Importer,
     folders: &[Folder],
 ) -> Result<u8, u8>
-    ensures found { IfOk result (λ status. (file : List ℕ → List ℕ) → AreKnown (S.seen shelf.now) file
+    ensures found { IfOk result (λ status. (file : List ℕ → List ℕ)
+        → AreKnown (S.seen shelf.now) file
         → status ≡ dll_status file (map folder_view folders.now) importer.entry.machine
         (imported_view importer.entry.imported.now)) }
     ensures failed { IfErr result (λ status. status ≡ 3) }
@@ -213,7 +220,8 @@ fn dlls_status<S: Shelf, O: Write, E: Write>(
     program: (&str, &Imports),
     folders: &[Folder],
 ) -> Result<u8, u8>
-    ensures found { IfOk result (λ status. (file : List ℕ → List ℕ) → AreKnown (S.seen shelf.now) file
+    ensures found { IfOk result (λ status. (file : List ℕ → List ℕ)
+        → AreKnown (S.seen shelf.now) file
         → status ≡ dlls_status file (map folder_view folders.now) program.entry.1.now.machine
         (map imported_view program.entry.1.now.dlls.items)) }
     ensures failed { IfErr result (λ status. status ≡ 3) }
@@ -234,7 +242,8 @@ fn dlls_status<S: Shelf, O: Write, E: Write>(
     Ok(status)
 }
 
-/// Says whether a program finds what it imports in the DLLs of some folders, and gives the exit status.
+/// Says whether a program finds what it imports in the DLLs of some folders, and gives the exit
+/// status.
 pub(crate) fn run_program<S: Shelf, O: Write, E: Write>(
     alloc: Global,
     shelf: &S,
@@ -244,7 +253,8 @@ pub(crate) fn run_program<S: Shelf, O: Write, E: Write>(
     path: &str,
     folders: &[String],
 ) -> u8
-    ensures { AnswersProgram (S.seen shelf.now) (S.listed shelf.now) path.now (map string_bytes folders.now) result }
+    ensures { AnswersProgram (S.seen shelf.now) (S.listed shelf.now) path.now
+        (map string_bytes folders.now) result }
 {
     let bytes = match bytes_of(alloc, shelf, faults, path) {
         Ok(bytes) => bytes,

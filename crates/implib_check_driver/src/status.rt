@@ -1,7 +1,9 @@
 //! Exit statuses.
 
 ghost use Rattle.std.specs.Prelude.{◌≡◌};
-ghost use Rattle.implib_check_driver.specs.Status.{comparison_status, identity_status, list_status, refusal_status, together_status, undefined_status, verdict_status};
+ghost use Rattle.implib_check_driver.specs.Status.{comparison_status, identity_status, list_status};
+ghost use Rattle.implib_check_driver.specs.Status.{refusal_status, together_status};
+ghost use Rattle.implib_check_driver.specs.Status.{undefined_status, verdict_status};
 
 use crate::defining::Undefined;
 use implib_compare::compare::Verdict;
@@ -19,7 +21,8 @@ pub fn verdict_status(verdict: Verdict) -> u8
     }
 }
 
-/// The exit status of a comparison of libraries that have to work: where they are the same, whether they work.
+/// The exit status of a comparison of libraries that have to work: where they are the same, whether
+/// they work.
 pub fn comparison_status(verdict: Verdict, working: Working) -> u8
     ensures { result ≡ comparison_status verdict working }
 {
@@ -71,7 +74,8 @@ pub fn undefined_status(why: &Undefined) -> u8
     }
 }
 
-/// The exit status of libraries in one link, given whether a member may import what is not read, and whether two clash.
+/// The exit status of libraries in one link, given whether a member may import what is not read,
+/// and whether two clash.
 pub fn together_status(unread: bool, clash: bool) -> u8
     ensures { result ≡ together_status unread clash }
 {

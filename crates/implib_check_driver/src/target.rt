@@ -2,7 +2,10 @@
 
 ghost use Rattle.std.specs.Prelude.{◌≡◌, map, unwrap_or};
 ghost use Rattle.implib_check_driver.specs.Calls.{check_view, define_view};
-ghost use Rattle.implib_check_driver.specs.Targets.{flavor_for, has_arm64ec, is_arm64ec, is_for_arm64ec, is_for_gnu, is_unfit, machine_of, machine_of_class, options_for, options_of};
+ghost use Rattle.implib_check_driver.specs.Targets.{flavor_for, has_arm64ec, is_arm64ec};
+ghost use Rattle.implib_check_driver.specs.Targets.{is_for_arm64ec, is_for_gnu, is_unfit};
+ghost use Rattle.implib_check_driver.specs.Targets.{machine_of, machine_of_class, options_for};
+ghost use Rattle.implib_check_driver.specs.Targets.{options_of};
 ghost use Rattle.implib_compare.specs.Flavors.{flavor_of};
 ghost use Rattle.implib_read.specs.ClassViews.{class_view, member_read_view};
 ghost use Rattle.implib_rules.specs.Options.{library_options_view};
@@ -25,7 +28,8 @@ fn machine_of_class(class: &MemberClass) -> Option<MachineType>
     }
 }
 
-/// The machine of a library: that of the first import with a known one, or AMD64 where there is none.
+/// The machine of a library: that of the first import with a known one, or AMD64 where there is
+/// none.
 pub fn machine_of(members: &[MemberRead]) -> MachineType
     ensures { result ≡ machine_of (map member_read_view members.now) }
 {
@@ -86,8 +90,8 @@ pub fn has_arm64ec(members: &[MemberRead]) -> bool
     false
 }
 
-/// Whether the library of a definition is one for ARM64EC: a call names that, or no machine, and the library has an
-/// import for it.
+/// Whether the library of a definition is one for ARM64EC: a call names that, or no machine, and
+/// the library has an import for it.
 pub fn is_for_arm64ec(check: &Check, members: &[MemberRead]) -> bool
     ensures { result ≡ is_for_arm64ec (check_view check.now) (map member_read_view members.now) }
 {
@@ -104,8 +108,8 @@ fn is_for_gnu(flavor: Option<Flavor>) -> bool
     }
 }
 
-/// Whether a call asks for what the library is not made with: for ARM64EC what GNU's linker alone has, and for another
-/// machine a native definition.
+/// Whether a call asks for what the library is not made with: for ARM64EC what GNU's linker alone
+/// has, and for another machine a native definition.
 pub fn is_unfit(check: &Check, members: &[MemberRead]) -> bool
     ensures { result ≡ is_unfit (check_view check.now) (map member_read_view members.now) }
 {
@@ -116,9 +120,11 @@ pub fn is_unfit(check: &Check, members: &[MemberRead]) -> bool
     }
 }
 
-/// What the definition's library is made for: what a call names, and else the machine and the flavour of the library.
+/// What the definition's library is made for: what a call names, and else the machine and the
+/// flavour of the library.
 pub fn options_for<'a>(check: &Check<'a>, members: &[MemberRead]) -> LibraryOptions<'a>
-    ensures { library_options_view result ≡ options_for (check_view check.now) (map member_read_view members.now) }
+    ensures { library_options_view result ≡ options_for (check_view check.now)
+        (map member_read_view members.now) }
 {
     LibraryOptions {
         machine: machine_for(check.machine, members),
@@ -129,9 +135,11 @@ pub fn options_for<'a>(check: &Check<'a>, members: &[MemberRead]) -> LibraryOpti
     }
 }
 
-/// What the definition of a library is read for: what a call names, and else the machine and the flavour of the library.
+/// What the definition of a library is read for: what a call names, and else the machine and the
+/// flavour of the library.
 pub fn options_of<'a>(define: &Define<'a>, members: &[MemberRead]) -> LibraryOptions<'a>
-    ensures { library_options_view result ≡ options_of (define_view define.now) (map member_read_view members.now) }
+    ensures { library_options_view result ≡ options_of (define_view define.now)
+        (map member_read_view members.now) }
 {
     LibraryOptions {
         machine: machine_for(define.machine, members),

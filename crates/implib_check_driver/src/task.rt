@@ -3,8 +3,11 @@
 ghost use Rattle.std.specs.Prelude.{◌≡◌, map, IfOk};
 ghost use Rattle.std.specs.Option.{option_and_then, option_map, option_or};
 ghost use Rattle.std.specs.String.{string_bytes};
-ghost use Rattle.implib_check_driver.specs.Tasks.{alone, asks_json, has_json_form, in_form, is_json_word, plain_words, task_by_name, task_named};
-ghost use Rattle.implib_check_driver.specs.Tasks.{task_view, with_all, with_files, with_folders, with_libraries, with_library};
+ghost use Rattle.implib_check_driver.specs.Tasks.{alone, asks_json, has_json_form, in_form};
+ghost use Rattle.implib_check_driver.specs.Tasks.{is_json_word, plain_words, task_by_name};
+ghost use Rattle.implib_check_driver.specs.Tasks.{task_named};
+ghost use Rattle.implib_check_driver.specs.Tasks.{task_view, with_all, with_files, with_folders};
+ghost use Rattle.implib_check_driver.specs.Tasks.{with_libraries, with_library};
 
 use crate::call::{Check, Define, check_named, define_called};
 use std::alloc::{AllocError, Global};
@@ -113,8 +116,8 @@ fn with_folders(words: &[String]) -> Option<Task<'_>>
     }
 }
 
-// What words ask for that name files and options: behind `--def` a definition, behind `--together` what libraries do to
-// each other, else a comparison with a definition.
+// What words ask for that name files and options: behind `--def` a definition, behind `--together`
+// what libraries do to each other, else a comparison with a definition.
 fn with_files(words: &[String]) -> Option<Task<'_>>
     ensures { option_map task_view result ≡ with_files (map string_bytes words.now) }
 {
@@ -169,7 +172,8 @@ fn asks_json(words: &[String]) -> bool
 
 // The words that do not ask for JSON.
 fn plain_words(alloc: Global, words: &[String]) -> Result<Vec<String>, AllocError>
-    ensures { IfOk result (λ plain. map string_bytes plain.items ≡ plain_words (map string_bytes words.now)) }
+    ensures { IfOk result (λ plain. map string_bytes plain.items
+        ≡ plain_words (map string_bytes words.now)) }
 {
     let mut plain = Vec::new(alloc);
     for word in words {
@@ -191,8 +195,10 @@ pub struct CommandLine {
 impl CommandLine {
     /// The command line of words: `--json` stands anywhere among them.
     pub fn read(alloc: Global, words: &[String]) -> Result<CommandLine, AllocError>
-        ensures words { IfOk result (λ line. map string_bytes line.words.items ≡ plain_words (map string_bytes words.now)) }
-        ensures is_json { IfOk result (λ line. line.is_json ≡ asks_json (map string_bytes words.now)) }
+        ensures words { IfOk result (λ line. map string_bytes line.words.items
+            ≡ plain_words (map string_bytes words.now)) }
+        ensures is_json { IfOk result
+            (λ line. line.is_json ≡ asks_json (map string_bytes words.now)) }
     {
         Ok(CommandLine {
             words: plain_words(alloc, words)?,
@@ -217,9 +223,11 @@ fn has_json_form(task: &Task) -> bool
     }
 }
 
-/// What a command line asks for, if it asks for something, and for JSON only where that has a form in it.
+/// What a command line asks for, if it asks for something, and for JSON only where that has a form
+/// in it.
 pub fn call_named(line: &CommandLine) -> Option<Task<'_>>
-    ensures { option_map task_view result ≡ option_and_then (in_form line.now.is_json) (task_named (map string_bytes line.now.words.items)) }
+    ensures { option_map task_view result ≡ option_and_then (in_form line.now.is_json)
+        (task_named (map string_bytes line.now.words.items)) }
 {
     match task_named(&line.words) {
         Some(task) => {

@@ -1,7 +1,8 @@
 //! The lines that are written.
 //!
-//! A row of the list has six columns behind the offset, and a seventh, `arm64ec`, for an import for ARM64EC alone: rows
-//! for other machines stay as they are, and a library for ARM64EC may have the same import for ARM64.
+//! A row of the list has six columns behind the offset, and a seventh, `arm64ec`, for an import for
+//! ARM64EC alone: rows for other machines stay as they are, and a library for ARM64EC may have the
+//! same import for ARM64.
 
 ghost use Rattle.std.specs.Prelude.{◌≡◌};
 ghost use Rattle.implib_check_driver.specs.Json.{kind_word};
@@ -13,7 +14,8 @@ use implib_read::{AskFound, ImportFound, ImportKind, MemberClass, MemberRead, li
 use std::fmt;
 use std::fmt::Write as _;
 
-/// Bytes of a name, as they are shown: what is no visible ASCII, and a backslash, as `\x` and two digits.
+/// Bytes of a name, as they are shown: what is no visible ASCII, and a backslash, as `\x` and two
+/// digits.
 #[derive(Clone, Copy)]
 pub struct Shown<'a>(pub &'a [u8]);
 
@@ -156,8 +158,8 @@ impl<'p> Site<'p> {
     }
 }
 
-/// Where a member is: the library, the member's name, and the offset of its header; or the definition, and the place
-/// of the export in it.
+/// Where a member is: the library, the member's name, and the offset of its header; or the
+/// definition, and the place of the export in it.
 #[derive(Clone, Copy)]
 pub struct Place<'p, 'm, 'a>(pub Site<'p>, pub &'m MemberRead<'a>);
 

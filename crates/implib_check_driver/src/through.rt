@@ -1,9 +1,10 @@
 //! Where the forwarders of a DLL lead that imports come to, in the DLLs of some folders.
 //!
-//! The folders stand for those that a loader searches, as for a program. A DLL that a forwarder names by a name of the DLL
-//! itself is that one; any other is looked for in the folders, and each is read once, when a forwarder leads there. An import
-//! whose forwarder leads to nothing is told, as one that the DLL does not export, and a file that no forwarder leads to may
-//! be anything. Where forwarders lead that no import comes to is not looked at.
+//! The folders stand for those that a loader searches, as for a program. A DLL that a forwarder
+//! names by a name of the DLL itself is that one; any other is looked for in the folders, and each
+//! is read once, when a forwarder leads there. An import whose forwarder leads to nothing is told,
+//! as one that the DLL does not export, and a file that no forwarder leads to may be anything.
+//! Where forwarders lead that no import comes to is not looked at.
 
 ghost use Rattle.implib_dll_check.specs.Folders.{AreKnown, IsRight, folder_view, loaded_view};
 ghost use Rattle.implib_dll_check.specs.Forwarding.{is_unknown as IsUnknown};
@@ -32,7 +33,8 @@ fn load<S: Shelf, E: Write>(
     folders: &[Folder],
     name: Vec<u8>,
 ) -> Result<Loaded, u8>
-    ensures loaded { IfOk result (λ loaded. (file : List ℕ → List ℕ) → AreKnown (S.seen shelf.now) file
+    ensures loaded { IfOk result (λ loaded. (file : List ℕ → List ℕ)
+        → AreKnown (S.seen shelf.now) file
         → IsRight file (map folder_view folders.now) (loaded_view loaded)) }
     ensures failed { IfErr result (λ status. status ≡ 3) }
 {
@@ -122,7 +124,8 @@ fn load_all<S: Shelf, E: Write>(
     loaded: &mut Vec<Loaded>,
     names: Vec<Vec<u8>>,
 ) -> Result<(), u8>
-    ensures loaded { IfOk result (λ done. (file : List ℕ → List ℕ) → AreKnown (S.seen shelf.now) file
+    ensures loaded { IfOk result (λ done. (file : List ℕ → List ℕ)
+        → AreKnown (S.seen shelf.now) file
         → All (IsRight file (map folder_view folders.now)) (map loaded_view loaded.old.items)
         → All (IsRight file (map folder_view folders.now)) (map loaded_view loaded.new.items)) }
     ensures failed { IfErr result (λ status. status ≡ 3) }
@@ -139,7 +142,8 @@ fn load_all<S: Shelf, E: Write>(
     Ok(())
 }
 
-/// The DLLs of some folders to which forwarders lead that members come to in the DLL of a file's bytes, or an exit status.
+/// The DLLs of some folders to which forwarders lead that members come to in the DLL of a file's
+/// bytes, or an exit status.
 pub(crate) fn dlls_behind<S: Shelf, E: Write>(
     alloc: Global,
     shelf: &S,
@@ -149,7 +153,8 @@ pub(crate) fn dlls_behind<S: Shelf, E: Write>(
     names: &[Vec<u8>],
     members: &[MemberRead],
 ) -> Result<Vec<Loaded>, u8>
-    ensures loaded { IfOk result (λ loaded. (file : List ℕ → List ℕ) → AreKnown (S.seen shelf.now) file
+    ensures loaded { IfOk result (λ loaded. (file : List ℕ → List ℕ)
+        → AreKnown (S.seen shelf.now) file
         → All (IsRight file (map folder_view folders.now)) (map loaded_view loaded.items)) }
     ensures failed { IfErr result (λ status. status ≡ 3) }
 {

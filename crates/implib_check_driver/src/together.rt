@@ -1,12 +1,15 @@
 //! What several libraries do to each other in one link.
 
-ghost use Rattle.std.specs.Prelude.{◌≡◌, ℕ, ◌∷◌, ◌++◌, [], List, None, Some, bytes_eq, if◌then◌else◌, map, IfOk, OnOk};
+ghost use Rattle.std.specs.Prelude.{◌≡◌, ℕ, ◌∷◌, ◌++◌, [], List, None, Some, bytes_eq};
+ghost use Rattle.std.specs.Prelude.{if◌then◌else◌, map, IfOk, OnOk};
 ghost use Rattle.std.specs.Char.{to_ascii_lowercase};
 ghost use Rattle.std.specs.HashMap.{get_by};
 ghost use Rattle.std.specs.Option.{option_or};
 ghost use Rattle.implib.specs.Import.{import_symbols};
 ghost use Rattle.implib_compare.specs.Facts.{asked_by, asked_key, text_key};
-ghost use Rattle.implib_check_driver.specs.Together.{apart, claim_for, claim_view, claims_from, claims_of, clash_of, clashes, first_of, made_of, symbols_of};
+ghost use Rattle.implib_check_driver.specs.Together.{apart, claim_for, claim_view, claims_from};
+ghost use Rattle.implib_check_driver.specs.Together.{claims_of, clash_of, clashes, first_of};
+ghost use Rattle.implib_check_driver.specs.Together.{made_of, symbols_of};
 ghost use Rattle.implib_read.specs.AliasViews.{alias_view};
 ghost use Rattle.implib_read.specs.Classes.{AnAlias, AnImport};
 ghost use Rattle.implib_read.specs.ClassViews.{class_view, imported_view, member_read_view};
@@ -76,7 +79,9 @@ fn add_claim(
     front: &[u8],
     text: &[u8],
 ) -> Result<(), AllocError>
-    ensures { OnOk result (map claim_view claims.new.items ≡ map claim_view claims.old.items ++ claim_for making.entry.library making.entry.member making.entry.made.now (front.now ++ text.now) ∷ []) }
+    ensures { OnOk result (map claim_view claims.new.items ≡ map claim_view claims.old.items
+        ++ claim_for making.entry.library making.entry.member making.entry.made.now
+        (front.now ++ text.now) ∷ []) }
 {
     let symbol = joined(alloc, front, text)?;
     let made = joined(alloc, b"", making.made)?;
@@ -96,7 +101,9 @@ fn add_texts(
     making: Making,
     texts: &[&[u8]],
 ) -> Result<(), AllocError>
-    ensures { OnOk result (map claim_view claims.new.items ≡ map claim_view claims.old.items ++ map (claim_for making.entry.library making.entry.member making.entry.made.now) (map (λ t. t.now) texts.now)) }
+    ensures { OnOk result (map claim_view claims.new.items ≡ map claim_view claims.old.items
+        ++ map (claim_for making.entry.library making.entry.member making.entry.made.now)
+        (map (λ t. t.now) texts.now)) }
 {
     for text in texts {
         add_claim(alloc, claims, making, b"", text)?;
@@ -111,7 +118,9 @@ fn add_held(
     making: Making,
     texts: &[Vec<u8>],
 ) -> Result<(), AllocError>
-    ensures { OnOk result (map claim_view claims.new.items ≡ map claim_view claims.old.items ++ map (claim_for making.entry.library making.entry.member making.entry.made.now) (map (λ t. t.items) texts.now)) }
+    ensures { OnOk result (map claim_view claims.new.items ≡ map claim_view claims.old.items
+        ++ map (claim_for making.entry.library making.entry.member making.entry.made.now)
+        (map (λ t. t.items) texts.now)) }
 {
     for text in texts {
         add_claim(alloc, claims, making, b"", text)?;
@@ -127,7 +136,9 @@ fn add_name(
     symbol: &[u8],
     is_data: bool,
 ) -> Result<(), AllocError>
-    ensures { OnOk result (map claim_view claims.new.items ≡ map claim_view claims.old.items ++ map (claim_for making.entry.library making.entry.member making.entry.made.now) (import_symbols is_data symbol.now)) }
+    ensures { OnOk result (map claim_view claims.new.items ≡ map claim_view claims.old.items
+        ++ map (claim_for making.entry.library making.entry.member making.entry.made.now)
+        (import_symbols is_data symbol.now)) }
 {
     add_claim(alloc, claims, making, b"__imp_", symbol)?;
     if is_data {
@@ -144,7 +155,9 @@ fn add_declared(
     making: Making,
     declared: &DeclaredFound,
 ) -> Result<(), AllocError>
-    ensures { OnOk result (map claim_view claims.new.items ≡ map claim_view claims.old.items ++ map (claim_for making.entry.library making.entry.member making.entry.made.now) (declared_view declared.now)) }
+    ensures { OnOk result (map claim_view claims.new.items ≡ map claim_view claims.old.items
+        ++ map (claim_for making.entry.library making.entry.member making.entry.made.now)
+        (declared_view declared.now)) }
 {
     match declared {
         DeclaredFound::OfName(symbol, is_data) => {
@@ -166,7 +179,8 @@ fn add_import(
     member: usize,
     import: &ImportFound,
 ) -> Result<(), AllocError>
-    ensures { OnOk result (map claim_view claims.new.items ≡ map claim_view claims.old.items ++ claims_of library member (AnImport (imported_view import.now))) }
+    ensures { OnOk result (map claim_view claims.new.items ≡ map claim_view claims.old.items
+        ++ claims_of library member (AnImport (imported_view import.now))) }
 {
     let made = made_by_import(alloc, import)?;
     let making = Making {
@@ -185,7 +199,8 @@ fn add_alias(
     member: usize,
     alias: &AliasFound,
 ) -> Result<(), AllocError>
-    ensures { OnOk result (map claim_view claims.new.items ≡ map claim_view claims.old.items ++ claims_of library member (AnAlias (alias_view alias.now))) }
+    ensures { OnOk result (map claim_view claims.new.items ≡ map claim_view claims.old.items
+        ++ claims_of library member (AnAlias (alias_view alias.now))) }
 {
     let made = made_by_alias(alloc, alias)?;
     let making = Making {
@@ -204,7 +219,8 @@ fn add_member(
     member: usize,
     class: &MemberClass,
 ) -> Result<(), AllocError>
-    ensures { OnOk result (map claim_view claims.new.items ≡ map claim_view claims.old.items ++ claims_of library member (class_view class.now)) }
+    ensures { OnOk result (map claim_view claims.new.items ≡ map claim_view claims.old.items
+        ++ claims_of library member (class_view class.now)) }
 {
     match class {
         MemberClass::Import(import) => add_import(alloc, claims, library, member, import),
@@ -227,7 +243,8 @@ pub fn add_claims(
     library: usize,
     members: &[MemberRead],
 ) -> Result<(), AllocError>
-    ensures { OnOk result (map claim_view claims.new.items ≡ map claim_view claims.old.items ++ claims_from library 0 (map member_read_view members.now)) }
+    ensures { OnOk result (map claim_view claims.new.items ≡ map claim_view claims.old.items
+        ++ claims_from library 0 (map member_read_view members.now)) }
 {
     for i in 0..members.len() {
         add_member(alloc, claims, library, i, &members[i].class)?;
@@ -240,7 +257,9 @@ type Firsts<'n> = HashMap<&'n [u8], usize>;
 
 // Notes the number of a claim, unless its symbol has one.
 fn note<'n>(firsts: &mut Firsts<'n>, symbol: &'n [u8], number: usize) -> Result<(), AllocError>
-    ensures { OnOk result ((other : List ℕ) → get_by (λ k. bytes_eq other k.now) firsts.new ≡ option_or (get_by (λ k. bytes_eq other k.now) firsts.old) (if bytes_eq symbol.now other then Some number else None)) }
+    ensures { OnOk result ((other : List ℕ) → get_by (λ k. bytes_eq other k.now) firsts.new
+        ≡ option_or (get_by (λ k. bytes_eq other k.now) firsts.old)
+        (if bytes_eq symbol.now other then Some number else None)) }
 {
     if !firsts.contains_key(&symbol) {
         firsts.insert(symbol, number)?;
@@ -250,7 +269,8 @@ fn note<'n>(firsts: &mut Firsts<'n>, symbol: &'n [u8], number: usize) -> Result<
 
 // The numbers of the first claims of symbols.
 fn firsts_of<'n>(alloc: Global, claims: &'n [Claim]) -> Result<Firsts<'n>, AllocError>
-    ensures { IfOk result (λ firsts. (other : List ℕ) → get_by (λ k. bytes_eq other k.now) firsts ≡ first_of 0 (map claim_view claims.now) other) }
+    ensures { IfOk result (λ firsts. (other : List ℕ) → get_by (λ k. bytes_eq other k.now) firsts
+        ≡ first_of 0 (map claim_view claims.now) other) }
 {
     let mut firsts = HashMap::new(alloc);
     for i in 0..claims.len() {
@@ -259,7 +279,8 @@ fn firsts_of<'n>(alloc: Global, claims: &'n [Claim]) -> Result<Firsts<'n>, Alloc
     Ok(firsts)
 }
 
-// A number, if the claim that has it is another library's than this one, and makes another thing of the symbol.
+// A number, if the claim that has it is another library's than this one, and makes another thing of
+// the symbol.
 fn apart(claim: &Claim, number: usize, first: &Claim) -> Option<usize>
     ensures { result ≡ apart (claim_view claim.now) number (claim_view first.now) }
 {
@@ -272,7 +293,8 @@ fn apart(claim: &Claim, number: usize, first: &Claim) -> Option<usize>
 
 // The number of the first claim of a claim's symbol, if they clash.
 fn clash_of(firsts: &Firsts, claims: &[Claim], claim: &Claim) -> Option<usize>
-    requires { (other : List ℕ) → get_by (λ k. bytes_eq other k.now) firsts.now ≡ first_of 0 (map claim_view claims.now) other }
+    requires { (other : List ℕ) → get_by (λ k. bytes_eq other k.now) firsts.now
+        ≡ first_of 0 (map claim_view claims.now) other }
     ensures { result ≡ clash_of (map claim_view claims.now) (claim_view claim.now) }
 {
     let symbol = claim.symbol.as_slice();

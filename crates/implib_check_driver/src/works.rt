@@ -122,7 +122,10 @@ pub(crate) fn tell_working<O: Write>(
     path: &str,
     library: &Library,
 ) -> Result<Working, Failure>
-    ensures { IfOk result (λ working. working ≡ working_of (archive_view library.now.archive) (map member_read_view library.now.members.items)) }
+    ensures { IfOk result
+        (λ working. working
+        ≡ working_of (archive_view library.now.archive)
+        (map member_read_view library.now.members.items)) }
 {
     let examined = examine(form.alloc, library)?;
     tell_indexes(form, printer, path, &examined)?;
@@ -144,7 +147,10 @@ fn work<O: Write, E: Write>(
     path: &str,
     library: &Library,
 ) -> u8
-    ensures { OrFailed result (result ≡ working_status (working_of (archive_view library.now.archive) (map member_read_view library.now.members.items))) }
+    ensures { OrFailed result
+        (result ≡ working_status
+        (working_of (archive_view library.now.archive)
+        (map member_read_view library.now.members.items))) }
 {
     match tell_working(form, printer, path, library) {
         Ok(working) => working_status(working),

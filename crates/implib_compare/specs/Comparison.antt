@@ -1,7 +1,9 @@
 -- Whether two libraries mean the same (this project's choice).
 use Rattle.std.specs.Prelude.{◌≡◌, ◌⊎◌, Bool, true, false, ◌||◌, List, [], ◌∷◌, ◌++◌, if◌then◌else◌}
 use Rattle.std.specs.List.{list_any}
-use Rattle.implib_read.specs.Classes.{Class, AnImport, AnAlias, Descriptor, NullDescriptor, NullThunk, Head, Tail, DelayImport, Other, NotUnderstood, MemberRead}
+use Rattle.implib_read.specs.Classes.{Class, AnImport, AnAlias, Descriptor, NullDescriptor}
+use Rattle.implib_read.specs.Classes.{NullThunk, Head, Tail, DelayImport, Other, NotUnderstood}
+use Rattle.implib_read.specs.Classes.{MemberRead}
 use Rattle.implib_compare.specs.declared.compare.Verdict.{Verdict}
 use Rattle.implib_compare.specs.declared.compare.Verdict.TheVariants.{Different, NotDecided, Same}
 use Rattle.implib_compare.specs.Facts.{Fact, both_tell, facts_of, keys_of}
@@ -20,7 +22,8 @@ is_unread DelayImport = true
 is_unread Other = false
 is_unread NotUnderstood = true
 
--- whether a member is an object that is no part of imports, and may define what another library imports
+-- whether a member is an object that is no part of imports, and may define what another library
+-- imports
 abbrev pub is_other : Class → Bool
 is_other (AnImport i) = false
 is_other (AnAlias a) = false
@@ -41,8 +44,8 @@ has_unread members = list_any (λ m. is_unread m.class) members
 abbrev pub has_other : List MemberRead → Bool
 has_other members = list_any (λ m. is_other m.class) members
 
--- Of each member of the first library, whether it says what no member of the second one does that is left for it,
--- given whether each import of both tells CONSTANT from code.
+-- Of each member of the first library, whether it says what no member of the second one does that
+-- is left for it, given whether each import of both tells CONSTANT from code.
 abbrev pub differing : Bool → List MemberRead → List MemberRead → List Bool
 differing told members others = lack_partners [] (keys_of told members) (keys_of told others)
 
@@ -50,8 +53,8 @@ differing told members others = lack_partners [] (keys_of told members) (keys_of
 abbrev pub is_some_set : List Bool → Bool
 is_some_set flags = list_any (λ flag. flag) flags
 
--- The verdict. A member that may import what is not read leaves it open, and so does another object, unless the
--- imports and aliases that are read differ.
+-- The verdict. A member that may import what is not read leaves it open, and so does another
+-- object, unless the imports and aliases that are read differ.
 abbrev pub verdict_of : Bool → Bool → Bool → Verdict
 verdict_of unread different other =
     if unread then NotDecided else if different then Different else if other then NotDecided else Same

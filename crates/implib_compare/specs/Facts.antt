@@ -1,20 +1,26 @@
--- What two libraries are compared by: the imports and the aliases of their members (this project's choice).
-use Rattle.std.specs.Prelude.{◌≡◌, ℕ, ◌/◌, ◌%◌, Bool, true, false, not, ◌&&◌, List, [], ◌∷◌, ◌++◌, Option, Some, None, if◌then◌else◌, map}
+-- What two libraries are compared by: the imports and the aliases of their members (this project's
+-- choice).
+use Rattle.std.specs.Prelude.{◌≡◌, ℕ, ◌/◌, ◌%◌, Bool, true, false, not, ◌&&◌, List, [], ◌∷◌, ◌++◌}
+use Rattle.std.specs.Prelude.{Option, Some, None, if◌then◌else◌, map}
 use Rattle.std.specs.Char.{to_ascii_lowercase}
 use Rattle.std.specs.List.{filter, filter_map, flat_map, list_any}
 use Rattle.std.specs.Option.{option_map_or}
 use Rattle.implib.specs.Import.{Alias, Ask, Name, Ordinal}
-use Rattle.implib_read.specs.Classes.{Class, AnImport, AnAlias, Descriptor, NullDescriptor, NullThunk, Head, Tail, DelayImport, Other, NotUnderstood, Imported, MemberRead}
+use Rattle.implib_read.specs.Classes.{Class, AnImport, AnAlias, Descriptor, NullDescriptor}
+use Rattle.implib_read.specs.Classes.{NullThunk, Head, Tail, DelayImport, Other, NotUnderstood}
+use Rattle.implib_read.specs.Classes.{Imported, MemberRead}
 use Rattle.implib_read.specs.Symbols.{begins_imp}
 use Rattle.implib_read.specs.declared.import.ImportKind.{ImportKind}
-use Rattle.implib_read.specs.declared.import.ImportKind.TheVariants.{Code, CodeOrConst, Const, Data, Delayed}
+use Rattle.implib_read.specs.declared.import.ImportKind.TheVariants.{Code, CodeOrConst, Const, Data}
+use Rattle.implib_read.specs.declared.import.ImportKind.TheVariants.{Delayed}
 
 -- what is asked of a DLL, whatever the hint
 pub data Asked : Type 0 where
   ByOrdinal : ℕ → Asked
   ByName : List ℕ → Asked
 
--- what an import says: its DLL in small letters, its symbols, what it asks for, its kind and its machine
+-- what an import says: its DLL in small letters, its symbols, what it asks for, its kind and its
+-- machine
 pub record ImportFact : Type 0 where
   pub dll : List ℕ
   pub declared : List (List ℕ)
@@ -32,8 +38,8 @@ abbrev pub asked_by : Ask → Asked
 asked_by (Ordinal ordinal) = ByOrdinal ordinal
 asked_by (Name name hint) = ByName name
 
--- A kind, as it is compared: objects for GNU's linker do not tell CONSTANT from code. Where one of the libraries has
--- such an object, the two count as one.
+-- A kind, as it is compared: objects for GNU's linker do not tell CONSTANT from code. Where one of
+-- the libraries has such an object, the two count as one.
 abbrev pub kind_compared : Bool → ImportKind → ImportKind
 kind_compared told Data = Data
 kind_compared told Code = if told then Code else CodeOrConst
@@ -46,12 +52,13 @@ abbrev pub is_wanted : Bool → List ℕ → Bool
 is_wanted true symbol = begins_imp symbol
 is_wanted false symbol = not (begins_imp symbol)
 
--- Symbols with those of addresses first. For example, `___impf`, which GNU dlltool's `-C` has before `__imp_f`, comes
--- behind it.
+-- Symbols with those of addresses first. For example, `___impf`, which GNU dlltool's `-C` has
+-- before `__imp_f`, comes behind it.
 abbrev pub addresses_first : List (List ℕ) → List (List ℕ)
 addresses_first symbols = filter (is_wanted true) symbols ++ filter (is_wanted false) symbols
 
--- what an import says. The case of letters in the DLL's name does not count (names of files for Windows).
+-- what an import says. The case of letters in the DLL's name does not count (names of files for
+-- Windows).
 abbrev pub import_fact : Bool → Imported → ImportFact
 import_fact told i = record {
   dll = map to_ascii_lowercase i.imports.dll;

@@ -3,9 +3,12 @@ use Rattle.std.specs.Prelude.{Bool, true, false, List, if◌then◌else◌}
 use Rattle.std.specs.List.{list_any}
 use Rattle.implib.specs.declared.flavor.Flavor.{Flavor}
 use Rattle.implib.specs.declared.flavor.Flavor.TheVariants.{Gnu, Msvc}
-use Rattle.implib_read.specs.Classes.{Class, AnImport, AnAlias, Descriptor, NullDescriptor, NullThunk, Head, Tail, DelayImport, Other, NotUnderstood, MemberRead}
+use Rattle.implib_read.specs.Classes.{Class, AnImport, AnAlias, Descriptor, NullDescriptor}
+use Rattle.implib_read.specs.Classes.{NullThunk, Head, Tail, DelayImport, Other, NotUnderstood}
+use Rattle.implib_read.specs.Classes.{MemberRead}
 use Rattle.implib_read.specs.declared.import.ImportKind.{ImportKind}
-use Rattle.implib_read.specs.declared.import.ImportKind.TheVariants.{Code, CodeOrConst, Const, Data, Delayed}
+use Rattle.implib_read.specs.declared.import.ImportKind.TheVariants.{Code, CodeOrConst, Const, Data}
+use Rattle.implib_read.specs.declared.import.ImportKind.TheVariants.{Delayed}
 
 -- whether a kind tells code from a constant, as those of short imports alone do
 abbrev pub tells_code : ImportKind → Bool
@@ -15,7 +18,8 @@ tells_code Const = true
 tells_code CodeOrConst = false
 tells_code Delayed = false
 
--- whether a member is one for Microsoft's linker: of its import tables, or a short import that is no data
+-- whether a member is one for Microsoft's linker: of its import tables, or a short import that is
+-- no data
 abbrev pub is_for_msvc : Class → Bool
 is_for_msvc (AnImport i) = tells_code i.kind
 is_for_msvc (AnAlias a) = false

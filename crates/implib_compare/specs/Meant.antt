@@ -2,7 +2,8 @@
 use Rattle.std.specs.Prelude.{◌≡◌, ℕ, Bool, true, false, List, None, Option, Some, map}
 use Rattle.implib_arm64ec.specs.Archive.{ec_archive, library_refusal}
 use Rattle.implib_arm64ec.specs.Library.{LibraryView, members_of}
-use Rattle.implib_arm64ec_library.specs.Libraries.{IsLibraryOfTexts, IsRefusalOfArchive, IsRefusalOfTexts}
+use Rattle.implib_arm64ec_library.specs.Libraries.{IsLibraryOfTexts, IsRefusalOfArchive}
+use Rattle.implib_arm64ec_library.specs.Libraries.{IsRefusalOfTexts}
 use Rattle.implib_read.specs.Classes.{MemberRead, library_in}
 use Rattle.implib_read.specs.OwnLibraries.{member_bytes_in}
 use Rattle.implib_rules.specs.Library.{IsLibrary, IsRefusalOfBytes}
@@ -14,7 +15,8 @@ use Rattle.implib_compare.specs.declared.meant.Arm64ecFault.{Arm64ecFault}
 use Rattle.implib_compare.specs.declared.meant.Arm64ecFault.TheVariants.{OfArchive, OfTexts}
 use Rattle.implib_compare.specs.Comparison.{Means, verdict}
 
--- the library that a definition has for these options, with the older symbols of addresses (`-C`) or without
+-- the library that a definition has for these options, with the older symbols of addresses (`-C`)
+-- or without
 abbrev pub IsLibraryFor : Bool → List ℕ → LibraryOptionsView → List ℕ → Type 0
 IsLibraryFor true definition options file = IsLibraryAsked true definition options file
 IsLibraryFor false definition options file = IsLibrary definition options file
@@ -24,8 +26,9 @@ abbrev pub IsRefusalFor : Bool → List ℕ → LibraryOptionsView → Refusal �
 IsRefusalFor true definition options why = IsRefusalOfBytesAsked true definition options why
 IsRefusalFor false definition options why = IsRefusalOfBytes definition options why
 
--- The verdict on a library beside a definition: that on the library and on the one that the definition has for these
--- options, with the older symbols of addresses or without, as both are read.
+-- The verdict on a library beside a definition: that on the library and on the one that the
+-- definition has for these options, with the older symbols of addresses or without, as both are
+-- read.
 pub record IsVerdictOn (older : Bool) (definition : List ℕ) (options : LibraryOptionsView) (members : List MemberRead) (v : Verdict) : Type 0 where
   -- the library of the definition
   pub file : List ℕ
@@ -37,7 +40,8 @@ pub record IsVerdictOn (older : Bool) (definition : List ℕ) (options : Library
   -- what the verdict means
   pub means : Means v members meant
 
--- The file of a library for ARM64EC: of a definition and, if there is one, of a native definition, for these options.
+-- The file of a library for ARM64EC: of a definition and, if there is one, of a native definition,
+-- for these options.
 pub record IsArm64ecFile (definition : List ℕ) (native : Option (List ℕ)) (options : LibraryOptionsView) (file : List ℕ) : Type 0 where
   pub library : LibraryView
   pub is_library : IsLibraryOfTexts definition native options library

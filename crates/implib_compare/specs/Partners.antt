@@ -1,5 +1,6 @@
 -- Which keys of a list have no partner in another list.
-use Rattle.std.specs.Prelude.{ℕ, Bool, true, false, not, ◌&&◌, List, [], ◌∷◌, ◌++◌, bytes_eq, nat_le}
+use Rattle.std.specs.Prelude.{ℕ, Bool, true, false, not, ◌&&◌, List, [], ◌∷◌, ◌++◌, bytes_eq}
+use Rattle.std.specs.Prelude.{nat_le}
 use Rattle.std.specs.List.{count_by}
 use Rattle.std.specs.HashMap.{HashMap, get_by}
 use Rattle.std.specs.Option.{unwrap_or}
@@ -14,8 +15,8 @@ abbrev pub has_no_byte : List ℕ → Bool
 has_no_byte [] = true
 has_no_byte (byte ∷ bytes) = false
 
--- Whether a key has no partner among others: as many equal ones are before it as the others have. The key of a
--- member that says nothing needs none.
+-- Whether a key has no partner among others: as many equal ones are before it as the others have.
+-- The key of a member that says nothing needs none.
 abbrev pub lacks_partner : List (List ℕ) → List ℕ → List (List ℕ) → Bool
 lacks_partner before key others = not (has_no_byte key) && nat_le (how_many key others) (how_many key before)
 

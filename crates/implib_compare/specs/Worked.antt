@@ -2,9 +2,12 @@
 use Rattle.std.specs.Prelude.{◌≡◌, ℕ, true, false, List, [], ◌∷◌, codes}
 use Rattle.implib.specs.declared.flavor.Flavor.TheVariants.{Gnu, Msvc}
 use Rattle.implib.specs.Import.{Ask, Name, Ordinal}
-use Rattle.implib_read.specs.Classes.{Class, AnImport, AnAlias, Descriptor, NullDescriptor, NullThunk, Head, Tail, DelayImport, Other, NotUnderstood, MemberRead}
+use Rattle.implib_read.specs.Classes.{Class, AnImport, AnAlias, Descriptor, NullDescriptor}
+use Rattle.implib_read.specs.Classes.{NullThunk, Head, Tail, DelayImport, Other, NotUnderstood}
+use Rattle.implib_read.specs.Classes.{MemberRead}
 use Rattle.implib_read.specs.declared.import.ImportKind.{ImportKind}
-use Rattle.implib_read.specs.declared.import.ImportKind.TheVariants.{Code, CodeOrConst, Const, Data, Delayed}
+use Rattle.implib_read.specs.declared.import.ImportKind.TheVariants.{Code, CodeOrConst, Const, Data}
+use Rattle.implib_read.specs.declared.import.ImportKind.TheVariants.{Delayed}
 use Rattle.implib_compare.specs.Comparison.{differing, verdict}
 use Rattle.implib_compare.specs.Flavors.{flavor_of}
 use Rattle.implib_compare.specs.declared.compare.Verdict.TheVariants.{Different, NotDecided, Same}
@@ -69,7 +72,8 @@ pub record WorkedComparisons : Type 0 where
   pub parted : verdict (alias (codes "ab") (codes "c") ∷ []) (alias (codes "a") (codes "bc") ∷ []) ≡ Different
   pub twice : verdict zoo (feed_of_zoo Code ∷ zoo) ≡ Different
   pub none : verdict zoo [] ≡ Different
-  -- another object leaves it open where the imports are the same, and one that is not understood always
+  -- another object leaves it open where the imports are the same, and one that is not understood
+  -- always
   pub other : verdict zoo (member Other ∷ zoo) ≡ NotDecided
   pub other_differs : verdict (member Other ∷ []) zoo ≡ Different
   pub not_understood : verdict zoo (member NotUnderstood ∷ zoo) ≡ NotDecided

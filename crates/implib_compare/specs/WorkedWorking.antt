@@ -5,7 +5,9 @@ use Rattle.implib_read.specs.Archives.{Archive, Part, StoredMember}
 use Rattle.implib_read.specs.Classes.{Descriptor, Head, NullDescriptor, NullThunk, Other, Tail}
 use Rattle.implib_read.specs.MemberNames.{LinkerMember, LongNamesMember, MemberName, Named}
 use Rattle.implib_compare.specs.declared.working.Working.TheVariants.{Broken, NotDecided, Works}
-use Rattle.implib_compare.specs.Working.{both_work, first_misleads, has_whole_tables, linker_member, misled, second_misleads, working_of, working_status, works_of}
+use Rattle.implib_compare.specs.Working.{both_work, first_misleads, has_whole_tables, linker_member}
+use Rattle.implib_compare.specs.Working.{misled, second_misleads, working_of, working_status}
+use Rattle.implib_compare.specs.Working.{works_of}
 use Rattle.implib_compare.specs.Worked.{member}
 
 -- a part with one byte of data
@@ -16,7 +18,8 @@ part name byte = record { offset = 8; name = name; contents = byte ∷ [] }
 abbrev pub front : List Part
 front = part LinkerMember 1 ∷ part LinkerMember 2 ∷ part LongNamesMember 3 ∷ part (Named (codes "a.o")) 4 ∷ []
 
--- A short import of `f` from d.dll, by its name, on AMD64, and its header at 0x48. It declares `__imp_f` and `f`.
+-- A short import of `f` from d.dll, by its name, on AMD64, and its header at 0x48. It declares
+-- `__imp_f` and `f`.
 abbrev pub short_import : List StoredMember
 short_import = record {
   name = codes "d.dll";
@@ -52,7 +55,8 @@ pub record WorkedWorking : Type 0 where
   -- the second: one offset, 0x48, and one entry with its number, or with another
   pub numbered : second_misleads short_import (1 ∷ 0 ∷ 0 ∷ 0 ∷ 0x48 ∷ 0 ∷ 0 ∷ 0 ∷ 1 ∷ 0 ∷ 0 ∷ 0 ∷ 1 ∷ 0 ∷ codes "f\0") ≡ Some []
   pub misnumbered : second_misleads short_import (1 ∷ 0 ∷ 0 ∷ 0 ∷ 0x48 ∷ 0 ∷ 0 ∷ 0 ∷ 1 ∷ 0 ∷ 0 ∷ 0 ∷ 2 ∷ 0 ∷ codes "f\0") ≡ Some (record { symbol = codes "f"; place = 0 } ∷ [])
-  -- a second entry of `f` is passed over, but not where the first misleads; `g` has a first entry of its own
+  -- a second entry of `f` is passed over, but not where the first misleads; `g` has a first entry
+  -- of its own
   pub passed_over : first_misleads short_import (0 ∷ 0 ∷ 0 ∷ 2 ∷ 0 ∷ 0 ∷ 0 ∷ 0x48 ∷ 0 ∷ 0 ∷ 0 ∷ 0x49 ∷ codes "f\0f\0") ≡ Some []
   pub first_counts : first_misleads short_import (0 ∷ 0 ∷ 0 ∷ 2 ∷ 0 ∷ 0 ∷ 0 ∷ 0x49 ∷ 0 ∷ 0 ∷ 0 ∷ 0x48 ∷ codes "f\0f\0")
       ≡ Some (record { symbol = codes "f"; place = 0x49 } ∷ [])

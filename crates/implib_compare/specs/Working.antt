@@ -1,17 +1,23 @@
--- Whether a library works: whether its indexes lead to what they name, each linker asks for the same by its short
--- imports, and its chains of import tables are whole (this project's choice; docs/CHECK.md, "Whether a library works").
-use Rattle.std.specs.Prelude.{ℕ, ◌-◌, ◌==◌, Bool, true, false, ◌&&◌, ◌||◌, List, [], ◌∷◌, ◌++◌, Option, None, Some, bytes_eq, fold, if◌then◌else◌, length, map, unwrap_or}
+-- Whether a library works: whether its indexes lead to what they name, each linker asks for the
+-- same by its short imports, and its chains of import tables are whole (this project's choice;
+-- docs/CHECK.md, "Whether a library works").
+use Rattle.std.specs.Prelude.{ℕ, ◌-◌, ◌==◌, Bool, true, false, ◌&&◌, ◌||◌, List, [], ◌∷◌, ◌++◌}
+use Rattle.std.specs.Prelude.{Option, None, Some, bytes_eq, fold, if◌then◌else◌, length, map}
+use Rattle.std.specs.Prelude.{unwrap_or}
 use Rattle.std.specs.List.{list_any}
 use Rattle.std.specs.Option.{is_some, option_and_then, option_map, option_map_or}
 use Rattle.implib.specs.declared.flavor.Flavor.{Flavor}
 use Rattle.implib.specs.declared.flavor.Flavor.TheVariants.{Gnu, Msvc}
 use Rattle.implib_read.specs.Archives.{Archive, Part, StoredMember, ec_index_in}
-use Rattle.implib_read.specs.Classes.{Class, Descriptor, NullDescriptor, NullThunk, Head, Tail, MemberRead}
+use Rattle.implib_read.specs.Classes.{Class, Descriptor, NullDescriptor, NullThunk, Head, Tail}
+use Rattle.implib_read.specs.Classes.{MemberRead}
 use Rattle.implib_read.specs.Cutting.{Cut, cut_apart}
 use Rattle.implib_read.specs.Identity.{dlls_of}
-use Rattle.implib_read.specs.Indexes.{IndexEntry, ec_entries_in, first_index_in, offset_numbered, second_index_in}
+use Rattle.implib_read.specs.Indexes.{IndexEntry, ec_entries_in, first_index_in, offset_numbered}
+use Rattle.implib_read.specs.Indexes.{second_index_in}
 use Rattle.implib_read.specs.Leads.{first_declarer, first_ec_declarer, members_for, wrong_entries}
-use Rattle.implib_read.specs.MemberNames.{MemberName, LinkerMember, LongNamesMember, NameAt, Named, Special}
+use Rattle.implib_read.specs.MemberNames.{MemberName, LinkerMember, LongNamesMember, NameAt, Named}
+use Rattle.implib_read.specs.MemberNames.{Special}
 use Rattle.implib_compare.specs.Comparison.{has_unread}
 use Rattle.implib_compare.specs.Flavors.{flavor_of}
 use Rattle.implib_compare.specs.declared.working.Piece.{Piece}
@@ -52,7 +58,8 @@ misleading members entries = wrong_entries (first_declarer members) (first_entri
 abbrev pub first_misleads : List StoredMember → List ℕ → Option (List IndexEntry)
 first_misleads members contents = option_map (misleading members) (first_index_in contents)
 
--- an entry of the second linker member with the offset that its number has, or 0, where no member is
+-- an entry of the second linker member with the offset that its number has, or 0, where no member
+-- is
 abbrev pub with_offset : List ℕ → IndexEntry → IndexEntry
 with_offset offsets e = record { symbol = e.symbol; place = unwrap_or (offset_numbered offsets e.place) 0 }
 
@@ -65,7 +72,8 @@ second_misleads members contents =
 abbrev pub linked_members : Archive → List StoredMember
 linked_members a = if is_some (ec_index_in a.parts) then members_for true a.members else a.members
 
--- what is found of the first linker member, if there is one: the entries by which a linker is misled, if it can be read
+-- what is found of the first linker member, if there is one: the entries by which a linker is
+-- misled, if it can be read
 abbrev pub first_found : Archive → Option (Option (List IndexEntry))
 first_found a = option_map (first_misleads (linked_members a)) (linker_member 0 a.parts)
 
@@ -77,8 +85,8 @@ second_found a = option_map (second_misleads (linked_members a)) (linker_member 
 abbrev pub second_offsets : Archive → List ℕ
 second_offsets a = option_map_or (λ i. i.offsets) (option_and_then second_index_in (linker_member 1 a.parts)) []
 
--- The entries of an EC index by which a linker is misled, given the offsets of the second linker member: of each symbol
--- the first, if it does not lead where it ought to.
+-- The entries of an EC index by which a linker is misled, given the offsets of the second linker
+-- member: of each symbol the first, if it does not lead where it ought to.
 abbrev pub ec_misleads : List StoredMember → List ℕ → List ℕ → Option (List IndexEntry)
 ec_misleads members offsets contents = option_map
     (λ entries. wrong_entries (first_ec_declarer members) (first_entries (map (with_offset offsets) entries)))
@@ -94,8 +102,8 @@ misled_by None = true
 misled_by (Some []) = false
 misled_by (Some (e ∷ entries)) = true
 
--- Whether the indexes mislead, given what is found of the first and of the second. Without a first one a linker finds
--- nothing.
+-- Whether the indexes mislead, given what is found of the first and of the second. Without a first
+-- one a linker finds nothing.
 abbrev pub misled : Option (Option (List IndexEntry)) → Option (Option (List IndexEntry)) → Bool
 misled None second = true
 misled (Some first) second = misled_by first || option_map_or misled_by second false
@@ -137,16 +145,17 @@ has_one_from seen wanted (m ∷ members) =
 abbrev pub has_one : Piece → List MemberRead → Bool
 has_one wanted members = has_one_from false wanted members
 
--- Whether the import tables of a DLL are whole. An import for GNU's linker is read by its chain, from its own fields to
--- the head's descriptor and the tail's name; so what is left to ask is that head and tail are there once. The members
--- of Microsoft's import tables are found by their symbols.
+-- Whether the import tables of a DLL are whole. An import for GNU's linker is read by its chain,
+-- from its own fields to the head's descriptor and the tail's name; so what is left to ask is that
+-- head and tail are there once. The members of Microsoft's import tables are found by their
+-- symbols.
 abbrev pub has_whole_tables : Flavor → List MemberRead → Bool
 has_whole_tables Msvc members = has_one piece.OfDescriptor members && (has_one piece.OfNullDescriptor members && has_one piece.OfNullThunk members)
 has_whole_tables Gnu members = has_one piece.OfHead members && has_one piece.OfTail members
 
--- Whether a library works: given whether an index or a short import misleads, whether a member may import what is not
--- read, of how many DLLs the imports are, and whether the tables of one are whole. Of two DLLs the tables are not told
--- apart.
+-- Whether a library works: given whether an index or a short import misleads, whether a member may
+-- import what is not read, of how many DLLs the imports are, and whether the tables of one are
+-- whole. Of two DLLs the tables are not told apart.
 abbrev pub works_of : Bool → Bool → ℕ → Bool → Working
 works_of misleads unread dlls whole =
     if misleads then Broken else if unread then NotDecided else if dlls == 0 then Works

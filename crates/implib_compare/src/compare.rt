@@ -1,7 +1,9 @@
 //! Whether two libraries mean the same.
 
 ghost use Rattle.std.specs.Prelude.{◌≡◌, ◌||◌, map, IfOk};
-ghost use Rattle.implib_compare.specs.Comparison.{Means, differing, has_other, has_unread, is_other, is_some_set, is_unread, verdict, verdict_of};
+ghost use Rattle.implib_compare.specs.Comparison.{Means, differing, has_other, has_unread};
+ghost use Rattle.implib_compare.specs.Comparison.{is_other, is_some_set, is_unread, verdict};
+ghost use Rattle.implib_compare.specs.Comparison.{verdict_of};
 ghost use Rattle.implib_compare.specs.Facts.{both_tell};
 ghost use Rattle.implib_read.specs.ClassViews.{class_view, member_read_view};
 
@@ -104,14 +106,18 @@ fn verdict_of(unread: bool, different: bool, other: bool) -> Verdict
 
 // Whether one of two libraries has a member that may import what is not read.
 fn either_unread(left: &[MemberRead], right: &[MemberRead]) -> bool
-    ensures { result ≡ (has_unread (map member_read_view left.now) || has_unread (map member_read_view right.now)) }
+    ensures { result
+        ≡ (has_unread (map member_read_view left.now) || has_unread
+        (map member_read_view right.now)) }
 {
     has_unread(left) || has_unread(right)
 }
 
 // Whether one of two libraries has an object that is no part of imports.
 fn either_other(left: &[MemberRead], right: &[MemberRead]) -> bool
-    ensures { result ≡ (has_other (map member_read_view left.now) || has_other (map member_read_view right.now)) }
+    ensures { result
+        ≡ (has_other (map member_read_view left.now) || has_other
+        (map member_read_view right.now)) }
 {
     has_other(left) || has_other(right)
 }
@@ -130,8 +136,12 @@ fn verdict_on(
     left_flags: &[bool],
     right_flags: &[bool],
 ) -> Verdict
-    requires left { left_flags.now ≡ differing (both_tell (map member_read_view left.now) (map member_read_view right.now)) (map member_read_view left.now) (map member_read_view right.now) }
-    requires right { right_flags.now ≡ differing (both_tell (map member_read_view left.now) (map member_read_view right.now)) (map member_read_view right.now) (map member_read_view left.now) }
+    requires left { left_flags.now
+        ≡ differing (both_tell (map member_read_view left.now) (map member_read_view right.now))
+        (map member_read_view left.now) (map member_read_view right.now) }
+    requires right { right_flags.now
+        ≡ differing (both_tell (map member_read_view left.now) (map member_read_view right.now))
+        (map member_read_view right.now) (map member_read_view left.now) }
     ensures { result ≡ verdict (map member_read_view left.now) (map member_read_view right.now) }
 {
     let unread = either_unread(left, right);
@@ -139,17 +149,26 @@ fn verdict_on(
     verdict_of(unread, different, either_other(left, right))
 }
 
-/// Compares the imports and aliases of two libraries, whoever made them. The order of members does not count, and of
-/// equal ones those count that have no partner left in the other library.
+/// Compares the imports and aliases of two libraries, whoever made them. The order of members does
+/// not count, and of equal ones those count that have no partner left in the other library.
 pub fn compare(
     alloc: Global,
     left: &[MemberRead],
     right: &[MemberRead],
 ) -> Result<Comparison, AllocError>
-    ensures left { IfOk result (λ c. c.left.items ≡ differing (both_tell (map member_read_view left.now) (map member_read_view right.now)) (map member_read_view left.now) (map member_read_view right.now)) }
-    ensures right { IfOk result (λ c. c.right.items ≡ differing (both_tell (map member_read_view left.now) (map member_read_view right.now)) (map member_read_view right.now) (map member_read_view left.now)) }
-    ensures verdict { IfOk result (λ c. c.verdict ≡ verdict (map member_read_view left.now) (map member_read_view right.now)) }
-    ensures means { IfOk result (λ c. Means c.verdict (map member_read_view left.now) (map member_read_view right.now)) }
+    ensures left { IfOk result
+        (λ c. c.left.items
+        ≡ differing (both_tell (map member_read_view left.now) (map member_read_view right.now))
+        (map member_read_view left.now) (map member_read_view right.now)) }
+    ensures right { IfOk result
+        (λ c. c.right.items
+        ≡ differing (both_tell (map member_read_view left.now) (map member_read_view right.now))
+        (map member_read_view right.now) (map member_read_view left.now)) }
+    ensures verdict { IfOk result
+        (λ c. c.verdict
+        ≡ verdict (map member_read_view left.now) (map member_read_view right.now)) }
+    ensures means { IfOk result
+        (λ c. Means c.verdict (map member_read_view left.now) (map member_read_view right.now)) }
 {
     let told = both_tell(left, right);
     let left_keys = keys_of(alloc, told, left)?;

@@ -4,10 +4,13 @@ ghost use Rattle.std.specs.Prelude.{◌≡◌, ◌++◌, ◌∷◌, [], ◌&&◌
 ghost use Rattle.std.specs.Char.{to_ascii_lowercase};
 ghost use Rattle.std.specs.List.{flat_map, list_any};
 ghost use Rattle.std.specs.Option.{option_map, option_map_or};
-ghost use Rattle.implib_compare.specs.Facts.{asked_by, asked_key, both_tell, bytes_key, fact_key, has_untold, import_fact, is_untold};
+ghost use Rattle.implib_compare.specs.Facts.{asked_by, asked_key, both_tell, bytes_key, fact_key};
+ghost use Rattle.implib_compare.specs.Facts.{has_untold, import_fact, is_untold};
 ghost use Rattle.implib_compare.specs.Facts.{addresses_first, is_wanted, listed_if};
-ghost use Rattle.implib_compare.specs.Facts.{keys_of, kind_compared, kind_number, listed_key, member_key, number_key};
-ghost use Rattle.implib_compare.specs.Facts.{tells_constants, text_key, texts_key, Imports, Aliases};
+ghost use Rattle.implib_compare.specs.Facts.{keys_of, kind_compared, kind_number, listed_key};
+ghost use Rattle.implib_compare.specs.Facts.{member_key, number_key};
+ghost use Rattle.implib_compare.specs.Facts.{tells_constants, text_key, texts_key, Imports};
+ghost use Rattle.implib_compare.specs.Facts.{Aliases};
 ghost use Rattle.implib.specs.Import.{import_symbols};
 ghost use Rattle.implib_read.specs.AliasViews.{alias_view};
 ghost use Rattle.implib_read.specs.ClassViews.{class_view, imported_view, member_read_view};
@@ -40,7 +43,8 @@ fn push_bytes(key: &mut Vec<u8>, text: &[u8]) -> Result<(), AllocError>
 
 // Adds the bytes of a text, in small letters.
 fn push_lowered(key: &mut Vec<u8>, text: &[u8]) -> Result<(), AllocError>
-    ensures { OnOk result (key.new.items ≡ key.old.items ++ bytes_key (map to_ascii_lowercase text.now)) }
+    ensures { OnOk result
+        (key.new.items ≡ key.old.items ++ bytes_key (map to_ascii_lowercase text.now)) }
 {
     for byte in text {
         push_byte(key, byte.to_ascii_lowercase())?;
@@ -59,7 +63,8 @@ pub fn push_text(key: &mut Vec<u8>, text: &[u8]) -> Result<(), AllocError>
 
 /// Appends a DLL's name to a key, in small letters.
 pub fn push_dll(key: &mut Vec<u8>, dll: &[u8]) -> Result<(), AllocError>
-    ensures { OnOk result (key.new.items ≡ key.old.items ++ text_key (map to_ascii_lowercase dll.now)) }
+    ensures { OnOk result
+        (key.new.items ≡ key.old.items ++ text_key (map to_ascii_lowercase dll.now)) }
 {
     push_lowered(key, dll)?;
     key.push(0)?;
@@ -94,7 +99,9 @@ fn push_if(key: &mut Vec<u8>, wanted: bool, text: &[u8]) -> Result<(), AllocErro
 
 // Adds the texts of a list that are of addresses, or those that are not, without its end.
 fn push_texts(key: &mut Vec<u8>, wanted: bool, texts: &[&[u8]]) -> Result<(), AllocError>
-    ensures { OnOk result (key.new.items ≡ key.old.items ++ flat_map (listed_if wanted) (map (λ t. t.now) texts.now)) }
+    ensures { OnOk result
+        (key.new.items ≡ key.old.items
+        ++ flat_map (listed_if wanted) (map (λ t. t.now) texts.now)) }
 {
     for text in texts {
         push_if(key, wanted, text)?;
@@ -102,9 +109,12 @@ fn push_texts(key: &mut Vec<u8>, wanted: bool, texts: &[&[u8]]) -> Result<(), Al
     Ok(())
 }
 
-// Adds the texts of a list that are of addresses, or those that are not, without its end, of texts that are held.
+// Adds the texts of a list that are of addresses, or those that are not, without its end, of texts
+// that are held.
 fn push_held(key: &mut Vec<u8>, wanted: bool, texts: &[Vec<u8>]) -> Result<(), AllocError>
-    ensures { OnOk result (key.new.items ≡ key.old.items ++ flat_map (listed_if wanted) (map (λ t. t.items) texts.now)) }
+    ensures { OnOk result
+        (key.new.items ≡ key.old.items
+        ++ flat_map (listed_if wanted) (map (λ t. t.items) texts.now)) }
 {
     for text in texts {
         push_if(key, wanted, text)?;
@@ -114,7 +124,8 @@ fn push_held(key: &mut Vec<u8>, wanted: bool, texts: &[Vec<u8>]) -> Result<(), A
 
 // Adds the symbols of a short import, without the end of the list.
 fn push_symbols(key: &mut Vec<u8>, symbol: &[u8], is_data: bool) -> Result<(), AllocError>
-    ensures { OnOk result (key.new.items ≡ key.old.items ++ flat_map listed_key (import_symbols is_data symbol.now)) }
+    ensures { OnOk result
+        (key.new.items ≡ key.old.items ++ flat_map listed_key (import_symbols is_data symbol.now)) }
 {
     push_parts(key, b"__imp_", symbol)?;
     if is_data {
@@ -156,7 +167,8 @@ fn push_number(key: &mut Vec<u8>, number: u16) -> Result<(), AllocError>
 
 /// Appends what is asked for to a key.
 pub fn push_asked(key: &mut Vec<u8>, ask: AskFound) -> Result<(), AllocError>
-    ensures { OnOk result (key.new.items ≡ key.old.items ++ asked_key (asked_by (ask_view ask.entry))) }
+    ensures { OnOk result
+        (key.new.items ≡ key.old.items ++ asked_key (asked_by (ask_view ask.entry))) }
 {
     match ask {
         AskFound::Ordinal(ordinal) => {
@@ -185,7 +197,8 @@ fn kind_number(told: bool, kind: ImportKind) -> u8
 
 // The key of an import.
 fn import_key(alloc: Global, told: bool, import: &ImportFound) -> Result<Vec<u8>, AllocError>
-    ensures { IfOk result (λ key. key.items ≡ fact_key (Imports (import_fact told (imported_view import.now)))) }
+    ensures { IfOk result
+        (λ key. key.items ≡ fact_key (Imports (import_fact told (imported_view import.now)))) }
 {
     let mut key = Vec::new(alloc);
     key.push(1)?;
@@ -227,14 +240,16 @@ fn member_key(alloc: Global, told: bool, class: &MemberClass) -> Result<Vec<u8>,
     }
 }
 
-/// The keys of the members of a library, in order: equal for equal imports or aliases, and empty for a member that is
-/// neither. `told` says whether each import of both libraries tells CONSTANT from code.
+/// The keys of the members of a library, in order: equal for equal imports or aliases, and empty
+/// for a member that is neither. `told` says whether each import of both libraries tells CONSTANT
+/// from code.
 pub fn keys_of(
     alloc: Global,
     told: bool,
     members: &[MemberRead],
 ) -> Result<Vec<Vec<u8>>, AllocError>
-    ensures { IfOk result (λ keys. map (λ key. key.items) keys.items ≡ keys_of told (map member_read_view members.now)) }
+    ensures { IfOk result (λ keys. map (λ key. key.items) keys.items
+        ≡ keys_of told (map member_read_view members.now)) }
 {
     let mut keys = Vec::with_capacity(alloc, members.len())?;
     for member in members {

@@ -1,11 +1,12 @@
-//! Whether two import libraries mean the same, whether a library means what a definition means, and whether a library
-//! works.
+//! Whether two import libraries mean the same, whether a library means what a definition means, and
+//! whether a library works.
 //!
-//! [`compare`](compare::compare) says of each member of two libraries, of any maker, whether the other one has what it
-//! says, and gives the verdict; members are compared by their keys ([`keys`], [`partners`]).
-//! [`library_meant`](meant::library_meant) makes the library of a definition, which is then read as any other.
-//! Whether the indexes of a library lead where they ought to, and its import tables are whole, is in [`working`], and
-//! for which linker a library is in [`flavor`]. [`laws`] has what is worked by hand, and that a key tells what it is of.
+//! [`compare`](compare::compare) says of each member of two libraries, of any maker, whether the
+//! other one has what it says, and gives the verdict; members are compared by their keys ([`keys`],
+//! [`partners`]). [`library_meant`](meant::library_meant) makes the library of a definition, which
+//! is then read as any other. Whether the indexes of a library lead where they ought to, and its
+//! import tables are whole, is in [`working`], and for which linker a library is in [`flavor`].
+//! [`laws`] has what is worked by hand, and that a key tells what it is of.
 #![tactic(auto)]
 
 pub mod compare;

@@ -2,7 +2,8 @@
 
 ghost use Rattle.std.specs.Option.{option_map};
 ghost use Rattle.std.specs.Prelude.{◌≡◌, IfErr, IfOk, true};
-ghost use Rattle.implib_compare.specs.Meant.{IsArm64ecFile, IsArm64ecFault, IsLibraryFor, IsRefusalFor};
+ghost use Rattle.implib_compare.specs.Meant.{IsArm64ecFile, IsArm64ecFault, IsLibraryFor};
+ghost use Rattle.implib_compare.specs.Meant.{IsRefusalFor};
 ghost use Rattle.implib_rules.specs.Library.{IsLibrary, IsRefusalOfBytes};
 ghost use Rattle.implib_rules.specs.Older.{IsLibraryAsked, IsRefusalOfBytesAsked};
 ghost use Rattle.implib_rules.specs.Options.{library_options_view};
@@ -12,7 +13,8 @@ use implib_rules::library::{LibraryError, Refusal, archive_for, members_asked, w
 use implib_rules::options::LibraryOptions;
 use std::alloc::Global;
 
-/// The library of a definition, as `implib_dlltool` makes it with these options: what the definition means.
+/// The library of a definition, as `implib_dlltool` makes it with these options: what the
+/// definition means.
 ///
 /// # Errors
 ///
@@ -22,8 +24,10 @@ pub fn library_meant(
     definition: &[u8],
     options: &LibraryOptions,
 ) -> Result<Vec<u8>, Refusal>
-    ensures library { IfOk result (λ file. IsLibrary definition.now (library_options_view options.now) file.items) }
-    ensures refused { IfErr result (IsRefusalOfBytes definition.now (library_options_view options.now)) }
+    ensures library { IfOk result
+        (λ file. IsLibrary definition.now (library_options_view options.now) file.items) }
+    ensures refused { IfErr result
+        (IsRefusalOfBytes definition.now (library_options_view options.now)) }
 {
     let mut file = Vec::new(alloc);
     match write_library(alloc, definition, options, &mut file) {
@@ -39,16 +43,18 @@ fn library_with_older_symbols(
     definition: &[u8],
     options: &LibraryOptions,
 ) -> Result<Vec<u8>, Refusal>
-    ensures library { IfOk result (λ file. IsLibraryAsked true definition.now (library_options_view options.now) file.items) }
-    ensures refused { IfErr result (IsRefusalOfBytesAsked true definition.now (library_options_view options.now)) }
+    ensures library { IfOk result
+        (λ file. IsLibraryAsked true definition.now (library_options_view options.now) file.items) }
+    ensures refused { IfErr result
+        (IsRefusalOfBytesAsked true definition.now (library_options_view options.now)) }
 {
     let members = members_asked(alloc, definition, options, true)?;
     let archive = archive_for(alloc, &members, options.flavor)?;
     Ok(archive.to_vec(alloc)?)
 }
 
-/// The library of a definition, as `implib_dlltool` makes it with these options, with the older symbols of addresses
-/// (`-C`) or without. Microsoft's flavour has none.
+/// The library of a definition, as `implib_dlltool` makes it with these options, with the older
+/// symbols of addresses (`-C`) or without. Microsoft's flavour has none.
 ///
 /// # Errors
 ///
@@ -59,8 +65,11 @@ pub fn library_for(
     options: &LibraryOptions,
     older_symbols: bool,
 ) -> Result<Vec<u8>, Refusal>
-    ensures library { IfOk result (λ file. IsLibraryFor older_symbols definition.now (library_options_view options.now) file.items) }
-    ensures refused { IfErr result (IsRefusalFor older_symbols definition.now (library_options_view options.now)) }
+    ensures library { IfOk result
+        (λ file. IsLibraryFor older_symbols definition.now (library_options_view options.now)
+        file.items) }
+    ensures refused { IfErr result
+        (IsRefusalFor older_symbols definition.now (library_options_view options.now)) }
 {
     if older_symbols {
         library_with_older_symbols(alloc, definition, options)
@@ -78,8 +87,8 @@ pub enum Arm64ecFault {
     OfArchive(Refusal),
 }
 
-/// The library for ARM64EC of a definition, and of a native one, as `implib_dlltool` makes it with these options. Their
-/// machine and flavour are of no effect.
+/// The library for ARM64EC of a definition, and of a native one, as `implib_dlltool` makes it with
+/// these options. Their machine and flavour are of no effect.
 ///
 /// # Errors
 ///
@@ -90,8 +99,12 @@ pub fn arm64ec_file_for(
     native: Option<&[u8]>,
     options: &LibraryOptions,
 ) -> Result<Vec<u8>, Arm64ecFault>
-    ensures library { IfOk result (λ file. IsArm64ecFile definition.now (option_map (λ text. text.now) native.entry) (library_options_view options.now) file.items) }
-    ensures refused { IfErr result (IsArm64ecFault definition.now (option_map (λ text. text.now) native.entry) (library_options_view options.now)) }
+    ensures library { IfOk result
+        (λ file. IsArm64ecFile definition.now (option_map (λ text. text.now) native.entry)
+        (library_options_view options.now) file.items) }
+    ensures refused { IfErr result
+        (IsArm64ecFault definition.now (option_map (λ text. text.now) native.entry)
+        (library_options_view options.now)) }
 {
     let library = match arm64ec_library_for(alloc, definition, native, options) {
         Ok(library) => library,

@@ -3,8 +3,13 @@
 ghost use Rattle.std.specs.Prelude.{◌≡◌, ◌==◌, false, length, map, IfOk, OnOk};
 ghost use Rattle.std.specs.Option.{option_map, option_map_or};
 ghost use Rattle.implib_compare.specs.Flavors.{flavor_of};
-ghost use Rattle.implib_compare.specs.Working.{both_work, ec_found, ec_misleads, first_entries, first_found, first_misleads, has_one, has_whole_tables, is_linker, is_piece, is_some_cut, linked_members, linker_member, misleading};
-ghost use Rattle.implib_compare.specs.Working.{misled, misled_by, second_found, second_misleads, second_offsets, some_misled, with_first, with_offset, working_of, working_status, works_of};
+ghost use Rattle.implib_compare.specs.Working.{both_work, ec_found, ec_misleads, first_entries};
+ghost use Rattle.implib_compare.specs.Working.{first_found, first_misleads, has_one};
+ghost use Rattle.implib_compare.specs.Working.{has_whole_tables, is_linker, is_piece, is_some_cut};
+ghost use Rattle.implib_compare.specs.Working.{linked_members, linker_member, misleading};
+ghost use Rattle.implib_compare.specs.Working.{misled, misled_by, second_found, second_misleads};
+ghost use Rattle.implib_compare.specs.Working.{second_offsets, some_misled, with_first};
+ghost use Rattle.implib_compare.specs.Working.{with_offset, working_of, working_status, works_of};
 ghost use Rattle.implib_read.specs.ArchiveViews.{archive_view, member_view, part_view};
 ghost use Rattle.implib_read.specs.ClassViews.{class_view, member_read_view};
 ghost use Rattle.implib_read.specs.Cutting.{cut_apart};
@@ -41,17 +46,18 @@ pub enum Piece {
 /// Whether a library works.
 #[derive(Clone, Copy, Debug)]
 pub enum Working {
-    /// Its indexes lead where they ought to, linkers ask for the same by each short import, and its import tables are
-    /// whole.
+    /// Its indexes lead where they ought to, linkers ask for the same by each short import, and its
+    /// import tables are whole.
     Works,
-    /// An index misleads or is not there, linkers ask for different names by a short import, or a part of the import
-    /// tables is not there once.
+    /// An index misleads or is not there, linkers ask for different names by a short import, or a
+    /// part of the import tables is not there once.
     Broken,
     /// A member may matter that is not read, or the imports are of two or more DLLs.
     NotDecided,
 }
 
-/// What is found of a linker member: the entries by which a linker is misled, or `None` where its counts lead out of it.
+/// What is found of a linker member: the entries by which a linker is misled, or `None` where its
+/// counts lead out of it.
 pub type IndexFound<'a> = Option<Vec<IndexEntry<'a>>>;
 
 /// What decides whether a library works.
@@ -86,7 +92,8 @@ fn is_linker(name: &MemberName) -> bool
 
 /// The data of the linker member that comes after a number of others.
 pub fn linker_member<'a>(skipped: usize, parts: &[Part<'a>]) -> Option<&'a [u8]>
-    ensures { option_map (λ contents. contents.now) result ≡ linker_member skipped (map part_view parts.now) }
+    ensures { option_map (λ contents. contents.now) result ≡ linker_member skipped
+        (map part_view parts.now) }
 {
     let mut skipped = skipped;
     for part in parts {
@@ -106,9 +113,12 @@ fn add_first<'a>(
     entries: &mut Vec<IndexEntry<'a>>,
     entry: &IndexEntry<'a>,
 ) -> Result<(), AllocError>
-    requires { map (λ k. k.now) symbols.old.keys ≡ map (λ e. e.symbol) (map index_entry_view entries.old.items) }
-    ensures symbols { OnOk result (map (λ k. k.now) symbols.new.keys ≡ map (λ e. e.symbol) (map index_entry_view entries.new.items)) }
-    ensures entries { OnOk result (map index_entry_view entries.new.items ≡ with_first (map index_entry_view entries.old.items) (index_entry_view entry.now)) }
+    requires { map (λ k. k.now) symbols.old.keys ≡ map (λ e. e.symbol)
+        (map index_entry_view entries.old.items) }
+    ensures symbols { OnOk result (map (λ k. k.now) symbols.new.keys
+        ≡ map (λ e. e.symbol) (map index_entry_view entries.new.items)) }
+    ensures entries { OnOk result (map index_entry_view entries.new.items
+        ≡ with_first (map index_entry_view entries.old.items) (index_entry_view entry.now)) }
 {
     if !symbols.insert(entry.symbol)? {
         return Ok(());
@@ -122,7 +132,8 @@ fn first_entries<'a>(
     alloc: Global,
     entries: &[IndexEntry<'a>],
 ) -> Result<Vec<IndexEntry<'a>>, AllocError>
-    ensures { IfOk result (λ v. map index_entry_view v.items ≡ first_entries (map index_entry_view entries.now)) }
+    ensures { IfOk result (λ v. map index_entry_view v.items
+        ≡ first_entries (map index_entry_view entries.now)) }
 {
     let mut symbols = IndexSet::new(alloc);
     let mut firsts = Vec::new(alloc);
@@ -138,20 +149,23 @@ fn misleading<'a>(
     members: &[StoredMember<'a>],
     entries: &[IndexEntry<'a>],
 ) -> Result<Vec<IndexEntry<'a>>, AllocError>
-    ensures { IfOk result (λ v. map index_entry_view v.items ≡ misleading (map member_view members.now) (map index_entry_view entries.now)) }
+    ensures { IfOk result (λ v. map index_entry_view v.items
+        ≡ misleading (map member_view members.now) (map index_entry_view entries.now)) }
 {
     let firsts = first_entries(alloc, entries)?;
     wrong_entries(alloc, members, &firsts)
 }
 
-/// The entries of a first linker member by which a linker is misled: of each symbol the first, if it does not lead to
-/// the first member that declares the symbol; or `None` where its counts lead out of it.
+/// The entries of a first linker member by which a linker is misled: of each symbol the first, if
+/// it does not lead to the first member that declares the symbol; or `None` where its counts lead
+/// out of it.
 pub fn first_misleads<'a>(
     alloc: Global,
     members: &[StoredMember<'a>],
     contents: &'a [u8],
 ) -> Result<Option<Vec<IndexEntry<'a>>>, AllocError>
-    ensures { IfOk result (λ found. option_map (λ v. map index_entry_view v.items) found ≡ first_misleads (map member_view members.now) contents.now) }
+    ensures { IfOk result (λ found. option_map (λ v. map index_entry_view v.items) found
+        ≡ first_misleads (map member_view members.now) contents.now) }
 {
     let entries = IndexEntry::read_first(alloc, contents)?;
     match entries {
@@ -162,7 +176,8 @@ pub fn first_misleads<'a>(
 
 // An entry of a second linker member with the offset that its number has.
 fn with_offset<'a>(index: &SecondIndex<'a>, entry: &IndexEntry<'a>) -> IndexEntry<'a>
-    ensures { index_entry_view result ≡ with_offset (second_index_view index.now).offsets (index_entry_view entry.now) }
+    ensures { index_entry_view result ≡ with_offset (second_index_view index.now).offsets
+        (index_entry_view entry.now) }
 {
     let place = match index.offset(entry.place) {
         Some(offset) => offset,
@@ -179,7 +194,9 @@ fn with_offsets<'a>(
     alloc: Global,
     index: &SecondIndex<'a>,
 ) -> Result<Vec<IndexEntry<'a>>, AllocError>
-    ensures { IfOk result (λ v. map index_entry_view v.items ≡ map (with_offset (second_index_view index.now).offsets) (second_index_view index.now).entries) }
+    ensures { IfOk result (λ v. map index_entry_view v.items
+        ≡ map (with_offset (second_index_view index.now).offsets)
+        (second_index_view index.now).entries) }
 {
     let mut entries = Vec::with_capacity(alloc, index.entries.len())?;
     for entry in &index.entries {
@@ -194,7 +211,8 @@ pub fn second_misleads<'a>(
     members: &[StoredMember<'a>],
     contents: &'a [u8],
 ) -> Result<Option<Vec<IndexEntry<'a>>>, AllocError>
-    ensures { IfOk result (λ found. option_map (λ v. map index_entry_view v.items) found ≡ second_misleads (map member_view members.now) contents.now) }
+    ensures { IfOk result (λ found. option_map (λ v. map index_entry_view v.items) found
+        ≡ second_misleads (map member_view members.now) contents.now) }
 {
     let index = SecondIndex::read(alloc, contents)?;
     match index {
@@ -213,7 +231,8 @@ pub fn ec_misleads<'a>(
     offsets: &'a [u8],
     contents: &'a [u8],
 ) -> Result<Option<Vec<IndexEntry<'a>>>, AllocError>
-    ensures { IfOk result (λ found. option_map (λ v. map index_entry_view v.items) found ≡ ec_misleads (map member_view members.now) offsets.now contents.now) }
+    ensures { IfOk result (λ found. option_map (λ v. map index_entry_view v.items) found
+        ≡ ec_misleads (map member_view members.now) offsets.now contents.now) }
 {
     let entries = IndexEntry::read_ec(alloc, contents)?;
     match entries {
@@ -232,7 +251,8 @@ fn linked_members<'a>(
     alloc: Global,
     archive: &Archive<'a>,
 ) -> Result<Vec<StoredMember<'a>>, AllocError>
-    ensures { IfOk result (λ v. map member_view v.items ≡ linked_members (archive_view archive.now)) }
+    ensures { IfOk result
+        (λ v. map member_view v.items ≡ linked_members (archive_view archive.now)) }
 {
     if ec_index(&archive.parts).is_some() {
         return arm64_members(alloc, &archive.members);
@@ -249,7 +269,9 @@ fn first_found<'a>(
     members: &[StoredMember<'a>],
 ) -> Result<Option<IndexFound<'a>>, AllocError>
     requires { map member_view members.now ≡ linked_members (archive_view archive.now) }
-    ensures { IfOk result (λ found. option_map (option_map (λ v. map index_entry_view v.items)) found ≡ first_found (archive_view archive.now)) }
+    ensures { IfOk result
+        (λ found. option_map (option_map (λ v. map index_entry_view v.items)) found
+        ≡ first_found (archive_view archive.now)) }
 {
     match linker_member(0, &archive.parts) {
         Some(contents) => Ok(Some(first_misleads(alloc, members, contents)?)),
@@ -264,7 +286,9 @@ fn second_found<'a>(
     members: &[StoredMember<'a>],
 ) -> Result<Option<IndexFound<'a>>, AllocError>
     requires { map member_view members.now ≡ linked_members (archive_view archive.now) }
-    ensures { IfOk result (λ found. option_map (option_map (λ v. map index_entry_view v.items)) found ≡ second_found (archive_view archive.now)) }
+    ensures { IfOk result
+        (λ found. option_map (option_map (λ v. map index_entry_view v.items)) found
+        ≡ second_found (archive_view archive.now)) }
 {
     match linker_member(1, &archive.parts) {
         Some(contents) => Ok(Some(second_misleads(alloc, members, contents)?)),
@@ -288,7 +312,9 @@ fn second_offsets<'a>(alloc: Global, archive: &Archive<'a>) -> Result<&'a [u8], 
 
 // What is found of the EC index, if there is one.
 fn ec_found<'a>(alloc: Global, archive: &Archive<'a>) -> Result<Option<IndexFound<'a>>, AllocError>
-    ensures { IfOk result (λ found. option_map (option_map (λ v. map index_entry_view v.items)) found ≡ ec_found (archive_view archive.now)) }
+    ensures { IfOk result
+        (λ found. option_map (option_map (λ v. map index_entry_view v.items)) found
+        ≡ ec_found (archive_view archive.now)) }
 {
     let Some(contents) = ec_index(&archive.parts) else {
         return Ok(None);
@@ -309,7 +335,9 @@ fn misled_by(found: &IndexFound) -> bool
 
 // Whether a further index misleads, if there is one.
 fn misled_by_further(further: &Option<IndexFound>) -> bool
-    ensures { result ≡ option_map_or misled_by (option_map (option_map (λ v. map index_entry_view v.items)) further.now) false }
+    ensures { result
+        ≡ option_map_or misled_by
+        (option_map (option_map (λ v. map index_entry_view v.items)) further.now) false }
 {
     match further {
         Some(found) => misled_by(found),
@@ -319,7 +347,9 @@ fn misled_by_further(further: &Option<IndexFound>) -> bool
 
 // Whether the indexes mislead, given what is found of the first and of the second.
 fn misled(first: &Option<IndexFound>, second: &Option<IndexFound>) -> bool
-    ensures { result ≡ misled (option_map (option_map (λ v. map index_entry_view v.items)) first.now) (option_map (option_map (λ v. map index_entry_view v.items)) second.now) }
+    ensures { result
+        ≡ misled (option_map (option_map (λ v. map index_entry_view v.items)) first.now)
+        (option_map (option_map (λ v. map index_entry_view v.items)) second.now) }
 {
     match first {
         Some(found) => misled_by(found) || misled_by_further(second),
@@ -333,7 +363,10 @@ fn some_misled(
     second: &Option<IndexFound>,
     ec: &Option<IndexFound>,
 ) -> bool
-    ensures { result ≡ some_misled (option_map (option_map (λ v. map index_entry_view v.items)) first.now) (option_map (option_map (λ v. map index_entry_view v.items)) second.now) (option_map (option_map (λ v. map index_entry_view v.items)) ec.now) }
+    ensures { result
+        ≡ some_misled (option_map (option_map (λ v. map index_entry_view v.items)) first.now)
+        (option_map (option_map (λ v. map index_entry_view v.items)) second.now)
+        (option_map (option_map (λ v. map index_entry_view v.items)) ec.now) }
 {
     misled(first, second) || misled_by_further(ec)
 }
@@ -403,8 +436,9 @@ pub fn has_whole_tables(flavor: Flavor, members: &[MemberRead]) -> bool
     }
 }
 
-/// Whether a library works, given whether an index or a short import misleads, whether a member may import what is not
-/// read, of how many DLLs the imports are, and whether the tables of one are whole.
+/// Whether a library works, given whether an index or a short import misleads, whether a member may
+/// import what is not read, of how many DLLs the imports are, and whether the tables of one are
+/// whole.
 pub fn works_of(misleads: bool, unread: bool, dlls: usize, whole: bool) -> Working
     ensures { result ≡ works_of misleads unread dlls whole }
 {
@@ -427,14 +461,27 @@ pub fn works_of(misleads: bool, unread: bool, dlls: usize, whole: bool) -> Worki
 
 /// Whether a library works, and what decides it.
 pub fn examine<'a>(alloc: Global, library: &Library<'a>) -> Result<Examined<'a>, AllocError>
-    ensures first { IfOk result (λ e. option_map (option_map (λ v. map index_entry_view v.items)) e.first ≡ first_found (archive_view library.now.archive)) }
-    ensures second { IfOk result (λ e. option_map (option_map (λ v. map index_entry_view v.items)) e.second ≡ second_found (archive_view library.now.archive)) }
-    ensures ec { IfOk result (λ e. option_map (option_map (λ v. map index_entry_view v.items)) e.ec ≡ ec_found (archive_view library.now.archive)) }
-    ensures cut { IfOk result (λ e. map cut_apart_view e.cut.items ≡ cut_apart (archive_view library.now.archive).members) }
-    ensures flavor { IfOk result (λ e. e.flavor ≡ flavor_of (map member_read_view library.now.members.items)) }
-    ensures dlls { IfOk result (λ e. e.dlls ≡ length (dlls_of (map member_read_view library.now.members.items))) }
-    ensures whole { IfOk result (λ e. e.is_whole ≡ has_whole_tables e.flavor (map member_read_view library.now.members.items)) }
-    ensures working { IfOk result (λ e. e.working ≡ working_of (archive_view library.now.archive) (map member_read_view library.now.members.items)) }
+    ensures first { IfOk result
+        (λ e. option_map (option_map (λ v. map index_entry_view v.items)) e.first
+        ≡ first_found (archive_view library.now.archive)) }
+    ensures second { IfOk result
+        (λ e. option_map (option_map (λ v. map index_entry_view v.items)) e.second
+        ≡ second_found (archive_view library.now.archive)) }
+    ensures ec { IfOk result (λ e. option_map (option_map (λ v. map index_entry_view v.items)) e.ec
+        ≡ ec_found (archive_view library.now.archive)) }
+    ensures cut { IfOk result (λ e. map cut_apart_view e.cut.items
+        ≡ cut_apart (archive_view library.now.archive).members) }
+    ensures flavor { IfOk result
+        (λ e. e.flavor ≡ flavor_of (map member_read_view library.now.members.items)) }
+    ensures dlls { IfOk result
+        (λ e. e.dlls ≡ length (dlls_of (map member_read_view library.now.members.items))) }
+    ensures whole { IfOk result
+        (λ e. e.is_whole
+        ≡ has_whole_tables e.flavor (map member_read_view library.now.members.items)) }
+    ensures working { IfOk result
+        (λ e. e.working
+        ≡ working_of (archive_view library.now.archive)
+        (map member_read_view library.now.members.items)) }
 {
     let members = library.members.as_slice();
     let linked = linked_members(alloc, &library.archive)?;

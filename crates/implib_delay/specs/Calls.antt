@@ -2,10 +2,12 @@
 -- function, a later one to the function (Microsoft's x64 calling convention, and stdcall and
 -- fastcall on I386).
 use Rattle.std.specs.Prelude.{◌≡◌, ℕ, ◌+◌, ◌%◌, ◌≤◌, ◌<◌, true, List, [], ◌∷◌, Some}
-use Rattle.implib_delay.specs.Processor.{Mode, Bits64, Bits32, State, word_size, rax, rcx, rdx, rbx, rsp, rbp, rsi, rdi}
+use Rattle.implib_delay.specs.Processor.{Mode, Bits64, Bits32, State, word_size, rax, rcx, rdx, rbx}
+use Rattle.implib_delay.specs.Processor.{rsp, rbp, rsi, rdi}
 use Rattle.implib_delay.specs.Decoding.{fixed_address, relative, run}
 use Rattle.implib_delay.specs.Code.{Field, StubFields, field_number, linked_stub, linked_tail}
-use Rattle.implib_delay.specs.Code.{jump_field, entry_field, descriptor_field, tail_field, helper_field}
+use Rattle.implib_delay.specs.Code.{jump_field, entry_field, descriptor_field, tail_field}
+use Rattle.implib_delay.specs.Code.{helper_field}
 
 -- Where the code of a delayed function and what it speaks of lie in memory, and what is in the
 -- code's fields.

@@ -1,11 +1,14 @@
 -- How the instructions of `Processor` are decoded from bytes (AMD64 Architecture Programmer's
 -- Manual, volume 3, "Instruction Encoding"): a REX prefix, the opcode, the ModRM byte with its
 -- displacement, and numbers. Bytes that are none of these instructions are not decoded.
-use Rattle.std.specs.Prelude.{ℕ, zero, suc, ◌+◌, ◌*◌, ◌/◌, ◌%◌, ◌^◌, ◌==◌, nat_lt, ◌&&◌, List, [], ◌∷◌}
+use Rattle.std.specs.Prelude.{ℕ, zero, suc, ◌+◌, ◌*◌, ◌/◌, ◌%◌, ◌^◌, ◌==◌, nat_lt, ◌&&◌, List, []}
+use Rattle.std.specs.Prelude.{◌∷◌}
 use Rattle.std.specs.Prelude.{Option, None, Some, drop, length, if◌then◌else◌, ◌-◌}
 use Rattle.std.specs.Option.{option_and_then, option_map}
-use Rattle.implib_delay.specs.Processor.{Mode, Bits64, Bits32, Instruction, Move, Set, Store, Load, StoreVector, LoadVector}
-use Rattle.implib_delay.specs.Processor.{Add, Subtract, Push, PushNumber, PushWord, Pop, Call, Jump, JumpRegister, JumpWord}
+use Rattle.implib_delay.specs.Processor.{Mode, Bits64, Bits32, Instruction, Move, Set, Store, Load}
+use Rattle.implib_delay.specs.Processor.{StoreVector, LoadVector}
+use Rattle.implib_delay.specs.Processor.{Add, Subtract, Push, PushNumber, PushWord, Pop, Call, Jump}
+use Rattle.implib_delay.specs.Processor.{JumpRegister, JumpWord}
 use Rattle.implib_delay.specs.Processor.{State, Next, Leave, step, rsp}
 
 -- an instruction, and the number of its bytes

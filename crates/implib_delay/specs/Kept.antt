@@ -1,5 +1,6 @@
 -- Views of delayed exports that are kept as what their objects say. No promise cites them.
-use Rattle.std.specs.Prelude.{◌≡◌, ℕ, ◌≤◌, List, [], ◌∷◌, ◌++◌, None, drop, map, string_bytes, Result, IfOk, OnOk, false, true}
+use Rattle.std.specs.Prelude.{◌≡◌, ℕ, ◌≤◌, List, [], ◌∷◌, ◌++◌, None, drop, map, string_bytes}
+use Rattle.std.specs.Prelude.{Result, IfOk, OnOk, false, true}
 use Rattle.std.specs.List.{AllByRecursion, list_any}
 use Rattle.std.specs.Option.{option_map}
 use Rattle.implib.specs.declared.error.Error.{Error}
@@ -69,7 +70,8 @@ pub record IsKept (machine : MachineType) (linked : List ℕ) (k : KeptExport) :
   pub sized : k.size ≡ encoded_size (layout_of (export_object machine linked (kept_export k)))
   pub short : k.size ≤ 0xFFFF_FFFF
 
--- what holds of all that is kept for a library of this name, with the symbols of its head and its tail
+-- what holds of all that is kept for a library of this name, with the symbols of its head and its
+-- tail
 pub record AreKept (machine : MachineType) (linked tail dll_name handle : List ℕ) (exports : List KeptExport)
     : Type 0 where
   pub tail_is : tail ≡ tail_symbol machine linked
@@ -78,7 +80,8 @@ pub record AreKept (machine : MachineType) (linked tail dll_name handle : List �
   pub free : holds 0 linked ≡ false
   pub each : AllByRecursion (IsKept machine linked) exports
 
--- the specified members are put after those that are kept; they are refused only where one is too long
+-- the specified members are put after those that are kept; they are refused only where one is too
+-- long
 pub record KeepsExports (specs : List MemberSpec) (old new : DelayedExportsView) (result : Result (Unit {0}) Error)
     : Type 0 where
   pub ok : OnOk result (new ≡ record old { members = old.members ++ map member_of specs })

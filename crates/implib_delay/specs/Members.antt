@@ -1,5 +1,6 @@
 -- The members of a library of delayed imports, each specified before it is encoded.
-use Rattle.std.specs.Prelude.{◌≡◌, ℕ, ◌+◌, true, List, [], ◌∷◌, ◌++◌, map, Option, Some, None, if◌then◌else◌}
+use Rattle.std.specs.Prelude.{◌≡◌, ℕ, ◌+◌, true, List, [], ◌∷◌, ◌++◌, map, Option, Some, None}
+use Rattle.std.specs.Prelude.{if◌then◌else◌}
 use Rattle.std.specs.List.{list_all, list_any}
 use Rattle.implib.specs.declared.machine.MachineType.{MachineType}
 use Rattle.implib.specs.Definition.{DefinitionView, ExportView}
@@ -9,7 +10,8 @@ use Rattle.implib.specs.Import.{imp_symbol, public_exports}
 use Rattle.implib.specs.LibraryName.{NamesOfDll, linked_name}
 use Rattle.implib.specs.Members.MemberSpec.{AnObject, MemberSpec, MemberView, member_of}
 use Rattle.implib.specs.Members.Members.{has_u16_ordinal, is_too_long}
-use Rattle.implib_delay.specs.Names.{export_name, handle_symbol, head_name, name_symbol, tail_name, tail_symbol}
+use Rattle.implib_delay.specs.Names.{export_name, handle_symbol, head_name, name_symbol, tail_name}
+use Rattle.implib_delay.specs.Names.{tail_symbol}
 use Rattle.implib_delay.specs.Objects.{export_object, head_object, tail_object}
 use Rattle.implib_delay.specs.Refusal.{DelayCause, OfNames, first_cause, input_refusal}
 

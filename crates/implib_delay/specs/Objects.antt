@@ -9,16 +9,20 @@ use Rattle.implib.specs.declared.coff.object.Place.TheVariants.{Undefined, Secti
 use Rattle.implib.specs.declared.coff.object.Relocation.{Relocation}
 use Rattle.implib.specs.declared.machine.MachineType.{MachineType}
 use Rattle.implib.specs.Definition.{ExportView}
-use Rattle.implib.specs.Formats.Constants.{align_16bytes, align_4bytes, class_external, class_static, cnt_code}
-use Rattle.implib.specs.Formats.Constants.{amd64_rel32, cnt_initialized_data, i386_dir32, mem_execute_read}
+use Rattle.implib.specs.Formats.Constants.{align_16bytes, align_4bytes, class_external}
+use Rattle.implib.specs.Formats.Constants.{class_static, cnt_code}
+use Rattle.implib.specs.Formats.Constants.{amd64_rel32, cnt_initialized_data, i386_dir32}
+use Rattle.implib.specs.Formats.Constants.{mem_execute_read}
 use Rattle.implib.specs.Formats.Object.{ObjectSection}
 use Rattle.implib.specs.Formats.Writer.{AddedSymbol, WriterState}
 use Rattle.implib.specs.Import.{imp_symbol}
 use Rattle.implib.specs.LibraryName.{NamesOfDll}
 use Rattle.implib.specs.Machine.{is_32bit}
 use Rattle.implib.specs.Members.Gnu.{added, data_name, hint_name, section, text_name, thunk}
-use Rattle.implib.specs.Members.ImportTables.{relocation, table_flags, thunk_flags, thunk_width, zeros}
-use Rattle.implib_delay.specs.Code.{descriptor_field, entry_field, helper_field, jump_field, stub_code, tail_code, tail_field}
+use Rattle.implib.specs.Members.ImportTables.{relocation, table_flags, thunk_flags, thunk_width}
+use Rattle.implib.specs.Members.ImportTables.{zeros}
+use Rattle.implib_delay.specs.Code.{descriptor_field, entry_field, helper_field, jump_field}
+use Rattle.implib_delay.specs.Code.{stub_code, tail_code, tail_field}
 use Rattle.implib_delay.specs.Names.{handle_symbol, helper_symbol, name_symbol, tail_symbol}
 use Rattle.implib_delay.specs.Processor.{Mode, Bits64, Bits32}
 

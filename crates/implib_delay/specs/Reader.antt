@@ -2,7 +2,8 @@
 -- and symbols, the fields of the descriptor and the relocations (mingw-w64, `delayimp.h`,
 -- "ImgDelayDescr"). The reader states the names of sections and the offsets of fields itself, and
 -- takes none from the tables.
-use Rattle.std.specs.Prelude.{◌≡◌, ℕ, Bool, false, ◌&&◌, ◌==◌, List, [], ◌∷◌, ◌++◌, map, take, bytes_eq, codes, Option, Some, None}
+use Rattle.std.specs.Prelude.{◌≡◌, ℕ, Bool, false, ◌&&◌, ◌==◌, List, [], ◌∷◌, ◌++◌, map, take}
+use Rattle.std.specs.Prelude.{bytes_eq, codes, Option, Some, None}
 use Rattle.std.specs.Prelude.{is_some, if◌then◌else◌}
 use Rattle.std.specs.List.{find}
 use Rattle.std.specs.Option.{option_and_then, option_map}
@@ -10,8 +11,10 @@ use Rattle.implib.specs.declared.machine.MachineType.{MachineType}
 use Rattle.implib.specs.Definition.{DefinitionView}
 use Rattle.implib.specs.Formats.Object.{Object, ObjectSection, before_nul, object_in, u32_at}
 use Rattle.implib.specs.Import.{Ask, Import, imports_of}
-use Rattle.implib.specs.Members.GnuReader.{ask_of_entry, externals_in, relocated_to, section_defining}
-use Rattle.implib.specs.Members.GnuReader.{section_named, section_of_symbol, symbol_at, text_section}
+use Rattle.implib.specs.Members.GnuReader.{ask_of_entry, externals_in, relocated_to}
+use Rattle.implib.specs.Members.GnuReader.{section_defining}
+use Rattle.implib.specs.Members.GnuReader.{section_named, section_of_symbol, symbol_at}
+use Rattle.implib.specs.Members.GnuReader.{text_section}
 use Rattle.implib.specs.Members.MemberSpec.{MemberView}
 
 -- the section of its own that an object's section is relocated to at an offset

@@ -1,5 +1,6 @@
 -- Which definitions have no delayed imports, and for which cause first.
-use Rattle.std.specs.Prelude.{ℕ, ◌+◌, ◌||◌, List, [], ◌∷◌, Option, Some, None, Result, IfErr, if◌then◌else◌}
+use Rattle.std.specs.Prelude.{ℕ, ◌+◌, ◌||◌, List, [], ◌∷◌, Option, Some, None, Result, IfErr}
+use Rattle.std.specs.Prelude.{if◌then◌else◌}
 use Rattle.std.specs.Option.{option_map}
 use Rattle.implib.specs.declared.error.Error.{Error}
 use Rattle.implib.specs.declared.error.Error.TheVariants as whole

@@ -1,12 +1,14 @@
 -- Delayed calls worked by hand: what premises hold of places and states, what does not, and what
 -- comes of code that is wrong.
-use Rattle.std.specs.Prelude.{◌≡◌, ℕ, ◌+◌, ◌==◌, nat_le, ◌||◌, true, false, List, [], ◌∷◌, Option, Some, if◌then◌else◌}
+use Rattle.std.specs.Prelude.{◌≡◌, ℕ, ◌+◌, ◌==◌, nat_le, ◌||◌, true, false, List, [], ◌∷◌, Option}
+use Rattle.std.specs.Prelude.{Some, if◌then◌else◌}
 use Rattle.std.specs.Option.{option_and_then, option_map}
 use Rattle.implib.specs.Worked.Digits.{hex}
 use Rattle.implib_delay.specs.Processor.{Mode, Bits64, Bits32, State, Vector, with_value}
 use Rattle.implib_delay.specs.Decoding.{Left, run}
 use Rattle.implib_delay.specs.Code.{linked_stub, linked_tail}
-use Rattle.implib_delay.specs.Calls.{Placement, FieldsLead, Begins, Answers, dropped_size, first_argument, second_argument}
+use Rattle.implib_delay.specs.Calls.{Placement, FieldsLead, Begins, Answers, dropped_size}
+use Rattle.implib_delay.specs.Calls.{first_argument, second_argument}
 use Rattle.implib_delay.specs.WorkedCode.{field, program64, library64, program32, library32}
 
 -- an xmm register of two numbers

@@ -1,12 +1,14 @@
 -- Readings of delayed imports worked by hand: of the objects of foo.dll, and of objects that are
 -- none.
-use Rattle.std.specs.Prelude.{◌≡◌, List, [], ◌∷◌, ◌++◌, Option, None, Some, ℕ, bytes_eq, codes, map, if◌then◌else◌}
+use Rattle.std.specs.Prelude.{◌≡◌, List, [], ◌∷◌, ◌++◌, Option, None, Some, ℕ, bytes_eq, codes, map}
+use Rattle.std.specs.Prelude.{if◌then◌else◌}
 use Rattle.implib.specs.Formats.Layout.{ObjectLayout, object_of}
 use Rattle.implib.specs.Formats.Object.{ObjectSection}
 use Rattle.implib.specs.Import.{Import, Name, Ordinal}
 use Rattle.implib.specs.Worked.Objects.{zeros}
 use Rattle.implib_delay.specs.Reader.{delayed_import}
-use Rattle.implib_delay.specs.WorkedObjects.{by_name32, by_name64, by_ordinal32, by_ordinal64, head32, head64, tail32, tail64}
+use Rattle.implib_delay.specs.WorkedObjects.{by_name32, by_name64, by_ordinal32, by_ordinal64}
+use Rattle.implib_delay.specs.WorkedObjects.{head32, head64, tail32, tail64}
 
 -- a section with other bytes, if it has this name
 abbrev pub other_bytes : List ℕ → List ℕ → ObjectSection → ObjectSection

@@ -1,6 +1,9 @@
 -- The words of a command line (this project's choice, after GNU dlltool's).
-use Rattle.std.specs.Prelude.{◌≡◌, ℕ, suc, ◌+◌, Bool, false, true, not, ◌||◌, ◌==◌, List, [], ◌∷◌, ◌++◌, length, drop, take, Option, None, Some, Result, Ok, Err, if◌then◌else◌, slice_index}
-use Rattle.std.specs.List.{after_first, before_first, filter_map, flat_map, fold, list_any, position_or_len, starts_with}
+use Rattle.std.specs.Prelude.{◌≡◌, ℕ, suc, ◌+◌, Bool, false, true, not, ◌||◌, ◌==◌, List, [], ◌∷◌}
+use Rattle.std.specs.Prelude.{◌++◌, length, drop, take, Option, None, Some, Result, Ok, Err}
+use Rattle.std.specs.Prelude.{if◌then◌else◌, slice_index}
+use Rattle.std.specs.List.{after_first, before_first, filter_map, flat_map, fold, list_any}
+use Rattle.std.specs.List.{position_or_len, starts_with}
 use Rattle.std.specs.Prelude.{codes, nat_eq, nat_lt}
 use Rattle.std.specs.Str.{byte}
 use Rattle.implib_driver.specs.declared.arguments.Before.{Before}
@@ -20,7 +23,8 @@ use Rattle.implib_driver.specs.declared.options.Meaning.TheVariants as meaning
 use Rattle.implib_driver.specs.declared.options.Setting.{Setting}
 use Rattle.implib_driver.specs.declared.options.Setting.TheVariants.{Input}
 use Rattle.implib_driver.specs.declared.options.Switch.{Switch}
-use Rattle.implib_driver.specs.Options.{is_same_setting, is_same_switch, option_lettered, option_named}
+use Rattle.implib_driver.specs.Options.{is_same_setting, is_same_switch, option_lettered}
+use Rattle.implib_driver.specs.Options.{option_named}
 
 -- what one word says, if it is not the value of the word before it
 pub data WordView : Type 0 where
@@ -88,8 +92,9 @@ is_a_switch _ = false
 abbrev pub is_switch_letter : ℕ → Bool
 is_switch_letter letter = is_a_switch (option_lettered letter)
 
--- How many options without a value come before the last option of letters: each letter is an option, up to one
--- that takes a value, whose value follows, or is none. For example, of `kvdX` they are two.
+-- How many options without a value come before the last option of letters: each letter is an
+-- option, up to one that takes a value, whose value follows, or is none. For example, of `kvdX`
+-- they are two.
 unfoldable pub switches_in : List ℕ → ℕ
 switches_in [] = 0
 switches_in (letter ∷ []) = 0
@@ -199,8 +204,8 @@ step_view (stage.Adds option) = Adds (occurrence_view option)
 step_view stage.Ends = Stops
 step_view (stage.Refuses fault) = Refuses (word_fault_view fault)
 
--- What a word is for that is no value. One that is no option is the file of a definition or of a DLL, but for `@FILE`,
--- as which GNU's programs take more options.
+-- What a word is for that is no value. One that is no option is the file of a definition or of a
+-- DLL, but for `@FILE`, as which GNU's programs take more options.
 abbrev pub first_step : WordView → List ℕ → StepView
 first_step (Takes setting) word = Waits setting
 first_step (Gives setting value) word = Adds (Given setting value)

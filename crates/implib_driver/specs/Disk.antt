@@ -1,5 +1,6 @@
 -- What is known of where definitions are read from and libraries go (this project's own).
-use Rattle.std.specs.Prelude.{◌≡◌, ℕ, Bool, true, List, Option, None, Some, IfSome, codes, if◌then◌else◌}
+use Rattle.std.specs.Prelude.{◌≡◌, ℕ, Bool, true, List, Option, None, Some, IfSome, codes}
+use Rattle.std.specs.Prelude.{if◌then◌else◌}
 use Rattle.std.specs.Str.{bytes_eq}
 
 -- what is known of a disk
@@ -31,8 +32,8 @@ removed disk = record disk { left = None }
 abbrev pub stuck : DiskView → DiskView
 stuck disk = record disk { is_stuck = true }
 
--- A new file took the place of the one that its path leads to, where bytes are known. Of other paths nothing is said:
--- links may lead there.
+-- A new file took the place of the one that its path leads to, where bytes are known. Of other
+-- paths nothing is said: links may lead there.
 pub record Replaces (known : Bool) (before after : DiskView) (file : Option (List ℕ)) : Type 0 where
   pub at_path : known ≡ true → IfSome before.left (λ path. after.seen path ≡ file)
   pub none_left : after.left ≡ None

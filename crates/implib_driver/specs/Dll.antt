@@ -1,5 +1,6 @@
 -- The library of a DLL (this project's own; docs/DLLTOOL.md, "From a DLL").
-use Rattle.std.specs.Prelude.{◌≡◌, ◌≢◌, ℕ, Bool, false, true, List, Option, None, Some, Ok, Err, codes, is_some, nat_eq}
+use Rattle.std.specs.Prelude.{◌≡◌, ◌≢◌, ℕ, Bool, false, true, List, Option, None, Some, Ok, Err}
+use Rattle.std.specs.Prelude.{codes, is_some, nat_eq}
 use Rattle.std.specs.List.{starts_with}
 use Rattle.implib.specs.declared.machine.MachineType.{MachineType}
 use Rattle.implib.specs.Conversions.{machine_numbered}
@@ -9,7 +10,12 @@ use Rattle.implib.specs.Members.MemberSpec.{MemberView}
 use Rattle.implib_dll.specs.declared.section.Layout.TheVariants.{File}
 use Rattle.implib_dll.specs.Exports.{Exports, exports_in}
 use Rattle.implib_driver.specs.declared.dll.DllRefusal.{DllRefusal}
-use Rattle.implib_driver.specs.declared.dll.DllRefusal.TheVariants.{Arm64ec, Read, NoExports, UnknownMachine, OtherMachine, OlderSymbols, Delayed, Undecorated, NameNotUtf8, Unsaid, NoName, Members, OutOfMemory}
+use Rattle.implib_driver.specs.declared.dll.DllRefusal.TheVariants.{Arm64ec, Read, NoExports}
+use Rattle.implib_driver.specs.declared.dll.DllRefusal.TheVariants.{UnknownMachine, OtherMachine}
+use Rattle.implib_driver.specs.declared.dll.DllRefusal.TheVariants.{OlderSymbols, Delayed}
+use Rattle.implib_driver.specs.declared.dll.DllRefusal.TheVariants.{Undecorated, NameNotUtf8}
+use Rattle.implib_driver.specs.declared.dll.DllRefusal.TheVariants.{Unsaid, NoName, Members}
+use Rattle.implib_driver.specs.declared.dll.DllRefusal.TheVariants.{OutOfMemory}
 use Rattle.implib_driver.specs.declared.dll.DllCallError.{DllCallError}
 use Rattle.implib_driver.specs.declared.dll.DllCallError.TheVariants.{Call, Dll}
 use Rattle.implib_driver.specs.Request.{Asked, CallFaultView, RequestView, call_fault_view}
@@ -41,7 +47,8 @@ abbrev pub can_decorate : MachineType → Option (List ℕ) → Bool
 can_decorate machine None = true
 can_decorate machine (Some path) = has_leading_underscore machine
 
--- neither older symbols nor a library of delayed imports are asked for, and symbols that count on I386 alone
+-- neither older symbols nor a library of delayed imports are asked for, and symbols that count on
+-- I386 alone
 pub record SuitsDll (request : RequestView) : Type 0 where
   pub ordinary : request.older_symbols ≡ false
   pub undelayed : request.delayed ≡ None
@@ -76,8 +83,8 @@ abbrev pub dll_status : DllRefusal → ℕ
 dll_status OutOfMemory = 3
 dll_status _ = 1
 
--- The request for a DLL: its machine is that of the file, whatever the program's name says, and the flavour
--- goes by it where none is named.
+-- The request for a DLL: its machine is that of the file, whatever the program's name says, and the
+-- flavour goes by it where none is named.
 pub record IsRequested (machines : MachineType → Asked RequestView) (e : Exports) (request : RequestView) : Type 0 where
   pub machine : MachineType
   pub numbered : machine_numbered e.machine ≡ Some machine
@@ -102,7 +109,8 @@ pub record NamesArm64ec (machines : MachineType → Asked RequestView) (e : Expo
   pub asked : machines machine ≡ Ok request
   pub is : is_some request.arm64ec ≡ true
 
--- why there is no such request: the number is of no machine, or the options name another, or ARM64EC
+-- why there is no such request: the number is of no machine, or the options name another, or
+-- ARM64EC
 abbrev pub IsUnrequested : (MachineType → Asked RequestView) → Exports → DllRefusal → Type 0
 IsUnrequested machines e (UnknownMachine number) = (number ≡ e.machine) × (machine_numbered e.machine ≡ None)
 IsUnrequested machines e OtherMachine = NamesAnother machines e
@@ -110,7 +118,8 @@ IsUnrequested machines e Arm64ec = NamesArm64ec machines e
 IsUnrequested machines e OutOfMemory = Unit {0}
 IsUnrequested machines e _ = ⊥
 
--- why a call asks for none: the options do not fit the machine of the DLL, or there is no such request
+-- why a call asks for none: the options do not fit the machine of the DLL, or there is no such
+-- request
 pub record MisfitsMachine (machines : MachineType → Asked RequestView) (e : Exports) (fault : CallFaultView) : Type 0 where
   pub machine : MachineType
   pub numbered : machine_numbered e.machine ≡ Some machine

@@ -1,5 +1,6 @@
 -- What is done with the bytes of a DLL (this project's own).
-use Rattle.std.specs.Prelude.{◌≡◌, ◌⊎◌, ℕ, Bool, true, false, List, [], ◌∷◌, Option, None, Some, IfSome, ◌&&◌, count_by, nat_lt}
+use Rattle.std.specs.Prelude.{◌≡◌, ◌⊎◌, ℕ, Bool, true, false, List, [], ◌∷◌, Option, None, Some}
+use Rattle.std.specs.Prelude.{IfSome, ◌&&◌, count_by, nat_lt}
 use Rattle.implib.specs.declared.machine.MachineType.{MachineType}
 use Rattle.implib.specs.Definition.{ExportView}
 use Rattle.implib.specs.Members.MemberSpec.{MemberView}
@@ -10,15 +11,18 @@ use Rattle.implib_driver.specs.declared.dll.DllRefusal.{DllRefusal}
 use Rattle.implib_driver.specs.declared.dll.DllRefusal.TheVariants.{OutOfMemory}
 use Rattle.implib_driver.specs.Arguments.{has_values}
 use Rattle.implib_driver.specs.Disk.{DiskView, failing}
-use Rattle.implib_driver.specs.Dll.{IsRefusalOfReading, IsRefusalOfRequest, IsRequested, IsUnlisted, IsUnmade, MembersOfDll, ReadsDll, SuitsDll, dll_status}
+use Rattle.implib_driver.specs.Dll.{IsRefusalOfReading, IsRefusalOfRequest, IsRequested, IsUnlisted}
+use Rattle.implib_driver.specs.Dll.{IsUnmade, MembersOfDll, ReadsDll, SuitsDll, dll_status}
 use Rattle.implib_driver.specs.Placing.{Answer, AnswersMembers}
-use Rattle.implib_driver.specs.Reports.{ComplaintView, Complains, Line, OfAstray, OfCall, OfDll, OfMissing, OfNoLibrary, OfStub, OfSystem, Refuses, Says}
+use Rattle.implib_driver.specs.Reports.{ComplaintView, Complains, Line, OfAstray, OfCall, OfDll}
+use Rattle.implib_driver.specs.Reports.{OfMissing, OfNoLibrary, OfStub, OfSystem, Refuses, Says}
 use Rattle.implib_driver.specs.Request.{Asked, RequestView, call_fault_view}
 use Rattle.implib_driver.specs.Search.{IsSearched}
 use Rattle.implib_driver.specs.Stubs.{has_failing_stub}
 use Rattle.implib_driver.specs.Verdicts.{answer_status, verdict}
 use Rattle.implib_dll_library.specs.declared.decorations.NotDecorations.{NotDecorations}
-use Rattle.implib_dll_library.specs.declared.decorations.NotDecorations.TheVariants.{NoLibrary, Text}
+use Rattle.implib_dll_library.specs.declared.decorations.NotDecorations.TheVariants.{NoLibrary}
+use Rattle.implib_dll_library.specs.declared.decorations.NotDecorations.TheVariants.{Text}
 use Rattle.implib_dll_library.specs.Decorated.{is_missing, with_symbols}
 use Rattle.implib_dll_library.specs.Decorations.{AreDecorations, DecorationView, HasNoDecorations}
 use Rattle.implib_from_dll.specs.Definition.{exports_of}
@@ -89,7 +93,8 @@ abbrev pub undecorated_status : NotDecorations → ℕ
 undecorated_status NoLibrary = 1
 undecorated_status (Text refusal) = status_of refusal
 
--- whether a number is said, as of functions that a file lacks, or of forwarders that lead to nothing
+-- whether a number is said, as of functions that a file lacks, or of forwarders that lead to
+-- nothing
 abbrev pub tells : RequestView → ℕ → Bool
 tells request count = request.is_verbose && nat_lt 0 count
 
@@ -98,8 +103,8 @@ abbrev pub SaysIf : Bool → List ℕ → ComplaintView → Option (List Line) �
 SaysIf false path complaint before after = after ≡ before
 SaysIf true path complaint before after = Says before after (Complains path complaint ∷ [])
 
--- The file has these symbols. How many functions it lacks was said, if warnings are asked for; then this was done with the
--- exports that have them.
+-- The file has these symbols. How many functions it lacks was said, if warnings are asked for; then
+-- this was done with the exports that have them.
 pub record HasSymbols (known : Bool) (e : Exports) (exports : List ExportView) (bytes path : List ℕ) (request : RequestView) (disk put : DiskView) (before after : Option (List Line)) (status : ℕ)
     : Type 0 where
   pub decorations : List DecorationView
@@ -136,8 +141,9 @@ FinishesListed known e exports None request disk put before after status = Finis
 FinishesListed known e exports (Some path) request disk put before after status =
     HasFile known e exports path request disk put before after status ⊎ HasUnreadFile path disk put before after status
 
--- The exports of a DLL are of the kinds that they have through those of the folders, and this number of them are forwarded to
--- nothing there. Then that was said, if warnings are asked for, and this was done with them.
+-- The exports of a DLL are of the kinds that they have through those of the folders, and this
+-- number of them are forwarded to nothing there. Then that was said, if warnings are asked for, and
+-- this was done with them.
 pub record HasSearched (known : Bool) (e : Exports) (request : RequestView) (disk put : DiskView) (before after : Option (List Line)) (status : ℕ) : Type 0 where
   pub exports : List ExportView
   pub astray : ℕ

@@ -1,6 +1,7 @@
--- The DLLs of a library, as `-I` names them (GNU dlltool's option), and its members, as LIB's `/list` does. What a library
--- imports, and what its members are, is said by `implib_read`.
-use Rattle.std.specs.Prelude.{◌≡◌, ℕ, ◌==◌, ◌&&◌, Bool, true, false, List, [], ◌∷◌, ◌++◌, Option, None, Some, Result, Ok, Err, if◌then◌else◌, length, map, nat_lt}
+-- The DLLs of a library, as `-I` names them (GNU dlltool's option), and its members, as LIB's
+-- `/list` does. What a library imports, and what its members are, is said by `implib_read`.
+use Rattle.std.specs.Prelude.{◌≡◌, ℕ, ◌==◌, ◌&&◌, Bool, true, false, List, [], ◌∷◌, ◌++◌, Option}
+use Rattle.std.specs.Prelude.{None, Some, Result, Ok, Err, if◌then◌else◌, length, map, nat_lt}
 use Rattle.std.specs.List.{flat_map}
 use Rattle.implib_read.specs.Archives.{Archive, StoredMember, archive_in}
 use Rattle.implib_read.specs.Classes.{MemberRead, library_in}
@@ -8,7 +9,8 @@ use Rattle.implib_read.specs.Identity.{dlls_of}
 use Rattle.implib_driver.specs.declared.identity.IdentifyError.{IdentifyError}
 use Rattle.implib_driver.specs.declared.identity.IdentifyError.TheVariants as error
 use Rattle.implib_driver.specs.declared.identity.NotIdentified.{NotIdentified}
-use Rattle.implib_driver.specs.declared.identity.NotIdentified.TheVariants.{NoDll, NoLibrary, SeveralDlls}
+use Rattle.implib_driver.specs.declared.identity.NotIdentified.TheVariants.{NoDll, NoLibrary}
+use Rattle.implib_driver.specs.declared.identity.NotIdentified.TheVariants.{SeveralDlls}
 use Rattle.implib_driver.specs.declared.identity.Wanted.{Wanted}
 use Rattle.implib_driver.specs.declared.identity.Wanted.TheVariants.{Dlls, Members, OneDll}
 

@@ -1,5 +1,8 @@
--- The words of a command line as Microsoft's LIB has them (its documentation, and what llvm-lib 19 does).
-use Rattle.std.specs.Prelude.{ℕ, Bool, true, false, not, ◌&&◌, ◌||◌, ◌==◌, List, [], ◌∷◌, length, drop, map, Option, None, Some, Ok, Err, codes, if◌then◌else◌, is_some, nat_eq, nat_lt, slice_index}
+-- The words of a command line as Microsoft's LIB has them (its documentation, and what llvm-lib 19
+-- does).
+use Rattle.std.specs.Prelude.{ℕ, Bool, true, false, not, ◌&&◌, ◌||◌, ◌==◌, List, [], ◌∷◌, length}
+use Rattle.std.specs.Prelude.{drop, map, Option, None, Some, Ok, Err, codes, if◌then◌else◌, is_some}
+use Rattle.std.specs.Prelude.{nat_eq, nat_lt, slice_index}
 use Rattle.std.specs.Char.{to_ascii_lowercase}
 use Rattle.std.specs.List.{after_first, before_first, ends_with, list_any, position_or_len}
 use Rattle.std.specs.Str.{byte, bytes_eq}
@@ -12,9 +15,17 @@ use Rattle.implib_driver.specs.declared.lib_words.LibWord.{LibWord}
 use Rattle.implib_driver.specs.declared.lib_words.LibWord.TheVariants as word
 use Rattle.implib_driver.specs.declared.machine.LibraryMachine.{LibraryMachine}
 use Rattle.implib_driver.specs.declared.machine.LibraryMachine.TheVariants.{Arm64ec, Ordinary}
-use Rattle.implib_driver.specs.declared.options.Setting.TheVariants.{Definition, Identify, NativeDefinition, Output, Machine, Dll, Flavor}
-use Rattle.implib_driver.specs.declared.options.Switch.TheVariants.{ExportAs, Help, KeepsDecorated, ListsMembers, Verbose}
-use Rattle.implib_driver.specs.Arguments.{Given, IsFile, IsFurther, IsUnknown, IsUnsupported, LacksValueIn, ListsDefinition, NamesNoMachine, OccurrenceView, Reading, Switched, WantsDefinition, WantsLibrary, WantsOutput, WordFaultView, all_given, is_switched, last_given, occurrence_view, read_words, with_front, word_fault_view}
+use Rattle.implib_driver.specs.declared.options.Setting.TheVariants.{Definition, Identify}
+use Rattle.implib_driver.specs.declared.options.Setting.TheVariants.{NativeDefinition, Output}
+use Rattle.implib_driver.specs.declared.options.Setting.TheVariants.{Machine, Dll, Flavor}
+use Rattle.implib_driver.specs.declared.options.Switch.TheVariants.{ExportAs, Help, KeepsDecorated}
+use Rattle.implib_driver.specs.declared.options.Switch.TheVariants.{ListsMembers, Verbose}
+use Rattle.implib_driver.specs.Arguments.{Given, IsFile, IsFurther, IsUnknown, IsUnsupported}
+use Rattle.implib_driver.specs.Arguments.{LacksValueIn, ListsDefinition, NamesNoMachine}
+use Rattle.implib_driver.specs.Arguments.{OccurrenceView, Reading, Switched, WantsDefinition}
+use Rattle.implib_driver.specs.Arguments.{WantsLibrary, WantsOutput, WordFaultView, all_given}
+use Rattle.implib_driver.specs.Arguments.{is_switched, last_given, occurrence_view, read_words}
+use Rattle.implib_driver.specs.Arguments.{with_front, word_fault_view}
 use Rattle.implib_driver.specs.Request.{holds_text}
 use Rattle.implib_rules.specs.Names.{last_part}
 
@@ -74,7 +85,8 @@ is_lib_machine_unsupported name =
     else if bytes_eq name (codes "sh5") then true
     else false
 
--- what a name of a machine in small letters stands for; a library for ARM64X is one for ARM64EC, as llvm-lib makes it
+-- what a name of a machine in small letters stands for; a library for ARM64X is one for ARM64EC, as
+-- llvm-lib makes it
 abbrev pub lib_machine_named : List ℕ → LibMachine
 lib_machine_named name =
     if bytes_eq name (codes "x86") then named.Known (Ordinary I386)
@@ -121,13 +133,14 @@ lib_machine_word (named.Known machine) word = Adds (Given Machine (machine_text 
 lib_machine_word named.Unsupported word = Refuses (IsUnsupported word)
 lib_machine_word named.Unknown word = Refuses (NamesNoMachine word)
 
--- a word without a meaning and a colon is the path of a file: after its `/` (47) is another one or a full stop (46),
--- and no `=` (61)
+-- a word without a meaning and a colon is the path of a file: after its `/` (47) is another one or
+-- a full stop (46), and no `=` (61)
 abbrev pub is_path : List ℕ → Bool
 is_path [] = false
 is_path (b ∷ rest) = b == 47 && not (list_any (λ x. x == 61) rest) && (list_any (λ x. x == 47) rest || list_any (λ x. x == 46) rest)
 
--- A file, whose members are listed where that is asked for; `@` (64) begins the name of a file of words.
+-- A file, whose members are listed where that is asked for; `@` (64) begins the name of a file of
+-- words.
 abbrev pub lib_file : List ℕ → LibWordView
 lib_file [] = Adds (Given Identify [])
 lib_file (b ∷ rest) = if b == 64 then Refuses (IsFile (b ∷ rest)) else Adds (Given Identify (b ∷ rest))
@@ -198,8 +211,9 @@ unfoldable pub read_each : List (List ℕ) → Reading
 read_each [] = Ok []
 read_each (word ∷ words) = lib_stepped (lib_word_of word) (read_each words)
 
--- What each library that is asked for in these words is made with: Microsoft's flavour; third texts, as by LIB for
--- EXPORTAS and by llvm-lib for `==`; and on I386 decorated words as they are, as `_f@8`.
+-- What each library that is asked for in these words is made with: Microsoft's flavour; third
+-- texts, as by LIB for EXPORTAS and by llvm-lib for `==`; and on I386 decorated words as they are,
+-- as `_f@8`.
 abbrev pub lib_ways : List OccurrenceView
 lib_ways = Given Flavor (codes "msvc") ∷ Switched ExportAs ∷ Switched KeepsDecorated ∷ []
 
@@ -207,7 +221,8 @@ lib_ways = Given Flavor (codes "msvc") ∷ Switched ExportAs ∷ Switched KeepsD
 abbrev pub options_of_lib : List (List ℕ) → Reading
 options_of_lib words = with_front lib_ways (read_each words)
 
--- what options for a library lack, or have too much, by their files: a definition and a file for the library, and no other
+-- what options for a library lack, or have too much, by their files: a definition and a file for
+-- the library, and no other
 abbrev pub lack_for_making : List OccurrenceView → List (List ℕ) → Option WordFaultView
 lack_for_making options (file ∷ files) = Some (IsFile file)
 lack_for_making options [] =
@@ -258,7 +273,8 @@ is_lib_name program = is_lib_called (small (last_part program))
 abbrev pub read_by_name : List ℕ → List (List ℕ) → Reading
 read_by_name program words = if is_lib_name program then read_lib_words words else read_words words
 
--- what the words of a command line are read as, where the program is called so: after a first word `--lib` as LIB's
+-- what the words of a command line are read as, where the program is called so: after a first word
+-- `--lib` as LIB's
 abbrev pub words_read : List ℕ → List (List ℕ) → Reading
 words_read program [] = read_by_name program []
 words_read program (word ∷ words) =

@@ -1,4 +1,5 @@
--- The machines that libraries are made for, and their names (llvm-dlltool's; docs/DLLTOOL.md, "ARM64EC").
+-- The machines that libraries are made for, and their names (llvm-dlltool's; docs/DLLTOOL.md,
+-- "ARM64EC").
 use Rattle.std.specs.Prelude.{ℕ, List, Option, Some, codes, if◌then◌else◌}
 use Rattle.std.specs.Option.{option_map}
 use Rattle.std.specs.Str.{bytes_eq}

@@ -1,13 +1,32 @@
--- The names of options and machines on the command line (this project's choice, after GNU dlltool's).
-use Rattle.std.specs.Prelude.{ℕ, Bool, true, false, ◌==◌, List, None, Option, Some, codes, if◌then◌else◌, ◌||◌}
+-- The names of options and machines on the command line (this project's choice, after GNU
+-- dlltool's).
+use Rattle.std.specs.Prelude.{ℕ, Bool, true, false, ◌==◌, List, None, Option, Some, codes}
+use Rattle.std.specs.Prelude.{if◌then◌else◌, ◌||◌}
 use Rattle.std.specs.Option.{option_map_or}
 use Rattle.std.specs.Str.{byte, bytes_eq}
 use Rattle.implib_driver.specs.declared.options.Meaning.{Meaning}
-use Rattle.implib_driver.specs.declared.options.Meaning.TheVariants.{Takes, Switches, Unsupported, Unknown}
+use Rattle.implib_driver.specs.declared.options.Meaning.TheVariants.{Takes, Switches, Unsupported}
+use Rattle.implib_driver.specs.declared.options.Meaning.TheVariants.{Unknown}
 use Rattle.implib_driver.specs.declared.options.Setting.{Setting}
 use Rattle.implib_driver.specs.declared.options.Switch.{Switch}
-use Rattle.implib_driver.specs.declared.options.Setting.TheVariants.{Definition, Output, DelayedOutput, Machine, Dll, Flavor, Assembler, AssemblerFlags, TemporaryPrefix, FurtherPrefix, Identify, Input, Decorations, Search, NativeDefinition}
-use Rattle.implib_driver.specs.declared.options.Switch.TheVariants.{KillAt, NoLeadingUnderscore, LeadingUnderscore, ExportAs, AddUnderscore, AddStdcallUnderscore, AddStdcallAlias, DeterministicLibraries, NonDeterministicLibraries, NoDelete, ListedAlone, ListsMembers, IdentifyStrict, KeepsDecorated, CompatImplib, Verbose, Help, Version}
+use Rattle.implib_driver.specs.declared.options.Setting.TheVariants.{Definition, Output}
+use Rattle.implib_driver.specs.declared.options.Setting.TheVariants.{DelayedOutput, Machine, Dll}
+use Rattle.implib_driver.specs.declared.options.Setting.TheVariants.{Flavor, Assembler}
+use Rattle.implib_driver.specs.declared.options.Setting.TheVariants.{AssemblerFlags}
+use Rattle.implib_driver.specs.declared.options.Setting.TheVariants.{TemporaryPrefix, FurtherPrefix}
+use Rattle.implib_driver.specs.declared.options.Setting.TheVariants.{Identify, Input, Decorations}
+use Rattle.implib_driver.specs.declared.options.Setting.TheVariants.{Search, NativeDefinition}
+use Rattle.implib_driver.specs.declared.options.Switch.TheVariants.{KillAt, NoLeadingUnderscore}
+use Rattle.implib_driver.specs.declared.options.Switch.TheVariants.{LeadingUnderscore, ExportAs}
+use Rattle.implib_driver.specs.declared.options.Switch.TheVariants.{AddUnderscore}
+use Rattle.implib_driver.specs.declared.options.Switch.TheVariants.{AddStdcallUnderscore}
+use Rattle.implib_driver.specs.declared.options.Switch.TheVariants.{AddStdcallAlias}
+use Rattle.implib_driver.specs.declared.options.Switch.TheVariants.{DeterministicLibraries}
+use Rattle.implib_driver.specs.declared.options.Switch.TheVariants.{NonDeterministicLibraries}
+use Rattle.implib_driver.specs.declared.options.Switch.TheVariants.{NoDelete, ListedAlone}
+use Rattle.implib_driver.specs.declared.options.Switch.TheVariants.{ListsMembers, IdentifyStrict}
+use Rattle.implib_driver.specs.declared.options.Switch.TheVariants.{KeepsDecorated, CompatImplib}
+use Rattle.implib_driver.specs.declared.options.Switch.TheVariants.{Verbose, Help, Version}
 
 -- the long names, without `--`, of GNU dlltool's options that have no meaning here
 abbrev pub is_unsupported : List ℕ → Bool

@@ -1,5 +1,6 @@
 -- Where the library of a definition is put (this project's own).
-use Rattle.std.specs.Prelude.{◌≡◌, ◌⊎◌, ℕ, Bool, true, false, List, Option, None, Some, Result, Ok, Err}
+use Rattle.std.specs.Prelude.{◌≡◌, ◌⊎◌, ℕ, Bool, true, false, List, Option, None, Some, Result, Ok}
+use Rattle.std.specs.Prelude.{Err}
 use Rattle.implib.specs.Members.MemberSpec.{MemberView}
 use Rattle.implib_driver.specs.Disk.{DiskView}
 use Rattle.implib_driver.specs.Request.{RequestView}
@@ -12,7 +13,8 @@ use Rattle.implib_archive.specs.Refusal.{refusal_of}
 use Rattle.implib_rules.specs.Library.{IsRefusalOfArchive, kind_of}
 use Rattle.implib_rules.specs.Older.{IsLibraryAsked, IsRefusalOfBytesAsked, MembersAsked}
 
--- a file is in its place, and all of it, where bytes are known; nothing new is left, and no call failed
+-- a file is in its place, and all of it, where bytes are known; nothing new is left, and no call
+-- failed
 pub record IsPlaced (known : Bool) (before after : DiskView) (path file : List ℕ) : Type 0 where
   pub in_place : known ≡ true → after.seen path ≡ Some file
   pub none_left : after.left ≡ None
@@ -68,7 +70,8 @@ AnswersMembers known before after members request (Err (Refused refusal)) =
 AnswersMembers known before after members request (Err (Writing cause)) =
     (refusal_of (kind_of request.library.flavor members) members ≡ None) × IsUnplaced before after
 
--- what an answer says of the library of any bytes that have these members, whose stubs can run, and of the disk
+-- what an answer says of the library of any bytes that have these members, whose stubs can run, and
+-- of the disk
 abbrev pub AnswersWith : Bool → DiskView → DiskView → List MemberView → RequestView → Answer → Type 0
 AnswersWith known before after members request answer =
     (bytes : List ℕ) → MembersAsked request.older_symbols bytes request.library members → has_failing_stub request.library members ≡ false

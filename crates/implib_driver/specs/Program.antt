@@ -1,5 +1,7 @@
 -- What a run of the program does (this project's own).
-use Rattle.std.specs.Prelude.{◌≡◌, ◌≢◌, ◌⊎◌, ℕ, Bool, true, false, List, [], ◌∷◌, Option, None, Some, Result, Ok, Err, IfSome, codes, drop, is_some, length, if◌then◌else◌}
+use Rattle.std.specs.Prelude.{◌≡◌, ◌≢◌, ◌⊎◌, ℕ, Bool, true, false, List, [], ◌∷◌, Option, None}
+use Rattle.std.specs.Prelude.{Some, Result, Ok, Err, IfSome, codes, drop, is_some, length}
+use Rattle.std.specs.Prelude.{if◌then◌else◌}
 use Rattle.std.specs.Io.KnownBytes.{Appends}
 use Rattle.std.specs.Str.{bytes_eq}
 use Rattle.std.specs.declared.io.ErrorKind.{ErrorKind}
@@ -15,26 +17,33 @@ use Rattle.implib_driver.specs.declared.identity.NotIdentified.{NotIdentified}
 use Rattle.implib_driver.specs.declared.identity.Wanted.{Wanted}
 use Rattle.implib_driver.specs.Identity.{identified}
 use Rattle.implib_delay_library.specs.declared.library.DelayRefusal.{DelayRefusal}
-use Rattle.implib_delay_library.specs.declared.library.DelayRefusal.TheVariants.{Refused, Undelayed as CannotDelay}
+use Rattle.implib_delay_library.specs.declared.library.DelayRefusal.TheVariants.{Refused}
+use Rattle.implib_delay_library.specs.declared.library.DelayRefusal.TheVariants.{Undelayed as CannotDelay}
 use Rattle.implib_delay_library.specs.Libraries.{IsDelayedLibrary, IsRefusalOfDelayed}
 use Rattle.implib_driver.specs.Placing.{Answer, Answers, IsPlaced, IsUnplaced}
-use Rattle.implib_driver.specs.Reports.{ComplaintView, Complains, Line, OfArgument, OfCall, OfIdentity, OfMemory, OfStub, OfSystem, OfUndelayed, OfWord, OfWriting, Refuses, Says}
+use Rattle.implib_driver.specs.Reports.{ComplaintView, Complains, Line, OfArgument, OfCall}
+use Rattle.implib_driver.specs.Reports.{OfIdentity, OfMemory, OfStub, OfSystem, OfUndelayed, OfWord}
+use Rattle.implib_driver.specs.Reports.{OfWriting, Refuses, Says}
 use Rattle.implib_driver.specs.LibWords.{words_read}
 pub use Rattle.implib_driver.specs.Disk.{KeepsFiles, definition_in}
 pub use Rattle.implib_driver.specs.Verdicts.{answer_status, output_or_none, verdict}
-pub use Rattle.implib_driver.specs.Warned.{IsInUtf16, IsUnwarned, Warned, begins_utf16, is_bare, warning_lines}
+pub use Rattle.implib_driver.specs.Warned.{IsInUtf16, IsUnwarned, Warned, begins_utf16, is_bare}
+pub use Rattle.implib_driver.specs.Warned.{warning_lines}
 use Rattle.implib_driver.specs.Arm64ecProgram.{FinishesArm64ec}
 use Rattle.implib_driver.specs.Dll.{begins_dll}
 use Rattle.implib_driver.specs.DllProgram.{FinishesDll}
-use Rattle.implib_driver.specs.Request.{Asked, AsksHelp, AsksIdentity, AsksVersion, Asks, CallFaultView, DecoratesDefinition, RequestView, SearchesForDefinition, TaskView, caller_of, request_for, task_of}
+use Rattle.implib_driver.specs.Request.{Asked, AsksHelp, AsksIdentity, AsksVersion, Asks}
+use Rattle.implib_driver.specs.Request.{CallFaultView, DecoratesDefinition, RequestView}
+use Rattle.implib_driver.specs.Request.{SearchesForDefinition, TaskView, caller_of, request_for}
+use Rattle.implib_driver.specs.Request.{task_of}
 use Rattle.implib_driver.specs.Stubs.{has_failing_stub}
 use Rattle.implib_rules.specs.declared.library.Refusal.{Refusal}
 use Rattle.implib_rules.specs.Library.{CountsMembers, is_out_of_memory, status_of}
 use Rattle.implib_rules.specs.Names.{last_part}
 use Rattle.implib_rules.specs.Older.{IsRefusalOfAsked, MembersAsked}
 
--- what is known of all that a run uses but standard output: the bytes that standard input has left, the disk, and
--- what was said
+-- what is known of all that a run uses but standard output: the bytes that standard input has left,
+-- the disk, and what was said
 pub record Devices : Type 0 where
   pub input : Option (List ℕ)
   pub disk : DiskView
@@ -80,7 +89,8 @@ pub record IsAnswered (known : Bool) (bytes : List ℕ) (request : RequestView) 
   pub says : Says warned after (verdict request answer)
   pub is_status : status ≡ answer_status answer
 
--- the warnings that are asked for were said, and then that the library would have stubs that cannot run; nothing was put
+-- the warnings that are asked for were said, and then that the library would have stubs that cannot
+-- run; nothing was put
 pub record HasFailingStub (bytes : List ℕ) (request : RequestView) (disk put : DiskView) (before after : Option (List Line)) (status : ℕ)
     : Type 0 where
   pub count : ℕ
@@ -106,7 +116,8 @@ FinishesWith known bytes members request disk put before after status =
     begins_utf16 bytes ≡ false → MembersAsked request.older_symbols bytes request.library members
     → has_failing_stub request.library members ≡ false → Finishes known bytes request disk put before after status
 
--- what is done with the bytes of a definition that has these members, whose stubs cannot: nothing with any disk
+-- what is done with the bytes of a definition that has these members, whose stubs cannot: nothing
+-- with any disk
 abbrev pub FinishesFailing : List ℕ → List MemberView → RequestView → Option (List Line) → Option (List Line) → ℕ → Type 0
 FinishesFailing bytes members request before after status =
     MembersAsked request.older_symbols bytes request.library members → has_failing_stub request.library members ≡ true →
@@ -118,8 +129,8 @@ FinishesWithout bytes refusal request before after status =
     begins_utf16 bytes ≡ false → IsRefusalOfAsked request.older_symbols bytes request.library refusal →
     (known : Bool) (disk : DiskView) → Finishes known bytes request disk disk before after status
 
--- what is said of a definition that has no library of delayed imports, and the exit status then: 3 for want of memory,
--- and else 1
+-- what is said of a definition that has no library of delayed imports, and the exit status then: 3
+-- for want of memory, and else 1
 abbrev pub delay_lines : List ℕ → DelayRefusal → List Line
 delay_lines path (Refused refusal) = Refuses path refusal ∷ []
 delay_lines path (CannotDelay why) = Complains path (OfUndelayed why) ∷ []
@@ -128,9 +139,9 @@ abbrev pub delay_status : DelayRefusal → ℕ
 delay_status (Refused refusal) = status_of refusal
 delay_status (CannotDelay why) = 1
 
--- The other library was put with status 0, if one is asked for, and then that of delayed imports. The first is there,
--- whole, when the second is begun; what becomes of it when the second takes its place is not stated, as of all other
--- paths (Disk).
+-- The other library was put with status 0, if one is asked for, and then that of delayed imports.
+-- The first is there, whole, when the second is begun; what becomes of it when the second takes its
+-- place is not stated, as of all other paths (Disk).
 pub record IsDelayed (known : Bool) (bytes path file : List ℕ) (request : RequestView) (disk put : DiskView)
     (before after : Option (List Line)) (status : ℕ) : Type 0 where
   pub middle : DiskView
@@ -138,7 +149,8 @@ pub record IsDelayed (known : Bool) (bytes path file : List ℕ) (request : Requ
   pub placed : IsPlaced known middle put path file
   pub is_status : status ≡ 0
 
--- the other library was put, if one is asked for, and then that of delayed imports was not, which was said
+-- the other library was put, if one is asked for, and then that of delayed imports was not, which
+-- was said
 pub record FailsToDelay (known : Bool) (bytes path : List ℕ) (request : RequestView) (disk put : DiskView)
     (before after : Option (List Line)) (status : ℕ) : Type 0 where
   pub middle : DiskView
@@ -154,7 +166,8 @@ pub record StopsBefore (known : Bool) (bytes : List ℕ) (request : RequestView)
   pub finishes : Finishes known bytes request disk put before after status
   pub fails : status ≢ 0
 
--- what is done with the bytes of a definition whose library of delayed imports is this, for this path
+-- what is done with the bytes of a definition whose library of delayed imports is this, for this
+-- path
 abbrev pub FinishesDelayed : Bool → List ℕ → List ℕ → List ℕ → RequestView → DiskView → DiskView → Option (List Line) → Option (List Line) → ℕ → Type 0
 FinishesDelayed known bytes path file request disk put before after status =
     IsDelayed known bytes path file request disk put before after status
@@ -177,27 +190,30 @@ pub record HasNoDelayed (bytes : List ℕ) (request : RequestView) (disk put : D
   pub says : Says before after (delay_lines request.definition refusal)
   pub is_status : status ≡ delay_status refusal
 
--- what is done with the bytes of a definition where a library of delayed imports is asked for, for this path
+-- what is done with the bytes of a definition where a library of delayed imports is asked for, for
+-- this path
 abbrev pub FinishesDelaying : Bool → List ℕ → List ℕ → RequestView → DiskView → DiskView → Option (List Line) → Option (List Line) → ℕ → Type 0
 FinishesDelaying known bytes path request disk put before after status =
     HasDelayed known bytes path request disk put before after status
     ⊎ HasNoDelayed bytes request disk put before after status
     ⊎ IsInUtf16 bytes request disk put before after status
 
--- what is done with the bytes of a definition, where delayed imports are for this path, if one is given
+-- what is done with the bytes of a definition, where delayed imports are for this path, if one is
+-- given
 abbrev pub FinishesText : Bool → List ℕ → Option (List ℕ) → RequestView → DiskView → DiskView → Option (List Line) → Option (List Line) → ℕ → Type 0
 FinishesText known bytes None request disk put before after status = Finishes known bytes request disk put before after status
 FinishesText known bytes (Some path) request disk put before after status =
     FinishesDelaying known bytes path request disk put before after status
 
--- what is done with the bytes of a definition, where a library for ARM64EC is asked for, and where none is; the bytes that
--- standard input has left are these
+-- what is done with the bytes of a definition, where a library for ARM64EC is asked for, and where
+-- none is; the bytes that standard input has left are these
 abbrev pub FinishesFor : Bool → Option (List ℕ) → List ℕ → Option (Option (List ℕ)) → RequestView → DiskView → DiskView → Option (List Line) → Option (List Line) → ℕ → Type 0
 FinishesFor known input bytes None request disk put before after status = FinishesText known bytes request.delayed request disk put before after status
 FinishesFor known input bytes (Some native) request disk put before after status =
     FinishesArm64ec known input bytes native request disk put before after status
 
--- what is wrong with a request for a definition: that has its symbols, and says which exports are data
+-- what is wrong with a request for a definition: that has its symbols, and says which exports are
+-- data
 abbrev pub misuse : RequestView → Option CallFaultView
 misuse request =
     if is_some request.decorations then Some DecoratesDefinition
@@ -219,8 +235,8 @@ FinishesUnless (Some fault) known input bytes request disk put before after stat
 abbrev pub ForMachine : Type 0
 ForMachine = MachineType → Asked RequestView
 
--- what is done with bytes: those of a DLL where they begin so, and else of a definition; the bytes that standard input has
--- left are these
+-- what is done with bytes: those of a DLL where they begin so, and else of a definition; the bytes
+-- that standard input has left are these
 abbrev pub FinishesRead : Bool → ForMachine → Bool → Option (List ℕ) → List ℕ → RequestView → DiskView → DiskView → Option (List Line) → Option (List Line) → ℕ → Type 0
 FinishesRead known machines true input bytes request disk put before after status = FinishesDll known machines bytes request.definition disk put before after status
 FinishesRead known machines false input bytes request disk put before after status =
@@ -249,8 +265,8 @@ Makes known machines request before after status = IsRead known machines request
 abbrev pub own_name : List ℕ
 own_name = codes "implib_dlltool"
 
--- The name that the program says of itself: the one that it is called by, without its directory; its own where that is
--- none. For example, called as `d/llvm-lib` it says llvm-lib.
+-- The name that the program says of itself: the one that it is called by, without its directory;
+-- its own where that is none. For example, called as `d/llvm-lib` it says llvm-lib.
 abbrev pub subject_of : List ℕ → List ℕ
 subject_of program = if is_empty_text (last_part program) then own_name else last_part program
 
@@ -378,7 +394,8 @@ abbrev pub Runs : Bool → Texts → List (List ℕ) → Devices → Devices →
 Runs known texts arguments before after printed prints status =
     DoesWords known texts (called_by arguments) (drop 1 arguments) before after printed prints status
 
--- what is done for the arguments of a process: where memory for them is refused, the program goes by its own name
+-- what is done for the arguments of a process: where memory for them is refused, the program goes
+-- by its own name
 abbrev pub Performs : Bool → Texts → List (List ℕ) → Devices → Devices → Option (List ℕ) → Option (List ℕ) → ℕ → Type 0
 Performs known texts arguments before after printed prints status =
     Runs known texts arguments before after printed prints status

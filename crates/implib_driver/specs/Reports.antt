@@ -1,4 +1,5 @@
--- What the program says on standard error, as what it says and of what; the words of a line are not stated.
+-- What the program says on standard error, as what it says and of what; the words of a line are not
+-- stated.
 use Rattle.std.specs.Prelude.{◌≡◌, ℕ, List, ◌++◌, Option, None, Some}
 use Rattle.implib_arm64ec_library.specs.declared.library.Unimported.{Unimported}
 use Rattle.implib_delay_library.specs.declared.library.Undelayed.{Undelayed}

@@ -1,5 +1,8 @@
--- What the options of a command line ask for (this project's choice, after GNU dlltool and llvm-dlltool).
-use Rattle.std.specs.Prelude.{◌≡◌, ◌==◌, ℕ, Bool, true, false, ◌&&◌, ◌||◌, not, List, [], ◌∷◌, Option, None, Some, Result, Ok, Err, codes, if◌then◌else◌, is_some, length, map, nat_eq, nat_lt}
+-- What the options of a command line ask for (this project's choice, after GNU dlltool and
+-- llvm-dlltool).
+use Rattle.std.specs.Prelude.{◌≡◌, ◌==◌, ℕ, Bool, true, false, ◌&&◌, ◌||◌, not, List, [], ◌∷◌}
+use Rattle.std.specs.Prelude.{Option, None, Some, Result, Ok, Err, codes, if◌then◌else◌, is_some}
+use Rattle.std.specs.Prelude.{length, map, nat_eq, nat_lt}
 use Rattle.std.specs.Char.{to_ascii_lowercase}
 use Rattle.std.specs.List.{before_first, ends_with, position_or_len, starts_with}
 use Rattle.std.specs.Option.{option_map}
@@ -8,10 +11,23 @@ use Rattle.implib.specs.declared.flavor.Flavor.{Flavor}
 use Rattle.implib.specs.declared.flavor.Flavor.TheVariants.{Msvc, Gnu}
 use Rattle.implib.specs.declared.machine.MachineType.{MachineType}
 use Rattle.implib.specs.declared.machine.MachineType.TheVariants.{I386, ARMNT, AMD64, ARM64}
-use Rattle.implib_driver.specs.declared.options.Setting.TheVariants.{NativeDefinition, DelayedOutput, Definition, Input, Output, Machine, Dll, Flavor as FlavorSetting, Assembler, AssemblerFlags, TemporaryPrefix, FurtherPrefix, Identify, Decorations, Search}
+use Rattle.implib_driver.specs.declared.options.Setting.TheVariants.{NativeDefinition}
+use Rattle.implib_driver.specs.declared.options.Setting.TheVariants.{DelayedOutput, Definition}
+use Rattle.implib_driver.specs.declared.options.Setting.TheVariants.{Input, Output, Machine, Dll}
+use Rattle.implib_driver.specs.declared.options.Setting.TheVariants.{Flavor as FlavorSetting}
+use Rattle.implib_driver.specs.declared.options.Setting.TheVariants.{Assembler, AssemblerFlags}
+use Rattle.implib_driver.specs.declared.options.Setting.TheVariants.{TemporaryPrefix, FurtherPrefix}
+use Rattle.implib_driver.specs.declared.options.Setting.TheVariants.{Identify, Decorations, Search}
 use Rattle.implib_driver.specs.declared.identity.Wanted.{Wanted}
 use Rattle.implib_driver.specs.declared.identity.Wanted.TheVariants.{Dlls, Members, OneDll}
-use Rattle.implib_driver.specs.declared.options.Switch.TheVariants.{Help, IdentifyStrict, KeepsDecorated, KillAt, ListsMembers, LeadingUnderscore, NoLeadingUnderscore, Verbose, Version, ExportAs, AddUnderscore, AddStdcallUnderscore, CompatImplib}
+use Rattle.implib_driver.specs.declared.options.Switch.TheVariants.{Help, IdentifyStrict}
+use Rattle.implib_driver.specs.declared.options.Switch.TheVariants.{KeepsDecorated, KillAt}
+use Rattle.implib_driver.specs.declared.options.Switch.TheVariants.{ListsMembers, LeadingUnderscore}
+use Rattle.implib_driver.specs.declared.options.Switch.TheVariants.{NoLeadingUnderscore, Verbose}
+use Rattle.implib_driver.specs.declared.options.Switch.TheVariants.{Version, ExportAs}
+use Rattle.implib_driver.specs.declared.options.Switch.TheVariants.{AddUnderscore}
+use Rattle.implib_driver.specs.declared.options.Switch.TheVariants.{AddStdcallUnderscore}
+use Rattle.implib_driver.specs.declared.options.Switch.TheVariants.{CompatImplib}
 use Rattle.implib_driver.specs.declared.machine.LibraryMachine.{LibraryMachine}
 use Rattle.implib_driver.specs.declared.machine.LibraryMachine.TheVariants.{Arm64ec, Ordinary}
 use Rattle.implib_driver.specs.declared.request.Arm64ecWish.{Arm64ecWish}
@@ -26,7 +42,8 @@ use Rattle.implib_driver.specs.declared.request.CallFault.TheVariants as fault
 use Rattle.implib_driver.specs.declared.request.Request.{Request}
 use Rattle.implib_driver.specs.declared.request.Task.{Task}
 use Rattle.implib_driver.specs.declared.request.Task.TheVariants as task
-use Rattle.implib_driver.specs.Arguments.{OccurrenceView, all_given, is_last, is_switched, last_given, occurrence_view}
+use Rattle.implib_driver.specs.Arguments.{OccurrenceView, all_given, is_last, is_switched}
+use Rattle.implib_driver.specs.Arguments.{last_given, occurrence_view}
 use Rattle.implib.specs.Conversions.{flavor_named}
 use Rattle.implib.specs.Machine.{has_leading_underscore}
 use Rattle.implib_rules.specs.Additions.{AdditionsView}
@@ -211,8 +228,8 @@ architecture_named name =
     else if bytes_eq name (codes "arm64ec") then Some Arm64ec
     else None
 
--- the machine of an architecture, as the first part of a target's name: by the name, or ARMNT for the forms of armv7;
--- AMD64 for what is none, and none for an architecture that is not supported
+-- the machine of an architecture, as the first part of a target's name: by the name, or ARMNT for
+-- the forms of armv7; AMD64 for what is none, and none for an architecture that is not supported
 abbrev pub machine_of_architecture : List ℕ → Option LibraryMachine
 machine_of_architecture name =
     if is_some (architecture_named name) then architecture_named name
@@ -224,8 +241,8 @@ machine_of_architecture name =
 abbrev pub is_minus : ℕ → Bool
 is_minus b = b == 45
 
--- the machine of a program's name: that of the architecture before its first `-`, as in aarch64-w64-mingw32-dlltool;
--- AMD64 without a `-`
+-- the machine of a program's name: that of the architecture before its first `-`, as in
+-- aarch64-w64-mingw32-dlltool; AMD64 without a `-`
 abbrev pub machine_of_name : List ℕ → Option LibraryMachine
 machine_of_name name =
     if nat_lt (position_or_len is_minus name) (length name) then machine_of_architecture (before_first is_minus name)
@@ -247,8 +264,8 @@ called_as name =
 abbrev pub caller_of : List ℕ → Caller
 caller_of program = record { machine = machine_of_name (last_part program); called_as = called_as (last_part program) }
 
--- whether an option is given that only GNU dlltool has a use for: those who do link by GNU's linker, whatever
--- the ending of the library's name (rustc ends it in .lib)
+-- whether an option is given that only GNU dlltool has a use for: those who do link by GNU's
+-- linker, whatever the ending of the library's name (rustc ends it in .lib)
 abbrev pub has_gnu_habits : List OccurrenceView → Bool
 has_gnu_habits options =
     is_some (last_given Assembler options) || is_some (last_given AssemblerFlags options) || is_some (last_given TemporaryPrefix options)
@@ -262,13 +279,14 @@ flavor_by_ending (Some path) =
     else if ends_with nat_eq path (codes ".LIB") then Msvc
     else Gnu
 
--- the flavour on I386 and AMD64: GNU's, but for a library in .lib without GNU dlltool's options and name
+-- the flavour on I386 and AMD64: GNU's, but for a library in .lib without GNU dlltool's options and
+-- name
 abbrev pub usual_flavor : CalledAs → Bool → Option (List ℕ) → Flavor
 usual_flavor Itself habits output = if habits then Gnu else flavor_by_ending output
 usual_flavor _ habits output = Gnu
 
--- The flavour where none is given: Microsoft's on ARMNT and ARM64, whose stubs for GNU's linker are not complete, and
--- where the program is called as llvm-dlltool is.
+-- The flavour where none is given: Microsoft's on ARMNT and ARM64, whose stubs for GNU's linker are
+-- not complete, and where the program is called as llvm-dlltool is.
 abbrev pub default_flavor : CalledAs → MachineType → Bool → Option (List ℕ) → Flavor
 default_flavor Llvm machine habits output = Msvc
 default_flavor called ARMNT habits output = Msvc
@@ -348,7 +366,8 @@ abbrev pub is_output : Option (List ℕ) → List ℕ → Bool
 is_output None path = false
 is_output (Some output) path = bytes_eq path output
 
--- the file of the native definition, which has a name, is not standard input if the definition is, and not the library's
+-- the file of the native definition, which has a name, is not standard input if the definition is,
+-- and not the library's
 abbrev pub native_or : List ℕ → Option (List ℕ) → Option (List ℕ) → Asked (Option (List ℕ))
 native_or definition output None = Ok None
 native_or definition output (Some path) =
@@ -357,8 +376,8 @@ native_or definition output (Some path) =
     else if is_output output path then Err ReplacesNative
     else Ok (Some path)
 
--- what is asked for beside a library for ARM64EC, which is for Microsoft's linkers; for other machines there is no
--- native definition
+-- what is asked for beside a library for ARM64EC, which is for Microsoft's linkers; for other
+-- machines there is no native definition
 abbrev pub arm64ec_or : LibraryMachine → Flavor → List ℕ → Option (List ℕ) → Option (List ℕ) → Asked (Option (Option (List ℕ)))
 arm64ec_or (Ordinary machine) flavor definition output None = Ok None
 arm64ec_or (Ordinary machine) flavor definition output (Some path) = Err HasNativeElsewhere
@@ -369,8 +388,8 @@ arm64ec_or Arm64ec Msvc definition output given = with (native_or definition out
 abbrev pub arm64ec_in : LibraryMachine → Flavor → List ℕ → Option (List ℕ) → List OccurrenceView → Asked (Option (Option (List ℕ)))
 arm64ec_in machine flavor definition output options = arm64ec_or machine flavor definition output (last_given NativeDefinition options)
 
--- Whether imports can be delayed: I386 and AMD64 have the code, and Microsoft's linkers delay the imports of an ordinary
--- library by their option `/delayload`.
+-- Whether imports can be delayed: I386 and AMD64 have the code, and Microsoft's linkers delay the
+-- imports of an ordinary library by their option `/delayload`.
 abbrev pub can_delay : MachineType → Flavor → Asked (Unit {0})
 can_delay ARMNT flavor = Err HasNoDelay
 can_delay ARM64 flavor = Err HasNoDelay
@@ -384,8 +403,8 @@ abbrev pub delay_for : MachineType → Flavor → Option (List ℕ) → Asked (U
 delay_for machine flavor None = Ok tt
 delay_for machine flavor (Some path) = can_delay machine flavor
 
--- How options want names to be read. Of the two about C's underscore the last counts, and one is asked for only
--- where there is one.
+-- How options want names to be read. Of the two about C's underscore the last counts, and one is
+-- asked for only where there is one.
 abbrev pub naming_in : MachineType → List OccurrenceView → Asked NamingView
 naming_in machine options =
     if is_last LeadingUnderscore NoLeadingUnderscore options && not (has_leading_underscore machine) then Err HasNoUnderscore
@@ -444,7 +463,8 @@ request_of caller options given =
       is_verbose = is_switched Verbose options;
     })))))))))))
 
--- the file to make a library of: the definition's, or the one that is given without an option, but not both
+-- the file to make a library of: the definition's, or the one that is given without an option, but
+-- not both
 abbrev pub input_of : Option (List ℕ) → List (List ℕ) → Asked (Option (List ℕ))
 input_of definition [] = Ok definition
 input_of None (path ∷ []) = Ok (Some path)

@@ -1,4 +1,5 @@
--- Of which kinds the exports of a DLL are through the DLLs of some folders (this project's choice; docs/DLLTOOL.md, "From a DLL").
+-- Of which kinds the exports of a DLL are through the DLLs of some folders (this project's choice;
+-- docs/DLLTOOL.md, "From a DLL").
 use Rattle.std.specs.Prelude.{◌≡◌, ◌⊎◌, ℕ, List, Option, Some, count_by}
 use Rattle.std.specs.Option.{option_map}
 use Rattle.implib.specs.Definition.{ExportView}
@@ -17,23 +18,26 @@ use Rattle.implib_rules.specs.Names.{last_part}
 abbrev pub own_names : RequestView → Exports → List (List ℕ)
 own_names request e = names_of (option_map last_part request.library.dll) (last_part request.definition) e.dll
 
--- a DLL that loaders know by some names, beside those of folders, of which each file has these bytes
+-- a DLL that loaders know by some names, beside those of folders, of which each file has these
+-- bytes
 abbrev pub beside_folders : (List ℕ → List ℕ) → List Listing → List (List ℕ) → Exports → Beside
 beside_folders file folders names e = record { exports = e; names = names; others = λ name. Some (content_at file folders name) }
 
--- exports have the kinds that others have beside other DLLs, and this number of those are forwarded to nothing
+-- exports have the kinds that others have beside other DLLs, and this number of those are forwarded
+-- to nothing
 pub record AreFollowed (b : Beside) (before after : List ExportView) (astray : ℕ) : Type 0 where
   pub kinds : after ≡ kinds_followed b before
   pub counted : astray ≡ count_by (is_astray b) before
 
--- Exports of a DLL have the kinds that others have through the DLLs of the folders of a request, where the bytes of files and
--- the names in folders are known.
+-- Exports of a DLL have the kinds that others have through the DLLs of the folders of a request,
+-- where the bytes of files and the names in folders are known.
 abbrev pub IsSearched : DiskView → Exports → RequestView → List ExportView → List ExportView → ℕ → Type 0
 IsSearched disk e request before after astray =
     (file : List ℕ → List ℕ) (names : List ℕ → List (List ℕ)) → AreKnown disk.seen file → AreKnown disk.listed names
     → AreFollowed (beside_folders file (listings names request.search) (own_names request e) e) before after astray
 
--- what a disk is where folders were not searched: as after a call that failed, or as before where memory was refused
+-- what a disk is where folders were not searched: as after a call that failed, or as before where
+-- memory was refused
 abbrev pub FailsToSearch : DiskView → DiskView → Unsearched → Type 0
 FailsToSearch before after (System path cause) = after ≡ failing before
 FailsToSearch before after OutOfMemory = after ≡ before

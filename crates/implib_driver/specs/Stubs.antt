@@ -1,5 +1,5 @@
--- Stubs that no machine runs: on ARM those of libraries for GNU's linker, whose instructions Windows does not have there
--- (docs/LINKERS.md, `arm-stub`).
+-- Stubs that no machine runs: on ARM those of libraries for GNU's linker, whose instructions
+-- Windows does not have there (docs/LINKERS.md, `arm-stub`).
 use Rattle.std.specs.Prelude.{◌≡◌, ℕ, Bool, true, false, ◌&&◌, List, [], ◌∷◌, codes, map}
 use Rattle.std.specs.List.{list_any}
 use Rattle.std.specs.Str.{bytes_eq}
@@ -33,8 +33,8 @@ stubs_fail Gnu ARM64 = false
 abbrev pub has_failing_stub : LibraryOptionsView → List MemberView → Bool
 has_failing_stub options members = stubs_fail options.flavor options.machine && list_any has_stub members
 
--- Worked by hand: a function, a function with an older symbol, data, data with one, a head, a member without symbols,
--- and a function whose name begins as that of an address; and the machines.
+-- Worked by hand: a function, a function with an older symbol, data, data with one, a head, a
+-- member without symbols, and a function whose name begins as that of an address; and the machines.
 pub record StubsTold : Type 0 where
   pub members : map begin_with_function
       ((codes "bar" ∷ codes "__imp_bar" ∷ [])

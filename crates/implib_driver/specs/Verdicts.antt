@@ -1,4 +1,5 @@
--- What is said of the answer to a call for a library, and with which exit status (this project's own).
+-- What is said of the answer to a call for a library, and with which exit status (this project's
+-- own).
 use Rattle.std.specs.Prelude.{ℕ, List, [], ◌∷◌, Option, None, Some, Ok, Err, codes}
 use Rattle.implib_driver.specs.Placing.{Answer}
 use Rattle.implib_driver.specs.Reports.{Complains, Line, OfWriting, Refuses}

@@ -1,5 +1,7 @@
--- Which warnings of a definition are said, and what is said where it is in UTF-16 (this project's own).
-use Rattle.std.specs.Prelude.{◌≡◌, ◌⊎◌, ℕ, Bool, true, false, List, [], ◌∷◌, ◌++◌, Option, codes, map, nat_eq, nat_lt, ◌||◌, if◌then◌else◌}
+-- Which warnings of a definition are said, and what is said where it is in UTF-16 (this project's
+-- own).
+use Rattle.std.specs.Prelude.{◌≡◌, ◌⊎◌, ℕ, Bool, true, false, List, [], ◌∷◌, ◌++◌, Option, codes}
+use Rattle.std.specs.Prelude.{map, nat_eq, nat_lt, ◌||◌, if◌then◌else◌}
 use Rattle.std.specs.List.{starts_with}
 use Rattle.std.specs.Str.{IsUtf8}
 use Rattle.implib.specs.declared.machine.MachineType.TheVariants.{AMD64}
@@ -20,7 +22,8 @@ use Rattle.implib_rules.specs.Warnings.{WarningView, warnings_of}
 abbrev pub warning_lines : List ℕ → List ℕ → List WarningView → List Line
 warning_lines path lines warnings = map (λ w. Warns path w lines) warnings
 
--- the warnings of a definition of these exports and places and this number of members, where they are asked for
+-- the warnings of a definition of these exports and places and this number of members, where they
+-- are asked for
 abbrev pub warnings_for : RequestView → List ExportView → List Place → ℕ → List WarningView
 warnings_for request exports places count = if request.is_verbose then warnings_of request.library exports places count else []
 
@@ -57,18 +60,21 @@ pub record WarnsOfNone (bytes : List ℕ) (request : RequestView) (before after 
   pub parses : Parses (definition_text bytes) AMD64 definition
   pub says : Says before after (warning_lines request.definition [] (none_warnings (definition_text bytes) definition.exports))
 
--- the warnings of bytes, with this number of members, were said, if they are asked for; of a library that has the
--- members of its DLL alone, that its definition has no export is said without that
+-- the warnings of bytes, with this number of members, were said, if they are asked for; of a
+-- library that has the members of its DLL alone, that its definition has no export is said without
+-- that
 abbrev pub Warned : Bool → Bool → ℕ → List ℕ → RequestView → Option (List Line) → Option (List Line) → Type 0
 Warned false false count bytes request before after = after ≡ before
 Warned false true count bytes request before after = WarnsOfNone bytes request before after ⊎ IsNoDefinition bytes before after
 Warned true bare count bytes request before after = WarnsOf count bytes request before after ⊎ IsNoDefinition bytes before after
 
--- whether a library of this many members has no more than those of its DLL, of which each flavour has at most three
+-- whether a library of this many members has no more than those of its DLL, of which each flavour
+-- has at most three
 abbrev pub is_bare : ℕ → Bool
 is_bare count = nat_lt count 4
 
--- whether bytes begin as a text in UTF-16 with a byte order mark (the Unicode Standard, "Byte Order Mark")
+-- whether bytes begin as a text in UTF-16 with a byte order mark (the Unicode Standard, "Byte Order
+-- Mark")
 abbrev pub begins_utf16 : List ℕ → Bool
 begins_utf16 bytes = starts_with nat_eq bytes (0xFF ∷ 0xFE ∷ []) || starts_with nat_eq bytes (0xFE ∷ 0xFF ∷ [])
 

@@ -1,8 +1,12 @@
 -- Command lines worked by hand, each word and each option written out.
 use Rattle.std.specs.Prelude.{◌≡◌, List, [], ◌∷◌, ℕ, Some, Ok, Err, codes}
-use Rattle.implib_driver.specs.declared.options.Setting.TheVariants.{Definition, Input, Output, Machine, Dll, AssemblerFlags, TemporaryPrefix}
-use Rattle.implib_driver.specs.declared.options.Switch.TheVariants.{CompatImplib, KillAt, NoDelete, NoLeadingUnderscore, Verbose}
-use Rattle.implib_driver.specs.Arguments.{OccurrenceView, Given, Switched, IsFile, IsUnknown, IsUnsupported, LacksValue, last_given, read_words}
+use Rattle.implib_driver.specs.declared.options.Setting.TheVariants.{Definition, Input, Output}
+use Rattle.implib_driver.specs.declared.options.Setting.TheVariants.{Machine, Dll, AssemblerFlags}
+use Rattle.implib_driver.specs.declared.options.Setting.TheVariants.{TemporaryPrefix}
+use Rattle.implib_driver.specs.declared.options.Switch.TheVariants.{CompatImplib, KillAt, NoDelete}
+use Rattle.implib_driver.specs.declared.options.Switch.TheVariants.{NoLeadingUnderscore, Verbose}
+use Rattle.implib_driver.specs.Arguments.{OccurrenceView, Given, Switched, IsFile, IsUnknown}
+use Rattle.implib_driver.specs.Arguments.{IsUnsupported, LacksValue, last_given, read_words}
 
 -- as rustc calls a dlltool for I386
 abbrev pub rustc_words : List (List ℕ)
@@ -42,7 +46,8 @@ pub record CallsRead : Type 0 where
   -- a value may be empty, and may look like an option
   pub empty_value : read_words (codes "--as-flags=" ∷ []) ≡ Ok (Given AssemblerFlags [] ∷ [])
   pub value_as_option : read_words (codes "-f" ∷ codes "-k" ∷ []) ≡ Ok (Given AssemblerFlags (codes "-k") ∷ [])
-  -- options without a value share a word, and the last of them may take one, there or in the next word
+  -- options without a value share a word, and the last of them may take one, there or in the next
+  -- word
   pub bundle : read_words (codes "-kvd" ∷ codes "a.def" ∷ codes "-nkla.lib" ∷ codes "-kv" ∷ [])
       ≡ Ok (Switched KillAt ∷ Switched Verbose ∷ Given Definition (codes "a.def") ∷ Switched NoDelete ∷ Switched KillAt
       ∷ Given Output (codes "a.lib") ∷ Switched KillAt ∷ Switched Verbose ∷ [])

@@ -1,19 +1,36 @@
 -- What programs' names ask for, and which of two options or faults counts, worked by hand.
-use Rattle.std.specs.Prelude.{◌≡◌, ℕ, List, [], ◌∷◌, Option, true, false, None, Some, Ok, Err, codes, map}
+use Rattle.std.specs.Prelude.{◌≡◌, ℕ, List, [], ◌∷◌, Option, true, false, None, Some, Ok, Err}
+use Rattle.std.specs.Prelude.{codes, map}
 use Rattle.implib.specs.declared.flavor.Flavor.{Flavor}
 use Rattle.implib.specs.declared.flavor.Flavor.TheVariants.{Msvc, Gnu}
 use Rattle.implib.specs.declared.machine.MachineType.TheVariants.{I386, ARMNT, AMD64, ARM64}
 use Rattle.implib_driver.specs.declared.machine.LibraryMachine.{LibraryMachine}
 use Rattle.implib_driver.specs.declared.machine.LibraryMachine.TheVariants.{Arm64ec, Ordinary}
-use Rattle.implib_driver.specs.declared.options.Setting.TheVariants.{Assembler, AssemblerFlags, Definition, Dll, Flavor as FlavorSetting, Machine, Output, TemporaryPrefix, FurtherPrefix, Identify}
+use Rattle.implib_driver.specs.declared.options.Setting.TheVariants.{Assembler, AssemblerFlags}
+use Rattle.implib_driver.specs.declared.options.Setting.TheVariants.{Definition, Dll}
+use Rattle.implib_driver.specs.declared.options.Setting.TheVariants.{Flavor as FlavorSetting}
+use Rattle.implib_driver.specs.declared.options.Setting.TheVariants.{Machine, Output}
+use Rattle.implib_driver.specs.declared.options.Setting.TheVariants.{TemporaryPrefix, FurtherPrefix}
+use Rattle.implib_driver.specs.declared.options.Setting.TheVariants.{Identify}
 use Rattle.implib_driver.specs.declared.identity.Wanted.TheVariants.{Dlls, OneDll}
-use Rattle.implib_driver.specs.declared.options.Switch.TheVariants.{Help, IdentifyStrict, LeadingUnderscore, NoLeadingUnderscore, Version, ExportAs, KillAt, AddUnderscore, AddStdcallUnderscore, AddStdcallAlias, CompatImplib}
+use Rattle.implib_driver.specs.declared.options.Switch.TheVariants.{Help, IdentifyStrict}
+use Rattle.implib_driver.specs.declared.options.Switch.TheVariants.{LeadingUnderscore}
+use Rattle.implib_driver.specs.declared.options.Switch.TheVariants.{NoLeadingUnderscore, Version}
+use Rattle.implib_driver.specs.declared.options.Switch.TheVariants.{ExportAs, KillAt, AddUnderscore}
+use Rattle.implib_driver.specs.declared.options.Switch.TheVariants.{AddStdcallUnderscore}
+use Rattle.implib_driver.specs.declared.options.Switch.TheVariants.{AddStdcallAlias, CompatImplib}
 use Rattle.implib_driver.specs.declared.request.CalledAs.{CalledAs}
 use Rattle.implib_driver.specs.declared.request.CalledAs.TheVariants as called
 use Rattle.implib_driver.specs.Arguments.{Given, OccurrenceView, Switched}
-use Rattle.implib_driver.specs.declared.identity.NotIdentified.TheVariants.{NoDll, NoLibrary, SeveralDlls}
+use Rattle.implib_driver.specs.declared.identity.NotIdentified.TheVariants.{NoDll, NoLibrary}
+use Rattle.implib_driver.specs.declared.identity.NotIdentified.TheVariants.{SeveralDlls}
 use Rattle.implib_driver.specs.Identity.{fault_of, lines_unless, named_of}
-use Rattle.implib_driver.specs.Request.{Asked, AsksHelp, AsksIdentity, AsksVersion, GoesToStandard, HasEmptyDll, HasEmptyOutput, HasNoOlderSymbols, HasNoUnderscore, ReplacesDefinition, IsOtherArchitecture, IsUnknownFlavor, IsUnknownMachine, LacksDefinition, caller_of, default_flavor, flavor_in, machine_in, naming_in, additions_in, older_symbols_in, task_of}
+use Rattle.implib_driver.specs.Request.{Asked, AsksHelp, AsksIdentity, AsksVersion, GoesToStandard}
+use Rattle.implib_driver.specs.Request.{HasEmptyDll, HasEmptyOutput, HasNoOlderSymbols}
+use Rattle.implib_driver.specs.Request.{HasNoUnderscore, ReplacesDefinition, IsOtherArchitecture}
+use Rattle.implib_driver.specs.Request.{IsUnknownFlavor, IsUnknownMachine, LacksDefinition}
+use Rattle.implib_driver.specs.Request.{caller_of, default_flavor, flavor_in, machine_in, naming_in}
+use Rattle.implib_driver.specs.Request.{additions_in, older_symbols_in, task_of}
 use Rattle.implib_driver.specs.WorkedCalls.{itself}
 use Rattle.implib_rules.specs.WorkedNames.{plain, usual}
 use Rattle.implib_rules.specs.Additions.{no_additions}

@@ -1,10 +1,12 @@
 -- What command lines ask for, and what is read and answered for them, worked by hand.
-use Rattle.std.specs.Prelude.{◌≡◌, ℕ, List, [], ◌∷◌, Option, true, false, None, Some, Ok, Err, codes}
+use Rattle.std.specs.Prelude.{◌≡◌, ℕ, List, [], ◌∷◌, Option, true, false, None, Some, Ok, Err}
+use Rattle.std.specs.Prelude.{codes}
 use Rattle.implib.specs.declared.def.position.Position.{Position}
 use Rattle.implib.specs.declared.flavor.Flavor.TheVariants.{Msvc, Gnu}
 use Rattle.implib.specs.declared.machine.MachineType.TheVariants.{I386, AMD64, ARM64}
 use Rattle.implib_driver.specs.declared.machine.LibraryMachine.TheVariants.{Ordinary}
-use Rattle.implib_driver.specs.declared.options.Setting.TheVariants.{Definition, Output, Machine, Dll}
+use Rattle.implib_driver.specs.declared.options.Setting.TheVariants.{Definition, Output, Machine}
+use Rattle.implib_driver.specs.declared.options.Setting.TheVariants.{Dll}
 use Rattle.implib_driver.specs.declared.options.Setting.TheVariants.{Flavor as FlavorSetting}
 use Rattle.implib_driver.specs.declared.options.Switch.TheVariants.{CompatImplib, Help, Verbose}
 use Rattle.implib_driver.specs.declared.request.CalledAs.TheVariants.{Itself}
@@ -13,9 +15,12 @@ use Rattle.implib_driver.specs.Arguments.{Given, Switched}
 use Rattle.implib_driver.specs.Disk.{DiskView}
 use Rattle.std.specs.declared.io.ErrorKind.TheVariants.{InvalidData, NotFound}
 use Rattle.implib_driver.specs.Placing.{IsUnplaced}
-use Rattle.implib_driver.specs.Program.{Devices, IsUncalled, IsUnread, answer_status, definition_in, verdict}
+use Rattle.implib_driver.specs.Program.{Devices, IsUncalled, IsUnread, answer_status, definition_in}
+use Rattle.implib_driver.specs.Program.{verdict}
 use Rattle.implib_driver.specs.Reports.{Complains, OfArgument, OfWriting, Refuses, Says}
-use Rattle.implib_driver.specs.Request.{Asks, AsksHelp, GoesToStandard, HasEmptyDll, IsUnknownFlavor, IsUnknownMachine, LacksDefinition, RequestView, task_of}
+use Rattle.implib_driver.specs.Request.{Asks, AsksHelp, GoesToStandard, HasEmptyDll}
+use Rattle.implib_driver.specs.Request.{IsUnknownFlavor, IsUnknownMachine, LacksDefinition}
+use Rattle.implib_driver.specs.Request.{RequestView, task_of}
 use Rattle.implib_driver.specs.Worked.{mingw_options, rustc_options}
 use Rattle.implib_archive.specs.declared.error.WriteError.{WriteError}
 use Rattle.implib_rules.specs.Additions.{no_additions}
@@ -128,7 +133,8 @@ asked_for output = record {
 abbrev pub in_line : Site → ℕ → Place
 in_line site line = record { site = site; position = record { offset = 0; line = line; column = 1 } }
 
--- which bytes are read, which lines exports are in, and what is said of an answer, and its exit status
+-- which bytes are read, which lines exports are in, and what is said of an answer, and its exit
+-- status
 pub record AnswersTold : Type 0 where
   pub from_input : (disk : DiskView) → definition_in (Some (codes "x")) disk (codes "-") ≡ Some (codes "x")
   pub from_file : (disk : DiskView) → definition_in (Some (codes "x")) disk (codes "--") ≡ disk.seen (codes "--")

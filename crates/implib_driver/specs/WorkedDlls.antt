@@ -2,12 +2,14 @@
 use Rattle.std.specs.Prelude.{◌≡◌, true, false, [], ◌∷◌, None, Some, Ok, Err, codes}
 use Rattle.implib.specs.declared.flavor.Flavor.TheVariants.{Msvc, Gnu}
 use Rattle.implib.specs.declared.machine.MachineType.TheVariants.{I386, AMD64, ARM64}
-use Rattle.implib_driver.specs.declared.options.Setting.TheVariants.{Decorations, Definition, Input, Output, Machine}
+use Rattle.implib_driver.specs.declared.options.Setting.TheVariants.{Decorations, Definition, Input}
+use Rattle.implib_driver.specs.declared.options.Setting.TheVariants.{Output, Machine}
 use Rattle.implib_driver.specs.declared.options.Switch.TheVariants.{CompatImplib, LeadingUnderscore}
 use Rattle.implib_driver.specs.Arguments.{Given, Switched}
 use Rattle.implib_dll_library.specs.Members.{dll_named}
 use Rattle.implib_driver.specs.Dll.{begins_dll, can_decorate}
-use Rattle.implib_driver.specs.Request.{Asks, HasNoOlderSymbols, HasNoUnderscore, HasTwoInputs, LacksDefinition, request_for, task_of}
+use Rattle.implib_driver.specs.Request.{Asks, HasNoOlderSymbols, HasNoUnderscore, HasTwoInputs}
+use Rattle.implib_driver.specs.Request.{LacksDefinition, request_for, task_of}
 use Rattle.implib_driver.specs.WorkedCalls.{for_i386, itself}
 use Rattle.implib_rules.specs.Additions.{no_additions}
 use Rattle.implib_rules.specs.WorkedNames.{usual}
@@ -33,7 +35,8 @@ pub record DllsAsked : Type 0 where
   pub two_operands : task_of itself (Given Input (codes "a") ∷ Given Input (codes "b") ∷ []) ≡ Err HasTwoInputs
   pub beside_definition : task_of itself (Given Input (codes "a") ∷ Given Definition (codes "b") ∷ []) ≡ Err HasTwoInputs
   pub none : task_of itself (Given Output (codes "a") ∷ []) ≡ Err LacksDefinition
-  -- the machine of the DLL is that of the library, whatever the program's name says, and the flavour goes by it
+  -- the machine of the DLL is that of the library, whatever the program's name says, and the
+  -- flavour goes by it
   pub by_machine : request_for for_i386 (Given Input (codes "a.dll") ∷ []) ARM64 ≡ Ok (record {
     definition = codes "a.dll";
     output = None;

@@ -4,12 +4,21 @@ use Rattle.std.specs.Str.{bytes_eq}
 use Rattle.implib.specs.declared.flavor.Flavor.TheVariants.{Msvc}
 use Rattle.implib_driver.specs.declared.machine.LibraryMachine.{LibraryMachine}
 use Rattle.implib.specs.declared.machine.MachineType.TheVariants.{I386, ARM64}
-use Rattle.implib_driver.specs.declared.options.Setting.TheVariants.{Definition, Identify, NativeDefinition, Output, Machine, Dll, Flavor as FlavorSetting}
-use Rattle.implib_driver.specs.declared.options.Switch.TheVariants.{ExportAs, Help, KeepsDecorated, ListsMembers, Verbose}
+use Rattle.implib_driver.specs.declared.options.Setting.TheVariants.{Definition, Identify}
+use Rattle.implib_driver.specs.declared.options.Setting.TheVariants.{NativeDefinition, Output}
+use Rattle.implib_driver.specs.declared.options.Setting.TheVariants.{Machine, Dll}
+use Rattle.implib_driver.specs.declared.options.Setting.TheVariants.{Flavor as FlavorSetting}
+use Rattle.implib_driver.specs.declared.options.Switch.TheVariants.{ExportAs, Help, KeepsDecorated}
+use Rattle.implib_driver.specs.declared.options.Switch.TheVariants.{ListsMembers, Verbose}
 use Rattle.implib_driver.specs.declared.identity.Wanted.TheVariants.{Members}
-use Rattle.implib_driver.specs.Arguments.{Given, IsFile, IsFurther, IsUnknown, IsUnsupported, LacksValueIn, ListsDefinition, NamesNoMachine, OccurrenceView, Reading, Switched, WantsDefinition, WantsLibrary, WantsOutput, read_words}
-use Rattle.implib_driver.specs.LibWords.{Adds, Nothing, Refuses, is_lib_name, lib_word_of, machine_text, read_lib_words, words_read}
-use Rattle.implib_driver.specs.Request.{Asked, Asks, AsksHelp, AsksIdentity, TaskView, caller_of, machine_named, task_of}
+use Rattle.implib_driver.specs.Arguments.{Given, IsFile, IsFurther, IsUnknown, IsUnsupported}
+use Rattle.implib_driver.specs.Arguments.{LacksValueIn, ListsDefinition, NamesNoMachine}
+use Rattle.implib_driver.specs.Arguments.{OccurrenceView, Reading, Switched, WantsDefinition}
+use Rattle.implib_driver.specs.Arguments.{WantsLibrary, WantsOutput, read_words}
+use Rattle.implib_driver.specs.LibWords.{Adds, Nothing, Refuses, is_lib_name, lib_word_of}
+use Rattle.implib_driver.specs.LibWords.{machine_text, read_lib_words, words_read}
+use Rattle.implib_driver.specs.Request.{Asked, Asks, AsksHelp, AsksIdentity, TaskView, caller_of}
+use Rattle.implib_driver.specs.Request.{machine_named, task_of}
 use Rattle.implib_rules.specs.Additions.{no_additions}
 use Rattle.implib_rules.specs.WorkedNames.{decorated}
 

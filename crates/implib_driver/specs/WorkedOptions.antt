@@ -1,13 +1,31 @@
 -- Every option, machine and flavour by each of its names, written out by hand.
-use Rattle.std.specs.Prelude.{◌≡◌, ℕ, Bool, true, false, List, [], ◌∷◌, None, Some, Ok, Err, codes, map}
+use Rattle.std.specs.Prelude.{◌≡◌, ℕ, Bool, true, false, List, [], ◌∷◌, None, Some, Ok, Err, codes}
+use Rattle.std.specs.Prelude.{map}
 use Rattle.implib.specs.declared.flavor.Flavor.TheVariants.{Msvc, Gnu}
 use Rattle.implib.specs.declared.machine.MachineType.TheVariants.{I386, ARMNT, AMD64, ARM64}
 use Rattle.implib_driver.specs.declared.machine.LibraryMachine.TheVariants.{Arm64ec, Ordinary}
-use Rattle.implib_driver.specs.declared.options.Setting.TheVariants.{Definition, DelayedOutput, Output, Machine, Dll, Flavor, Assembler, AssemblerFlags, TemporaryPrefix, FurtherPrefix, Identify, Input, Decorations, Search, NativeDefinition}
+use Rattle.implib_driver.specs.declared.options.Setting.TheVariants.{Definition, DelayedOutput}
+use Rattle.implib_driver.specs.declared.options.Setting.TheVariants.{Output, Machine, Dll, Flavor}
+use Rattle.implib_driver.specs.declared.options.Setting.TheVariants.{Assembler, AssemblerFlags}
+use Rattle.implib_driver.specs.declared.options.Setting.TheVariants.{TemporaryPrefix, FurtherPrefix}
+use Rattle.implib_driver.specs.declared.options.Setting.TheVariants.{Identify, Input, Decorations}
+use Rattle.implib_driver.specs.declared.options.Setting.TheVariants.{Search, NativeDefinition}
 use Rattle.implib_driver.specs.declared.options.Switch.{Switch}
-use Rattle.implib_driver.specs.declared.options.Switch.TheVariants.{KeepsDecorated, KillAt, NoLeadingUnderscore, LeadingUnderscore, DeterministicLibraries, NonDeterministicLibraries, NoDelete, Verbose, Help, Version, ExportAs, AddUnderscore, AddStdcallUnderscore, AddStdcallAlias, IdentifyStrict, CompatImplib, ListedAlone, ListsMembers}
+use Rattle.implib_driver.specs.declared.options.Switch.TheVariants.{KeepsDecorated, KillAt}
+use Rattle.implib_driver.specs.declared.options.Switch.TheVariants.{NoLeadingUnderscore}
+use Rattle.implib_driver.specs.declared.options.Switch.TheVariants.{LeadingUnderscore}
+use Rattle.implib_driver.specs.declared.options.Switch.TheVariants.{DeterministicLibraries}
+use Rattle.implib_driver.specs.declared.options.Switch.TheVariants.{NonDeterministicLibraries}
+use Rattle.implib_driver.specs.declared.options.Switch.TheVariants.{NoDelete, Verbose, Help}
+use Rattle.implib_driver.specs.declared.options.Switch.TheVariants.{Version, ExportAs}
+use Rattle.implib_driver.specs.declared.options.Switch.TheVariants.{AddUnderscore}
+use Rattle.implib_driver.specs.declared.options.Switch.TheVariants.{AddStdcallUnderscore}
+use Rattle.implib_driver.specs.declared.options.Switch.TheVariants.{AddStdcallAlias, IdentifyStrict}
+use Rattle.implib_driver.specs.declared.options.Switch.TheVariants.{CompatImplib, ListedAlone}
+use Rattle.implib_driver.specs.declared.options.Switch.TheVariants.{ListsMembers}
 use Rattle.implib.specs.Conversions.{flavor_named}
-use Rattle.implib_driver.specs.Arguments.{OccurrenceView, Given, Switched, IsUnsupported, all_given, is_switched, last_given, read_words}
+use Rattle.implib_driver.specs.Arguments.{OccurrenceView, Given, Switched, IsUnsupported, all_given}
+use Rattle.implib_driver.specs.Arguments.{is_switched, last_given, read_words}
 use Rattle.implib_driver.specs.Request.{machine_named}
 
 -- each option with a value, by its letter and by its long name

@@ -2,10 +2,12 @@
 
 ghost use Rattle.implib_driver.specs.Arguments.{all_given, is_given, value_of};
 ghost use Rattle.implib_driver.specs.Arguments.{IsRefusalOf, front, front_letters, is_last};
-ghost use Rattle.implib_driver.specs.Arguments.{is_switch_letter, is_switched, last_given, letters_word};
+ghost use Rattle.implib_driver.specs.Arguments.{is_switch_letter, is_switched, last_given};
+ghost use Rattle.implib_driver.specs.Arguments.{letters_word};
 ghost use Rattle.implib_driver.specs.Arguments.{long_word};
 ghost use Rattle.implib_driver.specs.Arguments.{occurrence_view};
-ghost use Rattle.implib_driver.specs.Arguments.{read_words, short_word, step, step_view, switched_in};
+ghost use Rattle.implib_driver.specs.Arguments.{read_words, short_word, step, step_view};
+ghost use Rattle.implib_driver.specs.Arguments.{switched_in};
 ghost use Rattle.implib_driver.specs.Arguments.{switches_in, word_of, word_view};
 ghost use Rattle.implib_driver.specs.declared.arguments.ReadWordsError.TheVariants.{OutOfMemory};
 ghost use Rattle.std.specs.Prelude.{◌≡◌, ◌++◌, ◌<◌, ◌≤◌, IfErr, IfOk, Ok, OnOk, length, map};

@@ -2,7 +2,8 @@
 
 ghost use Rattle.implib.specs.Library.{member_view};
 ghost use Rattle.implib_driver.specs.Arm64ecProgram.{FinishesArm64ec, FinishesLibrary};
-ghost use Rattle.implib_driver.specs.Arm64ecProgram.{FinishesMembers, FinishesRefused, FinishesTexts};
+ghost use Rattle.implib_driver.specs.Arm64ecProgram.{FinishesMembers, FinishesRefused};
+ghost use Rattle.implib_driver.specs.Arm64ecProgram.{FinishesTexts};
 ghost use Rattle.implib_driver.specs.Arm64ecProgram.{arm64ec_lines, arm64ec_status, native_path};
 ghost use Rattle.implib_driver.specs.Arm64ecProgram.{has_headers_alone, native_told, utf16_file};
 ghost use Rattle.implib_driver.specs.Disk.{DiskView};
@@ -34,8 +35,8 @@ fn native_path<'a>(request: &Request<'a>) -> &'a str
     }
 }
 
-// The file that a refusal of the native members is told of: one without a place is of the DLL's name,
-// which is the definition's.
+// The file that a refusal of the native members is told of: one without a place is of the DLL's
+// name, which is the definition's.
 fn native_told<'a>(definition: &'a str, native: &'a str, refusal: &Refusal) -> &'a str
     ensures { result.now ≡ native_told definition.now native.now refusal.now }
 {
@@ -52,7 +53,8 @@ fn refuse_arm64ec<T: Reporter>(
     refusal: Arm64ecRefusal,
 ) -> u8
     ensures said { Says (T.said reporter.old) (T.said reporter.new)
-        (arm64ec_lines (request_view request.now).definition (native_path (request_view request.now))
+        (arm64ec_lines (request_view request.now).definition
+        (native_path (request_view request.now))
         refusal) }
     ensures status { result ≡ arm64ec_status refusal }
 {
@@ -190,7 +192,8 @@ fn utf16_file<'a>(
     }
 }
 
-// Puts the library of a definition, which has the members of a native one too; gives the exit status.
+// Puts the library of a definition, which has the members of a native one too; gives the exit
+// status.
 fn answer_texts<D: Disk, T: Reporter>(
     alloc: Global,
     bytes: &[u8],
@@ -214,8 +217,8 @@ fn answer_texts<D: Disk, T: Reporter>(
     }
 }
 
-/// Puts the library for ARM64EC of a definition that is read, and of a native one, if its file is given;
-/// gives the exit status.
+/// Puts the library for ARM64EC of a definition that is read, and of a native one, if its file is
+/// given; gives the exit status.
 pub(crate) fn answer_arm64ec<D: Disk, I: Read, T: Reporter>(
     alloc: Global,
     bytes: &[u8],

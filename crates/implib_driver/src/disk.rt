@@ -1,7 +1,8 @@
 //! Where a definition is read from, and where its library goes.
 
 ghost use Rattle.implib_driver.specs.Disk.{DiskView, Replaces, beginning, failing, removed, stuck};
-ghost use Rattle.std.specs.Prelude.{◌≡◌, [], Bool, IfOk, IfSome, None, OnErr, OnOk, Some, map, true};
+ghost use Rattle.std.specs.Prelude.{◌≡◌, [], Bool, IfOk, IfSome, None, OnErr, OnOk, Some, map};
+ghost use Rattle.std.specs.Prelude.{true};
 ghost use Rattle.std.specs.String.{string_bytes};
 
 use std::alloc::Global;

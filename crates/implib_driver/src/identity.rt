@@ -88,7 +88,8 @@ fn lines_of(alloc: Global, names: &IndexSet<&[u8]>) -> Result<Vec<u8>, AllocErro
 
 // The names of members, each in a line.
 fn names_in(alloc: Global, members: &[StoredMember<'_>]) -> Result<Vec<u8>, AllocError>
-    ensures { IfOk result (λ lines. lines.items ≡ lines_of (names_in (map member_view members.now))) }
+    ensures { IfOk result
+        (λ lines. lines.items ≡ lines_of (names_in (map member_view members.now))) }
 {
     let mut lines = Vec::new(alloc);
     for member in members {
@@ -108,12 +109,13 @@ fn list(alloc: Global, bytes: &[u8]) -> Result<Vec<u8>, IdentifyError>
     }
 }
 
-/// What is wanted of the library in these bytes, each in a line: the DLLs that it imports from, in the
-/// order of their first imports, or its members, in their order.
+/// What is wanted of the library in these bytes, each in a line: the DLLs that it imports from, in
+/// the order of their first imports, or its members, in their order.
 ///
 /// # Errors
 ///
-/// `Refused`: the file is no library; it imports from no DLL, or from several where one is asked for.
+/// `Refused`: the file is no library; it imports from no DLL, or from several where one is asked
+/// for.
 pub fn identify(alloc: Global, bytes: &[u8], wanted: Wanted) -> Result<Vec<u8>, IdentifyError>
     ensures named { IfOk result (λ lines. identified wanted bytes.now ≡ Ok lines.items) }
     ensures refused { IfErr result (IsRefusedSo (identified wanted bytes.now)) }
@@ -127,7 +129,8 @@ pub fn identify(alloc: Global, bytes: &[u8], wanted: Wanted) -> Result<Vec<u8>, 
 
 // The names of the DLLs that the library in these bytes imports from, each in a line.
 fn name_dlls(alloc: Global, bytes: &[u8], is_strict: bool) -> Result<Vec<u8>, IdentifyError>
-    ensures named { IfOk result (λ lines. named_of is_strict (library_in bytes.now) ≡ Ok lines.items) }
+    ensures named { IfOk result (λ lines. named_of is_strict (library_in bytes.now)
+        ≡ Ok lines.items) }
     ensures refused { IfErr result (IsRefusedSo (named_of is_strict (library_in bytes.now))) }
 {
     let Some(library) = Library::read(alloc, bytes)? else {

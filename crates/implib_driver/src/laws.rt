@@ -26,8 +26,8 @@ pub fn calls_answered()
     ensures { CallsAnswered }
 {}
 
-/// The right bytes are read, the right lines counted, and of each answer the right thing is said, with
-/// its exit status.
+/// The right bytes are read, the right lines counted, and of each answer the right thing is said,
+/// with its exit status.
 pub fn answers_told()
     ensures { AnswersTold }
 {}
@@ -47,8 +47,9 @@ pub fn faults_ordered()
     ensures { FaultsOrdered }
 {}
 
-/// LIB's words, options and machines are read as was worked by hand, and near misses are refused; so
-/// are the names by which the program is called as LIB is, and without either all is read as before.
+/// LIB's words, options and machines are read as was worked by hand, and near misses are refused;
+/// so are the names by which the program is called as LIB is, and without either all is read as
+/// before.
 pub fn lib_words_read()
     ensures { LibWordsRead }
 {}
@@ -59,22 +60,22 @@ pub fn stubs_told()
     ensures { StubsTold }
 {}
 
-/// Which bytes are a DLL's, which file is made a library of, what is asked for by the machine of a DLL,
-/// and the name that it has are as was worked by hand.
+/// Which bytes are a DLL's, which file is made a library of, what is asked for by the machine of a
+/// DLL, and the name that it has are as was worked by hand.
 pub fn dlls_asked()
     ensures { DllsAsked }
 {}
 
-/// Calls for libraries of delayed imports, as QEMU and mingw-w64 write them, ask for what was worked by
-/// hand, or are refused, and of two faults the right one comes first; of a refusal the right thing is
-/// said.
+/// Calls for libraries of delayed imports, as QEMU and mingw-w64 write them, ask for what was
+/// worked by hand, or are refused, and of two faults the right one comes first; of a refusal the
+/// right thing is said.
 pub fn delays_asked()
     ensures { DelaysAsked }
 {}
 
-/// Calls for libraries for ARM64EC, as mingw-w64, winebuild and users of LIB write them, ask for what was
-/// worked by hand, or are refused, and of two faults the right one comes first; of a refusal the right
-/// thing is said, of the right file.
+/// Calls for libraries for ARM64EC, as mingw-w64, winebuild and users of LIB write them, ask for
+/// what was worked by hand, or are refused, and of two faults the right one comes first; of a
+/// refusal the right thing is said, of the right file.
 pub fn arm64ec_asked()
     ensures { Arm64ecAsked }
 {}

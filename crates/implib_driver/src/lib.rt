@@ -1,4 +1,5 @@
-//! What the program `implib_dlltool` does, over any disk and any reporter: a program in place of `dlltool`.
+//! What the program `implib_dlltool` does, over any disk and any reporter: a program in place of
+//! `dlltool`.
 //!
 //! What the words of the command line ask for is decided here ([`arguments`], [`request`]), which
 //! bytes a library has, or why there is none, by the crate `implib_rules`. [`program`] and

@@ -151,8 +151,8 @@ fn lib_machine_word<'a>(word: &'a str, name: &str) -> LibWord<'a>
     }
 }
 
-// Whether a word without a meaning and a colon is the path of a file: after its `/` is another one or
-// a full stop, and no `=`.
+// Whether a word without a meaning and a colon is the path of a file: after its `/` is another one
+// or a full stop, and no `=`.
 fn is_path(word: &str) -> bool
     ensures { result ≡ is_path word.now }
 {
@@ -164,8 +164,8 @@ fn is_path(word: &str) -> bool
     }
 }
 
-// What the name of a file says: members of it are listed where that is asked for. `@` begins the name
-// of a file of words.
+// What the name of a file says: members of it are listed where that is asked for. `@` begins the
+// name of a file of words.
 fn lib_file(word: &str) -> LibWord<'_>
     ensures { lib_word_view result ≡ lib_file word.now }
 {
@@ -322,8 +322,8 @@ fn lack_of<'a>(
     }
 }
 
-// What each library in LIB's words is made with, Microsoft's flavour, third texts and decorated words,
-// and the options of the words, in order.
+// What each library in LIB's words is made with, Microsoft's flavour, third texts and decorated
+// words, and the options of the words, in order.
 fn options_of_lib<'a>(
     alloc: Global,
     words: &'a [String],
@@ -352,9 +352,9 @@ fn options_of_lib<'a>(
 ///
 /// # Errors
 ///
-/// The first word that is refused; where none is and the help is not asked for, for a list of members
-/// that there is no library, a further one, or a definition; else a file that is no option, that there
-/// is no definition, or no file for the library. Before these, perhaps, `OutOfMemory`.
+/// The first word that is refused; where none is and the help is not asked for, for a list of
+/// members that there is no library, a further one, or a definition; else a file that is no option,
+/// that there is no definition, or no file for the library. Before these, perhaps, `OutOfMemory`.
 pub fn read_lib_words<'a>(
     alloc: Global,
     words: &'a [String],
@@ -384,8 +384,8 @@ fn is_lib_called(name: &str) -> bool
     }
 }
 
-/// Whether the program is called as LIB is, by a name that is `lib` or ends in `-lib`, with `.exe` or
-/// without, in letters of any case, and that does not hold `dlltool`.
+/// Whether the program is called as LIB is, by a name that is `lib` or ends in `-lib`, with `.exe`
+/// or without, in letters of any case, and that does not hold `dlltool`.
 ///
 /// # Errors
 ///

@@ -36,8 +36,8 @@ impl fmt::Display for Setting {
     }
 }
 
-/// The long names of options, one of which a message may tell in full. `input-native-def` is none of
-/// them, so that `--input`, which GNU dlltool takes, is told as `--input-def`.
+/// The long names of options, one of which a message may tell in full. `input-native-def` is none
+/// of them, so that `--input`, which GNU dlltool takes, is told as `--input-def`.
 pub const NAMES: [&str; 41] = [
     "input-def",
     "def",

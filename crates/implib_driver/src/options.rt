@@ -1,6 +1,7 @@
 //! The names of options and machines on the command line.
 
-ghost use Rattle.implib_driver.specs.Options.{further_named, is_same_setting, is_same_switch, is_unsupported, setting_named};
+ghost use Rattle.implib_driver.specs.Options.{further_named, is_same_setting, is_same_switch};
+ghost use Rattle.implib_driver.specs.Options.{is_unsupported, setting_named};
 ghost use Rattle.implib_driver.specs.Options.{option_lettered, option_named, setting_number};
 ghost use Rattle.implib_driver.specs.Options.{switch_number};
 ghost use Rattle.std.specs.Prelude.{◌≡◌};
@@ -8,8 +9,8 @@ ghost use Rattle.std.specs.Prelude.{◌≡◌};
 /// An option that takes a value.
 #[derive(Clone, Copy, Debug, PartialEq, Eq)]
 pub enum Setting {
-    /// `-d`, `--input-def`, `--def`: the module definition; `--dll`: the DLL. Which of them it is its
-    /// bytes tell.
+    /// `-d`, `--input-def`, `--def`: the module definition; `--dll`: the DLL. Which of them it is
+    /// its bytes tell.
     Definition,
     /// `-l`, `--output-lib`: the import library.
     Output,
@@ -50,8 +51,8 @@ pub enum Switch {
     NoLeadingUnderscore,
     /// `--leading-underscore`: on I386 it undoes the option before it, and is the default.
     LeadingUnderscore,
-    /// `--export-as`: a name that no other name type makes of its symbol is the third text of a short
-    /// import.
+    /// `--export-as`: a name that no other name type makes of its symbol is the third text of a
+    /// short import.
     ExportAs,
     /// `-U`, `--add-underscore`: each name that the DLL is asked for gets an underscore.
     AddUnderscore,
@@ -65,7 +66,8 @@ pub enum Switch {
     NonDeterministicLibraries,
     /// `-n`, `--no-delete`: no temporary file is made that could be kept.
     NoDelete,
-    /// `-u`, `--no-export-all-symbols`: without an effect, as in GNU dlltool where no object is given.
+    /// `-u`, `--no-export-all-symbols`: without an effect, as in GNU dlltool where no object is
+    /// given.
     ListedAlone,
     /// `--identify-strict`: a library that imports from several DLLs is refused.
     IdentifyStrict,

@@ -3,7 +3,8 @@
 ghost use Rattle.implib_archive.specs.Archive.{archive_of};
 ghost use Rattle.implib_archive.specs.Written.{Writes};
 ghost use Rattle.implib_arm64ec.specs.Archive.{ec_archive};
-ghost use Rattle.implib_driver.specs.Placing.{AnswersMembers, AnswersWith, IsPlaced, IsPut, IsUnplaced};
+ghost use Rattle.implib_driver.specs.Placing.{AnswersMembers, AnswersWith, IsPlaced, IsPut};
+ghost use Rattle.implib_driver.specs.Placing.{IsUnplaced};
 ghost use Rattle.implib_driver.specs.Request.{request_view};
 ghost use Rattle.std.specs.Io.KnownBytes.{Appends};
 ghost use Rattle.std.specs.Option.{option_map};

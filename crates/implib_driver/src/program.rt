@@ -15,11 +15,13 @@ ghost use Rattle.implib_driver.specs.Program.{begins_utf16, is_bare, misuse, sub
 ghost use Rattle.implib_driver.specs.Program.{devices, own_name, texts};
 ghost use Rattle.implib_driver.specs.Program.{verdict, warning_lines};
 ghost use Rattle.implib_driver.specs.Warned.{warnings_for};
-ghost use Rattle.implib_driver.specs.Reports.{Complains, OfDll, OfMemory, Refuses, Says, complaint_view};
+ghost use Rattle.implib_driver.specs.Reports.{Complains, OfDll, OfMemory, Refuses, Says};
+ghost use Rattle.implib_driver.specs.Reports.{complaint_view};
 ghost use Rattle.implib_rules.specs.declared.library.Refusal.TheVariants.{OutOfMemory};
 ghost use Rattle.implib_dll.specs.Views.{exports_view};
 ghost use Rattle.implib_driver.specs.Arguments.{occurrence_view};
-ghost use Rattle.implib_driver.specs.Dll.{IsRefusalOfRequest, IsRequested, ReadsDll, begins_dll, dll_status};
+ghost use Rattle.implib_driver.specs.Dll.{IsRefusalOfRequest, IsRequested, ReadsDll, begins_dll};
+ghost use Rattle.implib_driver.specs.Dll.{dll_status};
 ghost use Rattle.implib_driver.specs.DllProgram.{FinishesBytes, FinishesDll, FinishesExports};
 ghost use Rattle.implib_driver.specs.DllProgram.{FinishesList, FinishesListed, PutsMembers, SaysIf};
 ghost use Rattle.implib_driver.specs.DllProgram.{FinishesKinds, call_status, complaint_of, tells};
@@ -30,7 +32,8 @@ ghost use Rattle.implib_rules.specs.Library.{status_of};
 ghost use Rattle.implib_rules.specs.Warnings.{warning_view};
 ghost use Rattle.std.specs.IoError.{error_kind};
 ghost use Rattle.std.specs.Option.{option_map};
-ghost use Rattle.std.specs.Prelude.{◌≡◌, ◌⊎◌, [], ◌∷◌, IfErr, IfOk, IfSome, List, None, OnErr, OnOk, Option, Some, codes, false, map, true, ℕ};
+ghost use Rattle.std.specs.Prelude.{◌≡◌, ◌⊎◌, [], ◌∷◌, IfErr, IfOk, IfSome, List, None, OnErr};
+ghost use Rattle.std.specs.Prelude.{OnOk, Option, Some, codes, false, map, true, ℕ};
 ghost use Rattle.std.specs.Str.{bytes_eq};
 ghost use Rattle.std.specs.String.{string_bytes};
 ghost use Rattle.std.specs.Vec.Iter.{into_iter_items};
@@ -306,8 +309,8 @@ fn warn_of<T: Reporter>(
     Ok(())
 }
 
-// Says the warnings of a definition, where they are asked for, and of a bare library that there is no
-// export. What is no definition has none.
+// Says the warnings of a definition, where they are asked for, and of a bare library that there is
+// no export. What is no definition has none.
 pub(crate) fn warn<T: Reporter>(
     alloc: Global,
     counted: Counted<'_>,
@@ -542,8 +545,8 @@ fn refuse_delay<T: Reporter>(reporter: &mut T, path: &str, refusal: DelayRefusal
     }
 }
 
-// Puts the library of a definition, if one is asked for, and then this one of delayed imports; gives
-// the exit status.
+// Puts the library of a definition, if one is asked for, and then this one of delayed imports;
+// gives the exit status.
 fn finish_delayed<D: Disk, T: Reporter>(
     alloc: Global,
     bytes: &[u8],
@@ -737,7 +740,8 @@ fn say_count<T: Reporter>(
     warning: Complaint<'_>,
     request: &Request<'_>,
 )
-    ensures { SaysIf (tells (request_view request.now) count) path.now (complaint_view warning.entry)
+    ensures { SaysIf (tells (request_view request.now) count) path.now
+        (complaint_view warning.entry)
         (T.said reporter.old) (T.said reporter.new) }
 {
     if request.is_verbose && count > 0 {
@@ -770,7 +774,8 @@ struct Decorating<'a> {
     path: &'a str,
 }
 
-// Puts the library of exports of a DLL with the symbols of a file's bytes, and gives the exit status.
+// Puts the library of exports of a DLL with the symbols of a file's bytes, and gives the exit
+// status.
 fn answer_decorated<D: Disk, T: Reporter>(
     alloc: Global,
     exports: &Exports<'_>,
@@ -817,7 +822,8 @@ fn answer_decorating<D: Disk, T: Reporter>(
 ) -> u8
     requires { (D.view disk.old).left ≡ None }
     ensures { FinishesListed D.is_known (exports_view exports.now)
-        (map export_view decorating.entry.list.items) (Some decorating.entry.path.now) (request_view request.now)
+        (map export_view decorating.entry.list.items) (Some decorating.entry.path.now)
+        (request_view request.now)
         (D.view disk.old) (D.view disk.new) (T.said reporter.old) (T.said reporter.new) result }
 {
     let path = decorating.path;
@@ -840,8 +846,8 @@ fn answer_decorating<D: Disk, T: Reporter>(
     }
 }
 
-// Puts the library of exports of a DLL, with the symbols of a file where one is given, and gives the
-// exit status.
+// Puts the library of exports of a DLL, with the symbols of a file where one is given, and gives
+// the exit status.
 fn answer_listed<D: Disk, T: Reporter>(
     alloc: Global,
     exports: &Exports<'_>,
@@ -864,8 +870,8 @@ fn answer_listed<D: Disk, T: Reporter>(
     }
 }
 
-// Puts the library of exports of a DLL, of which those are data that are forwarded to data, and gives
-// the exit status.
+// Puts the library of exports of a DLL, of which those are data that are forwarded to data, and
+// gives the exit status.
 fn answer_searching<D: Disk, T: Reporter>(
     alloc: Global,
     bytes: &[u8],
@@ -992,7 +998,8 @@ fn answer<D: Disk, I: Read, T: Reporter>(
 ) -> u8
     requires { (D.view disk.old).left ≡ None }
     ensures { FinishesRead D.is_known
-        (request_for call.now.caller (map occurrence_view call.now.options.now)) (begins_dll bytes.now)
+        (request_for call.now.caller (map occurrence_view call.now.options.now))
+        (begins_dll bytes.now)
         (I.remaining input.old) bytes.now (request_view call.now.request) (D.view disk.old)
         (D.view disk.new) (T.said reporter.old) (T.said reporter.new) result }
 {
@@ -1040,8 +1047,8 @@ fn complain<T: Reporter>(reporter: &mut T, name: &str, complaint: Complaint<'_>,
     status
 }
 
-// Says a complaint under the program's own name, where it is not known what it is called, and gives the
-// exit status.
+// Says a complaint under the program's own name, where it is not known what it is called, and gives
+// the exit status.
 fn complain_uncalled<T: Reporter>(reporter: &mut T, complaint: Complaint<'_>, status: u8) -> u8
     ensures said { Says (T.said reporter.old) (T.said reporter.new)
         (Complains own_name (complaint_view complaint.entry) ∷ []) }
@@ -1060,7 +1067,8 @@ fn name_dlls<O: Write, T: Reporter>(
     reporter: &mut T,
 ) -> u8
     ensures { NamesDlls name.now wish.entry.library.now (identified wish.entry.wanted bytes.now)
-        (T.said reporter.old) (T.said reporter.new) (O.contents printer.old) (O.contents printer.new) result
+        (T.said reporter.old) (T.said reporter.new) (O.contents printer.old)
+        (O.contents printer.new) result
         ⊎ OnlyComplains name.now OfMemory 3 (T.said reporter.old) (T.said reporter.new)
         (O.contents printer.old) (O.contents printer.new) result }
 {
@@ -1083,7 +1091,8 @@ fn identify_library<D: Disk, O: Write, T: Reporter>(
     printer: &mut O,
     reporter: &mut T,
 ) -> u8
-    ensures { (input : Option (List ℕ)) → Identifies name.now wish.entry.library.now wish.entry.wanted
+    ensures { (input : Option (List ℕ)) → Identifies name.now wish.entry.library.now
+        wish.entry.wanted
         (devices input (D.view disk.old) (T.said reporter.old))
         (devices input (D.view disk.new) (T.said reporter.new))
         (O.contents printer.old) (O.contents printer.new) result }
@@ -1200,7 +1209,8 @@ fn perform_list<D: Disk, I: Read, O: Write, T: Reporter>(
     reporter: &mut T,
 ) -> u8
     requires { (D.view disk.old).left ≡ None }
-    ensures { Performs D.is_known (texts HELP.now VERSION.now) (map string_bytes (into_iter_items list))
+    ensures { Performs D.is_known (texts HELP.now VERSION.now)
+        (map string_bytes (into_iter_items list))
         (devices (I.remaining input.old) (D.view disk.old) (T.said reporter.old))
         (devices (I.remaining input.new) (D.view disk.new) (T.said reporter.new))
         (O.contents printer.old) (O.contents printer.new) result }
@@ -1234,7 +1244,8 @@ pub fn perform<D: Disk, I: Read, O: Write, T: Reporter>(
     reporter: &mut T,
 ) -> u8
     requires { (D.view disk.old).left ≡ None }
-    ensures runs { IfOk command_line.entry.arguments (λ list. Performs D.is_known (texts HELP.now VERSION.now)
+    ensures runs { IfOk command_line.entry.arguments
+        (λ list. Performs D.is_known (texts HELP.now VERSION.now)
         (map string_bytes (into_iter_items list))
         (devices (I.remaining input.old) (D.view disk.old) (T.said reporter.old))
         (devices (I.remaining input.new) (D.view disk.new) (T.said reporter.new))

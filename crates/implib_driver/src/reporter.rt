@@ -1,6 +1,7 @@
 //! What the program says of a definition, and of a call.
 
-ghost use Rattle.implib_driver.specs.Reports.{Complains, Line, Refuses, Says, Warns, complaint_view};
+ghost use Rattle.implib_driver.specs.Reports.{Complains, Line, Refuses, Says, Warns};
+ghost use Rattle.implib_driver.specs.Reports.{complaint_view};
 ghost use Rattle.implib_rules.specs.Warnings.{warning_view};
 ghost use Rattle.std.specs.Prelude.{[], ◌∷◌, List, Option};
 

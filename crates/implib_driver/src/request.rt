@@ -7,11 +7,13 @@ ghost use Rattle.implib_driver.specs.declared.request.CallFault.TheVariants.{Two
 ghost use Rattle.implib_rules.specs.Additions.{additions_view};
 ghost use Rattle.implib_rules.specs.Linked.{naming_view};
 ghost use Rattle.implib_driver.specs.Request.{additions_in, arm64ec_in, is_output, native_or};
-ghost use Rattle.implib_driver.specs.Request.{IsCallRefusal, architecture_named, call_fault_view, called_as};
+ghost use Rattle.implib_driver.specs.Request.{IsCallRefusal, architecture_named, call_fault_view};
+ghost use Rattle.implib_driver.specs.Request.{called_as};
 ghost use Rattle.implib_driver.specs.Request.{caller_of};
 ghost use Rattle.implib_driver.specs.Request.{default_flavor, dll_in, flavor_by_ending};
 ghost use Rattle.implib_driver.specs.Request.{flavor_in};
-ghost use Rattle.implib_driver.specs.Request.{has_gnu_habits, holds_text, input_in, is_other_architecture};
+ghost use Rattle.implib_driver.specs.Request.{has_gnu_habits, holds_text, input_in};
+ghost use Rattle.implib_driver.specs.Request.{is_other_architecture};
 ghost use Rattle.implib_driver.specs.Request.{machine_in, machine_named, machine_of_architecture};
 ghost use Rattle.implib_driver.specs.Request.{machine_of_name};
 ghost use Rattle.implib_driver.specs.Request.{delay_for, delayed_apart, delayed_in, output_or};
@@ -707,12 +709,13 @@ fn wanted_of(options: &[Occurrence<'_>]) -> Wanted
 /// # Errors
 ///
 /// What is wrong first: two files to make a library of; no definition, or one in a file without a
-/// name; the library, and then that of delayed imports, to standard output, to a file without a name
-/// or to the definition's; both to one file; an unknown machine, or none where the program's name is
-/// of another architecture; an unknown flavour; ARM64EC for GNU's linker, or a native definition for
-/// another machine, in a file without a name, twice from standard input, or in the library's file; an
-/// empty name of the DLL; an underscore where C's symbols have none; delayed imports for a machine without their code, or for Microsoft's linkers;
-/// older symbols for Microsoft's linker. `OutOfMemory` may come before those that follow the machine.
+/// name; the library, and then that of delayed imports, to standard output, to a file without a
+/// name or to the definition's; both to one file; an unknown machine, or none where the program's
+/// name is of another architecture; an unknown flavour; ARM64EC for GNU's linker, or a native
+/// definition for another machine, in a file without a name, twice from standard input, or in the
+/// library's file; an empty name of the DLL; an underscore where C's symbols have none; delayed
+/// imports for a machine without their code, or for Microsoft's linkers; older symbols for
+/// Microsoft's linker. `OutOfMemory` may come before those that follow the machine.
 pub fn task_of<'a>(
     alloc: Global,
     options: &'a [Occurrence<'a>],

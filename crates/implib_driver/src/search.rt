@@ -1,9 +1,9 @@
 //! Of which kinds a DLL's forwarders are, through the DLLs of some folders.
 //!
-//! A forwarder that leads, through the DLLs of the folders of `--search`, to data is data. The first
-//! folder that has a DLL counts, and each DLL is read once, when a forwarder leads there. A forwarder
-//! that leads to nothing, as where no folder has its DLL, or that is no image, stays code, as without
-//! folders; with `-v` their number is told. What cannot be read ends the call.
+//! A forwarder that leads, through the DLLs of the folders of `--search`, to data is data. The
+//! first folder that has a DLL counts, and each DLL is read once, when a forwarder leads there. A
+//! forwarder that leads to nothing, as where no folder has its DLL, or that is no image, stays
+//! code, as without folders; with `-v` their number is told. What cannot be read ends the call.
 
 ghost use Rattle.implib.specs.Definition.{export_view};
 ghost use Rattle.implib_dll.specs.Exports.{Exports as SeenExports};
@@ -13,7 +13,8 @@ ghost use Rattle.implib_dll_check.specs.Folders.{loaded_view};
 ghost use Rattle.implib_driver.specs.Arguments.{has_values};
 ghost use Rattle.implib_driver.specs.Dll.{ReadsDll};
 ghost use Rattle.implib_driver.specs.Request.{request_view};
-ghost use Rattle.implib_driver.specs.Search.{AreFollowed, FailsToSearch, IsSearched, beside_folders};
+ghost use Rattle.implib_driver.specs.Search.{AreFollowed, FailsToSearch, IsSearched};
+ghost use Rattle.implib_driver.specs.Search.{beside_folders};
 ghost use Rattle.implib_driver.specs.Search.{own_names};
 ghost use Rattle.implib_driver.specs.declared.search.Unsearched.TheVariants.{OutOfMemory};
 ghost use Rattle.std.specs.Prelude.{◌≡◌, ℕ, All, IfErr, IfOk, List, OnOk, map};
@@ -87,7 +88,8 @@ fn folder_at<'a, D: Disk>(
     path: &'a str,
 ) -> Result<Folder<'a>, Unsearched>
     ensures listed { IfOk result (λ folder. (names : List ℕ → List (List ℕ))
-        → AreKnown (D.view disk.old).listed names → folder_view folder ≡ (path.now, names path.now)) }
+        → AreKnown (D.view disk.old).listed names → folder_view folder
+        ≡ (path.now, names path.now)) }
     ensures same { OnOk result (D.view disk.new ≡ D.view disk.old) }
     ensures failed { IfErr result (FailsToSearch (D.view disk.old) (D.view disk.new)) }
 {
@@ -189,7 +191,8 @@ fn load_all<D: Disk>(
     Ok(())
 }
 
-// The names of DLLs, which were not loaded, that exports of the DLL of these bytes are forwarded to.
+// The names of DLLs, which were not loaded, that exports of the DLL of these bytes are forwarded
+// to.
 fn names_beside<'x>(
     alloc: Global,
     bytes: &'x [u8],
@@ -283,8 +286,8 @@ fn mark_through<'x>(
     Ok(astray)
 }
 
-/// Makes data of the exports of a DLL of these bytes that are forwarded to data, through the DLLs of the folders of a
-/// request, and gives how many are forwarded to nothing.
+/// Makes data of the exports of a DLL of these bytes that are forwarded to data, through the DLLs
+/// of the folders of a request, and gives how many are forwarded to nothing.
 ///
 /// # Errors
 ///
