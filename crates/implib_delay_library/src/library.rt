@@ -1,6 +1,5 @@
 //! The library of delayed imports of a definition.
 
-ghost use Rattle.implib.specs.Library.{member_view};
 ghost use Rattle.implib_archive.specs.declared.kind.Kind.TheVariants as kind;
 ghost use Rattle.implib_archive.specs.Refusal.{refusal_of};
 ghost use Rattle.implib_delay_library.specs.Libraries.{DelayedMembersFor, IsRefusalOfDelayedArchive};
@@ -8,12 +7,12 @@ ghost use Rattle.implib_delay_library.specs.Libraries.{IsRefusalOfDelayedMembers
 ghost use Rattle.implib_delay_library.specs.Libraries.{delayed_options, position_of_undelayed};
 ghost use Rattle.implib_delay.specs.Refusal.{delay_cause};
 ghost use Rattle.implib_rules.specs.Options.{library_options_view};
-ghost use Rattle.std.specs.Prelude.{◌≡◌, IfErr, IfOk, None, OnOk, map};
+ghost use Rattle.std.specs.Prelude.{◌≡◌, IfErr, IfOk, None, OnOk};
 
 use implib::def::{ModuleDef, Position};
-use implib::{Fault, Member};
+use implib::Fault;
 use implib_archive::{Archive, Kind};
-use implib_delay::{DelayError, DelayFault, delayed_members};
+use implib_delay::{DelayError, DelayFault, DelayedMembers, delayed_members};
 use implib_rules::library::{Refusal, definition_for};
 use implib_rules::linked::Naming;
 use implib_rules::options::LibraryOptions;
@@ -124,9 +123,9 @@ pub fn delayed_members_for(
     alloc: Global,
     bytes: &[u8],
     options: &LibraryOptions<'_>,
-) -> Result<Vec<Member>, DelayRefusal>
-    ensures made { IfOk result (λ members. DelayedMembersFor bytes.now
-        (library_options_view options.now) (map member_view members.items)) }
+) -> Result<DelayedMembers, DelayRefusal>
+    ensures made { IfOk result
+        (DelayedMembersFor bytes.now (library_options_view options.now)) }
     ensures refused { IfErr result
         (IsRefusalOfDelayedMembers bytes.now (library_options_view options.now)) }
 {
@@ -148,11 +147,14 @@ pub fn delayed_members_for(
 /// # Errors
 ///
 /// `Archive`: what such an archive cannot carry. `OutOfMemory`.
-pub fn delayed_archive(alloc: Global, members: &[Member]) -> Result<Archive<'_, &[Member]>, Refusal>
-    ensures holds { IfOk result (λ archive. archive
-        ≡ record { kind = kind.Gnu; members = map member_view members.now }) }
-    ensures accepted { OnOk result (refusal_of kind.Gnu (map member_view members.now) ≡ None) }
-    ensures refused { IfErr result (IsRefusalOfDelayedArchive (map member_view members.now)) }
+pub fn delayed_archive(
+    alloc: Global,
+    members: &DelayedMembers,
+) -> Result<Archive<'_, &DelayedMembers>, Refusal>
+    ensures holds { IfOk result
+        (λ archive. archive ≡ record { kind = kind.Gnu; members = members.now }) }
+    ensures accepted { OnOk result (refusal_of kind.Gnu members.now ≡ None) }
+    ensures refused { IfErr result (IsRefusalOfDelayedArchive members.now) }
 {
     Ok(Archive::new(alloc, members, Kind::Gnu)?)
 }

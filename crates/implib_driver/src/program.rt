@@ -51,8 +51,9 @@ use crate::request::{
 use crate::search::{Unsearched, search};
 use crate::stubs::has_failing_stub;
 use implib::def::{ModuleDef, ShortExport};
-use implib::{Flavor, MachineType, Member, ParseError};
+use implib::{Flavor, MachineType, ParseError};
 use implib_archive::Archive;
+use implib_delay::DelayedMembers;
 use implib_delay_library::{DelayRefusal, delayed_archive, delayed_members_for};
 use implib_dll::Exports;
 use implib_dll_library::{NotDecorations, count_missing, decorate, decorations_in};
@@ -488,7 +489,7 @@ fn refuse<T: Reporter>(
 #[derive(Drop)]
 struct Delayed<'a> {
     path: &'a str,
-    archive: Archive<'a, &'a [Member]>,
+    archive: Archive<'a, &'a DelayedMembers>,
 }
 
 // Whether bytes begin as a text in UTF-16.
@@ -591,7 +592,7 @@ fn answer_delaying<D: Disk, T: Reporter>(
         Ok(members) => members,
         Err(refusal) => return refuse_delay(reporter, request.definition, refusal),
     };
-    match delayed_archive(alloc, members.as_slice()) {
+    match delayed_archive(alloc, &members) {
         Ok(archive) => {
             let delayed = Delayed { path, archive };
             finish_delayed(alloc, bytes, disk, &delayed, request, reporter)
