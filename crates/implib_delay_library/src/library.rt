@@ -9,8 +9,8 @@ ghost use Rattle.implib_delay.specs.Refusal.{delay_cause};
 ghost use Rattle.implib_rules.specs.Options.{library_options_view};
 ghost use Rattle.std.specs.Prelude.{◌≡◌, IfErr, IfOk, None, OnOk};
 
-use implib::def::{ModuleDef, Position};
 use implib::Fault;
+use implib::def::{ModuleDef, Position};
 use implib_archive::{Archive, Kind};
 use implib_delay::{DelayError, DelayFault, DelayedMembers, delayed_members};
 use implib_rules::library::{Refusal, definition_for};
