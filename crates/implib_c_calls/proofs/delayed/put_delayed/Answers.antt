@@ -1,5 +1,3 @@
-use Rattle.std.proofs.Common.{map}
-use Rattle.implib.specs.Library.{member_view}
 use Rattle.implib_rules.specs.Options.{library_options_view}
 use Rattle.implib_c_calls.proofs.AnswerDelayed.{delayed_within, puts_nothing, puts_packed}
 use Rattle.implib_c_calls.proofs.delayed.put_delayed.Goals as goal
@@ -14,5 +12,5 @@ returns-in-Err c =
 
 pub returns-in-Ok : goal.returns-in-Ok
 returns-in-Ok c =
-    puts_packed c.args.text.now (library_options_view c.args.options.now) c.args.buffer.now (map member_view c.in-Ok.members.items) c.in-Ok.ensures.made
-    c.pack_into.new.buffer c.pack_into.result (rw c.as_slice.ensures.value at c.pack_into.ensures)
+    puts_packed c.args.text.now (library_options_view c.args.options.now) c.args.buffer.now c.in-Ok.members c.in-Ok.ensures.made
+    c.pack_into.new.buffer c.pack_into.result c.pack_into.ensures
