@@ -1,31 +1,27 @@
 -- Short imports that are kept as what they say.
-use Rattle.std.proofs.Common.{◌≡◌, ℕ, zero, suc, ◌+◌, ◌-◌, ◌<◌, ◌≤◌, ◌==◌, Bool, true, false, List, [], ◌∷◌, ◌++◌, Option, None, Some, Result, Ok, Err, length, drop, map, take, get_or, if◌then◌else◌, nat_le, refl, sym, ap, subst, ◌∙◌, arith, append_assoc, length-append}
+use Rattle.std.proofs.Common.{◌≡◌, ℕ, zero, suc, ◌+◌, ◌-◌, ◌<◌, ◌≤◌, ◌==◌, Bool, true, false, List, [], ◌∷◌, ◌++◌, Option, None, Some, Ok, length, drop, map, take, get_or, if◌then◌else◌, refl, sym, ap, subst, ◌∙◌, arith, append_assoc, length-append}
 use Rattle.std.specs.Prelude.{codes, slice_range, string_bytes}
-use Rattle.std.specs.List.{AllByRecursion}
 use Rattle.std.specs.Str.{IsCharBoundary, IsUtf8}
-use Rattle.std.proofs.lemmas.List.{drop_at, get_or-map, map-append, take_at}
-use Rattle.std.proofs.lemmas.Bool.{le-leb, lt-leb}
+use Rattle.std.proofs.lemmas.List.{drop_at, get_or-map, take_at}
 use Rattle.std.proofs.lemmas.Str.{IsCharBoundary-at_seam, IsUtf8-append}
 use Rattle.implib.specs.Definition.{ExportView}
 use Rattle.implib.specs.Formats.ShortImport.{ShortImport, import_data}
 use Rattle.implib.specs.Import.{imp_symbol}
 use Rattle.implib.specs.LibraryName.{NamesOfDll}
-use Rattle.implib.specs.Members.MemberSpec.{MemberView, member_of}
-use Rattle.implib.specs.Members.Msvc.{dll_texts, import_type_of, short_import_bytes, short_import_size}
+use Rattle.implib.specs.Members.MemberSpec.{MemberView}
+use Rattle.implib.specs.Members.Msvc.{dll_texts, import_type_of, short_import_size}
 use Rattle.implib.specs.Members.NameRules.{holds_nul}
 use Rattle.implib.proofs.Members.ShortImport.{length-short_import_bytes}
-use Rattle.implib.proofs.Text.Trivia.{AllByRecursion-append}
 use Rattle.implib_archive.specs.Sources.{member_at, no_member}
-use Rattle.implib_arm64ec.specs.KeptImports.{HasNoImport, HasTexts, IsKept, IsKeptOf, IsKeptWith, kept_address, kept_auxiliary, kept_import, kept_other, kept_plain, kept_symbol, kept_symbols, kept_third, kept_view, symbol_fault, third_with}
-use Rattle.implib_arm64ec.specs.LibraryImports.{IsFault, export_fault, import_of_export, members_made, spec_fault}
-use Rattle.implib_arm64ec.specs.ShortImports.{auxiliary_symbol, import_of, import_spec, import_symbols, name_type_of, plain_symbol, spec_of, spec_with, symbol_apart, symbol_of, third_text}
+use Rattle.implib_arm64ec.specs.KeptImports.{HasNoImport, HasTexts, IsKeptOf, IsKeptWith, kept_address, kept_auxiliary, kept_import, kept_other, kept_plain, kept_symbol, kept_symbols, kept_third, kept_view, third_with}
+use Rattle.implib_arm64ec.specs.LibraryImports.{IsFault, export_fault, spec_fault}
+use Rattle.implib_arm64ec.specs.ShortImports.{auxiliary_symbol, import_of, import_symbols, name_type_of, plain_symbol, spec_of, symbol_apart, symbol_of, third_text}
 use Rattle.implib_arm64ec.specs.declared.kept_import.KeptImport.{KeptImport}
 use Rattle.implib_arm64ec.specs.declared.library.ImportsError.{ImportsError}
-use Rattle.implib_arm64ec.specs.declared.library.ImportsError.TheVariants.{Invalid, OutOfMemory}
-use Rattle.implib_arm64ec.specs.declared.library.ImportsFault.TheVariants.{MemberTooLong, NulInExport}
+use Rattle.implib_arm64ec.specs.declared.library.ImportsFault.TheVariants.{NulInExport}
 
 -- a part of a text, by where it begins and ends
-pub part : (text a b c : List ℕ) (i j : ℕ) → text ≡ a ++ (b ++ c) → length a ≡ i → length a + length b ≡ j → slice_range text i j ≡ b
+part : (text a b c : List ℕ) (i j : ℕ) → text ≡ a ++ (b ++ c) → length a ≡ i → length a + length b ≡ j → slice_range text i j ≡ b
 part text a b c i j e first last =
     let size : length b ≡ j - i = omega (arith, first, last) in
     ap (λ (t : List ℕ). take (j - i) (drop i t)) e ∙ (ap (take (j - i)) (drop_at a (b ++ c) i first) ∙ take_at b c (j - i) size)
@@ -68,12 +64,6 @@ module _ (texts : List ℕ) (address_end symbol_end : ℕ) (plain symbol other :
 
   pub other_is : drop symbol_end texts ≡ other
   other_is = ap (drop symbol_end) after_all ∙ drop_at ((imp_symbol plain ++ auxiliary_symbol plain) ++ symbol) other symbol_end all_size
-
-  pub within : symbol_end ≤ length texts
-  within = omega (arith, ap length after_all, length-append ((imp_symbol plain ++ auxiliary_symbol plain) ++ symbol) other, all_size)
-
-  pub ordered : address_end + (address_end + 4) ≤ symbol_end
-  ordered = omega (arith, has.own, has.address)
 
   last_text : IsUtf8 (symbol ++ other)
   last_text = IsUtf8-append symbol other has.symbol_text has.other_text
@@ -202,78 +192,16 @@ module _ (dll : NamesOfDll) (index : ℕ) (e : ExportView) (public : e.private �
       ap (λ b. if b then None else if holds_nul e then Some (NulInExport index) else spec_fault index (spec_of dll e)) public
       ∙ ap (λ b. if b then Some (NulInExport index) else spec_fault index (spec_of dll e)) free
 
-  pub nul_fault : holds_nul e ≡ true → export_fault dll index e ≡ Some (NulInExport index)
-  nul_fault held =
-      ap (λ b. if b then None else if holds_nul e then Some (NulInExport index) else spec_fault index (spec_of dll e)) public
-      ∙ ap (λ b. if b then Some (NulInExport index) else spec_fault index (spec_of dll e)) held
-
   pub fault_of : (error : ImportsError) → holds_nul e ≡ false → HasNoImport dll.text index e error → IsFault (export_fault dll index e) error
   fault_of error free none = subst (λ f. IsFault f error) (sym (not_passed_over free)) (none dll.linked)
 
-  pub accepted_of : (k : KeptImport) → holds_nul e ≡ false → IsKeptOf dll.text e k → export_fault dll index e ≡ None
-  accepted_of k free is =
-      let size : nat_le (short_import_size (import_of dll.text e (kept_symbol k))) 0xFFFF_FFFF ≡ true =
-      le-leb (short_import_size (import_of dll.text e (kept_symbol k))) 0xFFFF_FFFF (omega (arith, is.kept.short, ap short_import_size is.says)) in
-      not_passed_over free
-      ∙ (ap (λ s. spec_fault index (spec_with dll e s)) is.symbol
-      ∙ ap (λ b. if b then None else Some (MemberTooLong index)) size)
-
-  pub made_of : (items more : List KeptImport) (k : KeptImport) → more ≡ items ++ k ∷ [] → IsKeptOf dll.text e k
-      → map (kept_view dll) more ≡ map (kept_view dll) items ++ import_of_export dll e
-  made_of items more k is of =
-      let one : member_of (import_spec dll e (kept_symbol k)) ≡ kept_view dll k =
-      ap (λ (r : ShortImport). record { name = dll.linked; bytes = short_import_bytes r; symbols = import_symbols e (kept_symbol k) }) (sym of.says)
-      ∙ ap (λ (symbols : List (List ℕ)). record { name = dll.linked; bytes = short_import_bytes (kept_import dll.text k); symbols = symbols }) (sym of.lists) in
-      let made : import_of_export dll e ≡ kept_view dll k ∷ [] =
-      ap (λ b. if b then [] else members_made (spec_of dll e)) public
-      ∙ (ap (λ s. members_made (spec_with dll e s)) of.symbol ∙ ap (λ (m : MemberView). m ∷ []) one) in
-      ap (map (kept_view dll)) is ∙ (map-append (kept_view dll) items (k ∷ []) ∙ ap (λ t. map (kept_view dll) items ++ t) (sym made))
-
-pub none_made : (dll : NamesOfDll) (e : ExportView) → e.private ≡ true → import_of_export dll e ≡ []
-none_made dll e private = ap (λ b. if b then [] else members_made (spec_of dll e)) private
-
-pub none_at_fault : (dll : NamesOfDll) (index : ℕ) (e : ExportView) → e.private ≡ true → export_fault dll index e ≡ None
-none_at_fault dll index e private =
-    ap (λ b. if b then None else if holds_nul e then Some (NulInExport index) else spec_fault index (spec_of dll e)) private
-
--- one import more
-pub all_kept : (dll : List ℕ) (items more : List KeptImport) (k : KeptImport) → more ≡ items ++ k ∷ [] → AllByRecursion (IsKept dll) items → IsKept dll k
-    → AllByRecursion (IsKept dll) more
-all_kept dll items more k is all kept = rw is (AllByRecursion-append (IsKept dll) items (k ∷ []) all (kept, tt))
-
--- a symbol without a reading, and an import that is too long
-pub no_reading : (dll : List ℕ) (index : ℕ) (e : ExportView) (error : ImportsError) → IsFault (symbol_fault index (symbol_of e)) error → HasNoImport dll index e error
-no_reading dll index e error fault linked = by_symbol (symbol_of e) error fault
-  where
-    names : NamesOfDll
-    names = record { linked = linked; text = dll }
-
-    by_symbol : (s : Result (List ℕ) ℕ) (error : ImportsError) → IsFault (symbol_fault index s) error → IsFault (spec_fault index (spec_with names e s)) error
-    by_symbol (Ok symbol) (Invalid fault) is = absurd (cc)
-    by_symbol (Ok symbol) (OutOfMemory refused) is = tt
-    by_symbol (Err place) error is = is
-
-pub too_long : (dll : List ℕ) (index : ℕ) (e : ExportView) (symbol : List ℕ) → symbol_of e ≡ Ok symbol
-    → 0xFFFF_FFFF < 22 + (length symbol + length (dll_texts dll (third_text e symbol))) → HasNoImport dll index e (Invalid (MemberTooLong index))
-too_long dll index e symbol marked long linked =
-    let names : NamesOfDll = record { linked = linked; text = dll } in
-    let size : nat_le (short_import_size (import_of dll e symbol)) 0xFFFF_FFFF ≡ false =
-    lt-leb (short_import_size (import_of dll e symbol)) 0xFFFF_FFFF (omega (arith, long)) in
-    ap (λ s. spec_fault index (spec_with names e s)) marked ∙ ap (λ b. if b then None else Some (MemberTooLong index)) size
-
 -- what holds of the member at an index, by what is kept there
 module _ (dll : NamesOfDll) (items : List KeptImport) (index : ℕ) (d : KeptImport) (within : index < length items) where
-  pub at_index : member_at (map (kept_view dll) items) index ≡ kept_view dll (get_or items index d)
+  at_index : member_at (map (kept_view dll) items) index ≡ kept_view dll (get_or items index d)
   at_index = get_or-map (kept_view dll) items index d no_member within
 
   pub size_at : short_import_size (kept_import dll.text (get_or items index d)) ≡ length (member_at (map (kept_view dll) items) index).bytes
   size_at = sym (ap (λ (m : MemberView). length m.bytes) at_index ∙ length-short_import_bytes (kept_import dll.text (get_or items index d)))
-
-  pub symbols_at : kept_symbols (get_or items index d) ≡ (member_at (map (kept_view dll) items) index).symbols
-  symbols_at = sym (ap (λ (m : MemberView). m.symbols) at_index)
-
-  pub bytes_at : short_import_bytes (kept_import dll.text (get_or items index d)) ≡ (member_at (map (kept_view dll) items) index).bytes
-  bytes_at = sym (ap (λ (m : MemberView). m.bytes) at_index)
 
 pub name_at : (dll : NamesOfDll) (items : List KeptImport) (index : ℕ) → index < length items → dll.linked ≡ (member_at (map (kept_view dll) items) index).name
 name_at dll [] index inside = absurd (omega (arith, inside))

@@ -1,6 +1,5 @@
 //! The short imports of a library, which are made when they are wanted.
 
-ghost use Rattle.implib_arm64ec.specs.KeptImports.{kept_import, kept_symbols};
 ghost use Rattle.std.specs.Prelude.{◌≡◌, ◌<◌, ◌==◌, ◌^◌, length};
 
 use crate::kept_import::KeptImport;
@@ -18,7 +17,6 @@ pub struct Arm64ecImports {
 }
 
 impl Model for Arm64ecImports {
-    ghost use Rattle.implib.specs.LibraryName.{NamesOfDll};
     ghost use Rattle.implib.specs.Members.MemberSpec.{MemberView};
     ghost use Rattle.implib_arm64ec.specs.KeptImports.{IsKept, kept_view};
     ghost use Rattle.std.specs.List.{AllByRecursion};

@@ -2,16 +2,12 @@
 
 ghost use Rattle.implib.specs.Members.Msvc.{dll_texts, short_import_bytes, short_import_size};
 ghost use Rattle.implib.specs.Members.Msvc.{short_import_view};
-ghost use Rattle.implib.specs.Formats.ShortImport.{import_data};
-ghost use Rattle.implib_arm64ec.specs.KeptImports.{HasTexts, IsKept, IsKeptWith, auxiliary_end};
-ghost use Rattle.implib_arm64ec.specs.KeptImports.{kept_address};
-ghost use Rattle.implib_arm64ec.specs.KeptImports.{kept_auxiliary, kept_import, kept_other};
-ghost use Rattle.implib_arm64ec.specs.KeptImports.{kept_plain};
+ghost use Rattle.implib_arm64ec.specs.KeptImports.{IsKept, IsKeptWith, auxiliary_end, kept_address};
+ghost use Rattle.implib_arm64ec.specs.KeptImports.{kept_auxiliary, kept_import, kept_plain};
 ghost use Rattle.implib_arm64ec.specs.KeptImports.{kept_symbol, kept_symbols, kept_third};
 ghost use Rattle.implib_arm64ec.specs.KeptImports.{third_with};
-ghost use Rattle.std.specs.Prelude.{◌≡◌, ◌≤◌, ◌+◌, ◌++◌, ◌<◌, ◌==◌, List, IfOk, MatchBool, OnOk};
-ghost use Rattle.std.specs.Prelude.{bytes_eq, not, option_map, get_or, length, ℕ, set, []};
-ghost use Rattle.std.specs.Prelude.{string_bytes};
+ghost use Rattle.std.specs.Prelude.{◌≡◌, ◌≤◌, ◌+◌, ◌++◌, ◌<◌, ℕ, List, [], IfOk, MatchBool, OnOk};
+ghost use Rattle.std.specs.Prelude.{bytes_eq, get_or, length, not, option_map, set, string_bytes};
 
 use implib::msvc::ShortImport;
 use implib::{Error, MachineType};
@@ -63,7 +59,7 @@ pub(crate) struct Numbers {
     pub(crate) name_type: u16,
 }
 
-/// Whether a `u32` can hold the size of a short import with these texts.
+// Whether a `u32` can hold the size of a short import with these texts.
 pub(crate) fn is_short(symbol: &str, dll: &str, third: Option<&str>) -> bool
     ensures { MatchBool result
         (22 + (length symbol.now
