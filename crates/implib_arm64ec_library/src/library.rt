@@ -244,6 +244,7 @@ fn library_named(
         return Err(Arm64ecRefusal::OutOfMemory);
     };
     let def = for_linkers(alloc, &written, def)?;
+    drop(written);
     let imports = match imports_for(alloc, &def) {
         Ok(imports) => imports,
         Err(ImportsError::Invalid(fault)) => {
