@@ -1,3 +1,4 @@
+pub mod But
 pub mod Worked
 pub mod Archives
 pub mod Machines

@@ -86,30 +86,40 @@ last_letter n first second is = ap (λ (text : List ℕ). slice_index text n) is
 pub near_has_instructions : NearHasInstructions
 unfolding main_symbol
 near_has_instructions = record {
-  instructions = λ x. differ 0x15 0x25 (sym (last_letter 1 jump_code _ (begins jump_code x.front _ x.instructions x.here))) (omega arith);
-  here = λ x. differ 0x90 0xFF (last_letter 0 (0x90 ∷ call_code) _ (begins (0x90 ∷ call_code) x.front _ x.instructions x.here)) (omega arith);
-  relocated = λ x. none_there _ x.before x.behind x.relocated;
-  relocated_type = λ x. differ 4 5 (sym (kind_is (field 2 1 5) (field 2 x.index amd64_rel32) (of_one _ _ x.before x.behind x.relocated))) (omega arith);
-  relocated_offset = λ x. differ 1 2 (offset_is (field 1 1 amd64_rel32) (field 2 x.index amd64_rel32) (of_one _ _ x.before x.behind x.relocated)) (omega arith);
-  aside_before = λ x. elim (of_two (field 0 1 11) (field 2 1 amd64_rel32) (field 2 x.index amd64_rel32) x.before x.behind x.relocated) [
+  instructions = (record { front = []; back = []; instructions = tt; here = refl; index = 1; before = []; behind = []; relocated = refl; aside_before = tt; aside_behind = tt; symbol = left imp_f; target = refl; undefined = refl; named = refl },
+    λ x. differ 0x15 0x25 (sym (last_letter 1 jump_code _ (begins jump_code x.front _ x.instructions x.here))) (omega arith));
+  here = (record { front = 0x90 ∷ []; back = []; instructions = refl; here = tt; index = 1; before = []; behind = []; relocated = refl; aside_before = tt; aside_behind = tt; symbol = left imp_f; target = refl; undefined = refl; named = refl },
+    λ x. differ 0x90 0xFF (last_letter 0 (0x90 ∷ call_code) _ (begins (0x90 ∷ call_code) x.front _ x.instructions x.here)) (omega arith));
+  relocated = (record { front = []; back = []; instructions = refl; here = refl; index = 1; before = []; behind = []; relocated = tt; aside_before = tt; aside_behind = tt; symbol = left imp_f; target = refl; undefined = refl; named = refl },
+    λ x. none_there _ x.before x.behind x.relocated);
+  relocated_type = (record { front = []; back = []; instructions = refl; here = refl; index = 1; before = []; behind = []; relocated = tt; aside_before = tt; aside_behind = tt; symbol = left imp_f; target = refl; undefined = refl; named = refl },
+    λ x. differ 4 5 (sym (kind_is (field 2 1 5) (field 2 x.index amd64_rel32) (of_one _ _ x.before x.behind x.relocated))) (omega arith));
+  relocated_offset = (record { front = []; back = []; instructions = refl; here = refl; index = 1; before = []; behind = []; relocated = tt; aside_before = tt; aside_behind = tt; symbol = left imp_f; target = refl; undefined = refl; named = refl },
+    λ x. differ 1 2 (offset_is (field 1 1 amd64_rel32) (field 2 x.index amd64_rel32) (of_one _ _ x.before x.behind x.relocated)) (omega arith));
+  aside_before = (record { front = []; back = []; instructions = refl; here = refl; index = 1; before = field 0 1 11 ∷ []; behind = []; relocated = refl; aside_before = tt; aside_behind = tt; symbol = left imp_f; target = refl; undefined = refl; named = refl },
+    λ x. elim (of_two (field 0 1 11) (field 2 1 amd64_rel32) (field 2 x.index amd64_rel32) x.before x.behind x.relocated) [
     | inl first ↦ differ 0 2 (offset_is (field 0 1 11) (field 2 x.index amd64_rel32) first.0) (omega arith)
     | inr second ↦ over_it (subst (AllByRecursion (IsAside AMD64 0 6)) second.0 x.aside_before).0
-  ];
-  aside_behind = λ x. elim (of_two (field 2 1 amd64_rel32) (field 0 1 11) (field 2 x.index amd64_rel32) x.before x.behind x.relocated) [
+  ]);
+  aside_behind = (record { front = []; back = []; instructions = refl; here = refl; index = 1; before = []; behind = field 0 1 11 ∷ []; relocated = refl; aside_before = tt; aside_behind = tt; symbol = left imp_f; target = refl; undefined = refl; named = refl },
+    λ x. elim (of_two (field 2 1 amd64_rel32) (field 0 1 11) (field 2 x.index amd64_rel32) x.before x.behind x.relocated) [
     | inl first ↦ over_it (subst (AllByRecursion (IsAside AMD64 0 6)) first.1 x.aside_behind).0
     | inr second ↦ differ 0 2 (offset_is (field 0 1 11) (field 2 x.index amd64_rel32) second.1) (omega arith)
-  ];
-  target = λ x.
+  ]);
+  target = (record { front = []; back = []; instructions = refl; here = refl; index = 2; before = []; behind = []; relocated = refl; aside_before = tt; aside_behind = tt; symbol = left imp_f; target = tt; undefined = refl; named = refl },
+    λ x.
       let is : 2 ≡ x.index = symbol_is (field 2 2 amd64_rel32) (field 2 x.index amd64_rel32) (of_one _ _ x.before x.behind x.relocated) in
       let none : None ≡ Some (ASymbol x.symbol) = subst (λ n. slice_get (ASymbol main_symbol ∷ ASymbol (left imp_f) ∷ []) n ≡ Some (ASymbol x.symbol)) (sym is) x.target in
-      cc;
-  undefined = λ x.
+      cc);
+  undefined = (record { front = []; back = []; instructions = refl; here = refl; index = 1; before = []; behind = []; relocated = refl; aside_before = tt; aside_behind = tt; symbol = symbol_of_class imp_f 1 class_external; target = refl; undefined = tt; named = refl },
+    λ x.
       let is : 1 ≡ x.index = symbol_is (field 2 1 amd64_rel32) (field 2 x.index amd64_rel32) (of_one _ _ x.before x.behind x.relocated) in
       let same : x.symbol ≡ symbol_of_class imp_f 1 class_external = same_symbol main_symbol (symbol_of_class imp_f 1 class_external) x.symbol x.index is x.target in
-      true≢false (sym x.undefined ∙ ap is_undefined_external same);
-  named = λ x.
+      true≢false (sym x.undefined ∙ ap is_undefined_external same));
+  named = (record { front = []; back = []; instructions = refl; here = refl; index = 1; before = []; behind = []; relocated = refl; aside_before = tt; aside_behind = tt; symbol = left (codes "__imp_g"); target = refl; undefined = refl; named = tt },
+    λ x.
       let is : 1 ≡ x.index = symbol_is (field 2 1 amd64_rel32) (field 2 x.index amd64_rel32) (of_one _ _ x.before x.behind x.relocated) in
-      differ 102 103 (sym (last_letter 6 (codes "__imp_g") imp_f (other_name (left (codes "__imp_g")) x.symbol x.index imp_f is x.target x.named))) (omega arith);
+      differ 102 103 (sym (last_letter 6 (codes "__imp_g") imp_f (other_name (left (codes "__imp_g")) x.symbol x.index imp_f is x.target x.named))) (omega arith));
 }
 
 pub near_has_direct_call : NearHasDirectCall
@@ -148,9 +158,12 @@ entry_named name (ASymbol s) = bytes_eq s.name name
 
 pub near_defines : NearDefines
 near_defines = record {
-  held = λ x. none_passes (entry_named (codes "f")) (ASymbol (symbol_of_class (codes "f") 1 class_external)) (ASymbol (symbol_of_class (codes "main") 1 class_external) ∷ ASymbol (left imp_f) ∷ []) refl x.held refl;
-  external = λ x. true≢false (sym x.external);
-  here = λ x. differ 1 2 (sym x.here) (omega arith);
+  held = (record { held = tt; external = refl; here = refl },
+    λ x. none_passes (entry_named (codes "f")) (ASymbol (symbol_of_class (codes "f") 1 class_external)) (ASymbol (symbol_of_class (codes "main") 1 class_external) ∷ ASymbol (left imp_f) ∷ []) refl x.held refl);
+  external = (record { held = (1, omega arith, refl); external = tt; here = refl },
+    λ x. true≢false (sym x.external));
+  here = (record { held = (1, omega arith, refl); external = refl; here = tt },
+    λ x. differ 1 2 (sym x.here) (omega arith));
 }
 
 -- What arrives.

@@ -7,7 +7,8 @@ use Rattle.implib.specs.declared.machine.MachineType.TheVariants.{AMD64}
 use Rattle.implib.specs.Formats.Constants.{amd64_rel32, arm64_pagebase_rel21, class_external}
 use Rattle.implib.specs.Formats.Object.{ASymbol, ObjectSymbol}
 use Rattle.implib.specs.Link.Placement.{Unplaced}
-use Rattle.implib_link.specs.Gnu.Calls.{CallArrives, Defines, DirectCallArrives, HasCall, HasDirectCall, PlacedCode, StubAt}
+use Rattle.implib_link.specs.Gnu.Calls.{CallArrives, DirectCallArrives, HasDirectCall, PlacedCode, StubAt, call_bytes, call_relocations}
+use Rattle.implib_link_instances.specs.But.GnuCalls.{MissesDefines, MissesHasInstructions}
 use Rattle.implib_link.specs.Gnu.Pages.{HasPage}
 use Rattle.implib_link.specs.Gnu.Pointers.{HasLoad, LoadArrives}
 use Rattle.implib_link.specs.Gnu.Rebased.{StubArrives}
@@ -56,17 +57,36 @@ imp_f = codes "__imp_f"
 -- A call; a jump; no relocation; one of another type, and one at another offset; one more before it in the list and one
 -- after it, that change its bytes; a symbol that the object defines; and another name
 pub record NearHasInstructions : Type 0 where
-  pub instructions : HasCall AMD64 (code_of jump_code (field 2 1 amd64_rel32 ∷ []) (left imp_f)) 0 imp_f → ⊥
-  pub here : HasCall AMD64 (code_of (0x90 ∷ call_code) (field 2 1 amd64_rel32 ∷ []) (left imp_f)) 0 imp_f → ⊥
-  pub relocated : HasCall AMD64 (code_of call_code [] (left imp_f)) 0 imp_f → ⊥
-  pub relocated_type : HasCall AMD64 (code_of call_code (field 2 1 5 ∷ []) (left imp_f)) 0 imp_f → ⊥
-  pub relocated_offset : HasCall AMD64 (code_of call_code (field 1 1 amd64_rel32 ∷ []) (left imp_f)) 0 imp_f → ⊥
-  pub aside_before : HasCall AMD64 (code_of call_code (field 0 1 11 ∷ field 2 1 amd64_rel32 ∷ []) (left imp_f)) 0 imp_f → ⊥
-  pub aside_behind : HasCall AMD64 (code_of call_code (field 2 1 amd64_rel32 ∷ field 0 1 11 ∷ []) (left imp_f)) 0 imp_f → ⊥
-  pub target : HasCall AMD64 (code_of call_code (field 2 2 amd64_rel32 ∷ []) (left imp_f)) 0 imp_f → ⊥
-  pub undefined : HasCall AMD64 (code_of call_code (field 2 1 amd64_rel32 ∷ []) (symbol_of_class imp_f 1 class_external)) 0
-      imp_f → ⊥
-  pub named : HasCall AMD64 (code_of call_code (field 2 1 amd64_rel32 ∷ []) (left (codes "__imp_g"))) 0 imp_f → ⊥
+  pub instructions : MissesHasInstructions (codes "instructions") AMD64
+      (code_of jump_code (field 2 1 amd64_rel32 ∷ []) (left imp_f)) 0 imp_f
+      (call_bytes AMD64) (call_relocations AMD64)
+  pub here : MissesHasInstructions (codes "here") AMD64
+      (code_of (0x90 ∷ call_code) (field 2 1 amd64_rel32 ∷ []) (left imp_f)) 0 imp_f
+      (call_bytes AMD64) (call_relocations AMD64)
+  pub relocated : MissesHasInstructions (codes "relocated") AMD64
+      (code_of call_code [] (left imp_f)) 0 imp_f
+      (call_bytes AMD64) (call_relocations AMD64)
+  pub relocated_type : MissesHasInstructions (codes "relocated") AMD64
+      (code_of call_code (field 2 1 5 ∷ []) (left imp_f)) 0 imp_f
+      (call_bytes AMD64) (call_relocations AMD64)
+  pub relocated_offset : MissesHasInstructions (codes "relocated") AMD64
+      (code_of call_code (field 1 1 amd64_rel32 ∷ []) (left imp_f)) 0 imp_f
+      (call_bytes AMD64) (call_relocations AMD64)
+  pub aside_before : MissesHasInstructions (codes "aside_before") AMD64
+      (code_of call_code (field 0 1 11 ∷ field 2 1 amd64_rel32 ∷ []) (left imp_f)) 0 imp_f
+      (call_bytes AMD64) (call_relocations AMD64)
+  pub aside_behind : MissesHasInstructions (codes "aside_behind") AMD64
+      (code_of call_code (field 2 1 amd64_rel32 ∷ field 0 1 11 ∷ []) (left imp_f)) 0 imp_f
+      (call_bytes AMD64) (call_relocations AMD64)
+  pub target : MissesHasInstructions (codes "target") AMD64
+      (code_of call_code (field 2 2 amd64_rel32 ∷ []) (left imp_f)) 0 imp_f
+      (call_bytes AMD64) (call_relocations AMD64)
+  pub undefined : MissesHasInstructions (codes "undefined") AMD64
+      (code_of call_code (field 2 1 amd64_rel32 ∷ []) (symbol_of_class imp_f 1 class_external)) 0 imp_f
+      (call_bytes AMD64) (call_relocations AMD64)
+  pub named : MissesHasInstructions (codes "named") AMD64
+      (code_of call_code (field 2 1 amd64_rel32 ∷ []) (left (codes "__imp_g"))) 0 imp_f
+      (call_bytes AMD64) (call_relocations AMD64)
 
 -- of a direct call: one through a pointer; the field at another offset; another name
 pub record NearHasDirectCall : Type 0 where
@@ -88,10 +108,10 @@ pub record NearHasPage : Type 0 where
 
 -- code that defines `f`, as a symbol of its object's; an object without it, a name that is left, and another section
 pub record NearDefines : Type 0 where
-  pub held : Defines (code_of [] [] (left imp_f)) (symbol_of_class (codes "f") 1 class_external) → ⊥
-  pub external : Defines (code_of [] [] (symbol_of_class (codes "f") 1 3)) (symbol_of_class (codes "f") 1 3) → ⊥
-  pub here : Defines (code_of [] [] (symbol_of_class (codes "f") 2 class_external)) (symbol_of_class (codes "f") 2 class_external)
-      → ⊥
+  pub held : MissesDefines (codes "held") (code_of [] [] (left imp_f)) (symbol_of_class (codes "f") 1 class_external)
+  pub external : MissesDefines (codes "external") (code_of [] [] (symbol_of_class (codes "f") 1 3)) (symbol_of_class (codes "f") 1 3)
+  pub here : MissesDefines (codes "here") (code_of [] [] (symbol_of_class (codes "f") 2 class_external))
+      (symbol_of_class (codes "f") 2 class_external)
 
 -- A jump for the call at 0x100B; two bytes of it, where the missing ones would lead to 0x1011; a call that leads to 0x81
 pub record NearCallArrives : Type 0 where
