@@ -40,6 +40,7 @@ use Rattle.implib_link_instances.proofs.Worked.NearPrograms.{gets_by, mid_links}
 use Rattle.implib_link_instances.proofs.Worked.NearSearches.{none_in, searched}
 use Rattle.implib_link_instances.proofs.Worked.NearTables.{placed_same}
 use Rattle.implib_link_instances.proofs.Worked.Programs.{distinct_by}
+use Rattle.implib_link_instances.proofs.Worked.RefusedFields.{absent}
 use Rattle.implib_link_instances.proofs.Worked.RefusedLinks.{are_located, differ, number}
 use Rattle.implib_link_instances.proofs.Worked.Searched.{worked_searched}
 
@@ -178,6 +179,14 @@ bare_imports (suc i) p is = cc
 pub near_run_links : NearRunLinks
 unfolding searched
 near_run_links = record {
+  imports = (
+    record {
+      imports = tt;
+      targets = ((tt, (tt, (tt, (((64, refl), ((120, refl), ((208, refl), tt))), (tt, (tt, tt)))))), ((tt, (tt, (tt, (tt, (tt, (tt, tt)))))), tt));
+      defined = ((208, refl), tt);
+    },
+    λ x. absent [] 4 4 _ refl (omega arith) (x.imports 0 bare_input refl).loads.plain.lookups_field,
+  );
   targets = λ x. no_definition _ x.defined.0.1;
   defined = (
     record {

@@ -130,8 +130,8 @@ two_members =
     ∷ record { name = codes "b.o"; bytes = 3 ∷ 4 ∷ []; symbols = codes "y" ∷ [] }
     ∷ []
 
--- no archive; a member of another name; the members of the archive above, whose index is not in their order: all other
--- fields hold
+-- no archive; a member of another name; the members of the archive above, whose index is not in
+-- their order: all other fields hold
 pub record NearHasMembersAs : Type 0 where
   pub located : MissesHasMembersAs (codes "located") Gnu [] []
   pub read : MissesHasMembersAs (codes "read") Gnu libquit

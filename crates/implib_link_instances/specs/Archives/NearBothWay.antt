@@ -1,5 +1,5 @@
--- Near misses of the whole way for libraries of both flavours. A record `NearX` has those of `X`, each by the name of the field
--- that refuses it: all other fields hold.
+-- Near misses of the whole way for libraries of both flavours. A record `NearX` has those of `X`,
+-- each by the name of the field that refuses it: all other fields hold.
 use Rattle.std.specs.Prelude.{List, [], ◌∷◌, ◌++◌, codes}
 use Rattle.implib.specs.declared.machine.MachineType.TheVariants.{AMD64}
 use Rattle.implib.specs.Formats.Object.{Object}
@@ -27,8 +27,9 @@ null_alone = foo_alias ∷ null_named (codes "zed.dll") ∷ []
 abbrev pub ends_first : Bases
 ends_first = record mixed_bases { directory_ends = 0x2000 }
 
--- an order of no libraries; without the given object; without import tables; of them the null descriptor alone; hints at 0;
--- lookup tables 4 bytes before; address tables 4 bytes on; and the null descriptor 4 bytes on
+-- an order of no libraries; without the given object; without import tables; of them the null
+-- descriptor alone; hints at 0; lookup tables 4 bytes before; address tables 4 bytes on; and the
+-- null descriptor 4 bytes on
 pub record NearAreLinkedForBoth : Type 0 where
   pub linked : LinkedAt zed_and_foo mixed_bases mixed_objects
   pub order : MissesAreLinkedForBoth (codes "order") AMD64 foo_and_zed (choosing ∷ []) mixed_taken
@@ -38,8 +39,8 @@ pub record NearAreLinkedForBoth : Type 0 where
       (objects_taken AMD64 (foo_alias ∷ (zed_members ++ null_named (codes "zed.dll") ∷ foo_linked)))
   pub tables : MissesAreLinkedForBoth (codes "tables") AMD64 foo_and_zed (choosing ∷ []) mixed_taken
       zed_and_foo ends_first (choosing ∷ objects_taken AMD64 (foo_alias ∷ []))
-  pub members : MissesAreLinkedForBoth (codes "members") AMD64 foo_and_zed (choosing ∷ []) mixed_taken
-      zed_and_foo ends_first (choosing ∷ objects_taken AMD64 null_alone)
+  pub members : MissesAreLinkedForBoth (codes "members") AMD64 foo_and_zed (choosing ∷ [])
+      mixed_taken zed_and_foo ends_first (choosing ∷ objects_taken AMD64 null_alone)
   pub admissible : MissesAreLinkedForBoth (codes "admissible") AMD64 foo_and_zed (choosing ∷ [])
       mixed_taken zed_and_foo (record mixed_bases { hint_names = 0 }) mixed_objects
   pub lookups : MissesAreLinkedForBoth (codes "lookups") AMD64 foo_and_zed (choosing ∷ [])
@@ -51,8 +52,8 @@ pub record NearAreLinkedForBoth : Type 0 where
   pub follows : MissesAreLinkedForBoth (codes "follows") AMD64 foo_and_zed (choosing ∷ [])
       mixed_taken zed_and_foo (record mixed_bases { directory_ends = 0x202C }) mixed_objects
 
--- Nothing is linked but the object; and no library, with a linked program that imports from two DLLs. By the directory that
--- `links` says, a loader ends as `ends` says, which follows from it.
+-- Nothing is linked but the object; and no library, with a linked program that imports from two
+-- DLLs. By the directory that `links` says, a loader ends as `ends` says, which follows from it.
 pub record NearBothArrive : Type 0 where
   pub links : BothArrive AMD64 foo_and_zed (choosing ∷ []) [] zed_and_foo mixed_bases (choosing ∷ []) → ⊥
   pub ends : BothArrive AMD64 [] [] [] [] touching_8 (program_objects AMD64) → ⊥

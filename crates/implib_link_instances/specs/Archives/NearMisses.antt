@@ -1,6 +1,7 @@
--- Near misses of searches in bytes, and what a search says of the bytes. A record `NearX` has those of the record `X`, each
--- by the name of the field that refuses it: all other fields hold.
-use Rattle.std.specs.Prelude.{◌≡◌, ℕ, List, [], ◌∷◌, ◌++◌, ◌^◌, codes, drop, map, option_and_then, take, true, Some}
+-- Near misses of searches in bytes, and what a search says of the bytes. A record `NearX` has those
+-- of the record `X`, each by the name of the field that refuses it: all other fields hold.
+use Rattle.std.specs.Prelude.{◌≡◌, ℕ, List, [], ◌∷◌, ◌++◌, ◌^◌, codes, drop, map, option_and_then}
+use Rattle.std.specs.Prelude.{take, true, Some}
 use Rattle.implib.specs.declared.machine.MachineType.TheVariants.{AMD64, ARMNT}
 use Rattle.implib.specs.Definition.{ExportView, empty_export}
 use Rattle.implib.specs.Formats.Constants.{class_external}
@@ -20,9 +21,11 @@ use Rattle.implib_link.specs.Search.Search.{Takes}
 use Rattle.implib_link_instances.specs.But.ArchiveLinks.{MissesAreMembersAt, MissesHaveArchive}
 use Rattle.implib_link_instances.specs.But.ArchiveLinks.{MissesIsBuiltByLld, MissesIsHeaderOf}
 use Rattle.implib_link_instances.specs.But.ArchiveLinks.{MissesIsWantedBy, MissesLeadsToFirst}
-use Rattle.implib_link_instances.specs.But.ArchiveLinks.{MissesLldArrives, MissesPullsInAt, MissesTakesAt}
+use Rattle.implib_link_instances.specs.But.ArchiveLinks.{MissesLldArrives, MissesPullsInAt}
+use Rattle.implib_link_instances.specs.But.ArchiveLinks.{MissesTakesAt}
 use Rattle.implib_link_instances.specs.Worked.MsvcArchives.{msvc_foo, msvc_zed}
-use Rattle.implib_link_instances.specs.Worked.NearPrograms.{defines_mid, lld_addresses, lld_defines, lld_range, mid_alone}
+use Rattle.implib_link_instances.specs.Worked.NearPrograms.{defines_mid, lld_addresses, lld_defines}
+use Rattle.implib_link_instances.specs.Worked.NearPrograms.{lld_range, mid_alone}
 use Rattle.implib_link_instances.specs.Worked.NearSearches.{asking, zed_short}
 use Rattle.implib_link_instances.specs.Worked.Programs.{code_object, program_objects, symbol_of_class, touching_8}
 use Rattle.implib_link_instances.specs.Worked.Search.{members_of, three, wanted}
@@ -42,8 +45,8 @@ pub record NearPullsInAt : Type 0 where
   pub asked : MissesPullsInAt (codes "asked") Gnu First worked_gnu (asks_for []) [] (codes "f") 182
   pub found : MissesPullsInAt (codes "found") Gnu First worked_gnu (asks_for (codes "f" ∷ [])) []
       (codes "f") 246
-  pub new : MissesPullsInAt (codes "new") Gnu First worked_gnu (asks_for (codes "f" ∷ [])) (182 ∷ [])
-      (codes "f") 182
+  pub new : MissesPullsInAt (codes "new") Gnu First worked_gnu (asks_for (codes "f" ∷ []))
+      (182 ∷ []) (codes "f") 182
 
 -- a member that nothing asks for; and nothing, though `f` asks for a member
 pub record NearTakesAt : Type 0 where
@@ -52,7 +55,11 @@ pub record NearTakesAt : Type 0 where
 
 -- the member that `f` is listed for first
 abbrev pub f_member : MemberView
-f_member = record { name = codes "a.o"; bytes = 1 ∷ 2 ∷ 3 ∷ []; symbols = codes "f" ∷ codes "__imp_f" ∷ [] }
+f_member = record {
+  name = codes "a.o";
+  bytes = 1 ∷ 2 ∷ 3 ∷ [];
+  symbols = codes "f" ∷ codes "__imp_f" ∷ [];
+}
 
 -- the second header and the first member: by the member's number, and by the header's
 pub record NearIsHeaderOf : Type 0 where
@@ -89,8 +96,8 @@ pub record NearLeadsToFirst : Type 0 where
       (nameless_for (codes "f" ++ 0 ∷ codes "g")) (codes "f")
   pub read : MissesLeadsToFirst (codes "read") Gnu First (nameless_for (codes "f")) (codes "f")
 
--- The second linker member of GNU's kind, which has none. Each of these fields follows from `wanted`, which says it of all
--- names that are wanted.
+-- The second linker member of GNU's kind, which has none. Each of these fields follows from
+-- `wanted`, which says it of all names that are wanted.
 pub record NearAreSearched : Type 0 where
   pub wanted : AreSearched Gnu Second worked_members → ⊥
   pub given : AreSearched Gnu Second worked_members → ⊥
@@ -112,38 +119,40 @@ bar_alias = record empty_export { name = codes "bar"; alias_target = codes "baz"
 abbrev pub asking_bar : Object
 asking_bar = code_object (symbol_of_class (codes "__imp_bar") 0 class_external ∷ [])
 
--- of another library; an export that the library does not have; an alias; and another export than the one that an object
--- leaves to others: by the name that is left, and by the export's
+-- of another library; an export that the library does not have; an alias; and another export than
+-- the one that an object leaves to others: by the name that is left, and by the export's
 pub record NearIsWantedBy : Type 0 where
   pub wanted : IsWantedBy (msvc_zed ∷ []) (asking_stack ∷ []) msvc_zed stack
   pub library : MissesIsWantedBy (codes "library") [] (asking_stack ∷ []) msvc_zed stack
-  pub export : MissesIsWantedBy (codes "export") (zed_short (codes "queue") ∷ []) (asking_stack ∷ [])
-      (zed_short (codes "queue")) stack
+  pub export : MissesIsWantedBy (codes "export") (zed_short (codes "queue") ∷ [])
+      (asking_stack ∷ []) (zed_short (codes "queue")) stack
   pub plain : MissesIsWantedBy (codes "plain") (msvc_foo ∷ []) (asking_bar ∷ []) msvc_foo bar_alias
   pub listed : MissesIsWantedBy (codes "listed") (msvc_zed ∷ []) (asking ∷ []) msvc_zed stack
   pub left : MissesIsWantedBy (codes "left") (msvc_zed ∷ []) (asking ∷ []) msvc_zed stack
 
--- What lld writes of one short import: no object for what lld defines; an object before or after it that defines the symbol,
--- too; no tables; a range at 0, and one that ends at 2^31
+-- What lld writes of one short import: no object for what lld defines; an object before or after it
+-- that defines the symbol, too; no tables; a range at 0, and one that ends at 2^31
 pub record NearIsBuiltByLld : Type 0 where
   pub placed : MissesIsBuiltByLld (codes "placed") AMD64 0x2000 (lld_addresses mid_alone) mid_alone
       (lld_range mid_alone ∷ []) []
-  pub none_before : MissesIsBuiltByLld (codes "none_before") AMD64 0x2000 (lld_addresses mid_alone) mid_alone
-      (lld_range mid_alone ∷ []) (defines_mid ∷ lld_defines mid_alone ∷ [])
-  pub none_behind : MissesIsBuiltByLld (codes "none_behind") AMD64 0x2000 (lld_addresses mid_alone) mid_alone
-      (lld_range mid_alone ∷ []) (lld_defines mid_alone ∷ defines_mid ∷ [])
+  pub none_before : MissesIsBuiltByLld (codes "none_before") AMD64 0x2000 (lld_addresses mid_alone)
+      mid_alone (lld_range mid_alone ∷ []) (defines_mid ∷ lld_defines mid_alone ∷ [])
+  pub none_behind : MissesIsBuiltByLld (codes "none_behind") AMD64 0x2000 (lld_addresses mid_alone)
+      mid_alone (lld_range mid_alone ∷ []) (lld_defines mid_alone ∷ defines_mid ∷ [])
   pub pieces : MissesIsBuiltByLld (codes "pieces") AMD64 0x2000 (lld_addresses mid_alone) mid_alone
       [] (lld_defines mid_alone ∷ [])
   pub starts : MissesIsBuiltByLld (codes "starts") AMD64 0x2000 (lld_addresses mid_alone) mid_alone
       (lld_range mid_alone ∷ record { start = 0; bytes = [] } ∷ []) (lld_defines mid_alone ∷ [])
   pub ends : MissesIsBuiltByLld (codes "ends") AMD64 0x2000 (lld_addresses mid_alone) mid_alone
-      (lld_range mid_alone ∷ record { start = 2 ^ 31; bytes = [] } ∷ []) (lld_defines mid_alone ∷ [])
+      (lld_range mid_alone ∷ record { start = 2 ^ 31; bytes = [] } ∷ [])
+      (lld_defines mid_alone ∷ [])
 
--- nothing is taken for an object that leaves `stack` to others: on ARMNT, of whose code nothing is claimed
+-- nothing is taken for an object that leaves `stack` to others: on ARMNT, of whose code nothing is
+-- claimed
 pub record NearLldArrives : Type 0 where
   pub shorts : MissesLldArrives (codes "shorts") ARMNT (msvc_zed ∷ []) (asking_stack ∷ []) []
 
--- No library, and a linked program that imports from two DLLs. By the directory that `links` says, a loader ends as `ends`
--- says, which follows from it.
+-- No library, and a linked program that imports from two DLLs. By the directory that `links` says,
+-- a loader ends as `ends` says, which follows from it.
 pub record NearCallsArrive : Type 0 where
   pub ends : CallsArrive AMD64 [] [] [] [] touching_8 (program_objects AMD64) → ⊥

@@ -1,5 +1,6 @@
--- Near misses of parts, and of programs of them: the files of GNU dlltool for aaa.dll, changed in one thing. A record
--- `NearX` has those of `X`, each by the name of the field that refuses it: all other fields hold.
+-- Near misses of parts, and of programs of them: the files of GNU dlltool for aaa.dll, changed in
+-- one thing. A record `NearX` has those of `X`, each by the name of the field that refuses it: all
+-- other fields hold.
 use Rattle.std.specs.Prelude.{ℕ, List, [], ◌∷◌, ◌++◌, Option, None, Some, bytes_eq, codes, map, if◌then◌else◌}
 use Rattle.implib.specs.declared.machine.MachineType.TheVariants.{AMD64}
 use Rattle.implib.specs.Formats.Constants.{class_external}
@@ -11,7 +12,9 @@ use Rattle.implib_link.specs.Parts.{Part}
 use Rattle.implib_link.specs.Tables.{TableEntry}
 use Rattle.implib_link_instances.specs.But.Links.{MissesIsEntry, MissesIsHead, MissesIsPart}
 use Rattle.implib_link_instances.specs.But.Links.{MissesIsProgramOfParts, MissesIsTail}
-use Rattle.implib_link_instances.specs.Worked.OtherLibraries.{aaa_head_bytes, aaa_tail_bytes, aone_bytes, atwo_bytes, linker_bases, objects_of, zzz_objects}
+use Rattle.implib_link_instances.specs.Worked.OtherLibraries.{aaa_head_bytes, aaa_tail_bytes}
+use Rattle.implib_link_instances.specs.Worked.OtherLibraries.{aone_bytes, atwo_bytes, linker_bases}
+use Rattle.implib_link_instances.specs.Worked.OtherLibraries.{objects_of, zzz_objects}
 use Rattle.implib_link_instances.specs.Worked.Parts.{aaa_part, asking, zzz_part}
 use Rattle.implib_link_instances.specs.Worked.Programs.{code_object, symbol_of_class}
 
@@ -78,10 +81,12 @@ pub record NearIsHead : Type 0 where
   pub fields : MissesIsHead (codes "fields") AMD64
       (with_instead (codes ".idata$2") no_table aaa_head) (aaa_tail ∷ []) (codes "aaa.dll")
   pub lookups : MissesIsHead (codes "lookups") AMD64
-      (with_instead (codes ".idata$4") (section (codes ".idata$4") table_flags (zeros 8) []) aaa_head)
+      (with_instead (codes ".idata$4") (section (codes ".idata$4") table_flags (zeros 8) [])
+      aaa_head)
       (aaa_tail ∷ []) (codes "aaa.dll")
   pub addresses : MissesIsHead (codes "addresses") AMD64
-      (with_instead (codes ".idata$5") (section (codes ".idata$5") table_flags (zeros 8) []) aaa_head)
+      (with_instead (codes ".idata$5") (section (codes ".idata$5") table_flags (zeros 8) [])
+      aaa_head)
       (aaa_tail ∷ []) (codes "aaa.dll")
   pub name : MissesIsHead (codes "name") AMD64 aaa_head (aaa_tail ∷ []) (codes "zzz.dll")
 
@@ -112,10 +117,12 @@ own_zone = code_object (symbol_of_class (codes "zone") 1 class_external ∷ [])
 
 -- no null descriptor; zzz.dll twice; a `zone` of the program's own; and descriptors at no multiple of 4
 pub record NearIsProgramOfParts : Type 0 where
-  pub tables : MissesIsProgramOfParts (codes "tables") AMD64 linker_bases (zzz_part ∷ []) zzz_objects
-  pub distinct : MissesIsProgramOfParts (codes "distinct") AMD64 linker_bases (zzz_part ∷ zzz_part ∷ [])
-      (zzz_objects ++ (zzz_objects ++ null_descriptor ∷ []))
+  pub tables : MissesIsProgramOfParts (codes "tables") AMD64 linker_bases (zzz_part ∷ [])
+      zzz_objects
+  pub distinct : MissesIsProgramOfParts (codes "distinct") AMD64 linker_bases
+      (zzz_part ∷ zzz_part ∷ []) (zzz_objects ++ (zzz_objects ++ null_descriptor ∷ []))
   pub others : MissesIsProgramOfParts (codes "others") AMD64 linker_bases (zzz_part ∷ [])
       (own_zone ∷ (zzz_objects ++ null_descriptor ∷ []))
   pub admissible : MissesIsProgramOfParts (codes "admissible") AMD64
-      (record linker_bases { descriptors = 0x1FFE }) (zzz_part ∷ []) (zzz_objects ++ null_descriptor ∷ [])
+      (record linker_bases { descriptors = 0x1FFE }) (zzz_part ∷ [])
+      (zzz_objects ++ null_descriptor ∷ [])

@@ -1,5 +1,6 @@
--- Near misses of programs: for GNU's linker, of both flavours, beside other libraries, and of lld. A record `NearX` has
--- those of `X`, each by the name of the field that refuses it: all other fields hold.
+-- Near misses of programs: for GNU's linker, of both flavours, beside other libraries, and of lld.
+-- A record `NearX` has those of `X`, each by the name of the field that refuses it: all other
+-- fields hold.
 use Rattle.implib.specs.LibraryName.{linked_dll}
 use Rattle.std.specs.Prelude.{ℕ, ◌^◌, List, [], ◌∷◌, ◌++◌, codes, map}
 use Rattle.implib.specs.declared.flavor.Flavor.TheVariants.{Msvc}
@@ -27,7 +28,8 @@ use Rattle.implib_link.specs.Gnu.Program.{null_descriptor}
 use Rattle.implib_link_instances.specs.But.Links.{MissesAreEndedByLinker, MissesAreEndedByMember}
 use Rattle.implib_link_instances.specs.But.Links.{MissesAreProgramObjects, MissesAreWhole}
 use Rattle.implib_link_instances.specs.But.Links.{MissesIsImportable, MissesIsLldProgram}
-use Rattle.implib_link_instances.specs.But.Links.{MissesIsProgramBeside, MissesIsProgramOf, MissesLldLinks}
+use Rattle.implib_link_instances.specs.But.Links.{MissesIsProgramBeside, MissesIsProgramOf}
+use Rattle.implib_link_instances.specs.But.Links.{MissesLldLinks}
 use Rattle.implib_link_instances.specs.Worked.Flavors.{both_inputs as flavor_inputs, flavor_bases_8, flavor_objects, zed_input as zed_flavor, foo_input as foo_flavor}
 use Rattle.implib_link_instances.specs.Worked.Programs.{both_inputs, code_object, foo_input, input_objects, program_objects, symbol_of_class, touching_8, zed_input}
 use Rattle.implib_link.specs.Flavors.Program.{OfLinker, gnu_input, all_members}
@@ -61,10 +63,12 @@ null_alone = objects_taken AMD64 (null_member AMD64 (linked_dll (foo_flavor AMD6
 
 -- what a library's null descriptor and the members of inputs are taken for
 abbrev pub taken_with_null : List FlavorInput → List Object
-taken_with_null inputs = objects_taken AMD64 (null_member AMD64 (codes "foo.dll") ∷ all_members AMD64 inputs)
+taken_with_null inputs =
+    objects_taken AMD64 (null_member AMD64 (codes "foo.dll") ∷ all_members AMD64 inputs)
 
--- A library's null descriptor with zed.dll's members for GNU's linker: foo.dll's, which is none of the inputs, or zed.dll's,
--- which is not for Microsoft's linker; nothing but the null descriptor; and no objects
+-- A library's null descriptor with zed.dll's members for GNU's linker: foo.dll's, which is none of
+-- the inputs, or zed.dll's, which is not for Microsoft's linker; nothing but the null descriptor;
+-- and no objects
 pub record NearAreEndedByMember : Type 0 where
   pub null_held : MissesAreEndedByMember (codes "null_held") AMD64 (zed_flavor AMD64 ∷ [])
       (taken_with_null (zed_flavor AMD64 ∷ []))
@@ -166,7 +170,8 @@ pub record NearIsProgramBeside : Type 0 where
       ∷ (members_of_both ++ null_descriptor ∷ []))
   pub others : MissesIsProgramBeside (codes "others") AMD64 touching_8 (run_with [] [])
       (own_queue ∷ program_objects AMD64)
-  pub ended : MissesIsProgramBeside (codes "ended") AMD64 touching_8 (run_with [] []) members_of_both
+  pub ended : MissesIsProgramBeside (codes "ended") AMD64 touching_8 (run_with [] [])
+      members_of_both
   pub admissible : MissesIsProgramBeside (codes "admissible") AMD64
       (record touching_8 { descriptors = 2 }) (run_with [] []) (program_objects AMD64)
   pub whole : MissesIsProgramBeside (codes "whole") AMD64 thunk_more (run_with (half_thunk ∷ []) [])
@@ -235,8 +240,9 @@ wide_ordinal = short_of (codes "beta.dll") (codes "mid") 65536 ∷ []
 pub record NearIsLldProgram : Type 0 where
   pub writable : MissesIsLldProgram (codes "writable") AMD64 0x2000 (lld_addresses wide_ordinal)
       wide_ordinal (lld_range wide_ordinal ∷ []) (lld_defines wide_ordinal ∷ [])
-  pub distinct : MissesIsLldProgram (codes "distinct") AMD64 0x2000 (lld_addresses (mid_alone ++ mid_alone))
-      (mid_alone ++ mid_alone) (lld_range (mid_alone ++ mid_alone) ∷ [])
+  pub distinct : MissesIsLldProgram (codes "distinct") AMD64 0x2000
+      (lld_addresses (mid_alone ++ mid_alone)) (mid_alone ++ mid_alone)
+      (lld_range (mid_alone ++ mid_alone) ∷ [])
       (lld_defines (mid_alone ++ mid_alone) ∷ [])
   pub agree : MissesIsLldProgram (codes "agree") AMD64 0x2000 (lld_addresses two_ways)
       two_ways (lld_range two_ways ∷ []) (lld_defines two_ways ∷ [])
@@ -249,7 +255,8 @@ pub record NearIsLldProgram : Type 0 where
   pub pieces : MissesIsLldProgram (codes "pieces") AMD64 0x2000 (lld_addresses mid_alone)
       mid_alone [] (lld_defines mid_alone ∷ [])
   pub starts : MissesIsLldProgram (codes "starts") AMD64 0x2000 (lld_addresses mid_alone)
-      mid_alone (lld_range mid_alone ∷ record { start = 0; bytes = [] } ∷ []) (lld_defines mid_alone ∷ [])
+      mid_alone (lld_range mid_alone ∷ record { start = 0; bytes = [] } ∷ [])
+      (lld_defines mid_alone ∷ [])
   pub ends : MissesIsLldProgram (codes "ends") AMD64 0x2000 (lld_addresses mid_alone)
       mid_alone (lld_range mid_alone ∷ record { start = 2 ^ 31; bytes = [] } ∷ [])
       (lld_defines mid_alone ∷ [])
@@ -264,11 +271,12 @@ pub record NearIsImportable : Type 0 where
 abbrev pub endless_range : List Range
 endless_range = record { start = 0x2014; bytes = 1 ∷ [] } ∷ lld_range mid_alone ∷ []
 
--- A null descriptor that is none; and no object. A group of short imports of two DLLs is none that is imported: `only`
--- follows from the others.
+-- A null descriptor that is none; and no object. A group of short imports of two DLLs is none that
+-- is imported: `only` follows from the others.
 pub record NearLldLinks : Type 0 where
   pub directory : MissesLldLinks (codes "directory") AMD64 0x2000 0x2038 mid_alone endless_range
       (lld_defines mid_alone ∷ [])
   pub imported : MissesLldLinks (codes "imported") AMD64 0x2000 0x2038 mid_alone
       (lld_range mid_alone ∷ []) []
-  pub only : LldLinks AMD64 0x2000 0x2038 two_ways (lld_range two_ways ∷ []) (lld_defines two_ways ∷ []) → ⊥
+  pub only : LldLinks AMD64 0x2000 0x2038 two_ways (lld_range two_ways ∷ [])
+      (lld_defines two_ways ∷ []) → ⊥

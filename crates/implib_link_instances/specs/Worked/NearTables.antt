@@ -1,5 +1,5 @@
--- Near misses of what is said of linked and loaded import tables. A record `NearX` has those of the record `X`, each by
--- the name of the field that refuses it: all other fields hold.
+-- Near misses of what is said of linked and loaded import tables. A record `NearX` has those of the
+-- record `X`, each by the name of the field that refuses it: all other fields hold.
 use Rattle.std.specs.Prelude.{ℕ, List, [], ◌∷◌, ◌++◌, codes, drop, Some}
 use Rattle.implib.specs.declared.machine.MachineType.TheVariants.{AMD64}
 use Rattle.implib.specs.Import.{Name, Ordinal}
@@ -16,17 +16,18 @@ use Rattle.implib_link_instances.specs.Worked.LldPrograms.{own_tables, tables_wi
 use Rattle.implib_link_instances.specs.Worked.Loads.{written_8}
 use Rattle.implib_link_instances.specs.Worked.Programs.{both_inputs, program_image, program_placed, touching_8}
 
--- An address before the first entry of the worked program; and the one behind the null thunk of the last DLL, at 176: it
--- is that of the first entry of a third DLL, which there is not, of a third entry of the second one, which has two with
--- its null thunk, and behind the second one's first entry
+-- An address before the first entry of the worked program; and the one behind the null thunk of the
+-- last DLL, at 176: it is that of the first entry of a third DLL, which there is not, of a third
+-- entry of the second one, which has two with its null thunk, and behind the second one's first
+-- entry
 pub record NearIsInEntry : Type 0 where
   pub from : MissesIsInEntry (codes "from") AMD64 touching_8 (both_inputs AMD64) 119
   pub among : MissesIsInEntry (codes "among") AMD64 touching_8 (both_inputs AMD64) 176
   pub at_most : MissesIsInEntry (codes "at_most") AMD64 touching_8 (both_inputs AMD64) 176
   pub below : MissesIsInEntry (codes "below") AMD64 touching_8 (both_inputs AMD64) 176
 
--- The first entry of zed.dll, whose head is not the first object; another name; the byte after the table's beginning,
--- which is at no symbol of the first object, and not where its `.idata$5` is
+-- The first entry of zed.dll, whose head is not the first object; another name; the byte after the
+-- table's beginning, which is at no symbol of the first object, and not where its `.idata$5` is
 pub record NearBeginsWith : Type 0 where
   pub among : MissesBeginsWith (codes "among") (program_placed AMD64 touching_8)
       (codes ".idata$5") 160
@@ -84,8 +85,8 @@ renamed_tables = record own_tables {
   tables = record beta_table { dll = codes "zeta.dll" } ∷ drop 1 own_tables.tables;
 }
 
--- Two descriptors for no entry of a.dll: the tables of each are a null thunk at 0x1048, but the address table of the
--- second, which is the zeros before it, at 0x1040.
+-- Two descriptors for no entry of a.dll: the tables of each are a null thunk at 0x1048, but the
+-- address table of the second, which is the zeros before it, at 0x1040.
 abbrev pub falling_image : List Range
 falling_image = record {
   start = 0x1000;
@@ -106,8 +107,9 @@ falling_tables first = record {
   tables = empty_table first ∷ empty_table 0x1040 ∷ [];
 }
 
--- A range at 0, and one that ends at 2^31; a DLL that is called otherwise; the first table at the second one's address,
--- which its descriptor does not have; the second table before the first one; and nothing that defines the symbols
+-- A range at 0, and one that ends at 2^31; a DLL that is called otherwise; the first table at the
+-- second one's address, which its descriptor does not have; the second table before the first one;
+-- and nothing that defines the symbols
 pub record NearAreTables : Type 0 where
   pub starts : MissesAreTables (codes "starts") AMD64
       (tables_with (with_range 0) (lld_linked_on AMD64) 0x2000 0x2068)
@@ -119,7 +121,8 @@ pub record NearAreTables : Type 0 where
   pub symbols : MissesAreTables (codes "symbols") AMD64
       (tables_with (lld_image_on AMD64) (drop 2 (lld_linked_on AMD64)) 0x2000 0x2068)
 
--- an entry of no table; one that begins before the first table; and its null thunk, behind its entries
+-- an entry of no table; one that begins before the first table; and its null thunk, behind its
+-- entries
 pub record NearIsInTable : Type 0 where
   pub held : MissesIsInTable (codes "held") 8 [] (record { start = 0x2070; bytes = eight_bytes 0 })
   pub from : MissesIsInTable (codes "from") 8 own_tables.tables

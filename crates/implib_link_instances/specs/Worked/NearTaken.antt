@@ -1,5 +1,5 @@
--- Near misses of what linkers take, and of what is linked of it. A record `NearX` has those of `X`, each by the name of
--- the field that refuses it: all other fields hold.
+-- Near misses of what linkers take, and of what is linked of it. A record `NearX` has those of `X`,
+-- each by the name of the field that refuses it: all other fields hold.
 use Rattle.std.specs.Prelude.{ℕ, ◌^◌, List, [], ◌∷◌, ◌++◌, codes}
 use Rattle.implib.specs.declared.flavor.Flavor.TheVariants.{Msvc}
 use Rattle.implib.specs.declared.machine.MachineType.TheVariants.{AMD64}
@@ -19,7 +19,8 @@ use Rattle.implib_link.specs.Gnu.OtherLibraries.{Run, RunLinks}
 use Rattle.implib_link.specs.Gnu.Packed.{packed}
 use Rattle.implib_link_instances.specs.But.Links.{MissesAreBounded, MissesImportsWanted}
 use Rattle.implib_link_instances.specs.But.Links.{MissesIsArranged, MissesIsImportedBy}
-use Rattle.implib_link_instances.specs.But.Links.{MissesIsLinkedOfWanted, MissesIsTaken, MissesRunLinks}
+use Rattle.implib_link_instances.specs.But.Links.{MissesIsLinkedOfWanted, MissesIsTaken}
+use Rattle.implib_link_instances.specs.But.Links.{MissesRunLinks}
 use Rattle.implib_link_instances.specs.But.Links.{MissesTakesOfLibraries}
 use Rattle.implib_link_instances.specs.Worked.Archives.{both_wanted, two_libraries}
 use Rattle.implib_link_instances.specs.Worked.Closed.{foo_alias}
@@ -76,8 +77,8 @@ nul_within members = record {
   };
 }
 
--- no members but the null descriptor; a short import with one text too many, which is none; and those that are linked
--- alone, without the null descriptor
+-- no members but the null descriptor; a short import with one text too many, which is none; and
+-- those that are linked alone, without the null descriptor
 pub record NearIsTaken : Type 0 where
   pub from_members : MissesIsTaken (codes "from_members") AMD64
       (foo_with (null_member AMD64 (codes "foo.dll") ∷ []))
@@ -107,18 +108,22 @@ bare_image =
     ∷ record { start = 208; bytes = codes "foo.dll" ++ 0 ∷ [] }
     ∷ []
 
--- its head and tail, and an object that defines the symbol of the name, too
-abbrev pub named_twice : List Placed
-named_twice = placed_from touching_8 (input_objects AMD64 bare_input)
-    ++ record {
-      object = code_object (symbol_of_class (codes "foo_dll_iname") 1 class_external ∷ []);
-      section_addresses = At DllNames 0x200 ∷ [];
-    } ∷ []
+-- its head and tail, and with them an object that defines the symbol of the name, too
+abbrev pub bare_linked : List Placed
+bare_linked = placed_from touching_8 (input_objects AMD64 bare_input)
 
--- What is defined twice is not defined at an address. Nothing is found where nothing is linked, but then nothing is
--- defined, either: `targets` follows from `defined`, since a member's relocations lead to its own sections of import
--- tables and to what it leaves undefined.
+abbrev pub named_twice : List Placed
+named_twice = bare_linked ++ record {
+  object = code_object (symbol_of_class (codes "foo_dll_iname") 1 class_external ∷ []);
+  section_addresses = At DllNames 0x200 ∷ [];
+} ∷ []
+
+-- An image without the tables; and what is defined twice, which is not defined at an address.
+-- Nothing is found where nothing is linked, but then nothing is defined, either: `targets` follows
+-- from `defined`, since a member's relocations lead to its own sections of import tables and to what
+-- it leaves undefined.
 pub record NearRunLinks : Type 0 where
+  pub imports : MissesRunLinks (codes "imports") AMD64 [] bare_linked touching_8 bare_run
   pub targets : RunLinks AMD64 bare_image [] touching_8 bare_run → ⊥
   pub defined : MissesRunLinks (codes "defined") AMD64 bare_image named_twice touching_8 bare_run
 
@@ -129,8 +134,9 @@ mid = short_of (codes "beta.dll") (codes "mid") 7
 abbrev pub other_time : ShortImport
 other_time = record mid { time = 1 }
 
--- What was not taken is of no group, and has no place in the group that there is; the address tables are 8 bytes on; and
--- nothing is linked. An undefined symbol gets the address that there is `once`, so that `gets` follows from it.
+-- What was not taken is of no group, and has no place in the group that there is; the address
+-- tables are 8 bytes on; and nothing is linked. An undefined symbol gets the address that there is
+-- `once`, so that `gets` follows from it.
 pub record NearIsImportedBy : Type 0 where
   pub its_group : MissesIsImportedBy (codes "its_group") AMD64 0x2000 0x2038 mid_alone
       (lld_range mid_alone ∷ []) (lld_defines mid_alone ∷ []) other_time
@@ -151,10 +157,11 @@ tables_of symbols thunks name bytes =
 abbrev pub bare_tables : ℕ → List ℕ → ℕ → List Object
 bare_tables thunks name bytes = tables_of (codes ".idata$5" ∷ []) thunks name bytes
 
--- Half a thunk, in the place of a whole one, and for itself; no symbol at the table's beginning; tables that end after
--- 2^31; no symbols of the entries; a directory of one descriptor, in the place of one of two, and for itself; and one of
--- two, which is not where it should be. Each address in a table that begins so and is so long is in an entry: `tiled`
--- follows from `begins` and `size`.
+-- Half a thunk, in the place of a whole one, and for itself; no symbol at the table's beginning;
+-- tables that end after 2^31; no symbols of the entries; a directory of one descriptor, in the
+-- place of one of two, and for itself; and one of two, which is not where it should be. Each
+-- address in a table that begins so and is so long is in an entry: `tiled` follows from `begins`
+-- and `size`.
 pub record NearAreBounded : Type 0 where
   pub held : MissesAreBounded (codes "held") AMD64 touching_8 nothing_chosen
       (bare_tables 4 (codes ".idata$2") 40)
