@@ -28,7 +28,7 @@ use Rattle.implib_archive.specs.declared.kind.Kind.TheVariants.{Gnu}
 use Rattle.implib_archive_link.specs.InBytes.{Asks, AreTakenAt, First, Second, TakesAt, asks_for, asks_on, asks_with, asks_with_on, header_by}
 use Rattle.implib_archive_link.specs.LldWay.{IsBuiltByLld, IsWantedBy, short_of_export}
 use Rattle.implib_archive_link.specs.Results.{AreHeadersOf}
-use Rattle.implib_link_instances.specs.Archives.NearMisses.{NearAreMembersAt, NearAreSearched, NearCallsArrive, NearHaveArchive, NearIsBuiltByLld, NearIsHeaderOf, NearIsWantedBy, NearLeadsToFirst, NearLldArrives, NearPullsInAt, NearTakesAt, WorkedIndexes, WorkedReads, asking_stack, f_member, stack}
+use Rattle.implib_link_instances.specs.Archives.NearMisses.{NearAreMembersAt, NearAreSearched, NearCallsArrive, NearHaveArchive, NearIsBuiltByLld, NearIsHeaderOf, NearIsWantedBy, NearLeadsToFirst, NearLldArrives, NearPullsInAt, NearTakesAt, WorkedIndexes, WorkedReads, asking_stack, f_member, in_two_lines, stack, with_header_in}
 use Rattle.implib_link.specs.Flavors.LldImports.{IsLldProgram, grouped, imports_of_lld}
 use Rattle.implib_link.specs.Flavors.LldTables.{directory_built, hints_at, lookups_at, names_at}
 use Rattle.implib_link.specs.Tables.{tables_of_lld}
@@ -110,9 +110,50 @@ first_read : map (member_at Gnu worked_gnu) (182 ∷ []) ≡ map (λ (m : Member
 unfolding opened_bytes
 first_read = refl
 
-pub near_are_members_at : NearAreMembersAt
+-- what the computing of archives has to open
+unfoldable opened_archive : Unit {0}
+unfolding opened_bytes headers_among headers_in with_header archive_of end_from entries_from entries_of first_linker first_linker_size first_place front front_of front_size is_long linker_label linkers long_names member_label member_part name_end name_field names_bytes names_label names_part names_size offset_of place_of places_from second_linker second_linker_size sorted_entries strings_of with_first with_name field header_bytes padded_part_bytes padding part_bytes signature u16_le u32_be u32_le digits
+opened_archive = tt
+
+these : (xs ys : List ℕ) → Some xs ≡ Some ys → xs ≡ ys
+these xs ys is = cc
+
+-- no header is at 68
+not_header : (headers : List ℕ) (found : List MemberView) → 8 ∷ [] ≡ headers → AreHeadersOf headers with_header_in (68 ∷ []) found → ⊥
 unfolding AreHeadersOf
+not_header headers [] is at = at
+not_header headers (m ∷ found) is at = other (at.0.number) (subst (λ hs. slice_get hs at.0.number ≡ Some 68) (sym is) at.0.header_is)
+  where
+    other : (number : ℕ) → slice_get {X = ℕ} (8 ∷ []) number ≡ Some 68 → ⊥
+    other zero is = differ 8 68 (ap (λ o. unwrap_or o 0) is) (omega arith)
+    other (suc n) is = cc
+
+-- how long the first name is that is read
+abbrev first_length : List (Option Read) → ℕ
+first_length [] = 0
+first_length (None ∷ reads) = 0
+first_length (Some r ∷ reads) = length r.name
+
+not_read : (headers : List ℕ) (found : List MemberView) → AreHeadersOf headers in_two_lines (88 ∷ []) found → map (member_at Gnu (archive_of Gnu in_two_lines)) (88 ∷ []) ≡ map (λ (m : MemberView). Some (read_view m)) found → ⊥
+unfolding AreHeadersOf opened_archive
+not_read headers [] at read = at
+not_read headers (m ∷ found) at read = other at.0.number at.0.member_is
+  where
+    other : (number : ℕ) → slice_get in_two_lines number ≡ Some m → ⊥
+    other zero is = differ 10 18 (ap first_length read ∙ sym (ap name_length is)) (omega arith)
+    other (suc n) is = cc
+
+pub near_are_members_at : NearAreMembersAt
+unfolding AreHeadersOf opened_archive
 near_are_members_at = record {
+  at = (
+    record { headers = 8 ∷ []; located = refl; found = record { name = codes "x.o"; bytes = 7 ∷ []; symbols = [] } ∷ []; at = tt; read = refl; holds = tt },
+    λ x. not_header x.headers x.found (these (8 ∷ []) x.headers x.located) x.at,
+  );
+  read = (
+    record { headers = 88 ∷ []; located = refl; found = in_two_lines; at = (record { number = 0; header_is = refl; member_is = refl }, tt); read = tt; holds = tt },
+    λ x. not_read x.headers x.found x.at x.read,
+  );
   holds = (
     record {
       headers = 182 ∷ 246 ∷ [];
@@ -150,7 +191,7 @@ is_read None = false
 is_read (Some r) = true
 
 pub near_leads_to_first : NearLeadsToFirst
-unfolding opened_bytes archive_of end_from entries_from entries_of first_linker first_linker_size first_place front front_of front_size is_long linker_label linkers long_names member_label member_part name_end name_field names_bytes names_label names_part names_size offset_of place_of places_from second_linker second_linker_size sorted_entries strings_of with_first with_name field header_bytes padded_part_bytes padding part_bytes signature u16_le u32_be u32_le digits
+unfolding opened_archive
 near_leads_to_first = record {
   somewhere = (record { somewhere = tt; read = refl }, λ x. true≢false x.somewhere);
   read = (record { somewhere = refl; read = tt }, λ x. true≢false (sym (ap is_read x.read)));

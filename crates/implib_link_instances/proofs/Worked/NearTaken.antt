@@ -31,7 +31,7 @@ use Rattle.implib_link_instances.specs.Worked.Flavors.{foo_input as foo_flavor}
 use Rattle.implib_link_instances.specs.Worked.Calls.{placed_or_empty}
 use Rattle.implib_link_instances.specs.Worked.NearPrograms.{lld_defines, lld_range, mid_alone}
 use Rattle.implib_link_instances.specs.Worked.Programs.{symbol_of_class, touching_8, zed_input}
-use Rattle.implib_link_instances.specs.Worked.NearTaken.{NearAreBounded, NearImportsWanted, NearIsArranged, NearIsImportedBy, NearIsLinkedOfWanted, NearIsTaken, NearRunLinks, NearTakesOfLibraries, bare_image, bare_input, bare_tables, mid, named_twice, nothing_chosen, nul_within, other_time, tables_of, turned_members, twice_members}
+use Rattle.implib_link_instances.specs.Worked.NearTaken.{NearAreBounded, NearImportsWanted, NearIsArranged, NearIsImportedBy, NearIsLinkedOfWanted, NearIsTaken, NearRunLinks, NearTakesOfLibraries, bare_image, bare_input, bare_tables, empty_tables, mid, named_twice, nothing_chosen, nul_within, other_time, tables_of, turned_members, twice_members}
 use Rattle.implib_link_instances.specs.Worked.Search.{members_of, three, wanted}
 use Rattle.implib_link_instances.specs.Worked.Searched.{bar_member, by_name, head_member, qux_member, searched_objects, tail_member}
 use Rattle.implib_link_instances.proofs.Worked.Lld.{lld_opened}
@@ -326,6 +326,9 @@ unnamed x =
     let same : first_of touching_8 (tables_of [] 8 (codes ".idata$2") 40) ≡ x.first = placed_same _ _ x.among in
     none_in (ASymbol x.symbol) (subst (λ (p : Placed). Contains p.object.entries (ASymbol x.symbol)) (sym same) x.held)
 
+empty_entries : (i j : ℕ) (p : LinkInput) (e : ExportView) → slice_get [] i ≡ Some p → slice_get (chosen_exports p.definition p.chosen) j ≡ Some e → ⊥
+empty_entries i j p e is held = cc
+
 pub near_are_bounded : NearAreBounded
 unfolding searched at_with_size first_symbol first_of range_of
 near_are_bounded = record {
@@ -345,6 +348,23 @@ near_are_bounded = record {
       directory_size = refl;
     },
     λ x. no_range (image_of AMD64 touching_8 (placed_from touching_8 (bare_tables 4 (codes ".idata$2") 40))) 120 8 refl refl x.table x.held x.begins x.size,
+  );
+  begins = (
+    record {
+      table = range_of 64 0;
+      held = (1, omega arith, refl);
+      begins = tt;
+      named = record { first = first_of touching_8 empty_tables; among = refl; symbol = first_symbol; held = (0, omega arith, refl); named = refl; located = refl };
+      size = refl;
+      below = omega arith;
+      entries = λ i j p e is held. absurd (empty_entries i j p e is held);
+      tiled = λ address from below. absurd (omega (arith, from, below));
+      directory = range_of 4 20;
+      directory_held = (0, omega arith, refl);
+      directory_begins = refl;
+      directory_size = refl;
+    },
+    λ x. no_range (image_of AMD64 touching_8 (placed_from touching_8 empty_tables)) 120 0 refl refl x.table x.held x.begins x.size,
   );
   size = (
     record {

@@ -82,8 +82,23 @@ pub record NearHaveArchive : Type 0 where
       (record { name = []; bytes = []; symbols = [] } ∷ [])
   pub has : MissesHaveArchive (codes "has") Gnu Second worked_members
 
--- the first member, of which nothing holds
+-- a member with the header and the byte of another one in its bytes; and one whose name has a line
+-- end, which ends it where it is read
+abbrev pub with_header_in : List MemberView
+with_header_in = record {
+  name = codes "a.o";
+  bytes = codes "x.o/            0           0     0     644     1         `\n" ++ 7 ∷ [];
+  symbols = [];
+} ∷ []
+
+abbrev pub in_two_lines : List MemberView
+in_two_lines = record { name = codes "long_member\nname.o"; bytes = 1 ∷ []; symbols = [] } ∷ []
+
+-- the member in the bytes of one; the member with a line end in its name; and the first member, of
+-- which nothing holds
 pub record NearAreMembersAt : Type 0 where
+  pub at : MissesAreMembersAt (codes "at") Gnu with_header_in (68 ∷ []) (λ found. Unit {0})
+  pub read : MissesAreMembersAt (codes "read") Gnu in_two_lines (88 ∷ []) (λ found. Unit {0})
   pub holds : MissesAreMembersAt (codes "holds") Gnu worked_members (182 ∷ []) (λ found. ⊥)
 
 -- a member without a name, which is read as a linker member, that is listed for a name

@@ -157,14 +157,22 @@ tables_of symbols thunks name bytes =
 abbrev pub bare_tables : ℕ → List ℕ → ℕ → List Object
 bare_tables thunks name bytes = tables_of (codes ".idata$5" ∷ []) thunks name bytes
 
--- Half a thunk, in the place of a whole one, and for itself; no symbol at the table's beginning;
--- tables that end after 2^31; no symbols of the entries; a directory of one descriptor, in the
--- place of one of two, and for itself; and one of two, which is not where it should be. Each
--- address in a table that begins so and is so long is in an entry: `tiled` follows from `begins`
--- and `size`.
+-- no bytes of a lookup table, with the symbol of an address table, and a directory of no DLLs
+abbrev pub empty_tables : List Object
+empty_tables =
+    table_object (codes ".idata$4") [] (codes ".idata$5" ∷ [])
+    ∷ table_object (codes ".idata$2") (zeros 20) []
+    ∷ []
+
+-- Half a thunk, in the place of a whole one, and for itself; of no DLLs, a lookup table that is
+-- named as the address table; no symbol at the table's beginning; tables that end after 2^31; no
+-- symbols of the entries; a directory of one descriptor, in the place of one of two, and for itself;
+-- and one of two, which is not where it should be. Each address in a table that begins so and is so
+-- long is in an entry: `tiled` follows from `begins` and `size`.
 pub record NearAreBounded : Type 0 where
   pub held : MissesAreBounded (codes "held") AMD64 touching_8 nothing_chosen
       (bare_tables 4 (codes ".idata$2") 40)
+  pub begins : MissesAreBounded (codes "begins") AMD64 touching_8 [] empty_tables
   pub size : MissesAreBounded (codes "size") AMD64 touching_8 nothing_chosen
       (bare_tables 4 (codes ".idata$2") 40)
   pub named : MissesAreBounded (codes "named") AMD64 touching_8 nothing_chosen
