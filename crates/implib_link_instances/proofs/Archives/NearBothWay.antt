@@ -1,14 +1,17 @@
 -- Near misses of the whole way for libraries of both flavours, by computing.
-use Rattle.std.proofs.Common.{◌≡◌, Bool, List, [], ◌∷◌, codes, length, refl, ap, sym, ◌∙◌, arith}
+use Rattle.std.proofs.Common.{◌≡◌, ℕ, zero, suc, ◌+◌, Bool, List, [], ◌∷◌, codes, length, refl, ap, sym, ◌∙◌, inl, inr, arith}
 use Rattle.std.specs.Prelude.{bytes_eq}
 use Rattle.std.specs.List.{Contains, list_any}
 use Rattle.implib.specs.declared.machine.MachineType.TheVariants.{AMD64}
 use Rattle.implib.specs.Formats.Object.{Object}
+use Rattle.implib.specs.Import.{Ask}
+use Rattle.implib.specs.Link.Image.{Range}
 use Rattle.implib.specs.Link.Placement.{Descriptors, next_multiple}
 use Rattle.implib_link_instances.specs.Archives.NearBothWay.{LinkedAt, NearAreLinkedForBoth, NearBothArrive}
 use Rattle.implib_link.specs.Flavors.Program.{objects_taken}
 use Rattle.implib_link.specs.Gnu.Packed.{group_end, sections_end}
 use Rattle.implib_link.specs.Gnu.Program.{HaveSame, claimed_names}
+use Rattle.implib_link.specs.Gnu.Reading.{ReadsAndWrites}
 use Rattle.implib_link.specs.Search.BothFlavors.{msvc_among}
 use Rattle.implib_link.specs.Search.MsvcArchives.{first_null}
 use Rattle.implib_link_instances.specs.Worked.BothFlavors.{foo_and_zed, mixed_bases, mixed_objects, zed_and_foo}
@@ -21,6 +24,7 @@ use Rattle.implib_link_instances.proofs.Worked.NearPrograms.{no_eights}
 use Rattle.implib_link_instances.proofs.Worked.NearResults.{more_taken, no_length, no_order, none_taken}
 use Rattle.implib_link_instances.proofs.Worked.NearSearches.{searched}
 use Rattle.implib_link_instances.proofs.Worked.Programs.{admissible_by}
+use Rattle.implib_link_instances.proofs.Worked.RefusedFields.{absent}
 use Rattle.implib_link_instances.proofs.Worked.RefusedLinks.{differ}
 
 linked : LinkedAt zed_and_foo mixed_bases mixed_objects
@@ -180,8 +184,22 @@ near_are_linked_for_both = record {
   );
 }
 
+-- no loader reads where there is nothing
+pub nothing_read : (width : ℕ) (gives : List ℕ → Ask → List ℕ) (n address : ℕ) (written : List Range) → ReadsAndWrites [] width gives n address written → ⊥
+unfolding ReadsAndWrites
+nothing_read width gives zero address written (inl stops, none) = absent [] (address + 12) 4 0 refl (omega arith) stops
+nothing_read width gives zero address written (inr stops, none) = absent [] (address + 16) 4 0 refl (omega arith) stops
+nothing_read width gives (suc n) address written reads = absent [] (address + 12) 4 reads.1.0.name refl (omega arith) reads.1.0.name_field
+
 pub near_both_arrive : NearBothArrive
 near_both_arrive = record {
-  links = λ x. near_links_closed_for_both.closed x.links;
+  links = (
+    record {
+      links = tt;
+      ends = λ gives n written wide reads. absurd (nothing_read 8 gives n mixed_bases.descriptors written reads);
+      calls = λ image_base codes targets gives n written i j p e c offset can at wide reads. absurd (nothing_read 8 gives n mixed_bases.descriptors written reads);
+    },
+    λ x. near_links_closed_for_both.closed x.links,
+  );
   ends = λ x. let read = worked_reading.amd64_ends in differ 0 2 (sym (x.ends (given_on AMD64) 2 read.0 (wide AMD64) read.1)) (omega arith);
 }

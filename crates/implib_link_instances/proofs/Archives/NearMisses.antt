@@ -32,17 +32,20 @@ use Rattle.implib_link_instances.specs.Archives.NearMisses.{NearAreMembersAt, Ne
 use Rattle.implib_link.specs.Flavors.LldImports.{IsLldProgram, grouped, imports_of_lld}
 use Rattle.implib_link.specs.Flavors.LldTables.{directory_built, hints_at, lookups_at, names_at}
 use Rattle.implib_link.specs.Tables.{tables_of_lld}
-use Rattle.implib_link.specs.Search.Archives.{exports_of}
-use Rattle.implib_link.specs.Search.Closed.{TakesInto, unresolved}
+use Rattle.implib_link.specs.Search.Archives.{archive_of as members_of_libraries, exports_of}
+use Rattle.implib_link.specs.Search.Closed.{LinksClosed, TakesInto, listed_in, unresolved}
 use Rattle.implib_link.specs.Search.Msvc.{TakesFor}
 use Rattle.implib_link.specs.Search.MsvcArchives.{TakesIntoFor}
 use Rattle.implib_link.specs.Search.Search.{Takes}
+use Rattle.implib_link_instances.specs.Worked.Archives.{two_libraries}
+use Rattle.implib_link_instances.specs.Worked.Closed.{choosing}
 use Rattle.implib_link_instances.specs.Worked.MsvcArchives.{msvc_zed}
 use Rattle.implib_link_instances.specs.Worked.NearPrograms.{defines_mid, lld_addresses, lld_defines, mid_alone}
 use Rattle.implib_link_instances.specs.Worked.NearSearches.{asking, zed_short}
-use Rattle.implib_link_instances.specs.Worked.Programs.{code_object, symbol_of_class}
+use Rattle.implib_link_instances.specs.Worked.Programs.{code_object, symbol_of_class, touching_8}
 use Rattle.implib_link_instances.specs.Worked.Search.{members_of, three, wanted}
-use Rattle.implib_link.proofs.Search.Lists.{contains_among}
+use Rattle.implib.proofs.Link.LinkedMembers.{among_contains}
+use Rattle.implib_link.proofs.Search.Lists.{any_among, contains_among}
 use Rattle.implib_link.proofs.TablesInMemory.{tables_load_in_memory}
 use Rattle.implib_link.proofs.TablesOfPrograms.{lld_tables}
 use Rattle.implib_link_instances.proofs.Worked.Calls.{one_of, wide, worked_reading}
@@ -54,6 +57,7 @@ use Rattle.implib_link_instances.proofs.Worked.NearSearches.{none_in, searched}
 use Rattle.implib_link_instances.proofs.Worked.NearMisses.{none_passes}
 use Rattle.implib_link_instances.proofs.Worked.RefusedLinks.{differ}
 use Rattle.implib_archive_link.proofs.Corollaries.{are_searched}
+use Rattle.implib_link_instances.proofs.Archives.NearBothWay.{nothing_read}
 use Rattle.implib_link_instances.proofs.Archives.WorkedSearches.{opened_bytes, three_gnu, worked_searches}
 
 pub worked_indexes : WorkedIndexes
@@ -406,7 +410,21 @@ near_lld_arrives = record {
   );
 }
 
+bar_left : (x : LinksClosed AMD64 two_libraries (choosing ∷ []) [] two_libraries touching_8 (choosing ∷ [])) → ⊥
+unfolding searched
+bar_left x =
+    let listed : List (List ℕ) = listed_in (members_of_libraries two_libraries) in
+    x.closed (codes "bar") (0, omega arith, refl) (among_contains (codes "bar") listed (any_among (codes "bar") listed refl))
+
 pub near_calls_arrive : NearCallsArrive
 near_calls_arrive = record {
+  links = (
+    record {
+      links = tt;
+      ends = λ gives n written wide reads. absurd (nothing_read 8 gives n touching_8.descriptors written reads);
+      calls = λ image_base codes targets gives n written i j p e c offset can at wide reads. absurd (nothing_read 8 gives n touching_8.descriptors written reads);
+    },
+    λ x. bar_left x.links,
+  );
   ends = λ x. let read = worked_reading.amd64_ends in differ 0 2 (sym (x.ends (given_on AMD64) 2 read.0 (wide AMD64) read.1)) (omega arith);
 }

@@ -7,7 +7,7 @@ use Rattle.implib.specs.Link.Placement.{Bases}
 use Rattle.implib.specs.Members.MemberSpec.{MemberView}
 use Rattle.implib_archive_link.specs.BothWay.{AreLinkedForBoth, BothArrive}
 use Rattle.implib_link.specs.Flavors.Program.{objects_taken}
-use Rattle.implib_link_instances.specs.But.ArchiveLinks.{MissesAreLinkedForBoth}
+use Rattle.implib_link_instances.specs.But.ArchiveLinks.{MissesAreLinkedForBoth, MissesBothArrive}
 use Rattle.implib_link.specs.Search.BothFlavors.{FlavorLibrary}
 use Rattle.implib_link_instances.specs.Worked.BothFlavors.{foo_and_zed, mixed_bases, mixed_objects, mixed_taken, zed_and_foo}
 use Rattle.implib_link_instances.specs.Worked.Closed.{choosing, foo_alias, foo_linked}
@@ -52,8 +52,9 @@ pub record NearAreLinkedForBoth : Type 0 where
   pub follows : MissesAreLinkedForBoth (codes "follows") AMD64 foo_and_zed (choosing ∷ [])
       mixed_taken zed_and_foo (record mixed_bases { directory_ends = 0x202C }) mixed_objects
 
--- Nothing is linked but the object; and no library, with a linked program that imports from two
--- DLLs. By the directory that `links` says, a loader ends as `ends` says, which follows from it.
+-- Nothing is linked but the object, so that no loader finds a directory; and no library, with a
+-- linked program that imports from two DLLs. By the directory that `links` says, a loader ends as `ends` says, which follows from it.
 pub record NearBothArrive : Type 0 where
-  pub links : BothArrive AMD64 foo_and_zed (choosing ∷ []) [] zed_and_foo mixed_bases (choosing ∷ []) → ⊥
+  pub links : MissesBothArrive (codes "links") AMD64 foo_and_zed (choosing ∷ []) [] zed_and_foo
+      mixed_bases (choosing ∷ [])
   pub ends : BothArrive AMD64 [] [] [] [] touching_8 (program_objects AMD64) → ⊥

@@ -18,11 +18,14 @@ use Rattle.implib_archive_link.specs.LldWay.{IsWantedBy}
 use Rattle.implib_archive_link.specs.Way.{CallsArrive}
 use Rattle.implib_archive_link.specs.Results.{AreSearched}
 use Rattle.implib_link.specs.Search.Search.{Takes}
-use Rattle.implib_link_instances.specs.But.ArchiveLinks.{MissesAreMembersAt, MissesHaveArchive}
+use Rattle.implib_link_instances.specs.But.ArchiveLinks.{MissesAreMembersAt, MissesCallsArrive}
+use Rattle.implib_link_instances.specs.But.ArchiveLinks.{MissesHaveArchive}
 use Rattle.implib_link_instances.specs.But.ArchiveLinks.{MissesIsBuiltByLld, MissesIsHeaderOf}
 use Rattle.implib_link_instances.specs.But.ArchiveLinks.{MissesIsWantedBy, MissesLeadsToFirst}
 use Rattle.implib_link_instances.specs.But.ArchiveLinks.{MissesLldArrives, MissesPullsInAt}
 use Rattle.implib_link_instances.specs.But.ArchiveLinks.{MissesTakesAt}
+use Rattle.implib_link_instances.specs.Worked.Archives.{two_libraries}
+use Rattle.implib_link_instances.specs.Worked.Closed.{choosing}
 use Rattle.implib_link_instances.specs.Worked.MsvcArchives.{msvc_foo, msvc_zed}
 use Rattle.implib_link_instances.specs.Worked.NearPrograms.{defines_mid, lld_addresses, lld_defines}
 use Rattle.implib_link_instances.specs.Worked.NearPrograms.{lld_range, mid_alone}
@@ -167,7 +170,10 @@ pub record NearIsBuiltByLld : Type 0 where
 pub record NearLldArrives : Type 0 where
   pub shorts : MissesLldArrives (codes "shorts") ARMNT (msvc_zed ∷ []) (asking_stack ∷ []) []
 
--- No library, and a linked program that imports from two DLLs. By the directory that `links` says,
--- a loader ends as `ends` says, which follows from it.
+-- Nothing is linked but an object that leaves `bar` to others, so that no loader finds a directory;
+-- and no library, with a linked program that imports from two DLLs. By the directory that `links`
+-- says, a loader ends as `ends` says, which follows from it.
 pub record NearCallsArrive : Type 0 where
+  pub links : MissesCallsArrive (codes "links") AMD64 two_libraries (choosing ∷ []) [] two_libraries
+      touching_8 (choosing ∷ [])
   pub ends : CallsArrive AMD64 [] [] [] [] touching_8 (program_objects AMD64) → ⊥
