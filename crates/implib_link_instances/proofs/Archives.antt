@@ -6,5 +6,6 @@ pub mod WorkedLldWay
 pub mod WorkedBothWay
 pub mod NearMisses
 pub mod NearBothWay
+pub mod Following
 pub mod Files
 pub mod FileLines

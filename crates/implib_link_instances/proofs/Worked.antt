@@ -62,6 +62,7 @@ pub mod Instances
 pub mod NearLinks
 pub mod NearResults
 pub mod NearTaken
+pub mod FollowingPrograms
 pub mod A32
 pub mod BothFlavors
 pub mod BothReversed

@@ -119,9 +119,9 @@ named_twice = bare_linked ++ record {
 } ∷ []
 
 -- An image without the tables; and what is defined twice, which is not defined at an address.
--- Nothing is found where nothing is linked, but then nothing is defined, either: `targets` follows
--- from `defined`, since a member's relocations lead to its own sections of import tables and to what
--- it leaves undefined.
+-- Nothing is found where nothing is linked, but then nothing is defined, either: of members that are
+-- read as they were made, `targets` follows from `defined`, since their relocations lead to their
+-- own sections of import tables and to what they leave undefined.
 pub record NearRunLinks : Type 0 where
   pub imports : MissesRunLinks (codes "imports") AMD64 [] bare_linked touching_8 bare_run
   pub targets : RunLinks AMD64 bare_image [] touching_8 bare_run → ⊥

@@ -4,6 +4,7 @@
 ghost use Rattle.implib_link_instances.specs.Archives.FileLines.{NearSearchesByLld};
 ghost use Rattle.implib_link_instances.specs.Archives.FileLines.{WorkedFileLines};
 ghost use Rattle.implib_link_instances.specs.Archives.Files.{NearHasMembersAs, WorkedFiles};
+ghost use Rattle.implib_link_instances.specs.Archives.Following.{FollowingOfWays};
 ghost use Rattle.implib_link_instances.specs.Archives.NearMisses.{NearAreSearched, NearCallsArrive};
 ghost use Rattle.implib_link_instances.specs.Archives.NearMisses.{NearIsBuiltByLld};
 ghost use Rattle.implib_link_instances.specs.Archives.NearMisses.{NearIsWantedBy, NearLeadsToFirst};
@@ -76,4 +77,9 @@ pub fn near_misses_of_ways()
     ensures calls { NearCallsArrive }
     ensures both { NearBothArrive }
     ensures linked_for_both { NearAreLinkedForBoth }
+{}
+
+/// What no way fails alone: that a loader stops after as many descriptors as there are DLLs.
+pub fn following_of_ways()
+    ensures { FollowingOfWays }
 {}

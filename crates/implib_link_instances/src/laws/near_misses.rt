@@ -1,6 +1,7 @@
 //! Near misses: what is no link, no loaded program and no search, each by one thing that is
 //! otherwise.
 
+ghost use Rattle.implib_link_instances.specs.Worked.FollowingPrograms.{FollowingOfPrograms};
 ghost use Rattle.implib_link_instances.specs.Worked.Instances.{CodeInstances, MachineInstances};
 ghost use Rattle.implib_link_instances.specs.Worked.Instances.{ProgramInstances, SectionInstances};
 ghost use Rattle.implib_link_instances.specs.Worked.Instances.{TypeInstances};
@@ -121,6 +122,12 @@ pub fn near_misses_of_programs()
     ensures importable { NearIsImportable }
     ensures lld { NearIsLldProgram }
     ensures lld_links { NearLldLinks }
+{}
+
+/// What no program fails alone: that the imports of a DLL's group are its own, and that each address
+/// of bounded tables is in an entry.
+pub fn following_of_programs()
+    ensures { FollowingOfPrograms }
 {}
 
 /// What is no such instruction in code, and what does not arrive.
