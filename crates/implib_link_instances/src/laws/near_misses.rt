@@ -1,7 +1,6 @@
 //! Near misses: what is no link, no loaded program and no search, each by one thing that is
 //! otherwise.
 
-ghost use Rattle.implib_link_instances.specs.Worked.FollowingPrograms.{FollowingOfPrograms};
 ghost use Rattle.implib_link_instances.specs.Worked.Instances.{CodeInstances, MachineInstances};
 ghost use Rattle.implib_link_instances.specs.Worked.Instances.{ProgramInstances, SectionInstances};
 ghost use Rattle.implib_link_instances.specs.Worked.Instances.{TypeInstances};
@@ -24,6 +23,7 @@ ghost use Rattle.implib_link_instances.specs.Worked.NearLinks.{NearJumpsThrough,
 ghost use Rattle.implib_link_instances.specs.Worked.NearLinks.{NearResolves, NearTakesAs};
 ghost use Rattle.implib_link_instances.specs.Worked.NearLinks.{NearTakesIntoAs};
 ghost use Rattle.implib_link_instances.specs.Worked.NearLinks.{NearTakesSymbols};
+ghost use Rattle.implib_link_instances.specs.Worked.FollowingPrograms.{FollowingOfPrograms};
 ghost use Rattle.implib_link_instances.specs.Worked.NearParts.{NearIsEntry, NearIsHead, NearIsPart};
 ghost use Rattle.implib_link_instances.specs.Worked.NearParts.{NearIsProgramOfParts, NearIsTail};
 ghost use Rattle.implib_link_instances.specs.Worked.NearPrograms.{NearAreEndedByLinker};
