@@ -28,7 +28,7 @@ use Rattle.implib_archive.specs.declared.kind.Kind.TheVariants.{Gnu}
 use Rattle.implib_archive_link.specs.InBytes.{Asks, AreTakenAt, First, Second, TakesAt, asks_for, asks_on, asks_with, asks_with_on, header_by}
 use Rattle.implib_archive_link.specs.LldWay.{IsBuiltByLld, IsWantedBy, short_of_export}
 use Rattle.implib_archive_link.specs.Results.{AreHeadersOf}
-use Rattle.implib_link_instances.specs.Archives.NearMisses.{NearAreMembersAt, NearAreSearched, NearCallsArrive, NearHaveArchive, NearIsBuiltByLld, NearIsHeaderOf, NearIsWantedBy, NearLeadsToFirst, NearLldArrives, NearPullsInAt, NearTakesAt, WorkedIndexes, WorkedReads, asking_stack, f_member, in_two_lines, stack, with_header_in}
+use Rattle.implib_link_instances.specs.Archives.NearMisses.{NearAreMembersAt, NearAreSearched, NearCallsArrive, NearHaveArchive, NearIsBuiltByLld, NearIsHeaderOf, NearIsSearchOf, NearIsWantedBy, NearLeadsToFirst, NearLldArrives, NearPullsInAt, NearTakesAt, WorkedIndexes, WorkedReads, asking_stack, f_member, in_two_lines, stack, with_header_in}
 use Rattle.implib_link.specs.Flavors.LldImports.{IsLldProgram, grouped, imports_of_lld}
 use Rattle.implib_link.specs.Flavors.LldTables.{directory_built, hints_at, lookups_at, names_at}
 use Rattle.implib_link.specs.Tables.{tables_of_lld}
@@ -113,6 +113,44 @@ worked_headers = refl
 first_read : map (member_at Gnu worked_gnu) (182 ∷ []) ≡ map (λ (m : MemberView). Some (read_view m)) (f_member ∷ [])
 unfolding opened_bytes
 first_read = refl
+
+-- the search of the archive of the worked members, where nothing is asked for, and where `f` is
+
+first_asked : (header : ℕ) (earlier : List ℕ) → AreTakenAt Gnu First (archive_of Gnu worked_members) (asks_for []) (header ∷ earlier) → ⊥
+unfolding AreTakenAt
+first_asked header [] takes = none_in takes.0.0 takes.0.1.asked.0
+first_asked header (h ∷ earlier) takes = first_asked h earlier takes.1
+
+not_at : (headers taken : List ℕ) → AreHeadersOf headers worked_members taken (f_member ∷ []) → AreTakenAt Gnu First (archive_of Gnu worked_members) (asks_for []) taken → ⊥
+unfolding AreHeadersOf
+not_at headers [] at takes = at
+not_at headers (header ∷ taken) at takes = first_asked header taken takes
+
+f_found : header_by First worked_gnu (codes "f") ≡ Some 182
+unfolding opened_bytes
+f_found = refl
+
+not_ended : (headers taken : List ℕ) → AreHeadersOf headers worked_members taken [] → TakesAt Gnu First (archive_of Gnu worked_members) (asks_for (codes "f" ∷ [])) taken → ⊥
+unfolding AreHeadersOf
+not_ended headers [] at takes =
+    takes.ended (codes "f") 182 (record { asked = ((0, omega arith, refl), refl); found = ap (λ bytes. header_by First bytes (codes "f")) worked_archives.gnu ∙ f_found; new = λ held. none_in 182 held })
+not_ended headers (header ∷ taken) at takes = at
+
+pub near_is_search_of : NearIsSearchOf
+unfolding AreHeadersOf AreTakenAt
+near_is_search_of = record {
+  at = (
+    record {
+      headers = 182 ∷ 246 ∷ [];
+      located = ap headers_in worked_archives.gnu ∙ worked_headers;
+      taken = [];
+      at = tt;
+      takes = record { in_turn = tt; ended = λ name header x. none_in name x.asked.0 };
+    },
+    λ x. not_at x.headers x.taken x.at x.takes.in_turn,
+  );
+  takes = (record { headers = 182 ∷ 246 ∷ []; located = ap headers_in worked_archives.gnu ∙ worked_headers; taken = []; at = tt; takes = tt }, λ x. not_ended x.headers x.taken x.at x.takes);
+}
 
 -- what the computing of archives has to open
 unfoldable opened_archive : Unit {0}

@@ -1,5 +1,5 @@
 -- Near misses of linked and loaded import tables, by computing.
-use Rattle.std.proofs.Common.{◌≡◌, ℕ, zero, suc, ◌+◌, ◌*◌, ◌^◌, ◌<◌, ◌≤◌, true, false, List, [], ◌∷◌, ◌++◌, codes, map, Some, None, refl, ap, sym, ◌∙◌, subst, arith}
+use Rattle.std.proofs.Common.{◌≡◌, ℕ, zero, suc, ◌+◌, ◌*◌, ◌^◌, ◌<◌, ◌≤◌, true, false, List, [], ◌∷◌, ◌++◌, codes, length, map, Some, None, refl, ap, sym, ◌∙◌, subst, inl, inr, arith}
 use Rattle.std.specs.Prelude.{Bool, Option, ◌&&◌, ◌==◌, bytes_eq, slice_get, slice_index}
 use Rattle.std.specs.List.{Contains, list_any}
 use Rattle.implib.specs.declared.machine.MachineType.TheVariants.{AMD64}
@@ -17,23 +17,25 @@ use Rattle.implib_link.specs.Gnu.Bounds.{BeginsWith, IsInEntry}
 use Rattle.implib_link.specs.Gnu.Loaded.{HoldsAt}
 use Rattle.implib_link.specs.Gnu.Program.{has_tables, thunks_before, with_tables}
 use Rattle.implib_link.specs.Directory.{DirectoryAt}
-use Rattle.implib_link.specs.Tables.{AreTables, DefineEntries, RiseFrom, Table, TableEntry, imported_by_table}
+use Rattle.implib_link.specs.Tables.{AreTables, DefineEntries, IsInTable, RiseFrom, Table, TableEntry, imported_by_table}
 use Rattle.implib.specs.Formats.Constants.{class_external, class_static}
 use Rattle.implib_link_instances.specs.Worked.LldPrograms.{lld_image_on, lld_linked_on, own_tables}
 use Rattle.implib_link_instances.specs.Worked.Loads.{written_8}
-use Rattle.implib_link_instances.specs.Worked.NearTables.{NearAreAlike, NearAreTables, NearBeginsWith, NearGetsAddress, NearHoldsAt, NearIsInEntry, NearIsInTable, NearLieWithin, beta_table, empty_table, falling_image, falling_tables, renamed_tables, with_range}
+use Rattle.implib_link_instances.specs.Worked.NearTables.{NearAreAlike, NearAreTables, NearAreTablesLoaded, NearBeginsWith, NearGetsAddress, NearHoldsAt, NearIsInEntry, NearIsInTable, NearLieWithin, beta_table, empty_table, falling_image, falling_tables, renamed_tables, with_range}
 use Rattle.implib_link_instances.specs.Worked.Programs.{both_inputs, caller, foo_input, program_image, program_placed, symbol_of_class, touching_8, zed_input}
 use Rattle.implib_link_instances.specs.Worked.Calls.{placed_or_empty}
 use Rattle.implib.proofs.Link.Loading.{dll_once, number_once}
 use Rattle.implib_link.proofs.Gnu.Bounds.{count_below}
 use Rattle.implib_link.proofs.Gnu.Keeps.{Keeps, directory_kept, number_kept}
 use Rattle.implib_link.proofs.Gnu.Memory.{byte_front}
+use Rattle.implib.proofs.Link.Ranges.{Among}
 use Rattle.implib_link.proofs.Gnu.Stubs.{same_address}
+use Rattle.implib_link.proofs.Search.Lists.{contains_among}
 use Rattle.implib_link_instances.proofs.Worked.Lld.{lld_opened}
 use Rattle.implib_link_instances.proofs.Worked.LldPrograms.{refused_tables}
 use Rattle.implib_link_instances.proofs.Worked.NearMisses.{none_passes}
 use Rattle.implib_link_instances.proofs.Worked.Programs.{opened}
-use Rattle.implib_link_instances.proofs.Worked.RefusedFields.{value}
+use Rattle.implib_link_instances.proofs.Worked.RefusedFields.{other_byte, value}
 use Rattle.implib_link_instances.proofs.Worked.RefusedLinks.{are_located, differ, number}
 
 -- Entries.
@@ -261,10 +263,13 @@ falling_addresses zero x is = subst (λ (y : Table). NumberAt falling_image 4 0x
 falling_addresses (suc zero) x is = subst (λ (y : Table). NumberAt falling_image 4 0x1024 y.address) (same_table (empty_table 0x1040) x is) field_1040
 falling_addresses (suc (suc i)) x is = cc
 
+falling_none : (first i j : ℕ) (x : Table) (e : TableEntry) → slice_get (falling_tables first).tables i ≡ Some x → slice_get x.entries j ≡ Some e → ⊥
+falling_none first zero j x e is held = no_entry j e (empty_table first) x refl (same_table (empty_table first) x is) held
+falling_none first (suc zero) j x e is held = no_entry j e (empty_table 0x1040) x refl (same_table (empty_table 0x1040) x is) held
+falling_none first (suc (suc i)) j x e is held = cc
+
 falling_symbols : (first : ℕ) → DefineEntries AMD64 [] (falling_tables first).tables
-falling_symbols first zero j x e name is held named = absurd (no_entry j e (empty_table first) x refl (same_table (empty_table first) x is) held)
-falling_symbols first (suc zero) j x e name is held named = absurd (no_entry j e (empty_table 0x1040) x refl (same_table (empty_table 0x1040) x is) held)
-falling_symbols first (suc (suc i)) j x e name is held named = cc
+falling_symbols first i j x e name is held named = absurd (falling_none first i j x e is held)
 
 pub near_are_tables : NearAreTables
 unfolding lld_opened RiseFrom DirectoryAt called_otherwise
@@ -295,4 +300,46 @@ near_is_in_table = record {
   held = (record { table = beta_table; held = tt; from = omega arith; to = omega arith }, refused_tables.of_no_table);
   from = (record { table = beta_table; held = (0, omega arith, refl); from = tt; to = omega arith }, refused_tables.before_table);
   to = (record { table = beta_table; held = (0, omega arith, refl); from = omega arith; to = tt }, refused_tables.behind_table);
+}
+
+-- Loaded tables.
+
+mid_at : definitions_of (codes "__imp_mid") (lld_linked_on AMD64) ≡ record { name = codes "__imp_mid"; address = Some 0x2068 } ∷ []
+unfolding lld_opened
+mid_at = stand.symbols 0 0 beta_table (record { ask = Ordinal 7; symbol = Some (codes "__imp_mid") }) (codes "__imp_mid") refl refl refl
+
+-- the entry of `mid` begins with another byte than 0
+held_at_mid : HoldsAt (lld_image_on AMD64) (lld_linked_on AMD64) (codes "__imp_mid") (zeros 8) → ⊥
+unfolding lld_opened
+held_at_mid x =
+    let same : x.address ≡ 0x2068 = same_address (codes "__imp_mid") x.address 0x2068 (definitions_of (codes "__imp_mid") (lld_linked_on AMD64)) x.once mid_at in
+    other_byte (lld_image_on AMD64) 0x2068 0 7 (zeros 7) refl (omega arith) (subst (λ a. BytesAt (lld_image_on AMD64) a (zeros 8)) same x.located)
+
+-- no table has room
+without_entries : (x : Table) → Contains (falling_tables 0x1048).tables x → x.entries ≡ []
+unfolding Among
+without_entries x held =
+    elim (contains_among x (falling_tables 0x1048).tables held) [
+      | inl is ↦ ap (λ (t : Table). t.entries) is
+      | inr later ↦ elim later [ inl is ↦ ap (λ (t : Table). t.entries) is | inr none ↦ absurd none ]
+    ]
+
+not_within : IsInTable 8 (falling_tables 0x1048).tables (record { start = 0x1040; bytes = zeros 8 }) → ⊥
+not_within x =
+    let none : length x.table.entries ≡ 0 = ap length (without_entries x.table x.held) in
+    let from : x.table.address ≤ 0x1040 = x.from in
+    let to : 0x1048 ≤ x.table.address + 8 * length x.table.entries = x.to in
+    omega arith
+
+pub near_are_tables_loaded : NearAreTablesLoaded
+unfolding lld_opened
+near_are_tables_loaded = record {
+  entries = (
+    record { entries = tt; within = tt },
+    λ x. held_at_mid (x.entries 0 0 beta_table (record { ask = Ordinal 7; symbol = Some (codes "__imp_mid") }) (codes "__imp_mid") refl refl refl),
+  );
+  within = (
+    record { entries = λ i j x e name is held named. absurd (falling_none 0x1048 i j x e is held); within = tt },
+    λ x. not_within x.within.0,
+  );
 }

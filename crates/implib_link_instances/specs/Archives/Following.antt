@@ -5,12 +5,15 @@ use Rattle.implib.specs.Formats.Object.{Object}
 use Rattle.implib.specs.Link.Placement.{Bases}
 use Rattle.implib.specs.Members.MemberSpec.{MemberView}
 use Rattle.implib_archive_link.specs.BothWay.{BothArrive}
+use Rattle.implib_archive_link.specs.LldWay.{LldArrives}
 use Rattle.implib_archive_link.specs.Way.{CallsArrive}
 use Rattle.implib_link.specs.Search.Archives.{Library}
 use Rattle.implib_link.specs.Search.BothFlavors.{FlavorLibrary}
 use Rattle.implib_link_instances.specs.But.ArchiveLinks.{BothArriveBut, CallsArriveBut}
+use Rattle.implib_link_instances.specs.But.ArchiveLinks.{LldArrivesBut}
 
--- A loader stops where the directory ends that the program's links are.
+-- A loader stops where the directory ends that the program's links are. What one loads that reads a
+-- program of lld is what its tables have.
 pub record FollowingOfWays : Type 0 where
   pub ends : (machine : MachineType) (libraries : List Library) (own : List Object)
       (taken : List MemberView) (arranged : List Library) (bases : Bases) (objects : List Object) →
@@ -21,3 +24,7 @@ pub record FollowingOfWays : Type 0 where
       (objects : List Object) →
       BothArriveBut (codes "ends") machine libraries own taken arranged bases objects →
       BothArrive machine libraries own taken arranged bases objects
+  pub loads : (machine : MachineType) (libraries : List Library) (own : List Object)
+      (taken : List MemberView) →
+      LldArrivesBut (codes "loads") machine libraries own taken →
+      LldArrives machine libraries own taken

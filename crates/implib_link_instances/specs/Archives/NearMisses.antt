@@ -21,6 +21,7 @@ use Rattle.implib_link.specs.Search.Search.{Takes}
 use Rattle.implib_link_instances.specs.But.ArchiveLinks.{MissesAreMembersAt, MissesCallsArrive}
 use Rattle.implib_link_instances.specs.But.ArchiveLinks.{MissesHaveArchive}
 use Rattle.implib_link_instances.specs.But.ArchiveLinks.{MissesIsBuiltByLld, MissesIsHeaderOf}
+use Rattle.implib_link_instances.specs.But.ArchiveLinks.{MissesIsSearchOf}
 use Rattle.implib_link_instances.specs.But.ArchiveLinks.{MissesIsWantedBy, MissesLeadsToFirst}
 use Rattle.implib_link_instances.specs.But.ArchiveLinks.{MissesLldArrives, MissesPullsInAt}
 use Rattle.implib_link_instances.specs.But.ArchiveLinks.{MissesTakesAt}
@@ -68,6 +69,11 @@ f_member = record {
 pub record NearIsHeaderOf : Type 0 where
   pub header_is : MissesIsHeaderOf (codes "header_is") (182 ∷ 246 ∷ []) worked_members 246 f_member
   pub member_is : MissesIsHeaderOf (codes "member_is") (182 ∷ 246 ∷ []) worked_members 246 f_member
+
+-- a member, where nothing is asked for and taken; and nothing, though `f` asks for a member
+pub record NearIsSearchOf : Type 0 where
+  pub at : MissesIsSearchOf (codes "at") Gnu First worked_members (asks_for []) (f_member ∷ [])
+  pub takes : MissesIsSearchOf (codes "takes") Gnu First worked_members (asks_for (codes "f" ∷ [])) []
 
 -- What is taken is read: in the archive of three exports' members, after the headers that a search takes, a reader finds
 -- the members that it takes of the list; and a name leads to what a reader finds as the first member that it is listed

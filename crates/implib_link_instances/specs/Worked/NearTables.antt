@@ -10,7 +10,8 @@ use Rattle.implib_link.specs.Gnu.Writing.{AreAlike}
 use Rattle.implib_link.specs.Search.Exists.{LieWithin}
 use Rattle.implib_link.specs.Tables.{Table, Tables}
 use Rattle.implib_link_instances.specs.But.Links.{MissesAreTables, MissesBeginsWith, MissesHoldsAt}
-use Rattle.implib_link_instances.specs.But.Links.{MissesIsInEntry, MissesIsInTable}
+use Rattle.implib_link_instances.specs.But.Links.{MissesAreTablesLoaded, MissesIsInEntry}
+use Rattle.implib_link_instances.specs.But.Links.{MissesIsInTable}
 use Rattle.implib_link_instances.specs.Worked.LldPrograms.{eight_bytes, lld_image_on, lld_linked_on}
 use Rattle.implib_link_instances.specs.Worked.LldPrograms.{own_tables, tables_with}
 use Rattle.implib_link_instances.specs.Worked.Loads.{written_8}
@@ -129,3 +130,9 @@ pub record NearIsInTable : Type 0 where
       (record { start = 0x2060; bytes = eight_bytes 0 })
   pub to : MissesIsInTable (codes "to") 8 own_tables.tables
       (record { start = 0x2078; bytes = eight_bytes 0 })
+
+-- nothing is written, where a DLL gives zeros; and what is in no table, of tables without entries
+pub record NearAreTablesLoaded : Type 0 where
+  pub entries : MissesAreTablesLoaded (codes "entries") AMD64 own_tables (λ dll ask. zeros 8) []
+  pub within : MissesAreTablesLoaded (codes "within") AMD64 (falling_tables 0x1048)
+      (λ dll ask. zeros 8) (record { start = 0x1040; bytes = zeros 8 } ∷ [])

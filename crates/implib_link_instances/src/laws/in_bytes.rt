@@ -8,7 +8,7 @@ ghost use Rattle.implib_link_instances.specs.Archives.Following.{FollowingOfWays
 ghost use Rattle.implib_link_instances.specs.Archives.NearMisses.{NearAreSearched, NearCallsArrive};
 ghost use Rattle.implib_link_instances.specs.Archives.NearMisses.{NearIsBuiltByLld};
 ghost use Rattle.implib_link_instances.specs.Archives.NearMisses.{NearIsWantedBy, NearLeadsToFirst};
-ghost use Rattle.implib_link_instances.specs.Archives.NearMisses.{NearLldArrives};
+ghost use Rattle.implib_link_instances.specs.Archives.NearMisses.{NearIsSearchOf, NearLldArrives};
 ghost use Rattle.implib_link_instances.specs.Archives.NearMisses.{NearAreMembersAt};
 ghost use Rattle.implib_link_instances.specs.Archives.NearMisses.{NearHaveArchive, NearIsHeaderOf};
 ghost use Rattle.implib_link_instances.specs.Archives.NearMisses.{NearPullsInAt, WorkedIndexes};
@@ -59,6 +59,7 @@ pub fn worked_both_way()
 pub fn near_misses_in_bytes()
     ensures pulls { NearPullsInAt }
     ensures takes { NearTakesAt }
+    ensures searches { NearIsSearchOf }
     ensures headers { NearIsHeaderOf }
     ensures archives { NearHaveArchive }
     ensures indexes { WorkedIndexes }
@@ -79,7 +80,8 @@ pub fn near_misses_of_ways()
     ensures linked_for_both { NearAreLinkedForBoth }
 {}
 
-/// What no way fails alone: that a loader stops after as many descriptors as there are DLLs.
+/// What no way fails alone: that a loader stops after as many descriptors as there are DLLs, and
+/// what it loads of a program of lld.
 pub fn following_of_ways()
     ensures { FollowingOfWays }
 {}
