@@ -1,7 +1,7 @@
 -- The programs that lld wrote, by computing and by the laws.
-use Rattle.std.proofs.Common.{◌≡◌, ℕ, ◌+◌, ◌*◌, ◌^◌, ◌<◌, ◌≤◌, ◌⊎◌, true, List, [], ◌∷◌, codes, length, None, Some, refl, ap, sym, ◌∙◌, subst, inl, inr, arith}
+use Rattle.std.proofs.Common.{◌≡◌, ℕ, ◌+◌, ◌^◌, ◌<◌, ◌≤◌, ◌⊎◌, true, List, [], ◌∷◌, codes, length, None, Some, refl, ap, sym, ◌∙◌, subst, inl, inr, arith}
 use Rattle.std.specs.Prelude.{Bool, bytes_eq, slice_get, ◌&&◌, ◌==◌, if◌then◌else◌}
-use Rattle.std.specs.List.{Contains, filter_map, list_all}
+use Rattle.std.specs.List.{filter_map, list_all}
 use Rattle.std.proofs.lemmas.Bool.{and_from, eq-eqb, eqb-true}
 use Rattle.implib.specs.declared.machine.MachineType.TheVariants.{I386, AMD64, ARM64}
 use Rattle.implib.specs.Formats.Constants.{amd64_rel32, class_external, i386_dir32}
@@ -14,9 +14,8 @@ use Rattle.implib.specs.Link.Placement.{Placed}
 use Rattle.implib.specs.Link.Resolution.{is_undefined_external, symbol_address}
 use Rattle.implib.proofs.Link.Definitions.{same_text}
 use Rattle.implib.proofs.Link.LinkedMembers.{among_contains}
-use Rattle.implib.proofs.Link.Loading.{dll_once, number_once}
+use Rattle.implib.proofs.Link.Loading.{number_once}
 use Rattle.implib.proofs.Link.Ranges.{Among, apart_as_they_rise}
-use Rattle.implib_link.specs.Directory.{DirectoryAt}
 use Rattle.implib_link.specs.Flavors.LldImports.{IsLldProgram, imp_symbols_of, imports_of_lld, short_for}
 use Rattle.implib_link.specs.Flavors.LldTables.{ArePiecesAt, IsAskable, built, built_bytes}
 use Rattle.implib_link.specs.Flavors.LldThunks.{BranchArrivesByThunk, ThunkArrives, placed_thunk, thunk_section}
@@ -26,7 +25,7 @@ use Rattle.implib_link.specs.Gnu.Moves.{AreInMemory, AreMoved}
 use Rattle.implib_link.specs.Gnu.Operands.{HasBranch, branch_leads, Names}
 use Rattle.implib_link.specs.Gnu.Rebased.{IsRebased, table_places}
 use Rattle.implib_link.specs.Stub.{jump_reads}
-use Rattle.implib_link.specs.Tables.{AreSteady, AreTables, IsInTable, RiseFrom, Table}
+use Rattle.implib_link.specs.Tables.{AreSteady, AreTables, RiseFrom, Table}
 use Rattle.implib_link_instances.specs.Worked.LldPrograms.{RefusedCalls, RefusedLoads, RefusedTables, RefusedThunks, WorkedLldProgram, WorkedLldPrograms, call_memory, code_of_object, code_of_thunk, eight_bytes, linked_code, linked_thunk, lld_codes, lld_image_on, lld_linked_on, lld_memory, lld_moved_memory, lld_places, lld_targets, mid_on, object_section, or_thunk, own_tables, placed_object, short_files, shorts_on, tables_on, taken_address, thunk_address}
 use Rattle.implib_link_instances.specs.Worked.Programs.{symbol_of_class, symbol_on}
 use Rattle.implib_link.proofs.Flavors.LldTables.{built_pieces}
@@ -483,53 +482,12 @@ own_stand = lld_tables AMD64 0x2000 0x2068 (shorts_on AMD64) (lld_image_on AMD64
 first_table : Table
 first_table = record { dll = codes "beta.dll"; address = 0x2068; entries = record { ask = Ordinal 7; symbol = Some (codes "__imp_mid") } ∷ record { ask = Name (codes "zeta") 5; symbol = Some (codes "__imp_zeta") } ∷ [] }
 
-second_table : Table
-second_table = record { dll = codes "alpha.dll"; address = 0x2080; entries = record { ask = Name (codes "gee") 258; symbol = Some (codes "__imp_gee") } ∷ [] }
-
-both_tables : own_tables.tables ≡ first_table ∷ second_table ∷ []
-unfolding lld_opened first_table second_table
-both_tables = refl
-
-one_of_both : (x : Table) → Contains own_tables.tables x → (x ≡ first_table) ⊎ (x ≡ second_table)
-unfolding Among
-one_of_both x held =
-    elim (contains_among x (first_table ∷ second_table ∷ []) (subst (λ ts. Contains ts x) both_tables held)) [
-      | inl first ↦ inl first
-      | inr later ↦ elim later [ inl second ↦ inr second | inr none ↦ absurd none ]
-    ]
-
-in_neither : (r : Range) → (0x2068 ≤ r.start → range_end r ≤ 0x2078 → ⊥) → (0x2080 ≤ r.start → range_end r ≤ 0x2088 → ⊥) → IsInTable 8 own_tables.tables r → ⊥
-unfolding first_table second_table
-in_neither r not_first not_second has =
-    let fits : (0x2068 ≤ r.start) × (range_end r ≤ 0x2078) ⊎ ((0x2080 ≤ r.start) × (range_end r ≤ 0x2088)) =
-    elim (one_of_both has.table has.held) [
-      | inl is ↦ inl (subst (λ (x : Table). (x.address ≤ r.start) × (range_end r ≤ x.address + 8 * length x.entries)) is (has.from, has.to))
-      | inr is ↦ inr (subst (λ (x : Table). (x.address ≤ r.start) × (range_end r ≤ x.address + 8 * length x.entries)) is (has.from, has.to))
-    ] in
-    elim fits [ inl both ↦ not_first both.0 both.1 | inr both ↦ not_second both.0 both.1 ]
-
 pub refused_tables : RefusedTables
-unfolding lld_opened RiseFrom DirectoryAt first_table second_table Among
+unfolding lld_opened RiseFrom first_table
 refused_tables = record {
   stand = own_stand;
-  starts = λ t. let low : 0 < 0 = t.starts.0 in omega arith;
-  ends = λ t. let high : 0x8000_0000 < 2 ^ 31 = t.ends.0 in omega arith;
-  directory = λ t.
-      let same : codes "alpha.dll" ≡ codes "beta.dll" =
-      dll_once (lld_image_on AMD64) 8 0x2000 (codes "alpha.dll") (codes "beta.dll") (Name (codes "gee") 258 ∷ []) (Ordinal 7 ∷ Name (codes "zeta") 5 ∷ []) t.directory.0.plain own_stand.directory.0.plain in
-      differ 8 9 (sym (ap length same)) (omega arith);
-  addresses = λ t.
-      let same : 0x2070 ≡ 0x2068 = number_once (lld_image_on AMD64) 4 0x2010 0x2070 0x2068 (t.addresses 0 (record first_table { address = 0x2070 }) refl) (own_stand.addresses 0 first_table refl) in
-      differ 0x2068 0x2070 (sym same) (omega arith);
   rise = λ r. let back : 0x2068 ≤ 0x2060 = r.1.0 in omega arith;
-  symbols = λ t.
-      let none : [] ≡ record { name = codes "__imp_mid"; address = Some 0x2068 } ∷ [] =
-      t.symbols 0 0 first_table (record { ask = Ordinal 7; symbol = Some (codes "__imp_mid") }) (codes "__imp_mid") refl refl refl in
-      cc;
   in_table = record { table = first_table; held = (0, omega arith, refl); from = omega arith; to = omega arith };
-  before_table = in_neither (record { start = 0x2060; bytes = eight_bytes 0 }) (λ from to. omega arith) (λ from to. omega arith);
-  of_no_table = λ x. let held = contains_among x.table [] x.held in held;
-  behind_table = in_neither (record { start = 0x2078; bytes = eight_bytes 0 }) (λ from to. omega arith) (λ from to. omega arith);
   arm64_table = λ can. differ 0 4 (sym can.1) (omega arith);
   arm64_base = λ can. differ 0 4 (sym can.0) (omega arith);
   i386_base = λ can. let fits : 0x8000_0001 + 2 ^ 31 ≤ 2 ^ 32 = can in omega arith;

@@ -1,6 +1,6 @@
 -- Near misses of linked and loaded import tables, by computing.
 use Rattle.std.proofs.Common.{◌≡◌, ℕ, zero, suc, ◌+◌, ◌*◌, ◌^◌, ◌<◌, ◌≤◌, true, false, List, [], ◌∷◌, ◌++◌, codes, length, map, Some, None, refl, ap, sym, ◌∙◌, subst, inl, inr, arith}
-use Rattle.std.specs.Prelude.{Bool, Option, ◌&&◌, ◌==◌, bytes_eq, slice_get, slice_index}
+use Rattle.std.specs.Prelude.{◌⊎◌, Bool, Option, ◌&&◌, ◌==◌, bytes_eq, slice_get, slice_index}
 use Rattle.std.specs.List.{Contains, list_any}
 use Rattle.implib.specs.declared.machine.MachineType.TheVariants.{AMD64}
 use Rattle.implib.specs.Formats.Layout.{encoded_size}
@@ -9,7 +9,7 @@ use Rattle.implib.specs.Import.{Name, Ordinal}
 use Rattle.implib.specs.Members.ImportTables.{zeros}
 use Rattle.implib.specs.Members.GnuMembers.{alias_specs}
 use Rattle.implib.specs.Members.WeakExternal.{weak_object}
-use Rattle.implib.specs.Link.Image.{Range}
+use Rattle.implib.specs.Link.Image.{Range, range_end}
 use Rattle.implib.specs.Link.Load.{BytesAt, LoadsStrictly, NumberAt, TableAt, WholeTableAt}
 use Rattle.implib.specs.Link.Placement.{Placed, Unplaced}
 use Rattle.implib.specs.Link.Resolution.{definitions_of, symbol_address}
@@ -19,7 +19,7 @@ use Rattle.implib_link.specs.Gnu.Program.{has_tables, thunks_before, with_tables
 use Rattle.implib_link.specs.Directory.{DirectoryAt}
 use Rattle.implib_link.specs.Tables.{AreTables, DefineEntries, IsInTable, RiseFrom, Table, TableEntry, imported_by_table}
 use Rattle.implib.specs.Formats.Constants.{class_external, class_static}
-use Rattle.implib_link_instances.specs.Worked.LldPrograms.{lld_image_on, lld_linked_on, own_tables}
+use Rattle.implib_link_instances.specs.Worked.LldPrograms.{eight_bytes, lld_image_on, lld_linked_on, own_tables}
 use Rattle.implib_link_instances.specs.Worked.Loads.{written_8}
 use Rattle.implib_link_instances.specs.Worked.NearTables.{NearAreAlike, NearAreTables, NearAreTablesLoaded, NearBeginsWith, NearGetsAddress, NearHoldsAt, NearIsInEntry, NearIsInTable, NearLieWithin, beta_table, empty_table, falling_image, falling_tables, renamed_tables, with_range}
 use Rattle.implib_link_instances.specs.Worked.Programs.{both_inputs, caller, foo_input, program_image, program_placed, symbol_of_class, touching_8, zed_input}
@@ -34,6 +34,7 @@ use Rattle.implib_link.proofs.Search.Lists.{contains_among}
 use Rattle.implib_link_instances.proofs.Worked.Lld.{lld_opened}
 use Rattle.implib_link_instances.proofs.Worked.LldPrograms.{refused_tables}
 use Rattle.implib_link_instances.proofs.Worked.NearMisses.{none_passes}
+use Rattle.implib_link_instances.proofs.Worked.NearSearches.{none_in}
 use Rattle.implib_link_instances.proofs.Worked.Programs.{opened}
 use Rattle.implib_link_instances.proofs.Worked.RefusedFields.{other_byte, value}
 use Rattle.implib_link_instances.proofs.Worked.RefusedLinks.{are_located, differ, number}
@@ -271,6 +272,32 @@ falling_none first (suc (suc i)) j x e is held = cc
 falling_symbols : (first : ℕ) → DefineEntries AMD64 [] (falling_tables first).tables
 falling_symbols first i j x e name is held named = absurd (falling_none first i j x e is held)
 
+-- the second table, and what is in neither
+alpha_table : Table
+alpha_table = record { dll = codes "alpha.dll"; address = 0x2080; entries = record { ask = Name (codes "gee") 258; symbol = Some (codes "__imp_gee") } ∷ [] }
+
+both_tables : own_tables.tables ≡ beta_table ∷ alpha_table ∷ []
+unfolding lld_opened alpha_table
+both_tables = refl
+
+one_of_both : (x : Table) → Contains own_tables.tables x → (x ≡ beta_table) ⊎ (x ≡ alpha_table)
+unfolding Among
+one_of_both x held =
+    elim (contains_among x (beta_table ∷ alpha_table ∷ []) (subst (λ ts. Contains ts x) both_tables held)) [
+      | inl first ↦ inl first
+      | inr later ↦ elim later [ inl second ↦ inr second | inr none ↦ absurd none ]
+    ]
+
+in_neither : (r : Range) → (0x2068 ≤ r.start → range_end r ≤ 0x2078 → ⊥) → (0x2080 ≤ r.start → range_end r ≤ 0x2088 → ⊥) → IsInTable 8 own_tables.tables r → ⊥
+unfolding alpha_table
+in_neither r not_first not_second has =
+    let fits : (0x2068 ≤ r.start) × (range_end r ≤ 0x2078) ⊎ ((0x2080 ≤ r.start) × (range_end r ≤ 0x2088)) =
+    elim (one_of_both has.table has.held) [
+      | inl is ↦ inl (subst (λ (x : Table). (x.address ≤ r.start) × (range_end r ≤ x.address + 8 * length x.entries)) is (has.from, has.to))
+      | inr is ↦ inr (subst (λ (x : Table). (x.address ≤ r.start) × (range_end r ≤ x.address + 8 * length x.entries)) is (has.from, has.to))
+    ] in
+    elim fits [ inl both ↦ not_first both.0 both.1 | inr both ↦ not_second both.0 both.1 ]
+
 pub near_are_tables : NearAreTables
 unfolding lld_opened RiseFrom DirectoryAt called_otherwise
 near_are_tables = record {
@@ -291,15 +318,21 @@ near_are_tables = record {
     record { starts = (omega arith, tt); ends = (omega arith, tt); directory = falling_directory 0x1048; addresses = falling_addresses; rise = tt; symbols = falling_symbols 0x1048 },
     λ t. let back : 0x1048 + 8 * 0 ≤ 0x1040 = t.rise.1.0 in omega arith,
   );
-  symbols = (record { starts = stand.starts; ends = stand.ends; directory = stand.directory; addresses = stand.addresses; rise = stand.rise; symbols = tt }, refused_tables.symbols);
+  symbols = (
+    record { starts = stand.starts; ends = stand.ends; directory = stand.directory; addresses = stand.addresses; rise = stand.rise; symbols = tt },
+    λ t.
+        let none : [] ≡ record { name = codes "__imp_mid"; address = Some 0x2068 } ∷ [] =
+        t.symbols 0 0 beta_table (record { ask = Ordinal 7; symbol = Some (codes "__imp_mid") }) (codes "__imp_mid") refl refl refl in
+        cc,
+  );
 }
 
 pub near_is_in_table : NearIsInTable
 unfolding lld_opened
 near_is_in_table = record {
-  held = (record { table = beta_table; held = tt; from = omega arith; to = omega arith }, refused_tables.of_no_table);
-  from = (record { table = beta_table; held = (0, omega arith, refl); from = tt; to = omega arith }, refused_tables.before_table);
-  to = (record { table = beta_table; held = (0, omega arith, refl); from = omega arith; to = tt }, refused_tables.behind_table);
+  held = (record { table = beta_table; held = tt; from = omega arith; to = omega arith }, λ x. none_in x.table x.held);
+  from = (record { table = beta_table; held = (0, omega arith, refl); from = tt; to = omega arith }, in_neither (record { start = 0x2060; bytes = eight_bytes 0 }) (λ from to. omega arith) (λ from to. omega arith));
+  to = (record { table = beta_table; held = (0, omega arith, refl); from = omega arith; to = tt }, in_neither (record { start = 0x2078; bytes = eight_bytes 0 }) (λ from to. omega arith) (λ from to. omega arith));
 }
 
 -- Loaded tables.

@@ -73,7 +73,8 @@ pub record NearIsHeaderOf : Type 0 where
 -- a member, where nothing is asked for and taken; and nothing, though `f` asks for a member
 pub record NearIsSearchOf : Type 0 where
   pub at : MissesIsSearchOf (codes "at") Gnu First worked_members (asks_for []) (f_member ∷ [])
-  pub takes : MissesIsSearchOf (codes "takes") Gnu First worked_members (asks_for (codes "f" ∷ [])) []
+  pub takes : MissesIsSearchOf (codes "takes") Gnu First worked_members
+      (asks_for (codes "f" ∷ [])) []
 
 -- What is taken is read: in the archive of three exports' members, after the headers that a search takes, a reader finds
 -- the members that it takes of the list; and a name leads to what a reader finds as the first member that it is listed

@@ -295,11 +295,7 @@ tables_with image linked directory addresses = tables_of_lld AMD64 directory add
 abbrev pub own_tables : Tables
 own_tables = tables_with (lld_image_on AMD64) (lld_linked_on AMD64) 0x2000 0x2068
 
--- an image at 0, and one that ends at 2^31
-abbrev pub with_empty_range : ℕ → List Range
-with_empty_range start = record { start = start; bytes = [] } ∷ lld_image_on AMD64
-
--- a table whose second entry is that of the table after it
+-- tables of which the second is in front of the first
 abbrev pub overlapping_tables : List Table
 overlapping_tables =
     record { dll = codes "beta.dll"; address = 0x2068; entries = [] }
@@ -308,17 +304,8 @@ overlapping_tables =
 
 pub record RefusedTables : Type 0 where
   pub stand : AreTables AMD64 own_tables
-  pub starts : AreTables AMD64 (tables_with (with_empty_range 0) (lld_linked_on AMD64) 0x2000 0x2068) → ⊥
-  pub ends : AreTables AMD64 (tables_with (with_empty_range 0x8000_0000) (lld_linked_on AMD64) 0x2000 0x2068) → ⊥
-  pub directory : AreTables AMD64 (record own_tables { tables = drop 1 own_tables.tables }) → ⊥
-  pub addresses : AreTables AMD64 (tables_with (lld_image_on AMD64) (lld_linked_on AMD64) 0x2000 0x2070) → ⊥
   pub rise : RiseFrom 8 0 overlapping_tables → ⊥
-  pub symbols : AreTables AMD64 (tables_with (lld_image_on AMD64) (drop 2 (lld_linked_on AMD64)) 0x2000 0x2068) → ⊥
-  -- an entry begins before its table, or ends after it
   pub in_table : IsInTable 8 own_tables.tables (record { start = 0x2070; bytes = eight_bytes 0 })
-  pub before_table : IsInTable 8 own_tables.tables (record { start = 0x2060; bytes = eight_bytes 0 }) → ⊥
-  pub behind_table : IsInTable 8 own_tables.tables (record { start = 0x2078; bytes = eight_bytes 0 }) → ⊥
-  pub of_no_table : IsInTable 8 [] (record { start = 0x2070; bytes = eight_bytes 0 }) → ⊥
   -- ARM64 loads at multiples of 8, I386 below 2^32, ARMNT's thunks are not claimed
   pub arm64_table : CanReadFrom ARM64 0x1_4000_0000 0x206C → ⊥
   pub arm64_base : CanReadFrom ARM64 0x1_4000_0004 0x2068 → ⊥
