@@ -61,6 +61,7 @@ pub mod NearCode
 pub mod Instances
 pub mod NearLinks
 pub mod NearResults
+pub mod NearProgramLinks
 pub mod NearTaken
 pub mod A32
 pub mod BothFlavors

@@ -17,7 +17,7 @@ use Rattle.implib_link.specs.Gnu.Program.{has_tables}
 use Rattle.implib_link.specs.Stub.{adrp_immediate, ldr_immediate, page, plus_signed, with_adrp, with_bits}
 use Rattle.implib_link_instances.specs.Worked.Operands.{amd64_rel32_1, field, imp_open, or_else, passing_at, passing_code, passing_linked, passing_memory, passing_placed, passing_targets}
 use Rattle.implib_link_instances.specs.Worked.Programs.{touching_8}
-use Rattle.implib_link_instances.specs.Worked.RefusedFields.{RefusedBranches, RefusedCode, RefusedFieldsOfTypes, RefusedInstructions, RefusedMoves, RefusedOperands, RefusedPairs, RefusedPointers, linked_on_amd64, open_address, two_ranges, with_byte}
+use Rattle.implib_link_instances.specs.Worked.RefusedFields.{RefusedBranches, RefusedCode, RefusedFieldsOfTypes, RefusedInstructions, RefusedMoves, RefusedOperands, RefusedPairs, RefusedPointers, call_number, linked_on_amd64, open_address, pair_memory, two_ranges, with_byte}
 use Rattle.implib_link.proofs.Gnu.Memory.{byte_first}
 use Rattle.implib_link.proofs.Gnu.Stubs.{same_address}
 use Rattle.implib_link_instances.proofs.Worked.LinkedCode.{relocated_by, relocated_test}
@@ -81,11 +81,8 @@ refused_types = record {
   arm64_wide = relocated_by ARM64 0x1_4000_0000 (passing_targets ARM64 touching_8 (passing_at ARM64)) 0x1000 (passing_code ARM64) (with_byte (passing_linked ARM64) 25 8) refl;
 }
 
-call_number : List ℕ
-call_number = 0x6F ∷ 0xF0 ∷ 0xFF ∷ 0xFF ∷ []
-
 pub refused_operands : RefusedOperands
-unfolding opened refusal renamed_refusal alias_specs encoded_size weak_object has_tables call_number
+unfolding opened refusal renamed_refusal alias_specs encoded_size weak_object has_tables
 refused_operands = record {
   arrives =
       let memory : List Range = two_ranges 0x100D (0x6F ∷ 0xF0 ∷ 0xFF ∷ 0xFF ∷ []) open_address in
@@ -105,17 +102,26 @@ refused_operands = record {
 }
 
 pub refused_instructions : RefusedInstructions
-unfolding opened refusal renamed_refusal alias_specs encoded_size weak_object has_tables call_number
+unfolding opened refusal renamed_refusal alias_specs encoded_size weak_object has_tables
 refused_instructions = record {
   arrives =
       let memory : List Range = two_ranges 0x100B (0xFF ∷ 0x15 ∷ 0x6F ∷ 0xF0 ∷ 0xFF ∷ 0xFF ∷ []) open_address in
       record { field = call_number; four = refl; there = are_located memory (0xFF ∷ 0x15 ∷ 0x6F ∷ 0xF0 ∷ 0xFF ∷ 0xFF ∷ []) 0x100B refl; entry = 0x80; own = refl; leads = refl; located = are_located memory open_address 0x80 refl };
-  there = λ x. second_byte (two_ranges 0x100B (0xFF ∷ 0x25 ∷ 0x6F ∷ 0xF0 ∷ 0xFF ∷ 0xFF ∷ []) open_address) 0x100B 0xFF 0x15 0x25 (x.field ++ []) refl (omega arith) x.there;
-  own = λ x. let none : [] ≡ record { name = codes "hello"; address = Some x.entry } ∷ [] = x.own in cc;
-  located = λ x.
+  there = (record { field = call_number; four = refl; there = tt; entry = 0x80; own = refl; leads = refl; located = are_located (two_ranges 0x100B (0xFF ∷ 0x25 ∷ call_number) open_address) open_address 0x80 refl },
+    λ x. second_byte (two_ranges 0x100B (0xFF ∷ 0x25 ∷ 0x6F ∷ 0xF0 ∷ 0xFF ∷ 0xFF ∷ []) open_address) 0x100B 0xFF 0x15 0x25 (x.field ++ []) refl (omega arith) x.there);
+  own = (
+    let memory : List Range = two_ranges 0x100B (0xFF ∷ 0x15 ∷ call_number) open_address in
+    record { field = call_number; four = refl; there = are_located memory (0xFF ∷ 0x15 ∷ call_number) 0x100B refl; entry = 0x80; own = tt; leads = refl; located = are_located memory open_address 0x80 refl },
+    λ x. let none : [] ≡ record { name = codes "hello"; address = Some x.entry } ∷ [] = x.own in cc,
+  );
+  located = (
+    let memory : List Range = two_ranges 0x100B (0xFF ∷ 0x15 ∷ call_number) (0x41 ∷ drop 1 open_address) in
+    record { field = call_number; four = refl; there = are_located memory (0xFF ∷ 0x15 ∷ call_number) 0x100B refl; entry = 0x80; own = refl; leads = refl; located = tt },
+    λ x.
       let memory : List Range = two_ranges 0x100B (0xFF ∷ 0x15 ∷ 0x6F ∷ 0xF0 ∷ 0xFF ∷ 0xFF ∷ []) (0x41 ∷ drop 1 open_address) in
       let entry : x.entry ≡ 0x80 = same_address (imp_open AMD64) x.entry 0x80 (definitions_of (imp_open AMD64) linked_on_amd64) x.own refl in
-      other_byte memory 0x80 0x40 0x41 (drop 1 open_address) refl (omega arith) (subst (λ e. BytesAt memory e open_address) entry x.located);
+      other_byte memory 0x80 0x40 0x41 (drop 1 open_address) refl (omega arith) (subst (λ e. BytesAt memory e open_address) entry x.located),
+  );
 }
 
 pub refused_pointers : RefusedPointers
@@ -149,11 +155,8 @@ refused_branches = record {
       differ 0x1_4000_1040 0x1_4000_1044 (sym (value 0x1_4000_1044 0x1_4000_1040 led)) (omega arith);
 }
 
-pair_memory : List ℕ → List ℕ → List ℕ → List Range
-pair_memory adrp load bytes = record { start = 0x100C; bytes = adrp } ∷ two_ranges 0x1010 load bytes
-
 pub refused_pairs : RefusedPairs
-unfolding opened refusal renamed_refusal alias_specs encoded_size weak_object has_tables pair_memory
+unfolding opened refusal renamed_refusal alias_specs encoded_size weak_object has_tables
 refused_pairs = record {
   arrives =
       let memory : List Range = pair_memory (0xE8 ∷ 0xFF ∷ 0xFF ∷ 0xF0 ∷ []) (8 ∷ 0x41 ∷ 0x40 ∷ 0xF9 ∷ []) open_address in
@@ -169,17 +172,28 @@ refused_pairs = record {
         leads = refl;
         located = are_located memory open_address 0x80 refl;
       };
-  is_adrp = λ x.
+  is_adrp = (
+    let memory : List Range = pair_memory (0xE9 ∷ 0xFF ∷ 0xFF ∷ 0xF0 ∷ []) (8 ∷ 0x41 ∷ 0x40 ∷ 0xF9 ∷ []) open_address in
+    record { adrp = 0xF0FF_FFE9; adrp_there = number memory 4 0x100C 0xF0FF_FFE9 (0xE9 ∷ 0xFF ∷ 0xFF ∷ 0xF0 ∷ []) refl refl refl; is_adrp = tt; load = 0xF940_4108; load_there = number memory 4 0x1010 0xF940_4108 (8 ∷ 0x41 ∷ 0x40 ∷ 0xF9 ∷ []) refl refl refl; is_load = refl; entry = 0x80; own = refl; leads = refl; located = are_located memory open_address 0x80 refl },
+    λ x.
       let memory : List Range = pair_memory (0xE9 ∷ 0xFF ∷ 0xFF ∷ 0xF0 ∷ []) (8 ∷ 0x41 ∷ 0x40 ∷ 0xF9 ∷ []) open_address in
       let same : x.adrp ≡ 0xF0FF_FFE9 = number_once memory 4 0x100C x.adrp 0xF0FF_FFE9 x.adrp_there (number memory 4 0x100C 0xF0FF_FFE9 (0xE9 ∷ 0xFF ∷ 0xFF ∷ 0xF0 ∷ []) refl refl refl) in
       let is : 0x9000_0009 ≡ 0x9000_0008 = sym (ap (λ n. with_adrp 0 n) same) ∙ x.is_adrp in
-      differ 0x9000_0008 0x9000_0009 (sym is) (omega arith);
-  is_load = λ x.
+      differ 0x9000_0008 0x9000_0009 (sym is) (omega arith),
+  );
+  is_load = (
+    let memory : List Range = pair_memory (0xE8 ∷ 0xFF ∷ 0xFF ∷ 0xF0 ∷ []) (9 ∷ 0x41 ∷ 0x40 ∷ 0xF9 ∷ []) open_address in
+    record { adrp = 0xF0FF_FFE8; adrp_there = number memory 4 0x100C 0xF0FF_FFE8 (0xE8 ∷ 0xFF ∷ 0xFF ∷ 0xF0 ∷ []) refl refl refl; is_adrp = refl; load = 0xF940_4109; load_there = number memory 4 0x1010 0xF940_4109 (9 ∷ 0x41 ∷ 0x40 ∷ 0xF9 ∷ []) refl refl refl; is_load = tt; entry = 0x80; own = refl; leads = refl; located = are_located memory open_address 0x80 refl },
+    λ x.
       let memory : List Range = pair_memory (0xE8 ∷ 0xFF ∷ 0xFF ∷ 0xF0 ∷ []) (9 ∷ 0x41 ∷ 0x40 ∷ 0xF9 ∷ []) open_address in
       let same : x.load ≡ 0xF940_4109 = number_once memory 4 0x1010 x.load 0xF940_4109 x.load_there (number memory 4 0x1010 0xF940_4109 (9 ∷ 0x41 ∷ 0x40 ∷ 0xF9 ∷ []) refl refl refl) in
       let is : 0xF940_0109 ≡ 0xF940_0108 = sym (ap (λ n. with_bits 10 12 0 n) same) ∙ x.is_load in
-      differ 0xF940_0108 0xF940_0109 (sym is) (omega arith);
-  leads = λ x.
+      differ 0xF940_0108 0xF940_0109 (sym is) (omega arith),
+  );
+  leads = (
+    let memory : List Range = pair_memory (0xE8 ∷ 0xFF ∷ 0xFF ∷ 0xF0 ∷ []) (8 ∷ 0x45 ∷ 0x40 ∷ 0xF9 ∷ []) open_address in
+    record { adrp = 0xF0FF_FFE8; adrp_there = number memory 4 0x100C 0xF0FF_FFE8 (0xE8 ∷ 0xFF ∷ 0xFF ∷ 0xF0 ∷ []) refl refl refl; is_adrp = refl; load = 0xF940_4508; load_there = number memory 4 0x1010 0xF940_4508 (8 ∷ 0x45 ∷ 0x40 ∷ 0xF9 ∷ []) refl refl refl; is_load = refl; entry = 0x80; own = refl; leads = tt; located = are_located memory open_address 0x80 refl },
+    λ x.
       let memory : List Range = pair_memory (0xE8 ∷ 0xFF ∷ 0xFF ∷ 0xF0 ∷ []) (8 ∷ 0x45 ∷ 0x40 ∷ 0xF9 ∷ []) open_address in
       let first : x.adrp ≡ 0xF0FF_FFE8 = number_once memory 4 0x100C x.adrp 0xF0FF_FFE8 x.adrp_there (number memory 4 0x100C 0xF0FF_FFE8 (0xE8 ∷ 0xFF ∷ 0xFF ∷ 0xF0 ∷ []) refl refl refl) in
       let second : x.load ≡ 0xF940_4508 = number_once memory 4 0x1010 x.load 0xF940_4508 x.load_there (number memory 4 0x1010 0xF940_4508 (8 ∷ 0x45 ∷ 0x40 ∷ 0xF9 ∷ []) refl refl refl) in
@@ -187,12 +201,21 @@ refused_pairs = record {
       let led : 0x1_4000_0088 ≡ 0x1_4000_0080 =
       sym (ap (λ n. plus_signed 21 4096 (adrp_immediate n) (page 0x1_4000_100C * 4096) + ldr_immediate 0xF940_4508) first)
       ∙ sym (ap (λ n. plus_signed 21 4096 (adrp_immediate x.adrp) (page 0x1_4000_100C * 4096) + ldr_immediate n) second) ∙ x.leads ∙ ap (λ e. 0x1_4000_0000 + e) entry in
-      differ 0x1_4000_0080 0x1_4000_0088 (sym led) (omega arith);
-  own = λ x. let none : [] ≡ record { name = codes "hello"; address = Some x.entry } ∷ [] = x.own in cc;
-  located = λ x.
+      differ 0x1_4000_0080 0x1_4000_0088 (sym led) (omega arith),
+  );
+  own = (
+    let memory : List Range = pair_memory (0xE8 ∷ 0xFF ∷ 0xFF ∷ 0xF0 ∷ []) (8 ∷ 0x41 ∷ 0x40 ∷ 0xF9 ∷ []) open_address in
+    record { adrp = 0xF0FF_FFE8; adrp_there = number memory 4 0x100C 0xF0FF_FFE8 (0xE8 ∷ 0xFF ∷ 0xFF ∷ 0xF0 ∷ []) refl refl refl; is_adrp = refl; load = 0xF940_4108; load_there = number memory 4 0x1010 0xF940_4108 (8 ∷ 0x41 ∷ 0x40 ∷ 0xF9 ∷ []) refl refl refl; is_load = refl; entry = 0x80; own = tt; leads = refl; located = are_located memory open_address 0x80 refl },
+    λ x. let none : [] ≡ record { name = codes "hello"; address = Some x.entry } ∷ [] = x.own in cc,
+  );
+  located = (
+    let memory : List Range = pair_memory (0xE8 ∷ 0xFF ∷ 0xFF ∷ 0xF0 ∷ []) (8 ∷ 0x41 ∷ 0x40 ∷ 0xF9 ∷ []) (0x41 ∷ drop 1 open_address) in
+    record { adrp = 0xF0FF_FFE8; adrp_there = number memory 4 0x100C 0xF0FF_FFE8 (0xE8 ∷ 0xFF ∷ 0xFF ∷ 0xF0 ∷ []) refl refl refl; is_adrp = refl; load = 0xF940_4108; load_there = number memory 4 0x1010 0xF940_4108 (8 ∷ 0x41 ∷ 0x40 ∷ 0xF9 ∷ []) refl refl refl; is_load = refl; entry = 0x80; own = refl; leads = refl; located = tt },
+    λ x.
       let memory : List Range = pair_memory (0xE8 ∷ 0xFF ∷ 0xFF ∷ 0xF0 ∷ []) (8 ∷ 0x41 ∷ 0x40 ∷ 0xF9 ∷ []) (0x41 ∷ drop 1 open_address) in
       let entry : x.entry ≡ 0x80 = same_address (imp_open ARM64) x.entry 0x80 (definitions_of (imp_open ARM64) (passing_placed ARM64 touching_8)) x.own refl in
-      other_byte memory 0x80 0x40 0x41 (drop 1 open_address) refl (omega arith) (subst (λ e. BytesAt memory e open_address) entry x.located);
+      other_byte memory 0x80 0x40 0x41 (drop 1 open_address) refl (omega arith) (subst (λ e. BytesAt memory e open_address) entry x.located),
+  );
 }
 
 pub refused_moves : RefusedMoves

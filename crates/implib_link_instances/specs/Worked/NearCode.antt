@@ -8,7 +8,7 @@ use Rattle.implib.specs.Formats.Constants.{amd64_rel32, arm64_pagebase_rel21, cl
 use Rattle.implib.specs.Formats.Object.{ASymbol, ObjectSymbol}
 use Rattle.implib.specs.Link.Placement.{Unplaced}
 use Rattle.implib_link.specs.Gnu.Calls.{CallArrives, DirectCallArrives, HasDirectCall, PlacedCode, StubAt, call_bytes, call_relocations}
-use Rattle.implib_link_instances.specs.But.GnuCalls.{MissesDefines, MissesHasInstructions}
+use Rattle.implib_link_instances.specs.But.Links.{MissesDefines, MissesHasInstructions}
 use Rattle.implib_link.specs.Gnu.Pages.{HasPage}
 use Rattle.implib_link.specs.Gnu.Pointers.{HasLoad, LoadArrives}
 use Rattle.implib_link.specs.Gnu.Rebased.{StubArrives}

@@ -7,6 +7,7 @@ use Rattle.implib_link.specs.Gnu.Fields.{IsRelocated}
 use Rattle.implib_link.specs.Gnu.Moves.{ArePaged}
 use Rattle.implib_link.specs.Gnu.Operands.{BranchArrives, InstructionArrives, OperandArrives, PairArrives, PointerArrives}
 use Rattle.implib_link.specs.Gnu.Rebased.{IsRebased}
+use Rattle.implib_link_instances.specs.But.Links.{MissesInstructionArrives, MissesPairArrives}
 use Rattle.implib_link_instances.specs.Worked.Operands.{imp_open, moved_memory, passing_at, passing_code, passing_linked, passing_memory, passing_placed, passing_places, passing_targets}
 use Rattle.implib_link_instances.specs.Worked.Programs.{touching_4, touching_8}
 
@@ -85,12 +86,21 @@ CallInstruction code bytes name =
     InstructionArrives AMD64 0x1_4000_0000 linked_on_amd64 (two_ranges 0x100B code bytes) 0x100B (0xFF ∷ 0x15 ∷ []) []
     name open_address
 
+-- the number in its field
+abbrev pub call_number : List ℕ
+call_number = 0x6F ∷ 0xF0 ∷ 0xFF ∷ 0xFF ∷ []
+
 pub record RefusedInstructions : Type 0 where
   pub arrives : CallInstruction (0xFF ∷ 0x15 ∷ 0x6F ∷ 0xF0 ∷ 0xFF ∷ 0xFF ∷ []) open_address (imp_open AMD64)
-  pub there : CallInstruction (0xFF ∷ 0x25 ∷ 0x6F ∷ 0xF0 ∷ 0xFF ∷ 0xFF ∷ []) open_address (imp_open AMD64) → ⊥
-  pub own : CallInstruction (0xFF ∷ 0x15 ∷ 0x6F ∷ 0xF0 ∷ 0xFF ∷ 0xFF ∷ []) open_address (codes "hello") → ⊥
-  pub located : CallInstruction (0xFF ∷ 0x15 ∷ 0x6F ∷ 0xF0 ∷ 0xFF ∷ 0xFF ∷ []) (0x41 ∷ drop 1 open_address) (imp_open AMD64)
-      → ⊥
+  pub there : MissesInstructionArrives (codes "there") AMD64 0x1_4000_0000 linked_on_amd64
+      (two_ranges 0x100B (0xFF ∷ 0x25 ∷ call_number) open_address) 0x100B (0xFF ∷ 0x15 ∷ []) []
+      (imp_open AMD64) open_address
+  pub own : MissesInstructionArrives (codes "own") AMD64 0x1_4000_0000 linked_on_amd64
+      (two_ranges 0x100B (0xFF ∷ 0x15 ∷ call_number) open_address) 0x100B (0xFF ∷ 0x15 ∷ []) []
+      (codes "hello") open_address
+  pub located : MissesInstructionArrives (codes "located") AMD64 0x1_4000_0000 linked_on_amd64
+      (two_ranges 0x100B (0xFF ∷ 0x15 ∷ call_number) (0x41 ∷ drop 1 open_address)) 0x100B
+      (0xFF ∷ 0x15 ∷ []) [] (imp_open AMD64) open_address
 
 -- the address stored at 0x1034
 abbrev pub StoredAddress : ℕ → List ℕ → List ℕ → List ℕ → Type 0
@@ -120,19 +130,34 @@ PageAndOffset adrp load bytes name =
     (record { start = 0x100C; bytes = adrp } ∷ two_ranges 0x1010 load bytes) 0x100C 0x1010 0x9000_0008 0xF940_0108
     name open_address
 
+-- of these bytes of both and of the entry, in memory
+abbrev pub pair_memory : List ℕ → List ℕ → List ℕ → List Range
+pair_memory adrp load bytes = record { start = 0x100C; bytes = adrp } ∷ two_ranges 0x1010 load bytes
+
+abbrev pub adrp_bytes : List ℕ
+adrp_bytes = 0xE8 ∷ 0xFF ∷ 0xFF ∷ 0xF0 ∷ []
+
+abbrev pub load_bytes : List ℕ
+load_bytes = 8 ∷ 0x41 ∷ 0x40 ∷ 0xF9 ∷ []
+
+-- another register, of the `adrp` and of the load; the next entry; another name; and other bytes at the entry
 pub record RefusedPairs : Type 0 where
-  pub arrives : PageAndOffset (0xE8 ∷ 0xFF ∷ 0xFF ∷ 0xF0 ∷ []) (8 ∷ 0x41 ∷ 0x40 ∷ 0xF9 ∷ []) open_address (imp_open ARM64)
-  -- another register, of the `adrp` and of the load
-  pub is_adrp : PageAndOffset (0xE9 ∷ 0xFF ∷ 0xFF ∷ 0xF0 ∷ []) (8 ∷ 0x41 ∷ 0x40 ∷ 0xF9 ∷ []) open_address (imp_open ARM64)
-      → ⊥
-  pub is_load : PageAndOffset (0xE8 ∷ 0xFF ∷ 0xFF ∷ 0xF0 ∷ []) (9 ∷ 0x41 ∷ 0x40 ∷ 0xF9 ∷ []) open_address (imp_open ARM64)
-      → ⊥
-  -- the next entry
-  pub leads : PageAndOffset (0xE8 ∷ 0xFF ∷ 0xFF ∷ 0xF0 ∷ []) (8 ∷ 0x45 ∷ 0x40 ∷ 0xF9 ∷ []) open_address (imp_open ARM64)
-      → ⊥
-  pub own : PageAndOffset (0xE8 ∷ 0xFF ∷ 0xFF ∷ 0xF0 ∷ []) (8 ∷ 0x41 ∷ 0x40 ∷ 0xF9 ∷ []) open_address (codes "hello") → ⊥
-  pub located : PageAndOffset (0xE8 ∷ 0xFF ∷ 0xFF ∷ 0xF0 ∷ []) (8 ∷ 0x41 ∷ 0x40 ∷ 0xF9 ∷ []) (0x41 ∷ drop 1 open_address)
-      (imp_open ARM64) → ⊥
+  pub arrives : PageAndOffset adrp_bytes load_bytes open_address (imp_open ARM64)
+  pub is_adrp : MissesPairArrives (codes "is_adrp") 0x1_4000_0000 (passing_placed ARM64 touching_8)
+      (pair_memory (0xE9 ∷ 0xFF ∷ 0xFF ∷ 0xF0 ∷ []) load_bytes open_address) 0x100C 0x1010 0x9000_0008
+      0xF940_0108 (imp_open ARM64) open_address
+  pub is_load : MissesPairArrives (codes "is_load") 0x1_4000_0000 (passing_placed ARM64 touching_8)
+      (pair_memory adrp_bytes (9 ∷ 0x41 ∷ 0x40 ∷ 0xF9 ∷ []) open_address) 0x100C 0x1010 0x9000_0008
+      0xF940_0108 (imp_open ARM64) open_address
+  pub leads : MissesPairArrives (codes "leads") 0x1_4000_0000 (passing_placed ARM64 touching_8)
+      (pair_memory adrp_bytes (8 ∷ 0x45 ∷ 0x40 ∷ 0xF9 ∷ []) open_address) 0x100C 0x1010 0x9000_0008
+      0xF940_0108 (imp_open ARM64) open_address
+  pub own : MissesPairArrives (codes "own") 0x1_4000_0000 (passing_placed ARM64 touching_8)
+      (pair_memory adrp_bytes load_bytes open_address) 0x100C 0x1010 0x9000_0008 0xF940_0108
+      (codes "hello") open_address
+  pub located : MissesPairArrives (codes "located") 0x1_4000_0000 (passing_placed ARM64 touching_8)
+      (pair_memory adrp_bytes load_bytes (0x41 ∷ drop 1 open_address)) 0x100C 0x1010 0x9000_0008
+      0xF940_0108 (imp_open ARM64) open_address
 
 -- Memory in which no base relocation was applied, or one beside its place, and bases apart by half a page
 pub record RefusedMoves : Type 0 where
