@@ -7,12 +7,12 @@ use Rattle.std.proofs.lemmas.Slice.Eq.{bytes_eq-Decides}
 use Rattle.implib.specs.declared.machine.MachineType.TheVariants.{AMD64}
 use Rattle.implib.specs.Formats.Object.{Object}
 use Rattle.implib.specs.Link.Linked.{IsDefinedAt, IsDefinedOnce, undefined_names}
-use Rattle.implib.specs.Link.Placement.{Placed, placed_from}
+use Rattle.implib.specs.Link.Placement.{Placed, placed_from, Bases}
 use Rattle.implib.specs.Link.Resolution.{SymbolDefinition, definitions_of}
-use Rattle.implib_link.specs.Flavors.Program.{FlavorInput, InputImports, OfMember, ProgramLinks, SymbolsAt, all_members, descriptor_in, dll_names_in, imp_symbols, own_names, symbols_listed, thunks_of}
-use Rattle.implib_link.specs.Gnu.Program.{with_tables}
+use Rattle.implib_link.specs.Flavors.Program.{FlavorInput, InputImports, OfMember, ProgramLinks, SymbolsAt, all_members, descriptor_in, dll_names_in, imp_symbols, own_names, symbols_listed, thunks_of, objects_taken, gnu_input, OfLinker}
+use Rattle.implib_link.specs.Gnu.Program.{with_tables, HaveSame, thunks_before, linked_symbols}
 use Rattle.implib_link_instances.specs.Worked.Flavors.{both_inputs as flavor_inputs, flavor_bases_8, flavor_image, flavor_objects, flavor_placed, foo_input as foo_flavor, zed_input as zed_flavor}
-use Rattle.implib_link_instances.specs.Worked.NearResults.{NearProgramLinks, claiming_more, leading_nowhere, losing, memberless, naming_null, without_null_name}
+use Rattle.implib_link_instances.specs.Worked.NearResults.{NearProgramLinks, claiming_more, leading_nowhere, losing, memberless, naming_null, without_null_name, table_of, four_before, memberless_run, NearLinksBeside}
 use Rattle.implib_link_instances.specs.Worked.NearSearches.{again}
 use Rattle.implib.proofs.Link.Ranges.{all_among}
 use Rattle.implib_link.proofs.Flavors.Program.{program_links, symbols_get}
@@ -20,8 +20,21 @@ use Rattle.implib_link.proofs.Search.Lists.{any_among}
 use Rattle.implib_link_instances.proofs.Worked.Flavors.{worked_flavors}
 use Rattle.implib_link_instances.proofs.Worked.NearMisses.{none_passes}
 use Rattle.implib_link_instances.proofs.Worked.NearSearches.{none_in, searched, twice}
-use Rattle.implib_link_instances.proofs.Worked.RefusedLinks.{differ}
+use Rattle.implib_link_instances.proofs.Worked.RefusedLinks.{differ, are_located}
 use Rattle.implib_link_instances.proofs.Worked.RefusedFields.{value}
+use Rattle.implib.specs.Members.ImportTables.{zeros}
+use Rattle.implib_link_instances.specs.Worked.MsvcArchives.{null_named}
+use Rattle.implib.specs.Link.Load.{BytesAt}
+use Rattle.implib.specs.Link.Image.{image_of}
+use Rattle.implib_link_instances.proofs.Worked.NearPrograms.{nothing_there}
+use Rattle.implib.specs.Members.MsvcObjects.{null_descriptor_symbol}
+use Rattle.implib_link.specs.Gnu.OtherLibraries.{LinksBeside, RunLinks, Run, members_from, ends_behind, rows_before}
+use Rattle.implib_link.proofs.Gnu.OtherLibraries.{links_beside, programs_beside_none}
+use Rattle.implib_link_instances.proofs.Worked.Programs.{worked_programs}
+use Rattle.implib_link_instances.specs.Worked.Programs.{program_objects, program_placed, touching_8, both_inputs, foo_input as gnu_foo, zed_input as gnu_zed}
+use Rattle.implib.specs.Link.LinkedMembers.{LinkInput}
+use Rattle.implib.specs.declared.machine.MachineType.{MachineType}
+use Rattle.implib_link.specs.Directory.{DirectoryAt}
 
 -- the right link
 links : ProgramLinks AMD64 OfMember flavor_bases_8 (flavor_inputs AMD64) (flavor_objects AMD64 0)
@@ -128,8 +141,18 @@ zed_unnamed : InputImports AMD64 (flavor_image AMD64 0 flavor_bases_8) unnamed 2
 unfolding searched SymbolsAt
 zed_unnamed = record { top = refl; loads = of_zed.loads; table_located = of_zed.table_located; entries = (refl, tt); gets = symbols_get unnamed 8 168 (imp_symbols (zed_flavor AMD64)) (refl, tt) }
 
+abbrev zeros_first : List Object
+zeros_first = table_of (codes ".idata$2") (zeros 20) ∷ objects_taken AMD64 (null_named (codes "foo.dll") ∷ [])
+
+zeros_there : BytesAt (image_of AMD64 flavor_bases_8 (placed_from flavor_bases_8 zeros_first)) 8 (zeros 20)
+unfolding searched
+zeros_there = are_located (image_of AMD64 flavor_bases_8 (placed_from flavor_bases_8 zeros_first)) (zeros 20) 8 refl
+
+same_names : (first second : List (List ℕ)) → first ≡ second → HaveSame first second
+same_names first second is = subst (HaveSame first) is (λ n. (λ held. held, λ held. held))
+
 pub near_program_links : NearProgramLinks
-unfolding searched SymbolsAt is_at
+unfolding searched SymbolsAt is_at DirectoryAt
 near_program_links = record {
   linked = (record {
     linked = tt;
@@ -205,4 +228,120 @@ near_program_links = record {
     claimed = tt;
   },
     λ x. none_passes (bytes_eq (codes "more")) (codes "more") (own_names OfMember AMD64 (flavor_inputs AMD64)) refl ((x.claimed (codes "more")).0 (0, omega arith, refl)) refl);
+  directory = (record { linked = tt; imports = λ i p at. absurd (none_at p at); directory = tt; null = tt; ended = tt; targets = tt; defined = tt; listed = tt; claimed = refl },
+    λ x. nothing_there (zeros 20) 4 (omega arith) x.directory);
+  ended = (record {
+    linked = tt;
+    imports = λ i p at. absurd (none_at p at);
+    directory = zeros_there;
+    null = refl;
+    ended = tt;
+    targets = ((tt, tt), ((tt, tt), tt));
+    defined = tt;
+    listed = tt;
+    claimed = same_names (null_descriptor_symbol ∷ []) (null_descriptor_symbol ∷ []) refl;
+  },
+    λ x. differ 8 48 (sym x.ended) (omega arith));
+}
+
+-- Beside other libraries.
+
+abbrev plain_run : Run
+plain_run = record { objects = []; imports = []; inputs = both_inputs AMD64 }
+
+beside_none : LinksBeside AMD64 touching_8 (plain_run ∷ []) (program_objects AMD64)
+beside_none =
+    links_beside AMD64 touching_8 (plain_run ∷ []) (program_objects AMD64) (worked_programs.amd64.made, tt)
+    (programs_beside_none AMD64 touching_8 (both_inputs AMD64) (program_objects AMD64) worked_programs.amd64.program)
+
+-- what is known of the members of both DLLs
+of_run : RunLinks AMD64 (image_of AMD64 touching_8 (program_placed AMD64 touching_8)) (program_placed AMD64 touching_8) touching_8 plain_run
+unfolding searched members_from ends_behind
+of_run = beside_none.members 0 plain_run refl
+
+-- what holds of the only run
+module _ (machine : MachineType) (bases : Bases) (objects : List Object) (r : Run) where
+  only_run : RunLinks machine (image_of machine bases (placed_from bases objects)) (placed_from bases objects) (members_from machine bases 0 (r ∷ [])) r →
+      (k : ℕ) (s : Run) → slice_get (r ∷ []) k ≡ Some s → RunLinks machine (image_of machine bases (placed_from bases objects)) (placed_from bases objects) (members_from machine bases k (r ∷ [])) s
+  only_run is zero s at = subst (RunLinks machine (image_of machine bases (placed_from bases objects)) (placed_from bases objects) (members_from machine bases 0 (r ∷ []))) (same_of r s at) is
+  only_run is (suc k) s at = absurd (none_at s at)
+
+  only_rows : (members_from machine bases 0 (r ∷ [])).descriptors ≡ bases.descriptors + 20 * rows_before 0 (r ∷ []) →
+      (k : ℕ) (s : Run) → slice_get (r ∷ []) k ≡ Some s → (members_from machine bases k (r ∷ [])).descriptors ≡ bases.descriptors + 20 * rows_before k (r ∷ [])
+  only_rows is zero s at = is
+  only_rows is (suc k) s at = absurd (none_at s at)
+
+-- the two inputs, each import by its own, of which the first may have other members
+module _ (p : LinkInput) (of_first : InputImports AMD64 (image_of AMD64 touching_8 (program_placed AMD64 touching_8)) (program_placed AMD64 touching_8) 4 120 (gnu_input p))
+    (fives : thunks_before 1 (p ∷ gnu_zed AMD64 ∷ []) ≡ 5) where
+  run_imports : (i : ℕ) (q : LinkInput) → slice_get (p ∷ gnu_zed AMD64 ∷ []) i ≡ Some q →
+      InputImports AMD64 (image_of AMD64 touching_8 (program_placed AMD64 touching_8)) (program_placed AMD64 touching_8) (4 + 20 * i) (120 + 8 * thunks_before i (p ∷ gnu_zed AMD64 ∷ [])) (gnu_input q)
+  run_imports zero q at =
+      subst (λ (x : LinkInput). InputImports AMD64 (image_of AMD64 touching_8 (program_placed AMD64 touching_8)) (program_placed AMD64 touching_8) 4 120 (gnu_input x)) (same_of p q at) of_first
+  run_imports (suc zero) q at =
+      subst (λ n. InputImports AMD64 (image_of AMD64 touching_8 (program_placed AMD64 touching_8)) (program_placed AMD64 touching_8) 24 (120 + 8 * n) (gnu_input q)) (sym fives)
+      (subst (λ (x : LinkInput). InputImports AMD64 (image_of AMD64 touching_8 (program_placed AMD64 touching_8)) (program_placed AMD64 touching_8) 24 160 (gnu_input x)) (same_of (gnu_zed AMD64) q at) (of_run.imports 1 (gnu_zed AMD64) refl))
+  run_imports (suc (suc i)) q at = absurd (none_at q at)
+
+abbrev memberless_foo : LinkInput
+memberless_foo = record (gnu_foo AMD64) { members = [] }
+
+queue_again : length (definitions_of (codes "queue") (placed_from touching_8 (again.object ∷ program_objects AMD64))) ≡ 2
+unfolding searched
+queue_again = refl
+
+abbrev again_objects : List Object
+again_objects = again.object ∷ program_objects AMD64
+
+again_run : RunLinks AMD64 (image_of AMD64 touching_8 (placed_from touching_8 (again.object ∷ program_objects AMD64))) (placed_from touching_8 (again.object ∷ program_objects AMD64)) touching_8 plain_run
+unfolding searched SymbolsAt
+again_run = record { imports = each; targets = of_run.targets; defined = of_run.defined }
+  where
+    beside_it : (d table : ℕ) (p : LinkInput) (x : InputImports AMD64 (image_of AMD64 touching_8 (program_placed AMD64 touching_8)) (program_placed AMD64 touching_8) d table (gnu_input p)) →
+        definitions_of (descriptor_in (gnu_input p).flavor AMD64 (dll_names_in (gnu_input p))) (placed_from touching_8 again_objects)
+        ≡ record { name = descriptor_in (gnu_input p).flavor AMD64 (dll_names_in (gnu_input p)); address = Some d } ∷ [] →
+        SymbolsAt (placed_from touching_8 again_objects) 8 table (imp_symbols (gnu_input p)) →
+        InputImports AMD64 (image_of AMD64 touching_8 (program_placed AMD64 touching_8)) (placed_from touching_8 again_objects) d table (gnu_input p)
+    beside_it d table p x top entries = record { top = top; loads = x.loads; table_located = x.table_located; entries = entries; gets = symbols_get (placed_from touching_8 again_objects) 8 table (imp_symbols (gnu_input p)) entries }
+
+    each : (i : ℕ) (q : LinkInput) → slice_get (both_inputs AMD64) i ≡ Some q →
+        InputImports AMD64 (image_of AMD64 touching_8 (program_placed AMD64 touching_8)) (placed_from touching_8 again_objects) (4 + 20 * i) (120 + 8 * thunks_before i (both_inputs AMD64)) (gnu_input q)
+    each zero q at =
+        subst (λ (x : LinkInput). InputImports AMD64 (image_of AMD64 touching_8 (program_placed AMD64 touching_8)) (placed_from touching_8 again_objects) 4 120 (gnu_input x)) (same_of (gnu_foo AMD64) q at)
+        (beside_it 4 120 (gnu_foo AMD64) (of_run.imports 0 (gnu_foo AMD64) refl) refl (refl, (refl, (refl, (refl, tt)))))
+    each (suc zero) q at =
+        subst (λ (x : LinkInput). InputImports AMD64 (image_of AMD64 touching_8 (program_placed AMD64 touching_8)) (placed_from touching_8 again_objects) 24 160 (gnu_input x)) (same_of (gnu_zed AMD64) q at)
+        (beside_it 24 160 (gnu_zed AMD64) (of_run.imports 1 (gnu_zed AMD64) refl) refl (refl, tt))
+    each (suc (suc i)) q at = absurd (none_at q at)
+
+pub near_links_beside : NearLinksBeside
+unfolding searched SymbolsAt DirectoryAt members_from ends_behind rows_before
+near_links_beside = record {
+  rows = (record {
+    linked = (tt, tt);
+    members = only_run AMD64 touching_8 (table_of (codes ".idata$2") (zeros 20) ∷ []) four_before (record { imports = λ i p at. absurd (none_at p at); targets = tt; defined = tt });
+    rows = tt;
+    directory = are_located (image_of AMD64 touching_8 (placed_from touching_8 (table_of (codes ".idata$2") (zeros 20) ∷ []))) (zeros 20) 4 refl;
+    listed = tt;
+  },
+    λ x. differ 4 8 (sym (x.rows 0 four_before refl)) (omega arith));
+  linked = (record {
+    linked = tt;
+    members = only_run AMD64 touching_8 (program_objects AMD64) memberless_run (record { imports = run_imports memberless_foo (let x = of_run.imports 0 (gnu_foo AMD64) refl in record { top = x.top; loads = x.loads; table_located = x.table_located; entries = x.entries; gets = x.gets }) refl; targets = of_run.targets; defined = of_run.defined });
+    rows = only_rows AMD64 touching_8 (program_objects AMD64) memberless_run refl;
+    directory = beside_none.directory;
+    listed = beside_none.listed;
+  },
+    λ x. none_in _ x.linked.0.0.from_members.0);
+  directory = (record { linked = tt; members = λ k r at. absurd (none_at r at); rows = λ k r at. absurd (none_at r at); directory = tt; listed = tt },
+    λ x. nothing_there (zeros 20) 4 (omega arith) x.directory);
+  listed = (record {
+    linked = beside_none.linked;
+    members = only_run AMD64 touching_8 again_objects plain_run again_run;
+    rows = only_rows AMD64 touching_8 again_objects plain_run refl;
+    directory = beside_none.directory;
+    listed = tt;
+  },
+    λ x. twice (codes "queue") (placed_from touching_8 again_objects) queue_again
+      (all_among (IsDefinedOnce (placed_from touching_8 again_objects)) (codes "queue") (linked_symbols AMD64 (both_inputs AMD64)) (any_among (codes "queue") (linked_symbols AMD64 (both_inputs AMD64)) refl) x.listed));
 }

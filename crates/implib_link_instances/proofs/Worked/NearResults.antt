@@ -35,7 +35,7 @@ use Rattle.implib_link.specs.Stub.{adrp_immediate, ldr_immediate, page, plus_sig
 use Rattle.implib_link_instances.specs.Worked.Calls.{calling_at}
 use Rattle.implib_link_instances.specs.Worked.Flavors.{flavor_bases_8, flavor_image, flavor_placed, flavor_objects, foo_input as foo_flavor, both_inputs as flavor_inputs}
 use Rattle.implib_link_instances.specs.Worked.NearCode.{code_of}
-use Rattle.implib_link_instances.specs.Worked.NearResults.{NearAreChosenFor, NearAreLinkedFor, NearDefineOnce, NearFillsBy, NearHasOffsetField, NearHasPageField, NearHasPointer, NearInputImports, NearInstructionArrives, NearIsClosed, NearLinksBeside, NearLinksClosed, NearPageArrives, NearPairArrives, NearIsLinkedWith, NearBranchStays, four_before, named_elsewhere, named_at_zero, entries_elsewhere, lookups_elsewhere, written_at, open_again, naming_head, head_and_tail, clashing_objects, own_bar, without_descriptor}
+use Rattle.implib_link_instances.specs.Worked.NearResults.{NearAreChosenFor, NearAreLinkedFor, NearDefineOnce, NearFillsBy, NearHasOffsetField, NearHasPageField, NearHasPointer, NearInputImports, NearInstructionArrives, NearIsClosed, NearLinksClosed, NearPageArrives, NearPairArrives, NearIsLinkedWith, NearBranchStays, named_elsewhere, named_at_zero, entries_elsewhere, lookups_elsewhere, written_at, open_again, naming_head, head_and_tail, clashing_objects, own_bar, without_descriptor}
 use Rattle.implib_link_instances.specs.Worked.NearSearches.{asking, zed_library}
 use Rattle.implib_link_instances.specs.Worked.Operands.{imp_open, field}
 use Rattle.implib_link_instances.specs.Worked.Programs.{symbol_of_class, symbol_on, code_object}
@@ -79,14 +79,6 @@ no_definition d is = cc
 
 pub no_length : (n : ℕ) → 0 ≡ n → 0 < n → ⊥
 no_length n none some = omega arith
-
-pub near_links_beside : NearLinksBeside
-unfolding searched ends_behind members_from rows_before
-near_links_beside = record {
-  rows = λ x. differ 4 8 (sym (x.rows 0 four_before refl)) (omega arith);
-  linked = λ x. none_in _ x.linked.0.0.from_members.0;
-  listed = λ x. no_definition x.listed.0.0 x.listed.0.1;
-}
 
 flavor_table : NumberAt (flavor_image AMD64 0 flavor_bases_8) 4 24 128
 unfolding searched

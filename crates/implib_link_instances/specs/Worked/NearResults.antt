@@ -15,21 +15,22 @@ use Rattle.implib.specs.Members.GnuMembers.{head_spec, tail_spec}
 use Rattle.implib.specs.Members.MemberSpec.{MemberView, member_of}
 use Rattle.implib.specs.Members.Gnu.{section}
 use Rattle.implib.specs.Members.ImportTables.{table_flags, zeros}
-use Rattle.implib_link.specs.Flavors.Program.{FlavorInput, OfMember}
+use Rattle.implib_link.specs.Flavors.Program.{FlavorInput, OfLinker, OfMember, objects_taken}
 use Rattle.implib_link.specs.Gnu.Fields.{LinkedCode}
-use Rattle.implib_link.specs.Gnu.OtherLibraries.{LinksBeside, Run}
+use Rattle.implib_link.specs.Gnu.OtherLibraries.{Run}
 use Rattle.implib_link.specs.Gnu.Program.{claimed_names, null_descriptor}
-use Rattle.implib_link_instances.specs.But.Links.{MissesAreChosenFor, MissesAreLinkedFor, MissesBranchStays, MissesDefineOnce, MissesFillsBy, MissesHasOffsetField, MissesHasPageField, MissesHasPointer, MissesInputImports, MissesInstructionArrives, MissesIsClosed, MissesIsLinkedWith, MissesLinksClosed, MissesPageArrives, MissesPairArrives, MissesProgramLinks}
+use Rattle.implib_link_instances.specs.But.Links.{MissesAreChosenFor, MissesAreLinkedFor, MissesBranchStays, MissesDefineOnce, MissesFillsBy, MissesHasOffsetField, MissesHasPageField, MissesHasPointer, MissesInputImports, MissesInstructionArrives, MissesIsClosed, MissesIsLinkedWith, MissesLinksBeside, MissesLinksClosed, MissesPageArrives, MissesPairArrives, MissesProgramLinks}
 use Rattle.implib_link_instances.specs.Worked.Archives.{two_libraries}
 use Rattle.implib_link_instances.specs.Worked.Calls.{calling_at, calling_placed}
 use Rattle.implib_link_instances.specs.Worked.Closed.{choosing, clashing, closed_bases, closed_objects, closed_taken, foo_alias, foo_linked, zed_first, zed_linked}
 use Rattle.implib_link_instances.specs.Worked.Flavors.{both_inputs as flavor_inputs, flavor_bases_8, flavor_image, flavor_objects, flavor_placed, foo_input as foo_flavor, zed_input as zed_flavor}
 use Rattle.implib_link_instances.specs.Worked.NearCode.{code_of}
+use Rattle.implib_link_instances.specs.Worked.MsvcArchives.{null_named}
 use Rattle.implib_link_instances.specs.Worked.NearLinks.{found_elsewhere, found_there}
 use Rattle.implib_link_instances.specs.Worked.NearPrograms.{run_with, table_object}
 use Rattle.implib_link_instances.specs.Worked.NearSearches.{again, asking, zed_library}
 use Rattle.implib_link_instances.specs.Worked.Operands.{field, imp_open, passing_at, passing_code, open_on, passing_placed}
-use Rattle.implib_link_instances.specs.Worked.Programs.{both_inputs, code_object, foo_input, symbol_of_class, touching_8}
+use Rattle.implib_link_instances.specs.Worked.Programs.{code_object, foo_input, program_objects, symbol_of_class, touching_8, zed_input}
 use Rattle.implib_link_instances.specs.Worked.RefusedFields.{adrp_bytes, linked_on_amd64, load_bytes, open_address, pair_memory, two_ranges, with_byte}
 use Rattle.implib_link_instances.specs.Worked.RefusedLinks.{descriptor_bytes, foo, image_by_hand, named_otherwise, right_image, table_8}
 use Rattle.implib_link_instances.specs.Worked.Writing.{gives_zeros}
@@ -65,9 +66,14 @@ without_null_name o =
 abbrev pub memberless : FlavorInput
 memberless = record (foo_flavor AMD64) { input = record (foo_flavor AMD64).input { members = [] } }
 
+-- bytes of a table, in an object without symbols
+abbrev pub table_of : List ℕ → List ℕ → Object
+table_of name bytes = table_object name bytes []
+
 -- The program of both flavours, and what its link gives, but for one thing: the input has no members; a relocation of an
 -- object with a table leads nowhere; the null descriptor's symbol is elsewhere; such an object leaves a name that nothing
--- defines; `queue` is defined again; and an object with a table claims a name more.
+-- defines; `queue` is defined again; and an object with a table claims a name more. And links of no DLL: without the zeros
+-- of the directory's end; and with them in another object than the null descriptor, which is elsewhere.
 pub record NearProgramLinks : Type 0 where
   pub linked : MissesProgramLinks (codes "linked") AMD64 OfMember flavor_bases_8
       (memberless ∷ zed_flavor AMD64 ∷ []) (flavor_objects AMD64 0)
@@ -81,16 +87,33 @@ pub record NearProgramLinks : Type 0 where
       (flavor_inputs AMD64) (again.object ∷ flavor_objects AMD64 0)
   pub claimed : MissesProgramLinks (codes "claimed") AMD64 OfMember flavor_bases_8
       (flavor_inputs AMD64) (claiming_more ∷ flavor_objects AMD64 0)
+  pub directory : MissesProgramLinks (codes "directory") AMD64 OfLinker touching_8 [] []
+  pub ended : MissesProgramLinks (codes "ended") AMD64 OfMember flavor_bases_8 []
+      (table_of (codes ".idata$2") (zeros 20)
+      ∷ objects_taken AMD64 (null_named (codes "foo.dll") ∷ []))
 
--- an object of another library with four bytes among the descriptors
+-- another library without imports, which has four bytes among the descriptors
 abbrev pub four_before : Run
-four_before = record { objects = table_object (codes ".idata$2") (zeros 4) [] ∷ []; imports = []; inputs = foo_input AMD64 ∷ [] }
+four_before = record { objects = table_of (codes ".idata$2") (zeros 4) ∷ []; imports = []; inputs = [] }
 
+-- the members of both DLLs, where one's input has none
+abbrev pub memberless_run : Run
+memberless_run = record {
+  objects = [];
+  imports = [];
+  inputs = record (foo_input AMD64) { members = [] } ∷ zed_input AMD64 ∷ [];
+}
+
+-- Four bytes that are no descriptor, where the directory ends otherwise; an input without members; no zeros at the
+-- directory's end; and `queue` defined again.
 pub record NearLinksBeside : Type 0 where
-  pub rows : LinksBeside AMD64 touching_8 (four_before ∷ []) [] → ⊥
-  pub linked : LinksBeside AMD64 touching_8
-      (record { objects = []; imports = []; inputs = record (foo_input AMD64) { members = [] } ∷ [] } ∷ []) [] → ⊥
-  pub listed : LinksBeside AMD64 touching_8 (run_with [] []) [] → ⊥
+  pub rows : MissesLinksBeside (codes "rows") AMD64 touching_8 (four_before ∷ [])
+      (table_of (codes ".idata$2") (zeros 20) ∷ [])
+  pub linked : MissesLinksBeside (codes "linked") AMD64 touching_8 (memberless_run ∷ [])
+      (program_objects AMD64)
+  pub directory : MissesLinksBeside (codes "directory") AMD64 touching_8 [] []
+  pub listed : MissesLinksBeside (codes "listed") AMD64 touching_8 (run_with [] [])
+      (again.object ∷ program_objects AMD64)
 
 -- an object that defines the address of a second export of foo.dll again
 abbrev pub open_again : Placed
