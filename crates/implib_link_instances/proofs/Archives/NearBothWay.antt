@@ -14,7 +14,7 @@ use Rattle.implib_link.specs.Search.MsvcArchives.{first_null}
 use Rattle.implib_link_instances.specs.Worked.BothFlavors.{foo_and_zed, mixed_bases, mixed_objects, zed_and_foo}
 use Rattle.implib_link_instances.specs.Worked.Calls.{given_on}
 use Rattle.implib_link_instances.specs.Worked.Closed.{choosing, foo_alias}
-use Rattle.implib_link_instances.proofs.Worked.BothFlavors.{near_links_closed_for_both, worked_both}
+use Rattle.implib_link_instances.proofs.Worked.BothFlavors.{nothing_closed, worked_both}
 use Rattle.implib_link_instances.proofs.Worked.Calls.{wide, worked_reading}
 use Rattle.implib_link_instances.proofs.Worked.NearMisses.{none_passes}
 use Rattle.implib_link_instances.proofs.Worked.NearPrograms.{no_eights}
@@ -77,6 +77,6 @@ near_are_linked_for_both = record {
 
 pub near_both_arrive : NearBothArrive
 near_both_arrive = record {
-  links = λ x. near_links_closed_for_both.closed x.links;
+  links = λ x. nothing_closed x.links;
   ends = λ x. let read = worked_reading.amd64_ends in differ 0 2 (sym (x.ends (given_on AMD64) 2 read.0 (wide AMD64) read.1)) (omega arith);
 }

@@ -21,16 +21,16 @@ use Rattle.implib.specs.Worked.Statements.{plain_export}
 use Rattle.implib.specs.declared.flavor.Flavor.TheVariants.{Msvc}
 use Rattle.implib.proofs.Link.LinkedMembers.{among_contains, among_map}
 use Rattle.implib.proofs.Link.Ranges.{Among, all_among, among_back, among_front}
-use Rattle.implib_link.specs.Flavors.Program.{FlavorInput, exports_chosen, objects_taken, symbol_in, thunks_of, all_members}
+use Rattle.implib_link.specs.Flavors.Program.{FlavorInput, exports_chosen, objects_taken, symbol_in, thunks_of, all_members, IsProgramOf, OfMember, IsMadeFor, gnu_input}
 use Rattle.implib_link.specs.Gnu.Packed.{group_end, packed_end, sections_end}
 use Rattle.implib_link.specs.Gnu.Program.{ClaimsNone, claimed_names, has_tables, HaveSame}
 use Rattle.implib_link.specs.Search.Archives.{IsArchive, symbols_of_library, IsLibrary}
-use Rattle.implib_link.specs.Search.BothFlavors.{AreClosedForBoth, AreGivenForBoth, FlavorLibrary, IsClosedForBoth, IsFlavorArchive, IsImportedOfBoth, NamesNoMembers, archive_of_both, gnu_among, kept_of_both, msvc_among, inputs_of_both}
+use Rattle.implib_link.specs.Search.BothFlavors.{AreClosedForBoth, AreGivenForBoth, FlavorLibrary, IsClosedForBoth, IsFlavorArchive, IsImportedOfBoth, NamesNoMembers, archive_of_both, gnu_among, kept_of_both, msvc_among, inputs_of_both, LinksClosedForBoth}
 use Rattle.implib_link.specs.Search.Closed.{listed_in, unresolved, AreTakenIntoAs}
 use Rattle.implib_link.specs.Search.Msvc.{TakesFor, left_in}
-use Rattle.implib_link.specs.Search.MsvcArchives.{IsMsvcArchive, first_null, symbols_of_all_shorts, symbols_of_shorts, wanted_with_weak, IsMsvcLibrary, short_inputs, weak_in, PullsIntoFor, TakesIntoFor, wanted_for}
+use Rattle.implib_link.specs.Search.MsvcArchives.{IsMsvcArchive, first_null, symbols_of_all_shorts, symbols_of_shorts, wanted_with_weak, IsMsvcLibrary, short_inputs, weak_in, PullsIntoFor, TakesIntoFor, wanted_for, IsWeakTaken}
 use Rattle.implib_link.specs.Search.Search.{undefined_in, left_as, AreTakenInTurnAs}
-use Rattle.implib_link_instances.specs.Worked.BothFlavors.{NearAreClosedForBoth, NearAreGivenForBoth, NearIsClosedForBoth, NearIsFlavorArchive, NearIsImportedOfBoth, NearIsUsedIn, NearLinksClosedForBoth, NearNamesNoMembers, NearTakesOfBoth, WorkedBoth, WorkedGivenForBoth, foo_and_zed, gnu_zed, mixed_bases, mixed_inputs, mixed_objects, mixed_taken, mixed_without_last, short_zed, zed_and_foo}
+use Rattle.implib_link_instances.specs.Worked.BothFlavors.{NearAreClosedForBoth, NearAreGivenForBoth, NearIsClosedForBoth, NearIsFlavorArchive, NearIsImportedOfBoth, NearIsUsedIn, NearLinksClosedForBoth, NearNamesNoMembers, NearTakesOfBoth, WorkedBoth, WorkedGivenForBoth, foo_and_zed, gnu_zed, mixed_bases, mixed_inputs, mixed_objects, mixed_taken, mixed_without_last, mixed_asking, short_zed, spread_bases, zed_and_foo}
 use Rattle.implib_link_instances.specs.Worked.Closed.{choosing, clashing, foo_alias, foo_linked}
 use Rattle.implib_link_instances.specs.Worked.MsvcArchives.{msvc_zed, null_named, thunk_named}
 use Rattle.implib_link_instances.specs.Worked.MsvcClosed.{zed_members}
@@ -51,6 +51,10 @@ use Rattle.implib.specs.LibraryName.{linked_dll}
 use Rattle.implib.specs.declared.machine.MachineType.{MachineType}
 use Rattle.implib_link_instances.proofs.Worked.Search.{takes_by}
 use Rattle.implib_link_instances.proofs.Worked.Searched.{below_limit}
+use Rattle.implib_link_instances.proofs.Worked.Flavors.{flavor_objects_by}
+use Rattle.implib_link_instances.specs.Worked.Archives.{library_of}
+use Rattle.implib_link_instances.specs.Worked.Search.{aliased}
+use Rattle.implib_link.proofs.Flavors.Program.{program_links}
 
 abbrev own : List Object
 own = choosing ∷ []
@@ -398,8 +402,62 @@ near_is_used_in = record {
   msvc = λ x. in_one_alone x.0 (short_import_symbols (plain_export (codes "queue"))) (codes "bar" ∷ codes "printf" ∷ []) refl x.1 x.2;
 }
 
+asking_program : IsProgramOf AMD64 OfMember spread_bases mixed_inputs mixed_asking
+unfolding searched group_end sections_end
+asking_program = record {
+  held = flavor_objects_by zed_linked zed_members foo_linked (0, omega arith, refl) (refl, (tt, tt)) refl refl refl refl refl;
+  admissible = admissible_by refl refl;
+  lookups = refl;
+  addresses = refl;
+  follows = refl;
+}
+
+inputs_are_made : AllByRecursion (IsMadeFor AMD64) mixed_inputs
+unfolding searched
+inputs_are_made = (record { accepted = refl; made = refl; ordinals = refl }, (record { accepted = refl; made = refl; ordinals = refl }, tt))
+
+abbrev IsResolved : List ℕ → Type 0
+IsResolved name =
+    IsImportedOfBoth AMD64 (placed_from spread_bases mixed_asking) spread_bases mixed_inputs name ⊎ IsWeakTaken AMD64 mixed_taken name
+
+abbrev both_wanted : List (List ℕ)
+both_wanted = codes "bar" ∷ codes "__imp_queue" ∷ codes "printf" ∷ codes "baz" ∷ []
+
+-- each of the names that are wanted and listed
+each_resolved : (name : List ℕ) → Among name both_wanted → Among name (listed_in (archive_of_both foo_and_zed)) → IsResolved name
+unfolding searched Among
+each_resolved name (inl is) listed = subst IsResolved (sym is) (inr (foo_alias, (0, omega arith, refl), refl))
+each_resolved name (inr (inl is)) listed =
+    subst IsResolved (sym is) (inl (record { number = 0; input = zed_linked; input_is = refl; index = 0; export = plain_export (codes "queue"); export_is = refl; by = inl (refl, refl) }))
+each_resolved name (inr (inr (inl is))) listed =
+    absurd (true≢false (sym (among_any (codes "printf") (listed_in (archive_of_both foo_and_zed)) (subst (λ n. Among n (listed_in (archive_of_both foo_and_zed))) is listed))))
+each_resolved name (inr (inr (inr (inl is)))) listed =
+    subst IsResolved (sym is) (inl (record { number = 1; input = foo_input; input_is = refl; index = 0; export = plain_export (codes "baz"); export_is = refl; by = inr (refl, refl, (record { name = codes "baz"; address = None }, refl)) }))
+  where
+    foo_input : FlavorInput
+    foo_input = gnu_input (record { definition = aliased; members = (library_of aliased).members; chosen = 1 ∷ [] })
+each_resolved name (inr (inr (inr (inr none)))) listed = absurd none
+
 pub near_links_closed_for_both : NearLinksClosedForBoth
 unfolding searched
-near_links_closed_for_both =
+near_links_closed_for_both = record {
+  closed = (record {
+    taken_is = worked_both.just;
+    program = asking_program;
+    links = program_links AMD64 OfMember spread_bases mixed_inputs mixed_asking inputs_are_made asking_program;
+    used = worked_both.links.used;
+    resolved = λ name wanted listed. each_resolved name (contains_among name both_wanted wanted) (contains_among name (listed_in (archive_of_both foo_and_zed)) listed);
+    closed = tt;
+  },
+    λ x.
+      let listed : List (List ℕ) = listed_in (archive_of_both foo_and_zed) in
+      let left : List (List ℕ) = unresolved mixed_asking in
+      x.closed (codes "__imp_stack") (among_contains (codes "__imp_stack") left (any_among (codes "__imp_stack") left refl)) (among_contains (codes "__imp_stack") listed (any_among (codes "__imp_stack") listed refl)));
+}
+
+-- where the object alone is linked, what it leaves and the libraries list is left
+pub nothing_closed : LinksClosedForBoth AMD64 foo_and_zed (choosing ∷ []) [] zed_and_foo mixed_bases (choosing ∷ []) → ⊥
+unfolding searched
+nothing_closed x =
     let listed : List (List ℕ) = listed_in (archive_of_both foo_and_zed) in
-    record { closed = λ x. x.closed (codes "bar") (0, omega arith, refl) (among_contains (codes "bar") listed (any_among (codes "bar") listed refl)) }
+    x.closed (codes "bar") (0, omega arith, refl) (among_contains (codes "bar") listed (any_among (codes "bar") listed refl))

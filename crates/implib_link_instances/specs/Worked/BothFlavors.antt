@@ -3,6 +3,7 @@
 use Rattle.std.specs.Prelude.{◌≡◌, ◌<◌, List, [], ◌∷◌, ◌++◌, codes, length, map, Some}
 use Rattle.implib.specs.declared.flavor.Flavor.TheVariants.{Gnu, Msvc}
 use Rattle.implib.specs.declared.machine.MachineType.TheVariants.{AMD64}
+use Rattle.implib.specs.Formats.Constants.{class_external}
 use Rattle.implib.specs.Formats.Object.{Object}
 use Rattle.implib.specs.LibraryName.{own_names}
 use Rattle.implib.specs.Link.Placement.{Bases, placed_from}
@@ -14,7 +15,7 @@ use Rattle.implib.specs.Worked.Statements.{plain_export}
 use Rattle.implib_link.specs.Flavors.Program.{FlavorInput, objects_taken}
 use Rattle.implib_link.specs.Gnu.Packed.{packed}
 use Rattle.implib_link.specs.Search.BothFlavors.{AreClosedForBoth, AreGivenForBoth, FlavorLibrary, IsClosedForBoth, IsFlavorArchive, IsUsedIn, LinksClosedForBoth, TakesOfBoth, archive_of_both, inputs_of_both, kept_of_both, msvc_among}
-use Rattle.implib_link_instances.specs.But.Links.{MissesAreClosedForBoth, MissesAreGivenForBoth, MissesIsClosedForBoth, MissesIsFlavorArchive, MissesIsImportedOfBoth, MissesNamesNoMembers, MissesTakesOfBoth}
+use Rattle.implib_link_instances.specs.But.Links.{MissesAreClosedForBoth, MissesAreGivenForBoth, MissesIsClosedForBoth, MissesIsFlavorArchive, MissesIsImportedOfBoth, MissesLinksClosedForBoth, MissesNamesNoMembers, MissesTakesOfBoth}
 use Rattle.implib_link.specs.Search.Closed.{unresolved}
 use Rattle.implib_link.specs.Search.MsvcArchives.{short_inputs, PullsIntoFor, TakesIntoFor, wanted_for}
 use Rattle.implib_link_instances.specs.Worked.Archives.{library_of}
@@ -22,6 +23,7 @@ use Rattle.implib_link_instances.specs.Worked.Closed.{choosing, clashing, foo_al
 use Rattle.implib_link_instances.specs.Worked.MsvcArchives.{descriptor_named, msvc_zed, null_named, short_named, thunk_named}
 use Rattle.implib_link_instances.specs.Worked.MsvcClosed.{zed_members}
 use Rattle.implib_link_instances.specs.Worked.NearSearches.{again}
+use Rattle.implib_link_instances.specs.Worked.Programs.{code_object, symbol_of_class}
 use Rattle.implib_link_instances.specs.Worked.Search.{aliased}
 
 -- foo.dll with data `bar`, an alias of the function `baz`, and zed.dll with two functions
@@ -185,6 +187,10 @@ pub record NearIsUsedIn : Type 0 where
   pub gnu : IsUsedIn Gnu (codes "bar" ∷ codes "printf" ∷ []) (plain_export (codes "baz")) → ⊥
   pub msvc : IsUsedIn Msvc (codes "bar" ∷ codes "printf" ∷ []) (plain_export (codes "queue")) → ⊥
 
--- nothing is linked but the object
+-- the closed program beside an object that leaves the address of `stack` to others, which zed.dll's library lists
+abbrev pub mixed_asking : List Object
+mixed_asking = mixed_objects ++ code_object (symbol_of_class (codes "__imp_stack") 0 class_external ∷ []) ∷ []
+
 pub record NearLinksClosedForBoth : Type 0 where
-  pub closed : LinksClosedForBoth AMD64 foo_and_zed (choosing ∷ []) [] zed_and_foo mixed_bases (choosing ∷ []) → ⊥
+  pub closed : MissesLinksClosedForBoth (codes "closed") AMD64 foo_and_zed (choosing ∷ []) mixed_taken
+      zed_and_foo spread_bases mixed_asking
