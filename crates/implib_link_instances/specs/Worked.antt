@@ -69,3 +69,4 @@ pub mod OtherNames
 pub mod ThirdTexts
 pub mod NearParts
 pub mod RefusedPredicates
+pub mod Following

@@ -1,6 +1,7 @@
 //! Near misses: what is no link, no loaded program and no search, each by one thing that is
 //! otherwise.
 
+ghost use Rattle.implib_link_instances.specs.Worked.Following.{FollowingFields};
 ghost use Rattle.implib_link_instances.specs.Worked.Instances.{CodeInstances, MachineInstances};
 ghost use Rattle.implib_link_instances.specs.Worked.Instances.{ProgramInstances, SectionInstances};
 ghost use Rattle.implib_link_instances.specs.Worked.Instances.{TypeInstances};
@@ -201,4 +202,9 @@ pub fn near_misses_of_results()
 /// What predicates that are no records do not hold of.
 pub fn refused_predicates()
     ensures refused { RefusedPredicates }
+{}
+
+/// Fields that no instance fails alone: where all other fields hold, so do these.
+pub fn following_fields()
+    ensures { FollowingFields }
 {}
