@@ -31,7 +31,7 @@ use Rattle.implib_link.proofs.Gnu.Memory.{byte_within}
 use Rattle.implib_link_instances.proofs.Worked.NearMisses.{none_passes}
 use Rattle.implib_link_instances.proofs.Worked.RefusedFields.{value}
 use Rattle.implib_link_instances.proofs.Worked.RefusedLinks.{are_located, differ}
-use Rattle.implib_link_instances.proofs.Worked.Rules.{arrival_rules, entry_is, same_bytes}
+use Rattle.implib_link_instances.proofs.Worked.Rules.{elsewhere, entry_is, same_bytes}
 
 -- Instructions.
 
@@ -224,7 +224,11 @@ near_call_arrives = record {
       let memory : List Range = two_ranges 0x100B (0xFF ∷ 0x15 ∷ 0x70 ∷ 0xF0 ∷ 0xFF ∷ 0xFF ∷ []) open_address in
       let same : x.instructions ≡ code = same_bytes memory x.instructions code 0x100B x.here (are_located memory code 0x100B refl) x.whole in
       beside_entry memory x.entry (entry_is 0x1_4000_0000 x.entry 0x81 (sym (ap (call_reads AMD64 0x1_4000_100B) same) ∙ x.reads)) refl x.located);
-  located = (record { instructions = call_of_open; here = are_located (two_ranges 0x100B call_of_open other_address) call_of_open 0x100B refl; whole = refl; entry = 0x80; reads = refl; located = tt }, arrival_rules.call);
+  located = (record { instructions = call_of_open; here = are_located (two_ranges 0x100B call_of_open other_address) call_of_open 0x100B refl; whole = refl; entry = 0x80; reads = refl; located = tt },
+    λ x.
+      let memory : List Range = two_ranges 0x100B call_of_open other_address in
+      let same : x.instructions ≡ call_of_open = same_bytes memory x.instructions call_of_open 0x100B x.here (are_located memory call_of_open 0x100B refl) x.whole in
+      elsewhere memory x.entry (entry_is 0x1_4000_0000 x.entry 0x80 (sym (ap (call_reads AMD64 0x1_4000_100B) same) ∙ x.reads)) (are_located memory other_address 0x80 refl) x.located);
 }
 
 pub near_stub_arrives : NearStubArrives
@@ -246,7 +250,11 @@ near_stub_arrives = record {
       let memory : List Range = two_ranges 0x1040 (0xFF ∷ 0x25 ∷ 0x3B ∷ 0xF0 ∷ 0xFF ∷ 0xFF ∷ 0x90 ∷ 0x90 ∷ []) open_address in
       let same : x.code ≡ code = same_bytes memory x.code code 0x1040 x.there (are_located memory code 0x1040 refl) x.whole in
       beside_entry memory x.entry (entry_is 0x1_4000_0000 x.entry 0x81 (sym (ap (jump_reads AMD64 0x1_4000_1040) same) ∙ x.reads)) refl x.located);
-  located = (record { code = stub_linked AMD64; there = are_located (two_ranges 0x1040 (stub_linked AMD64) other_address) (stub_linked AMD64) 0x1040 refl; whole = refl; entry = 0x80; reads = refl; located = tt }, arrival_rules.stub);
+  located = (record { code = stub_linked AMD64; there = are_located (two_ranges 0x1040 (stub_linked AMD64) other_address) (stub_linked AMD64) 0x1040 refl; whole = refl; entry = 0x80; reads = refl; located = tt },
+    λ x.
+      let memory : List Range = two_ranges 0x1040 (stub_linked AMD64) other_address in
+      let same : x.code ≡ stub_linked AMD64 = same_bytes memory x.code (stub_linked AMD64) 0x1040 x.there (are_located memory (stub_linked AMD64) 0x1040 refl) x.whole in
+      elsewhere memory x.entry (entry_is 0x1_4000_0000 x.entry 0x80 (sym (ap (jump_reads AMD64 0x1_4000_1040) same) ∙ x.reads)) (are_located memory other_address 0x80 refl) x.located);
 }
 
 pub near_load_arrives : NearLoadArrives
@@ -268,7 +276,11 @@ near_load_arrives = record {
       let memory : List Range = two_ranges 0x101F (0x48 ∷ 0x8B ∷ 5 ∷ 0x5B ∷ 0xF0 ∷ 0xFF ∷ 0xFF ∷ []) open_address in
       let same : x.instructions ≡ code = same_bytes memory x.instructions code 0x101F x.here (are_located memory code 0x101F refl) x.whole in
       beside_entry memory x.entry (entry_is 0x1_4000_0000 x.entry 0x81 (sym (ap (load_reads AMD64 0x1_4000_101F) same) ∙ x.reads)) refl x.located);
-  located = (record { instructions = load_of_open; here = are_located (two_ranges 0x101F load_of_open other_address) load_of_open 0x101F refl; whole = refl; entry = 0x80; reads = refl; located = tt }, arrival_rules.load);
+  located = (record { instructions = load_of_open; here = are_located (two_ranges 0x101F load_of_open other_address) load_of_open 0x101F refl; whole = refl; entry = 0x80; reads = refl; located = tt },
+    λ x.
+      let memory : List Range = two_ranges 0x101F load_of_open other_address in
+      let same : x.instructions ≡ load_of_open = same_bytes memory x.instructions load_of_open 0x101F x.here (are_located memory load_of_open 0x101F refl) x.whole in
+      elsewhere memory x.entry (entry_is 0x1_4000_0000 x.entry 0x80 (sym (ap (load_reads AMD64 0x1_4000_101F) same) ∙ x.reads)) (are_located memory other_address 0x80 refl) x.located);
 }
 
 pub near_direct_call_arrives : NearDirectCallArrives
@@ -330,7 +342,14 @@ near_direct_call_arrives = record {
       beside_entry memory x.entry (entry_is 0x1_4000_0000 x.entry 0x81 read) refl x.located);
   located = (
     let memory : List Range = called_from call_1040 (two_ranges 0x1040 (stub_linked AMD64) other_address) in
-    record { instruction = call_1040; here = are_located memory call_1040 0x1026 refl; whole = refl; stub = 0x1040; leads = refl; code = stub_linked AMD64; there = are_located memory (stub_linked AMD64) 0x1040 refl; whole_stub = refl; entry = 0x80; reads = refl; located = tt }, arrival_rules.direct);
+    record { instruction = call_1040; here = are_located memory call_1040 0x1026 refl; whole = refl; stub = 0x1040; leads = refl; code = stub_linked AMD64; there = are_located memory (stub_linked AMD64) 0x1040 refl; whole_stub = refl; entry = 0x80; reads = refl; located = tt },
+    λ x.
+      let memory : List Range = called_from call_1040 (two_ranges 0x1040 (stub_linked AMD64) other_address) in
+      let at : x.stub ≡ 0x1040 = stub_at memory x.instruction x.stub x.here (are_located memory call_1040 0x1026 refl) x.whole x.leads in
+      let same : x.code ≡ stub_linked AMD64 = same_bytes memory x.code (stub_linked AMD64) 0x1040 (subst (λ a. BytesAt memory a x.code) at x.there) (are_located memory (stub_linked AMD64) 0x1040 refl) x.whole_stub in
+      let read : jump_reads AMD64 0x1_4000_1040 (stub_linked AMD64) ≡ Some (0x1_4000_0000 + x.entry) =
+      sym (ap (λ a. jump_reads AMD64 (0x1_4000_0000 + a) (stub_linked AMD64)) at) ∙ sym (ap (jump_reads AMD64 (0x1_4000_0000 + x.stub)) same) ∙ x.reads in
+      elsewhere memory x.entry (entry_is 0x1_4000_0000 x.entry 0x80 read) (are_located memory other_address 0x80 refl) x.located);
 }
 
 pub near_stub_at : NearStubAt

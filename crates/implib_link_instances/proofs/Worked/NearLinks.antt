@@ -58,7 +58,7 @@ use Rattle.implib_link_instances.proofs.Worked.NearSearches.{none_in, searched, 
 use Rattle.implib_link_instances.proofs.Worked.Operands.{amd64_beside, amd64_moved, i386_beside, i386_moved}
 use Rattle.implib_link_instances.proofs.Worked.Programs.{claims_none_by, opened}
 use Rattle.implib_link_instances.proofs.Worked.Rebased.{none_rebased, none_wanted}
-use Rattle.implib_link_instances.proofs.Worked.RefusedFields.{absent, other_byte, refused_moves, value}
+use Rattle.implib_link_instances.proofs.Worked.RefusedFields.{absent, other_byte, value}
 use Rattle.implib_link_instances.proofs.Worked.RefusedLinks.{are_located, differ, is_each_located, number, thunk_8, zero_4}
 use Rattle.implib_link_instances.proofs.Worked.Rules.{symbol_rules}
 
@@ -607,6 +607,15 @@ both_rebased =
       ((0x1_4000_0080, (number (passing_memory AMD64 touching_8) 8 0x1034 0x1_4000_0080 (0x80 ∷ 0 ∷ 0 ∷ 0x40 ∷ 1 ∷ 0 ∷ 0 ∷ 0 ∷ []) refl refl refl, refl)), tt),
     )
 
+-- memory in which the base relocation was not applied
+pub unmoved : IsRebased 0x1_4000_0000 0x7FF6_1234_0000 (passing_places AMD64) (passing_memory AMD64 touching_8) (passing_memory AMD64 touching_8) → ⊥
+unfolding opened refusal renamed_refusal alias_specs encoded_size weak_object has_tables
+unmoved r =
+    let memory : List Range = passing_memory AMD64 touching_8 in
+    let linked : NumberAt memory 8 0x1034 0x1_4000_0080 = number memory 8 0x1034 0x1_4000_0080 (0x80 ∷ 0 ∷ 0 ∷ 0x40 ∷ 1 ∷ 0 ∷ 0 ∷ 0 ∷ []) refl refl refl in
+    let is : 0x1_4000_0080 ≡ 0x7FF6_1234_0080 = number_once memory 8 0x1034 0x1_4000_0080 0x7FF6_1234_0080 linked (r.moved (record { address = 0x1034; width = 8 }) 0x1_4000_0080 (0, omega arith, refl) linked) in
+    differ 0x1_4000_0080 0x7FF6_1234_0080 is (omega arith)
+
 pub near_are_moved : NearAreMoved
 unfolding searched
 near_are_moved = record {
@@ -646,6 +655,6 @@ near_are_moved = record {
   );
   rebased = (
     record { beside = amd64_beside; within = amd64_moved.within; needed = amd64_moved.needed; only = amd64_moved.only; rebased = tt },
-    λ x. refused_moves.unmoved x.rebased,
+    λ x. unmoved x.rebased,
   );
 }

@@ -506,8 +506,6 @@ unfolding opened refusal renamed_refusal alias_specs encoded_size weak_object ha
 movable_code = record {
   amd64 = amd64_movable;
   i386 = i386_movable;
-  overlapping = λ can. can.apart.0.0.0 0x1007 refl refl;
-  beyond = λ can. let end : 0x102A ≤ 0x1029 = can.within.0.0 in omega arith;
   somewhere =
       moved_memory_exists AMD64 0x1_4000_0000 0x2_0000_0000 (passing_image AMD64 touching_8) (passing_placed AMD64 touching_8) (passing_codes AMD64 touching_8) (passing_targets AMD64 touching_8)
       (program_tables_none AMD64 OfLinker touching_8 (map gnu_input (both_inputs AMD64)) (passing_objects AMD64) worked_programs.amd64.made amd64_program.held.ended) amd64_beside amd64_movable tt;

@@ -7,7 +7,9 @@ use Rattle.implib.specs.Formats.Constants.{amd64_rel32, arm64_pagebase_rel21, ar
 use Rattle.implib.specs.Formats.Object.{ObjectSection}
 use Rattle.implib.specs.Link.Image.{Range}
 use Rattle.implib.specs.Members.Gnu.{section}
+use Rattle.implib_link.specs.Flavors.LldThunks.{ThunkArrives}
 use Rattle.implib_link.specs.Gnu.Calls.{amd64_addr64, arm64_addr64, arm64_branch26, i386_rel32}
+use Rattle.implib_link.specs.Gnu.Operands.{BranchArrives, OperandArrives, PointerArrives}
 use Rattle.implib_link_instances.specs.But.Links.{MissesAmd64Holds, MissesArm64Holds, MissesBranchArrives, MissesCanBeMoved, MissesI386Holds, MissesIsRebased, MissesIsRelocated, MissesIsThunk, MissesOperandArrives, MissesPointerArrives, MissesThunkArrives}
 use Rattle.implib_link_instances.specs.Worked.LldPrograms.{code_of_thunk, eight_bytes, linked_thunk, mid_on, zeta_on}
 use Rattle.implib_link_instances.specs.Worked.NearLinks.{leading_out, leading_section, return_section}
@@ -91,6 +93,8 @@ thunk_memory address code bytes =
 -- the thunk of `mid` a byte further on; without its last byte; a call in the place of the jump, and
 -- the distance from the field; and another address at the entry
 pub record NearThunkArrives : Type 0 where
+  pub arrives : ThunkArrives AMD64 0x1_4000_0000
+      (thunk_memory 0x1020 (linked_thunk AMD64) (eight_bytes 0)) 0x1020 (eight_bytes 0)
   pub there : MissesThunkArrives (codes "there") AMD64 0x1_4000_0000
       (thunk_memory 0x1021 (linked_thunk AMD64) (eight_bytes 0)) 0x1020 (eight_bytes 0)
   pub whole : MissesThunkArrives (codes "whole") AMD64 0x1_4000_0000
@@ -108,6 +112,9 @@ pub record NearThunkArrives : Type 0 where
 -- the operand of AMD64's call at 0x100D a byte further on; under a name that nothing defines; one
 -- that leads to the next byte; and another address at the entry
 pub record NearOperandArrives : Type 0 where
+  pub arrives : OperandArrives AMD64 0x1_4000_0000 linked_on_amd64
+      (two_ranges 0x100D (0x6F ∷ 0xF0 ∷ 0xFF ∷ 0xFF ∷ []) open_address) 0x100D 0 (imp_open AMD64)
+      open_address
   pub there : MissesOperandArrives (codes "there") AMD64 0x1_4000_0000 linked_on_amd64
       (two_ranges 0x100E (0x6F ∷ 0xF0 ∷ 0xFF ∷ 0xFF ∷ []) open_address) 0x100D 0 (imp_open AMD64)
       open_address
@@ -124,6 +131,9 @@ pub record NearOperandArrives : Type 0 where
 -- the address stored at 0x1034, under a name that nothing defines; that of the next entry; and
 -- another address at the entry
 pub record NearPointerArrives : Type 0 where
+  pub arrives : PointerArrives AMD64 0x1_4000_0000 linked_on_amd64
+      (two_ranges 0x1034 (0x80 ∷ 0 ∷ 0 ∷ 0x40 ∷ 1 ∷ 0 ∷ 0 ∷ 0 ∷ []) open_address) 0x1034
+      (imp_open AMD64) open_address
   pub own : MissesPointerArrives (codes "own") AMD64 0x1_4000_0000 linked_on_amd64
       (two_ranges 0x1034 (0x80 ∷ 0 ∷ 0 ∷ 0x40 ∷ 1 ∷ 0 ∷ 0 ∷ 0 ∷ []) open_address) 0x1034
       (codes "hello") open_address
@@ -136,6 +146,8 @@ pub record NearPointerArrives : Type 0 where
 
 -- the call of `open` at 0x1027 a byte before it; and one that leads into the stub
 pub record NearBranchArrives : Type 0 where
+  pub arrives : BranchArrives AMD64 0x1_4000_0000
+      (two_ranges 0x1027 (0x15 ∷ 0 ∷ 0 ∷ 0 ∷ []) []) 0x1027 0 0x1040
   pub there : MissesBranchArrives (codes "there") AMD64 0x1_4000_0000
       (two_ranges 0x1026 (0x15 ∷ 0 ∷ 0 ∷ 0 ∷ []) []) 0x1027 0 0x1040
   pub leads : MissesBranchArrives (codes "leads") AMD64 0x1_4000_0000
