@@ -1,6 +1,6 @@
 -- Near misses of searches, of code beside the tables and of moved programs, by computing.
 use Rattle.std.specs.Prelude.{◌&&◌, ◌⊎◌, ◌%◌, Bool, bytes_eq, drop, false, map, nat_eq, slice_get, true}
-use Rattle.std.specs.List.{Contains, list_all, list_any}
+use Rattle.std.specs.List.{Contains, filter, list_all, list_any}
 use Rattle.std.proofs.Common.{◌≡◌, ℕ, suc, ◌+◌, ◌<◌, ◌≤◌, ◌^◌, List, [], ◌∷◌, ◌++◌, codes, length, Some, None, refl, ap, sym, ◌∙◌, subst, arith, inl, inr}
 use Rattle.std.proofs.lemmas.List.{length-append}
 use Rattle.std.proofs.lemmas.Bool.{true≢false}
@@ -26,8 +26,8 @@ use Rattle.implib.proofs.Link.Ranges.{Among, apart_as_they_rise}
 use Rattle.implib_link.specs.Flavors.LldTables.{all_hints, all_names, directory_built, tables_built}
 use Rattle.implib_link.specs.Gnu.Calls.{PlacedCode, field_width, i386_rel32}
 use Rattle.implib_link.specs.Gnu.Choices.{AreSections, plain_range}
-use Rattle.implib_link.specs.Gnu.Fields.{IsRelocated, LinkedCode, TakesSymbols, placed_code, range_of_code, ranges_of_codes}
-use Rattle.implib_link.specs.Gnu.Operands.{HasOperand, Names}
+use Rattle.implib_link.specs.Gnu.Fields.{IsRelocated, LinkedCode, TakesSymbols, meets, placed_code, range_of_code, ranges_of_codes}
+use Rattle.implib_link.specs.Gnu.Operands.{HasField, HasOperand, IsOperand, Names}
 use Rattle.implib_link.specs.Gnu.Program.{has_tables}
 use Rattle.implib_link.specs.Gnu.Rebased.{IsRebased, Place}
 use Rattle.implib_link.specs.Search.Closed.{AreTakenIntoAs}
@@ -361,7 +361,7 @@ second_of : (xs ys : List ℕ) → 0xFF ∷ xs ≡ 0xFF ∷ ys → first_byte xs
 second_of xs ys same = let later : xs ≡ ys = cc in ap first_byte later
 
 -- the symbol of the one relocation of a list
-symbol_of : (r s : Relocation) → r ∷ [] ≡ s ∷ [] → r.symbol ≡ s.symbol
+pub symbol_of : (r s : Relocation) → r ∷ [] ≡ s ∷ [] → r.symbol ≡ s.symbol
 symbol_of r s same = let is : r ≡ s = cc in ap (λ (x : Relocation). x.symbol) is
 
 hello_named : Names (passing_at I386).from 2 (codes "hello")
@@ -373,13 +373,12 @@ import_named machine = record { symbol = symbol_of_class (imp_open machine) 0 cl
 open_named : Names (passing_at I386).from 3 (open_on I386)
 open_named = record { symbol = symbol_of_class (open_on I386) 0 class_external; target = refl; undefined = refl; named = refl }
 
--- the symbol of index 1 has a name of more than five letters
-not_hello : (entries : List Entry) (index : ℕ) (own s : ObjectSymbol) → 1 ≡ index → slice_get entries 1 ≡ Some (ASymbol own) → slice_get entries index ≡ Some (ASymbol s) → s.name ≡ codes "hello" → 5 < length own.name → ⊥
-not_hello entries index own s is first at named long =
-    let here : Some (ASymbol own) ≡ Some (ASymbol s) = sym first ∙ subst (λ n. slice_get entries n ≡ Some (ASymbol s)) (sym is) at in
+-- the symbol of an index has a name of another length
+pub other_named : (entries : List Entry) (n index : ℕ) (own s : ObjectSymbol) (name : List ℕ) → n ≡ index → slice_get entries n ≡ Some (ASymbol own) → slice_get entries index ≡ Some (ASymbol s) → s.name ≡ name → (length own.name ≡ length name → ⊥) → ⊥
+other_named entries n index own s name is first at named other =
+    let here : Some (ASymbol own) ≡ Some (ASymbol s) = sym first ∙ subst (λ k. slice_get entries k ≡ Some (ASymbol s)) (sym is) at in
     let same : own ≡ s = only_symbol own s here in
-    let five : length own.name ≡ 5 = ap (λ (x : ObjectSymbol). length x.name) same ∙ ap length named in
-    omega arith
+    other (ap (λ (x : ObjectSymbol). length x.name) same ∙ ap length named)
 
 pub near_has_field : NearHasField
 near_has_field = record {
@@ -387,7 +386,7 @@ near_has_field = record {
     λ x. let two : field 5 2 i386_dir32 ∷ field 7 2 i386_dir32 ∷ [] ≡ field 5 x.symbol i386_dir32 ∷ [] = x.alone in cc);
   inside = (record { symbol = 1; alone = refl; inside = tt; names = import_named AMD64 }, λ x. past_60 61 refl x.inside);
   names = (record { symbol = 1; alone = refl; inside = omega arith; names = tt },
-    λ x. not_hello (passing_at AMD64).from.object.entries x.symbol (symbol_of_class (imp_open AMD64) 0 class_external) x.names.symbol (symbol_of (field 13 1 amd64_rel32) (field 13 x.symbol amd64_rel32) x.alone) refl x.names.target x.names.named (omega arith));
+    λ x. other_named (passing_at AMD64).from.object.entries 1 x.symbol (symbol_of_class (imp_open AMD64) 0 class_external) x.names.symbol (codes "hello") (symbol_of (field 13 1 amd64_rel32) (field 13 x.symbol amd64_rel32) x.alone) refl x.names.target x.names.named (λ same. differ 5 10 (sym same) (omega arith)));
 }
 
 -- the operand at 13, whose number does not count the byte behind it
@@ -400,14 +399,26 @@ uncounted x =
     let ends : 1 ≡ counts.0 = counts.1.1.1 in
     omega arith
 
+-- fields of an operand's width at an offset, against the symbol of an index, whose name is another one
+not_against : (offset n after number type : ℕ) (own : ObjectSymbol) (name : List ℕ) → HasField AMD64 (passing_at AMD64) offset type name → IsOperand AMD64 type after number →
+    filter (meets AMD64 offset 4) (passing_at AMD64).code.relocations ≡ field offset n amd64_rel32 ∷ [] → slice_get (passing_at AMD64).from.object.entries n ≡ Some (ASymbol own) → (length own.name ≡ length name → ⊥) → ⊥
+not_against offset n after number type own name has counts alone first other =
+    let wide : field_width AMD64 type ≡ 4 = operand_width AMD64 type after number counts in
+    let only : field offset n amd64_rel32 ∷ [] ≡ field offset has.symbol type ∷ [] = sym alone ∙ (rw wide at has.alone) in
+    other_named (passing_at AMD64).from.object.entries n has.symbol own has.names.symbol name (symbol_of (field offset n amd64_rel32) (field offset has.symbol type) only) first has.names.target has.names.named other
+
 pub near_has_operand : NearHasOperand
 near_has_operand = record {
+  field = (record { type = amd64_rel32; field = tt; counts = (0, (omega arith, (refl, refl))); within = omega arith },
+    λ x. not_against 13 1 0 0 x.type (symbol_of_class (imp_open AMD64) 0 class_external) (codes "hello") x.field x.counts refl refl (λ same. differ 5 10 (sym same) (omega arith)));
   counts = (record { type = amd64_rel32; field = record { symbol = 1; alone = refl; inside = omega arith; names = import_named AMD64 }; counts = tt; within = omega arith }, uncounted);
   within = (record { type = 9; field = record { symbol = 1; alone = refl; inside = omega arith; names = import_named AMD64 }; counts = (5, (omega arith, (refl, refl))); within = tt }, λ x. past_60 61 refl x.within);
 }
 
 pub near_has_branch : NearHasBranch
 near_has_branch = record {
+  field = (record { type = amd64_rel32; field = tt; counts = (0, (omega arith, (refl, refl))); within = omega arith },
+    λ x. not_against 39 3 0 0 x.type (symbol_of_class (open_on AMD64) 0 class_external) (codes "hello") x.field x.counts refl refl (λ same. differ 4 5 same (omega arith)));
   counts = (record { type = i386_dir32; field = record { symbol = 1; alone = refl; inside = omega arith; names = import_named I386 }; counts = tt; within = omega arith },
     λ x. let type : 6 ≡ x.type = kind_of (field 11 1 i386_dir32) (field 11 x.field.symbol x.type) x.field.alone in differ 6 0x14 (type ∙ x.counts.0) (omega arith));
   within = (record { type = 9; field = record { symbol = 1; alone = refl; inside = omega arith; names = import_named AMD64 }; counts = (5, (omega arith, (refl, refl))); within = tt }, λ x. past_60 61 refl x.within);
@@ -427,7 +438,7 @@ near_has_instruction = record {
   alone = (record { type = i386_dir32; symbol = 2; alone = tt; names = hello_named; field = empty; four = refl; code = refl; counts = (refl, refl) },
     λ x. let two : field 5 2 i386_dir32 ∷ field 11 1 i386_dir32 ∷ [] ≡ field 5 x.symbol x.type ∷ [] = x.alone in cc);
   names = (record { type = i386_dir32; symbol = 1; alone = refl; names = tt; field = empty; four = refl; code = refl; counts = (refl, refl) },
-    λ x. not_hello (passing_at I386).from.object.entries x.symbol (symbol_of_class (imp_open I386) 0 class_external) x.names.symbol (symbol_of (field 11 1 i386_dir32) (field 11 x.symbol x.type) x.alone) refl x.names.target x.names.named (omega arith));
+    λ x. other_named (passing_at I386).from.object.entries 1 x.symbol (symbol_of_class (imp_open I386) 0 class_external) x.names.symbol (codes "hello") (symbol_of (field 11 1 i386_dir32) (field 11 x.symbol x.type) x.alone) refl x.names.target x.names.named (λ same. differ 5 11 (sym same) (omega arith)));
   four = (record { type = i386_dir32; symbol = 1; alone = refl; names = import_named I386; field = 0 ∷ 0 ∷ 0 ∷ []; four = tt; code = refl; counts = (refl, refl) },
     λ x. three_bytes x.field x.four x.code);
   code = (record { type = i386_dir32; symbol = 1; alone = refl; names = import_named I386; field = empty; four = refl; code = tt; counts = (refl, refl) },

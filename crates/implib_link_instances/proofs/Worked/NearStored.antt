@@ -1,5 +1,5 @@
 -- Near misses of fields for addresses, by computing.
-use Rattle.std.proofs.Common.{◌≡◌, ℕ, ◌+◌, ◌*◌, Bool, true, false, List, [], ◌∷◌, refl, ap, sym, ◌∙◌, subst, arith}
+use Rattle.std.proofs.Common.{◌≡◌, ℕ, ◌+◌, ◌*◌, Bool, true, false, List, [], ◌∷◌, codes, refl, ap, sym, ◌∙◌, subst, arith}
 use Rattle.std.specs.Prelude.{◌==◌, if◌then◌else◌, nat_le}
 use Rattle.std.specs.List.{Contains, list_all, list_any}
 use Rattle.std.proofs.lemmas.Bool.{eq-eqb, eqb-true}
@@ -16,7 +16,7 @@ use Rattle.implib_link.specs.Gnu.Calls.{amd64_addr64, arm64_addr64, field_width}
 use Rattle.implib_link.specs.Gnu.Fields.{DefinesIn, LinkedCode, MeetsAlone}
 use Rattle.implib_link.specs.Gnu.Operands.{HasField, HasPointer}
 use Rattle.implib_link.specs.Gnu.Rebased.{Place}
-use Rattle.implib_link.specs.Gnu.Stored.{HasRelative, StoresAreMoved, SumArrives, amd64_addr32nb, arm64_addr32nb}
+use Rattle.implib_link.specs.Gnu.Stored.{HasRelative, StoresAreMoved, SumArrives, amd64_addr32nb, arm64_addr32nb, arm64_pageoffset_12a}
 use Rattle.implib_link.specs.Stub.{adrp_immediate, bits_of, page, plus_signed, with_adrp, with_bits}
 use Rattle.implib_link.proofs.Flavors.LldThunks.{bare_symbol, thunk_defines}
 use Rattle.implib_link.proofs.Gnu.Fields.{alone_among}
@@ -28,6 +28,7 @@ use Rattle.implib_link_instances.specs.Worked.Programs.{symbol_of_class}
 use Rattle.implib_link_instances.specs.Worked.RefusedFields.{with_byte}
 use Rattle.implib_link_instances.specs.Worked.Stored.{held_at, holding_codes, holding_memory, holding_targets, mid_name, mid_thunk_at, picking_at, unwind_at, unwind_linked}
 use Rattle.implib_link_instances.proofs.Worked.Lld.{lld_opened}
+use Rattle.implib_link_instances.proofs.Worked.NearLinks.{other_named, symbol_of}
 use Rattle.implib_link_instances.proofs.Worked.NearMisses.{none_passes}
 use Rattle.implib_link_instances.proofs.Worked.RefusedFields.{absent, past_end}
 use Rattle.implib_link_instances.proofs.Worked.RefusedLinks.{differ, number}
@@ -98,6 +99,12 @@ first_type a b is = let same : a ≡ b = cc in ap (λ (x : Relocation). x.kind) 
 
 pub near_has_relative : NearHasRelative
 near_has_relative = record {
+  field = (record { type = amd64_addr32nb; field = tt; relative = refl; empty = refl },
+    λ has.
+      let type : has.type ≡ amd64_addr32nb = has.relative in
+      let alone = subst (λ n. MeetsAlone AMD64 (unwind_at AMD64).code.relocations 8 (field_width AMD64 n) (record { offset = 8; symbol = has.field.symbol; kind = n })) type has.field.alone in
+      other_named (unwind_at AMD64).from.object.entries 3 has.field.symbol (symbol_of_class (mid_name AMD64) 0 class_external) has.field.names.symbol (codes "zeta") (symbol_of (field 8 3 amd64_addr32nb) (field 8 has.field.symbol amd64_addr32nb) alone) refl
+      has.field.names.target has.field.names.named (λ same. differ 3 4 same (omega arith)));
   relative = (record { type = amd64_addr64; field = record { symbol = 3; alone = refl; inside = omega arith; names = record { symbol = symbol_of_class (mid_name AMD64) 0 class_external; target = refl; undefined = refl; named = refl } }; relative = tt; empty = refl },
     λ has.
       let type : has.type ≡ amd64_addr32nb = has.relative in
@@ -110,6 +117,10 @@ near_has_relative = record {
 
 pub near_has_add_field : NearHasAddField
 near_has_add_field = record {
+  field = (record { field = tt; adds = refl; empty = refl },
+    λ has.
+      other_named (picking_at ARM64).from.object.entries 3 has.field.symbol (symbol_of_class (mid_name ARM64) 0 class_external) has.field.names.symbol (codes "zeta") (symbol_of (field 32 3 arm64_pageoffset_12a) (field 32 has.field.symbol arm64_pageoffset_12a) has.field.alone) refl
+      has.field.names.target has.field.names.named (λ same. differ 3 4 same (omega arith)));
   adds = (record { field = record { symbol = 3; alone = refl; inside = omega arith; names = record { symbol = symbol_of_class (mid_name ARM64) 0 class_external; target = refl; undefined = refl; named = refl } }; adds = tt; empty = refl },
     λ has. differ 0x44 0x244 has.adds (omega arith));
   empty = (record { field = record { symbol = 3; alone = refl; inside = omega arith; names = record { symbol = symbol_of_class (mid_name ARM64) 0 class_external; target = refl; undefined = refl; named = refl } }; adds = refl; empty = tt },

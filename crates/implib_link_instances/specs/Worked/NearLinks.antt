@@ -199,13 +199,16 @@ pub record NearHasField : Type 0 where
       (imp_open AMD64)
   pub names : MissesHasField (codes "names") AMD64 (passing_at AMD64) 13 amd64_rel32 (codes "hello")
 
--- An operand whose number and type do not count a byte that follows, and a call's field as a
--- branch's; and instructions of which five bytes after the field would be past the code's end.
+-- An operand and a branch against other names; an operand whose number and type do not count a byte
+-- that follows, and a call's field as a branch's; and instructions of which five bytes after the
+-- field would be past the code's end.
 pub record NearHasOperand : Type 0 where
+  pub field : MissesHasOperand (codes "field") AMD64 (passing_at AMD64) 13 0 (codes "hello")
   pub counts : MissesHasOperand (codes "counts") AMD64 (passing_at AMD64) 13 1 (imp_open AMD64)
   pub within : MissesHasOperand (codes "within") AMD64 (passing_with 52 9) 52 5 (imp_open AMD64)
 
 pub record NearHasBranch : Type 0 where
+  pub field : MissesHasBranch (codes "field") AMD64 (passing_at AMD64) 39 0 (codes "hello")
   pub counts : MissesHasBranch (codes "counts") I386 (passing_at I386) 11 0 (imp_open I386)
   pub within : MissesHasBranch (codes "within") AMD64 (passing_with 52 9) 52 5 (imp_open AMD64)
 

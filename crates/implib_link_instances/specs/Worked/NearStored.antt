@@ -69,8 +69,9 @@ unwinding_more = record (unwind_at AMD64) {
   code = record (unwind_section AMD64) { bytes = unwind_linked AMD64 };
 }
 
--- a pointer; a field with a number
+-- a field against another name; a pointer; a field with a number
 pub record NearHasRelative : Type 0 where
+  pub field : MissesHasRelative (codes "field") AMD64 (unwind_at AMD64) 8 (codes "zeta")
   pub relative : MissesHasRelative (codes "relative") AMD64 (held_at AMD64) 8 (mid_name AMD64)
   pub empty : MissesHasRelative (codes "empty") AMD64 unwinding_more 8 (mid_name AMD64)
 
@@ -80,8 +81,9 @@ picking_with bytes = record (picking_at ARM64) {
   code = record (picking_section ARM64) { bytes = bytes };
 }
 
--- an `add` of 32 bits; a number in the field
+-- a field against another name; an `add` of 32 bits; a number in the field
 pub record NearHasAddField : Type 0 where
+  pub field : MissesHasAddField (codes "field") (picking_at ARM64) 32 (codes "zeta")
   pub adds : MissesHasAddField (codes "adds")
       (picking_with (with_byte (picking_code ARM64) 35 0x11)) 32 (mid_name ARM64)
   pub empty : MissesHasAddField (codes "empty") (picking_with (picking_linked ARM64)) 32
