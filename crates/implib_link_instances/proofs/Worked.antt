@@ -46,6 +46,7 @@ pub mod LldPrograms
 pub mod Stored
 pub mod Registered
 pub mod NearStored
+pub mod NearArrivals
 pub mod Files
 pub mod NearFiles
 pub mod Wanting

@@ -5,10 +5,9 @@ use Rattle.implib.specs.Link.Image.{Range}
 use Rattle.implib.specs.Link.Placement.{Placed}
 use Rattle.implib_link.specs.Gnu.Fields.{IsRelocated}
 use Rattle.implib_link.specs.Gnu.Moves.{ArePaged}
-use Rattle.implib_link.specs.Gnu.Operands.{BranchArrives, InstructionArrives, OperandArrives, PairArrives, PointerArrives}
-use Rattle.implib_link.specs.Gnu.Rebased.{IsRebased}
+use Rattle.implib_link.specs.Gnu.Operands.{InstructionArrives, PairArrives}
 use Rattle.implib_link_instances.specs.But.Links.{MissesInstructionArrives, MissesPairArrives}
-use Rattle.implib_link_instances.specs.Worked.Operands.{imp_open, moved_memory, passing_at, passing_code, passing_linked, passing_memory, passing_placed, passing_places, passing_targets}
+use Rattle.implib_link_instances.specs.Worked.Operands.{imp_open, passing_at, passing_code, passing_linked, passing_placed, passing_targets}
 use Rattle.implib_link_instances.specs.Worked.Programs.{touching_4, touching_8}
 
 -- bytes with another one at an offset
@@ -68,18 +67,6 @@ linked_on_amd64 = passing_placed AMD64 touching_8
 abbrev pub open_address : List ℕ
 open_address = 0x40 ∷ 0 ∷ 0 ∷ 0x10 ∷ 0 ∷ 0 ∷ 0 ∷ 0 ∷ []
 
--- the operand of AMD64's call at 0x100D, by its bytes and those at the entry, under a name
-abbrev pub CallOperand : ℕ → List ℕ → List ℕ → List ℕ → Type 0
-CallOperand address field bytes name =
-    OperandArrives AMD64 0x1_4000_0000 linked_on_amd64 (two_ranges address field bytes) 0x100D 0 name open_address
-
-pub record RefusedOperands : Type 0 where
-  pub arrives : CallOperand 0x100D (0x6F ∷ 0xF0 ∷ 0xFF ∷ 0xFF ∷ []) open_address (imp_open AMD64)
-  pub there : CallOperand 0x100E (0x6F ∷ 0xF0 ∷ 0xFF ∷ 0xFF ∷ []) open_address (imp_open AMD64) → ⊥
-  pub leads : CallOperand 0x100D (0x70 ∷ 0xF0 ∷ 0xFF ∷ 0xFF ∷ []) open_address (imp_open AMD64) → ⊥
-  pub own : CallOperand 0x100D (0x6F ∷ 0xF0 ∷ 0xFF ∷ 0xFF ∷ []) open_address (codes "hello") → ⊥
-  pub located : CallOperand 0x100D (0x6F ∷ 0xF0 ∷ 0xFF ∷ 0xFF ∷ []) (0x41 ∷ drop 1 open_address) (imp_open AMD64) → ⊥
-
 -- the call itself at 0x100B, by its bytes
 abbrev pub CallInstruction : List ℕ → List ℕ → List ℕ → Type 0
 CallInstruction code bytes name =
@@ -101,27 +88,6 @@ pub record RefusedInstructions : Type 0 where
   pub located : MissesInstructionArrives (codes "located") AMD64 0x1_4000_0000 linked_on_amd64
       (two_ranges 0x100B (0xFF ∷ 0x15 ∷ call_number) (0x41 ∷ drop 1 open_address)) 0x100B
       (0xFF ∷ 0x15 ∷ []) [] (imp_open AMD64) open_address
-
--- the address stored at 0x1034
-abbrev pub StoredAddress : ℕ → List ℕ → List ℕ → List ℕ → Type 0
-StoredAddress address field bytes name =
-    PointerArrives AMD64 0x1_4000_0000 linked_on_amd64 (two_ranges address field bytes) 0x1034 name open_address
-
-pub record RefusedPointers : Type 0 where
-  pub arrives : StoredAddress 0x1034 (0x80 ∷ 0 ∷ 0 ∷ 0x40 ∷ 1 ∷ 0 ∷ 0 ∷ 0 ∷ []) open_address (imp_open AMD64)
-  pub there : StoredAddress 0x1034 (0x88 ∷ 0 ∷ 0 ∷ 0x40 ∷ 1 ∷ 0 ∷ 0 ∷ 0 ∷ []) open_address (imp_open AMD64) → ⊥
-  pub own : StoredAddress 0x1034 (0x80 ∷ 0 ∷ 0 ∷ 0x40 ∷ 1 ∷ 0 ∷ 0 ∷ 0 ∷ []) open_address (codes "hello") → ⊥
-  pub located : StoredAddress 0x1034 (0x80 ∷ 0 ∷ 0 ∷ 0x40 ∷ 1 ∷ 0 ∷ 0 ∷ 0 ∷ []) (0x41 ∷ drop 1 open_address) (imp_open AMD64)
-      → ⊥
-
--- the call of `open` at 0x1027, whose stub is at 0x1040
-abbrev pub CallOfOpen : ℕ → List ℕ → Type 0
-CallOfOpen address field = BranchArrives AMD64 0x1_4000_0000 (two_ranges address field []) 0x1027 0 0x1040
-
-pub record RefusedBranches : Type 0 where
-  pub arrives : CallOfOpen 0x1027 (0x15 ∷ 0 ∷ 0 ∷ 0 ∷ [])
-  pub there : CallOfOpen 0x1026 (0x15 ∷ 0 ∷ 0 ∷ 0 ∷ []) → ⊥
-  pub leads : CallOfOpen 0x1027 (0x19 ∷ 0 ∷ 0 ∷ 0 ∷ []) → ⊥
 
 -- ARM64's `adrp x8` at 0x100C and `ldr x8, [x8]` at 0x1010, from these words
 abbrev pub PageAndOffset : List ℕ → List ℕ → List ℕ → List ℕ → Type 0
@@ -159,9 +125,6 @@ pub record RefusedPairs : Type 0 where
       (pair_memory adrp_bytes load_bytes (0x41 ∷ drop 1 open_address)) 0x100C 0x1010 0x9000_0008
       0xF940_0108 (imp_open ARM64) open_address
 
--- Memory in which no base relocation was applied, or one beside its place, and bases apart by half a page
+-- bases apart by half a page
 pub record RefusedMoves : Type 0 where
-  pub unmoved : IsRebased 0x1_4000_0000 0x7FF6_1234_0000 (passing_places AMD64) (passing_memory AMD64 touching_8)
-      (passing_memory AMD64 touching_8) → ⊥
-  pub kept : IsRebased 0x40_0000 0x1000_0000 [] (passing_memory I386 touching_4) (moved_memory I386 touching_4) → ⊥
   pub half_page : ArePaged ARM64 0x1_4000_0000 0x1_4000_0800 → ⊥
