@@ -1,6 +1,6 @@
 -- Command lines of files: an object of gcc 12, a library of llvm-dlltool 19 and an archive of GNU `ar`, the library first for
 -- lld and last, or in a group, for GNU `ld`.
-use Rattle.std.specs.Prelude.{◌≡◌, ℕ, List, [], ◌∷◌, ◌++◌, codes}
+use Rattle.std.specs.Prelude.{◌≡◌, List, [], ◌∷◌, ◌++◌, codes, drop, take}
 use Rattle.implib.specs.declared.machine.MachineType.{MachineType}
 use Rattle.implib.specs.declared.machine.MachineType.TheVariants.{I386, AMD64}
 use Rattle.implib.specs.Formats.Object.{Object}
@@ -13,8 +13,11 @@ use Rattle.implib_link.specs.Search.BothFlavors.{FlavorLibrary, archive_of_both,
 use Rattle.implib_link.specs.Search.CommandLines.{AnObject, Archives, Input, SearchesFlavors, given_with, others_of}
 use Rattle.implib_link.specs.Search.MsvcArchives.{IsMsvcArchive}
 use Rattle.implib_link.specs.Search.Sweeps.{members_at}
+use Rattle.implib_link_instances.specs.But.ArchiveLinks.{MissesSearchesByLld}
 use Rattle.implib_link_instances.specs.Archives.Files.{i386_kernel_lib, i386_libquit, kernel_lib, libquit}
-use Rattle.implib_link_instances.specs.Worked.CommandLines.{i386_wants_bytes, inputs_of, is_quit, quit_bytes, quitting, read_or_none, wants_bytes}
+use Rattle.implib_link_instances.specs.Worked.CommandLines.{i386_wants_bytes, inputs_of, is_quit}
+use Rattle.implib_link_instances.specs.Worked.CommandLines.{quit_bytes, quit_member, quitting}
+use Rattle.implib_link_instances.specs.Worked.CommandLines.{read_or_none, wants_bytes}
 use Rattle.implib_link_instances.specs.Worked.FlavorLines.{amd64_kernels, amd64_shorts, i386_kernels, i386_shorts, shorts_grouped, shorts_last, shorts_taken}
 
 -- the library and the archive on each machine
@@ -55,26 +58,43 @@ pub record WorkedFileLines : Type 0 where
 abbrev pub wanting_own : List Object
 wanting_own = read_or_none wants_bytes
 
--- a second member that is listed for `quit`
+-- a second member that is listed for `quit`, of another time
 abbrev pub other_quit : MemberView
-other_quit = record { name = codes "other.o"; bytes = quit_bytes; symbols = codes "quit" ∷ [] }
+other_quit = quit_member (codes "quit") (take 4 quit_bytes ++ 1 ∷ drop 5 quit_bytes)
 
 -- the archive's member, listed for a name more
 abbrev pub listed_more : MemberView
 listed_more = record { name = codes "quit.o"; bytes = quit_bytes; symbols = codes "quit" ∷ codes "more" ∷ [] }
 
--- A command line of lld's, but for one thing: there are no libraries; the second of two members that are listed for a name
--- is taken; an object behind the archive claims its name; no input has the archive; the member is listed for a name more;
--- nothing is taken.
+-- the members with the second one, and a command line with it in front; and the library's with the
+-- one that is listed for a name more
+abbrev pub with_other : List MemberView
+with_other = amd64_shorts ++ other_quit ∷ []
+
+abbrev pub other_first : List Input
+other_first = inputs_of wanting_own
+    ++ Archives ((5 ∷ []) ∷ [])
+    ∷ Archives ((0 ∷ 1 ∷ 2 ∷ 3 ∷ []) ∷ [])
+    ∷ Archives ((4 ∷ []) ∷ [])
+    ∷ []
+
+abbrev pub with_more_listed : List MemberView
+with_more_listed = archive_of_both amd64_kernels ++ listed_more ∷ []
+
+-- A command line of lld's, but for one thing: there are no libraries; the second of two members
+-- that are listed for a name is taken, from an archive in front; an object behind the archive
+-- claims its name; no input has the archive; the member is listed for a name more; nothing is
+-- taken.
 pub record NearSearchesByLld : Type 0 where
-  pub libraries_are : SearchesByLld AMD64 [] amd64_shorts (shorts_first wanting_own) is_quit (lld_taken amd64_shorts) → ⊥
-  pub first : SearchesByLld AMD64 (msvc_among amd64_kernels) (amd64_shorts ++ other_quit ∷ [])
-      (inputs_of wanting_own ++ Archives ((5 ∷ []) ∷ []) ∷ Archives ((0 ∷ 1 ∷ 2 ∷ 3 ∷ []) ∷ []) ∷ []) is_quit
-      (members_at amd64_shorts (3 ∷ []) ++ other_quit ∷ []) → ⊥
-  pub unclaimed : SearchesByLld AMD64 (msvc_among amd64_kernels) amd64_shorts
-      (shorts_first wanting_own ++ AnObject quitting ∷ []) is_quit (lld_taken amd64_shorts) → ⊥
-  pub all : SearchesByLld AMD64 (msvc_among amd64_kernels) amd64_shorts
-      (inputs_of wanting_own ++ Archives ((0 ∷ 1 ∷ 2 ∷ 3 ∷ []) ∷ []) ∷ []) is_quit [] → ⊥
-  pub whole : SearchesByLld AMD64 (msvc_among amd64_kernels) (archive_of_both amd64_kernels ++ listed_more ∷ [])
-      (shorts_first wanting_own) is_quit (lld_taken amd64_shorts) → ⊥
-  pub searches : SearchesByLld AMD64 (msvc_among amd64_kernels) amd64_shorts (shorts_first wanting_own) is_quit [] → ⊥
+  pub libraries_are : MissesSearchesByLld (codes "libraries_are") AMD64 [] amd64_shorts
+      (shorts_first wanting_own) is_quit (lld_taken amd64_shorts)
+  pub first : MissesSearchesByLld (codes "first") AMD64 (msvc_among amd64_kernels) with_other
+      other_first is_quit (members_at with_other (3 ∷ 5 ∷ []))
+  pub unclaimed : MissesSearchesByLld (codes "unclaimed") AMD64 (msvc_among amd64_kernels)
+      amd64_shorts (shorts_first wanting_own ++ AnObject quitting ∷ []) is_quit (lld_taken amd64_shorts)
+  pub all : MissesSearchesByLld (codes "all") AMD64 (msvc_among amd64_kernels) amd64_shorts
+      (inputs_of wanting_own ++ Archives ((0 ∷ 1 ∷ 2 ∷ 3 ∷ []) ∷ []) ∷ []) is_quit []
+  pub whole : MissesSearchesByLld (codes "whole") AMD64 (msvc_among amd64_kernels) with_more_listed
+      (shorts_first wanting_own) is_quit (lld_taken with_more_listed)
+  pub searches : MissesSearchesByLld (codes "searches") AMD64 (msvc_among amd64_kernels)
+      amd64_shorts (shorts_first wanting_own) is_quit []

@@ -3,9 +3,10 @@
 use Rattle.std.specs.Prelude.{ℕ, List, [], ◌∷◌, ◌++◌, codes}
 use Rattle.implib.specs.Members.MemberSpec.{MemberView}
 use Rattle.implib.specs.Worked.Digits.{hex}
-use Rattle.implib_archive.specs.declared.kind.Kind.TheVariants.{Coff}
+use Rattle.implib_archive.specs.declared.kind.Kind.TheVariants.{Coff, Gnu}
 use Rattle.implib_archive_link.specs.Files.{HasMembers, HasMembersAs}
 use Rattle.implib_link.specs.Search.BothFlavors.{archive_of_both}
+use Rattle.implib_link_instances.specs.But.ArchiveLinks.{MissesHasMembersAs}
 use Rattle.implib_link_instances.specs.Worked.CommandLines.{i386_quit_bytes, quit_bytes, quit_member}
 use Rattle.implib_link_instances.specs.Worked.FlavorLines.{amd64_kernels, i386_kernels}
 
@@ -129,8 +130,10 @@ two_members =
     ∷ record { name = codes "b.o"; bytes = 3 ∷ 4 ∷ []; symbols = codes "y" ∷ [] }
     ∷ []
 
--- no archive; a member that is not said; the members of the archive above, whose index is not in their order
+-- no archive; a member of another name; the members of the archive above, whose index is not in
+-- their order: all other fields hold
 pub record NearHasMembersAs : Type 0 where
-  pub located : HasMembers [] [] → ⊥
-  pub read : HasMembers libquit [] → ⊥
-  pub ordered : HasMembers reversed two_members → ⊥
+  pub located : MissesHasMembersAs (codes "located") Gnu [] []
+  pub read : MissesHasMembersAs (codes "read") Gnu libquit
+      (record (quit_member (codes "quit") quit_bytes) { name = codes "other.o" } ∷ [])
+  pub ordered : MissesHasMembersAs (codes "ordered") Gnu reversed two_members

@@ -1,12 +1,11 @@
--- Near misses of searches in bytes, and what a search says of the bytes. A record `NearX` has those of the record `X`, each
--- by the name of the field that refuses it.
-use Rattle.std.specs.Prelude.{◌≡◌, ℕ, List, [], ◌∷◌, ◌++◌, ◌^◌, codes, drop, map, option_and_then, take, Some}
-use Rattle.implib.specs.declared.machine.MachineType.TheVariants.{AMD64}
-use Rattle.implib.specs.Definition.{ExportView}
+-- Near misses of searches in bytes, and what a search says of the bytes. A record `NearX` has those
+-- of the record `X`, each by the name of the field that refuses it: all other fields hold.
+use Rattle.std.specs.Prelude.{◌≡◌, ℕ, List, [], ◌∷◌, ◌++◌, ◌^◌, codes, drop, map, option_and_then}
+use Rattle.std.specs.Prelude.{take, true, Some}
+use Rattle.implib.specs.declared.machine.MachineType.TheVariants.{AMD64, ARMNT}
+use Rattle.implib.specs.Definition.{ExportView, empty_export}
 use Rattle.implib.specs.Formats.Constants.{class_external}
 use Rattle.implib.specs.Formats.Object.{Object}
-use Rattle.implib.specs.Link.Image.{Range}
-use Rattle.implib.specs.Link.Placement.{Placed}
 use Rattle.implib.specs.Members.MemberSpec.{MemberView}
 use Rattle.implib.specs.Worked.Statements.{plain_export}
 use Rattle.implib_archive.specs.Archive.{archive_of}
@@ -14,15 +13,22 @@ use Rattle.implib_archive.specs.ReadBack.{read_view}
 use Rattle.implib_archive.specs.Reader.{member_at}
 use Rattle.implib_archive.specs.Worked.{read, worked_coff, worked_gnu, worked_members}
 use Rattle.implib_archive.specs.declared.kind.Kind.TheVariants.{Gnu}
-use Rattle.implib_archive_link.specs.InBytes.{First, PullsInAt, Second, TakesAt, asks_for, header_by}
-use Rattle.implib_archive_link.specs.LldWay.{IsBuiltByLld, IsWantedBy, LldArrives}
+use Rattle.implib_archive_link.specs.InBytes.{First, Second, TakesAt, asks_for, header_by}
+use Rattle.implib_archive_link.specs.LldWay.{IsWantedBy}
 use Rattle.implib_archive_link.specs.Way.{CallsArrive}
-use Rattle.implib_archive_link.specs.Results.{AreMembersAt, AreSearched, HaveArchive, IsHeaderOf, LeadsToFirst}
-use Rattle.implib_link.specs.Flavors.LldImports.{imports_of_lld}
-use Rattle.implib_link.specs.Flavors.LldTables.{addresses_at}
+use Rattle.implib_archive_link.specs.Results.{AreSearched}
 use Rattle.implib_link.specs.Search.Search.{Takes}
+use Rattle.implib_link_instances.specs.But.ArchiveLinks.{MissesAreMembersAt, MissesCallsArrive}
+use Rattle.implib_link_instances.specs.But.ArchiveLinks.{MissesHaveArchive}
+use Rattle.implib_link_instances.specs.But.ArchiveLinks.{MissesIsBuiltByLld, MissesIsHeaderOf}
+use Rattle.implib_link_instances.specs.But.ArchiveLinks.{MissesIsWantedBy, MissesLeadsToFirst}
+use Rattle.implib_link_instances.specs.But.ArchiveLinks.{MissesLldArrives, MissesPullsInAt}
+use Rattle.implib_link_instances.specs.But.ArchiveLinks.{MissesTakesAt}
+use Rattle.implib_link_instances.specs.Worked.Archives.{two_libraries}
+use Rattle.implib_link_instances.specs.Worked.Closed.{choosing}
 use Rattle.implib_link_instances.specs.Worked.MsvcArchives.{msvc_foo, msvc_zed}
-use Rattle.implib_link_instances.specs.Worked.NearPrograms.{defines_mid, lld_defines, lld_range, mid_alone}
+use Rattle.implib_link_instances.specs.Worked.NearPrograms.{defines_mid, lld_addresses, lld_defines}
+use Rattle.implib_link_instances.specs.Worked.NearPrograms.{lld_range, mid_alone}
 use Rattle.implib_link_instances.specs.Worked.NearSearches.{asking, zed_short}
 use Rattle.implib_link_instances.specs.Worked.Programs.{code_object, program_objects, symbol_of_class, touching_8}
 use Rattle.implib_link_instances.specs.Worked.Search.{members_of, three, wanted}
@@ -39,14 +45,29 @@ pub record WorkedIndexes : Type 0 where
 
 -- a name that nothing wants; the header of the second member that `f` is listed for; and the one that is taken
 pub record NearPullsInAt : Type 0 where
-  pub asked : PullsInAt Gnu First worked_gnu (asks_for []) [] (codes "f") 182 → ⊥
-  pub found : PullsInAt Gnu First worked_gnu (asks_for (codes "f" ∷ [])) [] (codes "f") 246 → ⊥
-  pub new : PullsInAt Gnu First worked_gnu (asks_for (codes "f" ∷ [])) (182 ∷ []) (codes "f") 182 → ⊥
+  pub asked : MissesPullsInAt (codes "asked") Gnu First worked_gnu (asks_for []) [] (codes "f") 182
+  pub found : MissesPullsInAt (codes "found") Gnu First worked_gnu (asks_for (codes "f" ∷ [])) []
+      (codes "f") 246
+  pub new : MissesPullsInAt (codes "new") Gnu First worked_gnu (asks_for (codes "f" ∷ []))
+      (182 ∷ []) (codes "f") 182
 
--- the second header and the first member
+-- a member that nothing asks for; and nothing, though `f` asks for a member
+pub record NearTakesAt : Type 0 where
+  pub in_turn : MissesTakesAt (codes "in_turn") Gnu First worked_gnu (asks_for []) (182 ∷ [])
+  pub ended : MissesTakesAt (codes "ended") Gnu First worked_gnu (asks_for (codes "f" ∷ [])) []
+
+-- the member that `f` is listed for first
+abbrev pub f_member : MemberView
+f_member = record {
+  name = codes "a.o";
+  bytes = 1 ∷ 2 ∷ 3 ∷ [];
+  symbols = codes "f" ∷ codes "__imp_f" ∷ [];
+}
+
+-- the second header and the first member: by the member's number, and by the header's
 pub record NearIsHeaderOf : Type 0 where
-  pub header_is_and_member_is : IsHeaderOf (182 ∷ 246 ∷ []) worked_members 246
-      (record { name = codes "a.o"; bytes = 1 ∷ 2 ∷ 3 ∷ []; symbols = codes "f" ∷ codes "__imp_f" ∷ [] }) → ⊥
+  pub header_is : MissesIsHeaderOf (codes "header_is") (182 ∷ 246 ∷ []) worked_members 246 f_member
+  pub member_is : MissesIsHeaderOf (codes "member_is") (182 ∷ 246 ∷ []) worked_members 246 f_member
 
 -- What is taken is read: in the archive of three exports' members, after the headers that a search takes, a reader finds
 -- the members that it takes of the list; and a name leads to what a reader finds as the first member that it is listed
@@ -60,17 +81,41 @@ pub record WorkedReads : Type 0 where
 
 -- members of which one has no name, and GNU's kind, which has no second linker member
 pub record NearHaveArchive : Type 0 where
-  pub accepted : HaveArchive Gnu First (record { name = []; bytes = []; symbols = [] } ∷ []) → ⊥
-  pub has : HaveArchive Gnu Second worked_members → ⊥
+  pub accepted : MissesHaveArchive (codes "accepted") Gnu First
+      (record { name = []; bytes = []; symbols = [] } ∷ [])
+  pub has : MissesHaveArchive (codes "has") Gnu Second worked_members
 
--- the first member, of which nothing holds
+-- a member with the header and the byte of another one in its bytes; and one whose name has a line
+-- end, which ends it where it is read
+abbrev pub with_header_in : List MemberView
+with_header_in = record {
+  name = codes "a.o";
+  bytes = codes "x.o/            0           0     0     644     1         `\n" ++ 7 ∷ [];
+  symbols = [];
+} ∷ []
+
+abbrev pub in_two_lines : List MemberView
+in_two_lines = record { name = codes "long_member\nname.o"; bytes = 1 ∷ []; symbols = [] } ∷ []
+
+-- the member in the bytes of one; the member with a line end in its name; and the first member, of
+-- which nothing holds
 pub record NearAreMembersAt : Type 0 where
-  pub holds : AreMembersAt Gnu worked_members (182 ∷ []) (λ found. ⊥) → ⊥
+  pub at : MissesAreMembersAt (codes "at") Gnu with_header_in (68 ∷ []) (λ found. Unit {0})
+  pub read : MissesAreMembersAt (codes "read") Gnu in_two_lines (88 ∷ []) (λ found. Unit {0})
+  pub holds : MissesAreMembersAt (codes "holds") Gnu worked_members (182 ∷ []) (λ found. ⊥)
 
--- the second linker member of GNU's kind, which has none
+-- a member without a name, which is read as a linker member, that is listed for a name
+abbrev pub nameless_for : List ℕ → List MemberView
+nameless_for name = record { name = []; bytes = 1 ∷ []; symbols = name ∷ [] } ∷ []
+
+-- such a member that is listed for a name which a NUL cuts to `f`; and one that is listed for `f`
 pub record NearLeadsToFirst : Type 0 where
-  pub somewhere_and_read : LeadsToFirst Gnu Second worked_members (codes "f") → ⊥
+  pub somewhere : MissesLeadsToFirst (codes "somewhere") Gnu First
+      (nameless_for (codes "f" ++ 0 ∷ codes "g")) (codes "f")
+  pub read : MissesLeadsToFirst (codes "read") Gnu First (nameless_for (codes "f")) (codes "f")
 
+-- The second linker member of GNU's kind, which has none. Each of these fields follows from
+-- `wanted`, which says it of all names that are wanted.
 pub record NearAreSearched : Type 0 where
   pub wanted : AreSearched Gnu Second worked_members → ⊥
   pub given : AreSearched Gnu Second worked_members → ⊥
@@ -85,33 +130,50 @@ asking_stack = code_object (symbol_of_class (codes "stack") 0 class_external ∷
 abbrev pub stack : ExportView
 stack = plain_export (codes "stack")
 
--- of another library; an export that the library does not have; an alias; and an export that no object leaves to others
+-- the alias `bar` of foo.dll, and an object that leaves its address to others
+abbrev pub bar_alias : ExportView
+bar_alias = record empty_export { name = codes "bar"; alias_target = codes "baz"; is_data = true }
+
+abbrev pub asking_bar : Object
+asking_bar = code_object (symbol_of_class (codes "__imp_bar") 0 class_external ∷ [])
+
+-- of another library; an export that the library does not have; an alias; and another export than
+-- the one that an object leaves to others: by the name that is left, and by the export's
 pub record NearIsWantedBy : Type 0 where
   pub wanted : IsWantedBy (msvc_zed ∷ []) (asking_stack ∷ []) msvc_zed stack
-  pub library : IsWantedBy [] (asking_stack ∷ []) msvc_zed stack → ⊥
-  pub export : IsWantedBy (zed_short (codes "queue") ∷ []) (asking_stack ∷ []) (zed_short (codes "queue")) stack → ⊥
-  pub plain : IsWantedBy (msvc_foo ∷ []) (asking_stack ∷ []) msvc_foo
-      (record stack { alias_target = codes "baz" }) → ⊥
-  pub listed_and_left : IsWantedBy (msvc_zed ∷ []) (asking ∷ []) msvc_zed stack → ⊥
+  pub library : MissesIsWantedBy (codes "library") [] (asking_stack ∷ []) msvc_zed stack
+  pub export : MissesIsWantedBy (codes "export") (zed_short (codes "queue") ∷ [])
+      (asking_stack ∷ []) (zed_short (codes "queue")) stack
+  pub plain : MissesIsWantedBy (codes "plain") (msvc_foo ∷ []) (asking_bar ∷ []) msvc_foo bar_alias
+  pub listed : MissesIsWantedBy (codes "listed") (msvc_zed ∷ []) (asking ∷ []) msvc_zed stack
+  pub left : MissesIsWantedBy (codes "left") (msvc_zed ∷ []) (asking ∷ []) msvc_zed stack
 
--- what lld writes of one short import, with more ranges in its image
-abbrev pub BuiltOf : List Range → List Placed → Type 0
-BuiltOf image linked = IsBuiltByLld AMD64 0x2000 (addresses_at AMD64 0x2000 (imports_of_lld mid_alone)) mid_alone image linked
-
--- no object for what lld defines; an object before or after it that defines the symbol, too; no tables; a range at 0, and
--- one that ends at 2^31
+-- What lld writes of one short import: no object for what lld defines; an object before or after it
+-- that defines the symbol, too; no tables; a range at 0, and one that ends at 2^31
 pub record NearIsBuiltByLld : Type 0 where
-  pub placed : BuiltOf (lld_range mid_alone ∷ []) [] → ⊥
-  pub none_before : BuiltOf (lld_range mid_alone ∷ []) (defines_mid ∷ lld_defines mid_alone ∷ []) → ⊥
-  pub none_behind : BuiltOf (lld_range mid_alone ∷ []) (lld_defines mid_alone ∷ defines_mid ∷ []) → ⊥
-  pub pieces : BuiltOf [] (lld_defines mid_alone ∷ []) → ⊥
-  pub starts : BuiltOf (lld_range mid_alone ∷ record { start = 0; bytes = [] } ∷ []) (lld_defines mid_alone ∷ []) → ⊥
-  pub ends : BuiltOf (lld_range mid_alone ∷ record { start = 2 ^ 31; bytes = [] } ∷ []) (lld_defines mid_alone ∷ []) → ⊥
+  pub placed : MissesIsBuiltByLld (codes "placed") AMD64 0x2000 (lld_addresses mid_alone) mid_alone
+      (lld_range mid_alone ∷ []) []
+  pub none_before : MissesIsBuiltByLld (codes "none_before") AMD64 0x2000 (lld_addresses mid_alone)
+      mid_alone (lld_range mid_alone ∷ []) (defines_mid ∷ lld_defines mid_alone ∷ [])
+  pub none_behind : MissesIsBuiltByLld (codes "none_behind") AMD64 0x2000 (lld_addresses mid_alone)
+      mid_alone (lld_range mid_alone ∷ []) (lld_defines mid_alone ∷ defines_mid ∷ [])
+  pub pieces : MissesIsBuiltByLld (codes "pieces") AMD64 0x2000 (lld_addresses mid_alone) mid_alone
+      [] (lld_defines mid_alone ∷ [])
+  pub starts : MissesIsBuiltByLld (codes "starts") AMD64 0x2000 (lld_addresses mid_alone) mid_alone
+      (lld_range mid_alone ∷ record { start = 0; bytes = [] } ∷ []) (lld_defines mid_alone ∷ [])
+  pub ends : MissesIsBuiltByLld (codes "ends") AMD64 0x2000 (lld_addresses mid_alone) mid_alone
+      (lld_range mid_alone ∷ record { start = 2 ^ 31; bytes = [] } ∷ [])
+      (lld_defines mid_alone ∷ [])
 
--- nothing is taken for an object that leaves `stack` to others
+-- nothing is taken for an object that leaves `stack` to others: on ARMNT, of whose code nothing is
+-- claimed
 pub record NearLldArrives : Type 0 where
-  pub shorts : LldArrives AMD64 (msvc_zed ∷ []) (asking_stack ∷ []) [] → ⊥
+  pub shorts : MissesLldArrives (codes "shorts") ARMNT (msvc_zed ∷ []) (asking_stack ∷ []) []
 
--- no library, and a linked program that imports from two DLLs
+-- Nothing is linked but an object that leaves `bar` to others, so that no loader finds a directory;
+-- and no library, with a linked program that imports from two DLLs. By the directory that `links`
+-- says, a loader ends as `ends` says, which follows from it.
 pub record NearCallsArrive : Type 0 where
+  pub links : MissesCallsArrive (codes "links") AMD64 two_libraries (choosing ∷ []) [] two_libraries
+      touching_8 (choosing ∷ [])
   pub ends : CallsArrive AMD64 [] [] [] [] touching_8 (program_objects AMD64) → ⊥

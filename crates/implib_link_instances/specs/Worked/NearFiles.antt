@@ -1,5 +1,6 @@
 -- Near misses of files of linked programs: the files of Worked/Files with single bytes changed. A
--- record `NearX` has those of `X`, each by the name of the field that refuses it.
+-- record `NearX` has those of `X`, each by the name of the field that refuses it: all other fields
+-- hold.
 use Rattle.std.specs.Prelude.{◌≡◌, ℕ, List, [], ◌∷◌, codes, drop, None, Ok, Some}
 use Rattle.implib.specs.declared.machine.MachineType.TheVariants.{I386, AMD64, ARM64}
 use Rattle.implib.specs.Import.{Ask, Ordinal}
@@ -8,14 +9,11 @@ use Rattle.implib.specs.Members.ImportTables.{zeros}
 use Rattle.implib_dll.specs.Digits.{changed}
 use Rattle.implib_dll.specs.WorkedFiles.{worked_pe32}
 use Rattle.implib_image.specs.Files.{DataDirectory, LoadsFile, MappedFile, mapped_file}
-use Rattle.implib_image.specs.Laws.{HasTable, IsFileOf, IsInDirectory}
+use Rattle.implib_image.specs.Laws.{HasTable, IsInDirectory}
 use Rattle.implib_link.specs.Tables.{Table}
+use Rattle.implib_link_instances.specs.But.Images.{MissesIsFileOf, MissesIsInDirectory}
 use Rattle.implib_link_instances.specs.Worked.Files.{amd64_pdata, amd64_reloc, data_on, file_on, mapped_on, rdata_on, text_on}
 use Rattle.implib_link_instances.specs.Worked.LldPrograms.{lld_image_on}
-
--- what a file says of AMD64's tables
-abbrev pub IsAmd64File : List ℕ → MappedFile → Type 0
-IsAmd64File bytes file = IsFileOf AMD64 0x2000 (lld_image_on AMD64) bytes file
 
 -- the machine and the tables, of another number and with another first byte
 abbrev pub made_for_amd64 : MappedFile
@@ -35,18 +33,23 @@ with_other_tables = record (mapped_on AMD64) {
 -- are of 4 bytes; the import directory 4 bytes on, and at 0, as where there is none; the first byte
 -- of the tables
 pub record NearIsFileOf : Type 0 where
-  pub mapped : IsAmd64File (changed 0x78 0x51 (file_on AMD64)) (mapped_on AMD64) → ⊥
-  pub made_for : IsFileOf ARM64 0x2000 (lld_image_on AMD64) (file_on AMD64) (mapped_on AMD64) → ⊥
+  pub mapped : MissesIsFileOf (codes "mapped") AMD64 0x2000 (lld_image_on AMD64)
+      (changed 0x78 0x51 (file_on AMD64)) (mapped_on AMD64)
+  pub made_for : MissesIsFileOf (codes "made_for") ARM64 0x2000 (lld_image_on AMD64) (file_on AMD64)
+      (mapped_on AMD64)
   pub four : mapped_file (changed 0x7C 0x64 (changed 0x7D 0x86 (file_on I386))) ≡ Ok made_for_amd64
-  pub width : IsFileOf AMD64 0x2000 (lld_image_on I386)
+  pub width : MissesIsFileOf (codes "width") AMD64 0x2000 (lld_image_on I386)
       (changed 0x7C 0x64 (changed 0x7D 0x86 (file_on I386)))
-      made_for_amd64 → ⊥
-  pub directory : IsAmd64File (changed 0x108 4 (file_on AMD64))
-      (record (mapped_on AMD64) { imports = Some (record { address = 0x2004; size = 0x3C }) }) → ⊥
-  pub directory_none : IsAmd64File (changed 0x109 0 (file_on AMD64))
-      (record (mapped_on AMD64) { imports = Some (record { address = 0; size = 0x3C }) }) → ⊥
+      made_for_amd64
+  pub directory : MissesIsFileOf (codes "directory") AMD64 0x2000 (lld_image_on AMD64)
+      (changed 0x108 4 (file_on AMD64))
+      (record (mapped_on AMD64) { imports = Some (record { address = 0x2004; size = 0x3C }) })
+  pub directory_none : MissesIsFileOf (codes "directory") AMD64 0x2000 (lld_image_on AMD64)
+      (changed 0x109 0 (file_on AMD64))
+      (record (mapped_on AMD64) { imports = Some (record { address = 0; size = 0x3C }) })
   pub other : mapped_file (changed 0x600 0x41 (file_on AMD64)) ≡ Ok with_other_tables
-  pub holds : IsAmd64File (changed 0x600 0x41 (file_on AMD64)) with_other_tables → ⊥
+  pub holds : MissesIsFileOf (codes "holds") AMD64 0x2000 (lld_image_on AMD64)
+      (changed 0x600 0x41 (file_on AMD64)) with_other_tables
 
 -- a directory with the address tables, and a range in it, a byte in front of it and a byte past its
 -- end
@@ -68,8 +71,8 @@ two_entries = record {
 pub record NearIsInDirectory : Type 0 where
   pub first : IsInDirectory address_tables (eight_from 0x2068)
   pub last : IsInDirectory address_tables (eight_from 0x2088)
-  pub from : IsInDirectory address_tables (eight_from 0x2067) → ⊥
-  pub to : IsInDirectory address_tables (eight_from 0x2089) → ⊥
+  pub from : MissesIsInDirectory (codes "from") address_tables (eight_from 0x2067)
+  pub to : MissesIsInDirectory (codes "to") address_tables (eight_from 0x2089)
   -- of the table, in a directory with room for it, in one a byte shorter, and in one a byte behind
   pub table : HasTable 8 (record { address = 0x2068; size = 0x10 }) two_entries
   pub table_short : HasTable 8 (record { address = 0x2068; size = 0x0F }) two_entries → ⊥

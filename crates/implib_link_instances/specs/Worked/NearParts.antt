@@ -1,5 +1,6 @@
--- Near misses of parts, and of programs of them: the files of GNU dlltool for aaa.dll, changed in one thing. A record
--- `NearX` has those of `X`, each by the name of the field that refuses it.
+-- Near misses of parts, and of programs of them: the files of GNU dlltool for aaa.dll, changed in
+-- one thing. A record `NearX` has those of `X`, each by the name of the field that refuses it: all
+-- other fields hold.
 use Rattle.std.specs.Prelude.{ℕ, List, [], ◌∷◌, ◌++◌, Option, None, Some, bytes_eq, codes, map, if◌then◌else◌}
 use Rattle.implib.specs.declared.machine.MachineType.TheVariants.{AMD64}
 use Rattle.implib.specs.Formats.Constants.{class_external}
@@ -7,9 +8,13 @@ use Rattle.implib.specs.Formats.Object.{Object, ObjectSection, object_in}
 use Rattle.implib.specs.Members.Gnu.{section}
 use Rattle.implib.specs.Members.ImportTables.{relocation, table_flags, zeros}
 use Rattle.implib_link.specs.Gnu.Program.{null_descriptor}
-use Rattle.implib_link.specs.Parts.{IsEntry, IsHead, IsPart, IsProgramOfParts, IsTail, Part}
+use Rattle.implib_link.specs.Parts.{Part}
 use Rattle.implib_link.specs.Tables.{TableEntry}
-use Rattle.implib_link_instances.specs.Worked.OtherLibraries.{aaa_head_bytes, aaa_tail_bytes, aone_bytes, linker_bases, objects_of, zzz_objects}
+use Rattle.implib_link_instances.specs.But.Links.{MissesIsEntry, MissesIsHead, MissesIsPart}
+use Rattle.implib_link_instances.specs.But.Links.{MissesIsProgramOfParts, MissesIsTail}
+use Rattle.implib_link_instances.specs.Worked.OtherLibraries.{aaa_head_bytes, aaa_tail_bytes}
+use Rattle.implib_link_instances.specs.Worked.OtherLibraries.{aone_bytes, atwo_bytes, linker_bases}
+use Rattle.implib_link_instances.specs.Worked.OtherLibraries.{objects_of, zzz_objects}
 use Rattle.implib_link_instances.specs.Worked.Parts.{aaa_part, asking, zzz_part}
 use Rattle.implib_link_instances.specs.Worked.Programs.{code_object, symbol_of_class}
 
@@ -48,31 +53,48 @@ no_table = section (codes ".idata$9") table_flags [] []
 -- a descriptor; no lookup; an entry in a section that is aligned at 8; and another symbol, that of the code, and an
 -- older one, which the object has not
 pub record NearIsEntry : Type 0 where
-  pub descriptors : IsEntry AMD64 (with_more one_descriptor aone_object) aone → ⊥
-  pub lookup : IsEntry AMD64 (with_instead (codes ".idata$4") no_table aone_object) aone → ⊥
-  pub address : IsEntry AMD64
-      (with_instead (codes ".idata$5") (section (codes ".idata$5") 0xC040_0000 (zeros 8) (relocation AMD64 0 6 ∷ [])) aone_object)
-      aone → ⊥
-  pub symbol : IsEntry AMD64 aone_object (asking (codes "aone") 1 (codes "__imp_atwo")) → ⊥
-  pub symbol_of_code : IsEntry AMD64 aone_object (asking (codes "aone") 1 (codes "aone")) → ⊥
-  pub symbol_older : IsEntry AMD64 aone_object (asking (codes "aone") 1 (codes "___impaone")) → ⊥
+  pub descriptors : MissesIsEntry (codes "descriptors") AMD64
+      (with_more one_descriptor aone_object) aone
+  pub lookup : MissesIsEntry (codes "lookup") AMD64
+      (with_instead (codes ".idata$4") no_table aone_object) aone
+  pub address : MissesIsEntry (codes "address") AMD64
+      (with_instead (codes ".idata$5")
+      (section (codes ".idata$5") 0xC040_0000 (zeros 8) (relocation AMD64 0 6 ∷ [])) aone_object)
+      aone
+  pub symbol : MissesIsEntry (codes "symbol") AMD64 aone_object
+      (asking (codes "aone") 1 (codes "__imp_atwo"))
+  pub symbol_of_code : MissesIsEntry (codes "symbol") AMD64 aone_object
+      (asking (codes "aone") 1 (codes "aone"))
+  pub symbol_older : MissesIsEntry (codes "symbol") AMD64 aone_object
+      (asking (codes "aone") 1 (codes "___impaone"))
 
 -- a descriptor; and no null thunk in one of the tables
 pub record NearIsTail : Type 0 where
-  pub descriptors : IsTail AMD64 (with_more one_descriptor aaa_tail) → ⊥
-  pub lookup : IsTail AMD64 (with_instead (codes ".idata$4") no_table aaa_tail) → ⊥
-  pub address : IsTail AMD64 (with_instead (codes ".idata$5") no_table aaa_tail) → ⊥
+  pub descriptors : MissesIsTail (codes "descriptors") AMD64 (with_more one_descriptor aaa_tail)
+  pub lookup : MissesIsTail (codes "lookup") AMD64
+      (with_instead (codes ".idata$4") no_table aaa_tail)
+  pub address : MissesIsTail (codes "address") AMD64
+      (with_instead (codes ".idata$5") no_table aaa_tail)
 
 -- no descriptor; a thunk of the head's own in front of a table; and the name of another DLL
 pub record NearIsHead : Type 0 where
-  pub fields : IsHead AMD64 (with_instead (codes ".idata$2") no_table aaa_head) (aaa_tail ∷ []) (codes "aaa.dll") → ⊥
-  pub lookups : IsHead AMD64
-      (with_instead (codes ".idata$4") (section (codes ".idata$4") table_flags (zeros 8) []) aaa_head) (aaa_tail ∷ [])
-      (codes "aaa.dll") → ⊥
-  pub addresses : IsHead AMD64
-      (with_instead (codes ".idata$5") (section (codes ".idata$5") table_flags (zeros 8) []) aaa_head) (aaa_tail ∷ [])
-      (codes "aaa.dll") → ⊥
-  pub name : IsHead AMD64 aaa_head (aaa_tail ∷ []) (codes "zzz.dll") → ⊥
+  pub fields : MissesIsHead (codes "fields") AMD64
+      (with_instead (codes ".idata$2") no_table aaa_head) (aaa_tail ∷ []) (codes "aaa.dll")
+  pub lookups : MissesIsHead (codes "lookups") AMD64
+      (with_instead (codes ".idata$4") (section (codes ".idata$4") table_flags (zeros 8) [])
+      aaa_head)
+      (aaa_tail ∷ []) (codes "aaa.dll")
+  pub addresses : MissesIsHead (codes "addresses") AMD64
+      (with_instead (codes ".idata$5") (section (codes ".idata$5") table_flags (zeros 8) [])
+      aaa_head)
+      (aaa_tail ∷ []) (codes "aaa.dll")
+  pub name : MissesIsHead (codes "name") AMD64 aaa_head (aaa_tail ∷ []) (codes "zzz.dll")
+
+-- aaa.dll's without the tail
+abbrev pub endless_part : Part
+endless_part = record aaa_part {
+  objects = objects_of (aaa_head_bytes ∷ aone_bytes ∷ atwo_bytes ∷ []);
+}
 
 -- aaa.dll's with one export, whose `.idata$7` has a field and no bytes
 abbrev pub beyond_part : Part
@@ -86,8 +108,8 @@ beyond_part = record {
 
 -- a part without a tail, and one with a field beyond its section
 pub record NearIsPart : Type 0 where
-  pub objects : IsPart AMD64 (record aaa_part { objects = objects_of (aaa_head_bytes ∷ aone_bytes ∷ []) }) → ⊥
-  pub sized : IsPart AMD64 beyond_part → ⊥
+  pub objects : MissesIsPart (codes "objects") AMD64 endless_part
+  pub sized : MissesIsPart (codes "sized") AMD64 beyond_part
 
 -- an object of the program that defines `zone`, which zzz.dll exports
 abbrev pub own_zone : Object
@@ -95,7 +117,12 @@ own_zone = code_object (symbol_of_class (codes "zone") 1 class_external ∷ [])
 
 -- no null descriptor; zzz.dll twice; a `zone` of the program's own; and descriptors at no multiple of 4
 pub record NearIsProgramOfParts : Type 0 where
-  pub tables : IsProgramOfParts AMD64 linker_bases (zzz_part ∷ []) zzz_objects → ⊥
-  pub distinct : IsProgramOfParts AMD64 linker_bases (zzz_part ∷ zzz_part ∷ []) (zzz_objects ++ (zzz_objects ++ null_descriptor ∷ [])) → ⊥
-  pub others : IsProgramOfParts AMD64 linker_bases (zzz_part ∷ []) (own_zone ∷ (zzz_objects ++ null_descriptor ∷ [])) → ⊥
-  pub admissible : IsProgramOfParts AMD64 (record linker_bases { descriptors = 0x1FFE }) (zzz_part ∷ []) (zzz_objects ++ null_descriptor ∷ []) → ⊥
+  pub tables : MissesIsProgramOfParts (codes "tables") AMD64 linker_bases (zzz_part ∷ [])
+      zzz_objects
+  pub distinct : MissesIsProgramOfParts (codes "distinct") AMD64 linker_bases
+      (zzz_part ∷ zzz_part ∷ []) (zzz_objects ++ (zzz_objects ++ null_descriptor ∷ []))
+  pub others : MissesIsProgramOfParts (codes "others") AMD64 linker_bases (zzz_part ∷ [])
+      (own_zone ∷ (zzz_objects ++ null_descriptor ∷ []))
+  pub admissible : MissesIsProgramOfParts (codes "admissible") AMD64
+      (record linker_bases { descriptors = 0x1FFE }) (zzz_part ∷ [])
+      (zzz_objects ++ null_descriptor ∷ [])

@@ -11,7 +11,7 @@ ghost use Rattle.implib_link_instances.specs.Archives.NearMisses.{NearLldArrives
 ghost use Rattle.implib_link_instances.specs.Archives.NearMisses.{NearAreMembersAt};
 ghost use Rattle.implib_link_instances.specs.Archives.NearMisses.{NearHaveArchive, NearIsHeaderOf};
 ghost use Rattle.implib_link_instances.specs.Archives.NearMisses.{NearPullsInAt, WorkedIndexes};
-ghost use Rattle.implib_link_instances.specs.Archives.NearMisses.{WorkedReads};
+ghost use Rattle.implib_link_instances.specs.Archives.NearMisses.{NearTakesAt, WorkedReads};
 ghost use Rattle.implib_link_instances.specs.Archives.NearBothWay.{NearAreLinkedForBoth};
 ghost use Rattle.implib_link_instances.specs.Archives.NearBothWay.{NearBothArrive};
 ghost use Rattle.implib_link_instances.specs.Archives.Worked.{WorkedLibraries, WorkedSearches};
@@ -57,6 +57,7 @@ pub fn worked_both_way()
 /// headers that a search takes.
 pub fn near_misses_in_bytes()
     ensures pulls { NearPullsInAt }
+    ensures takes { NearTakesAt }
     ensures headers { NearIsHeaderOf }
     ensures archives { NearHaveArchive }
     ensures indexes { WorkedIndexes }

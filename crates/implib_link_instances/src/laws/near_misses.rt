@@ -68,9 +68,10 @@ ghost use Rattle.implib_link_instances.specs.Worked.NearTaken.{NearIsArranged};
 ghost use Rattle.implib_link_instances.specs.Worked.NearTaken.{NearIsImportedBy};
 ghost use Rattle.implib_link_instances.specs.Worked.NearTaken.{NearIsLinkedOfWanted, NearIsTaken};
 ghost use Rattle.implib_link_instances.specs.Worked.NearTaken.{NearRunLinks, NearTakesOfLibraries};
-ghost use Rattle.implib_link_instances.specs.Worked.NearTables.{NearAreAlike, NearBeginsWith};
+ghost use Rattle.implib_link_instances.specs.Worked.NearTables.{NearAreAlike, NearAreTables};
+ghost use Rattle.implib_link_instances.specs.Worked.NearTables.{NearBeginsWith};
 ghost use Rattle.implib_link_instances.specs.Worked.NearTables.{NearGetsAddress, NearHoldsAt};
-ghost use Rattle.implib_link_instances.specs.Worked.NearTables.{NearIsInEntry};
+ghost use Rattle.implib_link_instances.specs.Worked.NearTables.{NearIsInEntry, NearIsInTable};
 ghost use Rattle.implib_link_instances.specs.Worked.NearTables.{NearLieWithin};
 ghost use Rattle.implib_link_instances.specs.Worked.RefusedPredicates.{RefusedPredicates};
 
@@ -83,6 +84,8 @@ pub fn near_misses_of_tables()
     ensures holds { NearHoldsAt }
     ensures alike { NearAreAlike }
     ensures gets { NearGetsAddress }
+    ensures tables { NearAreTables }
+    ensures in_table { NearIsInTable }
 {}
 
 /// What is not said of archive searches: which members a name pulls in, and which weak externals
