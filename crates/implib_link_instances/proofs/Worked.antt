@@ -46,6 +46,7 @@ pub mod LldPrograms
 pub mod Stored
 pub mod Registered
 pub mod NearStored
+pub mod NearArrivals
 pub mod Files
 pub mod NearFiles
 pub mod Wanting
@@ -61,6 +62,7 @@ pub mod NearCode
 pub mod Instances
 pub mod NearLinks
 pub mod NearResults
+pub mod NearProgramLinks
 pub mod NearTaken
 pub mod FollowingPrograms
 pub mod A32
@@ -74,3 +76,4 @@ pub mod OtherNames
 pub mod ThirdTexts
 pub mod NearParts
 pub mod RefusedPredicates
+pub mod Following

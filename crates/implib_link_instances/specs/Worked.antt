@@ -43,6 +43,7 @@ pub mod LldPrograms
 pub mod Stored
 pub mod Registered
 pub mod NearStored
+pub mod NearArrivals
 pub mod Files
 pub mod NearFiles
 pub mod Wanting
@@ -70,3 +71,4 @@ pub mod OtherNames
 pub mod ThirdTexts
 pub mod NearParts
 pub mod RefusedPredicates
+pub mod Following

@@ -17,7 +17,7 @@ use Rattle.implib_link.specs.Search.MsvcArchives.{first_null}
 use Rattle.implib_link_instances.specs.Worked.BothFlavors.{foo_and_zed, mixed_bases, mixed_objects, zed_and_foo}
 use Rattle.implib_link_instances.specs.Worked.Calls.{given_on}
 use Rattle.implib_link_instances.specs.Worked.Closed.{choosing, foo_alias}
-use Rattle.implib_link_instances.proofs.Worked.BothFlavors.{near_links_closed_for_both, worked_both}
+use Rattle.implib_link_instances.proofs.Worked.BothFlavors.{nothing_closed, worked_both}
 use Rattle.implib_link_instances.proofs.Worked.Calls.{wide, worked_reading}
 use Rattle.implib_link_instances.proofs.Worked.NearMisses.{none_passes}
 use Rattle.implib_link_instances.proofs.Worked.NearPrograms.{no_eights}
@@ -199,7 +199,7 @@ near_both_arrive = record {
       ends = λ gives n written wide reads. absurd (nothing_read 8 gives n mixed_bases.descriptors written reads);
       calls = λ image_base codes targets gives n written i j p e c offset can at wide reads. absurd (nothing_read 8 gives n mixed_bases.descriptors written reads);
     },
-    λ x. near_links_closed_for_both.closed x.links,
+    λ x. nothing_closed x.links,
   );
   ends = λ x. let read = worked_reading.amd64_ends in differ 0 2 (sym (x.ends (given_on AMD64) 2 read.0 (wide AMD64) read.1)) (omega arith);
 }

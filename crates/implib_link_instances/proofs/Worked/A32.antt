@@ -1,11 +1,11 @@
 -- ARMNT's stubs by hand, by computing and by the law.
-use Rattle.std.proofs.Common.{◌≡◌, ℕ, ◌+◌, ◌^◌, List, [], ◌∷◌, ◌++◌, codes, length, Option, None, Some, refl, ap, sym, ◌∙◌, subst, inl, inr, arith, map}
+use Rattle.std.proofs.Common.{◌≡◌, ℕ, ◌+◌, ◌^◌, ◌<◌, true, List, [], ◌∷◌, ◌++◌, codes, length, Option, None, Some, refl, ap, sym, ◌∙◌, subst, inl, inr, arith, map}
 use Rattle.implib.specs.declared.coff.object.Relocation.{Relocation}
 use Rattle.implib.specs.declared.machine.MachineType.TheVariants.{ARMNT}
 use Rattle.implib.specs.Formats.Constants.{arm_rel32, class_external}
 use Rattle.implib.specs.Formats.Layout.{encoded_size}
 use Rattle.implib.specs.Link.Image.{AllApart, Range, byte_at}
-use Rattle.implib.specs.Link.Load.{NumberAt}
+use Rattle.implib.specs.Link.Load.{NumberAt, number_in}
 use Rattle.implib.specs.Members.GnuMembers.{alias_specs}
 use Rattle.implib.specs.Members.ImportTables.{zeros}
 use Rattle.implib.specs.Members.Members.{refusal, renamed_refusal}
@@ -17,8 +17,9 @@ use Rattle.implib_link.specs.Gnu.A32.{A32JumpReads, HoldDistances, distance_from
 use Rattle.implib_link.specs.Gnu.Fields.{AreBeside, DefinesIn, LinkedCode, field_at, placed_code}
 use Rattle.implib_link.specs.Gnu.Program.{has_tables}
 use Rattle.implib_link.specs.Flavors.Program.{IsProgram}
-use Rattle.implib_link.specs.Stub.{with_bits}
-use Rattle.implib_link_instances.specs.Worked.A32.{NearA32JumpReads, WorkedArmntStub, WorkedArmntStubs, a32_code, armnt_memory, armnt_stub, armnt_targets, entry_address, two_loads}
+use Rattle.implib_link.specs.Stub.{bits_of, with_bits}
+use Rattle.implib_link_instances.specs.But.Links.{MissesA32JumpReads}
+use Rattle.implib_link_instances.specs.Worked.A32.{NearA32JumpReads, WorkedArmntStub, WorkedArmntStubs, a32_code, armnt_memory, armnt_stub, armnt_targets, before_entry, entry_address, two_loads}
 use Rattle.implib_link_instances.specs.Worked.Jumps.{far_4}
 use Rattle.implib_link_instances.specs.Worked.Loads.{gives_by_hand}
 use Rattle.implib_link_instances.specs.Worked.Programs.{both_inputs, foo_input, program_image, program_objects, program_placed, symbol_of_class, symbol_on, touching_4}
@@ -33,7 +34,7 @@ use Rattle.implib_link_instances.proofs.Worked.Programs.{opened, worked_programs
 use Rattle.implib_link.proofs.Gnu.Memory.{byte_first}
 use Rattle.implib_link_instances.proofs.Worked.Instances.{put_last}
 use Rattle.implib_link_instances.proofs.Worked.Rebased.{resolves_by_tables}
-use Rattle.implib_link_instances.proofs.Worked.RefusedLinks.{are_located, differ, number}
+use Rattle.implib_link_instances.proofs.Worked.RefusedLinks.{are_located, differ, is_each_located, number}
 use Rattle.implib_link.specs.Flavors.Program.{OfLinker, gnu_input}
 
 -- The premises.
@@ -189,48 +190,75 @@ worked_armnt_stubs = record {
 
 -- Code that is no such jump.
 
+-- `ldr ip, [pc]` and `ldr pc, [ip]`
+abbrev loading_ip : List ℕ
+loading_ip = 0 ∷ 0xC0 ∷ 0x9F ∷ 0xE5 ∷ []
+
+abbrev loading_pc : List ℕ
+loading_pc = 0 ∷ 0xF0 ∷ 0x9C ∷ 0xE5 ∷ []
+
 -- the first instruction is another one
 not_load : (bytes : List ℕ) (word rest reads : ℕ) → NumberAt (a32_code bytes) 4 0x1000 word → with_bits 0 12 0 word ≡ rest → (rest ≡ 0xE59F_C000 → ⊥) → A32JumpReads (a32_code bytes) 0x1000 reads → ⊥
 not_load bytes word rest reads there is other x =
     let same : word ≡ x.load = number_once (a32_code bytes) 4 0x1000 word x.load there x.load_there in
     other (sym is ∙ ap (with_bits 0 12 0) same ∙ x.is_load)
 
+-- one that reads behind the two instructions, too, is the only thing that is otherwise
+misses_load : (first : List ℕ) (word : ℕ) → is_each_located (before_entry (first ++ loading_pc)) 0x1000 first ≡ true → length first ≡ 4 → number_in first ≡ word → bits_of 0 12 word ≡ 0 → with_bits 0 12 0 word < 0xE59F_C000 →
+    is_each_located (before_entry (first ++ loading_pc)) 0x1004 loading_pc ≡ true → is_each_located (before_entry (first ++ loading_pc)) 0x1008 entry_address ≡ true → MissesA32JumpReads (codes "is_load") (before_entry (first ++ loading_pc)) 0x1000 0x40_0060
+misses_load first word located four value none other jump literal =
+    let memory : List Range = before_entry (first ++ loading_pc) in
+    let there : NumberAt memory 4 0x1000 word = number memory 4 0x1000 word first located four value in
+    let behind : 0x1008 ≡ 0x1000 + 8 + bits_of 0 12 word = omega arith in (
+      record { load = word; load_there = there; is_load = tt; literal_there = subst (λ a. NumberAt memory 4 a 0x40_0060) behind (number memory 4 0x1008 0x40_0060 entry_address literal refl refl); jump_there = number memory 4 0x1004 0xE59C_F000 loading_pc jump refl refl },
+      not_load ((first ++ loading_pc) ++ entry_address) word (with_bits 0 12 0 word) 0x40_0060 there refl (λ is. differ (with_bits 0 12 0 word) 0xE59F_C000 is other),
+    )
+
 -- and the second one
 not_jump : (bytes : List ℕ) (word reads : ℕ) → NumberAt (a32_code bytes) 4 0x1004 word → (word ≡ 0xE59C_F000 → ⊥) → A32JumpReads (a32_code bytes) 0x1000 reads → ⊥
 not_jump bytes word reads there other x = other (number_once (a32_code bytes) 4 0x1004 word 0xE59C_F000 there x.jump_there)
+
+misses_jump : (second : List ℕ) (word : ℕ) → is_each_located (before_entry (loading_ip ++ second)) 0x1004 second ≡ true → length second ≡ 4 → number_in second ≡ word → (word ≡ 0xE59C_F000 → ⊥) →
+    is_each_located (before_entry (loading_ip ++ second)) 0x1000 loading_ip ≡ true → is_each_located (before_entry (loading_ip ++ second)) 0x1008 entry_address ≡ true → MissesA32JumpReads (codes "jump_there") (before_entry (loading_ip ++ second)) 0x1000 0x40_0060
+misses_jump second word located four value other load literal =
+    let memory : List Range = before_entry (loading_ip ++ second) in (
+      record { load = 0xE59F_C000; load_there = number memory 4 0x1000 0xE59F_C000 loading_ip load refl refl; is_load = refl; literal_there = number memory 4 0x1008 0x40_0060 entry_address literal refl refl; jump_there = tt },
+      not_jump ((loading_ip ++ second) ++ entry_address) word 0x40_0060 (number memory 4 0x1004 word second located four value) other,
+    )
 
 no_first : (o : Option ℕ) (b : ℕ) → o ≡ None → o ≡ Some b → ⊥
 no_first o b none some = let both : None ≡ Some b = sym none ∙ some in cc
 
 pub near_a32_jump_reads : NearA32JumpReads
 near_a32_jump_reads = record {
-  load_there = λ x.
+  load_there = (
+    let memory : List Range = record { start = 0x1004; bytes = 0 ∷ 0xF0 ∷ 0x9C ∷ 0xE5 ∷ entry_address } ∷ [] in
+    record { load = 0xE59F_C000; load_there = tt; is_load = refl; literal_there = number memory 4 0x1008 0x40_0060 entry_address refl refl refl; jump_there = number memory 4 0x1004 0xE59C_F000 loading_pc refl refl refl },
+    λ x.
       let count : length x.load_there.bytes ≡ 4 = x.load_there.count in
       let memory : List Range = record { start = 0x1004; bytes = 0 ∷ 0xF0 ∷ 0x9C ∷ 0xE5 ∷ entry_address } ∷ [] in
       let first = byte_first memory x.load_there.bytes 0x1000 x.load_there.located (omega arith) in
-      no_first (byte_at memory 0x1000) first.0 refl first.1;
-  is_load = not_load (0 ∷ 0 ∷ 0x9F ∷ 0xE5 ∷ 0 ∷ 0xF0 ∷ 0x9C ∷ 0xE5 ∷ entry_address) 0xE59F0000 0xE59F0000 0x40_0060
-      (number (a32_code (0 ∷ 0 ∷ 0x9F ∷ 0xE5 ∷ 0 ∷ 0xF0 ∷ 0x9C ∷ 0xE5 ∷ entry_address)) 4 0x1000 0xE59F0000 (0 ∷ 0 ∷ 0x9F ∷ 0xE5 ∷ []) refl refl refl) refl (λ is. differ 0xE59F0000 0xE59F_C000 is (omega arith));
-  is_load_back = not_load (0 ∷ 0xC0 ∷ 0x1F ∷ 0xE5 ∷ 0 ∷ 0xF0 ∷ 0x9C ∷ 0xE5 ∷ entry_address) 0xE51FC000 0xE51FC000 0x40_0060
-      (number (a32_code (0 ∷ 0xC0 ∷ 0x1F ∷ 0xE5 ∷ 0 ∷ 0xF0 ∷ 0x9C ∷ 0xE5 ∷ entry_address)) 4 0x1000 0xE51FC000 (0 ∷ 0xC0 ∷ 0x1F ∷ 0xE5 ∷ []) refl refl refl) refl (λ is. differ 0xE51FC000 0xE59F_C000 is (omega arith));
-  is_load_sometimes = not_load (0 ∷ 0xC0 ∷ 0x9F ∷ 0x15 ∷ 0 ∷ 0xF0 ∷ 0x9C ∷ 0xE5 ∷ entry_address) 0x159FC000 0x159FC000 0x40_0060
-      (number (a32_code (0 ∷ 0xC0 ∷ 0x9F ∷ 0x15 ∷ 0 ∷ 0xF0 ∷ 0x9C ∷ 0xE5 ∷ entry_address)) 4 0x1000 0x159FC000 (0 ∷ 0xC0 ∷ 0x9F ∷ 0x15 ∷ []) refl refl refl) refl (λ is. differ 0x159FC000 0xE59F_C000 is (omega arith));
-  is_load_of_ip = not_load (0 ∷ 0xC0 ∷ 0x9C ∷ 0xE5 ∷ 0 ∷ 0xF0 ∷ 0x9C ∷ 0xE5 ∷ entry_address) 0xE59CC000 0xE59CC000 0x40_0060
-      (number (a32_code (0 ∷ 0xC0 ∷ 0x9C ∷ 0xE5 ∷ 0 ∷ 0xF0 ∷ 0x9C ∷ 0xE5 ∷ entry_address)) 4 0x1000 0xE59CC000 (0 ∷ 0xC0 ∷ 0x9C ∷ 0xE5 ∷ []) refl refl refl) refl (λ is. differ 0xE59CC000 0xE59F_C000 is (omega arith));
-  literal_there = λ x.
+      no_first (byte_at memory 0x1000) first.0 refl first.1,
+  );
+  is_load = misses_load (0 ∷ 0 ∷ 0x9F ∷ 0xE5 ∷ []) 0xE59F_0000 refl refl refl refl (omega arith) refl refl;
+  is_load_back = misses_load (0 ∷ 0xC0 ∷ 0x1F ∷ 0xE5 ∷ []) 0xE51F_C000 refl refl refl refl (omega arith) refl refl;
+  is_load_sometimes = misses_load (0 ∷ 0xC0 ∷ 0x9F ∷ 0x15 ∷ []) 0x159F_C000 refl refl refl refl (omega arith) refl refl;
+  is_load_of_ip = misses_load (0 ∷ 0xC0 ∷ 0x9C ∷ 0xE5 ∷ []) 0xE59C_C000 refl refl refl refl (omega arith) refl refl;
+  literal_there = (
+    let memory : List Range = a32_code (two_loads ++ (zeros 4 ++ entry_address)) in
+    record { load = 0xE59F_C000; load_there = number memory 4 0x1000 0xE59F_C000 loading_ip refl refl refl; is_load = refl; literal_there = tt; jump_there = number memory 4 0x1004 0xE59C_F000 loading_pc refl refl refl },
+    λ x.
       let memory : List Range = a32_code (two_loads ++ (zeros 4 ++ entry_address)) in
       let zero_read : A32JumpReads memory 0x1000 0 = record {
         load = 0xE59F_C000;
-        load_there = number memory 4 0x1000 0xE59F_C000 (0 ∷ 0xC0 ∷ 0x9F ∷ 0xE5 ∷ []) refl refl refl;
+        load_there = number memory 4 0x1000 0xE59F_C000 loading_ip refl refl refl;
         is_load = refl;
         literal_there = number memory 4 0x1008 0 (0 ∷ 0 ∷ 0 ∷ 0 ∷ []) refl refl refl;
-        jump_there = number memory 4 0x1004 0xE59C_F000 (0 ∷ 0xF0 ∷ 0x9C ∷ 0xE5 ∷ []) refl refl refl;
+        jump_there = number memory 4 0x1004 0xE59C_F000 loading_pc refl refl refl;
       } in
-      differ 0 0x40_0060 (jumps_once memory 0x1000 0 0x40_0060 zero_read x) (omega arith);
-  jump_there = not_jump (0 ∷ 0xC0 ∷ 0x9F ∷ 0xE5 ∷ 0x1C ∷ 0xFF ∷ 0x2F ∷ 0xE1 ∷ entry_address) 0xE12FFF1C 0x40_0060
-      (number (a32_code (0 ∷ 0xC0 ∷ 0x9F ∷ 0xE5 ∷ 0x1C ∷ 0xFF ∷ 0x2F ∷ 0xE1 ∷ entry_address)) 4 0x1004 0xE12FFF1C (0x1C ∷ 0xFF ∷ 0x2F ∷ 0xE1 ∷ []) refl refl refl) (λ is. differ 0xE12FFF1C 0xE59C_F000 is (omega arith));
-  jump_there_further = not_jump (0 ∷ 0xC0 ∷ 0x9F ∷ 0xE5 ∷ 4 ∷ 0xF0 ∷ 0x9C ∷ 0xE5 ∷ entry_address) 0xE59CF004 0x40_0060
-      (number (a32_code (0 ∷ 0xC0 ∷ 0x9F ∷ 0xE5 ∷ 4 ∷ 0xF0 ∷ 0x9C ∷ 0xE5 ∷ entry_address)) 4 0x1004 0xE59CF004 (4 ∷ 0xF0 ∷ 0x9C ∷ 0xE5 ∷ []) refl refl refl) (λ is. differ 0xE59C_F000 0xE59CF004 (sym is) (omega arith));
-  jump_there_to_r0 = not_jump (0 ∷ 0xC0 ∷ 0x9F ∷ 0xE5 ∷ 0 ∷ 0 ∷ 0x9C ∷ 0xE5 ∷ entry_address) 0xE59C0000 0x40_0060
-      (number (a32_code (0 ∷ 0xC0 ∷ 0x9F ∷ 0xE5 ∷ 0 ∷ 0 ∷ 0x9C ∷ 0xE5 ∷ entry_address)) 4 0x1004 0xE59C0000 (0 ∷ 0 ∷ 0x9C ∷ 0xE5 ∷ []) refl refl refl) (λ is. differ 0xE59C0000 0xE59C_F000 is (omega arith));
+      differ 0 0x40_0060 (jumps_once memory 0x1000 0 0x40_0060 zero_read x) (omega arith),
+  );
+  jump_there = misses_jump (0x1C ∷ 0xFF ∷ 0x2F ∷ 0xE1 ∷ []) 0xE12F_FF1C refl refl refl (λ is. differ 0xE12F_FF1C 0xE59C_F000 is (omega arith)) refl refl;
+  jump_there_further = misses_jump (4 ∷ 0xF0 ∷ 0x9C ∷ 0xE5 ∷ []) 0xE59C_F004 refl refl refl (λ is. differ 0xE59C_F000 0xE59C_F004 (sym is) (omega arith)) refl refl;
+  jump_there_to_r0 = misses_jump (0 ∷ 0 ∷ 0x9C ∷ 0xE5 ∷ []) 0xE59C_0000 refl refl refl (λ is. differ 0xE59C_0000 0xE59C_F000 is (omega arith)) refl refl;
 }

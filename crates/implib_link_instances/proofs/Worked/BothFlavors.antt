@@ -1,5 +1,5 @@
 -- The closed program of both flavours that was linked by hand, and near misses of it, by computing and by the laws.
-use Rattle.std.proofs.Common.{◌≡◌, ℕ, ◌+◌, ◌*◌, ◌⊎◌, Bool, true, false, List, [], ◌∷◌, ◌++◌, codes, length, map, Some, refl, ap, sym, ◌∙◌, subst, inl, inr, arith}
+use Rattle.std.proofs.Common.{◌≡◌, ℕ, ◌+◌, ◌*◌, ◌⊎◌, Bool, true, false, List, [], ◌∷◌, ◌++◌, codes, length, map, None, Some, refl, ap, sym, ◌∙◌, subst, inl, inr, arith}
 use Rattle.std.specs.Prelude.{bytes_eq, not, slice_get, IsPermutation, ◌<◌}
 use Rattle.std.specs.List.{AllByRecursion, Contains, flat_map, list_all, list_any, filter}
 use Rattle.std.proofs.lemmas.Bool.{and_parts, not-true, true≢false}
@@ -16,21 +16,23 @@ use Rattle.implib.specs.Members.ImportTables.{thunk_width}
 use Rattle.implib.specs.Members.MemberSpec.{MemberView}
 use Rattle.implib.specs.Members.Msvc.{short_import_symbols}
 use Rattle.implib.specs.Members.MsvcObjects.{null_descriptor_symbol, descriptor_symbol}
+use Rattle.implib.specs.Worked.Members.{of_dll}
 use Rattle.implib.specs.Worked.Statements.{plain_export}
+use Rattle.implib.specs.declared.flavor.Flavor.TheVariants.{Msvc}
 use Rattle.implib.proofs.Link.LinkedMembers.{among_contains, among_map}
 use Rattle.implib.proofs.Link.Ranges.{Among, all_among, among_back, among_front}
-use Rattle.implib_link.specs.Flavors.Program.{FlavorInput, exports_chosen, objects_taken, symbol_in, thunks_of, all_members}
+use Rattle.implib_link.specs.Flavors.Program.{FlavorInput, exports_chosen, objects_taken, symbol_in, thunks_of, all_members, IsProgramOf, OfMember, IsMadeFor, gnu_input}
 use Rattle.implib_link.specs.Gnu.Packed.{group_end, packed_end, sections_end}
 use Rattle.implib_link.specs.Gnu.Program.{ClaimsNone, claimed_names, has_tables, HaveSame}
 use Rattle.implib_link.specs.Search.Archives.{IsArchive, symbols_of_library, IsLibrary}
-use Rattle.implib_link.specs.Search.BothFlavors.{AreClosedForBoth, AreGivenForBoth, FlavorLibrary, IsClosedForBoth, IsFlavorArchive, NamesNoMembers, archive_of_both, gnu_among, kept_of_both, msvc_among, inputs_of_both}
-use Rattle.implib_link.specs.Search.Closed.{listed_in, unresolved}
+use Rattle.implib_link.specs.Search.BothFlavors.{AreClosedForBoth, AreGivenForBoth, FlavorLibrary, IsClosedForBoth, IsFlavorArchive, IsImportedOfBoth, NamesNoMembers, archive_of_both, gnu_among, kept_of_both, msvc_among, inputs_of_both, LinksClosedForBoth}
+use Rattle.implib_link.specs.Search.Closed.{listed_in, unresolved, AreTakenIntoAs}
 use Rattle.implib_link.specs.Search.Msvc.{TakesFor, left_in}
-use Rattle.implib_link.specs.Search.MsvcArchives.{IsMsvcArchive, first_null, symbols_of_all_shorts, symbols_of_shorts, wanted_with_weak, IsMsvcLibrary, short_inputs, weak_in, PullsIntoFor, TakesIntoFor, wanted_for}
+use Rattle.implib_link.specs.Search.MsvcArchives.{IsMsvcArchive, first_null, symbols_of_all_shorts, symbols_of_shorts, wanted_with_weak, IsMsvcLibrary, short_inputs, weak_in, PullsIntoFor, TakesIntoFor, wanted_for, IsWeakTaken}
 use Rattle.implib_link.specs.Search.Search.{undefined_in, left_as, AreTakenInTurnAs}
-use Rattle.implib_link_instances.specs.Worked.BothFlavors.{NearAreClosedForBoth, NearAreGivenForBoth, NearIsClosedForBoth, NearIsFlavorArchive, NearIsImportedOfBoth, NearIsUsedIn, NearLinksClosedForBoth, NearNamesNoMembers, NearTakesOfBoth, WorkedBoth, WorkedGivenForBoth, foo_and_zed, mixed_bases, mixed_inputs, mixed_objects, mixed_taken, mixed_without_last, zed_and_foo}
+use Rattle.implib_link_instances.specs.Worked.BothFlavors.{NearAreClosedForBoth, NearAreGivenForBoth, NearIsClosedForBoth, NearIsFlavorArchive, NearIsImportedOfBoth, NearIsUsedIn, NearLinksClosedForBoth, NearNamesNoMembers, NearTakesOfBoth, WorkedBoth, WorkedGivenForBoth, foo_and_zed, gnu_zed, mixed_bases, mixed_inputs, mixed_objects, mixed_taken, mixed_without_last, mixed_asking, short_zed, spread_bases, zed_and_foo}
 use Rattle.implib_link_instances.specs.Worked.Closed.{choosing, clashing, foo_alias, foo_linked}
-use Rattle.implib_link_instances.specs.Worked.MsvcArchives.{thunk_named}
+use Rattle.implib_link_instances.specs.Worked.MsvcArchives.{msvc_zed, null_named, thunk_named}
 use Rattle.implib_link_instances.specs.Worked.MsvcClosed.{zed_members}
 use Rattle.implib_link_instances.specs.Worked.NearSearches.{again}
 use Rattle.implib_link.proofs.Search.Taken.{both_taken}
@@ -42,13 +44,17 @@ use Rattle.implib_link_instances.proofs.Worked.NearMisses.{in_one_alone, none_pa
 use Rattle.implib_link_instances.proofs.Worked.NearPrograms.{no_eights}
 use Rattle.implib_link_instances.proofs.Worked.NearResults.{more_taken, no_length, no_order, none_taken}
 use Rattle.implib_link_instances.proofs.Worked.NearSearches.{none_in, not_address, searched, twice, weak_data, weak_short}
-use Rattle.implib_link_instances.proofs.Worked.Programs.{claims_none_by, distinct_by, all_differ}
+use Rattle.implib_link_instances.proofs.Worked.Programs.{admissible_by, claims_none_by, distinct_by, all_differ}
 use Rattle.implib_link_instances.proofs.Worked.RefusedLinks.{differ}
 use Rattle.implib_link.specs.Flavors.Expansion.{descriptor_symbol_by_name, expanded_in}
 use Rattle.implib.specs.LibraryName.{linked_dll}
 use Rattle.implib.specs.declared.machine.MachineType.{MachineType}
 use Rattle.implib_link_instances.proofs.Worked.Search.{takes_by}
 use Rattle.implib_link_instances.proofs.Worked.Searched.{below_limit}
+use Rattle.implib_link_instances.proofs.Worked.Flavors.{flavor_objects_by}
+use Rattle.implib_link_instances.specs.Worked.Archives.{library_of}
+use Rattle.implib_link_instances.specs.Worked.Search.{aliased}
+use Rattle.implib_link.proofs.Flavors.Program.{program_links}
 
 abbrev own : List Object
 own = choosing ∷ []
@@ -222,27 +228,39 @@ worked_given_for_both = record { given = given; kept = refl; wants = omega arith
 pub near_are_given_for_both : NearAreGivenForBoth
 unfolding searched
 near_are_given_for_both = record {
-  claims = λ x.
+  claims = (record { claims = tt; names = given.names },
+    λ x.
       let kept : List (List ℕ) = kept_of_both AMD64 foo_and_zed (clashing ∷ []) in
-      true≢false (all_among (λ name. list_any (bytes_eq name) (claimed_names clashing) ≡ false) (codes "queue") (kept_of_both AMD64 foo_and_zed (clashing ∷ [])) (any_among (codes "queue") kept refl) x.claims.0);
+      true≢false (all_among (λ name. list_any (bytes_eq name) (claimed_names clashing) ≡ false) (codes "queue") (kept_of_both AMD64 foo_and_zed (clashing ∷ [])) (any_among (codes "queue") kept refl) x.claims.0));
+}
+
+zed_of_gnu : IsArchive AMD64 (gnu_among (gnu_zed ∷ short_zed ∷ []))
+unfolding searched
+zed_of_gnu = record {
+  made = (record { accepted = refl; made = refl; ordinals = refl }, tt);
+  distinct = distinct_by (flat_map (symbols_of_library AMD64) (gnu_among (gnu_zed ∷ short_zed ∷ []))) refl;
 }
 
 pub near_is_flavor_archive : NearIsFlavorArchive
 unfolding searched
-near_is_flavor_archive = record { apart = λ x. true≢false x.apart.1.1.0 }
+near_is_flavor_archive = record { apart = (record { gnu = zed_of_gnu; msvc = msvc_archive; apart = tt }, λ x. true≢false x.apart.1.1.0) }
 
 pub near_names_no_members : NearNamesNoMembers
 unfolding searched
-near_names_no_members = record { gnu = λ x. true≢false x.gnu.0.head; msvc = λ x. true≢false x.msvc.0.null_descriptor }
+near_names_no_members = record {
+  gnu = (record { gnu = tt; msvc = (record { descriptor = refl; null_descriptor = refl; null_thunk = refl }, tt) }, λ x. true≢false x.gnu.0.head);
+  msvc = (record { gnu = (record { head = refl; name = refl }, tt); msvc = tt }, λ x. true≢false x.msvc.0.null_descriptor);
+}
 
 pub near_takes_of_both : NearTakesOfBoth
 unfolding searched
 near_takes_of_both = record {
-  inputs = λ x. none_in _ ((x.inputs _).1 (0, omega arith, refl));
-  weak = λ x. elim x.weak.0 [
-    | inl short ↦ weak_short (msvc_among foo_and_zed) (wanted_with_weak AMD64 (codes "__imp_queue" ∷ []) mixed_taken) foo_alias refl short
-    | inr data_alias ↦ weak_data (gnu_among foo_and_zed) (wanted_with_weak AMD64 (codes "__imp_queue" ∷ []) mixed_taken) foo_alias refl data_alias
-  ];
+  inputs = (record { inputs = tt; weak = tt }, λ x. none_in _ ((x.inputs _).1 (0, omega arith, refl)));
+  weak = (record { inputs = worked_both.just.inputs; weak = tt },
+    λ x. elim x.weak.0 [
+      | inl short ↦ weak_short (msvc_among foo_and_zed) (wanted_with_weak AMD64 (codes "__imp_queue" ∷ []) mixed_taken) foo_alias refl short
+      | inr data_alias ↦ weak_data (gnu_among foo_and_zed) (wanted_with_weak AMD64 (codes "__imp_queue" ∷ []) mixed_taken) foo_alias refl data_alias
+    ]);
 }
 
 one_null : length (objects_taken AMD64 (first_null AMD64 (msvc_among foo_and_zed))) ≡ 1
@@ -257,32 +275,65 @@ no_main : Contains (objects_taken AMD64 (foo_alias ∷ [])) choosing → ⊥
 unfolding searched is_main
 no_main held = none_passes is_main choosing (objects_taken AMD64 (foo_alias ∷ [])) refl held refl
 
-pub near_are_closed_for_both : NearAreClosedForBoth
+-- the two libraries in the other order
+turned : IsPermutation foo_and_zed zed_and_foo
+turned = record { moves = (0, 1) ∷ []; below = (omega arith, omega arith, tt); is = refl }
+
+-- an object with a `queue` of its own, for which the same is taken, and what is linked with it
+abbrev clashing_objects : List Object
+clashing_objects = clashing ∷ objects_taken AMD64 (foo_alias ∷ (zed_members ++ null_named (codes "zed.dll") ∷ foo_linked))
+
+clashing_apart : (name : List ℕ) → Among name (flat_map undefined_in (objects_taken AMD64 mixed_taken)) → Among name (flat_map claimed_names (clashing ∷ [])) → ⊥
 unfolding searched
+clashing_apart name left = claims_apart (left_in AMD64 mixed_taken) (clashing ∷ []) (claims_none_by (left_in AMD64 mixed_taken) clashing refl, tt) name left
+
+clashing_takes : TakesIntoFor AMD64 (archive_of_both foo_and_zed) (clashing ∷ []) mixed_taken
+unfolding searched
+clashing_takes = takes_into (expanded_in AMD64) members (clashing ∷ []) mixed_taken clashing_apart takes_wanted
+
+-- a given object and the alias
+own_and_alias : (o : Object) → HaveSame (o ∷ objects_taken AMD64 (foo_alias ∷ [])) (o ∷ objects_taken AMD64 (foo_alias ∷ []))
+own_and_alias o = same_elements (o ∷ objects_taken AMD64 (foo_alias ∷ [])) (o ∷ objects_taken AMD64 (foo_alias ∷ [])) refl
+
+pub near_are_closed_for_both : NearAreClosedForBoth
+unfolding searched AreTakenIntoAs
 near_are_closed_for_both = record {
-  some = λ x. no_length 0 refl x.some;
-  order = λ x. no_order _ _ x.order;
-  others = λ x. no_main ((x.others choosing).1 (0, omega arith, refl));
-  tables = λ x. none_taken x.before (first_null AMD64 (msvc_among foo_and_zed)) x.behind one_null x.tables;
-  members = λ x. more_taken x.before (first_null AMD64 (msvc_among foo_and_zed)) x.behind _ one_null (ap (λ ms. length (objects_taken AMD64 ms)) x.members) (omega arith) (ap length x.tables);
+  some = (record {
+    takes = record { in_turn = tt; ended = λ name m x. none_in name x.named };
+    some = tt;
+    order = record { moves = []; below = tt; is = refl };
+    others = same_elements [] [] refl;
+    before = [];
+    behind = [];
+    members = refl;
+    tables = refl;
+    claims = tt;
+    names = record { gnu = (record { head = refl; name = refl }, tt); msvc = tt };
+  },
+    λ x. no_length 0 refl x.some);
+  order = (record { takes = takes; some = omega arith; order = tt; others = own_and_alias choosing; before = []; behind = []; members = refl; tables = refl; claims = claims; names = names },
+    λ x. no_order _ _ x.order);
+  others = (record { takes = takes; some = omega arith; order = turned; others = tt; before = zed_members; behind = foo_linked; members = refl; tables = refl; claims = claims; names = names },
+    λ x. no_main ((x.others choosing).1 (0, omega arith, refl)));
+  tables = (record { takes = takes; some = omega arith; order = turned; others = own_and_alias choosing; before = zed_members; behind = foo_linked; members = refl; tables = tt; claims = claims; names = names },
+    λ x. none_taken x.before (first_null AMD64 (msvc_among foo_and_zed)) x.behind one_null x.tables);
+  members = (record { takes = takes; some = omega arith; order = turned; others = own_and_alias choosing; before = []; behind = []; members = tt; tables = refl; claims = claims; names = names },
+    λ x. more_taken x.before (first_null AMD64 (msvc_among foo_and_zed)) x.behind _ one_null (ap (λ ms. length (objects_taken AMD64 ms)) x.members) (omega arith) (ap length x.tables));
+  claims = (record { takes = clashing_takes; some = omega arith; order = turned; others = own_and_alias clashing; before = zed_members; behind = foo_linked; members = refl; tables = refl; claims = tt; names = names },
+    clashes zed_and_foo clashing_objects);
 }
 
 descriptors_end : group_end Descriptors 0x2000 mixed_objects ≡ 0x2028
 unfolding searched group_end sections_end
 descriptors_end = refl
 
-descriptors_begin : mixed_bases.descriptors ≡ 0x2000
-unfolding next_multiple
-descriptors_begin = refl
-
 pub near_is_closed_for_both : NearIsClosedForBoth
+unfolding searched
 near_is_closed_for_both = record {
-  admissible = λ x. no_length 0 refl x.admissible.hint_names.0;
-  lookups = λ x. no_eights 0x2044 x.lookups refl;
-  addresses = λ x. no_eights 0x2044 x.addresses refl;
-  follows = λ x.
-      let at : group_end Descriptors mixed_bases.descriptors mixed_objects ≡ 0x2028 = ap (λ n. group_end Descriptors n mixed_objects) descriptors_begin ∙ descriptors_end in
-      differ 0x2028 0x2030 (sym at ∙ sym x.follows) (omega arith);
+  admissible = (record { closed = closed_objects; admissible = tt; lookups = closed.lookups; addresses = closed.addresses; follows = closed.follows }, λ x. no_length 0 refl x.admissible.hint_names.0);
+  lookups = (record { closed = closed_objects; admissible = admissible_by refl refl; lookups = tt; addresses = refl; follows = sym descriptors_end }, λ x. no_eights 0x2044 x.lookups refl);
+  addresses = (record { closed = closed_objects; admissible = admissible_by refl refl; lookups = refl; addresses = tt; follows = sym descriptors_end }, λ x. no_eights 0x2084 x.addresses refl);
+  follows = (record { closed = closed_objects; admissible = admissible_by refl refl; lookups = refl; addresses = refl; follows = tt }, λ x. differ 0x2028 0x202C (sym descriptors_end ∙ sym x.follows) (omega arith));
 }
 
 queue_twice : length (definitions_of (codes "queue") (again ∷ placed_from mixed_bases mixed_objects)) ≡ 2
@@ -318,14 +369,31 @@ no_printf : list_any (has_symbol (codes "printf")) mixed_inputs ≡ false
 unfolding searched has_symbol
 no_printf = refl
 
+no_printf_imported : IsImportedOfBoth AMD64 (again ∷ []) mixed_bases mixed_inputs (codes "printf") → ⊥
+no_printf_imported x =
+    no_symbol mixed_inputs (codes "printf") x.number x.index x.input x.export no_printf refl x.input_is x.export_is
+    (own_symbol (again ∷ []) (mixed_bases.addresses + thunk_width AMD64 * thunks_of x.number mixed_inputs + thunk_width AMD64 * x.index) (symbol_in x.input.flavor x.export) x.export.is_data x.by)
+
+printf_once : IsDefinedOnce (again ∷ []) (codes "printf")
+unfolding searched
+printf_once = (record { name = codes "printf"; address = None }, refl)
+
+-- what is linked of zed.dll; and what would be, had it `printf` alone
+abbrev zed_linked : FlavorInput
+zed_linked = record { flavor = Msvc; input = record { definition = msvc_zed.definition; members = msvc_zed.members; chosen = 0 ∷ [] } }
+
+abbrev printf_linked : FlavorInput
+printf_linked = record { flavor = Msvc; input = record { definition = of_dll (codes "zed.dll") (plain_export (codes "printf") ∷ []); members = []; chosen = 0 ∷ [] } }
+
 pub near_is_imported_of_both : NearIsImportedOfBoth
+unfolding searched
 near_is_imported_of_both = record {
-  by = λ x.
+  by = (record { number = 0; input = zed_linked; input_is = refl; index = 0; export = plain_export (codes "queue"); export_is = refl; by = tt },
+    λ x.
       name_once (again ∷ placed_from mixed_bases mixed_objects) queue_twice (mixed_bases.addresses + thunk_width AMD64 * thunks_of x.number mixed_inputs + thunk_width AMD64 * x.index)
-      (symbol_in x.input.flavor x.export) x.export.is_data x.by;
-  input_is_and_export_is = λ x.
-      no_symbol mixed_inputs (codes "printf") x.number x.index x.input x.export no_printf refl x.input_is x.export_is
-      (own_symbol (again ∷ []) (mixed_bases.addresses + thunk_width AMD64 * thunks_of x.number mixed_inputs + thunk_width AMD64 * x.index) (symbol_in x.input.flavor x.export) x.export.is_data x.by);
+      (symbol_in x.input.flavor x.export) x.export.is_data x.by);
+  input_is = (record { number = 0; input = printf_linked; input_is = tt; index = 0; export = plain_export (codes "printf"); export_is = refl; by = inr (refl, refl, printf_once) }, no_printf_imported);
+  export_is = (record { number = 0; input = zed_linked; input_is = refl; index = 0; export = plain_export (codes "printf"); export_is = tt; by = inr (refl, refl, printf_once) }, no_printf_imported);
 }
 
 pub near_is_used_in : NearIsUsedIn
@@ -334,8 +402,62 @@ near_is_used_in = record {
   msvc = λ x. in_one_alone x.0 (short_import_symbols (plain_export (codes "queue"))) (codes "bar" ∷ codes "printf" ∷ []) refl x.1 x.2;
 }
 
+asking_program : IsProgramOf AMD64 OfMember spread_bases mixed_inputs mixed_asking
+unfolding searched group_end sections_end
+asking_program = record {
+  held = flavor_objects_by zed_linked zed_members foo_linked (0, omega arith, refl) (refl, (tt, tt)) refl refl refl refl refl;
+  admissible = admissible_by refl refl;
+  lookups = refl;
+  addresses = refl;
+  follows = refl;
+}
+
+inputs_are_made : AllByRecursion (IsMadeFor AMD64) mixed_inputs
+unfolding searched
+inputs_are_made = (record { accepted = refl; made = refl; ordinals = refl }, (record { accepted = refl; made = refl; ordinals = refl }, tt))
+
+abbrev IsResolved : List ℕ → Type 0
+IsResolved name =
+    IsImportedOfBoth AMD64 (placed_from spread_bases mixed_asking) spread_bases mixed_inputs name ⊎ IsWeakTaken AMD64 mixed_taken name
+
+abbrev both_wanted : List (List ℕ)
+both_wanted = codes "bar" ∷ codes "__imp_queue" ∷ codes "printf" ∷ codes "baz" ∷ []
+
+-- each of the names that are wanted and listed
+each_resolved : (name : List ℕ) → Among name both_wanted → Among name (listed_in (archive_of_both foo_and_zed)) → IsResolved name
+unfolding searched Among
+each_resolved name (inl is) listed = subst IsResolved (sym is) (inr (foo_alias, (0, omega arith, refl), refl))
+each_resolved name (inr (inl is)) listed =
+    subst IsResolved (sym is) (inl (record { number = 0; input = zed_linked; input_is = refl; index = 0; export = plain_export (codes "queue"); export_is = refl; by = inl (refl, refl) }))
+each_resolved name (inr (inr (inl is))) listed =
+    absurd (true≢false (sym (among_any (codes "printf") (listed_in (archive_of_both foo_and_zed)) (subst (λ n. Among n (listed_in (archive_of_both foo_and_zed))) is listed))))
+each_resolved name (inr (inr (inr (inl is)))) listed =
+    subst IsResolved (sym is) (inl (record { number = 1; input = foo_input; input_is = refl; index = 0; export = plain_export (codes "baz"); export_is = refl; by = inr (refl, refl, (record { name = codes "baz"; address = None }, refl)) }))
+  where
+    foo_input : FlavorInput
+    foo_input = gnu_input (record { definition = aliased; members = (library_of aliased).members; chosen = 1 ∷ [] })
+each_resolved name (inr (inr (inr (inr none)))) listed = absurd none
+
 pub near_links_closed_for_both : NearLinksClosedForBoth
 unfolding searched
-near_links_closed_for_both =
+near_links_closed_for_both = record {
+  closed = (record {
+    taken_is = worked_both.just;
+    program = asking_program;
+    links = program_links AMD64 OfMember spread_bases mixed_inputs mixed_asking inputs_are_made asking_program;
+    used = worked_both.links.used;
+    resolved = λ name wanted listed. each_resolved name (contains_among name both_wanted wanted) (contains_among name (listed_in (archive_of_both foo_and_zed)) listed);
+    closed = tt;
+  },
+    λ x.
+      let listed : List (List ℕ) = listed_in (archive_of_both foo_and_zed) in
+      let left : List (List ℕ) = unresolved mixed_asking in
+      x.closed (codes "__imp_stack") (among_contains (codes "__imp_stack") left (any_among (codes "__imp_stack") left refl)) (among_contains (codes "__imp_stack") listed (any_among (codes "__imp_stack") listed refl)));
+}
+
+-- where the object alone is linked, what it leaves and the libraries list is left
+pub nothing_closed : LinksClosedForBoth AMD64 foo_and_zed (choosing ∷ []) [] zed_and_foo mixed_bases (choosing ∷ []) → ⊥
+unfolding searched
+nothing_closed x =
     let listed : List (List ℕ) = listed_in (archive_of_both foo_and_zed) in
-    record { closed = λ x. x.closed (codes "bar") (0, omega arith, refl) (among_contains (codes "bar") listed (any_among (codes "bar") listed refl)) }
+    x.closed (codes "bar") (0, omega arith, refl) (among_contains (codes "bar") listed (any_among (codes "bar") listed refl))

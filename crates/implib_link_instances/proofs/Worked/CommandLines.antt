@@ -15,13 +15,13 @@ use Rattle.implib.proofs.Link.Ranges.{Among}
 use Rattle.implib_link.specs.Gnu.Program.{HaveSame}
 use Rattle.implib_link.specs.Search.Archives.{archive_of, is_weak, symbols_of_library}
 use Rattle.implib_link.specs.Search.Closed.{PullsIntoAs, claims_of, listed_in, references_of, unresolved}
-use Rattle.implib_link.specs.Search.CommandLines.{AreFirst, AreListedWhole, AreRounds, AreSwept, AreTakenBehind, AreUnclaimedBehind, Archives, HaveAll, IsOrdered, IsSwept, LldSearches, LldSearchesFrom, NoneIsLost, SearchesCommandLine, SearchesFrom, given_with, names_left}
+use Rattle.implib_link.specs.Search.CommandLines.{AreFirst, AreListedWhole, AreRounds, AreSwept, AnObject, AreTakenBehind, AreUnclaimedBehind, Archives, HaveAll, IsOrdered, IsSwept, LldSearches, LldSearchesFrom, NoneIsLost, SearchesCommandLine, SearchesFrom, TakesFirst, given_with, names_left}
 use Rattle.implib_link.specs.Search.Given.{AreGiven, symbols_kept}
 use Rattle.implib_link.specs.Search.Search.{claimed_as, first_listed, objects_as, undefined_in}
 use Rattle.implib_link.specs.Search.Sweeps.{IndexEntry, index_at, members_at, sweeps, swept}
 use Rattle.implib_link.proofs.Search.CommandLines.{are_first_of_distinct, first_of_distinct, gnu_searches, lld_members, searches_keep, takes_alike}
 use Rattle.implib_link.proofs.Search.Lists.{among_any, any_among, contains_among}
-use Rattle.implib_link_instances.specs.Worked.CommandLines.{NearIsClosedOver, NearIsGroupSearched, NearIsSwept, NearSearchesFor, RefusedCommandLines, WorkedCommandLine, WorkedCommandLines, WorkedLibraries, all_taken, amd64_members, i386_members, i386_wants_bytes, in_group, is_quit, kernel_on, library_first, library_last, library_twice, of_kernel, of_quit, other_spare, quit_bytes, quit_member, read_or_none, spare_member, wants_bytes, with_spares}
+use Rattle.implib_link_instances.specs.Worked.CommandLines.{NearIsClosedOver, NearIsGroupSearched, NearIsSwept, NearSearchesFor, RefusedCommandLines, WorkedCommandLine, WorkedCommandLines, WorkedLibraries, all_taken, amd64_members, i386_members, i386_wants_bytes, in_group, is_quit, kernel, kernel_on, library_first, library_last, library_twice, of_kernel, of_quit, other_spare, quit_bytes, quit_member, quitting, read_or_none, second_quit, spare_member, wants_bytes, with_more, with_quit_twice, with_spares}
 use Rattle.implib_link_instances.specs.Worked.Programs.{code_object}
 use Rattle.implib_link_instances.proofs.Worked.RefusedLinks.{differ}
 use Rattle.implib_link_instances.proofs.Worked.Programs.{claims_none_by, distinct_by, opened}
@@ -352,17 +352,18 @@ four_are_none : all_taken ≡ [] → ⊥
 four_are_none is = differ 0 4 (sym (ap length is)) (omega arith)
 
 pub near_is_swept : NearIsSwept
-unfolding opened alias_specs encoded_size swept references_of claims_of undefined_in
+unfolding opened alias_specs encoded_size swept sweeps references_of claims_of undefined_in
 near_is_swept = record {
-  taken = λ is. four_are_none (swept_nothing all_taken is);
-  ended = λ is. differ 2 3 (sym (ap length is.ended)) (omega arith);
+  taken = (record { count = 0; taken = tt; ended = refl }, λ is. four_are_none (swept_nothing all_taken is));
+  ended = (record { count = 1; taken = refl; ended = tt }, λ is. differ 2 3 (sym (ap length is.ended)) (omega arith));
 }
 
 pub near_is_group_searched : NearIsGroupSearched
-unfolding opened alias_specs encoded_size swept references_of claims_of undefined_in
+unfolding opened alias_specs encoded_size swept sweeps references_of claims_of undefined_in AreRounds AreSwept
 near_is_group_searched = record {
-  taken = λ is. four_are_none (rounds_of_nothing is.rounds all_taken is.taken);
-  ended = λ is. differ 1 2 (sym (ap length is.ended.0)) (omega arith);
+  taken = (record { rounds = 0; taken = tt; ended = (refl, tt) }, λ is. four_are_none (rounds_of_nothing is.rounds all_taken is.taken));
+  ended = (record { rounds = 1; taken = (of_quit, ([], record { count = 0; taken = refl; ended = refl }, (of_quit, record { count = 1; taken = refl; ended = refl }, refl)), refl); ended = tt },
+    λ is. differ 1 2 (sym (ap length is.ended.0)) (omega arith));
 }
 
 -- the first member that is taken is pulled in by a name that the objects leave
@@ -376,16 +377,19 @@ unfolding opened alias_specs encoded_size references_of claims_of undefined_in
 no_pull = ended_by object_in (kernel_on AMD64 (codes "ExitProcess")).members own [] refl
 
 pub near_is_closed_over : NearIsClosedOver
-unfolding opened alias_specs encoded_size references_of claims_of undefined_in
+unfolding opened alias_specs encoded_size references_of claims_of undefined_in AreTakenBehind
 near_is_closed_over = record {
-  taken = λ is. differ 0 (length is.more + 4) (sym (ap length is.taken) ∙ length-append is.more amd64_members) (omega arith);
-  in_turn = λ is.
+  taken = (record { more = []; taken = tt; in_turn = tt; ended = ended_by object_in amd64_members [] [] refl },
+    λ is. differ 0 (length is.more + 4) (sym (ap length is.taken) ∙ length-append is.more amd64_members) (omega arith));
+  in_turn = (record { more = kernel.members; taken = refl; in_turn = tt; ended = ended_by object_in kernel.members own kernel.members refl },
+    λ is.
       let all : is.more ≡ (kernel_on AMD64 (codes "ExitProcess")).members = sym (append-nil is.more) ∙ is.taken in
       let turn : AreTakenBehind object_in (kernel_on AMD64 (codes "ExitProcess")).members own [] (kernel_on AMD64 (codes "ExitProcess")).members =
       subst (AreTakenBehind object_in (kernel_on AMD64 (codes "ExitProcess")).members own []) all is.in_turn in
       let pulled = first_pulled (kernel_on AMD64 (codes "ExitProcess")).members own (take 2 amd64_members) (member_or_none (slice_get amd64_members 2)) turn in
-      no_pull pulled.0 (member_or_none (slice_get amd64_members 2)) pulled.1;
-  ended = λ is. is.ended (codes "quit") (member_or_none (slice_get amd64_members 3)) (pulls_by object_in amd64_members own [] (codes "quit") (member_or_none (slice_get amd64_members 3)) refl refl refl);
+      no_pull pulled.0 (member_or_none (slice_get amd64_members 2)) pulled.1);
+  ended = (record { more = []; taken = refl; in_turn = tt; ended = tt },
+    λ is. is.ended (codes "quit") (member_or_none (slice_get amd64_members 3)) (pulls_by object_in amd64_members own [] (codes "quit") (member_or_none (slice_get amd64_members 3)) refl refl refl));
 }
 
 -- what is taken in the end is nothing, so nothing was
@@ -394,22 +398,76 @@ unfolding Among
 nothing_before [] none = refl
 nothing_before (n ∷ between) none = absurd (none n (inl refl))
 
+-- the same searches: with an object behind, with a member that is listed for a name more, and with the second of two members
+searched_quitting : SearchesCommandLine object_in amd64_members (library_last own ++ AnObject quitting ∷ []) all_taken
+unfolding opened alias_specs encoded_size swept sweeps references_of claims_of undefined_in AreSwept AreRounds SearchesFrom
+searched_quitting = (of_quit, record { rounds = 1; taken = (of_quit, (of_quit, record { count = 1; taken = refl; ended = refl }, refl), refl); ended = (refl, tt) }, (all_taken, record { rounds = 1; taken = (all_taken, (all_taken, record { count = 3; taken = refl; ended = refl }, refl), refl); ended = (refl, tt) }, refl))
+
+searched_more : SearchesCommandLine object_in with_more (library_last own) all_taken
+unfolding opened alias_specs encoded_size swept sweeps references_of claims_of undefined_in AreSwept AreRounds SearchesFrom
+searched_more = (of_quit, record { rounds = 1; taken = (of_quit, (of_quit, record { count = 1; taken = refl; ended = refl }, refl), refl); ended = (refl, tt) }, (all_taken, record { rounds = 1; taken = (all_taken, (all_taken, record { count = 3; taken = refl; ended = refl }, refl), refl); ended = (refl, tt) }, refl))
+
+searched_second : SearchesCommandLine object_in with_quit_twice second_quit (0 ∷ 1 ∷ 2 ∷ 4 ∷ [])
+unfolding opened alias_specs encoded_size swept sweeps references_of claims_of undefined_in AreSwept AreRounds SearchesFrom
+searched_second = (4 ∷ [], record { rounds = 1; taken = (4 ∷ [], (4 ∷ [], record { count = 1; taken = refl; ended = refl }, refl), refl); ended = (refl, tt) }, (0 ∷ 1 ∷ 2 ∷ 4 ∷ [], record { rounds = 1; taken = (0 ∷ 1 ∷ 2 ∷ 4 ∷ [], (0 ∷ 1 ∷ 2 ∷ 4 ∷ [], record { count = 3; taken = refl; ended = refl }, refl), refl); ended = (refl, tt) }, refl))
+
+whole_twice : AreListedWhole object_in with_quit_twice
+unfolding opened alias_specs encoded_size claimed_as
+whole_twice = (whole.0, (whole.1.0, (whole.1.1.0, (whole.1.1.1.0, (whole.1.1.1.0, tt)))))
+
 pub near_searches_libraries : NearSearchesFor
 unfolding opened alias_specs encoded_size IsDistinct claimed_as swept references_of claims_of undefined_in IsOrdered AreUnclaimedBehind SearchesFrom archive_of Among
 near_searches_libraries = record {
-  libraries_are = λ x. differ 0 3 (sym (ap length x.libraries_are)) (omega arith);
-  first = λ x. above (x.first (codes "quit") 4 3 (quit_member (codes "quit") quit_bytes) (quit_member (codes "quit") quit_bytes) quit_left
-      (among_contains 4 (0 ∷ 1 ∷ 2 ∷ 4 ∷ []) (inr (inr (inr (inl refl))))) refl (among_contains (codes "quit") (codes "quit" ∷ []) (inl refl)) refl (among_contains (codes "quit") (codes "quit" ∷ []) (inl refl)));
-  unclaimed = λ x. true≢false x.unclaimed.1.1.1.0.0.0;
-  ordered = λ x. elim x.ordered [ inl is ↦ unordered is | inr none ↦ found none.0 ];
-  whole = λ x. not_quit (contains_among (codes "more") (codes "quit" ∷ []) ((x.whole.1.1.1.0 (codes "more")).1 (among_contains (codes "more") (codes "quit" ∷ codes "more" ∷ []) (inr (inl refl)))));
-  searches = λ x.
+  libraries_are = (record { libraries_are = tt; first = firsts; unclaimed = unclaimed; ordered = inl ordered; whole = whole; searches = searched_last },
+    λ x. differ 0 3 (sym (ap length x.libraries_are)) (omega arith));
+  first = (record { libraries_are = refl; first = tt; unclaimed = ((tt, tt), (tt, (tt, tt))); ordered = inr tt; whole = whole_twice; searches = searched_second },
+    λ x. above (x.first (codes "quit") 4 3 (quit_member (codes "quit") quit_bytes) (quit_member (codes "quit") quit_bytes) quit_left
+      (among_contains 4 (0 ∷ 1 ∷ 2 ∷ 4 ∷ []) (inr (inr (inr (inl refl))))) refl (among_contains (codes "quit") (codes "quit" ∷ []) (inl refl)) refl (among_contains (codes "quit") (codes "quit" ∷ []) (inl refl))));
+  unclaimed = (record {
+    libraries_are = refl;
+    first = first_of_distinct amd64_members (names_left object_in (own ++ quitting ∷ []) (members_at amd64_members all_taken)) all_taken distinct;
+    unclaimed = tt;
+    ordered = inr tt;
+    whole = whole;
+    searches = searched_quitting;
+  },
+    λ x. true≢false x.unclaimed.1.1.1.0.0.0);
+  ordered = (record {
+    libraries_are = refl;
+    first = first_of_distinct amd64_members (names_left object_in own (members_at amd64_members of_quit)) of_quit distinct;
+    unclaimed = ((tt, tt), (tt, (tt, tt)));
+    ordered = tt;
+    whole = whole;
+    searches = searched_first;
+  },
+    λ x. elim x.ordered [ inl is ↦ unordered is | inr none ↦ found none.0 ]);
+  whole = (record {
+    libraries_are = refl;
+    first = first_of_distinct with_more (names_left object_in own (members_at with_more all_taken)) all_taken (distinct_by (listed_in with_more) refl);
+    unclaimed = ((tt, tt), (tt, (tt, tt)));
+    ordered = inr tt;
+    whole = tt;
+    searches = searched_more;
+  },
+    λ x. not_quit (contains_among (codes "more") (codes "quit" ∷ []) ((x.whole.1.1.1.0 (codes "more")).1 (among_contains (codes "more") (codes "quit" ∷ codes "more" ∷ []) (inr (inl refl))))));
+  searches = (record {
+    libraries_are = refl;
+    first = first_of_distinct amd64_members (names_left object_in own (members_at amd64_members [])) [] distinct;
+    unclaimed = unclaimed;
+    ordered = inl ordered;
+    whole = whole;
+    searches = tt;
+  },
+    λ x.
       let s = x.searches in
       let later = searches_keep object_in amd64_members own (Archives (of_kernel ∷ []) ∷ []) s.0 [] s.2 in
       let none : s.0 ≡ [] = nothing_before s.0 (λ n. (later n).0) in
-      differ 0 1 (sym (ap length (subst (λ ns. swept object_in amd64_members own (index_at amd64_members of_quit) ns ≡ ns) none s.1.ended.0))) (omega arith);
+      differ 0 1 (sym (ap length (subst (λ ns. swept object_in amd64_members own (index_at amd64_members of_quit) ns ≡ ns) none s.1.ended.0))) (omega arith));
 }
   where
+    firsts : TakesFirst amd64_members (names_left object_in own (members_at amd64_members all_taken)) all_taken
+    firsts = first_of_distinct amd64_members (names_left object_in own (members_at amd64_members all_taken)) all_taken distinct
+
     above : 4 ≤ 3 → ⊥
     above is = omega (arith, is)
 

@@ -26,7 +26,7 @@ use Rattle.implib_link.specs.Gnu.Operands.{HasBranch, branch_leads, Names}
 use Rattle.implib_link.specs.Gnu.Rebased.{IsRebased, table_places}
 use Rattle.implib_link.specs.Stub.{jump_reads}
 use Rattle.implib_link.specs.Tables.{AreSteady, AreTables, RiseFrom, Table}
-use Rattle.implib_link_instances.specs.Worked.LldPrograms.{RefusedCalls, RefusedLoads, RefusedTables, RefusedThunks, WorkedLldProgram, WorkedLldPrograms, call_memory, code_of_object, code_of_thunk, eight_bytes, linked_code, linked_thunk, lld_codes, lld_image_on, lld_linked_on, lld_memory, lld_moved_memory, lld_places, lld_targets, mid_on, object_section, or_thunk, own_tables, placed_object, short_files, shorts_on, tables_on, taken_address, thunk_address}
+use Rattle.implib_link_instances.specs.Worked.LldPrograms.{RefusedCalls, RefusedTables, RefusedThunks, WorkedLldProgram, WorkedLldPrograms, call_memory, code_of_object, code_of_thunk, eight_bytes, linked_code, linked_thunk, lld_codes, lld_image_on, lld_linked_on, lld_memory, lld_moved_memory, lld_places, lld_targets, mid_on, object_section, or_thunk, own_tables, placed_object, short_files, shorts_on, tables_on, taken_address, thunk_address}
 use Rattle.implib_link_instances.specs.Worked.Programs.{symbol_of_class, symbol_on}
 use Rattle.implib_link.proofs.Flavors.LldTables.{built_pieces}
 use Rattle.implib_link.proofs.Gnu.Memory.{byte_first, within_bounds}
@@ -35,7 +35,7 @@ use Rattle.implib_link.proofs.TablesOfPrograms.{lld_tables}
 use Rattle.implib_link_instances.proofs.Worked.LinkedCode.{all_needed, only_absolute, rebased_by, relocated_by, relocated_test}
 use Rattle.implib_link_instances.proofs.Worked.Lld.{alike, lld_opened}
 use Rattle.implib_link_instances.proofs.Worked.Programs.{distinct_by, instruction_by}
-use Rattle.implib_link_instances.proofs.Worked.RefusedFields.{other_byte, value}
+use Rattle.implib_link_instances.proofs.Worked.RefusedFields.{value}
 use Rattle.implib_link_instances.proofs.Worked.RefusedLinks.{are_located, differ, number}
 use Rattle.implib_link_instances.proofs.Worked.Rules.{same_bytes}
 
@@ -501,50 +501,9 @@ thunk_code_is memory code found there other six also = same_bytes memory found c
 entry_is : (n m : ℕ) → Some (0x1_4000_0000 + n) ≡ Some (0x1_4000_0000 + m) → n ≡ m
 entry_is n m is = (let same : 0x1_4000_0000 + n ≡ 0x1_4000_0000 + m = value (0x1_4000_0000 + n) (0x1_4000_0000 + m) is in omega arith)
 
-fourth_byte : (memory : List Range) (a : ℕ) → byte_at memory (a + 1 + 1 + 1) ≡ Some 0 → BytesAt memory a (eight_bytes 0) → ⊥
-unfolding BytesAt
-fourth_byte memory a is located = differ 0 0x10 (value 0 0x10 (sym is ∙ located.1.1.1.0)) (omega arith)
-
-name_size : Placed → ℕ
-name_size p = size p.object.entries
-  where
-    size : List Entry → ℕ
-    size [] = 0
-    size (Auxiliary bytes ∷ entries) = 0
-    size (ASymbol s ∷ entries) = length s.name
-
 pub refused_thunks : RefusedThunks
-unfolding lld_opened relocated_test name_size
+unfolding lld_opened relocated_test
 refused_thunks = record {
-  arrives =
-      let memory : List Range = record { start = 0x1020; bytes = linked_thunk AMD64 } ∷ record { start = 0x2068; bytes = eight_bytes 0 } ∷ [] in
-      record { code = linked_thunk AMD64; there = are_located memory (linked_thunk AMD64) 0x1020 refl; whole = refl; entry = 0x2068; reads = refl; located = are_located memory (eight_bytes 0) 0x2068 refl };
-  there = λ x.
-      let memory : List Range = record { start = 0x1021; bytes = linked_thunk AMD64 } ∷ record { start = 0x2068; bytes = eight_bytes 0 } ∷ [] in
-      let six : length x.code ≡ 6 = x.whole in
-      let first = byte_first memory x.code 0x1020 x.there (omega arith) in
-      let is : None ≡ Some first.0 = first.1 in
-      cc;
-  jump = λ x.
-      let memory : List Range = record { start = 0x1020; bytes = 0xFF ∷ 0x15 ∷ 0x42 ∷ 0x10 ∷ 0 ∷ 0 ∷ [] } ∷ record { start = 0x2068; bytes = eight_bytes 0 } ∷ [] in
-      let code : x.code ≡ 0xFF ∷ 0x15 ∷ 0x42 ∷ 0x10 ∷ 0 ∷ 0 ∷ [] =
-      thunk_code_is memory (0xFF ∷ 0x15 ∷ 0x42 ∷ 0x10 ∷ 0 ∷ 0 ∷ []) x.code (are_located memory (0xFF ∷ 0x15 ∷ 0x42 ∷ 0x10 ∷ 0 ∷ 0 ∷ []) 0x1020 refl) x.there x.whole refl in
-      let none : None ≡ Some (0x1_4000_0000 + x.entry) = ap (jump_reads AMD64 0x1_4000_1020) (sym code) ∙ x.reads in
-      cc;
-  reads = λ x.
-      let memory : List Range = record { start = 0x1020; bytes = 0xFF ∷ 0x25 ∷ 0x46 ∷ 0x10 ∷ 0 ∷ 0 ∷ [] } ∷ record { start = 0x2068; bytes = eight_bytes 0 } ∷ [] in
-      let code : x.code ≡ 0xFF ∷ 0x25 ∷ 0x46 ∷ 0x10 ∷ 0 ∷ 0 ∷ [] =
-      thunk_code_is memory (0xFF ∷ 0x25 ∷ 0x46 ∷ 0x10 ∷ 0 ∷ 0 ∷ []) x.code (are_located memory (0xFF ∷ 0x25 ∷ 0x46 ∷ 0x10 ∷ 0 ∷ 0 ∷ []) 0x1020 refl) x.there x.whole refl in
-      let led : Some (0x1_4000_0000 + 0x206C) ≡ Some (0x1_4000_0000 + x.entry) = ap (jump_reads AMD64 0x1_4000_1020) (sym code) ∙ x.reads in
-      let entry : 0x206C ≡ x.entry = entry_is 0x206C x.entry led in
-      fourth_byte memory 0x206C refl (subst (λ a. BytesAt memory a (eight_bytes 0)) (sym entry) x.located);
-  located = λ x.
-      let memory : List Range = record { start = 0x1020; bytes = linked_thunk AMD64 } ∷ record { start = 0x2068; bytes = eight_bytes 1 } ∷ [] in
-      let code : x.code ≡ linked_thunk AMD64 = thunk_code_is memory (linked_thunk AMD64) x.code (are_located memory (linked_thunk AMD64) 0x1020 refl) x.there x.whole refl in
-      let led : Some (0x1_4000_0000 + 0x2068) ≡ Some (0x1_4000_0000 + x.entry) = ap (jump_reads AMD64 0x1_4000_1020) (sym code) ∙ x.reads in
-      let entry : 0x2068 ≡ x.entry = entry_is 0x2068 x.entry led in
-      other_byte memory 0x2068 0 1 (0 ∷ 0 ∷ 0x10 ∷ 0 ∷ 0 ∷ 0 ∷ 0 ∷ []) refl (omega arith) (subst (λ a. BytesAt memory a (eight_bytes 0)) (sym entry) x.located);
-  of_zeta = λ thunk. differ 3 4 (ap name_size thunk.from) (omega arith);
   linked = λ r. let is : 0x104A ≡ 0x1042 = (r.fields (record { offset = 2; symbol = 1; kind = amd64_rel32 }) refl (omega arith)).rel32 0 (omega arith) refl in differ 0x1042 0x104A (sym is) (omega arith);
 }
 
@@ -557,14 +516,6 @@ no_sixth memory a (b ∷ c ∷ d ∷ []) none six located = omega arith
 no_sixth memory a (b ∷ c ∷ d ∷ e ∷ []) none six located = omega arith
 no_sixth memory a (b ∷ c ∷ d ∷ e ∷ f ∷ []) none six located = omega arith
 no_sixth memory a (b ∷ c ∷ d ∷ e ∷ f ∷ g ∷ rest) none six located = (let is : None ≡ Some g = sym none ∙ located.1.1.1.1.1.0 in cc)
-
-pub refused_loads : RefusedLoads
-unfolding lld_opened
-refused_loads = record {
-  whole = λ x.
-      no_sixth (record { start = 0x1020; bytes = 0xFF ∷ 0x25 ∷ 0x42 ∷ 0x10 ∷ 0 ∷ [] } ∷ record { start = 0x2068; bytes = eight_bytes 0 } ∷ []) 0x1020 x.code refl x.whole x.there;
-  number = λ thunk. differ 1 2 (sym thunk.number) (omega arith);
-}
 
 -- where a call by a field leads
 leads_to : (n : ℕ) (field code : List ℕ) (place : ℕ) (x : BranchArrivesByThunk AMD64 0x1_4000_0000 (call_memory 0x100E field code) 0x100E 0 (eight_bytes 0)) →

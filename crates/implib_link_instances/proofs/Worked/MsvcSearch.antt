@@ -158,9 +158,9 @@ worked_msvc_searches = record {
   arm64 = arm64;
   i386 = i386;
   armnt = armnt;
-  no_descriptor = λ plain. true≢false plain.descriptor;
-  no_null_descriptor = λ plain. true≢false plain.null_descriptor;
-  no_null_thunk = λ plain. true≢false plain.null_thunk;
+  no_descriptor = (record { descriptor = tt; null_descriptor = refl; null_thunk = refl }, λ plain. true≢false plain.descriptor);
+  no_null_descriptor = (record { descriptor = refl; null_descriptor = tt; null_thunk = refl }, λ plain. true≢false plain.null_descriptor);
+  no_null_thunk = (record { descriptor = refl; null_descriptor = refl; null_thunk = tt }, λ plain. true≢false plain.null_thunk);
   ends = search_ends (expanded_in AMD64) (short_members AMD64) (one_wanted AMD64);
   bounded = search_bounded (expanded_in AMD64) (short_members AMD64) (four_taken AMD64) (one_wanted AMD64) amd64_takes.in_turn;
   members = refl;

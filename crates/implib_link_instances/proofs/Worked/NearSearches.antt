@@ -1,5 +1,5 @@
 -- Near misses of archive searches and of closed programs, by computing.
-use Rattle.std.proofs.Common.{◌≡◌, ℕ, ◌+◌, ◌*◌, true, false, List, [], ◌∷◌, codes, Some, refl, ap, sym, ◌∙◌, subst, inl, inr, arith}
+use Rattle.std.proofs.Common.{◌≡◌, ℕ, ◌+◌, ◌*◌, true, false, List, [], ◌∷◌, codes, None, Some, refl, ap, sym, ◌∙◌, subst, inl, inr, arith}
 use Rattle.std.specs.Prelude.{◌<◌, Bool, length, slice_index, ◌&&◌, ◌⊎◌, bytes_eq, slice_get}
 use Rattle.std.specs.List.{Contains, IsDistinct, flat_map, list_any}
 use Rattle.std.proofs.lemmas.Bool.{true≢false}
@@ -20,6 +20,7 @@ use Rattle.implib.specs.Members.Msvc.{short_import_symbol}
 use Rattle.implib.specs.Members.MsvcMembers.{descriptor_spec, header_specs, null_descriptor_spec, null_thunk_spec, weak_specs}
 use Rattle.implib.specs.Members.MsvcObjects.{base_name, descriptor, descriptor_symbol, null_descriptor, null_descriptor_symbol, null_thunk, null_thunk_symbol}
 use Rattle.implib.specs.Members.WeakExternal.{weak_object}
+use Rattle.implib.specs.Worked.Members.{of_dll}
 use Rattle.implib.specs.Worked.Statements.{plain_export}
 use Rattle.implib.proofs.Link.LinkedMembers.{among_contains}
 use Rattle.implib.proofs.Link.Ranges.{Among, among_first}
@@ -27,12 +28,13 @@ use Rattle.implib_link.specs.Flavors.Expansion.{descriptor_symbol_by_name, expan
 use Rattle.implib_link.specs.Flavors.SectionSymbols.{with_section_symbols}
 use Rattle.implib_link.specs.Gnu.Program.{has_tables, thunks_before}
 use Rattle.implib_link.specs.Search.Archives.{IsArchive, IsWeakData, Library, archive_of, exports_of, is_weak, symbols_of_library, weak_among}
-use Rattle.implib_link.specs.Search.Closed.{claims_of, references_of, unresolved}
+use Rattle.implib_link.specs.Search.Closed.{IsImported, claims_of, references_of, unresolved}
 use Rattle.implib_link.specs.Search.MsvcArchives.{IsWeakShort, is_short_alias, is_weak_in, symbols_of_shorts, weak_in}
 use Rattle.implib_link.specs.Search.Search.{undefined_in, left_as, claimed_as}
-use Rattle.implib_link_instances.specs.Worked.Archives.{two_libraries}
+use Rattle.implib_link_instances.specs.Worked.Archives.{library_of, two_libraries}
 use Rattle.implib_link_instances.specs.Worked.Closed.{closed_bases, closed_objects, closed_taken, foo_alias}
-use Rattle.implib_link_instances.specs.Worked.MsvcArchives.{null_named, shorts_of_both, two_msvc, weak_named}
+use Rattle.implib_link_instances.specs.Worked.MsvcArchives.{msvc_foo, msvc_library, msvc_zed, null_named, shorts_of_both, two_msvc, weak_named}
+use Rattle.implib_link_instances.specs.Worked.Search.{aliased}
 use Rattle.implib_link_instances.specs.Worked.NearSearches.{NearAreNamedApart, NearIsAliasTaken, NearIsArchive, NearIsImported, NearIsMsvcArchive, NearIsUsed, NearIsWeakData, NearIsWeakShort, NearIsWeakTaken, NearNamesNoHeadOrTail, NearPullsInAs, NearPullsIntoAs, again, asking, closed_inputs, later, listing, queue_member, zed_library, zed_short}
 use Rattle.implib_link.proofs.Search.Lists.{among_any, among_at, contains_among}
 use Rattle.implib_link_instances.proofs.Worked.RefusedLinks.{differ}
@@ -59,23 +61,29 @@ differ_in_name is = cc
 there : Contains (listing ∷ []) listing
 there = (0, omega arith, refl)
 
+-- the member of `queue` is another one than the one that is only listed for it
+no_listing : Contains (queue_member ∷ []) listing → ⊥
+unfolding searched
+no_listing held = none_passes (λ (m : MemberView). bytes_eq m.name (codes "listing")) listing (queue_member ∷ []) refl held refl
+
 pub near_pulls_in : NearPullsInAs
 unfolding searched
 near_pulls_in = record {
   pulls = record { named = (0, omega arith, refl); undefined = refl; listed = refl; new = λ held. none_in listing held };
-  named = λ x. none_in (codes "queue") x.named;
-  undefined = λ x. true≢false x.undefined;
-  listed = λ x. differ_in_name (other_first listing later x.listed);
-  new = λ x. x.new there;
+  named = (record { named = tt; undefined = refl; listed = refl; new = λ held. none_in listing held }, λ x. none_in (codes "queue") x.named);
+  undefined = (record { named = (0, omega arith, refl); undefined = tt; listed = refl; new = no_listing }, λ x. true≢false x.undefined);
+  listed = (record { named = (0, omega arith, refl); undefined = refl; listed = tt; new = λ held. none_in later held }, λ x. differ_in_name (other_first listing later x.listed));
+  new = (record { named = (0, omega arith, refl); undefined = refl; listed = refl; new = tt }, λ x. x.new there);
 }
 
 pub near_pulls_into : NearPullsIntoAs
 unfolding searched
 near_pulls_into = record {
   pulls = record { named = (0, omega arith, refl); listed = refl; new = λ held. none_in listing held };
-  named = λ x. none_passes (bytes_eq (codes "queue")) (codes "queue") (unresolved (asking ∷ objects_in (queue_member ∷ []))) refl x.named refl;
-  listed = λ x. differ_in_name (other_first listing later x.listed);
-  new = λ x. x.new there;
+  named = (record { named = tt; listed = refl; new = no_listing },
+    λ x. none_passes (bytes_eq (codes "queue")) (codes "queue") (unresolved (asking ∷ objects_in (queue_member ∷ []))) refl x.named refl);
+  listed = (record { named = (0, omega arith, refl); listed = tt; new = λ held. none_in later held }, λ x. differ_in_name (other_first listing later x.listed));
+  new = (record { named = (0, omega arith, refl); listed = refl; new = tt }, λ x. x.new there);
 }
 
 -- Weak externals.
@@ -90,13 +98,26 @@ weak_data libraries names m none x =
     let passes : is_weak_data names m x.export ≡ true = rw (x.data_alone, among_any x.export.name names (contains_among x.export.name names x.named), among_any x.export.name m.symbols listed) refl in
     none_passes (λ l. list_any (is_weak_data names m) (exports_of l)) x.library libraries none x.held (some_passes (is_weak_data names m) x.export (exports_of x.library) x.among passes)
 
+-- data `bar` of foo.dll, with its alias; and zed.dll of the two libraries
+abbrev bar : ExportView
+bar = record empty_export { name = codes "bar"; alias_target = codes "baz"; is_data = true }
+
+abbrev zed_two : Library
+zed_two = library_of (of_dll (codes "zed.dll") (plain_export (codes "queue") ∷ plain_export (codes "stack") ∷ []))
+
 pub near_is_weak_data : NearIsWeakData
 unfolding searched
 near_is_weak_data = record {
-  named = weak_data two_libraries [] foo_alias refl;
-  data_alone = weak_data two_libraries (codes "queue" ∷ []) listing refl;
-  held_and_among = weak_data [] (codes "bar" ∷ []) foo_alias refl;
-  listed = weak_data two_libraries (codes "bar" ∷ codes "queue" ∷ []) queue_member refl;
+  named = (record { library = library_of aliased; held = (0, omega arith, refl); export = bar; among = (0, omega arith, refl); data_alone = refl; named = tt; listed = refl },
+    weak_data two_libraries [] foo_alias refl);
+  data_alone = (record { library = zed_two; held = (1, omega arith, refl); export = plain_export (codes "queue"); among = (0, omega arith, refl); data_alone = tt; named = (0, omega arith, refl); listed = refl },
+    weak_data two_libraries (codes "queue" ∷ []) listing refl);
+  held = (record { library = library_of aliased; held = tt; export = bar; among = (0, omega arith, refl); data_alone = refl; named = (0, omega arith, refl); listed = refl },
+    weak_data [] (codes "bar" ∷ []) foo_alias refl);
+  among = (record { library = zed_library; held = (0, omega arith, refl); export = bar; among = tt; data_alone = refl; named = (0, omega arith, refl); listed = refl },
+    weak_data (zed_library ∷ []) (codes "bar" ∷ []) foo_alias refl);
+  listed = (record { library = library_of aliased; held = (0, omega arith, refl); export = bar; among = (0, omega arith, refl); data_alone = refl; named = (0, omega arith, refl); listed = tt },
+    weak_data two_libraries (codes "bar" ∷ codes "queue" ∷ []) queue_member refl);
 }
 
 -- whether an export is an alias one of whose two names is among these, and a member is listed for it
@@ -121,11 +142,18 @@ weak_short libraries names m none x =
 pub near_is_weak_short : NearIsWeakShort
 unfolding searched
 near_is_weak_short = record {
-  named = weak_short two_msvc [] (weak_named (codes "bar") (codes "baz")) refl;
-  alias = weak_short two_msvc (codes "queue" ∷ []) listing refl;
-  held_and_among = weak_short [] (codes "bar" ∷ []) (weak_named (codes "bar") (codes "baz")) refl;
-  listed = weak_short two_msvc (codes "bar" ∷ codes "queue" ∷ []) listing refl;
-  is = weak_short two_msvc (codes "bars" ∷ []) (weak_named (codes "bars") (codes "baz")) refl;
+  named = (record { library = msvc_foo; held = (0, omega arith, refl); export = bar; among = (0, omega arith, refl); alias = refl; name = codes "bar"; is = inl refl; named = tt; listed = refl },
+    weak_short two_msvc [] (weak_named (codes "bar") (codes "baz")) refl);
+  alias = (record { library = msvc_zed; held = (1, omega arith, refl); export = plain_export (codes "queue"); among = (0, omega arith, refl); alias = tt; name = codes "queue"; is = inl refl; named = (0, omega arith, refl); listed = refl },
+    weak_short two_msvc (codes "queue" ∷ []) listing refl);
+  held = (record { library = msvc_foo; held = tt; export = bar; among = (0, omega arith, refl); alias = refl; name = codes "bar"; is = inl refl; named = (0, omega arith, refl); listed = refl },
+    weak_short [] (codes "bar" ∷ []) (weak_named (codes "bar") (codes "baz")) refl);
+  among = (record { library = zed_short (codes "queue"); held = (0, omega arith, refl); export = bar; among = tt; alias = refl; name = codes "bar"; is = inl refl; named = (0, omega arith, refl); listed = refl },
+    weak_short (zed_short (codes "queue") ∷ []) (codes "bar" ∷ []) (weak_named (codes "bar") (codes "baz")) refl);
+  listed = (record { library = msvc_foo; held = (0, omega arith, refl); export = bar; among = (0, omega arith, refl); alias = refl; name = codes "bar"; is = inl refl; named = (0, omega arith, refl); listed = tt },
+    weak_short two_msvc (codes "bar" ∷ codes "queue" ∷ []) listing refl);
+  is = (record { library = msvc_foo; held = (0, omega arith, refl); export = bar; among = (0, omega arith, refl); alias = refl; name = codes "bars"; is = tt; named = (0, omega arith, refl); listed = refl },
+    weak_short two_msvc (codes "bars" ∷ []) (weak_named (codes "bars") (codes "baz")) refl);
 }
 
 -- What is used, and what is taken.
@@ -201,12 +229,31 @@ no_printf : list_any (λ (p : LinkInput). list_any (λ (e : ExportView). bytes_e
 unfolding searched
 no_printf = refl
 
+no_printf_imported : IsImported AMD64 (again ∷ []) closed_bases closed_inputs (codes "printf") → ⊥
+no_printf_imported x =
+    no_export closed_inputs (codes "printf") x.number x.index x.input x.export no_printf refl x.input_is x.export_is
+    (named_by (again ∷ []) (codes "printf") 112 (codes "rintf") (closed_bases.addresses + thunk_width AMD64 * thunks_before x.number closed_inputs + thunk_width AMD64 * x.index) x.export refl (omega arith) x.by)
+
+printf_once : IsDefinedOnce (again ∷ []) (codes "printf")
+unfolding searched
+printf_once = (record { name = codes "printf"; address = None }, refl)
+
+-- what is linked of zed.dll; and what would be, had it `printf` alone
+abbrev zed_input : LinkInput
+zed_input = record { definition = zed_two.definition; members = zed_two.members; chosen = 0 ∷ [] }
+
+abbrev printf_input : LinkInput
+printf_input =
+    let d = of_dll (codes "zed.dll") (plain_export (codes "printf") ∷ []) in
+    record { definition = d; members = []; chosen = 0 ∷ [] }
+
 pub near_is_imported : NearIsImported
+unfolding searched
 near_is_imported = record {
-  by = λ x. import_once (again ∷ placed_from closed_bases closed_objects) queue_twice (closed_bases.addresses + thunk_width AMD64 * thunks_before x.number closed_inputs + thunk_width AMD64 * x.index) x.export x.by;
-  input_is_and_export_is = λ x.
-      no_export closed_inputs (codes "printf") x.number x.index x.input x.export no_printf refl x.input_is x.export_is
-      (named_by (again ∷ []) (codes "printf") 112 (codes "rintf") (closed_bases.addresses + thunk_width AMD64 * thunks_before x.number closed_inputs + thunk_width AMD64 * x.index) x.export refl (omega arith) x.by);
+  by = (record { number = 0; input = zed_input; input_is = refl; index = 0; export = plain_export (codes "queue"); export_is = refl; by = tt },
+    λ x. import_once (again ∷ placed_from closed_bases closed_objects) queue_twice (closed_bases.addresses + thunk_width AMD64 * thunks_before x.number closed_inputs + thunk_width AMD64 * x.index) x.export x.by);
+  input_is = (record { number = 0; input = printf_input; input_is = tt; index = 0; export = plain_export (codes "printf"); export_is = refl; by = inr (refl, refl, printf_once) }, no_printf_imported);
+  export_is = (record { number = 0; input = zed_input; input_is = refl; index = 0; export = plain_export (codes "printf"); export_is = tt; by = inr (refl, refl, printf_once) }, no_printf_imported);
 }
 
 -- Archives.
@@ -225,27 +272,36 @@ pub near_is_archive : NearIsArchive
 unfolding searched
 near_is_archive = record {
   archive = zed_archive;
-  made = λ x. none_made x.made.0.made;
-  distinct = λ x. same_twice (flat_map (symbols_of_library AMD64) (zed_library ∷ zed_library ∷ [])) refl x.distinct;
+  made = (record { made = tt; distinct = distinct_by (flat_map (symbols_of_library AMD64) (record zed_library { members = [] } ∷ [])) refl }, λ x. none_made x.made.0.made);
+  distinct = (record { made = (zed_archive.made.0, (zed_archive.made.0, tt)); distinct = tt },
+    λ x. same_twice (flat_map (symbols_of_library AMD64) (zed_library ∷ zed_library ∷ [])) refl x.distinct);
 }
+
+abbrev drv_library : Library
+drv_library = msvc_library (of_dll (codes "zed.drv") (plain_export (codes "queue") ∷ []))
 
 pub near_is_msvc_archive : NearIsMsvcArchive
 unfolding searched
 near_is_msvc_archive = record {
-  made = λ x. none_made x.made.0.made;
-  distinct = λ x. same_twice (null_descriptor_symbol ∷ flat_map symbols_of_shorts (zed_short (codes "queue") ∷ zed_short (codes "stack") ∷ [])) refl x.distinct;
-  found = λ x. let is : codes "__IMPORT_DESCRIPTOR_zed" ≡ codes "__IMPORT_DESCRIPTOR_zed.drv" = x.found.0 in differ 23 27 (ap length is) (omega arith);
+  made = (record { made = tt; distinct = distinct_by (null_descriptor_symbol ∷ flat_map symbols_of_shorts (zed_short (codes "queue") ∷ [])) refl; found = (refl, tt) }, λ x. none_made x.made.0.made);
+  distinct = (record { made = (record { accepted = refl; made = refl; ordinals = refl }, (record { accepted = refl; made = refl; ordinals = refl }, tt)); distinct = tt; found = (refl, (refl, tt)) },
+    λ x. same_twice (null_descriptor_symbol ∷ flat_map symbols_of_shorts (zed_short (codes "queue") ∷ zed_short (codes "stack") ∷ [])) refl x.distinct);
+  found = (record { made = (record { accepted = refl; made = refl; ordinals = refl }, tt); distinct = distinct_by (null_descriptor_symbol ∷ flat_map symbols_of_shorts (drv_library ∷ [])) refl; found = tt },
+    λ x. let is : codes "__IMPORT_DESCRIPTOR_zed" ≡ codes "__IMPORT_DESCRIPTOR_zed.drv" = x.found.0 in differ 23 27 (ap length is) (omega arith));
 }
 
 pub near_names_no_head_or_tail : NearNamesNoHeadOrTail
 unfolding searched
-near_names_no_head_or_tail = record { head = λ x. true≢false x.head; name = λ x. true≢false x.name }
+near_names_no_head_or_tail = record {
+  head = (record { head = tt; name = refl }, λ x. true≢false x.head);
+  name = (record { head = refl; name = tt }, λ x. true≢false x.name);
+}
 
 pub near_are_named_apart : NearAreNamedApart
 unfolding searched IsDistinct
 near_are_named_apart = record {
-  stems = λ x. true≢false x.stems.0.0;
-  begin = λ x. true≢false (sym x.begin.0);
-  exports = λ x. true≢false x.exports.0.0;
-  plain = λ x. true≢false x.plain.1.0;
+  stems = (record { stems = tt; begin = (refl, (refl, tt)); exports = ((refl, tt), (tt, tt)); plain = (refl, (refl, tt)) }, λ x. true≢false x.stems.0.0);
+  begin = (record { stems = (tt, tt); begin = tt; exports = (tt, tt); plain = (refl, tt) }, λ x. true≢false (sym x.begin.0));
+  exports = (record { stems = ((refl, tt), (tt, tt)); begin = (refl, (refl, tt)); exports = tt; plain = (refl, (refl, tt)) }, λ x. true≢false x.exports.0.0);
+  plain = (record { stems = ((refl, tt), (tt, tt)); begin = (refl, (refl, tt)); exports = ((refl, tt), (tt, tt)); plain = tt }, λ x. true≢false x.plain.1.0);
 }

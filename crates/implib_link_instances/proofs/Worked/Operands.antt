@@ -37,7 +37,7 @@ amd64_program : IsProgram AMD64 touching_8 (both_inputs AMD64) (passing_objects 
 unfolding opened refusal renamed_refusal alias_specs encoded_size weak_object has_tables relocated_test
 amd64_program = program_by (both_inputs AMD64) refl refl refl (admissible_by refl refl)
 
-amd64_beside : AreLinkedBeside AMD64 0x1_4000_0000 (passing_image AMD64 touching_8) (passing_placed AMD64 touching_8) (passing_codes AMD64 touching_8) (passing_targets AMD64 touching_8)
+pub amd64_beside : AreLinkedBeside AMD64 0x1_4000_0000 (passing_image AMD64 touching_8) (passing_placed AMD64 touching_8) (passing_codes AMD64 touching_8) (passing_targets AMD64 touching_8)
 unfolding opened refusal renamed_refusal alias_specs encoded_size weak_object has_tables relocated_test
 amd64_beside = record {
   held = ((0, omega arith, refl), ((3, omega arith, refl), tt));
@@ -55,7 +55,7 @@ i386_program : IsProgram I386 touching_4 (both_inputs I386) (passing_objects I38
 unfolding opened refusal renamed_refusal alias_specs encoded_size weak_object has_tables relocated_test
 i386_program = program_by (both_inputs I386) refl refl refl (admissible_by refl refl)
 
-i386_beside : AreLinkedBeside I386 0x40_0000 (passing_image I386 touching_4) (passing_placed I386 touching_4) (passing_codes I386 touching_4) (passing_targets I386 touching_4)
+pub i386_beside : AreLinkedBeside I386 0x40_0000 (passing_image I386 touching_4) (passing_placed I386 touching_4) (passing_codes I386 touching_4) (passing_targets I386 touching_4)
 unfolding opened refusal renamed_refusal alias_specs encoded_size weak_object has_tables relocated_test
 i386_beside = record {
   held = ((0, omega arith, refl), ((3, omega arith, refl), tt));
@@ -98,7 +98,7 @@ amd64_rebased =
     rebased_by 0x1_4000_0000 0x7FF6_1234_0000 amd64_fronts (passing_memory AMD64 touching_8) (apart_as_they_rise (2 ^ 31) amd64_fronts refl)
     ((0x1_4000_0080, (number (passing_memory AMD64 touching_8) 8 0x1034 0x1_4000_0080 (0x80 ∷ 0 ∷ 0 ∷ 0x40 ∷ 1 ∷ 0 ∷ 0 ∷ 0 ∷ []) refl refl refl, refl)), tt)
 
-amd64_moved : AreMoved AMD64 0x1_4000_0000 0x7FF6_1234_0000 (passing_image AMD64 touching_8) (passing_placed AMD64 touching_8) (passing_codes AMD64 touching_8) (passing_targets AMD64 touching_8) (passing_places AMD64) (moved_memory AMD64 touching_8)
+pub amd64_moved : AreMoved AMD64 0x1_4000_0000 0x7FF6_1234_0000 (passing_image AMD64 touching_8) (passing_placed AMD64 touching_8) (passing_codes AMD64 touching_8) (passing_targets AMD64 touching_8) (passing_places AMD64) (moved_memory AMD64 touching_8)
 unfolding opened refusal renamed_refusal alias_specs encoded_size weak_object has_tables relocated_test
 amd64_moved = record {
   beside = amd64_beside;
@@ -117,7 +117,7 @@ i386_rebased =
     rebased_by 0x40_0000 0x1000_0000 i386_fronts (passing_memory I386 touching_4) (apart_as_they_rise (2 ^ 31) i386_fronts refl)
     ((0x40_2010, (number (passing_memory I386 touching_4) 4 0x1005 0x40_2010 (0x10 ∷ 0x20 ∷ 0x40 ∷ 0 ∷ []) refl refl refl, refl)), ((0x40_0060, (number (passing_memory I386 touching_4) 4 0x100B 0x40_0060 (0x60 ∷ 0 ∷ 0x40 ∷ 0 ∷ []) refl refl refl, refl)), ((0x40_0060, (number (passing_memory I386 touching_4) 4 0x1011 0x40_0060 (0x60 ∷ 0 ∷ 0x40 ∷ 0 ∷ []) refl refl refl, refl)), ((0x40_0060, (number (passing_memory I386 touching_4) 4 0x1018 0x40_0060 (0x60 ∷ 0 ∷ 0x40 ∷ 0 ∷ []) refl refl refl, refl)), ((0x40_0060, (number (passing_memory I386 touching_4) 4 0x101C 0x40_0060 (0x60 ∷ 0 ∷ 0x40 ∷ 0 ∷ []) refl refl refl, refl)), ((0x40_0060, (number (passing_memory I386 touching_4) 4 0x1042 0x40_0060 (0x60 ∷ 0 ∷ 0x40 ∷ 0 ∷ []) refl refl refl, refl)), tt))))))
 
-i386_moved : AreMoved I386 0x40_0000 0x1000_0000 (passing_image I386 touching_4) (passing_placed I386 touching_4) (passing_codes I386 touching_4) (passing_targets I386 touching_4) (passing_places I386) (moved_memory I386 touching_4)
+pub i386_moved : AreMoved I386 0x40_0000 0x1000_0000 (passing_image I386 touching_4) (passing_placed I386 touching_4) (passing_codes I386 touching_4) (passing_targets I386 touching_4) (passing_places I386) (moved_memory I386 touching_4)
 unfolding opened refusal renamed_refusal alias_specs encoded_size weak_object has_tables relocated_test
 i386_moved = record {
   beside = i386_beside;
@@ -506,8 +506,6 @@ unfolding opened refusal renamed_refusal alias_specs encoded_size weak_object ha
 movable_code = record {
   amd64 = amd64_movable;
   i386 = i386_movable;
-  overlapping = λ can. can.apart.0.0.0 0x1007 refl refl;
-  beyond = λ can. let end : 0x102A ≤ 0x1029 = can.within.0.0 in omega arith;
   somewhere =
       moved_memory_exists AMD64 0x1_4000_0000 0x2_0000_0000 (passing_image AMD64 touching_8) (passing_placed AMD64 touching_8) (passing_codes AMD64 touching_8) (passing_targets AMD64 touching_8)
       (program_tables_none AMD64 OfLinker touching_8 (map gnu_input (both_inputs AMD64)) (passing_objects AMD64) worked_programs.amd64.made amd64_program.held.ended) amd64_beside amd64_movable tt;

@@ -1,7 +1,7 @@
 -- Names that stand for others, by computing and by the law.
 use Rattle.std.proofs.Common.{◌≡◌, ℕ, ◌+◌, Bool, true, false, List, [], ◌∷◌, ◌++◌, codes, Option, None, Some, refl, ap, sym, ◌∙◌, subst, arith, inl, inr, if◌then◌else◌, true≢false}
 use Rattle.std.specs.Prelude.{◌&&◌, ◌==◌, bytes_eq, drop, slice_get, take}
-use Rattle.std.specs.List.{list_all}
+use Rattle.std.specs.List.{Contains, list_all}
 use Rattle.std.proofs.lemmas.Bool.{and_from, eq-eqb, eqb-true}
 use Rattle.implib.specs.declared.machine.MachineType.TheVariants.{AMD64}
 use Rattle.implib.specs.Formats.Constants.{amd64_rel32, class_external}
@@ -60,19 +60,28 @@ module _ (outside : List ℕ → ℕ) (linked : List Placed) (codes : List Linke
       let nowhere : definitions_of names.symbol.name linked ≡ [] = ap (λ n. definitions_of n linked) names.named ∙ none in
       rw (names.target, names.undefined, nowhere) (ap outside names.named)
 
+  stands_in_tables : found_at (outside name) (first_address (definitions_of other linked)) ≡ true → (c : LinkedCode) (index address : ℕ) → Names c.from index name → first_address (definitions_of other linked) ≡ Some address →
+      taken_address outside linked c.from (slice_get c.from.object.entries index) ≡ address
+  unfolding found_at
+  stands_in_tables entry c index address names found = taken_by_name c index names ∙ eqb-true (outside name) address (rw found at entry)
+
+  stands_in_code : list_all (λ (d : LinkedCode). list_all (defined_at (outside name) other d) d.from.object.entries) codes ≡ true → (c d : LinkedCode) (index : ℕ) (t : ObjectSymbol) → Contains codes d → Names c.from index name → DefinesIn d t → t.name ≡ other →
+      taken_address outside linked c.from (slice_get c.from.object.entries index) ≡ d.position + t.value
+  unfolding defined_at
+  stands_in_code code c d index t d_held names defines named =
+      let one = each_of (λ (x : LinkedCode). list_all (defined_at (outside name) other x) x.from.object.entries) d codes code (contains_among d codes d_held) in
+      let two : defined_at (outside name) other d (ASymbol t) ≡ true = each_of (defined_at (outside name) other d) (ASymbol t) d.from.object.entries one (contains_among (ASymbol t) d.from.object.entries defines.held) in
+      let same : bytes_eq other t.name ≡ true = subst (λ n. bytes_eq other n ≡ true) (sym named) (same_text other) in
+      let here : (t.section == d.number) ≡ true = eq-eqb t.section d.number defines.here in
+      let all : (is_defined_external t && ((t.section == d.number) && bytes_eq other t.name)) ≡ true =
+      and_from (is_defined_external t) ((t.section == d.number) && bytes_eq other t.name) defines.external (and_from (t.section == d.number) (bytes_eq other t.name) here same) in
+      taken_by_name c index names ∙ eqb-true (outside name) (d.position + t.value) (rw all at two)
+
   stands_by : found_at (outside name) (first_address (definitions_of other linked)) ≡ true → list_all (λ (d : LinkedCode). list_all (defined_at (outside name) other d) d.from.object.entries) codes ≡ true →
       StandsFor linked codes (λ c index. taken_address outside linked c.from (slice_get c.from.object.entries index)) name other
-  unfolding found_at defined_at
   stands_by entry code = record {
-    tables = λ c index address held names found. taken_by_name c index names ∙ eqb-true (outside name) address (rw found at entry);
-    code = λ c d index t held d_held names defines named.
-        let one = each_of (λ (x : LinkedCode). list_all (defined_at (outside name) other x) x.from.object.entries) d codes code (contains_among d codes d_held) in
-        let two : defined_at (outside name) other d (ASymbol t) ≡ true = each_of (defined_at (outside name) other d) (ASymbol t) d.from.object.entries one (contains_among (ASymbol t) d.from.object.entries defines.held) in
-        let same : bytes_eq other t.name ≡ true = subst (λ n. bytes_eq other n ≡ true) (sym named) (same_text other) in
-        let here : (t.section == d.number) ≡ true = eq-eqb t.section d.number defines.here in
-        let all : (is_defined_external t && ((t.section == d.number) && bytes_eq other t.name)) ≡ true =
-        and_from (is_defined_external t) ((t.section == d.number) && bytes_eq other t.name) defines.external (and_from (t.section == d.number) (bytes_eq other t.name) here same) in
-        taken_by_name c index names ∙ eqb-true (outside name) (d.position + t.value) (rw all at two);
+    tables = λ c index address held names found. stands_in_tables entry c index address names found;
+    code = λ c d index t held d_held names defines named. stands_in_code code c d index t d_held names defines named;
   }
 
 -- GNU ld's program.
@@ -277,14 +286,20 @@ other_number : (n m : ℕ) → (n == m) ≡ false → n ≡ m → ⊥
 other_number n m differ same = true≢false (sym (eq-eqb n m same) ∙ differ)
 
 pub near_stands_for : NearStandsFor
-unfolding opened refusal renamed_refusal alias_specs encoded_size weak_object
+unfolding opened refusal renamed_refusal alias_specs encoded_size weak_object found_at defined_at
 near_stands_for = record {
-  tables = λ x.
+  tables = (
+    record { tables = tt; code = λ c d index t held d_held names defines named. stands_in_code other_address other_linked other_codes (codes "__imp_zoo_oped") (codes "__imp_ExitProcess") refl refl c d index t d_held names defines named },
+    λ x.
       other_number 0x3070 0x3060 refl
-      (x.tables other_start 11 0x3060 (0, omega arith, refl) (record { symbol = symbol_of_class (codes "__imp_zoo_oped") 0 class_external; target = refl; undefined = refl; named = refl }) refl);
-  code = λ x.
+      (x.tables other_start 11 0x3060 (0, omega arith, refl) (record { symbol = symbol_of_class (codes "__imp_zoo_oped") 0 class_external; target = refl; undefined = refl; named = refl }) refl),
+  );
+  code = (
+    record { tables = λ c index address held names found. stands_in_tables other_address other_linked other_codes (codes "zoo_oped") (codes "start") refl refl c index address names found; code = tt },
+    λ x.
       other_number 0x1030 0x1000 refl
       (x.code other_start other_start 13 (record { name = codes "start"; value = 0; section = 1; kind = 0x20; class = class_external }) (0, omega arith, refl) (0, omega arith, refl)
       (record { symbol = record { name = codes "zoo_oped"; value = 0; section = 0; kind = 0x20; class = class_external }; target = refl; undefined = refl; named = refl })
-      (record { held = (2, omega arith, refl); external = refl; here = refl }) refl);
+      (record { held = (2, omega arith, refl); external = refl; here = refl }) refl),
+  );
 }

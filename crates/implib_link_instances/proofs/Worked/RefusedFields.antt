@@ -12,12 +12,11 @@ use Rattle.implib.specs.Members.Members.{refusal, renamed_refusal}
 use Rattle.implib.specs.Members.WeakExternal.{weak_object}
 use Rattle.implib.proofs.Link.Loading.{number_once}
 use Rattle.implib_link.specs.Gnu.Calls.{amd64_addr64, arm64_addr64, arm64_branch26, i386_rel32}
-use Rattle.implib_link.specs.Gnu.Operands.{branch_leads, operand_leads}
 use Rattle.implib_link.specs.Gnu.Program.{has_tables}
 use Rattle.implib_link.specs.Stub.{adrp_immediate, ldr_immediate, page, plus_signed, with_adrp, with_bits}
-use Rattle.implib_link_instances.specs.Worked.Operands.{amd64_rel32_1, field, imp_open, or_else, passing_at, passing_code, passing_linked, passing_memory, passing_placed, passing_targets}
+use Rattle.implib_link_instances.specs.Worked.Operands.{amd64_rel32_1, field, imp_open, or_else, passing_at, passing_code, passing_linked, passing_placed, passing_targets}
 use Rattle.implib_link_instances.specs.Worked.Programs.{touching_8}
-use Rattle.implib_link_instances.specs.Worked.RefusedFields.{RefusedBranches, RefusedCode, RefusedFieldsOfTypes, RefusedInstructions, RefusedMoves, RefusedOperands, RefusedPairs, RefusedPointers, linked_on_amd64, open_address, two_ranges, with_byte}
+use Rattle.implib_link_instances.specs.Worked.RefusedFields.{RefusedCode, RefusedFieldsOfTypes, RefusedInstructions, RefusedMoves, RefusedPairs, call_number, linked_on_amd64, open_address, pair_memory, two_ranges, with_byte}
 use Rattle.implib_link.proofs.Gnu.Memory.{byte_first}
 use Rattle.implib_link.proofs.Gnu.Stubs.{same_address}
 use Rattle.implib_link_instances.proofs.Worked.LinkedCode.{relocated_by, relocated_test}
@@ -81,79 +80,31 @@ refused_types = record {
   arm64_wide = relocated_by ARM64 0x1_4000_0000 (passing_targets ARM64 touching_8 (passing_at ARM64)) 0x1000 (passing_code ARM64) (with_byte (passing_linked ARM64) 25 8) refl;
 }
 
-call_number : List ℕ
-call_number = 0x6F ∷ 0xF0 ∷ 0xFF ∷ 0xFF ∷ []
-
-pub refused_operands : RefusedOperands
-unfolding opened refusal renamed_refusal alias_specs encoded_size weak_object has_tables call_number
-refused_operands = record {
-  arrives =
-      let memory : List Range = two_ranges 0x100D (0x6F ∷ 0xF0 ∷ 0xFF ∷ 0xFF ∷ []) open_address in
-      record { number = 0xFFFF_F06F; there = number memory 4 0x100D 0xFFFF_F06F call_number refl refl refl; entry = 0x80; own = refl; leads = refl; located = are_located memory open_address 0x80 refl };
-  there = λ x. absent (two_ranges 0x100E (0x6F ∷ 0xF0 ∷ 0xFF ∷ 0xFF ∷ []) open_address) 0x100D 4 x.number refl (omega arith) x.there;
-  leads = λ x.
-      let memory : List Range = two_ranges 0x100D (0x70 ∷ 0xF0 ∷ 0xFF ∷ 0xFF ∷ []) open_address in
-      let same : x.number ≡ 0xFFFF_F070 = number_once memory 4 0x100D x.number 0xFFFF_F070 x.there (number memory 4 0x100D 0xFFFF_F070 (0x70 ∷ 0xF0 ∷ 0xFF ∷ 0xFF ∷ []) refl refl refl) in
-      let entry : x.entry ≡ 0x80 = same_address (imp_open AMD64) x.entry 0x80 (definitions_of (imp_open AMD64) linked_on_amd64) x.own refl in
-      let led : operand_leads AMD64 0x1_4000_100D 0 0xFFFF_F070 ≡ Some 0x1_4000_0080 = sym (ap (λ n. operand_leads AMD64 0x1_4000_100D 0 n) same) ∙ x.leads ∙ ap (λ e. Some (0x1_4000_0000 + e)) entry in
-      differ 0x1_4000_0080 0x1_4000_0081 (sym (value 0x1_4000_0081 0x1_4000_0080 led)) (omega arith);
-  own = λ x. let none : [] ≡ record { name = codes "hello"; address = Some x.entry } ∷ [] = x.own in cc;
-  located = λ x.
-      let memory : List Range = two_ranges 0x100D (0x6F ∷ 0xF0 ∷ 0xFF ∷ 0xFF ∷ []) (0x41 ∷ drop 1 open_address) in
-      let entry : x.entry ≡ 0x80 = same_address (imp_open AMD64) x.entry 0x80 (definitions_of (imp_open AMD64) linked_on_amd64) x.own refl in
-      other_byte memory 0x80 0x40 0x41 (drop 1 open_address) refl (omega arith) (subst (λ e. BytesAt memory e open_address) entry x.located);
-}
-
 pub refused_instructions : RefusedInstructions
-unfolding opened refusal renamed_refusal alias_specs encoded_size weak_object has_tables call_number
+unfolding opened refusal renamed_refusal alias_specs encoded_size weak_object has_tables
 refused_instructions = record {
   arrives =
       let memory : List Range = two_ranges 0x100B (0xFF ∷ 0x15 ∷ 0x6F ∷ 0xF0 ∷ 0xFF ∷ 0xFF ∷ []) open_address in
       record { field = call_number; four = refl; there = are_located memory (0xFF ∷ 0x15 ∷ 0x6F ∷ 0xF0 ∷ 0xFF ∷ 0xFF ∷ []) 0x100B refl; entry = 0x80; own = refl; leads = refl; located = are_located memory open_address 0x80 refl };
-  there = λ x. second_byte (two_ranges 0x100B (0xFF ∷ 0x25 ∷ 0x6F ∷ 0xF0 ∷ 0xFF ∷ 0xFF ∷ []) open_address) 0x100B 0xFF 0x15 0x25 (x.field ++ []) refl (omega arith) x.there;
-  own = λ x. let none : [] ≡ record { name = codes "hello"; address = Some x.entry } ∷ [] = x.own in cc;
-  located = λ x.
+  there = (record { field = call_number; four = refl; there = tt; entry = 0x80; own = refl; leads = refl; located = are_located (two_ranges 0x100B (0xFF ∷ 0x25 ∷ call_number) open_address) open_address 0x80 refl },
+    λ x. second_byte (two_ranges 0x100B (0xFF ∷ 0x25 ∷ 0x6F ∷ 0xF0 ∷ 0xFF ∷ 0xFF ∷ []) open_address) 0x100B 0xFF 0x15 0x25 (x.field ++ []) refl (omega arith) x.there);
+  own = (
+    let memory : List Range = two_ranges 0x100B (0xFF ∷ 0x15 ∷ call_number) open_address in
+    record { field = call_number; four = refl; there = are_located memory (0xFF ∷ 0x15 ∷ call_number) 0x100B refl; entry = 0x80; own = tt; leads = refl; located = are_located memory open_address 0x80 refl },
+    λ x. let none : [] ≡ record { name = codes "hello"; address = Some x.entry } ∷ [] = x.own in cc,
+  );
+  located = (
+    let memory : List Range = two_ranges 0x100B (0xFF ∷ 0x15 ∷ call_number) (0x41 ∷ drop 1 open_address) in
+    record { field = call_number; four = refl; there = are_located memory (0xFF ∷ 0x15 ∷ call_number) 0x100B refl; entry = 0x80; own = refl; leads = refl; located = tt },
+    λ x.
       let memory : List Range = two_ranges 0x100B (0xFF ∷ 0x15 ∷ 0x6F ∷ 0xF0 ∷ 0xFF ∷ 0xFF ∷ []) (0x41 ∷ drop 1 open_address) in
       let entry : x.entry ≡ 0x80 = same_address (imp_open AMD64) x.entry 0x80 (definitions_of (imp_open AMD64) linked_on_amd64) x.own refl in
-      other_byte memory 0x80 0x40 0x41 (drop 1 open_address) refl (omega arith) (subst (λ e. BytesAt memory e open_address) entry x.located);
+      other_byte memory 0x80 0x40 0x41 (drop 1 open_address) refl (omega arith) (subst (λ e. BytesAt memory e open_address) entry x.located),
+  );
 }
-
-pub refused_pointers : RefusedPointers
-unfolding opened refusal renamed_refusal alias_specs encoded_size weak_object has_tables
-refused_pointers = record {
-  arrives =
-      let memory : List Range = two_ranges 0x1034 (0x80 ∷ 0 ∷ 0 ∷ 0x40 ∷ 1 ∷ 0 ∷ 0 ∷ 0 ∷ []) open_address in
-      record { entry = 0x80; own = refl; there = number memory 8 0x1034 0x1_4000_0080 (0x80 ∷ 0 ∷ 0 ∷ 0x40 ∷ 1 ∷ 0 ∷ 0 ∷ 0 ∷ []) refl refl refl; located = are_located memory open_address 0x80 refl };
-  there = λ x.
-      let memory : List Range = two_ranges 0x1034 (0x88 ∷ 0 ∷ 0 ∷ 0x40 ∷ 1 ∷ 0 ∷ 0 ∷ 0 ∷ []) open_address in
-      let entry : x.entry ≡ 0x80 = same_address (imp_open AMD64) x.entry 0x80 (definitions_of (imp_open AMD64) linked_on_amd64) x.own refl in
-      let is : 0x1_4000_0080 ≡ 0x1_4000_0088 = number_once memory 8 0x1034 0x1_4000_0080 0x1_4000_0088 (subst (λ e. NumberAt memory 8 0x1034 (0x1_4000_0000 + e)) entry x.there)
-      (number memory 8 0x1034 0x1_4000_0088 (0x88 ∷ 0 ∷ 0 ∷ 0x40 ∷ 1 ∷ 0 ∷ 0 ∷ 0 ∷ []) refl refl refl) in
-      differ 0x1_4000_0080 0x1_4000_0088 is (omega arith);
-  own = λ x. let none : [] ≡ record { name = codes "hello"; address = Some x.entry } ∷ [] = x.own in cc;
-  located = λ x.
-      let memory : List Range = two_ranges 0x1034 (0x80 ∷ 0 ∷ 0 ∷ 0x40 ∷ 1 ∷ 0 ∷ 0 ∷ 0 ∷ []) (0x41 ∷ drop 1 open_address) in
-      let entry : x.entry ≡ 0x80 = same_address (imp_open AMD64) x.entry 0x80 (definitions_of (imp_open AMD64) linked_on_amd64) x.own refl in
-      other_byte memory 0x80 0x40 0x41 (drop 1 open_address) refl (omega arith) (subst (λ e. BytesAt memory e open_address) entry x.located);
-}
-
-pub refused_branches : RefusedBranches
-refused_branches = record {
-  arrives = record { number = 0x15; there = number (two_ranges 0x1027 (0x15 ∷ 0 ∷ 0 ∷ 0 ∷ []) []) 4 0x1027 0x15 (0x15 ∷ 0 ∷ 0 ∷ 0 ∷ []) refl refl refl; leads = refl };
-  there = λ x.
-      past_end (two_ranges 0x1026 (0x15 ∷ 0 ∷ 0 ∷ 0 ∷ []) []) 0x1027 x.number refl x.there;
-  leads = λ x.
-      let memory : List Range = two_ranges 0x1027 (0x19 ∷ 0 ∷ 0 ∷ 0 ∷ []) [] in
-      let same : x.number ≡ 0x19 = number_once memory 4 0x1027 x.number 0x19 x.there (number memory 4 0x1027 0x19 (0x19 ∷ 0 ∷ 0 ∷ 0 ∷ []) refl refl refl) in
-      let led : branch_leads AMD64 0x1_4000_1027 0 0x19 ≡ Some 0x1_4000_1040 = sym (ap (λ n. branch_leads AMD64 0x1_4000_1027 0 n) same) ∙ x.leads in
-      differ 0x1_4000_1040 0x1_4000_1044 (sym (value 0x1_4000_1044 0x1_4000_1040 led)) (omega arith);
-}
-
-pair_memory : List ℕ → List ℕ → List ℕ → List Range
-pair_memory adrp load bytes = record { start = 0x100C; bytes = adrp } ∷ two_ranges 0x1010 load bytes
 
 pub refused_pairs : RefusedPairs
-unfolding opened refusal renamed_refusal alias_specs encoded_size weak_object has_tables pair_memory
+unfolding opened refusal renamed_refusal alias_specs encoded_size weak_object has_tables
 refused_pairs = record {
   arrives =
       let memory : List Range = pair_memory (0xE8 ∷ 0xFF ∷ 0xFF ∷ 0xF0 ∷ []) (8 ∷ 0x41 ∷ 0x40 ∷ 0xF9 ∷ []) open_address in
@@ -169,17 +120,28 @@ refused_pairs = record {
         leads = refl;
         located = are_located memory open_address 0x80 refl;
       };
-  is_adrp = λ x.
+  is_adrp = (
+    let memory : List Range = pair_memory (0xE9 ∷ 0xFF ∷ 0xFF ∷ 0xF0 ∷ []) (8 ∷ 0x41 ∷ 0x40 ∷ 0xF9 ∷ []) open_address in
+    record { adrp = 0xF0FF_FFE9; adrp_there = number memory 4 0x100C 0xF0FF_FFE9 (0xE9 ∷ 0xFF ∷ 0xFF ∷ 0xF0 ∷ []) refl refl refl; is_adrp = tt; load = 0xF940_4108; load_there = number memory 4 0x1010 0xF940_4108 (8 ∷ 0x41 ∷ 0x40 ∷ 0xF9 ∷ []) refl refl refl; is_load = refl; entry = 0x80; own = refl; leads = refl; located = are_located memory open_address 0x80 refl },
+    λ x.
       let memory : List Range = pair_memory (0xE9 ∷ 0xFF ∷ 0xFF ∷ 0xF0 ∷ []) (8 ∷ 0x41 ∷ 0x40 ∷ 0xF9 ∷ []) open_address in
       let same : x.adrp ≡ 0xF0FF_FFE9 = number_once memory 4 0x100C x.adrp 0xF0FF_FFE9 x.adrp_there (number memory 4 0x100C 0xF0FF_FFE9 (0xE9 ∷ 0xFF ∷ 0xFF ∷ 0xF0 ∷ []) refl refl refl) in
       let is : 0x9000_0009 ≡ 0x9000_0008 = sym (ap (λ n. with_adrp 0 n) same) ∙ x.is_adrp in
-      differ 0x9000_0008 0x9000_0009 (sym is) (omega arith);
-  is_load = λ x.
+      differ 0x9000_0008 0x9000_0009 (sym is) (omega arith),
+  );
+  is_load = (
+    let memory : List Range = pair_memory (0xE8 ∷ 0xFF ∷ 0xFF ∷ 0xF0 ∷ []) (9 ∷ 0x41 ∷ 0x40 ∷ 0xF9 ∷ []) open_address in
+    record { adrp = 0xF0FF_FFE8; adrp_there = number memory 4 0x100C 0xF0FF_FFE8 (0xE8 ∷ 0xFF ∷ 0xFF ∷ 0xF0 ∷ []) refl refl refl; is_adrp = refl; load = 0xF940_4109; load_there = number memory 4 0x1010 0xF940_4109 (9 ∷ 0x41 ∷ 0x40 ∷ 0xF9 ∷ []) refl refl refl; is_load = tt; entry = 0x80; own = refl; leads = refl; located = are_located memory open_address 0x80 refl },
+    λ x.
       let memory : List Range = pair_memory (0xE8 ∷ 0xFF ∷ 0xFF ∷ 0xF0 ∷ []) (9 ∷ 0x41 ∷ 0x40 ∷ 0xF9 ∷ []) open_address in
       let same : x.load ≡ 0xF940_4109 = number_once memory 4 0x1010 x.load 0xF940_4109 x.load_there (number memory 4 0x1010 0xF940_4109 (9 ∷ 0x41 ∷ 0x40 ∷ 0xF9 ∷ []) refl refl refl) in
       let is : 0xF940_0109 ≡ 0xF940_0108 = sym (ap (λ n. with_bits 10 12 0 n) same) ∙ x.is_load in
-      differ 0xF940_0108 0xF940_0109 (sym is) (omega arith);
-  leads = λ x.
+      differ 0xF940_0108 0xF940_0109 (sym is) (omega arith),
+  );
+  leads = (
+    let memory : List Range = pair_memory (0xE8 ∷ 0xFF ∷ 0xFF ∷ 0xF0 ∷ []) (8 ∷ 0x45 ∷ 0x40 ∷ 0xF9 ∷ []) open_address in
+    record { adrp = 0xF0FF_FFE8; adrp_there = number memory 4 0x100C 0xF0FF_FFE8 (0xE8 ∷ 0xFF ∷ 0xFF ∷ 0xF0 ∷ []) refl refl refl; is_adrp = refl; load = 0xF940_4508; load_there = number memory 4 0x1010 0xF940_4508 (8 ∷ 0x45 ∷ 0x40 ∷ 0xF9 ∷ []) refl refl refl; is_load = refl; entry = 0x80; own = refl; leads = tt; located = are_located memory open_address 0x80 refl },
+    λ x.
       let memory : List Range = pair_memory (0xE8 ∷ 0xFF ∷ 0xFF ∷ 0xF0 ∷ []) (8 ∷ 0x45 ∷ 0x40 ∷ 0xF9 ∷ []) open_address in
       let first : x.adrp ≡ 0xF0FF_FFE8 = number_once memory 4 0x100C x.adrp 0xF0FF_FFE8 x.adrp_there (number memory 4 0x100C 0xF0FF_FFE8 (0xE8 ∷ 0xFF ∷ 0xFF ∷ 0xF0 ∷ []) refl refl refl) in
       let second : x.load ≡ 0xF940_4508 = number_once memory 4 0x1010 x.load 0xF940_4508 x.load_there (number memory 4 0x1010 0xF940_4508 (8 ∷ 0x45 ∷ 0x40 ∷ 0xF9 ∷ []) refl refl refl) in
@@ -187,22 +149,22 @@ refused_pairs = record {
       let led : 0x1_4000_0088 ≡ 0x1_4000_0080 =
       sym (ap (λ n. plus_signed 21 4096 (adrp_immediate n) (page 0x1_4000_100C * 4096) + ldr_immediate 0xF940_4508) first)
       ∙ sym (ap (λ n. plus_signed 21 4096 (adrp_immediate x.adrp) (page 0x1_4000_100C * 4096) + ldr_immediate n) second) ∙ x.leads ∙ ap (λ e. 0x1_4000_0000 + e) entry in
-      differ 0x1_4000_0080 0x1_4000_0088 (sym led) (omega arith);
-  own = λ x. let none : [] ≡ record { name = codes "hello"; address = Some x.entry } ∷ [] = x.own in cc;
-  located = λ x.
+      differ 0x1_4000_0080 0x1_4000_0088 (sym led) (omega arith),
+  );
+  own = (
+    let memory : List Range = pair_memory (0xE8 ∷ 0xFF ∷ 0xFF ∷ 0xF0 ∷ []) (8 ∷ 0x41 ∷ 0x40 ∷ 0xF9 ∷ []) open_address in
+    record { adrp = 0xF0FF_FFE8; adrp_there = number memory 4 0x100C 0xF0FF_FFE8 (0xE8 ∷ 0xFF ∷ 0xFF ∷ 0xF0 ∷ []) refl refl refl; is_adrp = refl; load = 0xF940_4108; load_there = number memory 4 0x1010 0xF940_4108 (8 ∷ 0x41 ∷ 0x40 ∷ 0xF9 ∷ []) refl refl refl; is_load = refl; entry = 0x80; own = tt; leads = refl; located = are_located memory open_address 0x80 refl },
+    λ x. let none : [] ≡ record { name = codes "hello"; address = Some x.entry } ∷ [] = x.own in cc,
+  );
+  located = (
+    let memory : List Range = pair_memory (0xE8 ∷ 0xFF ∷ 0xFF ∷ 0xF0 ∷ []) (8 ∷ 0x41 ∷ 0x40 ∷ 0xF9 ∷ []) (0x41 ∷ drop 1 open_address) in
+    record { adrp = 0xF0FF_FFE8; adrp_there = number memory 4 0x100C 0xF0FF_FFE8 (0xE8 ∷ 0xFF ∷ 0xFF ∷ 0xF0 ∷ []) refl refl refl; is_adrp = refl; load = 0xF940_4108; load_there = number memory 4 0x1010 0xF940_4108 (8 ∷ 0x41 ∷ 0x40 ∷ 0xF9 ∷ []) refl refl refl; is_load = refl; entry = 0x80; own = refl; leads = refl; located = tt },
+    λ x.
       let memory : List Range = pair_memory (0xE8 ∷ 0xFF ∷ 0xFF ∷ 0xF0 ∷ []) (8 ∷ 0x41 ∷ 0x40 ∷ 0xF9 ∷ []) (0x41 ∷ drop 1 open_address) in
       let entry : x.entry ≡ 0x80 = same_address (imp_open ARM64) x.entry 0x80 (definitions_of (imp_open ARM64) (passing_placed ARM64 touching_8)) x.own refl in
-      other_byte memory 0x80 0x40 0x41 (drop 1 open_address) refl (omega arith) (subst (λ e. BytesAt memory e open_address) entry x.located);
+      other_byte memory 0x80 0x40 0x41 (drop 1 open_address) refl (omega arith) (subst (λ e. BytesAt memory e open_address) entry x.located),
+  );
 }
 
 pub refused_moves : RefusedMoves
-unfolding opened refusal renamed_refusal alias_specs encoded_size weak_object has_tables
-refused_moves = record {
-  unmoved = λ r.
-      let memory : List Range = passing_memory AMD64 touching_8 in
-      let linked : NumberAt memory 8 0x1034 0x1_4000_0080 = number memory 8 0x1034 0x1_4000_0080 (0x80 ∷ 0 ∷ 0 ∷ 0x40 ∷ 1 ∷ 0 ∷ 0 ∷ 0 ∷ []) refl refl refl in
-      let is : 0x1_4000_0080 ≡ 0x7FF6_1234_0080 = number_once memory 8 0x1034 0x1_4000_0080 0x7FF6_1234_0080 linked (r.moved (record { address = 0x1034; width = 8 }) 0x1_4000_0080 (0, omega arith, refl) linked) in
-      differ 0x1_4000_0080 0x7FF6_1234_0080 is (omega arith);
-  kept = λ r. let is : Some 0 ≡ Some 0x40 = r.kept 0x1007 0x40 refl refl in differ 0 0x40 (value 0 0x40 is) (omega arith);
-  half_page = λ is. differ 0 0x800 is (omega arith);
-}
+refused_moves = record { half_page = λ is. differ 0 0x800 is (omega arith) }

@@ -1,7 +1,6 @@
 -- Single rules of linking, by computing.
 use Rattle.std.proofs.Common.{◌≡◌, ℕ, ◌+◌, ◌*◌, List, [], ◌∷◌, ◌++◌, codes, length, Some, refl, ap, sym, ◌∙◌, subst, arith}
 use Rattle.std.specs.Prelude.{drop}
-use Rattle.implib.specs.declared.machine.MachineType.TheVariants.{AMD64}
 use Rattle.implib.specs.Formats.Constants.{class_external}
 use Rattle.implib.specs.Formats.ShortImport.{short_import_in}
 use Rattle.implib.specs.Link.Image.{Range}
@@ -10,10 +9,8 @@ use Rattle.implib.specs.Link.Placement.{next_multiple}
 use Rattle.implib.specs.Members.ImportTables.{zeros}
 use Rattle.implib_link.specs.Directory.{DirectoryAt}
 use Rattle.implib_link.specs.Flavors.LldImports.{comes_first, short_for}
-use Rattle.implib_link.specs.Gnu.Calls.{call_reads, direct_leads}
 use Rattle.implib_link.specs.Gnu.Fields.{placed_code}
-use Rattle.implib_link.specs.Gnu.Pointers.{load_reads}
-use Rattle.implib_link.specs.Stub.{adrp_immediate, jump_reads, ldr_immediate, page, plus_signed, word_at}
+use Rattle.implib_link.specs.Stub.{adrp_immediate, ldr_immediate, page, plus_signed, word_at}
 use Rattle.implib_link_instances.specs.Worked.Programs.{symbol_of_class}
 use Rattle.implib_link_instances.specs.Worked.RefusedFields.{open_address, two_ranges}
 use Rattle.implib_link_instances.specs.Worked.Rules.{ArrivalRules, FieldRules, LldRules, MovingRules, SymbolRules, early_caller, late_open, other_address}
@@ -76,28 +73,13 @@ same_bytes memory (x ∷ xs) (y ∷ ys) a first second long =
 pub entry_is : (base entry place : ℕ) → Some (base + place) ≡ Some (base + entry) → entry ≡ place
 entry_is base entry place is = let same : base + place ≡ base + entry = value (base + place) (base + entry) is in omega arith
 
-elsewhere : (memory : List Range) (entry : ℕ) → entry ≡ 0x80 → BytesAt memory 0x80 other_address → BytesAt memory entry open_address → ⊥
+pub elsewhere : (memory : List Range) (entry : ℕ) → entry ≡ 0x80 → BytesAt memory 0x80 other_address → BytesAt memory entry open_address → ⊥
 unfolding BytesAt
 elsewhere memory entry is there located = other_byte memory 0x80 0x40 0x41 (drop 1 open_address) there.0 (omega arith) (subst (λ e. BytesAt memory e open_address) is located)
 
 pub arrival_rules : ArrivalRules
 unfolding DirectoryAt
 arrival_rules = record {
-  call = λ x.
-      let code : List ℕ = 0xFF ∷ 0x15 ∷ 0x6F ∷ 0xF0 ∷ 0xFF ∷ 0xFF ∷ [] in
-      let memory : List Range = two_ranges 0x100B (0xFF ∷ 0x15 ∷ 0x6F ∷ 0xF0 ∷ 0xFF ∷ 0xFF ∷ []) other_address in
-      let same : x.instructions ≡ code = same_bytes memory x.instructions code 0x100B x.here (are_located memory code 0x100B refl) x.whole in
-      elsewhere memory x.entry (entry_is 0x1_4000_0000 x.entry 0x80 (sym (ap (call_reads AMD64 0x1_4000_100B) same) ∙ x.reads)) (are_located memory other_address 0x80 refl) x.located;
-  stub = λ x.
-      let code : List ℕ = 0xFF ∷ 0x25 ∷ 0x3A ∷ 0xF0 ∷ 0xFF ∷ 0xFF ∷ 0x90 ∷ 0x90 ∷ [] in
-      let memory : List Range = two_ranges 0x1040 (0xFF ∷ 0x25 ∷ 0x3A ∷ 0xF0 ∷ 0xFF ∷ 0xFF ∷ 0x90 ∷ 0x90 ∷ []) other_address in
-      let same : x.code ≡ code = same_bytes memory x.code code 0x1040 x.there (are_located memory code 0x1040 refl) x.whole in
-      elsewhere memory x.entry (entry_is 0x1_4000_0000 x.entry 0x80 (sym (ap (jump_reads AMD64 0x1_4000_1040) same) ∙ x.reads)) (are_located memory other_address 0x80 refl) x.located;
-  load = λ x.
-      let code : List ℕ = 0x48 ∷ 0x8B ∷ 5 ∷ 0x5A ∷ 0xF0 ∷ 0xFF ∷ 0xFF ∷ [] in
-      let memory : List Range = two_ranges 0x101F (0x48 ∷ 0x8B ∷ 5 ∷ 0x5A ∷ 0xF0 ∷ 0xFF ∷ 0xFF ∷ []) other_address in
-      let same : x.instructions ≡ code = same_bytes memory x.instructions code 0x101F x.here (are_located memory code 0x101F refl) x.whole in
-      elsewhere memory x.entry (entry_is 0x1_4000_0000 x.entry 0x80 (sym (ap (load_reads AMD64 0x1_4000_101F) same) ∙ x.reads)) (are_located memory other_address 0x80 refl) x.located;
   pages = λ x.
       let adrp : List ℕ = 0xE8 ∷ 0xFF ∷ 0xFF ∷ 0xF0 ∷ [] in
       let ldr : List ℕ = 8 ∷ 0x41 ∷ 0x40 ∷ 0xF9 ∷ [] in
@@ -108,16 +90,5 @@ arrival_rules = record {
       sym (ap (λ xs. plus_signed 21 4096 (adrp_immediate (word_at xs 0)) (page 0x1_4000_100C * 4096) + ldr_immediate (word_at ldr 0)) first)
       ∙ sym (ap (λ xs. plus_signed 21 4096 (adrp_immediate (word_at x.adrp 0)) (page 0x1_4000_100C * 4096) + ldr_immediate (word_at xs 0)) second) ∙ x.leads in
       elsewhere memory x.entry (omega arith) (are_located memory other_address 0x80 refl) x.located;
-  direct = λ x.
-      let instruction : List ℕ = 0xE8 ∷ 0x15 ∷ 0 ∷ 0 ∷ 0 ∷ [] in
-      let code : List ℕ = 0xFF ∷ 0x25 ∷ 0x3A ∷ 0xF0 ∷ 0xFF ∷ 0xFF ∷ 0x90 ∷ 0x90 ∷ [] in
-      let memory : List Range = record { start = 0x1026; bytes = 0xE8 ∷ 0x15 ∷ 0 ∷ 0 ∷ 0 ∷ [] }
-      ∷ two_ranges 0x1040 (0xFF ∷ 0x25 ∷ 0x3A ∷ 0xF0 ∷ 0xFF ∷ 0xFF ∷ 0x90 ∷ 0x90 ∷ []) other_address in
-      let called : x.instruction ≡ instruction = same_bytes memory x.instruction instruction 0x1026 x.here (are_located memory instruction 0x1026 refl) x.whole in
-      let stub : x.stub ≡ 0x1040 = entry_is 0x1_4000_0000 x.stub 0x1040 (sym (ap (direct_leads AMD64 0x1_4000_1026) called) ∙ x.leads) in
-      let same : x.code ≡ code = same_bytes memory x.code code 0x1040 (subst (λ a. BytesAt memory a x.code) stub x.there) (are_located memory code 0x1040 refl) x.whole_stub in
-      let reads : jump_reads AMD64 0x1_4000_1040 code ≡ Some (0x1_4000_0000 + x.entry) =
-      sym (ap (jump_reads AMD64 0x1_4000_1040) same) ∙ sym (ap (λ a. jump_reads AMD64 (0x1_4000_0000 + a) x.code) stub) ∙ x.reads in
-      elsewhere memory x.entry (entry_is 0x1_4000_0000 x.entry 0x80 reads) (are_located memory other_address 0x80 refl) x.located;
   ends = λ x. differ 0 1 (sym (value 1 0 (located_each (record { start = 0x1000; bytes = zeros 16 ++ 1 ∷ 0 ∷ 0 ∷ 0 ∷ [] } ∷ []) (zeros 20) 0x1000 16 0 x refl))) (omega arith);
 }

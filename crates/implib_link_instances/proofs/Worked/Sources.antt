@@ -1,5 +1,5 @@
 -- Programs of texts by hand, by computing and by the laws.
-use Rattle.std.proofs.Common.{[], ◌∷◌, map, refl, arith}
+use Rattle.std.proofs.Common.{[], ◌∷◌, map, refl, arith, List, ap, ◌≡◌}
 use Rattle.std.specs.List.{AllByRecursion}
 use Rattle.implib.specs.declared.flavor.Flavor.TheVariants.{Msvc}
 use Rattle.implib.specs.declared.machine.MachineType.TheVariants.{I386, AMD64}
@@ -19,7 +19,7 @@ use Rattle.implib_link.specs.Flavors.Texts.{FlavorSource, IsFlavorSource, input_
 use Rattle.implib_link.specs.Gnu.Packed.{group_end, packed, packed_end, sections_end}
 use Rattle.implib_link.specs.Gnu.Program.{has_tables, linked_symbols}
 use Rattle.implib_link.specs.Gnu.Texts.{link_input_of}
-use Rattle.implib_link_instances.specs.Worked.Sources.{WorkedSource, WorkedSources, both_sources, both_text_objects, foo_meant, foo_text, gnu_sources, gnu_text_objects, source_in, zed_meant, zed_text}
+use Rattle.implib_link_instances.specs.Worked.Sources.{WorkedSource, WorkedSources, both_sources, both_text_objects, foo_meant, foo_text, gnu_sources, gnu_text_objects, source_in, zed_meant, zed_text, NearIsFlavorSource}
 use Rattle.implib_link.proofs.Flavors.Packed.{packed_objects}
 use Rattle.implib_link.proofs.Flavors.Texts.{texts_link}
 use Rattle.implib_link_instances.proofs.Worked.GnuPacked.{packed_is_program}
@@ -27,6 +27,8 @@ use Rattle.implib_link_instances.proofs.Worked.Flavors.{opened, flavor_objects_b
 use Rattle.implib_link_instances.proofs.Worked.Programs.{distinct_by}
 use Rattle.implib_link_instances.proofs.Worked.Searched.{below_limit}
 use Rattle.implib_link.specs.Flavors.Program.{OfLinker, OfMember}
+use Rattle.implib.specs.Members.MemberSpec.{MemberView}
+use Rattle.implib.specs.Library.{LibraryView}
 
 amd64_foo : Parses foo_text AMD64 (foo_meant AMD64)
 unfolding text_opened
@@ -124,3 +126,16 @@ i386 = record {
 
 pub worked_sources : WorkedSources
 worked_sources = record { amd64 = amd64; i386 = i386 }
+
+other_machine : I386 ≡ AMD64 → ⊥
+other_machine is = cc
+
+none_made : {m : MemberView} {ms : List MemberView} → [] ≡ m ∷ ms → ⊥
+none_made is = cc
+
+pub near_is_flavor_source : NearIsFlavorSource
+unfolding opened refusal renamed_refusal alias_specs encoded_size weak_object
+near_is_flavor_source = record {
+  of_text = (record { of_text = tt; made = record { accepted = refl; made = refl; ordinals = refl } }, λ x. other_machine (ap (λ (l : LibraryView). l.machine) x.of_text.held));
+  made = (record { of_text = record { parsed = zed_meant AMD64; parses = amd64_zed; held = refl }; made = tt }, λ x. none_made x.made.made);
+}

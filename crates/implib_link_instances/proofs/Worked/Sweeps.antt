@@ -51,6 +51,6 @@ worked_sweeps = record {
 pub near_sweeps_take : NearSweepsTake
 unfolding swept sweeps references_of claims_of undefined_in
 near_sweeps_take = record {
-  taken = λ x. differ 1 2 (ap length x.taken) (omega arith);
-  ended = λ x. differ 1 2 (sym (ap length x.ended)) (omega arith);
+  taken = (record { taken = tt; ended = refl }, λ x. differ 1 2 (ap length x.taken) (omega arith));
+  ended = (record { taken = refl; ended = tt }, λ x. differ 1 2 (sym (ap length x.ended)) (omega arith));
 }

@@ -1,6 +1,6 @@
 -- ARMNT's stub by hand: the stub of `open` behind the import tables and in front of them, what its jump reads, and code
 -- that is no such jump.
-use Rattle.std.specs.Prelude.{ℕ, ◌+◌, List, [], ◌∷◌, ◌++◌, slice_get}
+use Rattle.std.specs.Prelude.{ℕ, ◌+◌, List, [], ◌∷◌, ◌++◌, codes, slice_get}
 use Rattle.implib.specs.declared.machine.MachineType.TheVariants.{ARMNT}
 use Rattle.implib.specs.Formats.Constants.{align_4bytes, cnt_code, mem_execute_read}
 use Rattle.implib.specs.Link.Image.{Range}
@@ -14,6 +14,7 @@ use Rattle.implib_link.specs.Gnu.Calls.{PlacedCode}
 use Rattle.implib_link.specs.Gnu.Fields.{AreBeside, LinkedCode}
 use Rattle.implib_link.specs.Flavors.Program.{IsProgram}
 use Rattle.implib_link.specs.Gnu.Reading.{ReadsAndWrites}
+use Rattle.implib_link_instances.specs.But.Links.{MissesA32JumpReads}
 use Rattle.implib_link_instances.specs.Worked.Jumps.{far_4}
 use Rattle.implib_link_instances.specs.Worked.Loads.{gives_by_hand}
 use Rattle.implib_link_instances.specs.Worked.Programs.{both_inputs, program_image, program_objects, program_placed, touching_4}
@@ -77,24 +78,31 @@ pub record WorkedArmntStubs : Type 0 where
   pub reads_further : A32JumpReads
       (a32_code (8 ∷ 0xC0 ∷ 0x9F ∷ 0xE5 ∷ 0 ∷ 0xF0 ∷ 0x9C ∷ 0xE5 ∷ (zeros 8 ++ entry_address))) 0x1000 0x40_0060
 
+-- code of two instructions and the address of an entry behind them
+abbrev pub before_entry : List ℕ → List Range
+before_entry code = a32_code (code ++ entry_address)
+
 pub record NearA32JumpReads : Type 0 where
   -- no bytes where the code is to be
-  pub load_there : A32JumpReads (record { start = 0x1004; bytes = 0 ∷ 0xF0 ∷ 0x9C ∷ 0xE5 ∷ entry_address } ∷ [])
-      0x1000 0x40_0060 → ⊥
+  pub load_there : MissesA32JumpReads (codes "load_there")
+      (record { start = 0x1004; bytes = 0 ∷ 0xF0 ∷ 0x9C ∷ 0xE5 ∷ entry_address } ∷ [])
+      0x1000 0x40_0060
   -- ldr r0, [pc]; ldr ip, [pc, -0]; ldrne ip, [pc]; ldr ip, [ip]
-  pub is_load : A32JumpReads (a32_code (0 ∷ 0 ∷ 0x9F ∷ 0xE5 ∷ 0 ∷ 0xF0 ∷ 0x9C ∷ 0xE5 ∷ entry_address)) 0x1000 0x40_0060 → ⊥
-  pub is_load_back : A32JumpReads (a32_code (0 ∷ 0xC0 ∷ 0x1F ∷ 0xE5 ∷ 0 ∷ 0xF0 ∷ 0x9C ∷ 0xE5 ∷ entry_address))
-      0x1000 0x40_0060 → ⊥
-  pub is_load_sometimes : A32JumpReads (a32_code (0 ∷ 0xC0 ∷ 0x9F ∷ 0x15 ∷ 0 ∷ 0xF0 ∷ 0x9C ∷ 0xE5 ∷ entry_address))
-      0x1000 0x40_0060 → ⊥
-  pub is_load_of_ip : A32JumpReads (a32_code (0 ∷ 0xC0 ∷ 0x9C ∷ 0xE5 ∷ 0 ∷ 0xF0 ∷ 0x9C ∷ 0xE5 ∷ entry_address))
-      0x1000 0x40_0060 → ⊥
+  pub is_load : MissesA32JumpReads (codes "is_load")
+      (before_entry (0 ∷ 0 ∷ 0x9F ∷ 0xE5 ∷ 0 ∷ 0xF0 ∷ 0x9C ∷ 0xE5 ∷ [])) 0x1000 0x40_0060
+  pub is_load_back : MissesA32JumpReads (codes "is_load")
+      (before_entry (0 ∷ 0xC0 ∷ 0x1F ∷ 0xE5 ∷ 0 ∷ 0xF0 ∷ 0x9C ∷ 0xE5 ∷ [])) 0x1000 0x40_0060
+  pub is_load_sometimes : MissesA32JumpReads (codes "is_load")
+      (before_entry (0 ∷ 0xC0 ∷ 0x9F ∷ 0x15 ∷ 0 ∷ 0xF0 ∷ 0x9C ∷ 0xE5 ∷ [])) 0x1000 0x40_0060
+  pub is_load_of_ip : MissesA32JumpReads (codes "is_load")
+      (before_entry (0 ∷ 0xC0 ∷ 0x9C ∷ 0xE5 ∷ 0 ∷ 0xF0 ∷ 0x9C ∷ 0xE5 ∷ [])) 0x1000 0x40_0060
   -- the address is 4 bytes further on than the load says
-  pub literal_there : A32JumpReads (a32_code (two_loads ++ (zeros 4 ++ entry_address))) 0x1000 0x40_0060 → ⊥
+  pub literal_there : MissesA32JumpReads (codes "literal_there")
+      (a32_code (two_loads ++ (zeros 4 ++ entry_address))) 0x1000 0x40_0060
   -- bx ip; ldr pc, [ip, 4]; ldr r0, [ip]
-  pub jump_there : A32JumpReads (a32_code (0 ∷ 0xC0 ∷ 0x9F ∷ 0xE5 ∷ 0x1C ∷ 0xFF ∷ 0x2F ∷ 0xE1 ∷ entry_address))
-      0x1000 0x40_0060 → ⊥
-  pub jump_there_further : A32JumpReads (a32_code (0 ∷ 0xC0 ∷ 0x9F ∷ 0xE5 ∷ 4 ∷ 0xF0 ∷ 0x9C ∷ 0xE5 ∷ entry_address))
-      0x1000 0x40_0060 → ⊥
-  pub jump_there_to_r0 : A32JumpReads (a32_code (0 ∷ 0xC0 ∷ 0x9F ∷ 0xE5 ∷ 0 ∷ 0 ∷ 0x9C ∷ 0xE5 ∷ entry_address))
-      0x1000 0x40_0060 → ⊥
+  pub jump_there : MissesA32JumpReads (codes "jump_there")
+      (before_entry (0 ∷ 0xC0 ∷ 0x9F ∷ 0xE5 ∷ 0x1C ∷ 0xFF ∷ 0x2F ∷ 0xE1 ∷ [])) 0x1000 0x40_0060
+  pub jump_there_further : MissesA32JumpReads (codes "jump_there")
+      (before_entry (0 ∷ 0xC0 ∷ 0x9F ∷ 0xE5 ∷ 4 ∷ 0xF0 ∷ 0x9C ∷ 0xE5 ∷ [])) 0x1000 0x40_0060
+  pub jump_there_to_r0 : MissesA32JumpReads (codes "jump_there")
+      (before_entry (0 ∷ 0xC0 ∷ 0x9F ∷ 0xE5 ∷ 0 ∷ 0 ∷ 0x9C ∷ 0xE5 ∷ [])) 0x1000 0x40_0060

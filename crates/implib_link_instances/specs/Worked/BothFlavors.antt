@@ -3,6 +3,7 @@
 use Rattle.std.specs.Prelude.{◌≡◌, ◌<◌, List, [], ◌∷◌, ◌++◌, codes, length, map, Some}
 use Rattle.implib.specs.declared.flavor.Flavor.TheVariants.{Gnu, Msvc}
 use Rattle.implib.specs.declared.machine.MachineType.TheVariants.{AMD64}
+use Rattle.implib.specs.Formats.Constants.{class_external}
 use Rattle.implib.specs.Formats.Object.{Object}
 use Rattle.implib.specs.LibraryName.{own_names}
 use Rattle.implib.specs.Link.Placement.{Bases, placed_from}
@@ -13,7 +14,8 @@ use Rattle.implib.specs.Worked.Members.{of_dll}
 use Rattle.implib.specs.Worked.Statements.{plain_export}
 use Rattle.implib_link.specs.Flavors.Program.{FlavorInput, objects_taken}
 use Rattle.implib_link.specs.Gnu.Packed.{packed}
-use Rattle.implib_link.specs.Search.BothFlavors.{AreClosedForBoth, AreGivenForBoth, FlavorLibrary, IsClosedForBoth, IsFlavorArchive, IsImportedOfBoth, IsUsedIn, LinksClosedForBoth, NamesNoMembers, TakesOfBoth, archive_of_both, inputs_of_both, kept_of_both, msvc_among}
+use Rattle.implib_link.specs.Search.BothFlavors.{AreClosedForBoth, AreGivenForBoth, FlavorLibrary, IsClosedForBoth, IsFlavorArchive, IsUsedIn, LinksClosedForBoth, TakesOfBoth, archive_of_both, inputs_of_both, kept_of_both, msvc_among}
+use Rattle.implib_link_instances.specs.But.Links.{MissesAreClosedForBoth, MissesAreGivenForBoth, MissesIsClosedForBoth, MissesIsFlavorArchive, MissesIsImportedOfBoth, MissesLinksClosedForBoth, MissesNamesNoMembers, MissesTakesOfBoth}
 use Rattle.implib_link.specs.Search.Closed.{unresolved}
 use Rattle.implib_link.specs.Search.MsvcArchives.{short_inputs, PullsIntoFor, TakesIntoFor, wanted_for}
 use Rattle.implib_link_instances.specs.Worked.Archives.{library_of}
@@ -21,6 +23,7 @@ use Rattle.implib_link_instances.specs.Worked.Closed.{choosing, clashing, foo_al
 use Rattle.implib_link_instances.specs.Worked.MsvcArchives.{descriptor_named, msvc_zed, null_named, short_named, thunk_named}
 use Rattle.implib_link_instances.specs.Worked.MsvcClosed.{zed_members}
 use Rattle.implib_link_instances.specs.Worked.NearSearches.{again}
+use Rattle.implib_link_instances.specs.Worked.Programs.{code_object, symbol_of_class}
 use Rattle.implib_link_instances.specs.Worked.Search.{aliased}
 
 -- foo.dll with data `bar`, an alias of the function `baz`, and zed.dll with two functions
@@ -105,60 +108,89 @@ pub record WorkedGivenForBoth : Type 0 where
 
 -- an object with a `queue` of its own
 pub record NearAreGivenForBoth : Type 0 where
-  pub claims : AreGivenForBoth AMD64 foo_and_zed (clashing ∷ []) → ⊥
+  pub claims : MissesAreGivenForBoth (codes "claims") AMD64 foo_and_zed (clashing ∷ [])
 
 -- zed.dll's members for both linkers
+abbrev pub gnu_zed : FlavorLibrary
+gnu_zed = record {
+  flavor = Gnu;
+  library = library_of
+      (of_dll (codes "zed.dll") (plain_export (codes "queue") ∷ plain_export (codes "stack") ∷ []));
+}
+
 pub record NearIsFlavorArchive : Type 0 where
-  pub apart : IsFlavorArchive AMD64
-      (record {
-        flavor = Gnu;
-        library = library_of (of_dll (codes "zed.dll") (plain_export (codes "queue") ∷ plain_export (codes "stack") ∷ []));
-      } ∷ short_zed ∷ []) → ⊥
+  pub apart : MissesIsFlavorArchive (codes "apart") AMD64 (gnu_zed ∷ short_zed ∷ [])
 
 -- a head's symbol, and the null descriptor's
 pub record NearNamesNoMembers : Type 0 where
-  pub gnu : NamesNoMembers AMD64 foo_and_zed (codes "_head_foo_dll" ∷ []) → ⊥
-  pub msvc : NamesNoMembers AMD64 foo_and_zed (codes "__NULL_IMPORT_DESCRIPTOR" ∷ []) → ⊥
+  pub gnu : MissesNamesNoMembers (codes "gnu") AMD64 foo_and_zed (codes "_head_foo_dll" ∷ [])
+  pub msvc : MissesNamesNoMembers (codes "msvc") AMD64 foo_and_zed
+      (codes "__NULL_IMPORT_DESCRIPTOR" ∷ [])
 
 -- nothing is taken; and the alias, whose name nothing wants
 pub record NearTakesOfBoth : Type 0 where
-  pub inputs : TakesOfBoth AMD64 foo_and_zed (codes "__imp_queue" ∷ []) [] → ⊥
-  pub weak : TakesOfBoth AMD64 foo_and_zed (codes "__imp_queue" ∷ []) mixed_taken → ⊥
+  pub inputs : MissesTakesOfBoth (codes "inputs") AMD64 foo_and_zed (codes "__imp_queue" ∷ []) []
+  pub weak : MissesTakesOfBoth (codes "weak") AMD64 foo_and_zed (codes "__imp_queue" ∷ []) mixed_taken
 
--- no short import is wanted; an order of no libraries; without the given object; without import tables; and of them the null
--- descriptor alone
+-- no short import is wanted; an order of no libraries; without the given object; without import tables; of them the null
+-- descriptor alone; and an object with a `queue` of its own
 pub record NearAreClosedForBoth : Type 0 where
-  pub some : AreClosedForBoth AMD64 (gnu_foo ∷ []) [] [] (gnu_foo ∷ []) [] → ⊥
-  pub order : AreClosedForBoth AMD64 foo_and_zed (choosing ∷ []) mixed_taken []
-      (choosing ∷ objects_taken AMD64 (foo_alias ∷ null_named (codes "zed.dll") ∷ [])) → ⊥
-  pub others : AreClosedForBoth AMD64 foo_and_zed (choosing ∷ []) mixed_taken zed_and_foo
-      (objects_taken AMD64 (foo_alias ∷ (zed_members ++ null_named (codes "zed.dll") ∷ foo_linked))) → ⊥
-  pub tables : AreClosedForBoth AMD64 foo_and_zed (choosing ∷ []) mixed_taken zed_and_foo
-      (choosing ∷ objects_taken AMD64 (foo_alias ∷ [])) → ⊥
-  pub members : AreClosedForBoth AMD64 foo_and_zed (choosing ∷ []) mixed_taken zed_and_foo
-      (choosing ∷ objects_taken AMD64 (foo_alias ∷ null_named (codes "zed.dll") ∷ [])) → ⊥
+  pub some : MissesAreClosedForBoth (codes "some") AMD64 (gnu_foo ∷ []) [] [] (gnu_foo ∷ []) []
+  pub order : MissesAreClosedForBoth (codes "order") AMD64 foo_and_zed (choosing ∷ []) mixed_taken []
+      (choosing ∷ objects_taken AMD64 (foo_alias ∷ null_named (codes "zed.dll") ∷ []))
+  pub others : MissesAreClosedForBoth (codes "others") AMD64 foo_and_zed (choosing ∷ []) mixed_taken
+      zed_and_foo
+      (objects_taken AMD64 (foo_alias ∷ (zed_members ++ null_named (codes "zed.dll") ∷ foo_linked)))
+  pub tables : MissesAreClosedForBoth (codes "tables") AMD64 foo_and_zed (choosing ∷ []) mixed_taken
+      zed_and_foo (choosing ∷ objects_taken AMD64 (foo_alias ∷ []))
+  pub members : MissesAreClosedForBoth (codes "members") AMD64 foo_and_zed (choosing ∷ []) mixed_taken
+      zed_and_foo
+      (choosing ∷ objects_taken AMD64 (foo_alias ∷ null_named (codes "zed.dll") ∷ []))
+  pub claims : MissesAreClosedForBoth (codes "claims") AMD64 foo_and_zed (clashing ∷ []) mixed_taken
+      zed_and_foo
+      (clashing
+      ∷ objects_taken AMD64 (foo_alias ∷ (zed_members ++ null_named (codes "zed.dll") ∷ foo_linked)))
 
--- hints at 0; tables 4 bytes on; and the null descriptor 4 bytes on
+-- hints at 0; lookup tables and address tables at a multiple of 4 that is none of 8, with what is behind them further on;
+-- and the null descriptor 4 bytes on
+abbrev pub spread_bases : Bases
+spread_bases = record {
+  descriptors = 0x2000;
+  directory_ends = 0x2028;
+  lookups = 0x2040;
+  addresses = 0x2080;
+  hint_names = 0x20C0;
+  dll_names = 0x2100;
+}
+
 pub record NearIsClosedForBoth : Type 0 where
-  pub admissible : IsClosedForBoth AMD64 foo_and_zed (choosing ∷ []) mixed_taken zed_and_foo
-      (record mixed_bases { hint_names = 0 }) mixed_objects → ⊥
-  pub lookups : IsClosedForBoth AMD64 foo_and_zed (choosing ∷ []) mixed_taken zed_and_foo
-      (record mixed_bases { lookups = 0x2044 }) mixed_objects → ⊥
-  pub addresses : IsClosedForBoth AMD64 foo_and_zed (choosing ∷ []) mixed_taken zed_and_foo
-      (record mixed_bases { addresses = 0x2044 }) mixed_objects → ⊥
-  pub follows : IsClosedForBoth AMD64 foo_and_zed (choosing ∷ []) mixed_taken zed_and_foo
-      (record mixed_bases { directory_ends = 0x2030 }) mixed_objects → ⊥
+  pub admissible : MissesIsClosedForBoth (codes "admissible") AMD64 foo_and_zed (choosing ∷ [])
+      mixed_taken zed_and_foo (record mixed_bases { hint_names = 0 }) mixed_objects
+  pub lookups : MissesIsClosedForBoth (codes "lookups") AMD64 foo_and_zed (choosing ∷ []) mixed_taken
+      zed_and_foo (record spread_bases { lookups = 0x2044 }) mixed_objects
+  pub addresses : MissesIsClosedForBoth (codes "addresses") AMD64 foo_and_zed (choosing ∷ [])
+      mixed_taken zed_and_foo (record spread_bases { addresses = 0x2084 }) mixed_objects
+  pub follows : MissesIsClosedForBoth (codes "follows") AMD64 foo_and_zed (choosing ∷ []) mixed_taken
+      zed_and_foo (record spread_bases { directory_ends = 0x202C }) mixed_objects
 
 -- a function that is defined twice, and one that is no import
 pub record NearIsImportedOfBoth : Type 0 where
-  pub by : IsImportedOfBoth AMD64 (again ∷ placed_from mixed_bases mixed_objects) mixed_bases mixed_inputs (codes "queue") → ⊥
-  pub input_is_and_export_is : IsImportedOfBoth AMD64 (again ∷ []) mixed_bases mixed_inputs (codes "printf") → ⊥
+  pub by : MissesIsImportedOfBoth (codes "by") AMD64 (again ∷ placed_from mixed_bases mixed_objects)
+      mixed_bases mixed_inputs (codes "queue")
+  pub input_is : MissesIsImportedOfBoth (codes "input_is") AMD64 (again ∷ []) mixed_bases mixed_inputs
+      (codes "printf")
+  pub export_is : MissesIsImportedOfBoth (codes "export_is") AMD64 (again ∷ []) mixed_bases
+      mixed_inputs (codes "printf")
 
 -- names that are none of an export's
 pub record NearIsUsedIn : Type 0 where
   pub gnu : IsUsedIn Gnu (codes "bar" ∷ codes "printf" ∷ []) (plain_export (codes "baz")) → ⊥
   pub msvc : IsUsedIn Msvc (codes "bar" ∷ codes "printf" ∷ []) (plain_export (codes "queue")) → ⊥
 
--- nothing is linked but the object
+-- the closed program beside an object that leaves the address of `stack` to others, which zed.dll's library lists
+abbrev pub mixed_asking : List Object
+mixed_asking = mixed_objects ++ code_object (symbol_of_class (codes "__imp_stack") 0 class_external ∷ []) ∷ []
+
 pub record NearLinksClosedForBoth : Type 0 where
-  pub closed : LinksClosedForBoth AMD64 foo_and_zed (choosing ∷ []) [] zed_and_foo mixed_bases (choosing ∷ []) → ⊥
+  pub closed : MissesLinksClosedForBoth (codes "closed") AMD64 foo_and_zed (choosing ∷ []) mixed_taken
+      zed_and_foo spread_bases mixed_asking

@@ -15,12 +15,13 @@ use Rattle.implib.specs.Renaming.{renamed}
 use Rattle.implib.specs.Worked.Members.{of_dll}
 use Rattle.implib.specs.Worked.Statements.{plain_export}
 use Rattle.implib_link.specs.Gnu.Program.{HaveSame}
-use Rattle.implib_link.specs.Search.Archives.{IsArchive, Library}
+use Rattle.implib_link.specs.Search.Archives.{IsArchive, Library, archive_of}
 use Rattle.implib_link.specs.Search.Closed.{TakesIntoAs, listed_in, unresolved}
-use Rattle.implib_link.specs.Search.CommandLines.{AnObject, Archives, AreFirst, AreListedWhole, AreUnclaimedBehind, HaveAll, Input, IsClosedOver, IsGroupSearched, IsOrdered, IsSwept, LldSearches, SearchesCommandLine, SearchesLibraries, given_with}
+use Rattle.implib_link.specs.Search.CommandLines.{AnObject, Archives, AreFirst, AreListedWhole, AreUnclaimedBehind, HaveAll, Input, IsOrdered, LldSearches, SearchesCommandLine, SearchesLibraries, given_with}
 use Rattle.implib_link.specs.Search.Given.{AreGiven}
 use Rattle.implib_link.specs.Search.Search.{objects_as}
 use Rattle.implib_link.specs.Search.Sweeps.{members_at}
+use Rattle.implib_link_instances.specs.But.Links.{MissesIsClosedOver, MissesIsGroupSearched, MissesIsSwept, MissesSearchesFor}
 use Rattle.implib_link_instances.specs.Worked.Programs.{code_object, symbol_of_class}
 
 abbrev pub wants_bytes : List ℕ
@@ -193,22 +194,28 @@ pub record WorkedCommandLines : Type 0 where
 abbrev pub wanting_own : List Object
 wanting_own = read_or_none wants_bytes
 
+abbrev pub kernel : Library
+kernel = kernel_on AMD64 (codes "ExitProcess")
+
 -- nothing is due, and more is said to be taken; a sweep less than it takes
 pub record NearIsSwept : Type 0 where
-  pub taken : IsSwept object_in amd64_members wanting_own of_kernel [] all_taken → ⊥
-  pub ended : IsSwept object_in amd64_members wanting_own of_kernel of_quit (2 ∷ 3 ∷ []) → ⊥
+  pub taken : MissesIsSwept (codes "taken") object_in amd64_members wanting_own of_kernel [] all_taken
+  pub ended : MissesIsSwept (codes "ended") object_in amd64_members wanting_own of_kernel of_quit
+      (2 ∷ 3 ∷ [])
 
 -- the same of a group; a round less
 pub record NearIsGroupSearched : Type 0 where
-  pub taken : IsGroupSearched object_in amd64_members wanting_own (of_kernel ∷ []) [] all_taken → ⊥
-  pub ended : IsGroupSearched object_in amd64_members wanting_own (of_kernel ∷ of_quit ∷ []) [] of_quit → ⊥
+  pub taken : MissesIsGroupSearched (codes "taken") object_in amd64_members wanting_own
+      (of_kernel ∷ []) [] all_taken
+  pub ended : MissesIsGroupSearched (codes "ended") object_in amd64_members wanting_own
+      (of_kernel ∷ of_quit ∷ []) [] of_quit
 
 -- a member is lost again; members that no name pulls in; one that a name does
 pub record NearIsClosedOver : Type 0 where
-  pub taken : IsClosedOver object_in amd64_members [] amd64_members [] → ⊥
-  pub in_turn : IsClosedOver object_in (kernel_on AMD64 (codes "ExitProcess")).members wanting_own []
-      (kernel_on AMD64 (codes "ExitProcess")).members → ⊥
-  pub ended : IsClosedOver object_in amd64_members wanting_own [] [] → ⊥
+  pub taken : MissesIsClosedOver (codes "taken") object_in amd64_members [] amd64_members []
+  pub in_turn : MissesIsClosedOver (codes "in_turn") object_in kernel.members wanting_own []
+      kernel.members
+  pub ended : MissesIsClosedOver (codes "ended") object_in amd64_members wanting_own [] []
 
 -- an object that claims `quit`
 abbrev pub quitting : Object
@@ -217,22 +224,31 @@ quitting = code_object (symbol_of_class (codes "quit") 1 class_external ∷ [])
 -- a command line of libraries, but for one thing: there are no libraries; the second of two members that are listed
 -- for a name is taken; an object behind
 -- the archive claims its name; the library is first; the member is listed for a name more; it is not taken
+abbrev pub with_quit_twice : List MemberView
+with_quit_twice = amd64_members ++ quit_member (codes "quit") quit_bytes ∷ []
+
+abbrev pub second_quit : List Input
+second_quit = inputs_of wanting_own ++ Archives ((4 ∷ []) ∷ []) ∷ Archives (of_kernel ∷ []) ∷ []
+
+abbrev pub with_more : List MemberView
+with_more =
+    kernel.members
+    ++ record { name = codes "quit.o"; bytes = quit_bytes; symbols = codes "quit" ∷ codes "more" ∷ [] }
+    ∷ []
+
 pub record NearSearchesFor : Type 0 where
-  pub libraries_are : SearchesLibraries AMD64 [] amd64_members (library_last wanting_own) is_quit all_taken → ⊥
-  pub first : SearchesLibraries AMD64 (kernel_on AMD64 (codes "ExitProcess") ∷ [])
-      (amd64_members ++ quit_member (codes "quit") quit_bytes ∷ [])
-      (inputs_of wanting_own ++ Archives ((4 ∷ []) ∷ []) ∷ Archives (of_kernel ∷ []) ∷ []) is_quit
-      (0 ∷ 1 ∷ 2 ∷ 4 ∷ []) → ⊥
-  pub unclaimed : SearchesLibraries AMD64 (kernel_on AMD64 (codes "ExitProcess") ∷ []) amd64_members
-      (library_last wanting_own ++ AnObject quitting ∷ []) is_quit all_taken → ⊥
-  pub ordered : SearchesLibraries AMD64 (kernel_on AMD64 (codes "ExitProcess") ∷ []) amd64_members
-      (library_first wanting_own) is_quit of_quit → ⊥
-  pub whole : SearchesLibraries AMD64 (kernel_on AMD64 (codes "ExitProcess") ∷ [])
-      ((kernel_on AMD64 (codes "ExitProcess")).members
-      ++ record { name = codes "quit.o"; bytes = quit_bytes; symbols = codes "quit" ∷ codes "more" ∷ [] } ∷ [])
-      (library_last wanting_own) is_quit all_taken → ⊥
-  pub searches : SearchesLibraries AMD64 (kernel_on AMD64 (codes "ExitProcess") ∷ []) amd64_members
-      (library_last wanting_own) is_quit [] → ⊥
+  pub libraries_are : MissesSearchesFor (codes "libraries_are") object_in (archive_of []) amd64_members
+      (library_last wanting_own) is_quit all_taken
+  pub first : MissesSearchesFor (codes "first") object_in (archive_of (kernel ∷ [])) with_quit_twice
+      second_quit is_quit (0 ∷ 1 ∷ 2 ∷ 4 ∷ [])
+  pub unclaimed : MissesSearchesFor (codes "unclaimed") object_in (archive_of (kernel ∷ []))
+      amd64_members (library_last wanting_own ++ AnObject quitting ∷ []) is_quit all_taken
+  pub ordered : MissesSearchesFor (codes "ordered") object_in (archive_of (kernel ∷ [])) amd64_members
+      (library_first wanting_own) is_quit of_quit
+  pub whole : MissesSearchesFor (codes "whole") object_in (archive_of (kernel ∷ [])) with_more
+      (library_last wanting_own) is_quit all_taken
+  pub searches : MissesSearchesFor (codes "searches") object_in (archive_of (kernel ∷ []))
+      amd64_members (library_last wanting_own) is_quit []
 
 -- two members that are listed for one name, and that of `quit`
 abbrev pub spare_member : MemberView

@@ -16,7 +16,7 @@ use Rattle.implib.specs.Machine.{machine_number}
 use Rattle.implib.specs.Members.Gnu.{section, text_name}
 use Rattle.implib_link.specs.Flavors.LldImports.{IsLldProgram, imports_of_lld, placed_by_lld, short_for}
 use Rattle.implib_link.specs.Flavors.LldTables.{built_bytes}
-use Rattle.implib_link.specs.Flavors.LldThunks.{BranchArrivesByThunk, IsThunk, ThunkArrives, placed_thunk, thunk_section}
+use Rattle.implib_link.specs.Flavors.LldThunks.{BranchArrivesByThunk, IsThunk, placed_thunk, thunk_section}
 use Rattle.implib_link.specs.Gnu.Calls.{arm64_branch26, i386_rel32}
 use Rattle.implib_link.specs.Gnu.Fields.{IsRelocated, LinkedCode, ranges_of_codes}
 use Rattle.implib_link.specs.Gnu.Moves.{AreInMemory}
@@ -312,28 +312,10 @@ pub record RefusedTables : Type 0 where
   pub i386_base : CanReadFrom I386 0x8000_0001 0x2050 → ⊥
   pub armnt : CanReadFrom ARMNT 0x40_0000 0x2050 → ⊥
 
--- The thunk of `mid` on AMD64, by its bytes at 0x1020, and what is at its entry: the memory of two ranges.
-abbrev pub ThunkOfMid : ℕ → List ℕ → List ℕ → Type 0
-ThunkOfMid address code bytes =
-    ThunkArrives AMD64 0x1_4000_0000
-    (record { start = address; bytes = code } ∷ record { start = 0x2068; bytes = bytes } ∷ []) 0x1020 (eight_bytes 0)
-
--- A byte further on; a call in the place of the jump; the distance from the field; a byte more; and another address at
--- the entry. The thunk of another import is none of `mid`; and no linker makes a thunk that leads to another entry.
+-- no linker makes a thunk that leads to another entry
 pub record RefusedThunks : Type 0 where
-  pub arrives : ThunkOfMid 0x1020 (linked_thunk AMD64) (eight_bytes 0)
-  pub there : ThunkOfMid 0x1021 (linked_thunk AMD64) (eight_bytes 0) → ⊥
-  pub jump : ThunkOfMid 0x1020 (0xFF ∷ 0x15 ∷ 0x42 ∷ 0x10 ∷ 0 ∷ 0 ∷ []) (eight_bytes 0) → ⊥
-  pub reads : ThunkOfMid 0x1020 (0xFF ∷ 0x25 ∷ 0x46 ∷ 0x10 ∷ 0 ∷ 0 ∷ []) (eight_bytes 0) → ⊥
-  pub located : ThunkOfMid 0x1020 (linked_thunk AMD64) (eight_bytes 1) → ⊥
-  pub of_zeta : IsThunk AMD64 (code_of_thunk AMD64) (zeta_on AMD64) → ⊥
   pub linked : IsRelocated AMD64 0x1_4000_0000 (lld_targets AMD64 (code_of_thunk AMD64)) 0x1020 (thunk_section AMD64)
       (0xFF ∷ 0x25 ∷ 0x4A ∷ 0x10 ∷ 0 ∷ 0 ∷ []) → ⊥
-
--- A thunk without its last byte; and code of another section of the thunk's object.
-pub record RefusedLoads : Type 0 where
-  pub whole : ThunkOfMid 0x1020 (0xFF ∷ 0x25 ∷ 0x42 ∷ 0x10 ∷ 0 ∷ []) (eight_bytes 0) → ⊥
-  pub number : IsThunk AMD64 (record (code_of_thunk AMD64) { number = 2 }) (mid_on AMD64) → ⊥
 
 -- The call of `mid` on AMD64, by its field, the thunk's code at 0x1020, and what is at its entry.
 abbrev pub call_memory : ℕ → List ℕ → List ℕ → List Range

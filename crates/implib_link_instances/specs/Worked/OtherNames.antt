@@ -20,6 +20,7 @@ use Rattle.implib_link.specs.Gnu.Program.{null_descriptor}
 use Rattle.implib_link.specs.Gnu.Reading.{ReadsAndWrites}
 use Rattle.implib_link.specs.Parts.{IsProgramOfParts}
 use Rattle.implib_link.specs.Tables.{AreSteady}
+use Rattle.implib_link_instances.specs.But.Links.{MissesStandsFor}
 use Rattle.implib_link_instances.specs.Worked.LldPrograms.{addresses_on, calling_object, code_of_object, code_of_thunk, lld_image_on, mid_on, shorts_on, taken_address}
 use Rattle.implib_link_instances.specs.Worked.Older.{named_start}
 use Rattle.implib_link_instances.specs.Worked.OtherLibraries.{objects_of}
@@ -133,5 +134,7 @@ pub record WorkedAlternateNames : Type 0 where
 
 -- a name that stands for another entry; and one that stands for other code
 pub record NearStandsFor : Type 0 where
-  pub tables : StandsInGnu (codes "__imp_zoo_oped") (codes "__imp_ExitProcess") → ⊥
-  pub code : StandsInGnu (codes "zoo_oped") (codes "start") → ⊥
+  pub tables : MissesStandsFor (codes "tables") other_linked other_codes other_targets
+      (codes "__imp_zoo_oped") (codes "__imp_ExitProcess")
+  pub code : MissesStandsFor (codes "code") other_linked other_codes other_targets
+      (codes "zoo_oped") (codes "start")

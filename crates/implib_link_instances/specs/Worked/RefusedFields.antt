@@ -5,9 +5,9 @@ use Rattle.implib.specs.Link.Image.{Range}
 use Rattle.implib.specs.Link.Placement.{Placed}
 use Rattle.implib_link.specs.Gnu.Fields.{IsRelocated}
 use Rattle.implib_link.specs.Gnu.Moves.{ArePaged}
-use Rattle.implib_link.specs.Gnu.Operands.{BranchArrives, InstructionArrives, OperandArrives, PairArrives, PointerArrives}
-use Rattle.implib_link.specs.Gnu.Rebased.{IsRebased}
-use Rattle.implib_link_instances.specs.Worked.Operands.{imp_open, moved_memory, passing_at, passing_code, passing_linked, passing_memory, passing_placed, passing_places, passing_targets}
+use Rattle.implib_link.specs.Gnu.Operands.{InstructionArrives, PairArrives}
+use Rattle.implib_link_instances.specs.But.Links.{MissesInstructionArrives, MissesPairArrives}
+use Rattle.implib_link_instances.specs.Worked.Operands.{imp_open, passing_at, passing_code, passing_linked, passing_placed, passing_targets}
 use Rattle.implib_link_instances.specs.Worked.Programs.{touching_4, touching_8}
 
 -- bytes with another one at an offset
@@ -67,51 +67,27 @@ linked_on_amd64 = passing_placed AMD64 touching_8
 abbrev pub open_address : List ℕ
 open_address = 0x40 ∷ 0 ∷ 0 ∷ 0x10 ∷ 0 ∷ 0 ∷ 0 ∷ 0 ∷ []
 
--- the operand of AMD64's call at 0x100D, by its bytes and those at the entry, under a name
-abbrev pub CallOperand : ℕ → List ℕ → List ℕ → List ℕ → Type 0
-CallOperand address field bytes name =
-    OperandArrives AMD64 0x1_4000_0000 linked_on_amd64 (two_ranges address field bytes) 0x100D 0 name open_address
-
-pub record RefusedOperands : Type 0 where
-  pub arrives : CallOperand 0x100D (0x6F ∷ 0xF0 ∷ 0xFF ∷ 0xFF ∷ []) open_address (imp_open AMD64)
-  pub there : CallOperand 0x100E (0x6F ∷ 0xF0 ∷ 0xFF ∷ 0xFF ∷ []) open_address (imp_open AMD64) → ⊥
-  pub leads : CallOperand 0x100D (0x70 ∷ 0xF0 ∷ 0xFF ∷ 0xFF ∷ []) open_address (imp_open AMD64) → ⊥
-  pub own : CallOperand 0x100D (0x6F ∷ 0xF0 ∷ 0xFF ∷ 0xFF ∷ []) open_address (codes "hello") → ⊥
-  pub located : CallOperand 0x100D (0x6F ∷ 0xF0 ∷ 0xFF ∷ 0xFF ∷ []) (0x41 ∷ drop 1 open_address) (imp_open AMD64) → ⊥
-
 -- the call itself at 0x100B, by its bytes
 abbrev pub CallInstruction : List ℕ → List ℕ → List ℕ → Type 0
 CallInstruction code bytes name =
     InstructionArrives AMD64 0x1_4000_0000 linked_on_amd64 (two_ranges 0x100B code bytes) 0x100B (0xFF ∷ 0x15 ∷ []) []
     name open_address
 
+-- the number in its field
+abbrev pub call_number : List ℕ
+call_number = 0x6F ∷ 0xF0 ∷ 0xFF ∷ 0xFF ∷ []
+
 pub record RefusedInstructions : Type 0 where
   pub arrives : CallInstruction (0xFF ∷ 0x15 ∷ 0x6F ∷ 0xF0 ∷ 0xFF ∷ 0xFF ∷ []) open_address (imp_open AMD64)
-  pub there : CallInstruction (0xFF ∷ 0x25 ∷ 0x6F ∷ 0xF0 ∷ 0xFF ∷ 0xFF ∷ []) open_address (imp_open AMD64) → ⊥
-  pub own : CallInstruction (0xFF ∷ 0x15 ∷ 0x6F ∷ 0xF0 ∷ 0xFF ∷ 0xFF ∷ []) open_address (codes "hello") → ⊥
-  pub located : CallInstruction (0xFF ∷ 0x15 ∷ 0x6F ∷ 0xF0 ∷ 0xFF ∷ 0xFF ∷ []) (0x41 ∷ drop 1 open_address) (imp_open AMD64)
-      → ⊥
-
--- the address stored at 0x1034
-abbrev pub StoredAddress : ℕ → List ℕ → List ℕ → List ℕ → Type 0
-StoredAddress address field bytes name =
-    PointerArrives AMD64 0x1_4000_0000 linked_on_amd64 (two_ranges address field bytes) 0x1034 name open_address
-
-pub record RefusedPointers : Type 0 where
-  pub arrives : StoredAddress 0x1034 (0x80 ∷ 0 ∷ 0 ∷ 0x40 ∷ 1 ∷ 0 ∷ 0 ∷ 0 ∷ []) open_address (imp_open AMD64)
-  pub there : StoredAddress 0x1034 (0x88 ∷ 0 ∷ 0 ∷ 0x40 ∷ 1 ∷ 0 ∷ 0 ∷ 0 ∷ []) open_address (imp_open AMD64) → ⊥
-  pub own : StoredAddress 0x1034 (0x80 ∷ 0 ∷ 0 ∷ 0x40 ∷ 1 ∷ 0 ∷ 0 ∷ 0 ∷ []) open_address (codes "hello") → ⊥
-  pub located : StoredAddress 0x1034 (0x80 ∷ 0 ∷ 0 ∷ 0x40 ∷ 1 ∷ 0 ∷ 0 ∷ 0 ∷ []) (0x41 ∷ drop 1 open_address) (imp_open AMD64)
-      → ⊥
-
--- the call of `open` at 0x1027, whose stub is at 0x1040
-abbrev pub CallOfOpen : ℕ → List ℕ → Type 0
-CallOfOpen address field = BranchArrives AMD64 0x1_4000_0000 (two_ranges address field []) 0x1027 0 0x1040
-
-pub record RefusedBranches : Type 0 where
-  pub arrives : CallOfOpen 0x1027 (0x15 ∷ 0 ∷ 0 ∷ 0 ∷ [])
-  pub there : CallOfOpen 0x1026 (0x15 ∷ 0 ∷ 0 ∷ 0 ∷ []) → ⊥
-  pub leads : CallOfOpen 0x1027 (0x19 ∷ 0 ∷ 0 ∷ 0 ∷ []) → ⊥
+  pub there : MissesInstructionArrives (codes "there") AMD64 0x1_4000_0000 linked_on_amd64
+      (two_ranges 0x100B (0xFF ∷ 0x25 ∷ call_number) open_address) 0x100B (0xFF ∷ 0x15 ∷ []) []
+      (imp_open AMD64) open_address
+  pub own : MissesInstructionArrives (codes "own") AMD64 0x1_4000_0000 linked_on_amd64
+      (two_ranges 0x100B (0xFF ∷ 0x15 ∷ call_number) open_address) 0x100B (0xFF ∷ 0x15 ∷ []) []
+      (codes "hello") open_address
+  pub located : MissesInstructionArrives (codes "located") AMD64 0x1_4000_0000 linked_on_amd64
+      (two_ranges 0x100B (0xFF ∷ 0x15 ∷ call_number) (0x41 ∷ drop 1 open_address)) 0x100B
+      (0xFF ∷ 0x15 ∷ []) [] (imp_open AMD64) open_address
 
 -- ARM64's `adrp x8` at 0x100C and `ldr x8, [x8]` at 0x1010, from these words
 abbrev pub PageAndOffset : List ℕ → List ℕ → List ℕ → List ℕ → Type 0
@@ -120,23 +96,35 @@ PageAndOffset adrp load bytes name =
     (record { start = 0x100C; bytes = adrp } ∷ two_ranges 0x1010 load bytes) 0x100C 0x1010 0x9000_0008 0xF940_0108
     name open_address
 
-pub record RefusedPairs : Type 0 where
-  pub arrives : PageAndOffset (0xE8 ∷ 0xFF ∷ 0xFF ∷ 0xF0 ∷ []) (8 ∷ 0x41 ∷ 0x40 ∷ 0xF9 ∷ []) open_address (imp_open ARM64)
-  -- another register, of the `adrp` and of the load
-  pub is_adrp : PageAndOffset (0xE9 ∷ 0xFF ∷ 0xFF ∷ 0xF0 ∷ []) (8 ∷ 0x41 ∷ 0x40 ∷ 0xF9 ∷ []) open_address (imp_open ARM64)
-      → ⊥
-  pub is_load : PageAndOffset (0xE8 ∷ 0xFF ∷ 0xFF ∷ 0xF0 ∷ []) (9 ∷ 0x41 ∷ 0x40 ∷ 0xF9 ∷ []) open_address (imp_open ARM64)
-      → ⊥
-  -- the next entry
-  pub leads : PageAndOffset (0xE8 ∷ 0xFF ∷ 0xFF ∷ 0xF0 ∷ []) (8 ∷ 0x45 ∷ 0x40 ∷ 0xF9 ∷ []) open_address (imp_open ARM64)
-      → ⊥
-  pub own : PageAndOffset (0xE8 ∷ 0xFF ∷ 0xFF ∷ 0xF0 ∷ []) (8 ∷ 0x41 ∷ 0x40 ∷ 0xF9 ∷ []) open_address (codes "hello") → ⊥
-  pub located : PageAndOffset (0xE8 ∷ 0xFF ∷ 0xFF ∷ 0xF0 ∷ []) (8 ∷ 0x41 ∷ 0x40 ∷ 0xF9 ∷ []) (0x41 ∷ drop 1 open_address)
-      (imp_open ARM64) → ⊥
+-- of these bytes of both and of the entry, in memory
+abbrev pub pair_memory : List ℕ → List ℕ → List ℕ → List Range
+pair_memory adrp load bytes = record { start = 0x100C; bytes = adrp } ∷ two_ranges 0x1010 load bytes
 
--- Memory in which no base relocation was applied, or one beside its place, and bases apart by half a page
+abbrev pub adrp_bytes : List ℕ
+adrp_bytes = 0xE8 ∷ 0xFF ∷ 0xFF ∷ 0xF0 ∷ []
+
+abbrev pub load_bytes : List ℕ
+load_bytes = 8 ∷ 0x41 ∷ 0x40 ∷ 0xF9 ∷ []
+
+-- another register, of the `adrp` and of the load; the next entry; another name; and other bytes at the entry
+pub record RefusedPairs : Type 0 where
+  pub arrives : PageAndOffset adrp_bytes load_bytes open_address (imp_open ARM64)
+  pub is_adrp : MissesPairArrives (codes "is_adrp") 0x1_4000_0000 (passing_placed ARM64 touching_8)
+      (pair_memory (0xE9 ∷ 0xFF ∷ 0xFF ∷ 0xF0 ∷ []) load_bytes open_address) 0x100C 0x1010 0x9000_0008
+      0xF940_0108 (imp_open ARM64) open_address
+  pub is_load : MissesPairArrives (codes "is_load") 0x1_4000_0000 (passing_placed ARM64 touching_8)
+      (pair_memory adrp_bytes (9 ∷ 0x41 ∷ 0x40 ∷ 0xF9 ∷ []) open_address) 0x100C 0x1010 0x9000_0008
+      0xF940_0108 (imp_open ARM64) open_address
+  pub leads : MissesPairArrives (codes "leads") 0x1_4000_0000 (passing_placed ARM64 touching_8)
+      (pair_memory adrp_bytes (8 ∷ 0x45 ∷ 0x40 ∷ 0xF9 ∷ []) open_address) 0x100C 0x1010 0x9000_0008
+      0xF940_0108 (imp_open ARM64) open_address
+  pub own : MissesPairArrives (codes "own") 0x1_4000_0000 (passing_placed ARM64 touching_8)
+      (pair_memory adrp_bytes load_bytes open_address) 0x100C 0x1010 0x9000_0008 0xF940_0108
+      (codes "hello") open_address
+  pub located : MissesPairArrives (codes "located") 0x1_4000_0000 (passing_placed ARM64 touching_8)
+      (pair_memory adrp_bytes load_bytes (0x41 ∷ drop 1 open_address)) 0x100C 0x1010 0x9000_0008
+      0xF940_0108 (imp_open ARM64) open_address
+
+-- bases apart by half a page
 pub record RefusedMoves : Type 0 where
-  pub unmoved : IsRebased 0x1_4000_0000 0x7FF6_1234_0000 (passing_places AMD64) (passing_memory AMD64 touching_8)
-      (passing_memory AMD64 touching_8) → ⊥
-  pub kept : IsRebased 0x40_0000 0x1000_0000 [] (passing_memory I386 touching_4) (moved_memory I386 touching_4) → ⊥
   pub half_page : ArePaged ARM64 0x1_4000_0000 0x1_4000_0800 → ⊥

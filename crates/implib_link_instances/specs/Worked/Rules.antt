@@ -13,11 +13,10 @@ use Rattle.implib_link.specs.Flavors.LldImports.{comes_first, in_small, short_fo
 use Rattle.implib_link.specs.Flavors.LldTables.{lookups_at}
 use Rattle.implib_link.specs.Flavors.LldThunks.{thunk_code, thunk_relocations}
 use Rattle.implib_link.specs.Flavors.SectionSymbols.{is_section_symbol}
-use Rattle.implib_link.specs.Gnu.Calls.{CallArrives, DirectCallArrives, PlacedCode, Resolves, amd64_addr64}
+use Rattle.implib_link.specs.Gnu.Calls.{PlacedCode, Resolves, amd64_addr64}
 use Rattle.implib_link.specs.Gnu.Fields.{LinkedCode, TakesSymbols, meets, placed_code}
 use Rattle.implib_link.specs.Gnu.Pages.{PageArrives}
-use Rattle.implib_link.specs.Gnu.Pointers.{LoadArrives}
-use Rattle.implib_link.specs.Gnu.Rebased.{StubArrives, places_at, table_places_in}
+use Rattle.implib_link.specs.Gnu.Rebased.{places_at, table_places_in}
 use Rattle.implib_link.specs.Stub.{plus_signed}
 use Rattle.implib_link.specs.Tables.{CanReadFrom}
 use Rattle.implib_link_instances.specs.Worked.Lld.{two_dlls, zeta_bytes}
@@ -103,22 +102,11 @@ pub record SymbolRules : Type 0 where
 abbrev pub other_address : List ℕ
 other_address = 0x41 ∷ drop 1 open_address
 
--- What arrives does so at these bytes (`located` of each record), and not where others are: a call, a stub, a load, ARM64's
--- page and offset, and a call of the stub at 0x1040. A directory ends by 20 zeros, not by 16.
+-- ARM64's page and offset arrive at these bytes, and not where others are (`located`). A directory
+-- ends by 20 zeros, not by 16.
 pub record ArrivalRules : Type 0 where
-  pub call : CallArrives AMD64 0x1_4000_0000
-      (two_ranges 0x100B (0xFF ∷ 0x15 ∷ 0x6F ∷ 0xF0 ∷ 0xFF ∷ 0xFF ∷ []) other_address) 0x100B open_address → ⊥
-  pub stub : StubArrives AMD64 0x1_4000_0000
-      (two_ranges 0x1040 (0xFF ∷ 0x25 ∷ 0x3A ∷ 0xF0 ∷ 0xFF ∷ 0xFF ∷ 0x90 ∷ 0x90 ∷ []) other_address) 0x1040 open_address
-      → ⊥
-  pub load : LoadArrives AMD64 0x1_4000_0000
-      (two_ranges 0x101F (0x48 ∷ 0x8B ∷ 5 ∷ 0x5A ∷ 0xF0 ∷ 0xFF ∷ 0xFF ∷ []) other_address) 0x101F open_address → ⊥
   pub pages : PageArrives 0x1_4000_0000
       (record { start = 0x100C; bytes = 0xE8 ∷ 0xFF ∷ 0xFF ∷ 0xF0 ∷ [] }
       ∷ two_ranges 0x1010 (8 ∷ 0x41 ∷ 0x40 ∷ 0xF9 ∷ []) other_address)
       0x100C 0x1010 8 8 open_address → ⊥
-  pub direct : DirectCallArrives AMD64 0x1_4000_0000
-      (record { start = 0x1026; bytes = 0xE8 ∷ 0x15 ∷ 0 ∷ 0 ∷ 0 ∷ [] }
-      ∷ two_ranges 0x1040 (0xFF ∷ 0x25 ∷ 0x3A ∷ 0xF0 ∷ 0xFF ∷ 0xFF ∷ 0x90 ∷ 0x90 ∷ []) other_address)
-      0x1026 open_address → ⊥
   pub ends : DirectoryAt (record { start = 0x1000; bytes = zeros 16 ++ 1 ∷ 0 ∷ 0 ∷ 0 ∷ [] } ∷ []) 8 0x1000 [] → ⊥

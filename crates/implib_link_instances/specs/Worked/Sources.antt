@@ -18,6 +18,7 @@ use Rattle.implib_link.specs.Flavors.Texts.{FlavorSource, FlavorTextsLink, IsFla
 use Rattle.implib_link.specs.Gnu.Packed.{packed}
 use Rattle.implib_link.specs.Gnu.Program.{null_descriptor}
 use Rattle.implib_link.specs.Gnu.Texts.{link_input_of}
+use Rattle.implib_link_instances.specs.But.Links.{MissesIsFlavorSource}
 use Rattle.implib_link_instances.specs.Worked.Programs.{symbol_on}
 use Rattle.implib_link.specs.Flavors.Program.{OfLinker}
 
@@ -86,3 +87,11 @@ pub record WorkedSource (machine : MachineType) : Type 0 where
 pub record WorkedSources : Type 0 where
   pub amd64 : WorkedSource AMD64
   pub i386 : WorkedSource I386
+
+-- Near misses: the library of another machine; and the members of none.
+pub record NearIsFlavorSource : Type 0 where
+  pub of_text : MissesIsFlavorSource (codes "of_text") AMD64
+      (source_in Gnu I386 zed_text (zed_meant I386) (0 ∷ []))
+  pub made : MissesIsFlavorSource (codes "made") AMD64
+      (flavor_source Gnu zed_text
+      (record { definition = renamed (zed_meant AMD64); machine = AMD64; flavor = Gnu }) [] (0 ∷ []))

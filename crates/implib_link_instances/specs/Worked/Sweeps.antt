@@ -6,6 +6,7 @@ use Rattle.implib.specs.Formats.Object.{Object}
 use Rattle.implib.specs.Members.MemberSpec.{MemberView}
 use Rattle.implib_link.specs.Search.Closed.{TakesIntoAs}
 use Rattle.implib_link.specs.Search.Sweeps.{SweepsTake, members_at}
+use Rattle.implib_link_instances.specs.But.Links.{MissesSweepsTake}
 use Rattle.implib_link_instances.specs.Worked.Programs.{code_object, symbol_of_class}
 
 -- an object that defines `x`, and one that defines `f` and leaves `x` to others
@@ -46,5 +47,7 @@ pub record WorkedSweeps : Type 0 where
 
 -- one sweep for two, and a sweep that takes something
 pub record NearSweepsTake : Type 0 where
-  pub taken : SweepsTake reads_by_hand (first_x ∷ wants_x ∷ []) given_f 1 (0 ∷ 1 ∷ []) → ⊥
-  pub ended : SweepsTake reads_by_hand (first_x ∷ wants_x ∷ []) given_f 1 (1 ∷ []) → ⊥
+  pub taken : MissesSweepsTake (codes "taken") reads_by_hand (first_x ∷ wants_x ∷ []) given_f 1
+      (0 ∷ 1 ∷ [])
+  pub ended : MissesSweepsTake (codes "ended") reads_by_hand (first_x ∷ wants_x ∷ []) given_f 1
+      (1 ∷ [])

@@ -1,7 +1,7 @@
 //! Programs that lld linked, and what is none.
 
-ghost use Rattle.implib_link_instances.specs.Worked.LldPrograms.{RefusedCalls, RefusedLoads};
-ghost use Rattle.implib_link_instances.specs.Worked.LldPrograms.{RefusedTables, RefusedThunks};
+ghost use Rattle.implib_link_instances.specs.Worked.LldPrograms.{RefusedCalls, RefusedTables};
+ghost use Rattle.implib_link_instances.specs.Worked.LldPrograms.{RefusedThunks};
 ghost use Rattle.implib_link_instances.specs.Worked.LldPrograms.{WorkedLldPrograms};
 
 /// Programs that lld wrote for I386, AMD64 and ARM64, byte for byte: their tables are those of the
@@ -16,5 +16,4 @@ pub fn refused_lld_programs()
     ensures tables { RefusedTables }
     ensures thunks { RefusedThunks }
     ensures calls { RefusedCalls }
-    ensures loads { RefusedLoads }
 {}

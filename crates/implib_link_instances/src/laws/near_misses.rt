@@ -1,9 +1,17 @@
 //! Near misses: what is no link, no loaded program and no search, each by one thing that is
 //! otherwise.
 
+ghost use Rattle.implib_link_instances.specs.Worked.Following.{FollowingFields};
 ghost use Rattle.implib_link_instances.specs.Worked.Instances.{CodeInstances, MachineInstances};
 ghost use Rattle.implib_link_instances.specs.Worked.Instances.{ProgramInstances, SectionInstances};
 ghost use Rattle.implib_link_instances.specs.Worked.Instances.{TypeInstances};
+ghost use Rattle.implib_link_instances.specs.Worked.NearArrivals.{NearAmd64Holds, NearArm64Holds};
+ghost use Rattle.implib_link_instances.specs.Worked.NearArrivals.{NearBranchArrives};
+ghost use Rattle.implib_link_instances.specs.Worked.NearArrivals.{NearCanBeMoved, NearI386Holds};
+ghost use Rattle.implib_link_instances.specs.Worked.NearArrivals.{NearIsRebased, NearIsRelocated};
+ghost use Rattle.implib_link_instances.specs.Worked.NearArrivals.{NearIsThunk, NearOperandArrives};
+ghost use Rattle.implib_link_instances.specs.Worked.NearArrivals.{NearPointerArrives};
+ghost use Rattle.implib_link_instances.specs.Worked.NearArrivals.{NearThunkArrives};
 ghost use Rattle.implib_link_instances.specs.Worked.NearCode.{NearCallArrives, NearDefines};
 ghost use Rattle.implib_link_instances.specs.Worked.NearCode.{NearDirectCallArrives};
 ghost use Rattle.implib_link_instances.specs.Worked.NearCode.{NearHasDirectCall};
@@ -146,6 +154,22 @@ pub fn near_misses_of_code()
     ensures direct_call_arrives { NearDirectCallArrives }
 {}
 
+/// What no linker makes of a field or of a section, what is not moved, what is no thunk, and where
+/// no field leads.
+pub fn near_misses_of_arrivals()
+    ensures i386_holds { NearI386Holds }
+    ensures amd64_holds { NearAmd64Holds }
+    ensures arm64_holds { NearArm64Holds }
+    ensures is_relocated { NearIsRelocated }
+    ensures can_be_moved { NearCanBeMoved }
+    ensures is_rebased { NearIsRebased }
+    ensures is_thunk { NearIsThunk }
+    ensures thunk_arrives { NearThunkArrives }
+    ensures operand_arrives { NearOperandArrives }
+    ensures pointer_arrives { NearPointerArrives }
+    ensures branch_arrives { NearBranchArrives }
+{}
+
 /// What is not taken or linked of archives, and what is not imported by lld's tables.
 pub fn near_misses_of_members()
     ensures arranged { NearIsArranged }
@@ -213,4 +237,9 @@ pub fn near_misses_of_results()
 /// What predicates that are no records do not hold of.
 pub fn refused_predicates()
     ensures refused { RefusedPredicates }
+{}
+
+/// Fields that no instance fails alone: where all other fields hold, so do these.
+pub fn following_fields()
+    ensures { FollowingFields }
 {}

@@ -3,12 +3,10 @@
 ghost use Rattle.implib_link_instances.specs.Worked.Operands.{AdjacentCalls, MovableCode};
 ghost use Rattle.implib_link_instances.specs.Worked.Operands.{PassingFields};
 ghost use Rattle.implib_link_instances.specs.Worked.Operands.{WorkedFlavorFields, WorkedOperands};
-ghost use Rattle.implib_link_instances.specs.Worked.RefusedFields.{RefusedBranches, RefusedCode};
+ghost use Rattle.implib_link_instances.specs.Worked.RefusedFields.{RefusedCode};
 ghost use Rattle.implib_link_instances.specs.Worked.RefusedFields.{RefusedFieldsOfTypes};
 ghost use Rattle.implib_link_instances.specs.Worked.RefusedFields.{RefusedInstructions};
-ghost use Rattle.implib_link_instances.specs.Worked.RefusedFields.{RefusedMoves};
-ghost use Rattle.implib_link_instances.specs.Worked.RefusedFields.{RefusedOperands, RefusedPairs};
-ghost use Rattle.implib_link_instances.specs.Worked.RefusedFields.{RefusedPointers};
+ghost use Rattle.implib_link_instances.specs.Worked.RefusedFields.{RefusedMoves, RefusedPairs};
 
 /// Code as compilers write it, worked by hand on AMD64, I386 and ARM64: fields that follow one
 /// another without a gap, some of types of which nothing is said, are in memory at two bases, and
@@ -26,10 +24,7 @@ pub fn worked_operands()
 pub fn refused_fields()
     ensures code { RefusedCode }
     ensures types { RefusedFieldsOfTypes }
-    ensures operands { RefusedOperands }
     ensures instructions { RefusedInstructions }
-    ensures pointers { RefusedPointers }
-    ensures branches { RefusedBranches }
     ensures pairs { RefusedPairs }
     ensures moves { RefusedMoves }
 {}

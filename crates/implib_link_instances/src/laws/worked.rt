@@ -18,7 +18,7 @@ ghost use Rattle.implib_link_instances.specs.Worked.Rules.{ArrivalRules, FieldRu
 ghost use Rattle.implib_link_instances.specs.Worked.Rules.{MovingRules};
 ghost use Rattle.implib_link_instances.specs.Worked.Rules.{SymbolRules};
 ghost use Rattle.implib_link_instances.specs.Worked.Searched.{WorkedLibraries, WorkedSearched};
-ghost use Rattle.implib_link_instances.specs.Worked.Sources.{WorkedSources};
+ghost use Rattle.implib_link_instances.specs.Worked.Sources.{NearIsFlavorSource, WorkedSources};
 ghost use Rattle.implib_link_instances.specs.Worked.Walks.{WorkedWalks};
 
 /// Programs that were linked by hand, on each machine, meet what the laws ask for and have these
@@ -110,7 +110,8 @@ pub fn refused_texts()
 
 /// Programs of texts, for GNU's linker and in both flavours, link as the laws say.
 pub fn worked_sources()
-    ensures { WorkedSources }
+    ensures sources { WorkedSources }
+    ensures near { NearIsFlavorSource }
 {}
 
 /// An object claims what it defines, in a section, as an absolute value, as a common block or as a

@@ -1,0 +1,59 @@
+-- Fields that follow from the others of their records.
+use Rattle.std.proofs.Common.{◌≡◌, ℕ, List, Some, ap, sym, ◌∙◌, subst}
+use Rattle.std.specs.Prelude.{map, option_map, slice_get}
+use Rattle.std.specs.List.{filter}
+use Rattle.implib.specs.declared.flavor.Flavor.TheVariants.{Gnu}
+use Rattle.implib.specs.Definition.{ExportView}
+use Rattle.implib.specs.Import.{imp_symbol}
+use Rattle.implib.specs.Link.LinkedMembers.{LinkInput, chosen_exports}
+use Rattle.implib.specs.Members.ImportTables.{thunk_width}
+use Rattle.implib.proofs.Link.LinkedMembers.{among_contains}
+use Rattle.implib.proofs.Link.Ranges.{Among}
+use Rattle.implib_link.specs.Flavors.Program.{FlavorInput, exports_chosen, gnu_input, imp_symbols}
+use Rattle.implib_link.specs.Search.Archives.{Library, exports_of, inputs_wanted}
+use Rattle.implib_link.specs.Search.BothFlavors.{FlavorLibrary, IsUsedIn, flavor_inputs, symbols_in}
+use Rattle.implib_link.specs.Search.Closed.{IsUsed, wanted_in}
+use Rattle.implib_link.specs.Search.MsvcArchives.{wanted_for}
+use Rattle.implib_link.proofs.Flavors.Program.{symbols_get}
+use Rattle.implib_link.proofs.Gnu.Program.{gets_address}
+use Rattle.implib_link_instances.specs.Worked.Following.{FollowingFields}
+use Rattle.implib_link.proofs.Search.Chosen.{input_is, is_chosen, chosen_name, exports_are, chosen_are}
+use Rattle.implib_link.proofs.Search.Lists.{among_at, passing}
+use Rattle.implib_link.proofs.Search.GnuAlone.{gnu_libraries}
+use Rattle.std.proofs.lemmas.Option.{slice_get-map}
+
+-- each import of what is linked is used
+used_in : (wanted : List (List ℕ)) (arranged : List FlavorLibrary) (i j : ℕ) (p : FlavorInput) (e : ExportView) → slice_get (flavor_inputs arranged wanted) i ≡ Some p → slice_get (exports_chosen p) j ≡ Some e → IsUsedIn p.flavor wanted e
+used_in wanted arranged i j p e at there =
+    let l = input_is wanted arranged p (among_at p (flavor_inputs arranged wanted) i at) in
+    let chosen : exports_chosen p ≡ filter (is_chosen l.0.flavor wanted) (exports_of l.0.library) = ap exports_chosen l.2 ∙ chosen_are l.0.flavor wanted l.0.library in
+    let kept = passing (is_chosen l.0.flavor wanted) e (exports_of l.0.library) (subst (Among e) chosen (among_at e (exports_chosen p) j there)) in
+    let name = chosen_name l.0.flavor wanted e kept.1 in
+    subst (λ (q : FlavorInput). IsUsedIn q.flavor wanted e) (sym l.2) (name.0, among_contains name.0 (symbols_in l.0.flavor e) name.1, among_contains name.0 wanted name.2)
+
+used_of_gnu : (wanted : List (List ℕ)) (arranged : List Library) (i j : ℕ) (p : LinkInput) (e : ExportView) → slice_get (inputs_wanted arranged wanted) i ≡ Some p → slice_get (chosen_exports p.definition p.chosen) j ≡ Some e → IsUsed wanted e
+used_of_gnu wanted arranged i j p e at there =
+    used_in wanted (gnu_libraries arranged) i j (gnu_input p) e
+    (ap (λ ps. slice_get ps i) (exports_are arranged wanted) ∙ slice_get-map gnu_input (inputs_wanted arranged wanted) i ∙ ap (option_map gnu_input) at) there
+
+pub following_fields : FollowingFields
+following_fields = record {
+  gets = λ machine image linked descriptor table p x.
+      record { top = x.top; loads = x.loads; table_located = x.table_located; entries = x.entries; gets = symbols_get linked (thunk_width machine) table (imp_symbols p) x.entries };
+  gets_of_lld = λ machine descriptors addresses taken image linked r x.
+      record {
+        i = x.i;
+        j = x.j;
+        group = x.group;
+        its_group = x.its_group;
+        its_place = x.its_place;
+        loads = x.loads;
+        its_table = x.its_table;
+        once = x.once;
+        gets = gets_address linked (imp_symbol r.symbol) _ x.once;
+      };
+  used = λ machine libraries own taken arranged bases objects x.
+      record { taken_is = x.taken_is; program = x.program; links = x.links; used = used_of_gnu (wanted_in own taken) arranged; resolved = x.resolved; closed = x.closed };
+  used_for_both = λ machine libraries own taken arranged bases objects x.
+      record { taken_is = x.taken_is; program = x.program; links = x.links; used = used_in (wanted_for machine own taken) arranged; resolved = x.resolved; closed = x.closed };
+}

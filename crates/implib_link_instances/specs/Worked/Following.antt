@@ -1,0 +1,35 @@
+-- Fields that no instance fails alone: where all other fields hold, the whole record does.
+use Rattle.std.specs.Prelude.{ℕ, List, codes}
+use Rattle.implib.specs.declared.machine.MachineType.{MachineType}
+use Rattle.implib.specs.Formats.Object.{Object}
+use Rattle.implib.specs.Formats.ShortImport.{ShortImport}
+use Rattle.implib.specs.Link.Image.{Range}
+use Rattle.implib.specs.Link.Placement.{Bases, Placed}
+use Rattle.implib.specs.Members.MemberSpec.{MemberView}
+use Rattle.implib_link.specs.Flavors.LldImports.{IsImportedBy}
+use Rattle.implib_link.specs.Flavors.Program.{FlavorInput, InputImports}
+use Rattle.implib_link.specs.Search.Archives.{Library}
+use Rattle.implib_link.specs.Search.BothFlavors.{FlavorLibrary, LinksClosedForBoth}
+use Rattle.implib_link.specs.Search.Closed.{LinksClosed}
+use Rattle.implib_link_instances.specs.But.Links.{InputImportsBut, IsImportedByBut, LinksClosedBut, LinksClosedForBothBut}
+
+-- What undefined symbols get follows from where the entries' own symbols are. That each import is
+-- used follows from the choice of inputs, which are those of wanted exports.
+pub record FollowingFields : Type 0 where
+  pub gets : (machine : MachineType) (image : List Range) (linked : List Placed)
+      (descriptor table : ℕ) (p : FlavorInput) →
+      InputImportsBut (codes "gets") machine image linked descriptor table p →
+      InputImports machine image linked descriptor table p
+  pub gets_of_lld : (machine : MachineType) (descriptors addresses : ℕ) (taken : List ShortImport)
+      (image : List Range) (linked : List Placed) (r : ShortImport) →
+      IsImportedByBut (codes "gets") machine descriptors addresses taken image linked r →
+      IsImportedBy machine descriptors addresses taken image linked r
+  pub used : (machine : MachineType) (libraries : List Library) (own : List Object)
+      (taken : List MemberView) (arranged : List Library) (bases : Bases) (objects : List Object) →
+      LinksClosedBut (codes "used") machine libraries own taken arranged bases objects →
+      LinksClosed machine libraries own taken arranged bases objects
+  pub used_for_both : (machine : MachineType) (libraries : List FlavorLibrary) (own : List Object)
+      (taken : List MemberView) (arranged : List FlavorLibrary) (bases : Bases)
+      (objects : List Object) →
+      LinksClosedForBothBut (codes "used") machine libraries own taken arranged bases objects →
+      LinksClosedForBoth machine libraries own taken arranged bases objects
