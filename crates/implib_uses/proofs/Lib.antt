@@ -1,3 +1,4 @@
 pub mod Links
 pub mod TokensGiven
 pub mod ByOptions
+pub mod OneFlavor

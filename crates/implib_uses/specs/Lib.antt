@@ -1,2 +1,3 @@
 pub mod Uses
 pub mod Options
+pub mod OneFlavor
