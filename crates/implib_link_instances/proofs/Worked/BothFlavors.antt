@@ -30,7 +30,7 @@ use Rattle.implib_link.specs.Search.Closed.{listed_in, unresolved, AreTakenIntoA
 use Rattle.implib_link.specs.Search.Msvc.{TakesFor, left_in}
 use Rattle.implib_link.specs.Search.MsvcArchives.{IsMsvcArchive, first_null, symbols_of_all_shorts, symbols_of_shorts, wanted_with_weak, IsMsvcLibrary, short_inputs, weak_in, PullsIntoFor, TakesIntoFor, wanted_for, IsWeakTaken}
 use Rattle.implib_link.specs.Search.Search.{undefined_in, left_as, AreTakenInTurnAs}
-use Rattle.implib_link_instances.specs.Worked.BothFlavors.{NearAreClosedForBoth, NearAreGivenForBoth, NearIsClosedForBoth, NearIsFlavorArchive, NearIsImportedOfBoth, NearIsUsedIn, NearLinksClosedForBoth, NearNamesNoMembers, NearTakesOfBoth, WorkedBoth, WorkedGivenForBoth, foo_and_zed, gnu_zed, mixed_bases, mixed_inputs, mixed_objects, mixed_taken, mixed_without_last, mixed_asking, short_zed, spread_bases, zed_and_foo}
+use Rattle.implib_link_instances.specs.Worked.BothFlavors.{NearAreClosedForBoth, NearAreGivenForBoth, NearIsClosedForBoth, NearIsFlavorArchive, NearIsImportedOfBoth, NearIsUsedIn, NearLinksClosedForBoth, NearNamesNoMembers, NearTakesOfBoth, WorkedBoth, WorkedGivenForBoth, foo_and_zed, gnu_zed, memberless, mixed_bases, mixed_inputs, mixed_objects, mixed_taken, mixed_without_last, mixed_asking, naming_null, short_zed, spread_bases, zed_and_foo}
 use Rattle.implib_link_instances.specs.Worked.Closed.{choosing, clashing, foo_alias, foo_linked}
 use Rattle.implib_link_instances.specs.Worked.MsvcArchives.{msvc_zed, null_named, thunk_named}
 use Rattle.implib_link_instances.specs.Worked.MsvcClosed.{zed_members}
@@ -43,7 +43,7 @@ use Rattle.implib_link.proofs.Search.Lists.{among_any, among_at, any_among, cont
 use Rattle.implib_link_instances.proofs.Worked.NearMisses.{in_one_alone, none_passes, some_passes}
 use Rattle.implib_link_instances.proofs.Worked.NearPrograms.{no_eights}
 use Rattle.implib_link_instances.proofs.Worked.NearResults.{more_taken, no_length, no_order, none_taken}
-use Rattle.implib_link_instances.proofs.Worked.NearSearches.{none_in, not_address, searched, twice, weak_data, weak_short}
+use Rattle.implib_link_instances.proofs.Worked.NearSearches.{none_in, none_made, not_address, searched, twice, weak_data, weak_short}
 use Rattle.implib_link_instances.proofs.Worked.Programs.{admissible_by, claims_none_by, distinct_by, all_differ}
 use Rattle.implib_link_instances.proofs.Worked.RefusedLinks.{differ}
 use Rattle.implib_link.specs.Flavors.Expansion.{descriptor_symbol_by_name, expanded_in}
@@ -51,6 +51,7 @@ use Rattle.implib.specs.LibraryName.{linked_dll}
 use Rattle.implib.specs.declared.machine.MachineType.{MachineType}
 use Rattle.implib_link_instances.proofs.Worked.Search.{takes_by}
 use Rattle.implib_link_instances.proofs.Worked.Searched.{below_limit}
+use Rattle.implib_link_instances.proofs.Worked.CommandLines.{pulls_by}
 use Rattle.implib_link_instances.proofs.Worked.Flavors.{flavor_objects_by}
 use Rattle.implib_link_instances.specs.Worked.Archives.{library_of}
 use Rattle.implib_link_instances.specs.Worked.Search.{aliased}
@@ -232,6 +233,7 @@ near_are_given_for_both = record {
     λ x.
       let kept : List (List ℕ) = kept_of_both AMD64 foo_and_zed (clashing ∷ []) in
       true≢false (all_among (λ name. list_any (bytes_eq name) (claimed_names clashing) ≡ false) (codes "queue") (kept_of_both AMD64 foo_and_zed (clashing ∷ [])) (any_among (codes "queue") kept refl) x.claims.0));
+  names = (record { claims = (claims_none_by (kept_of_both AMD64 foo_and_zed (naming_null ∷ [])) naming_null refl, tt); names = tt }, λ x. true≢false x.names.msvc.0.null_descriptor);
 }
 
 zed_of_gnu : IsArchive AMD64 (gnu_among (gnu_zed ∷ short_zed ∷ []))
@@ -243,7 +245,16 @@ zed_of_gnu = record {
 
 pub near_is_flavor_archive : NearIsFlavorArchive
 unfolding searched
-near_is_flavor_archive = record { apart = (record { gnu = zed_of_gnu; msvc = msvc_archive; apart = tt }, λ x. true≢false x.apart.1.1.0) }
+near_is_flavor_archive = record {
+  gnu = (record {
+    gnu = tt;
+    msvc = record { made = tt; distinct = distinct_by (null_descriptor_symbol ∷ []) refl; found = tt };
+    apart = apart_by [] (flat_map (symbols_of_library AMD64) (gnu_among (memberless gnu_zed ∷ []))) refl;
+  },
+    λ x. none_made x.gnu.made.0.made);
+  msvc = (record { gnu = record { made = tt; distinct = distinct_by [] refl }; msvc = tt; apart = tt }, λ x. none_made x.msvc.made.0.made);
+  apart = (record { gnu = zed_of_gnu; msvc = msvc_archive; apart = tt }, λ x. true≢false x.apart.1.1.0);
+}
 
 pub near_names_no_members : NearNamesNoMembers
 unfolding searched
@@ -298,6 +309,19 @@ own_and_alias o = same_elements (o ∷ objects_taken AMD64 (foo_alias ∷ [])) (
 pub near_are_closed_for_both : NearAreClosedForBoth
 unfolding searched AreTakenIntoAs
 near_are_closed_for_both = record {
+  takes = (record {
+    takes = tt;
+    some = omega arith;
+    order = turned;
+    others = same_elements (choosing ∷ []) (choosing ∷ []) refl;
+    before = zed_members;
+    behind = [];
+    members = refl;
+    tables = refl;
+    claims = (claims_none_by [] choosing refl, tt);
+    names = record { gnu = (record { head = refl; name = refl }, tt); msvc = (record { descriptor = refl; null_descriptor = refl; null_thunk = refl }, tt) };
+  },
+    λ x. x.takes.ended (codes "bar") foo_alias (pulls_by (expanded_in AMD64) members own [] (codes "bar") foo_alias refl refl refl));
   some = (record {
     takes = record { in_turn = tt; ended = λ name m x. none_in name x.named };
     some = tt;
@@ -328,8 +352,9 @@ unfolding searched group_end sections_end
 descriptors_end = refl
 
 pub near_is_closed_for_both : NearIsClosedForBoth
-unfolding searched
+unfolding searched group_end
 near_is_closed_for_both = record {
+  closed = (record { closed = tt; admissible = admissible_by refl refl; lookups = refl; addresses = refl; follows = refl }, λ x. no_length 0 refl x.closed.some);
   admissible = (record { closed = closed_objects; admissible = tt; lookups = closed.lookups; addresses = closed.addresses; follows = closed.follows }, λ x. no_length 0 refl x.admissible.hint_names.0);
   lookups = (record { closed = closed_objects; admissible = admissible_by refl refl; lookups = tt; addresses = refl; follows = sym descriptors_end }, λ x. no_eights 0x2044 x.lookups refl);
   addresses = (record { closed = closed_objects; admissible = admissible_by refl refl; lookups = refl; addresses = tt; follows = sym descriptors_end }, λ x. no_eights 0x2084 x.addresses refl);

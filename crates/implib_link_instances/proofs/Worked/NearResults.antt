@@ -16,6 +16,7 @@ use Rattle.std.proofs.Common.{◌≡◌, ℕ, ◌+◌, ◌*◌, ◌<◌, List, [
 use Rattle.std.proofs.lemmas.Bool.{true≢false, eqb-true, cases_Bool, or_parts}
 use Rattle.std.proofs.lemmas.List.{length-append}
 use Rattle.implib.specs.declared.machine.MachineType.TheVariants.{AMD64}
+use Rattle.implib.specs.declared.coff.object.Relocation.{Relocation}
 use Rattle.implib.specs.Formats.Bytes.{u32_bytes}
 use Rattle.implib.specs.Formats.Constants.{class_external}
 use Rattle.implib.specs.Formats.Object.{Object, Entry, object_in, ASymbol, Auxiliary, ObjectSymbol}
@@ -28,7 +29,7 @@ use Rattle.implib.proofs.Link.Loading.{number_once}
 use Rattle.implib_link.specs.Search.Archives.{archive_of}
 use Rattle.implib_link_instances.specs.Worked.Archives.{two_libraries}
 use Rattle.implib_link.proofs.Search.Lists.{any_among, contains_among, from_not}
-use Rattle.implib_link.specs.Gnu.Calls.{Defines, i386_rel32, PlacedCode}
+use Rattle.implib_link.specs.Gnu.Calls.{Defines, PlacedCode, amd64_addr64, i386_rel32}
 use Rattle.implib_link.specs.Gnu.Operands.{operand_leads}
 use Rattle.implib_link.specs.Search.Closed.{listed_in, AreTakenIntoAs, TakesInto}
 use Rattle.implib_link.specs.Stub.{adrp_immediate, ldr_immediate, page, plus_signed, with_adrp, with_bits, word_at}
@@ -52,7 +53,7 @@ use Rattle.implib_link_instances.proofs.Worked.Programs.{admissible_by, claims_n
 use Rattle.implib_link_instances.proofs.Worked.Operands.{passing_fields}
 use Rattle.implib_link.specs.Gnu.Packed.{group_end, sections_end, packed}
 use Rattle.implib_link_instances.proofs.Worked.Closed.{asking_closed, asked, clashing_closed, clashes}
-use Rattle.implib_link_instances.specs.Worked.Searched.{by_name, as_taken, bar_member}
+use Rattle.implib_link_instances.specs.Worked.Searched.{as_taken, bar_member, by_name, head_member}
 use Rattle.implib_link_instances.proofs.Worked.Instances.{code_instances}
 use Rattle.implib_link_instances.proofs.Worked.Flavors.{worked_flavors}
 use Rattle.implib_link_instances.proofs.Worked.Searched.{worked_searched}
@@ -292,9 +293,20 @@ head_takes = record {
     tail_zed : MemberView
     tail_zed = member_of (tail_spec AMD64 (own_names (codes "zed.dll")))
 
+no_object : (o : Object) → [] ≡ o ∷ [] → ⊥
+no_object o is = cc
+
 pub near_is_closed : NearIsClosed
-unfolding searched
+unfolding searched AreTakenIntoAs
 near_is_closed = record {
+  takes = (record {
+    takes = tt;
+    linked = record { order = record { moves = []; below = tt; is = refl }; others = same_members [] [] refl; tables = refl; admissible = admissible_by refl refl };
+    claims = tt;
+    names = tt;
+  },
+    λ x. none_in x.takes.in_turn.0.0 x.takes.in_turn.0.1.named);
+  linked = (record { takes = record { in_turn = tt; ended = λ name m x. none_in name x.named }; linked = tt; claims = tt; names = tt }, λ x. no_object _ x.linked.tables);
   names = (record {
     takes = head_takes;
     linked = record { order = record { moves = []; below = tt; is = refl }; others = same_members (naming_head ∷ []) (naming_head ∷ []) refl; tables = refl; admissible = admissible_by refl refl };
@@ -304,9 +316,6 @@ near_is_closed = record {
     λ x. true≢false x.names.0.head);
   claims = (clashing_closed, clashes zed_first (packed 0x2000 clashing_objects) clashing_objects);
 }
-
-no_object : (o : Object) → [] ≡ o ∷ [] → ⊥
-no_object o is = cc
 
 -- two in an order of none
 pub no_order : {X : Type 0} (x y : X) → IsPermutation (x ∷ y ∷ []) [] → ⊥
@@ -384,6 +393,8 @@ unfolding searched group_end sections_end
 near_is_linked_with =
     let own : Object = code_object (symbol_of_class (codes "main") 1 class_external ∷ symbol_of_class (codes "bar") 0 class_external ∷ []) in
     record {
+      is_arranged = (record { arranged = by_name; is_arranged = tt; tables = refl; others = (claims_none_by (flat_map (λ (m : MemberView). m.symbols) by_name) own refl, tt); admissible = admissible_by refl refl },
+        λ x. none_in head_member ((x.is_arranged.same head_member).1 (subst (λ ms. Contains ms head_member) (sym x.is_arranged.order) (0, omega arith, refl))));
       tables = (record { arranged = by_name; is_arranged = worked_searched.arranged; tables = tt; others = tt; admissible = admissible_by refl refl },
         λ x. differ 0 (last_entries (objects_in by_name)) (sym null_has_none ∙ sym (ap last_entries x.tables ∙ last_of (objects_in x.arranged) null_descriptor)) tail_has_one);
       others = (record { arranged = by_name; is_arranged = worked_searched.arranged; tables = refl; others = tt; admissible = admissible_by refl refl },
@@ -449,8 +460,12 @@ near_define_once = record {
       (symbol_of_class (codes "__imp_open") 1 class_external) 0x80 (0, omega arith, refl) (1, omega arith, refl) (1, omega arith, refl) refl refl own_pointer refl);
 }
 
+no_relocation : (r : Relocation) → [] ≡ r ∷ [] → ⊥
+no_relocation r is = cc
+
 pub near_has_page_field : NearHasPageField
 near_has_page_field = record {
+  field = (record { field = tt; empty = refl }, λ x. no_relocation _ x.field.alone);
   empty = (
     let p = passing_fields.arm64_page.field in
     record { field = record { symbol = p.symbol; alone = p.alone; inside = omega arith; names = p.names }; empty = tt },
@@ -460,6 +475,7 @@ near_has_page_field = record {
 
 pub near_has_offset_field : NearHasOffsetField
 near_has_offset_field = record {
+  field = (record { field = tt; eight = refl; empty = refl }, λ x. no_relocation _ x.field.alone);
   empty = (
     let p = passing_fields.arm64_offset.field in
     record { field = record { symbol = p.symbol; alone = p.alone; inside = omega arith; names = p.names }; eight = refl; empty = tt },
@@ -474,6 +490,7 @@ near_has_offset_field = record {
 
 pub near_has_pointer : NearHasPointer
 near_has_pointer = record {
+  field = (record { type = amd64_addr64; field = tt; stores = refl; empty = refl }, λ x. no_relocation _ x.field.alone);
   empty = (
     let p = passing_fields.amd64_pointer in
     record { type = p.type; field = record { symbol = p.field.symbol; alone = p.field.alone; inside = omega arith; names = p.field.names }; stores = p.stores; empty = tt },

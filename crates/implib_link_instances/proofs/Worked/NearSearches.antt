@@ -258,7 +258,7 @@ near_is_imported = record {
 
 -- Archives.
 
-none_made : {m : MemberView} {ms : List MemberView} → [] ≡ m ∷ ms → ⊥
+pub none_made : {m : MemberView} {ms : List MemberView} → [] ≡ m ∷ ms → ⊥
 none_made is = cc
 
 zed_archive : IsArchive AMD64 (zed_library ∷ [])

@@ -21,7 +21,7 @@ use Rattle.implib_link.specs.Tables.{AreTables, DefineEntries, RiseFrom, Table, 
 use Rattle.implib.specs.Formats.Constants.{class_external, class_static}
 use Rattle.implib_link_instances.specs.Worked.LldPrograms.{lld_image_on, lld_linked_on, own_tables}
 use Rattle.implib_link_instances.specs.Worked.Loads.{written_8}
-use Rattle.implib_link_instances.specs.Worked.NearTables.{NearAreAlike, NearAreTables, NearBeginsWith, NearGetsAddress, NearHoldsAt, NearIsInEntry, NearIsInTable, NearLieWithin, beta_table, empty_table, falling_image, falling_tables, renamed_tables, with_range}
+use Rattle.implib_link_instances.specs.Worked.NearTables.{NearAreAlike, NearAreTables, NearAreTablesLoaded, NearBeginsWith, NearGetsAddress, NearHoldsAt, NearIsInEntry, NearIsInTable, NearLieWithin, beta_table, empty_table, falling_image, falling_tables, renamed_tables, with_range}
 use Rattle.implib_link_instances.specs.Worked.Programs.{both_inputs, caller, foo_input, program_image, program_placed, symbol_of_class, touching_8, zed_input}
 use Rattle.implib_link_instances.specs.Worked.Calls.{placed_or_empty}
 use Rattle.implib.proofs.Link.Loading.{dll_once, number_once}
@@ -295,4 +295,17 @@ near_is_in_table = record {
   held = (record { table = beta_table; held = tt; from = omega arith; to = omega arith }, refused_tables.of_no_table);
   from = (record { table = beta_table; held = (0, omega arith, refl); from = tt; to = omega arith }, refused_tables.before_table);
   to = (record { table = beta_table; held = (0, omega arith, refl); from = omega arith; to = tt }, refused_tables.behind_table);
+}
+
+no_table : (i : ℕ) (x : Table) → slice_get [] i ≡ Some x → ⊥
+no_table i x is = cc
+
+pub near_are_tables_loaded : NearAreTablesLoaded
+near_are_tables_loaded = record {
+  entries = (record { entries = tt; within = tt },
+    λ t.
+      let held : HoldsAt [] [] (codes "__imp_mid") [] = t.entries 0 0 beta_table (record { ask = Ordinal 7; symbol = Some (codes "__imp_mid") }) (codes "__imp_mid") refl refl refl in
+      let none : [] ≡ record { name = codes "__imp_mid"; address = Some held.address } ∷ [] = held.once in
+      cc);
+  within = (record { entries = λ i j x e name is held named. absurd (no_table i x is); within = tt }, λ t. none_passes (λ (x : Table). true) t.within.0.table [] refl t.within.0.held refl);
 }

@@ -106,9 +106,15 @@ pub record WorkedGivenForBoth : Type 0 where
   pub wants : 0 < length (short_inputs (msvc_among foo_and_zed) (unresolved (choosing ∷ [])))
   pub ends : (taken : List MemberView) × TakesIntoFor AMD64 (archive_of_both foo_and_zed) (choosing ∷ []) taken
 
--- an object with a `queue` of its own
+-- an object that leaves the null descriptor's symbol to others
+abbrev pub naming_null : Object
+naming_null = code_object
+    (symbol_of_class (codes "__NULL_IMPORT_DESCRIPTOR") 0 class_external ∷ [])
+
+-- an object with a `queue` of its own; and that object
 pub record NearAreGivenForBoth : Type 0 where
   pub claims : MissesAreGivenForBoth (codes "claims") AMD64 foo_and_zed (clashing ∷ [])
+  pub names : MissesAreGivenForBoth (codes "names") AMD64 foo_and_zed (naming_null ∷ [])
 
 -- zed.dll's members for both linkers
 abbrev pub gnu_zed : FlavorLibrary
@@ -118,7 +124,14 @@ gnu_zed = record {
       (of_dll (codes "zed.dll") (plain_export (codes "queue") ∷ plain_export (codes "stack") ∷ []));
 }
 
+-- a library without its members
+abbrev pub memberless : FlavorLibrary → FlavorLibrary
+memberless l = record l { library = record l.library { members = [] } }
+
+-- zed.dll without its members, for GNU's linker and for Microsoft's; and its members for both
 pub record NearIsFlavorArchive : Type 0 where
+  pub gnu : MissesIsFlavorArchive (codes "gnu") AMD64 (memberless gnu_zed ∷ [])
+  pub msvc : MissesIsFlavorArchive (codes "msvc") AMD64 (memberless short_zed ∷ [])
   pub apart : MissesIsFlavorArchive (codes "apart") AMD64 (gnu_zed ∷ short_zed ∷ [])
 
 -- a head's symbol, and the null descriptor's
@@ -132,9 +145,11 @@ pub record NearTakesOfBoth : Type 0 where
   pub inputs : MissesTakesOfBoth (codes "inputs") AMD64 foo_and_zed (codes "__imp_queue" ∷ []) []
   pub weak : MissesTakesOfBoth (codes "weak") AMD64 foo_and_zed (codes "__imp_queue" ∷ []) mixed_taken
 
--- no short import is wanted; an order of no libraries; without the given object; without import tables; of them the null
+-- Nothing is taken for the object; no short import is wanted; an order of no libraries; without the given object; without import tables; of them the null
 -- descriptor alone; and an object with a `queue` of its own
 pub record NearAreClosedForBoth : Type 0 where
+  pub takes : MissesAreClosedForBoth (codes "takes") AMD64 foo_and_zed (choosing ∷ []) [] zed_and_foo
+      (choosing ∷ objects_taken AMD64 (zed_members ++ null_named (codes "zed.dll") ∷ []))
   pub some : MissesAreClosedForBoth (codes "some") AMD64 (gnu_foo ∷ []) [] [] (gnu_foo ∷ []) []
   pub order : MissesAreClosedForBoth (codes "order") AMD64 foo_and_zed (choosing ∷ []) mixed_taken []
       (choosing ∷ objects_taken AMD64 (foo_alias ∷ null_named (codes "zed.dll") ∷ []))
@@ -151,7 +166,7 @@ pub record NearAreClosedForBoth : Type 0 where
       (clashing
       ∷ objects_taken AMD64 (foo_alias ∷ (zed_members ++ null_named (codes "zed.dll") ∷ foo_linked)))
 
--- hints at 0; lookup tables and address tables at a multiple of 4 that is none of 8, with what is behind them further on;
+-- nothing that imports; hints at 0; lookup tables and address tables at a multiple of 4 that is none of 8, with what is behind them further on;
 -- and the null descriptor 4 bytes on
 abbrev pub spread_bases : Bases
 spread_bases = record {
@@ -164,6 +179,8 @@ spread_bases = record {
 }
 
 pub record NearIsClosedForBoth : Type 0 where
+  pub closed : MissesIsClosedForBoth (codes "closed") AMD64 [] [] [] []
+      (record spread_bases { directory_ends = 0x2000 }) []
   pub admissible : MissesIsClosedForBoth (codes "admissible") AMD64 foo_and_zed (choosing ∷ [])
       mixed_taken zed_and_foo (record mixed_bases { hint_names = 0 }) mixed_objects
   pub lookups : MissesIsClosedForBoth (codes "lookups") AMD64 foo_and_zed (choosing ∷ []) mixed_taken

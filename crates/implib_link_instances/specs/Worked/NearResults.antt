@@ -4,6 +4,7 @@ use Rattle.implib_link.specs.Gnu.Packed.{packed}
 use Rattle.implib_link_instances.specs.Worked.Searched.{as_taken, by_name, searched_objects}
 use Rattle.std.specs.List.{filter, list_any}
 use Rattle.std.specs.Prelude.{ℕ, ◌+◌, List, [], ◌∷◌, ◌++◌, bytes_eq, codes, drop, if◌then◌else◌, map, not}
+use Rattle.implib.specs.declared.machine.MachineType.{MachineType}
 use Rattle.implib.specs.declared.machine.MachineType.TheVariants.{AMD64, ARM64, I386}
 use Rattle.implib.specs.Formats.Constants.{amd64_rel32, class_external}
 use Rattle.implib.specs.Formats.Object.{ASymbol, Object}
@@ -28,7 +29,7 @@ use Rattle.implib_link_instances.specs.Worked.NearCode.{code_of}
 use Rattle.implib_link_instances.specs.Worked.MsvcArchives.{null_named}
 use Rattle.implib_link_instances.specs.Worked.NearLinks.{found_elsewhere, found_there}
 use Rattle.implib_link_instances.specs.Worked.NearPrograms.{run_with, table_object}
-use Rattle.implib_link_instances.specs.Worked.NearSearches.{again, asking, zed_library}
+use Rattle.implib_link_instances.specs.Worked.NearSearches.{again, asking, listing, zed_library}
 use Rattle.implib_link_instances.specs.Worked.Operands.{field, imp_open, passing_at, passing_code, open_on, passing_placed}
 use Rattle.implib_link_instances.specs.Worked.Programs.{code_object, foo_input, program_objects, symbol_of_class, touching_8, zed_input}
 use Rattle.implib_link_instances.specs.Worked.RefusedFields.{adrp_bytes, linked_on_amd64, load_bytes, open_address, pair_memory, two_ranges, with_byte}
@@ -199,8 +200,12 @@ abbrev pub clashing_objects : List Object
 clashing_objects =
     objects_in (foo_alias ∷ zed_linked) ++ clashing ∷ (objects_in foo_linked ++ null_descriptor ∷ [])
 
--- it, for which a linker takes the head and for that the tail; and an object with a `queue` of its own
+-- A member is taken, though there is no archive; nothing is linked, not even the null descriptor; that object, for which
+-- a linker takes the head and for that the tail; and an object with a `queue` of its own
 pub record NearIsClosed : Type 0 where
+  pub takes : MissesIsClosed (codes "takes") AMD64 [] [] (listing ∷ []) [] touching_8
+      (null_descriptor ∷ [])
+  pub linked : MissesIsClosed (codes "linked") AMD64 [] [] [] [] touching_8 []
   pub names : MissesIsClosed (codes "names") AMD64 (zed_library ∷ []) (naming_head ∷ []) head_and_tail
       (zed_library ∷ []) touching_8 (naming_head ∷ null_descriptor ∷ [])
   pub claims : MissesIsClosed (codes "claims") AMD64 two_libraries (clashing ∷ []) closed_taken
@@ -226,8 +231,10 @@ pub record NearAreChosenFor : Type 0 where
 abbrev pub own_bar : Object
 own_bar = code_object (symbol_of_class (codes "bar") 1 class_external ∷ [])
 
--- no null descriptor; a `bar` of the program's own; and descriptors at 2
+-- members that are not taken; no null descriptor; a `bar` of the program's own; and descriptors at 2
 pub record NearIsLinkedWith : Type 0 where
+  pub is_arranged : MissesIsLinkedWith (codes "is_arranged") AMD64 (own_names (codes "foo.dll"))
+      (packed 1 searched_objects) [] searched_objects
   pub tables : MissesIsLinkedWith (codes "tables") AMD64 (own_names (codes "foo.dll"))
       (packed 4 (objects_in by_name)) as_taken (objects_in by_name)
   pub others : MissesIsLinkedWith (codes "others") AMD64 (own_names (codes "foo.dll"))
@@ -243,17 +250,24 @@ pub record NearDefineOnce : Type 0 where
       ∷ code_of [] [] (symbol_of_class (codes "__imp_open") 1 class_external)
       ∷ [])
 
--- ARM64's code with a page of 4, and with an offset of 8, in its fields, and a load of 4 bytes; AMD64's with a 1 in the
--- stored address; and the field of I386's jump as a pointer
+-- ARM64's code without relocations; with a page of 4, and with an offset of 8, in its fields, and a load of 4 bytes;
+-- AMD64's without relocations, and with a 1 in the stored address; and the field of I386's jump as a pointer
+abbrev pub unrelocated : MachineType → LinkedCode
+unrelocated machine = record (passing_at machine) {
+  code = record (passing_code machine) { relocations = [] };
+}
+
 abbrev pub other_code : ℕ → ℕ → LinkedCode
 other_code offset byte = record (passing_at ARM64) {
   code = record (passing_code ARM64) { bytes = with_byte (passing_code ARM64).bytes offset byte };
 }
 
 pub record NearHasPageField : Type 0 where
+  pub field : MissesHasPageField (codes "field") (unrelocated ARM64) 12 (imp_open ARM64)
   pub empty : MissesHasPageField (codes "empty") (other_code 12 0x28) 12 (imp_open ARM64)
 
 pub record NearHasOffsetField : Type 0 where
+  pub field : MissesHasOffsetField (codes "field") (unrelocated ARM64) 16 (imp_open ARM64)
   pub empty : MissesHasOffsetField (codes "empty") (other_code 17 5) 16 (imp_open ARM64)
   pub eight : MissesHasOffsetField (codes "eight") (other_code 19 0xB9) 16 (imp_open ARM64)
 
@@ -263,6 +277,7 @@ stored_one = record (passing_at AMD64) {
 }
 
 pub record NearHasPointer : Type 0 where
+  pub field : MissesHasPointer (codes "field") AMD64 (unrelocated AMD64) 52 (imp_open AMD64)
   pub empty : MissesHasPointer (codes "empty") AMD64 stored_one 52 (imp_open AMD64)
   pub stores : MissesHasPointer (codes "stores") I386 (passing_at I386) 37 (open_on I386)
 

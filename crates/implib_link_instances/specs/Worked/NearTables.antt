@@ -2,14 +2,15 @@
 -- record `X`, each by the name of the field that refuses it: all other fields hold.
 use Rattle.std.specs.Prelude.{ℕ, List, [], ◌∷◌, ◌++◌, codes, drop, Some}
 use Rattle.implib.specs.declared.machine.MachineType.TheVariants.{AMD64}
-use Rattle.implib.specs.Import.{Name, Ordinal}
+use Rattle.implib.specs.Import.{Ask, Name, Ordinal}
 use Rattle.implib.specs.Link.Image.{Range}
 use Rattle.implib.specs.Members.ImportTables.{zeros}
 use Rattle.implib_link.specs.Gnu.Program.{GetsAddress}
 use Rattle.implib_link.specs.Gnu.Writing.{AreAlike}
 use Rattle.implib_link.specs.Search.Exists.{LieWithin}
 use Rattle.implib_link.specs.Tables.{Table, Tables}
-use Rattle.implib_link_instances.specs.But.Links.{MissesAreTables, MissesBeginsWith, MissesHoldsAt}
+use Rattle.implib_link_instances.specs.But.Links.{MissesAreTables, MissesAreTablesLoaded}
+use Rattle.implib_link_instances.specs.But.Links.{MissesBeginsWith, MissesHoldsAt}
 use Rattle.implib_link_instances.specs.But.Links.{MissesIsInEntry, MissesIsInTable}
 use Rattle.implib_link_instances.specs.Worked.LldPrograms.{eight_bytes, lld_image_on, lld_linked_on}
 use Rattle.implib_link_instances.specs.Worked.LldPrograms.{own_tables, tables_with}
@@ -129,3 +130,18 @@ pub record NearIsInTable : Type 0 where
       (record { start = 0x2060; bytes = eight_bytes 0 })
   pub to : MissesIsInTable (codes "to") 8 own_tables.tables
       (record { start = 0x2078; bytes = eight_bytes 0 })
+
+-- tables of no image, and DLLs that give no bytes
+abbrev pub tables_alone : List Table → Tables
+tables_alone tables = record { image = []; linked = []; directory = 0; tables = tables }
+
+abbrev pub gives_nothing : List ℕ → Ask → List ℕ
+gives_nothing dll ask = []
+
+-- a table whose entries' symbols nothing defines, and an empty range that was written, though there are
+-- no tables
+pub record NearAreTablesLoaded : Type 0 where
+  pub entries : MissesAreTablesLoaded (codes "entries") AMD64 (tables_alone (beta_table ∷ []))
+      gives_nothing []
+  pub within : MissesAreTablesLoaded (codes "within") AMD64 (tables_alone []) gives_nothing
+      (record { start = 0; bytes = [] } ∷ [])

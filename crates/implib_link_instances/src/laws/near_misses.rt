@@ -69,6 +69,7 @@ ghost use Rattle.implib_link_instances.specs.Worked.NearTaken.{NearIsImportedBy}
 ghost use Rattle.implib_link_instances.specs.Worked.NearTaken.{NearIsLinkedOfWanted, NearIsTaken};
 ghost use Rattle.implib_link_instances.specs.Worked.NearTaken.{NearRunLinks, NearTakesOfLibraries};
 ghost use Rattle.implib_link_instances.specs.Worked.NearTables.{NearAreAlike, NearAreTables};
+ghost use Rattle.implib_link_instances.specs.Worked.NearTables.{NearAreTablesLoaded};
 ghost use Rattle.implib_link_instances.specs.Worked.NearTables.{NearBeginsWith};
 ghost use Rattle.implib_link_instances.specs.Worked.NearTables.{NearGetsAddress, NearHoldsAt};
 ghost use Rattle.implib_link_instances.specs.Worked.NearTables.{NearIsInEntry, NearIsInTable};
@@ -86,6 +87,7 @@ pub fn near_misses_of_tables()
     ensures gets { NearGetsAddress }
     ensures tables { NearAreTables }
     ensures in_table { NearIsInTable }
+    ensures loaded { NearAreTablesLoaded }
 {}
 
 /// What is not said of archive searches: which members a name pulls in, and which weak externals
