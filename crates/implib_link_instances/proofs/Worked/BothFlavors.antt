@@ -29,10 +29,10 @@ use Rattle.implib_link.specs.Search.BothFlavors.{AreClosedForBoth, AreGivenForBo
 use Rattle.implib_link.specs.Search.Closed.{listed_in, unresolved, AreTakenIntoAs}
 use Rattle.implib_link.specs.Search.Msvc.{TakesFor, left_in}
 use Rattle.implib_link.specs.Search.MsvcArchives.{IsMsvcArchive, first_null, symbols_of_all_shorts, symbols_of_shorts, wanted_with_weak, IsMsvcLibrary, short_inputs, weak_in, PullsIntoFor, TakesIntoFor, wanted_for, IsWeakTaken}
-use Rattle.implib_link.specs.Search.Search.{undefined_in, left_as, AreTakenInTurnAs}
-use Rattle.implib_link_instances.specs.Worked.BothFlavors.{NearAreClosedForBoth, NearAreGivenForBoth, NearIsClosedForBoth, NearIsFlavorArchive, NearIsImportedOfBoth, NearIsUsedIn, NearLinksClosedForBoth, NearNamesNoMembers, NearTakesOfBoth, WorkedBoth, WorkedGivenForBoth, foo_and_zed, gnu_zed, memberless, mixed_bases, mixed_inputs, mixed_objects, mixed_taken, mixed_without_last, mixed_asking, naming_null, short_zed, spread_bases, zed_and_foo}
+use Rattle.implib_link.specs.Search.Search.{AreTakenInTurnAs, first_listed, left_as, undefined_in}
+use Rattle.implib_link_instances.specs.Worked.BothFlavors.{NearAreClosedForBoth, NearAreGivenForBoth, NearIsClosedForBoth, NearIsFlavorArchive, NearIsImportedOfBoth, NearIsUsedIn, NearLinksClosedForBoth, NearNamesNoMembers, NearTakesOfBoth, WorkedBoth, WorkedGivenForBoth, foo_and_zed, gnu_zed, memberless, mixed_bases, mixed_inputs, mixed_objects, mixed_taken, mixed_without_last, mixed_asking, naming_both, naming_null, short_zed, spread_bases, zed_and_foo, zed_taken}
 use Rattle.implib_link_instances.specs.Worked.Closed.{choosing, clashing, foo_alias, foo_linked}
-use Rattle.implib_link_instances.specs.Worked.MsvcArchives.{msvc_zed, null_named, thunk_named}
+use Rattle.implib_link_instances.specs.Worked.MsvcArchives.{descriptor_named, msvc_zed, null_named, short_named, thunk_named}
 use Rattle.implib_link_instances.specs.Worked.MsvcClosed.{zed_members}
 use Rattle.implib_link_instances.specs.Worked.NearSearches.{again}
 use Rattle.implib_link.proofs.Search.Taken.{both_taken}
@@ -51,7 +51,7 @@ use Rattle.implib.specs.LibraryName.{linked_dll}
 use Rattle.implib.specs.declared.machine.MachineType.{MachineType}
 use Rattle.implib_link_instances.proofs.Worked.Search.{takes_by}
 use Rattle.implib_link_instances.proofs.Worked.Searched.{below_limit}
-use Rattle.implib_link_instances.proofs.Worked.CommandLines.{pulls_by}
+use Rattle.implib_link_instances.proofs.Worked.CommandLines.{ended_by, pulls_by}
 use Rattle.implib_link_instances.proofs.Worked.Flavors.{flavor_objects_by}
 use Rattle.implib_link_instances.specs.Worked.Archives.{library_of}
 use Rattle.implib_link_instances.specs.Worked.Search.{aliased}
@@ -306,6 +306,35 @@ clashing_takes = takes_into (expanded_in AMD64) members (clashing ∷ []) mixed_
 own_and_alias : (o : Object) → HaveSame (o ∷ objects_taken AMD64 (foo_alias ∷ [])) (o ∷ objects_taken AMD64 (foo_alias ∷ []))
 own_and_alias o = same_elements (o ∷ objects_taken AMD64 (foo_alias ∷ [])) (o ∷ objects_taken AMD64 (foo_alias ∷ [])) refl
 
+abbrev zed_alone : List MemberView
+zed_alone = archive_of_both (short_zed ∷ [])
+
+-- a name pulls in a member that is listed for another symbol than those before it, by computing
+pulls_listed : (taken : List MemberView) (name : List ℕ) (m : MemberView) → list_any (bytes_eq name) (unresolved (naming_both ∷ objects_taken AMD64 taken)) ≡ true → first_listed zed_alone name ≡ Some m →
+    list_any (bytes_eq (first_symbol m)) (map first_symbol taken) ≡ false → PullsIntoFor AMD64 zed_alone (naming_both ∷ []) taken name m
+pulls_listed taken name m left listed new = record {
+  named = among_contains name (unresolved (naming_both ∷ objects_taken AMD64 taken)) (any_among name (unresolved (naming_both ∷ objects_taken AMD64 taken)) left);
+  listed = listed;
+  new = new_by taken m new;
+}
+
+null_takes : TakesIntoFor AMD64 (archive_of_both (short_zed ∷ [])) (naming_both ∷ []) zed_taken
+unfolding searched AreTakenIntoAs
+null_takes =
+    let short : MemberView = short_named (codes "zed.dll") (codes "queue") in
+    let descriptor : MemberView = descriptor_named (codes "zed.dll") in
+    let null : MemberView = null_named (codes "zed.dll") in
+    record {
+      in_turn = (
+        (0x7F ∷ codes "zed_NULL_THUNK_DATA", pulls_listed (null ∷ descriptor ∷ short ∷ []) (0x7F ∷ codes "zed_NULL_THUNK_DATA") (thunk_named (codes "zed.dll")) refl refl refl),
+        (
+          (codes "__NULL_IMPORT_DESCRIPTOR", pulls_listed (descriptor ∷ short ∷ []) (codes "__NULL_IMPORT_DESCRIPTOR") null refl refl refl),
+          ((codes "__IMPORT_DESCRIPTOR_zed", pulls_listed (short ∷ []) (codes "__IMPORT_DESCRIPTOR_zed") descriptor refl refl refl), ((codes "__imp_queue", pulls_listed [] (codes "__imp_queue") short refl refl refl), tt)),
+        ),
+      );
+      ended = ended_by (expanded_in AMD64) zed_alone (naming_both ∷ []) zed_taken refl;
+    }
+
 pub near_are_closed_for_both : NearAreClosedForBoth
 unfolding searched AreTakenIntoAs
 near_are_closed_for_both = record {
@@ -345,6 +374,19 @@ near_are_closed_for_both = record {
     λ x. more_taken x.before (first_null AMD64 (msvc_among foo_and_zed)) x.behind _ one_null (ap (λ ms. length (objects_taken AMD64 ms)) x.members) (omega arith) (ap length x.tables));
   claims = (record { takes = clashing_takes; some = omega arith; order = turned; others = own_and_alias clashing; before = zed_members; behind = foo_linked; members = refl; tables = refl; claims = tt; names = names },
     clashes zed_and_foo clashing_objects);
+  names = (record {
+    takes = null_takes;
+    some = omega arith;
+    order = record { moves = []; below = tt; is = refl };
+    others = same_elements (naming_both ∷ []) (naming_both ∷ []) refl;
+    before = zed_members;
+    behind = [];
+    members = refl;
+    tables = refl;
+    claims = (claims_none_by (listed_in zed_taken ++ left_in AMD64 zed_taken) naming_both refl, tt);
+    names = tt;
+  },
+    λ x. true≢false x.names.msvc.0.null_descriptor);
 }
 
 descriptors_end : group_end Descriptors 0x2000 mixed_objects ≡ 0x2028

@@ -145,8 +145,23 @@ pub record NearTakesOfBoth : Type 0 where
   pub inputs : MissesTakesOfBoth (codes "inputs") AMD64 foo_and_zed (codes "__imp_queue" ∷ []) []
   pub weak : MissesTakesOfBoth (codes "weak") AMD64 foo_and_zed (codes "__imp_queue" ∷ []) mixed_taken
 
+-- an object that names the null descriptor beside the import of `queue`, and zed.dll's members that are taken for it
+abbrev pub naming_both : Object
+naming_both = code_object
+    (symbol_of_class (codes "__imp_queue") 0 class_external
+    ∷ symbol_of_class (codes "__NULL_IMPORT_DESCRIPTOR") 0 class_external
+    ∷ [])
+
+abbrev pub zed_taken : List MemberView
+zed_taken =
+    thunk_named (codes "zed.dll")
+    ∷ null_named (codes "zed.dll")
+    ∷ descriptor_named (codes "zed.dll")
+    ∷ short_named (codes "zed.dll") (codes "queue")
+    ∷ []
+
 -- Nothing is taken for the object; no short import is wanted; an order of no libraries; without the given object; without import tables; of them the null
--- descriptor alone; and an object with a `queue` of its own
+-- descriptor alone; an object with a `queue` of its own; and that object
 pub record NearAreClosedForBoth : Type 0 where
   pub takes : MissesAreClosedForBoth (codes "takes") AMD64 foo_and_zed (choosing ∷ []) [] zed_and_foo
       (choosing ∷ objects_taken AMD64 (zed_members ++ null_named (codes "zed.dll") ∷ []))
@@ -165,6 +180,9 @@ pub record NearAreClosedForBoth : Type 0 where
       zed_and_foo
       (clashing
       ∷ objects_taken AMD64 (foo_alias ∷ (zed_members ++ null_named (codes "zed.dll") ∷ foo_linked)))
+  pub names : MissesAreClosedForBoth (codes "names") AMD64 (short_zed ∷ []) (naming_both ∷ [])
+      zed_taken (short_zed ∷ [])
+      (naming_both ∷ objects_taken AMD64 (zed_members ++ null_named (codes "zed.dll") ∷ []))
 
 -- nothing that imports; hints at 0; lookup tables and address tables at a multiple of 4 that is none of 8, with what is behind them further on;
 -- and the null descriptor 4 bytes on

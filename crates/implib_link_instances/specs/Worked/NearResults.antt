@@ -7,7 +7,7 @@ use Rattle.std.specs.Prelude.{ℕ, ◌+◌, List, [], ◌∷◌, ◌++◌, bytes
 use Rattle.implib.specs.declared.machine.MachineType.{MachineType}
 use Rattle.implib.specs.declared.machine.MachineType.TheVariants.{AMD64, ARM64, I386}
 use Rattle.implib.specs.Formats.Constants.{amd64_rel32, class_external}
-use Rattle.implib.specs.Formats.Object.{ASymbol, Object}
+use Rattle.implib.specs.Formats.Object.{ASymbol, Auxiliary, Entry, Object}
 use Rattle.implib.specs.LibraryName.{own_names}
 use Rattle.implib.specs.Link.Image.{Range}
 use Rattle.implib.specs.Link.LinkedMembers.{objects_in}
@@ -71,13 +71,25 @@ memberless = record (foo_flavor AMD64) { input = record (foo_flavor AMD64).input
 abbrev pub table_of : List ℕ → List ℕ → Object
 table_of name bytes = table_object name bytes []
 
--- The program of both flavours, and what its link gives, but for one thing: the input has no members; a relocation of an
+-- the same objects with the symbol of the entry of `open` four bytes on, in those that define it
+abbrev pub later_open : Entry → Entry
+later_open (Auxiliary bytes) = Auxiliary bytes
+later_open (ASymbol s) = if bytes_eq s.name (codes "__imp_open") then ASymbol (record s { value = s.value + 4 }) else ASymbol s
+
+abbrev pub with_later_open : Object → Object
+with_later_open o =
+    if list_any (bytes_eq (codes "__imp_open")) (claimed_names o) then record o { entries = map later_open o.entries } else o
+
+-- The program of both flavours, and what its link gives, but for one thing: the input has no members; the symbol of an
+-- entry is within it; a relocation of an
 -- object with a table leads nowhere; the null descriptor's symbol is elsewhere; such an object leaves a name that nothing
 -- defines; `queue` is defined again; and an object with a table claims a name more. And links of no DLL: without the zeros
 -- of the directory's end; and with them in another object than the null descriptor, which is elsewhere.
 pub record NearProgramLinks : Type 0 where
   pub linked : MissesProgramLinks (codes "linked") AMD64 OfMember flavor_bases_8
       (memberless ∷ zed_flavor AMD64 ∷ []) (flavor_objects AMD64 0)
+  pub imports : MissesProgramLinks (codes "imports") AMD64 OfMember flavor_bases_8
+      (flavor_inputs AMD64) (map with_later_open (flavor_objects AMD64 0))
   pub targets : MissesProgramLinks (codes "targets") AMD64 OfMember flavor_bases_8
       (flavor_inputs AMD64) (leading_nowhere ∷ flavor_objects AMD64 0)
   pub null : MissesProgramLinks (codes "null") AMD64 OfMember flavor_bases_8 (flavor_inputs AMD64)
@@ -105,13 +117,15 @@ memberless_run = record {
   inputs = record (foo_input AMD64) { members = [] } ∷ zed_input AMD64 ∷ [];
 }
 
--- Four bytes that are no descriptor, where the directory ends otherwise; an input without members; no zeros at the
--- directory's end; and `queue` defined again.
+-- Four bytes that are no descriptor, where the directory ends otherwise; an input without members; the symbol of an entry
+-- within it; no zeros at the directory's end; and `queue` defined again.
 pub record NearLinksBeside : Type 0 where
   pub rows : MissesLinksBeside (codes "rows") AMD64 touching_8 (four_before ∷ [])
       (table_of (codes ".idata$2") (zeros 20) ∷ [])
   pub linked : MissesLinksBeside (codes "linked") AMD64 touching_8 (memberless_run ∷ [])
       (program_objects AMD64)
+  pub members : MissesLinksBeside (codes "members") AMD64 touching_8 (run_with [] [])
+      (map with_later_open (program_objects AMD64))
   pub directory : MissesLinksBeside (codes "directory") AMD64 touching_8 [] []
   pub listed : MissesLinksBeside (codes "listed") AMD64 touching_8 (run_with [] [])
       (again.object ∷ program_objects AMD64)
