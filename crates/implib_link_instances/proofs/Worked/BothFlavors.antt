@@ -21,7 +21,7 @@ use Rattle.implib.specs.Worked.Statements.{plain_export}
 use Rattle.implib.specs.declared.flavor.Flavor.TheVariants.{Msvc}
 use Rattle.implib.proofs.Link.LinkedMembers.{among_contains, among_map}
 use Rattle.implib.proofs.Link.Ranges.{Among, all_among, among_back, among_front}
-use Rattle.implib_link.specs.Flavors.Program.{FlavorInput, exports_chosen, objects_taken, symbol_in, thunks_of, all_members, IsProgramOf, OfMember, IsMadeFor, gnu_input}
+use Rattle.implib_link.specs.Flavors.Program.{FlavorInput, ProgramLinks, exports_chosen, objects_taken, symbol_in, thunks_of, all_members, IsProgramOf, OfMember, IsMadeFor, gnu_input}
 use Rattle.implib_link.specs.Gnu.Packed.{group_end, packed_end, sections_end}
 use Rattle.implib_link.specs.Gnu.Program.{ClaimsNone, claimed_names, has_tables, HaveSame}
 use Rattle.implib_link.specs.Search.Archives.{IsArchive, symbols_of_library, IsLibrary}
@@ -30,7 +30,7 @@ use Rattle.implib_link.specs.Search.Closed.{listed_in, unresolved, AreTakenIntoA
 use Rattle.implib_link.specs.Search.Msvc.{TakesFor, left_in}
 use Rattle.implib_link.specs.Search.MsvcArchives.{IsMsvcArchive, first_null, symbols_of_all_shorts, symbols_of_shorts, wanted_with_weak, IsMsvcLibrary, short_inputs, weak_in, PullsIntoFor, TakesIntoFor, wanted_for, IsWeakTaken}
 use Rattle.implib_link.specs.Search.Search.{AreTakenInTurnAs, first_listed, left_as, undefined_in}
-use Rattle.implib_link_instances.specs.Worked.BothFlavors.{NearAreClosedForBoth, NearAreGivenForBoth, NearIsClosedForBoth, NearIsFlavorArchive, NearIsImportedOfBoth, NearIsUsedIn, NearLinksClosedForBoth, NearNamesNoMembers, NearTakesOfBoth, WorkedBoth, WorkedGivenForBoth, foo_and_zed, gnu_zed, memberless, mixed_bases, mixed_inputs, mixed_objects, mixed_taken, mixed_without_last, mixed_asking, naming_both, naming_null, short_zed, spread_bases, zed_and_foo, zed_taken}
+use Rattle.implib_link_instances.specs.Worked.BothFlavors.{NearAreClosedForBoth, NearAreGivenForBoth, NearIsClosedForBoth, NearIsFlavorArchive, NearIsImportedOfBoth, NearIsUsedIn, NearLinksClosedForBoth, NearNamesNoMembers, NearTakesOfBoth, WorkedBoth, WorkedGivenForBoth, foo_and_zed, gnu_zed, memberless, mixed_bases, mixed_inputs, mixed_objects, mixed_taken, mixed_without_last, mixed_asking, naming_both, naming_null, no_bases, one_bases, short_zed, spread_bases, zed_and_foo, zed_objects, zed_taken}
 use Rattle.implib_link_instances.specs.Worked.Closed.{choosing, clashing, foo_alias, foo_linked}
 use Rattle.implib_link_instances.specs.Worked.MsvcArchives.{descriptor_named, msvc_zed, null_named, short_named, thunk_named}
 use Rattle.implib_link_instances.specs.Worked.MsvcClosed.{zed_members}
@@ -43,15 +43,19 @@ use Rattle.implib_link.proofs.Search.Lists.{among_any, among_at, any_among, cont
 use Rattle.implib_link_instances.proofs.Worked.NearMisses.{in_one_alone, none_passes, some_passes}
 use Rattle.implib_link_instances.proofs.Worked.NearPrograms.{no_eights}
 use Rattle.implib_link_instances.proofs.Worked.NearResults.{more_taken, no_length, no_order, none_taken}
-use Rattle.implib_link_instances.proofs.Worked.NearSearches.{none_in, none_made, not_address, searched, twice, weak_data, weak_short}
+use Rattle.implib_link_instances.proofs.Worked.NearSearches.{listed_by, none_in, none_made, not_address, searched, twice, weak_data, weak_short}
 use Rattle.implib_link_instances.proofs.Worked.Programs.{admissible_by, claims_none_by, distinct_by, all_differ}
-use Rattle.implib_link_instances.proofs.Worked.RefusedLinks.{differ}
+use Rattle.implib_link_instances.proofs.Worked.RefusedLinks.{are_located, differ}
 use Rattle.implib_link.specs.Flavors.Expansion.{descriptor_symbol_by_name, expanded_in}
 use Rattle.implib.specs.LibraryName.{linked_dll}
 use Rattle.implib.specs.declared.machine.MachineType.{MachineType}
 use Rattle.implib_link_instances.proofs.Worked.Search.{takes_by}
 use Rattle.implib_link_instances.proofs.Worked.Searched.{below_limit}
+use Rattle.implib.specs.Link.Image.{image_of}
+use Rattle.implib.specs.Members.ImportTables.{zeros}
+use Rattle.implib_link.specs.Directory.{DirectoryAt}
 use Rattle.implib_link_instances.proofs.Worked.CommandLines.{ended_by, pulls_by}
+use Rattle.implib_link_instances.proofs.Worked.Following.{used_in}
 use Rattle.implib_link_instances.proofs.Worked.Flavors.{flavor_objects_by}
 use Rattle.implib_link_instances.specs.Worked.Archives.{library_of}
 use Rattle.implib_link_instances.specs.Worked.Search.{aliased}
@@ -505,9 +509,117 @@ each_resolved name (inr (inr (inr (inl is)))) listed =
     foo_input = gnu_input (record { definition = aliased; members = (library_of aliased).members; chosen = 1 ∷ [] })
 each_resolved name (inr (inr (inr (inr none)))) listed = absurd none
 
+no_export_of : (i j : ℕ) (p : FlavorInput) (e : ExportView) → slice_get [] i ≡ Some p → slice_get (exports_chosen p) j ≡ Some e → ⊥
+no_export_of i j p e is held = cc
+
+no_input : (i : ℕ) (p : FlavorInput) → slice_get [] i ≡ Some p → ⊥
+no_input i p is = cc
+
+abbrev null_objects : List Object
+null_objects = objects_taken AMD64 (null_named (codes "zed.dll") ∷ [])
+
+null_links : ProgramLinks AMD64 OfMember no_bases [] (objects_taken AMD64 (null_named (codes "zed.dll") ∷ []))
+unfolding searched group_end sections_end DirectoryAt
+null_links = record {
+  linked = tt;
+  imports = λ i p at. absurd (no_input i p at);
+  directory = are_located (image_of AMD64 no_bases (placed_from no_bases null_objects)) (zeros 20) 0x2000 refl;
+  null = refl;
+  ended = refl;
+  targets = ((tt, tt), tt);
+  defined = tt;
+  listed = tt;
+  claimed = same_elements (null_descriptor_symbol ∷ []) (null_descriptor_symbol ∷ []) refl;
+}
+
+-- zed.dll's input, and the same without members
+abbrev zed_memberless : FlavorInput
+zed_memberless = record { flavor = Msvc; input = record { definition = msvc_zed.definition; members = []; chosen = 0 ∷ [] } }
+
+memberless_program : IsProgramOf AMD64 OfMember one_bases (inputs_of_both AMD64 (memberless short_zed ∷ []) (choosing ∷ []) []) zed_objects
+unfolding searched group_end sections_end
+memberless_program = record {
+  held = flavor_objects_by zed_memberless zed_members [] (0, omega arith, refl) (refl, tt) refl refl refl refl refl;
+  admissible = admissible_by refl refl;
+  lookups = refl;
+  addresses = refl;
+  follows = refl;
+}
+
+zed_program : IsProgramOf AMD64 OfMember one_bases (inputs_of_both AMD64 (short_zed ∷ []) (choosing ∷ []) mixed_taken) zed_objects
+unfolding searched group_end sections_end
+zed_program = record {
+  held = flavor_objects_by zed_linked zed_members [] (0, omega arith, refl) (refl, tt) refl refl refl refl refl;
+  admissible = admissible_by refl refl;
+  lookups = refl;
+  addresses = refl;
+  follows = refl;
+}
+
+zed_made : AllByRecursion (IsMadeFor AMD64) (inputs_of_both AMD64 (short_zed ∷ []) (choosing ∷ []) mixed_taken)
+unfolding searched
+zed_made = (record { accepted = refl; made = refl; ordinals = refl }, tt)
+
+no_baz : list_any (has_symbol (codes "baz")) (inputs_of_both AMD64 (short_zed ∷ []) (choosing ∷ []) mixed_taken) ≡ false
+unfolding searched has_symbol
+no_baz = refl
+
+-- the symbol of an export is a name that is linked under its own, unless that is an address's
+symbol_is : (linked : List Placed) (address : ℕ) (name symbol : List ℕ) (is_data : Bool) (letter : ℕ) (rest : List ℕ) → name ≡ letter ∷ rest → 95 < letter →
+    ((name ≡ imp_symbol symbol) × (definitions_of name linked ≡ record { name = name; address = Some address } ∷ []))
+    ⊎ ((name ≡ symbol) × (is_data ≡ false) × IsDefinedOnce linked name) → symbol ≡ name
+symbol_is linked address name symbol is_data letter rest is less (inl by) = absurd (not_address letter rest symbol less (sym is ∙ by.0))
+symbol_is linked address name symbol is_data letter rest is less (inr by) = sym by.0
+
+not_resolved : IsImportedOfBoth AMD64 (placed_from one_bases zed_objects) one_bases (inputs_of_both AMD64 (short_zed ∷ []) (choosing ∷ []) mixed_taken) (codes "baz") ⊎ IsWeakTaken AMD64 mixed_taken (codes "baz") → ⊥
+unfolding searched
+not_resolved (inl x) =
+    no_symbol (inputs_of_both AMD64 (short_zed ∷ []) own mixed_taken) (codes "baz") x.number x.index x.input x.export no_baz refl x.input_is x.export_is
+    (symbol_is (placed_from one_bases zed_objects) (one_bases.addresses + thunk_width AMD64 * thunks_of x.number (inputs_of_both AMD64 (short_zed ∷ []) own mixed_taken) + thunk_width AMD64 * x.index) (codes "baz")
+    (symbol_in x.input.flavor x.export) x.export.is_data 98 (codes "az") refl (omega arith) x.by)
+not_resolved (inr x) = listed_by (codes "baz") (weak_in AMD64 mixed_taken) x.0 refl x.1 x.2
+
 pub near_links_closed_for_both : NearLinksClosedForBoth
 unfolding searched
 near_links_closed_for_both = record {
+  taken_is = (record {
+    taken_is = tt;
+    program = worked_both.links.program;
+    links = worked_both.links.links;
+    used = worked_both.links.used;
+    resolved = λ name wanted listed. absurd (none_in name listed);
+    closed = λ name left listed. none_in name listed;
+  },
+    λ x. none_in _ ((x.taken_is.inputs _).0 (0, omega arith, refl)));
+  program = (record {
+    taken_is = record { inputs = same_elements [] [] refl; weak = tt };
+    program = tt;
+    links = null_links;
+    used = λ i j p e is held. absurd (no_export_of i j p e is held);
+    resolved = λ name wanted listed. absurd (none_in name listed);
+    closed = λ name left listed. none_in name listed;
+  },
+    λ x. none_in x.program.held.ended.null_from x.program.held.ended.null_held);
+  links = (record {
+    taken_is = record { inputs = same_elements [] [] refl; weak = tt };
+    program = memberless_program;
+    links = tt;
+    used = used_in (wanted_for AMD64 (choosing ∷ []) []) (memberless short_zed ∷ []);
+    resolved = λ name wanted listed. absurd (none_in name listed);
+    closed = λ name left listed. none_in name listed;
+  },
+    λ x. none_in _ x.links.linked.0.from_members.0);
+  resolved = (record {
+    taken_is = worked_both.just;
+    program = zed_program;
+    links = program_links AMD64 OfMember one_bases (inputs_of_both AMD64 (short_zed ∷ []) (choosing ∷ []) mixed_taken) zed_objects zed_made zed_program;
+    used = used_in (wanted_for AMD64 (choosing ∷ []) mixed_taken) (short_zed ∷ []);
+    resolved = tt;
+    closed = λ name left listed. none_in name left;
+  },
+    λ x.
+      let listed : List (List ℕ) = listed_in (archive_of_both foo_and_zed) in
+      not_resolved (x.resolved (codes "baz") (3, omega arith, refl) (among_contains (codes "baz") listed (any_among (codes "baz") listed refl))));
   closed = (record {
     taken_is = worked_both.just;
     program = asking_program;

@@ -28,7 +28,7 @@ use Rattle.implib_link.proofs.Search.GnuAlone.{gnu_libraries}
 use Rattle.std.proofs.lemmas.Option.{slice_get-map}
 
 -- each import of what is linked is used
-used_in : (wanted : List (List ℕ)) (arranged : List FlavorLibrary) (i j : ℕ) (p : FlavorInput) (e : ExportView) → slice_get (flavor_inputs arranged wanted) i ≡ Some p → slice_get (exports_chosen p) j ≡ Some e → IsUsedIn p.flavor wanted e
+pub used_in : (wanted : List (List ℕ)) (arranged : List FlavorLibrary) (i j : ℕ) (p : FlavorInput) (e : ExportView) → slice_get (flavor_inputs arranged wanted) i ≡ Some p → slice_get (exports_chosen p) j ≡ Some e → IsUsedIn p.flavor wanted e
 used_in wanted arranged i j p e at there =
     let l = input_is wanted arranged p (among_at p (flavor_inputs arranged wanted) i at) in
     let chosen : exports_chosen p ≡ filter (is_chosen l.0.flavor wanted) (exports_of l.0.library) = ap exports_chosen l.2 ∙ chosen_are l.0.flavor wanted l.0.library in
@@ -36,7 +36,7 @@ used_in wanted arranged i j p e at there =
     let name = chosen_name l.0.flavor wanted e kept.1 in
     subst (λ (q : FlavorInput). IsUsedIn q.flavor wanted e) (sym l.2) (name.0, among_contains name.0 (symbols_in l.0.flavor e) name.1, among_contains name.0 wanted name.2)
 
-used_of_gnu : (wanted : List (List ℕ)) (arranged : List Library) (i j : ℕ) (p : LinkInput) (e : ExportView) → slice_get (inputs_wanted arranged wanted) i ≡ Some p → slice_get (chosen_exports p.definition p.chosen) j ≡ Some e → IsUsed wanted e
+pub used_of_gnu : (wanted : List (List ℕ)) (arranged : List Library) (i j : ℕ) (p : LinkInput) (e : ExportView) → slice_get (inputs_wanted arranged wanted) i ≡ Some p → slice_get (chosen_exports p.definition p.chosen) j ≡ Some e → IsUsed wanted e
 used_of_gnu wanted arranged i j p e at there =
     used_in wanted (gnu_libraries arranged) i j (gnu_input p) e
     (ap (λ ps. slice_get ps i) (exports_are arranged wanted) ∙ slice_get-map gnu_input (inputs_wanted arranged wanted) i ∙ ap (option_map gnu_input) at) there

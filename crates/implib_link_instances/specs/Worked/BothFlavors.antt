@@ -226,6 +226,26 @@ pub record NearIsUsedIn : Type 0 where
 abbrev pub mixed_asking : List Object
 mixed_asking = mixed_objects ++ code_object (symbol_of_class (codes "__imp_stack") 0 class_external ∷ []) ∷ []
 
+-- zed.dll's members and its null descriptor alone, with the bases of one descriptor and of none
+abbrev pub zed_objects : List Object
+zed_objects = objects_taken AMD64 (zed_members ++ null_named (codes "zed.dll") ∷ [])
+
+abbrev pub one_bases : Bases
+one_bases = record spread_bases { directory_ends = 0x2014 }
+
+abbrev pub no_bases : Bases
+no_bases = record spread_bases { directory_ends = 0x2000 }
+
+-- Members of no libraries; a null descriptor of no library that is linked; an input without members; zed.dll alone, though
+-- `baz` of foo.dll is wanted; and that program. That each import is used follows from the others.
 pub record NearLinksClosedForBoth : Type 0 where
+  pub taken_is : MissesLinksClosedForBoth (codes "taken_is") AMD64 [] (choosing ∷ []) mixed_taken
+      zed_and_foo mixed_bases mixed_objects
+  pub program : MissesLinksClosedForBoth (codes "program") AMD64 [] [] [] [] no_bases
+      (objects_taken AMD64 (null_named (codes "zed.dll") ∷ []))
+  pub links : MissesLinksClosedForBoth (codes "links") AMD64 [] (choosing ∷ []) []
+      (memberless short_zed ∷ []) one_bases zed_objects
+  pub resolved : MissesLinksClosedForBoth (codes "resolved") AMD64 foo_and_zed (choosing ∷ [])
+      mixed_taken (short_zed ∷ []) one_bases zed_objects
   pub closed : MissesLinksClosedForBoth (codes "closed") AMD64 foo_and_zed (choosing ∷ []) mixed_taken
       zed_and_foo spread_bases mixed_asking

@@ -21,6 +21,7 @@ use Rattle.implib_link.specs.Gnu.Fields.{LinkedCode}
 use Rattle.implib_link.specs.Gnu.OtherLibraries.{Run}
 use Rattle.implib_link.specs.Gnu.Program.{claimed_names, null_descriptor}
 use Rattle.implib_link_instances.specs.But.Links.{MissesAreChosenFor, MissesAreLinkedFor, MissesBranchStays, MissesDefineOnce, MissesFillsBy, MissesHasOffsetField, MissesHasPageField, MissesHasPointer, MissesInputImports, MissesInstructionArrives, MissesIsClosed, MissesIsLinkedWith, MissesLinksBeside, MissesLinksClosed, MissesPageArrives, MissesPairArrives, MissesProgramLinks}
+use Rattle.implib_link.specs.Search.Archives.{Library}
 use Rattle.implib_link_instances.specs.Worked.Archives.{two_libraries}
 use Rattle.implib_link_instances.specs.Worked.Calls.{calling_at, calling_placed}
 use Rattle.implib_link_instances.specs.Worked.Closed.{choosing, clashing, closed_bases, closed_objects, closed_taken, foo_alias, foo_linked, zed_first, zed_linked}
@@ -194,7 +195,24 @@ pub record NearFillsBy : Type 0 where
 abbrev pub asking_objects : List Object
 asking_objects = closed_objects ++ code_object (symbol_of_class (codes "__imp_stack") 0 class_external ∷ []) ∷ []
 
+-- what zed.dll's library links for `queue`, beside the library without its members
+abbrev pub zed_memberless : List Library
+zed_memberless = record zed_library { members = [] } ∷ []
+
+abbrev pub queue_objects : List Object
+queue_objects = objects_in zed_linked ++ null_descriptor ∷ []
+
+-- Members of no libraries; two null descriptors; inputs without members; no inputs, though `queue` is wanted; and that
+-- program. That each import is used follows from the others.
 pub record NearLinksClosed : Type 0 where
+  pub taken_is : MissesLinksClosed (codes "taken_is") AMD64 [] (choosing ∷ []) closed_taken zed_first
+      closed_bases closed_objects
+  pub program : MissesLinksClosed (codes "program") AMD64 [] [] [] [] touching_8
+      (null_descriptor ∷ null_descriptor ∷ [])
+  pub links : MissesLinksClosed (codes "links") AMD64 [] (asking ∷ []) [] zed_memberless touching_8
+      queue_objects
+  pub resolved : MissesLinksClosed (codes "resolved") AMD64 two_libraries (choosing ∷ [])
+      closed_taken [] touching_8 (null_descriptor ∷ [])
   pub closed : MissesLinksClosed (codes "closed") AMD64 two_libraries (choosing ∷ []) closed_taken
       zed_first (packed 0x2000 asking_objects) asking_objects
 
